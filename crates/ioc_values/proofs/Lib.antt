@@ -1,0 +1,5 @@
+mod Pushed
+pub mod Numerals
+pub mod Printed
+pub mod Mapped
+pub mod Wide

@@ -1,0 +1,36 @@
+-- Numbers past 64 bits are in no range.
+use Rattle.std.proofs.Common.{◌≡◌, ℕ, ◌^◌, ◌≤◌, min, Option, Some, None, ℤ, pos, negsuc, refl, arith}
+use Rattle.std.specs.Option.{option_and_then}
+use Rattle.std.proofs.lemmas.Bool.Decides.{nat_tests}
+use Rattle.ioc_values.specs.declared.kind.Range.{Range}
+use Rattle.ioc_values.specs.declared.kind.Range.TheVariants.{Long, ULong, Short, UShort, UChar, Enum}
+use Rattle.ioc_values.specs.declared.value.Value.{Value}
+use Rattle.ioc_values.specs.Number.{within_i64}
+use Rattle.ioc_values.specs.Conversion.{signed_value, unsigned_value, value_in, numbered}
+
+-- a number below the limit fits 64 bits
+signed_kept : (limit : ℕ) (made : ℤ → Value) (z : ℤ) → limit ≤ 2 ^ 63 → signed_value limit made z ≡ option_and_then (signed_value limit made) (within_i64 (Some z))
+signed_kept limit made (pos n) h = grind (arith, nat_tests)
+signed_kept limit made (negsuc n) h = grind (arith, nat_tests)
+
+unsigned_kept : (limit : ℕ) (made : ℕ → Value) (z : ℤ) → limit ≤ 2 ^ 63 → unsigned_value limit made z ≡ option_and_then (unsigned_value limit made) (within_i64 (Some z))
+unsigned_kept limit made (pos n) h = grind (arith, nat_tests)
+unsigned_kept limit made (negsuc n) h = grind (arith, nat_tests)
+
+value_kept : (range : Range) (z : ℤ) → value_in range z ≡ option_and_then (value_in range) (within_i64 (Some z))
+unfolding value_in
+value_kept Long z = signed_kept (2 ^ 31) _ z (omega arith)
+value_kept ULong z = unsigned_kept (2 ^ 32) _ z (omega arith)
+value_kept Short z = signed_kept (2 ^ 15) _ z (omega arith)
+value_kept UShort z = unsigned_kept (2 ^ 16) _ z (omega arith)
+value_kept UChar z = unsigned_kept (2 ^ 8) _ z (omega arith)
+value_kept Enum z = unsigned_kept (2 ^ 16) _ z (omega arith)
+
+pub value_of_wide : (range : Range) (o : Option ℤ) → option_and_then (value_in range) o ≡ option_and_then (value_in range) (within_i64 o)
+value_of_wide range None = refl
+value_of_wide range (Some z) = value_kept range z
+
+pub numbered_of_wide : (count : ℕ) (o : Option ℤ) → option_and_then (numbered count) o ≡ option_and_then (numbered count) (within_i64 o)
+unfolding numbered
+numbered_of_wide count None = refl
+numbered_of_wide count (Some z) = unsigned_kept (min count (2 ^ 16)) _ z (omega arith)

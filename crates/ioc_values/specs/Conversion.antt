@@ -1,0 +1,121 @@
+-- What a field makes of a value. Record Reference Manual, "Fields: data types"; Application Developer's Guide,
+-- "Database Access: conversion of field types".
+use Rattle.std.specs.Prelude.{ℕ, ◌^◌, Bool, true, false, List, map, ℤ, pos, negsuc, Option, Some, None, Result, Err, length, take, position, min, nat_eq, nat_lt, nat_le, ◌||◌, if◌then◌else◌}
+use Rattle.std.specs.Fmt.{signed_decimal}
+use Rattle.std.specs.Option.{ok_or, option_and_then}
+use Rattle.std.specs.Cmp.Lexicographic.{pointwise}
+use Rattle.ioc_values.specs.declared.error.IocError.{IocError}
+use Rattle.ioc_values.specs.declared.error.IocError.TheVariants.{BadValue}
+use Rattle.ioc_values.specs.declared.input.Input.{Input}
+use Rattle.ioc_values.specs.declared.input.Input.TheVariants.{Value as InputValue, LongText}
+use Rattle.ioc_values.specs.declared.kind.Kind.{Kind}
+use Rattle.ioc_values.specs.declared.kind.Kind.TheVariants.{Number as NumberField, Text as TextField, Menu as MenuField, State as StateField}
+use Rattle.ioc_values.specs.declared.kind.Range.{Range}
+use Rattle.ioc_values.specs.declared.kind.Range.TheVariants.{Long as LongRange, ULong as ULongRange, Short as ShortRange, UShort as UShortRange, UChar as UCharRange, Enum as EnumRange}
+use Rattle.ioc_values.specs.declared.value.Value.{Value}
+use Rattle.ioc_values.specs.declared.value.Value.TheVariants.{Long, ULong, Short, UShort, UChar, Enum, Text}
+use Rattle.ioc_values.specs.Number.{number_of}
+
+-- the number that a value is; a text is none
+abbrev pub number_of_value : Value → Option ℤ
+number_of_value (Long z) = Some z
+number_of_value (ULong n) = Some (pos n)
+number_of_value (Short z) = Some z
+number_of_value (UShort n) = Some (pos n)
+number_of_value (UChar n) = Some (pos n)
+number_of_value (Enum n) = Some (pos n)
+number_of_value (Text text) = None
+
+-- from -limit to limit - 1
+abbrev pub is_within : ℕ → ℤ → Bool
+is_within limit (pos n) = nat_lt n limit
+is_within limit (negsuc n) = nat_lt n limit
+
+-- a number in such a range
+abbrev pub signed_value : ℕ → (ℤ → Value) → ℤ → Option Value
+signed_value limit made z = if is_within limit z then Some (made z) else None
+
+-- a number from 0 to limit - 1
+abbrev pub unsigned_value : ℕ → (ℕ → Value) → ℤ → Option Value
+unsigned_value limit made (pos n) = if nat_lt n limit then Some (made n) else None
+unsigned_value limit made (negsuc n) = None
+
+-- a number as a value of the range, where it is in range
+unfoldable pub value_in : Range → ℤ → Option Value
+value_in LongRange z = signed_value (2 ^ 31) Long z
+value_in ULongRange z = unsigned_value (2 ^ 32) ULong z
+value_in ShortRange z = signed_value (2 ^ 15) Short z
+value_in UShortRange z = unsigned_value (2 ^ 16) UShort z
+value_in UCharRange z = unsigned_value (2 ^ 8) UChar z
+value_in EnumRange z = unsigned_value (2 ^ 16) Enum z
+
+-- the choice or state of that number, of so many; none has a number past 65535
+unfoldable pub numbered : ℕ → ℤ → Option Value
+numbered count z = unsigned_value (min count (2 ^ 16)) Enum z
+
+-- the number of the choice with exactly this text, or the lowest state
+abbrev pub same_text : List (List ℕ) → List ℕ → Option ℕ
+same_text texts text = position (λ t. pointwise nat_eq t text) texts
+
+-- and where the text isn't empty
+abbrev pub state_of : List (List ℕ) → List ℕ → Option ℕ
+state_of states text = if nat_eq (length text) 0 then None else same_text states text
+
+-- the choice or state, of so many, whose text was found, else the one whose number the text writes
+abbrev pub found_or_numbered : ℕ → Option ℕ → List ℕ → Option Value
+found_or_numbered count (Some n) text = value_in EnumRange (pos n)
+found_or_numbered count None text = option_and_then (numbered count) (number_of text)
+
+-- a kind of field, with the texts that it lends
+pub data FieldSort : Type 0 where
+  Numbers : Range → FieldSort
+  Texts : FieldSort
+  Choices : List (List ℕ) → FieldSort
+  States : List (List ℕ) → FieldSort
+
+unfoldable pub sort_of : Kind → FieldSort
+sort_of (NumberField range) = Numbers range
+sort_of TextField = Texts
+sort_of (MenuField choices) = Choices (map (λ c. c.now) choices.now)
+sort_of (StateField states) = States states.now
+
+abbrev pub is_text : FieldSort → Bool
+is_text Texts = true
+is_text _ = false
+
+-- a number in a field
+unfoldable pub of_number : FieldSort → ℤ → Option Value
+of_number (Numbers range) z = value_in range z
+of_number Texts z = Some (Text (signed_decimal z))
+of_number (Choices texts) z = numbered (length texts) z
+of_number (States texts) z = value_in EnumRange z
+
+-- a text in a field
+unfoldable pub of_text : FieldSort → List ℕ → Option Value
+of_text (Numbers range) text = option_and_then (value_in range) (number_of text)
+of_text Texts text = Some (Text text)
+of_text (Choices texts) text = found_or_numbered (length texts) (same_text texts text) text
+of_text (States texts) text = found_or_numbered (length texts) (state_of texts text) text
+
+-- what a field of the kind makes of a value
+abbrev pub converted : Value → FieldSort → Result Value IocError
+converted (Long z) sort = ok_or (of_number sort z) BadValue
+converted (ULong n) sort = ok_or (of_number sort (pos n)) BadValue
+converted (Short z) sort = ok_or (of_number sort z) BadValue
+converted (UShort n) sort = ok_or (of_number sort (pos n)) BadValue
+converted (UChar n) sort = ok_or (of_number sort (pos n)) BadValue
+converted (Enum n) sort = ok_or (of_number sort (pos n)) BadValue
+converted (Text text) sort = ok_or (of_text sort text) BadValue
+
+-- what it makes of a value that a script or a database spells
+unfoldable pub converted_text : List ℕ → FieldSort → Result Value IocError
+converted_text text sort = if is_text sort || nat_le (length text) 39 then converted (Text (take 39 text)) sort else Err BadValue
+
+-- a value that a script or a database spells, as a caller gives it
+unfoldable pub input_of : List ℕ → Input
+input_of text = if nat_le (length text) 39 then InputValue (Text (take 39 text)) else LongText (take 39 text)
+
+-- what a field of the sort makes of a value that a caller gives
+unfoldable pub converted_input : Input → FieldSort → Result Value IocError
+converted_input (InputValue value) sort = converted value sort
+converted_input (LongText text) sort = if is_text sort then converted (Text text) sort else Err BadValue

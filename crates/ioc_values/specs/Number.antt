@@ -1,0 +1,51 @@
+-- The number that a text writes: an optional sign, then decimal digits, or 0x and hexadecimal digits.
+use Rattle.std.specs.Prelude.{ℕ, Bool, true, false, ◌+◌, ◌*◌, ◌^◌, List, [], ◌∷◌, ℤ, pos, negsuc, neg_ℤ, Option, Some, None, option_map, ◌==◌, nat_lt, ◌&&◌, if◌then◌else◌}
+use Rattle.std.specs.Char.{digit_value}
+use Rattle.ioc_values.specs.Trim.{is_blank, trimmed}
+
+-- what the digits write behind those of n
+abbrev pub numeral_after : ℕ → ℕ → List ℕ → Option ℕ
+numeral_after radix n [] = Some n
+numeral_after radix n (c ∷ cs) = if nat_lt (digit_value c) radix then numeral_after radix (n * radix + digit_value c) cs else None
+
+-- each byte is a digit
+abbrev pub all_digits : ℕ → List ℕ → Bool
+all_digits radix [] = true
+all_digits radix (c ∷ cs) = nat_lt (digit_value c) radix && all_digits radix cs
+
+-- what one digit or more write
+abbrev pub numeral : ℕ → List ℕ → Option ℕ
+numeral radix [] = None
+numeral radix (c ∷ cs) = numeral_after radix 0 (c ∷ cs)
+
+-- decimal digits, or 0x and hexadecimal digits
+unfoldable pub magnitude : List ℕ → Option ℕ
+magnitude [] = None
+magnitude (c ∷ []) = numeral 10 (c ∷ [])
+magnitude (c ∷ d ∷ ds) = if (c == 48) && (d == 120) then numeral 16 ds else numeral 10 (c ∷ d ∷ ds)
+
+-- a number below a limit
+abbrev pub below : ℕ → Option ℕ → Option ℕ
+below limit None = None
+below limit (Some n) = if nat_lt n limit then Some n else None
+
+-- behind an optional sign
+unfoldable pub signed : List ℕ → Option ℤ
+signed [] = None
+signed (c ∷ cs) =
+    if c == 45 then option_map (λ n. neg_ℤ (pos n)) (magnitude cs)
+    else (if c == 43 then option_map pos (magnitude cs) else option_map pos (magnitude (c ∷ cs)))
+
+-- with spaces at both ends
+abbrev pub number_of : List ℕ → Option ℤ
+number_of text = signed (trimmed (is_blank false) text)
+
+-- from -2^63 to 2^63 - 1
+abbrev pub fits_i64 : ℤ → Bool
+fits_i64 (pos n) = nat_lt n (2 ^ 63)
+fits_i64 (negsuc n) = nat_lt n (2 ^ 63)
+
+-- a number of 64 bits
+abbrev pub within_i64 : Option ℤ → Option ℤ
+within_i64 None = None
+within_i64 (Some z) = if fits_i64 z then Some z else None

@@ -1,0 +1,44 @@
+-- The words in which the programs print refusals.
+use Rattle.std.specs.Prelude.{ℕ, List, ◌++◌, codes, decimal}
+use Rattle.ioc_values.specs.declared.error.IocError.{IocError}
+use Rattle.ioc_values.specs.declared.error.IocError.TheVariants as refusal
+use Rattle.ioc_values.specs.declared.error.BadDbKind.{BadDbKind}
+use Rattle.ioc_values.specs.declared.error.BadDbKind.TheVariants.{Syntax, Unclosed, OpenBody, BadType, BadField, NoMod, BadName, BadValue, BadLink, Duplicate, NoRecord, Macro, LeftOut, TooMany}
+
+-- why a database text was refused
+unfoldable pub kind_words : BadDbKind → List ℕ
+kind_words Syntax = codes "syntax"
+kind_words Unclosed = codes "text not closed"
+kind_words OpenBody = codes "body not closed"
+kind_words BadType = codes "unknown type"
+kind_words BadField = codes "unknown field"
+kind_words NoMod = codes "field not settable"
+kind_words BadName = codes "bad name"
+kind_words BadValue = codes "bad value"
+kind_words BadLink = codes "bad link"
+kind_words Duplicate = codes "duplicate"
+kind_words NoRecord = codes "no record"
+kind_words Macro = codes "macro"
+kind_words LeftOut = codes "left out"
+kind_words TooMany = codes "too many"
+
+-- the number and the name of a refusal
+unfoldable pub refusal_words : IocError → List ℕ
+refusal_words refusal.NoRecord = codes "E1 NoRecord"
+refusal_words refusal.NoField = codes "E2 NoField"
+refusal_words refusal.NoMod = codes "E3 NoMod"
+refusal_words refusal.PutDisabled = codes "E4 PutDisabled"
+refusal_words refusal.BadValue = codes "E5 BadValue"
+refusal_words refusal.BadLink = codes "E6 BadLink"
+refusal_words refusal.NotifyPending = codes "E7 NotifyPending"
+refusal_words refusal.Stale = codes "E8 Stale"
+refusal_words refusal.QueueFull = codes "E9 QueueFull"
+refusal_words refusal.NoMemory = codes "E10 NoMemory"
+refusal_words refusal.JournalFull = codes "E11 JournalFull"
+refusal_words refusal.Stopped = codes "E12 Stopped"
+refusal_words (refusal.BadDb line kind) = codes "E13 BadDb"
+
+-- what a program prints of a refusal: of a database text also the line, and why
+unfoldable pub refusal_text : IocError → List ℕ
+refusal_text (refusal.BadDb line kind) = codes "E13 BadDb line " ++ decimal line ++ codes ": " ++ kind_words kind
+refusal_text refused = refusal_words refused

@@ -1,0 +1,166 @@
+//! Conversion of values to the kinds of fields.
+//!
+//! Application Developer's Guide, "Database Definition" (the types of fields) and "Database Access" (conversion).
+
+ghost use Rattle.std.specs.Prelude.{◌≡◌, map, nat_eq, position};
+ghost use Rattle.std.specs.Cmp.Lexicographic.{pointwise};
+ghost use Rattle.std.specs.Option.{ok_or, option_and_then};
+ghost use Rattle.std.specs.Fmt.{signed_decimal};
+ghost use Rattle.ioc_values.specs.Number.{number_of};
+ghost use Rattle.ioc_values.specs.Conversion.{sort_of, same_text, state_of, found_or_numbered, value_in, numbered, of_number, of_text, converted, converted_text};
+
+use crate::error::IocError;
+use crate::kind::{Kind, Range};
+use crate::number::number;
+use crate::short::Text;
+use crate::value::Value;
+use itoa::Buffer;
+
+/// A number as a value of the range, where it is in range.
+#[tactic(auto, unfolding(crate::specs::Conversion::value_in))]
+fn value_in(range: Range, number: i64) -> Option<Value>
+    ensures { result ≡ value_in range number }
+{
+    match range {
+        Range::Long => i32::try_from(number).ok().map(Value::Long),
+        Range::ULong => u32::try_from(number).ok().map(Value::ULong),
+        Range::Short => i16::try_from(number).ok().map(Value::Short),
+        Range::UShort => u16::try_from(number).ok().map(Value::UShort),
+        Range::UChar => u8::try_from(number).ok().map(Value::UChar),
+        Range::Enum => u16::try_from(number).ok().map(Value::Enum),
+    }
+}
+
+/// The choice or state of that number, of so many.
+#[tactic(auto, unfolding(crate::specs::Conversion::numbered))]
+fn numbered(count: usize, number: i64) -> Option<Value>
+    ensures { result ≡ numbered count number }
+{
+    let index = u16::try_from(number).ok()?;
+    if usize::from(index) < count {
+        Some(Value::Enum(index))
+    } else {
+        None
+    }
+}
+
+/// The number of the choice with exactly this text.
+fn choice_of(choices: &[&'static str], text: &[u8]) -> Option<usize>
+    ensures { result ≡ same_text (map (λ c. c.now) choices.now) text.now }
+{
+    place_of(choices, text)
+}
+
+fn place_of(choices: &[&'static str], text: &[u8]) -> Option<usize>
+    ensures { result ≡ position (λ choice. pointwise nat_eq choice.now text.now) choices.now }
+{
+    choices.iter().position(|choice| choice.as_bytes() == text)
+}
+
+/// The lowest state with exactly this text, which isn't empty.
+fn state_of(states: &[Text], text: &[u8]) -> Option<usize>
+    ensures { result ≡ state_of states.now text.now }
+{
+    if text.is_empty() {
+        return None;
+    }
+    same_state(states, text)
+}
+
+/// The lowest state with exactly this text.
+fn same_state(states: &[Text], text: &[u8]) -> Option<usize>
+    ensures { result ≡ same_text states.now text.now }
+{
+    states.iter().position(|state| state.as_slice() == text)
+}
+
+/// The number that a text writes, as a value of the range.
+#[tactic(auto, using(crate::proofs::Wide::value_of_wide))]
+fn text_in(range: Range, text: &[u8]) -> Option<Value>
+    ensures { result ≡ option_and_then (value_in range) (number_of text.now) }
+{
+    value_in(range, number(text)?)
+}
+
+/// The choice or state, of so many, whose text was found, else the one whose number the text writes.
+#[tactic(auto, using(crate::proofs::Wide::numbered_of_wide), unfolding(crate::specs::Conversion::value_in))]
+fn found_or_numbered(count: usize, found: Option<usize>, text: &[u8]) -> Option<Value>
+    ensures { result ≡ found_or_numbered count found text.now }
+{
+    match found {
+        Some(index) => u16::try_from(index).ok().map(Value::Enum),
+        None => numbered(count, number(text)?),
+    }
+}
+
+/// A number in a field; none where it is out of range or no choice has it.
+#[tactic(auto, unfolding(crate::specs::Conversion::of_number, crate::specs::Conversion::sort_of))]
+pub fn of_number(kind: Kind<'_>, number: i64) -> Option<Value>
+    ensures { result ≡ of_number (sort_of kind.entry) number }
+{
+    match kind {
+        Kind::Number(range) => value_in(range, number),
+        Kind::Text => Some(Value::Text(decimal(number))),
+        Kind::Menu(choices) => numbered(choices.len(), number),
+        Kind::State(_) => value_in(Range::Enum, number),
+    }
+}
+
+/// A number in decimal.
+fn decimal(number: i64) -> Text
+    ensures { result ≡ signed_decimal number }
+{
+    Text::cut(Buffer::new().format(number).as_bytes())
+}
+
+/// A text in a field.
+#[tactic(auto, unfolding(crate::specs::Conversion::of_text, crate::specs::Conversion::sort_of))]
+fn of_text(kind: Kind<'_>, text: Text) -> Option<Value>
+    ensures { result ≡ of_text (sort_of kind.entry) text }
+{
+    let bytes = text.as_slice();
+    match kind {
+        Kind::Number(range) => text_in(range, bytes),
+        Kind::Text => Some(Value::Text(text)),
+        Kind::Menu(choices) => found_or_numbered(choices.len(), choice_of(choices, bytes), bytes),
+        Kind::State(states) => found_or_numbered(states.len(), state_of(states, bytes), bytes),
+    }
+}
+
+/// What a field of the kind makes of a value. The result's variant is that of the kind.
+///
+/// # Errors
+///
+/// [`IocError::BadValue`] where the value doesn't convert or is out of range.
+pub fn convert(value: Value, kind: Kind<'_>) -> Result<Value, IocError>
+    ensures { result ≡ converted value (sort_of kind.entry) }
+{
+    let made = match value {
+        Value::Long(number) => of_number(kind, i64::from(number)),
+        Value::ULong(number) => of_number(kind, i64::from(number)),
+        Value::Short(number) => of_number(kind, i64::from(number)),
+        Value::UShort(number) => of_number(kind, i64::from(number)),
+        Value::UChar(number) => of_number(kind, i64::from(number)),
+        Value::Enum(number) => of_number(kind, i64::from(number)),
+        Value::Text(text) => of_text(kind, text),
+    };
+    made.ok_or(IocError::BadValue)
+}
+
+/// What a field of the kind makes of a value that a script or a database spells: a text field takes its first 39
+/// bytes.
+///
+/// # Errors
+///
+/// [`IocError::BadValue`] where the value doesn't convert or is out of range, or has more than 39 bytes and the
+/// field is no text.
+#[tactic(auto, unfolding(crate::specs::Conversion::converted_text))]
+pub fn convert_text(text: &[u8], kind: Kind<'_>) -> Result<Value, IocError>
+    ensures { result ≡ converted_text text.now (sort_of kind.entry) }
+{
+    if kind.is_text() || text.len() <= 39 {
+        convert(Value::Text(Text::cut(text)), kind)
+    } else {
+        Err(IocError::BadValue)
+    }
+}

@@ -1,0 +1,53 @@
+//! Values as callers give them.
+ghost use Rattle.std.specs.Prelude.{◌≡◌};
+ghost use Rattle.ioc_values.specs.Conversion.{sort_of, converted_text, converted_input, input_of};
+
+use crate::conversion::convert;
+use crate::error::IocError;
+use crate::kind::Kind;
+use crate::short::Text;
+use crate::value::Value;
+
+/// A value as a caller gives it: a text of more than 39 bytes fits a text field alone, which takes its first 39 bytes.
+#[derive(Clone, Copy, PartialEq, Eq)]
+pub enum Input {
+    Value(Value),
+    /// The first 39 bytes of a longer text.
+    LongText(Text),
+}
+
+#[tactic(auto, unfolding(crate::specs::Conversion::input_of))]
+impl Input {
+    /// A value that a script or a database spells.
+    pub fn from_text(text: &[u8]) -> Self
+        ensures { result ≡ input_of text.now }
+    {
+        if text.len() <= 39 {
+            Input::Value(Value::Text(Text::cut(text)))
+        } else {
+            Input::LongText(Text::cut(text))
+        }
+    }
+}
+
+/// What a field of the kind makes of a value that a caller gives.
+///
+/// # Errors
+///
+/// [`IocError::BadValue`] where the value doesn't convert or is out of range, or has more than 39 bytes and the
+/// field is no text.
+#[tactic(auto, unfolding(crate::specs::Conversion::converted_input))]
+pub fn convert_input(input: Input, kind: Kind<'_>) -> Result<Value, IocError>
+    ensures { result ≡ converted_input input (sort_of kind.entry) }
+{
+    match input {
+        Input::Value(value) => convert(value, kind),
+        Input::LongText(text) => {
+            if kind.is_text() {
+                convert(Value::Text(text), kind)
+            } else {
+                Err(IocError::BadValue)
+            }
+        }
+    }
+}

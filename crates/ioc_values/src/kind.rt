@@ -1,0 +1,46 @@
+//! The kinds of fields.
+ghost use Rattle.std.specs.Prelude.{◌≡◌};
+ghost use Rattle.ioc_values.specs.Conversion.{sort_of, is_text};
+
+use crate::short::Text;
+
+/// The numbers that a field can hold.
+#[derive(Clone, Copy, PartialEq, Eq, Debug)]
+pub enum Range {
+    /// -2147483648 to 2147483647.
+    Long,
+    /// 0 to 4294967295.
+    ULong,
+    /// -32768 to 32767.
+    Short,
+    /// 0 to 65535.
+    UShort,
+    /// 0 to 255.
+    UChar,
+    /// 0 to 65535.
+    Enum,
+}
+
+/// What a field can hold, with the texts of its choices lent.
+#[derive(Clone, Copy)]
+pub enum Kind<'a> {
+    Number(Range),
+    Text,
+    /// The choices of a menu, in the order of their numbers.
+    Menu(&'a [&'static str]),
+    /// The state texts: 2 of bi and bo, 16 of mbbi and mbbo.
+    State(&'a [Text]),
+}
+
+impl Kind<'_> {
+    /// Whether the field holds a text.
+    #[tactic(auto, unfolding(crate::specs::Conversion::sort_of))]
+    pub fn is_text(self) -> bool
+        ensures { result ≡ is_text (sort_of self.entry) }
+    {
+        match self {
+            Kind::Text => true,
+            Kind::Number(_) | Kind::Menu(_) | Kind::State(_) => false,
+        }
+    }
+}

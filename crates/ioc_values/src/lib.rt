@@ -1,0 +1,21 @@
+//! Values of fields, their conversions, and the refusals of the engine's calls.
+#![tactic(auto)]
+
+pub mod conversion;
+pub mod error;
+pub mod input;
+pub mod kind;
+pub mod number;
+pub mod short;
+pub mod trim;
+pub mod value;
+
+pub use conversion::{convert, convert_text, of_number};
+pub use error::{BadDbKind, IocError};
+pub use input::{Input, convert_input};
+pub use kind::{Kind, Range};
+pub use short::{FieldName, Name, Short, Text};
+pub use value::{Finished, Value};
+
+#[cfg(test)]
+mod tests;

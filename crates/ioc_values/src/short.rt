@@ -1,0 +1,117 @@
+//! Texts of a fixed capacity, which take no memory.
+
+ghost use Rattle.std.specs.Prelude.{◌≡◌, ◌≤◌, ◌↔◌, ◌<◌, ◌+◌, List, ℕ, [], ◌++◌, ◌∷◌, length, take, IsSome, IfSome};
+
+use std::marker::Model;
+
+/// At most `CAP` bytes.
+#[derive(Clone, Copy, PartialEq, Eq)]
+pub struct Short<const CAP: usize> {
+    bytes: [u8; CAP],
+    len: usize,
+}
+
+impl<const CAP: usize> Model for Short<CAP> {
+    ghost use Rattle.std.specs.Prelude.{◌≡◌, ◌≤◌, ◌-◌, ◌++◌, List, ℕ, length, take, drop, replicate};
+    ghost use Rattle.std.proofs.Common.{arith, take-append-drop, length-take-le};
+
+    ghost Value = { List ℕ };
+
+    ghost view = { λ s. take s.len s.bytes };
+
+    ghost invariant = { λ s. (s.len ≤ CAP) × (length s.bytes ≡ CAP) × (drop s.len s.bytes ≡ replicate (CAP - s.len) 0) };
+
+    ghost use Rattle.ioc_values.specs.Padding.{padded_again};
+
+    ghost inverse = { λ xs. record { bytes = xs ++ replicate (CAP - length xs) 0; len = length xs } };
+
+    ghost inverse_ok = { λ s h i. record {
+      bytes = padded_again CAP s.len s.bytes (omega (arith, h.0, h.1)) h.2 i;
+      len = length-take-le s.len s.bytes (omega (arith, h.0, h.1)) i;
+    } };
+}
+
+impl<const CAP: usize> Short<CAP> {
+    /// No bytes.
+    pub fn new() -> Self
+        ensures { result ≡ [] }
+    {
+        Short {
+            bytes: [0; CAP],
+            len: 0,
+        }
+    }
+
+    /// The bytes, where they are few enough.
+    pub fn from_slice(bytes: &[u8]) -> Option<Self>
+        ensures fits { IsSome result ↔ (length bytes.now ≤ CAP) }
+        ensures value { IfSome result (λ s. s ≡ bytes.now) }
+    {
+        if bytes.len() > CAP {
+            return None;
+        }
+        Some(Self::cut(bytes))
+    }
+
+    /// The first of the bytes, as many as fit.
+    pub fn cut(bytes: &[u8]) -> Self
+        ensures { result ≡ take CAP bytes.now }
+    {
+        let len = bytes.len().min(CAP);
+        let mut all = [0; CAP];
+        all[..len].copy_from_slice(&bytes[..len]);
+        Short { bytes: all, len }
+    }
+
+    /// The bytes.
+    pub fn as_slice(&self) -> &[u8]
+        ensures value { result.now ≡ self.now }
+        ensures fits { length result.now ≤ CAP }
+    {
+        &self.bytes[..self.len]
+    }
+
+    /// Takes one more byte, or lets it go where the room is used up.
+    pub fn push_cut(&mut self, b: u8)
+        ensures { self.new ≡ take CAP (self.old ++ b ∷ []) }
+    {
+        if self.len < CAP {
+            self.bytes[self.len] = b;
+            self.len += 1;
+        }
+    }
+
+    /// Lets all bytes go.
+    pub fn clear(&mut self)
+        ensures { self.new ≡ [] }
+    {
+        *self = Self::new();
+    }
+
+    /// Takes one more byte. There must be room.
+    pub fn push(&mut self, b: u8)
+        requires { length self.old < CAP }
+        ensures { self.new ≡ self.old ++ b ∷ [] }
+    {
+        self.push_cut(b);
+    }
+
+    /// Takes more bytes. There must be room.
+    pub fn extend(&mut self, bytes: &[u8])
+        requires { length self.old + length bytes.now ≤ CAP }
+        ensures { self.new ≡ self.old ++ bytes.now }
+    {
+        for b in bytes {
+            self.push(*b);
+        }
+    }
+}
+
+/// A text value: at most 39 bytes, as a DBF_STRING field holds.
+pub type Text = Short<39>;
+
+/// A record name: at most 60 bytes.
+pub type Name = Short<60>;
+
+/// The name of a field: at most 8 bytes.
+pub type FieldName = Short<8>;

@@ -1,0 +1,48 @@
+//! Values of fields.
+ghost use Rattle.std.specs.Prelude.{◌≡◌};
+ghost use Rattle.ioc_values.specs.Conversion.{number_of_value};
+
+use crate::short::Text;
+
+/// The value of a field, or one that is to be put into it.
+#[derive(Clone, Copy, PartialEq, Eq)]
+pub enum Value {
+    /// -2147483648 to 2147483647.
+    Long(i32),
+    /// 0 to 4294967295.
+    ULong(u32),
+    /// -32768 to 32767.
+    Short(i16),
+    /// 0 to 65535.
+    UShort(u16),
+    /// 0 to 255.
+    UChar(u8),
+    /// The number of a choice or of a state.
+    Enum(u16),
+    /// 0 to 39 bytes.
+    Text(Text),
+}
+
+impl Value {
+    /// The number that the value is. A text is none, whatever it writes.
+    pub fn number(self) -> Option<i64>
+        ensures { result ≡ number_of_value self }
+    {
+        match self {
+            Value::Long(number) => Some(i64::from(number)),
+            Value::ULong(number) => Some(i64::from(number)),
+            Value::Short(number) => Some(i64::from(number)),
+            Value::UShort(number) => Some(i64::from(number)),
+            Value::UChar(number) => Some(i64::from(number)),
+            Value::Enum(number) => Some(i64::from(number)),
+            Value::Text(_) => None,
+        }
+    }
+}
+
+/// What an asynchronous device gives at last.
+#[derive(Clone, Copy, PartialEq, Eq)]
+pub enum Finished {
+    Done(Value),
+    Fault,
+}
