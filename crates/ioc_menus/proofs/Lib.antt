@@ -1,0 +1,3 @@
+mod Inverse
+mod Positions
+mod TextsAreDistinct

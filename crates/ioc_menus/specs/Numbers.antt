@@ -1,0 +1,131 @@
+-- The numbers of the choices, in the order of each menu. Record Reference Manual, "Menu Types".
+use Rattle.std.specs.Prelude.{ℕ, List, [], ◌∷◌}
+use Rattle.ioc_menus.specs.declared.severity.Severity.{Severity}
+use Rattle.ioc_menus.specs.declared.severity.Severity.TheVariants as severity
+use Rattle.ioc_menus.specs.declared.status.Status.{Status}
+use Rattle.ioc_menus.specs.declared.status.Status.TheVariants as status
+use Rattle.ioc_menus.specs.declared.scan.Scan.{Scan}
+use Rattle.ioc_menus.specs.declared.scan.Scan.TheVariants as scan
+use Rattle.ioc_menus.specs.declared.priority.Priority.{Priority}
+use Rattle.ioc_menus.specs.declared.priority.Priority.TheVariants as priority
+use Rattle.ioc_menus.specs.declared.pini.Pini.{Pini}
+use Rattle.ioc_menus.specs.declared.pini.Pini.TheVariants as pini
+use Rattle.ioc_menus.specs.declared.omsl.Omsl.{Omsl}
+use Rattle.ioc_menus.specs.declared.omsl.Omsl.TheVariants as omsl
+use Rattle.ioc_menus.specs.declared.ivoa.Ivoa.{Ivoa}
+use Rattle.ioc_menus.specs.declared.ivoa.Ivoa.TheVariants as ivoa
+use Rattle.ioc_menus.specs.declared.selm.Selm.{Selm}
+use Rattle.ioc_menus.specs.declared.selm.Selm.TheVariants as selm
+
+-- the number of a Severity choice
+abbrev pub severity_number : Severity → ℕ
+severity_number severity.NoAlarm = 0
+severity_number severity.Minor = 1
+severity_number severity.Major = 2
+severity_number severity.Invalid = 3
+
+-- every Severity choice, in the order of the numbers
+abbrev pub severities : List Severity
+severities =
+    severity.NoAlarm ∷ severity.Minor ∷ severity.Major ∷ severity.Invalid ∷ []
+
+-- the number of a Status choice
+abbrev pub status_number : Status → ℕ
+status_number status.NoAlarm = 0
+status_number status.Read = 1
+status_number status.Write = 2
+status_number status.Hihi = 3
+status_number status.High = 4
+status_number status.Lolo = 5
+status_number status.Low = 6
+status_number status.State = 7
+status_number status.Cos = 8
+status_number status.Comm = 9
+status_number status.Timeout = 10
+status_number status.HwLimit = 11
+status_number status.Calc = 12
+status_number status.Scan = 13
+status_number status.Link = 14
+status_number status.Soft = 15
+status_number status.BadSub = 16
+status_number status.Udf = 17
+status_number status.Disable = 18
+status_number status.Simm = 19
+status_number status.ReadAccess = 20
+status_number status.WriteAccess = 21
+
+-- every Status choice, in the order of the numbers
+abbrev pub statuses : List Status
+statuses =
+    status.NoAlarm ∷ status.Read ∷ status.Write ∷ status.Hihi ∷ status.High ∷ status.Lolo ∷ status.Low ∷ status.State ∷ status.Cos ∷ status.Comm ∷ status.Timeout ∷ status.HwLimit ∷ status.Calc ∷ status.Scan ∷ status.Link ∷ status.Soft ∷ status.BadSub ∷ status.Udf ∷ status.Disable ∷ status.Simm ∷ status.ReadAccess ∷ status.WriteAccess ∷ []
+
+-- the number of a Scan choice
+abbrev pub scan_number : Scan → ℕ
+scan_number scan.Passive = 0
+scan_number scan.Event = 1
+scan_number scan.IoIntr = 2
+scan_number scan.TenSeconds = 3
+scan_number scan.FiveSeconds = 4
+scan_number scan.TwoSeconds = 5
+scan_number scan.OneSecond = 6
+scan_number scan.HalfSecond = 7
+scan_number scan.FifthSecond = 8
+scan_number scan.TenthSecond = 9
+
+-- every Scan choice, in the order of the numbers
+abbrev pub scans : List Scan
+scans =
+    scan.Passive ∷ scan.Event ∷ scan.IoIntr ∷ scan.TenSeconds ∷ scan.FiveSeconds ∷ scan.TwoSeconds ∷ scan.OneSecond ∷ scan.HalfSecond ∷ scan.FifthSecond ∷ scan.TenthSecond ∷ []
+
+-- the number of a Priority choice
+abbrev pub priority_number : Priority → ℕ
+priority_number priority.Low = 0
+priority_number priority.Medium = 1
+priority_number priority.High = 2
+
+-- every Priority choice, in the order of the numbers
+abbrev pub priorities : List Priority
+priorities =
+    priority.Low ∷ priority.Medium ∷ priority.High ∷ []
+
+-- the number of a Pini choice
+abbrev pub pini_number : Pini → ℕ
+pini_number pini.No = 0
+pini_number pini.Yes = 1
+
+-- every Pini choice, in the order of the numbers
+abbrev pub pinis : List Pini
+pinis =
+    pini.No ∷ pini.Yes ∷ []
+
+-- the number of an Omsl choice
+abbrev pub omsl_number : Omsl → ℕ
+omsl_number omsl.Supervisory = 0
+omsl_number omsl.ClosedLoop = 1
+
+-- every Omsl choice, in the order of the numbers
+abbrev pub omsls : List Omsl
+omsls =
+    omsl.Supervisory ∷ omsl.ClosedLoop ∷ []
+
+-- the number of an Ivoa choice
+abbrev pub ivoa_number : Ivoa → ℕ
+ivoa_number ivoa.ContinueNormally = 0
+ivoa_number ivoa.DontDriveOutputs = 1
+ivoa_number ivoa.SetOutputToIvov = 2
+
+-- every Ivoa choice, in the order of the numbers
+abbrev pub ivoas : List Ivoa
+ivoas =
+    ivoa.ContinueNormally ∷ ivoa.DontDriveOutputs ∷ ivoa.SetOutputToIvov ∷ []
+
+-- the number of a Selm choice
+abbrev pub selm_number : Selm → ℕ
+selm_number selm.All = 0
+selm_number selm.Specified = 1
+selm_number selm.Mask = 2
+
+-- every Selm choice, in the order of the numbers
+abbrev pub selms : List Selm
+selms =
+    selm.All ∷ selm.Specified ∷ selm.Mask ∷ []

@@ -1,0 +1,56 @@
+-- The texts of the menus' choices. Record Reference Manual, "Menu Types".
+use Rattle.std.specs.Prelude.{ℕ, Option, List, [], ◌∷◌, position, slice_get, codes}
+use Rattle.std.specs.Str.{bytes_eq}
+use Rattle.ioc_menus.specs.declared.menu.Menu.{Menu}
+use Rattle.ioc_menus.specs.declared.menu.Menu.TheVariants.{Severity, Status, Scan, Priority, Pini, Omsl, Ivoa, Selm}
+
+abbrev pub severity_texts : List (List ℕ)
+severity_texts =
+    codes "NO_ALARM" ∷ codes "MINOR" ∷ codes "MAJOR" ∷ codes "INVALID" ∷ []
+
+abbrev pub status_texts : List (List ℕ)
+status_texts =
+    codes "NO_ALARM" ∷ codes "READ" ∷ codes "WRITE" ∷ codes "HIHI" ∷ codes "HIGH" ∷ codes "LOLO" ∷ codes "LOW" ∷ codes "STATE" ∷ codes "COS" ∷ codes "COMM" ∷ codes "TIMEOUT" ∷ codes "HWLIMIT" ∷ codes "CALC" ∷ codes "SCAN" ∷ codes "LINK" ∷ codes "SOFT" ∷ codes "BAD_SUB" ∷ codes "UDF" ∷ codes "DISABLE" ∷ codes "SIMM" ∷ codes "READ_ACCESS" ∷ codes "WRITE_ACCESS" ∷ []
+
+abbrev pub scan_texts : List (List ℕ)
+scan_texts =
+    codes "Passive" ∷ codes "Event" ∷ codes "I/O Intr" ∷ codes "10 second" ∷ codes "5 second" ∷ codes "2 second" ∷ codes "1 second" ∷ codes ".5 second" ∷ codes ".2 second" ∷ codes ".1 second" ∷ []
+
+abbrev pub priority_texts : List (List ℕ)
+priority_texts =
+    codes "LOW" ∷ codes "MEDIUM" ∷ codes "HIGH" ∷ []
+
+abbrev pub pini_texts : List (List ℕ)
+pini_texts =
+    codes "NO" ∷ codes "YES" ∷ []
+
+abbrev pub omsl_texts : List (List ℕ)
+omsl_texts =
+    codes "supervisory" ∷ codes "closed_loop" ∷ []
+
+abbrev pub ivoa_texts : List (List ℕ)
+ivoa_texts =
+    codes "Continue normally" ∷ codes "Don't drive outputs" ∷ codes "Set output to IVOV" ∷ []
+
+abbrev pub selm_texts : List (List ℕ)
+selm_texts =
+    codes "All" ∷ codes "Specified" ∷ codes "Mask" ∷ []
+
+-- the texts of a menu's choices, in the order of their numbers
+abbrev pub texts_of : Menu → List (List ℕ)
+texts_of Severity = severity_texts
+texts_of Status = status_texts
+texts_of Scan = scan_texts
+texts_of Priority = priority_texts
+texts_of Pini = pini_texts
+texts_of Omsl = omsl_texts
+texts_of Ivoa = ivoa_texts
+texts_of Selm = selm_texts
+
+-- the number of the choice with this text
+abbrev pub choice_of : Menu → List ℕ → Option ℕ
+choice_of menu text = position (λ t. bytes_eq t text) (texts_of menu)
+
+-- the text of the choice of this number
+abbrev pub text_of : Menu → ℕ → Option (List ℕ)
+text_of menu number = slice_get (texts_of menu) number

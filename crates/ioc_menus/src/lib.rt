@@ -1,0 +1,27 @@
+//! The menus of record fields, with the numbers and the texts of their choices.
+//! Record Reference Manual, "Menu Types" and "Fields Common to All Record Types".
+#![tactic(auto)]
+
+pub mod ivoa;
+pub mod laws;
+pub mod menu;
+pub mod omsl;
+pub mod pini;
+pub mod priority;
+pub mod scan;
+pub mod selm;
+pub mod severity;
+pub mod status;
+
+pub use ivoa::Ivoa;
+pub use menu::{Menu, choice, choices, text};
+pub use omsl::Omsl;
+pub use pini::Pini;
+pub use priority::Priority;
+pub use scan::Scan;
+pub use selm::Selm;
+pub use severity::Severity;
+pub use status::Status;
+
+#[cfg(test)]
+mod tests;

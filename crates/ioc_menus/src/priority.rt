@@ -1,0 +1,35 @@
+//! The choices of PRIO. Record Reference Manual, "Scan Fields".
+ghost use Rattle.std.specs.Prelude.{◌≡◌, ◌<◌, ◌↔◌, IsSome, IfSome, slice_get};
+
+/// Which callback queue a record's requests take.
+#[derive(Clone, Copy, PartialEq, Eq, Debug)]
+pub enum Priority {
+    Low,
+    Medium,
+    High,
+}
+
+impl Priority {
+    ghost use Rattle.ioc_menus.specs.Numbers.{priority_number, priorities};
+
+    /// The number of the choice, from 0 on.
+    pub fn number(self) -> u16
+        ensures { result ≡ priority_number self }
+    {
+        self as u16
+    }
+
+    /// The choice of this number, where there is one.
+    pub fn from_number(number: u16) -> Option<Self>
+        ensures there { IsSome result ↔ (number < 3) }
+        ensures numbered { IfSome result (λ choice. priority_number choice ≡ number) }
+        ensures value { result ≡ slice_get priorities number }
+    {
+        Some(match number {
+            0 => Priority::Low,
+            1 => Priority::Medium,
+            2 => Priority::High,
+            _ => return None,
+        })
+    }
+}
