@@ -1,0 +1,14 @@
+//! Record numbers, and the names that stand for them.
+//! Record Reference Manual, "Fields Common to All Record Types", NAME; Application Developer's Guide, "alias".
+#![tactic(auto)]
+
+pub mod laws;
+mod name_key;
+pub mod names;
+pub mod record_no;
+
+pub use names::Names;
+pub use record_no::RecordNo;
+
+#[cfg(test)]
+mod tests;

@@ -1,0 +1,112 @@
+//! The names of records.
+ghost use Rattle.std.specs.Prelude.{◌≡◌, ◌↔◌, ◌<◌, ◌≤◌, ◌-◌, ◌^◌, None, length, IsTrue, IfOk, IfSome, OnOk, OnErr};
+ghost use Rattle.ioc_names.specs.NameTable.{no_names, number_of, added, aliased};
+ghost use Rattle.std.specs.FinMap.{get, insert};
+ghost use Rattle.ioc_names.specs.Entries.{number_map};
+
+use crate::name_key::NameKey;
+use crate::record_no::RecordNo;
+use indexmap::IndexMap;
+use ioc_values::Name;
+use std::alloc::{AllocError, Global};
+use std::marker::Model;
+
+/// The names and aliases of records, with the records' numbers. Contracts see it as the map from
+/// names to numbers, and how many records there are.
+#[derive(Drop)]
+pub struct Names {
+    numbers: IndexMap<NameKey, RecordNo>,
+    count: usize,
+}
+
+impl Model for Names {
+    ghost use Rattle.ioc_names.specs.Entries.{number_map};
+    ghost use Rattle.ioc_names.specs.NameTable.{NameTable, table_code, IsNameTable};
+
+    ghost Value = { NameTable };
+
+    ghost coded = { table_code };
+
+    ghost view = { λ n. record { numbers = number_map n.numbers.entries; count = n.count } };
+
+    ghost invariant = { λ n. IsNameTable (number_map n.numbers.entries) n.count };
+}
+
+impl Names {
+    /// No records.
+    pub fn new(alloc: Global) -> Self
+        ensures { result ≡ no_names }
+    {
+        Names {
+            numbers: IndexMap::new(alloc),
+            count: 0,
+        }
+    }
+
+    /// How many records there are.
+    pub fn len(&self) -> usize
+        ensures { result ≡ self.now.count }
+    {
+        self.count
+    }
+
+    /// Are there no records?
+    pub fn is_empty(&self) -> bool
+        ensures { IsTrue result ↔ (self.now.count ≡ 0) }
+    {
+        self.count == 0
+    }
+
+    /// The number of the record that has this name or alias, by one look-up. No record has a name
+    /// of more than 60 bytes.
+    pub fn find(&self, name: &[u8]) -> Option<RecordNo>
+        ensures value { result ≡ number_of self.now name.now }
+        ensures known { IfSome result (λ number. number < self.now.count) }
+    {
+        let numbers = &self.numbers;
+        let key = NameKey::new(Name::from_slice(name)?);
+        numbers.get(&key).copied()
+    }
+
+    /// A new record has this name, and the next number, from 0 on. No record has the name yet: see `find`.
+    /// Where memory is wanting nothing changes.
+    pub fn add(&mut self, name: Name) -> Result<RecordNo, AllocError>
+        requires free { number_of self.old name ≡ None }
+        requires room { self.old.count < 2 ^ 64 - 1 }
+        ensures number { IfOk result (λ number. number ≡ self.old.count) }
+        ensures added { OnOk result (self.new ≡ added self.old name) }
+        ensures err { OnErr result (self.new ≡ self.old) }
+    {
+        let number = RecordNo::new(self.count);
+        enter(&mut self.numbers, name, number)?;
+        self.count += 1;
+        Ok(number)
+    }
+
+    /// The record of this number has this second name. No record has the name yet: see `find`.
+    /// Where memory is wanting nothing changes.
+    pub fn alias(&mut self, number: RecordNo, alias: Name) -> Result<(), AllocError>
+        requires free { number_of self.old alias ≡ None }
+        requires known { number < self.old.count }
+        ensures aliased { OnOk result (self.new ≡ aliased self.old number alias) }
+        ensures err { OnErr result (self.new ≡ self.old) }
+    {
+        enter(&mut self.numbers, alias, number)?;
+        Ok(())
+    }
+}
+
+// Enters a new name with its number, by one look-up.
+fn enter(
+    numbers: &mut IndexMap<NameKey, RecordNo>,
+    name: Name,
+    number: RecordNo,
+) -> Result<(), AllocError>
+    requires { get (number_map numbers.old.entries) name ≡ None }
+    ensures ok { OnOk result (number_map numbers.new.entries ≡ insert (number_map numbers.old.entries) name number) }
+    ensures err { OnErr result (numbers.new.entries ≡ numbers.old.entries) }
+    ensures short { length name ≤ 60 }
+{
+    numbers.insert(NameKey::new(name), number)?;
+    Ok(())
+}
