@@ -1,0 +1,5 @@
+pub mod WordLemmas
+pub mod Spelling
+pub mod Reprint
+pub mod Ends
+pub mod Parsed

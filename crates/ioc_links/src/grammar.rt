@@ -1,0 +1,95 @@
+//! The parts of link texts: decimal numbers, record names, field names.
+
+ghost use Rattle.std.specs.Prelude.{◌≡◌};
+ghost use Rattle.ioc_links.specs.Grammar.{without_sign, is_some_of, is_mantissa, is_float, is_record_name, is_field_name, named, target_at};
+
+use crate::class::{Class, all_of, split_at};
+use crate::link::Target;
+use ioc_values::Short;
+
+/// The text behind a sign, if it begins with one.
+fn without_sign(text: &[u8]) -> &[u8]
+    ensures { result.now ≡ without_sign text.now }
+{
+    match text {
+        [b'+' | b'-', rest @ ..] => rest,
+        _ => text,
+    }
+}
+
+/// Whether there is a byte, and each is of the class.
+fn is_some_of(class: Class, bytes: &[u8]) -> bool
+    ensures { result ≡ is_some_of class bytes.now }
+{
+    if bytes.is_empty() {
+        return false;
+    }
+    all_of(class, bytes)
+}
+
+/// Whether the text is digits, at least one, with or without one point.
+#[tactic(auto, unfolding(crate::specs::Grammar::is_mantissa))]
+fn is_mantissa(text: &[u8]) -> bool
+    ensures { result ≡ is_mantissa text.now }
+{
+    let (whole, back) = split_at(Class::Point, text);
+    match (whole, back) {
+        (_, []) => is_some_of(Class::Digit, whole),
+        ([], [_, part @ ..]) => is_some_of(Class::Digit, part),
+        ([_, ..], [_, part @ ..]) => all_of(Class::Digit, whole) && all_of(Class::Digit, part),
+    }
+}
+
+/// Whether the text is a decimal number, whole or with a fraction or an exponent.
+#[tactic(auto, unfolding(crate::specs::Grammar::is_float))]
+pub(crate) fn is_float(text: &[u8]) -> bool
+    ensures { result ≡ is_float text.now }
+{
+    let (number, back) = split_at(Class::Mark, without_sign(text));
+    match back {
+        [] => is_mantissa(number),
+        [_, power @ ..] => is_mantissa(number) && is_some_of(Class::Digit, without_sign(power)),
+    }
+}
+
+/// Whether the text can name a record: 1 to 60 bytes, each 33 to 126, without `"`, `'`, `.` and `$`.
+pub fn is_record_name(name: &[u8]) -> bool
+    ensures { result ≡ is_record_name name.now }
+{
+    name.len() <= 60 && is_some_of(Class::NameByte, name)
+}
+
+/// Whether the text can name a field: 1 to 8 capital letters or digits.
+fn is_field_name(field: &[u8]) -> bool
+    ensures { result ≡ is_field_name field.now }
+{
+    field.len() <= 8 && is_some_of(Class::FieldByte, field)
+}
+
+/// The field of the record, where both can be named so.
+#[tactic(auto, unfolding(crate::specs::Grammar::target_at))]
+fn target_at(name: &[u8], field: &[u8]) -> Option<Target>
+    ensures { result ≡ target_at name.now field.now }
+{
+    let record_name = Short::from_slice(name)?;
+    let field_name = Short::from_slice(field)?;
+    if !is_record_name(name) || !is_field_name(field) {
+        return None;
+    }
+    Some(Target {
+        record_name,
+        field: field_name,
+    })
+}
+
+/// What `NAME` or `NAME.FIELD` names: without a field VAL.
+#[tactic(auto, unfolding(crate::specs::Grammar::named))]
+pub(crate) fn named(word: &[u8]) -> Option<Target>
+    ensures { result ≡ named word.now }
+{
+    let (name, back) = split_at(Class::Point, word);
+    match back {
+        [] => target_at(name, b"VAL"),
+        [_, field @ ..] => target_at(name, field),
+    }
+}

@@ -1,0 +1,19 @@
+//! Link texts: the links that they stand for, and the one spelling of each.
+//!
+//! Record Reference Manual, "Database Concepts: Address Specification"; Application Developer's Guide, "Database Links".
+#![tactic(auto)]
+
+mod class;
+mod grammar;
+pub mod link;
+pub mod parsing;
+pub mod printing;
+mod words;
+
+pub use grammar::is_record_name;
+pub use link::{Flags, Link, LinkKind, Mode, Target};
+pub use parsing::parse;
+pub use printing::{print, printed_is_read};
+
+#[cfg(test)]
+mod tests;

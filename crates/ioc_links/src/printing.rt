@@ -1,0 +1,64 @@
+//! The one spelling of each link.
+
+ghost use Rattle.std.specs.Prelude.{◌≡◌};
+ghost use Rattle.ioc_links.specs.Grammar.{mode_word, printed_database, printed, LinksAgain};
+
+use crate::link::{Flags, Link, Mode, Target};
+use ioc_values::Short;
+use itoa::Buffer;
+
+/// The word for a mode.
+fn mode_word(mode: Mode) -> &'static [u8]
+    ensures { result.now ≡ mode_word mode }
+{
+    match mode {
+        Mode::Nms => b"NMS",
+        Mode::Ms => b"MS",
+        Mode::Msi => b"MSI",
+        Mode::Mss => b"MSS",
+    }
+}
+
+/// `NAME.FIELD`, then PP or NPP, then the mode, parted by one space.
+fn print_database(target: &Target, flags: Flags) -> Short<120>
+    ensures { result ≡ printed_database target.now flags }
+{
+    let mut text = Short::new();
+    text.extend(target.record_name.as_slice());
+    text.push(b'.');
+    text.extend(target.field.as_slice());
+    let processed: &[u8] = if flags.process_passive {
+        b" PP "
+    } else {
+        b" NPP "
+    };
+    text.extend(processed);
+    text.extend(mode_word(flags.mode));
+    text
+}
+
+/// The one spelling of a link: nothing, a constant in decimal, `@` and the text, or `NAME.FIELD` with both words.
+pub fn print(link: &Link) -> Short<120>
+    ensures { result ≡ printed link.now }
+{
+    let mut text = Short::new();
+    match link {
+        Link::Empty => {}
+        Link::Constant(n) => {
+            let mut buffer = Buffer::new();
+            text.extend(buffer.format(*n).as_bytes());
+        }
+        Link::Device(device) => {
+            text.push(b'@');
+            text.extend(device.as_slice());
+        }
+        Link::Database(target, flags) => return print_database(target, *flags),
+    }
+    text
+}
+
+/// Each link that [`parse`](crate::parsing::parse) answers is read again from its one spelling, in a field of the
+/// same kind.
+pub fn printed_is_read()
+    ensures { LinksAgain }
+{}
