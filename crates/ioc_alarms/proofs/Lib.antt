@@ -1,0 +1,2 @@
+mod LimitLemmas
+mod Wide

@@ -1,0 +1,84 @@
+//! The alarm fields of a record, and the steps on them.
+ghost use Rattle.std.specs.Prelude.{◌≡◌, ℤ};
+
+use crate::limits::Limits;
+use ioc_links::Mode;
+use ioc_menus::{Severity, Status};
+
+/// The alarm that a record shows (STAT, SEVR), and the one that its body has raised so far (NSTA, NSEV).
+#[derive(Clone, Copy, PartialEq, Eq, Debug)]
+pub struct Alarms {
+    pub status: Status,
+    pub severity: Severity,
+    pub new_status: Status,
+    pub new_severity: Severity,
+}
+
+#[tactic(auto, unfolding(crate::specs::Alarms::raised, crate::specs::Alarms::settled, crate::specs::Alarms::inherited, crate::specs::Limits::limited))]
+impl Alarms {
+    ghost use Rattle.ioc_alarms.specs.Alarms.{takes_effect, raised, settled, inherited};
+    ghost use Rattle.ioc_alarms.specs.Limits.{limited, AreBetween, IsBetween};
+
+    /// Would an alarm of this severity take effect if it were raised?
+    pub fn takes_effect(&self, severity: Severity) -> bool
+        ensures { result ≡ takes_effect severity self.now }
+    {
+        severity as u8 > self.new_severity as u8
+    }
+
+    /// Raises an alarm, which takes effect where it is graver than those raised before.
+    /// Record Reference Manual, "Alarm Fields".
+    pub fn raise(&mut self, status: Status, severity: Severity)
+        ensures { self.new ≡ raised status severity self.old }
+    {
+        if self.takes_effect(severity) {
+            self.new_status = status;
+            self.new_severity = severity;
+        }
+    }
+
+    /// The alarm raised becomes the one that the record shows.
+    pub fn settle(&mut self)
+        ensures { self.new ≡ settled self.old }
+    {
+        self.status = self.new_status;
+        self.severity = self.new_severity;
+        self.new_status = Status::NoAlarm;
+        self.new_severity = Severity::NoAlarm;
+    }
+
+    /// Takes over the alarm of another record, as the link's mode says.
+    /// Record Reference Manual, "Link types: maximize severity attribute".
+    pub fn inherit(&mut self, mode: Mode, status: Status, severity: Severity)
+        ensures { self.new ≡ inherited mode status severity self.old }
+    {
+        match mode {
+            Mode::Nms => {}
+            Mode::Ms => self.raise(Status::Link, severity),
+            Mode::Msi => {
+                if let Severity::Invalid = severity {
+                    self.raise(Status::Link, severity);
+                }
+            }
+            Mode::Mss => self.raise(status, severity),
+        }
+    }
+
+    /// Raises the alarm of the first limit that a value has reached, in the order HIHI, LOLO, HIGH,
+    /// LOW, and gives the new LALM: the limit where the alarm took effect, else LALM as it was; the
+    /// value where no limit is reached. Record Reference Manual, "Alarm Parameters" of longin.
+    pub fn limits(&mut self, value: i64, last_alarmed: i64, limits: &Limits) -> i64
+        ensures alarms { self.new ≡ (limited value last_alarmed limits.now self.old).0 }
+        ensures last_alarmed { result ≡ (limited value last_alarmed limits.now self.old).1 }
+        ensures range { (lowest highest : ℤ) → AreBetween lowest highest value last_alarmed limits.now → IsBetween lowest highest result }
+    {
+        let Some(reached) = limits.first_reached(value, last_alarmed) else {
+            return value;
+        };
+        if !self.takes_effect(reached.severity) {
+            return last_alarmed;
+        }
+        self.raise(reached.status, reached.severity);
+        reached.limit
+    }
+}

@@ -1,0 +1,116 @@
+//! The limits of a value.
+ghost use Rattle.std.specs.Prelude.{◌≡◌, ◌-ℤ◌, ◌+ℤ◌, int_le};
+ghost use Rattle.ioc_alarms.specs.Severities.{is_alarm};
+
+use ioc_menus::{Severity, Status};
+
+/// The limits of a value, the severity of each one's alarm, and how far a value must come back
+/// from a limit until its alarm ends. A limit whose severity is NO_ALARM isn't tested.
+#[derive(Clone, Copy, PartialEq, Eq, Debug)]
+pub struct Limits {
+    /// HIHI.
+    pub hihi: i64,
+    /// LOLO.
+    pub lolo: i64,
+    /// HIGH.
+    pub high: i64,
+    /// LOW.
+    pub low: i64,
+    /// HHSV.
+    pub hihi_severity: Severity,
+    /// LLSV.
+    pub lolo_severity: Severity,
+    /// HSV.
+    pub high_severity: Severity,
+    /// LSV.
+    pub low_severity: Severity,
+    /// HYST. A negative one is taken as it stands.
+    pub hysteresis: i64,
+}
+
+/// A limit that a value has reached, and the alarm that it raises.
+#[derive(Clone, Copy, PartialEq, Eq, Debug)]
+pub struct ReachedLimit {
+    pub status: Status,
+    pub severity: Severity,
+    pub limit: i64,
+}
+
+#[tactic(auto, unfolding(crate::specs::Limits::is_high, crate::specs::Limits::is_low))]
+impl Limits {
+    ghost use Rattle.ioc_alarms.specs.Limits.{is_high, is_low, first_reached};
+
+    // Does a high limit hold?
+    fn is_high(&self, limit: i64, value: i64, last_alarmed: i64) -> bool
+        ensures { result ≡ is_high limit self.now.hysteresis value last_alarmed }
+    {
+        value >= limit || (last_alarmed == limit && is_from_below(limit, self.hysteresis, value))
+    }
+
+    // Does a low limit hold?
+    fn is_low(&self, limit: i64, value: i64, last_alarmed: i64) -> bool
+        ensures { result ≡ is_low limit self.now.hysteresis value last_alarmed }
+    {
+        value <= limit || (last_alarmed == limit && is_to_above(limit, self.hysteresis, value))
+    }
+
+    /// The first limit that holds, in the order HIHI, LOLO, HIGH, LOW.
+    #[tactic(auto, unfolding(crate::specs::Limits::first_reached))]
+    pub fn first_reached(&self, value: i64, last_alarmed: i64) -> Option<ReachedLimit>
+        ensures { result ≡ first_reached value last_alarmed self.now }
+    {
+        if is_alarm(self.hihi_severity) && self.is_high(self.hihi, value, last_alarmed) {
+            return Some(ReachedLimit {
+                status: Status::Hihi,
+                severity: self.hihi_severity,
+                limit: self.hihi,
+            });
+        }
+        if is_alarm(self.lolo_severity) && self.is_low(self.lolo, value, last_alarmed) {
+            return Some(ReachedLimit {
+                status: Status::Lolo,
+                severity: self.lolo_severity,
+                limit: self.lolo,
+            });
+        }
+        if is_alarm(self.high_severity) && self.is_high(self.high, value, last_alarmed) {
+            return Some(ReachedLimit {
+                status: Status::High,
+                severity: self.high_severity,
+                limit: self.high,
+            });
+        }
+        if is_alarm(self.low_severity) && self.is_low(self.low, value, last_alarmed) {
+            return Some(ReachedLimit {
+                status: Status::Low,
+                severity: self.low_severity,
+                limit: self.low,
+            });
+        }
+        None
+    }
+}
+
+// Is the severity any but NO_ALARM?
+fn is_alarm(severity: Severity) -> bool
+    ensures { result ≡ is_alarm severity }
+{
+    !matches!(severity, Severity::NoAlarm)
+}
+
+// Is the value at least the limit less the hysteresis? 128 bits hold every difference of two
+// values of 64 bits, so it doesn't wrap.
+fn is_from_below(limit: i64, hysteresis: i64, value: i64) -> bool
+    ensures { result ≡ int_le (limit -ℤ hysteresis) value }
+{
+    let edge = limit as i128 - hysteresis as i128;
+    edge <= value as i128
+}
+
+// Is the value at most the limit and the hysteresis?
+fn is_to_above(limit: i64, hysteresis: i64, value: i64) -> bool
+    ensures { result ≡ int_le value (limit +ℤ hysteresis) }
+{
+    let edge = limit as i128 + hysteresis as i128;
+    value as i128 <= edge
+}
