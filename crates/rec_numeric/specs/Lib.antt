@@ -1,0 +1,2 @@
+pub mod Longin
+pub mod LonginLaws
