@@ -1,0 +1,34 @@
+-- Requests with those that they caused, and their counts.
+use Rattle.std.specs.Prelude.{ℕ, ◌+◌, ◌-◌, ◌^◌, min, Option, Some, None as Nothing_}
+use Rattle.ioc_ledger.specs.declared.outcome.Outcome.{Outcome}
+use Rattle.ioc_ledger.specs.declared.outcome.Outcome.TheVariants.{Processed, Disabled, Active, Reprocess}
+use Rattle.ioc_ledger.specs.declared.tally.Tally.{Tally}
+
+-- requests in order: one with its outcome and those that it caused, and then those after it
+pub data Requests : Type 0 where
+  None : Requests
+  Request : (outcome : Outcome) → (caused : Requests) → (later : Requests) → Requests
+
+abbrev pub followed_by : Requests → Requests → Requests
+followed_by None others = others
+followed_by (Request outcome caused later) others = Request outcome caused (followed_by later others)
+
+-- one more, unless it is full
+abbrev pub more : ℕ → ℕ
+more n = min (2 ^ 64 - 1) (n + 1)
+
+abbrev pub counted_one : Tally → Outcome → Tally
+counted_one t Processed = record t { begun = more t.begun; processed = more t.processed }
+counted_one t Disabled = record t { begun = more t.begun; disabled = more t.disabled }
+counted_one t Active = record t { begun = more t.begun; active = more t.active }
+counted_one t Reprocess = record t { begun = more t.begun; reprocess = more t.reprocess }
+
+-- with each request of these counted
+abbrev pub counted : Tally → Requests → Tally
+counted t None = t
+counted t (Request outcome caused later) = counted (counted (counted_one t outcome) caused) later
+
+-- the outcome of the first
+abbrev pub first_outcome : Requests → Option Outcome
+first_outcome None = Nothing_
+first_outcome (Request outcome caused later) = Some outcome

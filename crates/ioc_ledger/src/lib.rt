@@ -1,0 +1,8 @@
+//! What becomes of requests, and how many there were.
+#![tactic(auto)]
+
+pub mod outcome;
+pub mod tally;
+
+pub use outcome::Outcome;
+pub use tally::Tally;
