@@ -1,0 +1,15 @@
+mod Weights
+mod Worlds
+mod StepFrames
+mod Depth
+mod Alongside
+mod Keeping
+mod Locality
+mod Answering
+mod Bodies
+mod RulesAlone
+mod RulesAllowed
+mod RulesLaws
+mod Stepping
+mod StepLaws
+mod Quieting

@@ -1,0 +1,83 @@
+-- Requests look at the records that links lead to, and change these alone.
+use Rattle.std.proofs.Common.{◌≡◌, ◌≢◌, ℕ, ◌+◌, true, false, eqb, List, refl, sym, ap, subst, ◌∙◌, arith}
+use Rattle.std.proofs.lemmas.Grind.{common_steps}
+use Rattle.std.specs.Prelude.{Contains}
+use Rattle.ioc_device.specs.declared.Answer.{Answer}
+use Rattle.ioc_record.specs.RecordRules.{RecordRules, targets}
+use Rattle.ioc_record.specs.Laws.{IsLawful}
+use Rattle.ioc_process.specs.World.{World, at, put, used_one}
+use Rattle.ioc_process.specs.Processing.{Done}
+use Rattle.ioc_process.specs.Local.{Shut, Same, Spares, Agree, RequestIsLocal}
+use Rattle.ioc_process.proofs.StepFrames.{targets-set, targets-taken}
+use Rattle.ioc_process.proofs.Worlds.{at-put_same, at-put_other}
+use Rattle.ioc_process.proofs.Alongside.{Guards, Goes, request-goes}
+
+module _ {R : Type 0} (k : RecordRules R) (U : ℕ → Type 0) (w0 v0 : World R) where
+  -- the two worlds go on from w0 and v0
+  pub record Along (w v : World R) : Type 0 where
+    pub same : Same k U w v
+    pub shut : Shut k U w
+    pub spares : Spares k U w0 w
+    pub other_spares : Spares k U v0 v
+
+  -- what holds of the record that was put, and of each other record as it was
+  pub by_put : (P : ℕ → R → Type 0) (w : World R) (n : ℕ) (r : R) → P n r → ((m : ℕ) → m ≢ n → P m (at k w m)) → (m : ℕ) → P m (at k (put w n r) m)
+  by_put P w n r here there m =
+      elim (eqb m n) as (λ b. eqb m n ≡ b → P m (at k (put w n r) m)) [
+        | true ↦ λ is. let e : m ≡ n = grind (arith, common_steps) in rw (e, at-put_same k w n r) here
+        | false ↦ λ is. let apart : m ≢ n = grind (arith, common_steps) in subst (P m) (sym (at-put_other k w n m r apart)) (there m apart)
+      ] refl
+
+  both_put : (w v : World R) (n : ℕ) (r : R) (m : ℕ) → (U m → at k w m ≡ at k v m) → U m → at k (put w n r) m ≡ at k (put v n r) m
+  both_put w v n r m same there =
+      elim (eqb m n) as (λ b. eqb m n ≡ b → at k (put w n r) m ≡ at k (put v n r) m) [
+        | true ↦ λ is. let e : m ≡ n = grind (arith, common_steps) in rw (e, at-put_same k w n r, at-put_same k v n r) refl
+        | false ↦ λ is. let apart : m ≢ n = grind (arith, common_steps) in at-put_other k w n m r apart ∙ same there ∙ sym (at-put_other k v n m r apart)
+      ] refl
+
+  -- its links stay in U
+  abbrev pub Within : ℕ → R → Type 0
+  Within n r = (target : ℕ) → Contains (targets k r) target → U target
+
+  pub guards : IsLawful k → Guards k U Within Along
+  unfolding at put used_one
+  guards lawful = record {
+    same = λ inv n may. inv.same.records n may;
+    good = λ inv n may target. inv.shut.shut n target may;
+    used = λ inv. inv.same.used;
+    link = λ good target links. good target links;
+    common = λ good c same target links. good target (subst (λ (x : List ℕ). Contains x target) (targets-set k lawful _ c same) links);
+    taken = λ good got target links. good target (subst (λ (x : List ℕ). Contains x target) (targets-taken k lawful _ got) links);
+    put = λ {w} {v} inv n may r good. record {
+      same = record { moment = inv.same.moment; used = inv.same.used; outbox = inv.same.outbox; dropped = inv.same.dropped; ended = inv.same.ended; records = λ m. both_put w v n r m (inv.same.records m) };
+      shut = record {
+        shut = λ m target. by_put (λ m' x. U m' → Contains (targets k x) target → U target) w n r
+            (λ u links. good target links) (λ m' _ u links. inv.shut.shut m' target u links) m;
+      };
+      spares = record { spared = λ m. by_put (λ m' x. (U m' → ⊥) → x ≡ at k w0 m') w n r (λ out. absurd (out may)) (λ m' _ out. inv.spares.spared m' out) m };
+      other_spares = record { spared = λ m. by_put (λ m' x. (U m' → ⊥) → x ≡ at k v0 m') v n r (λ out. absurd (out may)) (λ m' _ out. inv.other_spares.spared m' out) m };
+    };
+    use_one = λ inv. record {
+      same = record { moment = inv.same.moment; used = ap (λ (n : ℕ). n + 1) inv.same.used; outbox = inv.same.outbox; dropped = inv.same.dropped; ended = inv.same.ended; records = inv.same.records };
+      shut = record { shut = inv.shut.shut };
+      spares = record { spared = inv.spares.spared };
+      other_spares = record { spared = inv.other_spares.spared };
+    };
+  }
+
+  pub along : Shut k U w0 → Same k U w0 v0 → Along w0 v0
+  along shut same = record { same = same; shut = shut; spares = record { spared = λ _ _. refl }; other_spares = record { spared = λ _ _. refl } }
+
+  pub agree : (done other : Done R) → Goes Along done other → Agree k U w0 v0 done other
+  agree done other goes = record {
+    same = goes.inv.same;
+    requests = goes.requests;
+    shut = goes.inv.shut;
+    spares = goes.inv.spares;
+    other_spares = goes.inv.other_spares;
+  }
+
+module _ {R : Type 0} (k : RecordRules R) (lawful : IsLawful k) (U : ℕ → Type 0) (answers : List Answer) where
+  pub request-local : RequestIsLocal k U answers
+  request-local w v s shut same there =
+      agree k U w v _ _ (request-goes k lawful U (Within k U w v) (Along k U w v) (guards k U w v lawful) answers (along k U w v shut same) s there)

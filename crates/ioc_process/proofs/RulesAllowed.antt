@@ -1,0 +1,172 @@
+-- The rules allow the result of `request`.
+use Rattle.std.proofs.Common.{◌≡◌, ℕ, zero, suc, ◌+◌, ◌<◌, ◌≤◌, Bool, true, false, cond, eqb, nat_lt, List, Option, Some, None as Nothing_, unwrap_or, refl, ap, subst, ◌∙◌, arith}
+use Rattle.std.specs.Prelude.{slice_get, Result, Ok, Err}
+use Rattle.std.proofs.lemmas.Grind.{common_steps}
+use Rattle.ioc_record.specs.declared.link_field.LinkUse.{LinkUse}
+use Rattle.ioc_record.specs.declared.link_field.LinkUse.TheVariants.{Unused, OwnDevice, Absent, Standing}
+use Rattle.ioc_record.specs.declared.link_field.Target.{Target}
+use Rattle.ioc_record.specs.declared.body.Got.{Got}
+use Rattle.ioc_record.specs.declared.body.Want.{Want}
+use Rattle.ioc_record.specs.declared.body.Want.TheVariants.{NoInput, ReadLink, ReadDevice}
+use Rattle.ioc_device.specs.declared.Answer.{Answer}
+use Rattle.ioc_device.specs.declared.Answer.TheVariants.{Done as Done-answer, Fault as Fault-answer, Later}
+use Rattle.ioc_record.specs.declared.common.Common.{Common}
+use Rattle.ioc_values.specs.declared.value.Value.{Value}
+use Rattle.ioc_values.specs.declared.error.IocError.{IocError}
+use Rattle.ioc_record.specs.Values.{read_as, converted_to}
+use Rattle.ioc_record.specs.Steps.{inherited, unblocked, with_active, shown}
+use Rattle.ioc_record.specs.RecordRules.{RecordRules}
+use Rattle.ioc_record.specs.Laws.{IsLawful}
+use Rattle.ioc_process.specs.World.{World, at, common_at, put, changed, idle, used_one}
+use Rattle.ioc_ledger.specs.Requests.{None, followed_by}
+use Rattle.ioc_process.specs.Processing.{Done, Reading, caused, followed, inherits, faulted, value_came, prepared, read_record, read_link, completed, completed_if, device_gave, received, read_device, can_ask, input, body, turned_away, processed, requested, request}
+use Rattle.ioc_process.specs.Rules.{Inherits, from_itself, from_another, Takes, that_converts, that_does_not, Receives, a_value, a_bad_value, a_fault, not_yet, Gives, next, asked_too_often, no_more_numbers, Requested, while_active, while_idle, Causes, meanwhile_active, unused, absent, no_such_device, as_it_stands, after_request, Follows, to_record, nowhere, Gets, no_input, of_link, of_device, Finishes, forward, Runs}
+use Rattle.ioc_process.proofs.Worlds.{common_at-changed, idle-changed, idle-kept}
+use Rattle.ioc_process.proofs.Depth.{Room, room-ready, reads-input, request-rule}
+use Rattle.ioc_process.proofs.RulesAlone.{followed_by-none}
+
+module _ {R : Type 0} (k : RecordRules R) where
+  inherits-allowed : (w : World R) (s : ℕ) (t : Target) → Inherits k w s t (inherits k w s t)
+  unfolding inherits
+  inherits-allowed w s t =
+      elim (eqb s t.number) as (λ b. eqb s t.number ≡ b → Inherits k w s t (cond b w (changed k w s (inherited t.mode (common_at k w t.number).alarms.status (common_at k w t.number).alarms.severity)))) [
+        | true ↦ λ is. from_itself (grind (arith, common_steps))
+        | false ↦ λ is. from_another (grind (arith, common_steps))
+      ] refl
+
+  taken-allowed : (w : World R) (s : ℕ) (t : Target) (value : Result Value IocError) → read_as k (at k w t.number) t.field (k.input_kind (at k w s)) ≡ value
+      → Takes k w s t (value_came k w s t value).world (value_came k w s t value).came
+  unfolding value_came faulted
+  taken-allowed w s t (Ok v) is = that_converts is (inherits-allowed w s t)
+  taken-allowed w s t (Err e) is = that_does_not is
+
+  takes-allowed : (w : World R) (s : ℕ) (t : Target)
+      → let read = value_came k w s t (read_as k (at k w t.number) t.field (k.input_kind (at k w s))) in Takes k w s t read.world read.came
+  takes-allowed w s t = taken-allowed w s t _ refl
+
+  gave-allowed : (w : World R) (s : ℕ) (given : Value) (value : Result Value IocError) → converted_to (k.input_kind (at k w s)) given ≡ value
+      → Receives k w s (Done-answer given) (device_gave k w s value).world (device_gave k w s value).came
+  unfolding device_gave
+  gave-allowed w s given (Ok v) is = a_value is
+  gave-allowed w s given (Err e) is = a_bad_value is
+
+  received-allowed : (w : World R) (s : ℕ) (answer : Answer) → Receives k w s answer (received k w s answer).world (received k w s answer).came
+  unfolding received
+  received-allowed w s (Done-answer v) = gave-allowed w s v _ refl
+  received-allowed w s Fault-answer = a_fault
+  received-allowed w s Later = not_yet
+
+  gave-none : (w : World R) (s : ℕ) (value : Result Value IocError) → (device_gave k w s value).requests ≡ None
+  unfolding device_gave
+  gave-none w s (Ok v) = refl
+  gave-none w s (Err e) = refl
+
+  received-none : (w : World R) (s : ℕ) (answer : Answer) → (received k w s answer).requests ≡ None
+  unfolding received
+  received-none w s (Done-answer v) = gave-none w s _
+  received-none w s Fault-answer = refl
+  received-none w s Later = refl
+
+module _ {R : Type 0} (k : RecordRules R) (lawful : IsLawful k) (answers : List Answer) where
+  abbrev ask : World R → ℕ → Done R
+  ask = request k answers
+
+  -- the device of s answers, and this comes
+  abbrev Answers-so : World R → ℕ → Reading R → Type 0
+  Answers-so w s reading = Gets k answers w s ReadDevice reading.world reading.came reading.requests
+
+  answered-so : (w mid : World R) (s : ℕ) (answer : Answer) → Gives k answers w s mid answer → Answers-so w s (received k mid s answer)
+  answered-so w mid s answer g = rw received-none (of_device g (received-allowed k mid s answer))
+
+  device-allowed : (w : World R) (s : ℕ) → Answers-so w s (read_device k answers w s)
+  unfolding read_device
+  device-allowed w s =
+      elim (can_ask k w s) as (λ b. can_ask k w s ≡ b → Answers-so w s (cond b (received k (used_one w) s (unwrap_or (slice_get answers w.used) Fault-answer)) (received k w s Fault-answer))) [
+        | true ↦ λ is. answered-so w (used_one w) s _ (next (grind (arith, common_steps)) (grind (arith, common_steps)))
+        | false ↦ λ is. answered-so w w s _ (elim (nat_lt w.used 256) as (λ b. nat_lt w.used 256 ≡ b → Gives k answers w s w Fault-answer) [
+          | true ↦ λ few. no_more_numbers (grind (arith, common_steps))
+          | false ↦ λ many. asked_too_often (grind (arith, common_steps))
+        ] refl)
+      ] refl
+
+  module _ (bound : ℕ) (asks : (w : World R) (s : ℕ) → idle k w < bound → Requested k answers w s (ask w s).world (ask w s).requests) where
+    caused-allowed : (w : World R) (s t : ℕ) → Room k bound w s → Causes k answers w s t (caused k ask w s t).world (caused k ask w s t).requests
+    unfolding caused
+    caused-allowed w s t room = meanwhile_active (asks _ t (omega (arith, room, idle-changed k lawful w s (with_active true))))
+
+    followed-allowed : (w : World R) (s : ℕ) (link : LinkUse) → Room k bound w s → Follows k answers w s link (followed k ask w s link).world (followed k ask w s link).requests
+    unfolding followed
+    followed-allowed w s (Standing t) room = to_record (caused-allowed w s t.number room)
+    followed-allowed w s Unused room = nowhere (λ t is. cc)
+    followed-allowed w s OwnDevice room = nowhere (λ t is. cc)
+    followed-allowed w s Absent room = nowhere (λ t is. cc)
+
+    read_record-allowed : (w : World R) (s : ℕ) (t : Target) → Room k bound w s
+        → Gets k answers w s (ReadLink (Standing t)) (read_record k ask w s t).world (read_record k ask w s t).came (read_record k ask w s t).requests
+    unfolding read_record prepared
+    read_record-allowed w s t room =
+        elim t.process_passive as (λ b. t.process_passive ≡ b →
+        let done = cond {A = Done R} b (caused k ask w s t.number) (record { world = w; requests = None }) in
+        let read = value_came k done.world s t (read_as k (at k done.world t.number) t.field (k.input_kind (at k done.world s))) in
+        Gets k answers w s (ReadLink (Standing t)) read.world (Some read.came) done.requests) [
+          | true ↦ λ pp. of_link (after_request pp (caused-allowed w s t.number room) (takes-allowed k _ s t))
+          | false ↦ λ plain. of_link (as_it_stands plain (takes-allowed k w s t))
+        ] refl
+
+    read_link-allowed : (w : World R) (s : ℕ) (link : LinkUse) → Room k bound w s
+        → Gets k answers w s (ReadLink link) (read_link k ask w s link).world (read_link k ask w s link).came (read_link k ask w s link).requests
+    unfolding read_link faulted
+    read_link-allowed w s (Standing t) room = read_record-allowed w s t room
+    read_link-allowed w s Unused room = of_link unused
+    read_link-allowed w s OwnDevice room = of_link no_such_device
+    read_link-allowed w s Absent room = of_link absent
+
+    input-allowed : (w : World R) (s : ℕ) (want : Want) → Room k bound w s
+        → Gets k answers w s want (input k answers ask w s want).world (input k answers ask w s want).came (input k answers ask w s want).requests
+    unfolding input
+    input-allowed w s NoInput room = no_input
+    input-allowed w s (ReadLink link) room = read_link-allowed w s link room
+    input-allowed w s ReadDevice room = device-allowed w s
+
+    completed-allowed : (w : World R) (s : ℕ) (got : Got) → idle k w + cond (common_at k w s).active 1 0 ≤ bound
+        → Finishes k answers w s got (completed k ask w s got).world (completed k ask w s got).requests
+    unfolding completed
+    completed-allowed w s got room =
+        let taken = put w s (k.taken (at k w s) got) in
+        let now : (common_at k (changed k taken s shown) s).active ≡ true = ap (λ (c : Common). c.active) (common_at-changed k lawful taken s shown) in
+        forward refl refl (followed-allowed (changed k taken s shown) s _
+        (omega (arith, room, room-ready k lawful w s got, ap {A = Bool} {B = ℕ} (λ b. cond b 1 0) now, ap {A = Bool} {B = ℕ} (λ b. cond b 0 1) now)))
+
+    body-allowed : (w : World R) (s : ℕ) → (common_at k w s).active ≡ false → idle k w ≤ bound → Runs k answers w s (body k answers ask w s).world (body k answers ask w s).requests
+    unfolding body
+    body-allowed w s inactive small =
+        let want = k.begin (at k w s) in
+        let reading = input k answers ask w s want in
+        let gets = input-allowed w s want (omega (arith, small, ap {A = Bool} {B = ℕ} (λ b. cond b 0 1) inactive)) in
+        let leaves = reads-input k lawful answers w s want in
+        let gets-as : (came : Option Got) → reading.came ≡ came → Gets k answers w s want reading.world came reading.requests =
+        λ came is. subst (λ (c : Option Got). Gets k answers w s want reading.world c reading.requests) is gets in
+        elim reading.came as (λ came. reading.came ≡ came → Runs k answers w s (completed_if k ask reading.world s came).world (followed_by reading.requests (completed_if k ask reading.world s came).requests)) [
+          | Nothing_ ↦ λ is. rw followed_by-none (Runs.waits (gets-as Nothing_ is))
+          | Some got ↦ λ is.
+              let still = leaves.active got is ∙ inactive in
+              Runs.to_end (gets-as (Some got) is) (completed-allowed reading.world s got (omega (arith, leaves.fewer, small, ap {A = Bool} {B = ℕ} (λ b. cond b 1 0) still)))
+        ] refl
+
+    requested-allowed : (w : World R) (s : ℕ) → idle k w ≤ bound → Requested k answers w s (requested k answers ask w s).world (requested k answers ask w s).requests
+    unfolding requested
+    requested-allowed w s small =
+        elim (common_at k w s).active as (λ b. (common_at k w s).active ≡ b →
+        Requested k answers w s (cond b (turned_away k answers ask w s) (processed k answers ask w s)).world (cond b (turned_away k answers ask w s) (processed k answers ask w s)).requests) [
+          | true ↦ λ is. while_active is
+          | false ↦ λ is.
+              let first = common_at-changed k lawful w s unblocked in
+              while_idle is (body-allowed (changed k w s unblocked) s (ap (λ (c : Common). c.active) first ∙ is) (omega (arith, small, idle-kept k lawful w s unblocked refl)))
+        ] refl
+
+  allowed-below : (n : ℕ) (w : World R) (s : ℕ) → idle k w < n → Requested k answers w s (ask w s).world (ask w s).requests
+  allowed-below zero w s few = absurd (omega arith)
+  allowed-below (suc n) w s few = rw (request-rule k lawful answers w s) (requested-allowed n (allowed-below n) w s (omega arith))
+
+  pub request-allowed : (w : World R) (s : ℕ) → Requested k answers w s (ask w s).world (ask w s).requests
+  request-allowed w s = allowed-below (suc (idle k w)) w s (omega arith)

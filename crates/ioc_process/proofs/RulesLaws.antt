@@ -1,0 +1,215 @@
+-- A law of requests, by induction on the rules: what they leave of active marks and pending numbers.
+use Rattle.std.proofs.Common.{◌≡◌, ◌≢◌, ℕ, true, false, eqb, List, Option, Some, None as Nothing_, IsSome, refl, sym, ap, subst, ◌∙◌, arith}
+use Rattle.std.proofs.lemmas.Grind.{common_steps}
+use Rattle.ioc_device.specs.declared.Answer.{Answer}
+use Rattle.ioc_ledger.specs.Requests.{Requests}
+use Rattle.ioc_record.specs.declared.common.Common.{Common}
+use Rattle.ioc_record.specs.declared.link_field.LinkUse.{LinkUse}
+use Rattle.ioc_record.specs.declared.link_field.Target.{Target}
+use Rattle.ioc_record.specs.declared.body.Got.{Got}
+use Rattle.ioc_record.specs.declared.body.Want.{Want}
+use Rattle.ioc_record.specs.Steps.{blocked, unblocked, with_active, shown, waiting}
+use Rattle.ioc_record.specs.RecordRules.{RecordRules}
+use Rattle.ioc_record.specs.Laws.{IsLawful}
+use Rattle.ioc_process.specs.World.{World, at, common_at, put, changed, used_one}
+use Rattle.ioc_process.specs.Rules.{Left, as_it_was, now_waits, LeavesAll, Inherits, from_itself, from_another, Takes, that_converts, that_does_not, Receives, a_value, a_bad_value, a_fault, not_yet, Gives, next, asked_too_often, no_more_numbers, Requested, while_active, while_idle, Causes, meanwhile_active, Reads, unused, absent, no_such_device, as_it_stands, after_request, Follows, to_record, nowhere, Gets, no_input, of_link, of_device, Finishes, forward, Runs}
+use Rattle.ioc_process.proofs.StepFrames.{blocked-frame}
+use Rattle.ioc_process.proofs.Worlds.{at-put_same, at-put_other, common_at-changed}
+
+true-not-false : true ≡ false → ⊥
+true-not-false is = cc
+
+-- active mark and pending number as they were
+pub record Same (before after : Common) : Type 0 where
+  pub active : after.active ≡ before.active
+  pub pending : after.pending ≡ before.pending
+
+same_on : {a b c : Common} → Same a b → Same b c → Same a c
+same_on one two = record { active = two.active ∙ one.active; pending = two.pending ∙ one.pending }
+
+same_here : (c : Common) → Same c c
+same_here c = record { active = refl; pending = refl }
+
+left_same : {a b : Common} → Same a b → Left a b
+left_same same = as_it_was same.active same.pending
+
+left_on : {a b c : Common} → Left a b → Left b c → Left a c
+left_on (as_it_was active pending) (as_it_was active' pending') = as_it_was (active' ∙ active) (pending' ∙ pending)
+left_on (as_it_was active pending) (now_waits idle waits some) = now_waits (sym active ∙ idle) waits some
+left_on (now_waits idle waits some) (as_it_was active' pending') = now_waits idle (active' ∙ waits) (subst (λ (o : Option ℕ). IsSome o) (sym pending') some)
+left_on (now_waits idle waits some) (now_waits idle' waits' some') = absurd (true-not-false (sym waits ∙ idle'))
+
+-- an active record is left as it was
+left_active : {a b : Common} → Left a b → a.active ≡ true → Same a b
+left_active (as_it_was active pending) is = record { active = active; pending = pending }
+left_active (now_waits idle waits some) is = absurd (true-not-false (sym is ∙ idle))
+
+module _ {R : Type 0} (k : RecordRules R) (lawful : IsLawful k) where
+  LeavesBut : ℕ → World R → World R → Type 0
+  LeavesBut s w w' = (n : ℕ) → n ≢ s → Left (common_at k w n) (common_at k w' n)
+
+  Own : ℕ → World R → World R → Type 0
+  Own s w w' = Same (common_at k w s) (common_at k w' s)
+
+  -- all but s, and s
+  all_of : (w w' : World R) (s : ℕ) → ((n : ℕ) → n ≢ s → Left (common_at k w n) (common_at k w' n)) → Left (common_at k w s) (common_at k w' s) → LeavesAll k w w'
+  all_of w w' s others own n =
+      elim (eqb n s) as (λ b. eqb n s ≡ b → Left (common_at k w n) (common_at k w' n)) [
+        | true ↦ λ e. let is : n ≡ s = grind (arith, common_steps) in subst (λ m. Left (common_at k w m) (common_at k w' m)) (sym is) own
+        | false ↦ λ e. let apart : n ≢ s = grind (arith, common_steps) in others n apart
+      ] refl
+
+  put-but : (w : World R) (s : ℕ) (r : R) (n : ℕ) → n ≢ s → Same (common_at k w n) (common_at k (put w s r) n)
+  put-but w s r n apart =
+      let same = ap k.common (at-put_other k w s n r apart) in
+      record { active = ap (λ (c : Common). c.active) same; pending = ap (λ (c : Common). c.pending) same }
+
+  changed-but : (w : World R) (s : ℕ) (f : Common → Common) (n : ℕ) → n ≢ s → Same (common_at k w n) (common_at k (changed k w s f) n)
+  unfolding changed
+  changed-but w s f n apart = put-but w s _ n apart
+
+  changed-own : (w : World R) (s : ℕ) (f : Common → Common) → Same (common_at k w s) (f (common_at k w s)) → Own s w (changed k w s f)
+  unfolding Own
+  changed-own w s f same =
+      let is = common_at-changed k lawful w s f in
+      record { active = ap (λ (c : Common). c.active) is ∙ same.active; pending = ap (λ (c : Common). c.pending) is ∙ same.pending }
+
+  changed-all : (w : World R) (s : ℕ) (f : Common → Common) → Same (common_at k w s) (f (common_at k w s)) → LeavesAll k w (changed k w s f)
+  unfolding Own
+  changed-all w s f same = all_of w _ s (λ n apart. left_same (changed-but w s f n apart)) (left_same (changed-own w s f same))
+
+  -- what happens to s, and to all others
+  record Both (s : ℕ) (w w' : World R) : Type 0 where
+    others : (n : ℕ) → n ≢ s → Left (common_at k w n) (common_at k w' n)
+    own : Own s w w'
+
+  both_here : (w : World R) (s : ℕ) → Both s w w
+  unfolding Own
+  both_here w s = record { others = λ n _. as_it_was refl refl; own = same_here _ }
+
+  both_on : {w w' w'' : World R} {s : ℕ} → Both s w w' → Both s w' w'' → Both s w w''
+  unfolding Own
+  both_on one two = record { others = λ n apart. left_on (one.others n apart) (two.others n apart); own = same_on one.own two.own }
+
+  both-changed : (w : World R) (s : ℕ) (f : Common → Common) → Same (common_at k w s) (f (common_at k w s)) → Both s w (changed k w s f)
+  both-changed w s f same = record { others = λ n apart. left_same (changed-but w s f n apart); own = changed-own w s f same }
+
+  inherits-both : {w : World R} {s : ℕ} {t : Target} {w' : World R} → Inherits k w s t w' → Both s w w'
+  inherits-both (from_itself {w} {s} _) = both_here w s
+  inherits-both (from_another {w} {s} {t} _) = both-changed w s _ (record { active = refl; pending = refl })
+
+  takes-both : {w : World R} {s : ℕ} {t : Target} {w' : World R} {got : Got} → Takes k w s t w' got → Both s w w'
+  takes-both (that_converts _ i) = inherits-both i
+  takes-both (that_does_not {w} {s} _) = both-changed w s _ (record { active = refl; pending = refl })
+
+  -- s as it was where something came, and waiting where nothing came
+  OwnIf : ℕ → World R → World R → Option Got → Type 0
+  OwnIf s w w' Nothing_ = ((common_at k w' s).active ≡ true) × IsSome (common_at k w' s).pending
+  OwnIf s w w' (Some got) = Own s w w'
+
+  record BothIf (s : ℕ) (w w' : World R) (came : Option Got) : Type 0 where
+    others : (n : ℕ) → n ≢ s → Left (common_at k w n) (common_at k w' n)
+    own : OwnIf s w w' came
+
+  both_if : {s : ℕ} {w w' : World R} {got : Got} → Both s w w' → BothIf s w w' (Some got)
+  unfolding OwnIf
+  both_if both = record { others = both.others; own = both.own }
+
+  receives-both : {w : World R} {s : ℕ} {answer : Answer} {w' : World R} {came : Option Got} → Receives k w s answer w' came → BothIf s w w' came
+  unfolding OwnIf
+  receives-both (a_value {w} {s} _) = both_if (both_here w s)
+  receives-both (a_bad_value {w} {s} _) = both_if (both-changed w s _ (record { active = refl; pending = refl }))
+  receives-both (a_fault {w} {s}) = both_if (both-changed w s _ (record { active = refl; pending = refl }))
+  receives-both (not_yet {w} {s}) =
+      let is = common_at-changed k lawful w s waiting in
+      record {
+        others = λ n apart. left_same (changed-but w s waiting n apart);
+        own = (ap (λ (c : Common). c.active) is, subst (λ (o : Option ℕ). IsSome o) (sym (ap (λ (c : Common). c.pending) is)) refl);
+      }
+
+  module _ (answers : List Answer) where
+    gives-both : {w : World R} {s : ℕ} {w' : World R} {answer : Answer} → Gives k answers w s w' answer → Both s w w'
+    unfolding at used_one Own
+    gives-both (next _ _) = record { others = λ n _. as_it_was refl refl; own = record { active = refl; pending = refl } }
+    gives-both (asked_too_often {w} {s} _) = both_here w s
+    gives-both (no_more_numbers {w} {s} _) = both_here w s
+
+    after_giving : {w w' w'' : World R} {s : ℕ} {came : Option Got} → Both s w w' → BothIf s w' w'' came → BothIf s w w'' came
+    unfolding OwnIf Own
+    after_giving {came = Nothing_} one two = record { others = λ n apart. left_on (one.others n apart) (two.others n apart); own = two.own }
+    after_giving {came = Some got} one two = record { others = λ n apart. left_on (one.others n apart) (two.others n apart); own = same_on one.own two.own }
+
+    -- s is idle in the end, with the pending number that it had
+    record Ended (s : ℕ) (w w' : World R) : Type 0 where
+      others : (n : ℕ) → n ≢ s → Left (common_at k w n) (common_at k w' n)
+      active : (common_at k w' s).active ≡ false
+      pending : (common_at k w' s).pending ≡ (common_at k w s).pending
+
+    mutual
+      unfolding Own OwnIf
+
+      pub requested-leaves : {w : World R} {s : ℕ} {w' : World R} {requests : Requests} → Requested k answers w s w' requests → LeavesAll k w w'
+      requested-leaves (while_active {w} {s} _) =
+          let f = blocked-frame (common_at k w s) in
+          changed-all w s blocked (record { active = f.active; pending = f.pending })
+      requested-leaves (while_idle {w} {w'} {s} idle r) =
+          let first = changed-own w s unblocked (record { active = refl; pending = refl }) in
+          let rest = runs-leave r (first.active ∙ idle) in
+          all_of w w' s (λ n apart. left_on (left_same (changed-but w s unblocked n apart)) (rest n)) (left_on (left_same first) (rest s))
+
+      causes-both : {w : World R} {s t : ℕ} {w' : World R} {requests : Requests} → Causes k answers w s t w' requests → Both s w w'
+      causes-both (meanwhile_active {w} {w'} {s} r) =
+          let inside = requested-leaves r in
+          let set = common_at-changed k lawful w s (with_active true) in
+          let kept = left_active (inside s) (ap (λ (c : Common). c.active) set) in
+          let back = common_at-changed k lawful w' s (with_active (common_at k w s).active) in
+          record {
+            others = λ n apart. left_on (left_same (changed-but w s (with_active true) n apart)) (left_on (inside n) (left_same (changed-but w' s _ n apart)));
+            own = record {
+              active = ap (λ (c : Common). c.active) back;
+              pending = ap (λ (c : Common). c.pending) back ∙ kept.pending ∙ ap (λ (c : Common). c.pending) set;
+            };
+          }
+
+      reads-both : {w : World R} {s : ℕ} {link : LinkUse} {w' : World R} {got : Got} {requests : Requests} → Reads k answers w s link w' got requests → Both s w w'
+      reads-both (unused {w} {s}) = both_here w s
+      reads-both (absent {w} {s}) = both-changed w s _ (record { active = refl; pending = refl })
+      reads-both (no_such_device {w} {s}) = both-changed w s _ (record { active = refl; pending = refl })
+      reads-both (as_it_stands _ takes) = takes-both takes
+      reads-both (after_request _ c takes) = both_on (causes-both c) (takes-both takes)
+
+      follows-both : {w : World R} {s : ℕ} {link : LinkUse} {w' : World R} {requests : Requests} → Follows k answers w s link w' requests → Both s w w'
+      follows-both (to_record c) = causes-both c
+      follows-both (nowhere {w} {s} _) = both_here w s
+
+      gets-both : {w : World R} {s : ℕ} {want : Want} {w' : World R} {came : Option Got} {requests : Requests} → Gets k answers w s want w' came requests → BothIf s w w' came
+      gets-both (no_input {w} {s}) = both_if (both_here w s)
+      gets-both (of_link r) = both_if (reads-both r)
+      gets-both (of_device g r) = after_giving (gives-both g) (receives-both r)
+
+      finishes-ended : {w : World R} {s : ℕ} {got : Got} {w' : World R} {requests : Requests} → Finishes k answers w s got w' requests → Ended s w w'
+      finishes-ended (forward {w} {taken} {ready} {w'} {s} {got} t r f) =
+          let inside = follows-both f in
+          let put_same = ap k.common (at-put_same k w s (k.taken (at k w s) got)) in
+          let taken_pending : (common_at k taken s).pending ≡ (common_at k w s).pending =
+          ap (λ (v : World R). (common_at k v s).pending) t ∙ ap (λ (c : Common). c.pending) put_same ∙ lawful.taken_pending _ got in
+          let ready_pending : (common_at k ready s).pending ≡ (common_at k taken s).pending =
+          ap (λ (v : World R). (common_at k v s).pending) r ∙ ap (λ (c : Common). c.pending) (common_at-changed k lawful taken s shown) in
+          let last = common_at-changed k lawful w' s (with_active false) in
+          record {
+            others = λ n apart. left_on (left_same (subst (λ (v : World R). Same (common_at k w n) (common_at k v n)) (sym t) (put-but w s _ n apart)))
+                (left_on (left_same (subst (λ (v : World R). Same (common_at k taken n) (common_at k v n)) (sym r) (changed-but taken s shown n apart)))
+                (left_on (inside.others n apart) (left_same (changed-but w' s (with_active false) n apart))));
+            active = ap (λ (c : Common). c.active) last;
+            pending = ap (λ (c : Common). c.pending) last ∙ inside.own.pending ∙ ready_pending ∙ taken_pending;
+          }
+
+      runs-leave : {w : World R} {s : ℕ} {w' : World R} {requests : Requests} → Runs k answers w s w' requests → (common_at k w s).active ≡ false → LeavesAll k w w'
+      runs-leave (Runs.to_end {w} {w'} {w''} {s} g f) idle =
+          let first = gets-both g in
+          let rest = finishes-ended f in
+          all_of w w'' s (λ n apart. left_on (first.others n apart) (rest.others n apart))
+          (as_it_was (rest.active ∙ sym idle) (rest.pending ∙ first.own.pending))
+      runs-leave (Runs.waits {w} {w'} {s} g) idle =
+          let first = gets-both g in
+          all_of w w' s first.others (now_waits idle first.own.0 first.own.1)

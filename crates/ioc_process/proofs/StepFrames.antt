@@ -1,0 +1,59 @@
+-- Steps on common fields leave a record as active as it was, and its links alone.
+use Rattle.std.proofs.Common.{◌≡◌, Bool, true, false, cond, ◌||◌, refl, ap, ◌∙◌}
+use Rattle.std.specs.Prelude.{nat_lt, Option}
+use Rattle.ioc_menus.specs.declared.severity.Severity.{Severity}
+use Rattle.ioc_menus.specs.declared.status.Status.{Status}
+use Rattle.ioc_links.specs.declared.link.Mode.{Mode}
+use Rattle.ioc_fields.specs.declared.field_no.FieldNo.{FieldNo}
+use Rattle.ioc_alarms.specs.Alarms.{is_invalid}
+use Rattle.ioc_values.specs.declared.value.Value.{Value}
+use Rattle.ioc_record.specs.declared.common.Common.{Common}
+use Rattle.ioc_record.specs.declared.link_field.LinkField.{LinkField}
+use Rattle.ioc_record.specs.declared.body.Got.{Got}
+use Rattle.ioc_record.specs.Links.{named_by_all}
+use Rattle.ioc_record.specs.Steps.{raised, inherited, blocked, is_scan, shown}
+use Rattle.ioc_record.specs.RecordRules.{RecordRules, targets}
+use Rattle.ioc_record.specs.Laws.{IsLawful}
+
+-- the fields that these steps leave alone
+pub record SameFrame (before after : Common) : Type 0 where
+  pub active : after.active ≡ before.active
+  pub forward : after.forward_link ≡ before.forward_link
+  pub pending : after.pending ≡ before.pending
+
+same_if : (b : Bool) (c d e : Common) → SameFrame c d → SameFrame c e → SameFrame c (cond b d e)
+same_if true c d e left right = left
+same_if false c d e left right = right
+
+same : (c : Common) → SameFrame c c
+same c = record { active = refl; forward = refl; pending = refl }
+
+pub raised-frame : (status : Status) (severity : Severity) (c : Common) → SameFrame c (raised status severity c)
+raised-frame status severity c = record { active = refl; forward = refl; pending = refl }
+
+pub inherited-frame : (mode : Mode) (status : Status) (severity : Severity) (c : Common) → SameFrame c (inherited mode status severity c)
+inherited-frame mode status severity c = record { active = refl; forward = refl; pending = refl }
+
+pub blocked-frame : (c : Common) → SameFrame c (blocked c)
+unfolding blocked
+blocked-frame c =
+    same_if (is_scan c.alarms.status) _ _ _ (same c)
+    (same_if (nat_lt c.lock_count 10 || is_invalid c.alarms.severity) c _ _ (record { active = refl; forward = refl; pending = refl })
+    (record { active = refl; forward = refl; pending = refl }))
+
+pub shown-forward : (c : Common) → (shown c).forward_link ≡ c.forward_link
+shown-forward c = refl
+
+module _ {R : Type 0} (k : RecordRules R) (lawful : IsLawful k) where
+  -- the same links name the same records
+  pub targets_same : (r r' : R) → k.link_fields r' ≡ k.link_fields r → k.link r' ≡ k.link r → targets k r' ≡ targets k r
+  targets_same r r' fields links = ap (λ (l : FieldNo → Option LinkField). named_by_all l (k.link_fields r')) links ∙ ap (named_by_all (k.link r)) fields
+
+  pub targets-set : (r : R) (c : Common) → c.forward_link ≡ (k.common r).forward_link → targets k (k.with_common r c) ≡ targets k r
+  targets-set r c same = targets_same r (k.with_common r c) (lawful.link_fields_set r c) (lawful.links_set r c same)
+
+  pub targets-taken : (r : R) (got : Got) → targets k (k.taken r got) ≡ targets k r
+  targets-taken r got = targets_same r (k.taken r got) (lawful.taken_link_fields r got) (lawful.taken_links r got)
+
+  pub targets-stored : (r : R) (f : FieldNo) (v : Value) → targets k (k.stored r f v) ≡ targets k r
+  targets-stored r f v = targets_same r (k.stored r f v) (lawful.stored_link_fields r f v) (lawful.stored_links r f v)

@@ -1,0 +1,147 @@
+-- The rules of an event allow what the function gives, and nothing else.
+use Rattle.std.proofs.Common.{◌≡◌, ℕ, Bool, true, false, cond, List, Option, Some, is_some, refl, sym, ap, subst, ◌∙◌}
+use Rattle.std.specs.Prelude.{Result, Ok, Err}
+use Rattle.std.specs.FinMap.{contains_key}
+use Rattle.ioc_values.specs.declared.error.IocError.{IocError}
+use Rattle.ioc_values.specs.declared.error.IocError.TheVariants.{NoField}
+use Rattle.ioc_values.specs.declared.input.Input.{Input}
+use Rattle.ioc_fields.specs.declared.field_no.FieldNo.{FieldNo}
+use Rattle.ioc_fields.specs.Table.{row_of}
+use Rattle.ioc_device.specs.declared.Answer.{Answer}
+use Rattle.ioc_ledger.specs.declared.outcome.Outcome.{Outcome}
+use Rattle.ioc_ledger.specs.declared.outcome.Outcome.TheVariants.{Reprocess}
+use Rattle.ioc_ledger.specs.Requests.{Requests, None, Request, first_outcome}
+use Rattle.ioc_record.specs.RecordRules.{RecordRules}
+use Rattle.ioc_record.specs.Laws.{IsLawful}
+use Rattle.ioc_record.specs.Values.{text_of, put_field}
+use Rattle.ioc_process.specs.declared.reply.Reply.{Reply}
+use Rattle.ioc_process.specs.declared.reply.Reply.TheVariants.{Plain, Outcome as Outcome-reply, Shown}
+use Rattle.ioc_process.specs.World.{World, at, common_at, put}
+use Rattle.ioc_process.specs.Rules.{Requested, while_active, while_idle}
+use Rattle.ioc_process.specs.Processing.{Done}
+use Rattle.ioc_process.specs.Step.{Event, Get, Process, Put, Stepped, number_of, refused, told, outcome_reply, after_put, put_with, processes, stepped_there, stepped}
+use Rattle.ioc_process.specs.StepRules.{Step, no_such_record, no_such_field, shows_field, processes_record, refuses_value, stores_alone, stores_while_active, stores_and_processes, Entry, Replay, at_the_end, and_then}
+use Rattle.ioc_process.proofs.Worlds.{at-put_same}
+use Rattle.ioc_process.proofs.RulesAlone.{request-is}
+use Rattle.ioc_process.proofs.RulesAllowed.{request-allowed}
+use Rattle.ioc_process.proofs.Stepping.{step-missing, step-there, step-process, step-put}
+
+module _ {R : Type 0} (k : RecordRules R) (lawful : IsLawful k) (answers : List Answer) where
+  made : World R → Reply → Requests → Stepped R
+  made w reply requests = record { world = w; reply = reply; requests = requests }
+
+  told-is : (w w' : World R) (s : ℕ) (outcome : Outcome) (requests : Requests) → Requested k answers w s w' requests → first_outcome requests ≡ Some outcome
+      → told k answers w s ≡ record { world = w'; reply = Outcome-reply outcome; requests = requests }
+  unfolding told
+  told-is w w' s outcome requests r is =
+      ap (λ (d : Done R). record { world = d.world; reply = outcome_reply (first_outcome d.requests); requests = d.requests }) (request-is k lawful answers r)
+      ∙ ap (λ (o : Option Outcome). record { world = w'; reply = outcome_reply o; requests = requests }) is
+
+  get-is : (w : World R) (s : ℕ) (field : FieldNo) (b : Bool) → contains_key w.records s ≡ true → is_some (row_of (k.record_type (at k w s)) field) ≡ b
+      → stepped k answers w (Get s field) ≡ cond b (record { world = w; reply = Shown (text_of k (at k w s) field); requests = None }) (refused w NoField)
+  unfolding stepped_there
+  get-is w s field b there is = step-there k answers w (Get s field) there ∙ rw is refl
+
+  put-refused-is : (w : World R) (s : ℕ) (field : FieldNo) (given : Input) (e : IocError) → contains_key w.records s ≡ true → put_field k (at k w s) field given ≡ Err e
+      → stepped k answers w (Put s field given) ≡ refused w e
+  unfolding stepped_there
+  put-refused-is w s field given e there is = step-there k answers w (Put s field given) there ∙ ap (put_with k answers w s field) is
+
+  after-is : (w : World R) (s : ℕ) (field : FieldNo) (b active : Bool) → processes (k.record_type (at k w s)) field ≡ b → (common_at k w s).active ≡ active
+      → after_put k answers w s field ≡ cond {A = Stepped R} b
+      (cond {A = Stepped R} active (record { world = w; reply = Outcome-reply Reprocess; requests = Request Reprocess None None }) (told k answers w s))
+      (record { world = w; reply = Plain; requests = None })
+  unfolding after_put
+  after-is w s field b active is act = rw (is, act) refl
+
+  type-put : (w : World R) (s : ℕ) (r : R) (field : FieldNo) (b : Bool) → processes (k.record_type r) field ≡ b → processes (k.record_type (at k (put w s r) s)) field ≡ b
+  type-put w s r field b is = ap (λ (x : R). processes (k.record_type x) field) (at-put_same k w s r) ∙ is
+
+  active-put : (w : World R) (s : ℕ) (r : R) (b : Bool) → (k.common r).active ≡ b → (common_at k (put w s r) s).active ≡ b
+  active-put w s r b is = ap (λ (x : R). (k.common x).active) (at-put_same k w s r) ∙ is
+
+  -- no other result than that of the function
+  pub step-is : {w : World R} {event : Event} {w' : World R} {reply : Reply} {requests : Requests} → Step k answers w event w' reply requests
+      → stepped k answers w event ≡ record { world = w'; reply = reply; requests = requests }
+  step-is (no_such_record {w} {event} missing) = step-missing k answers w event missing
+  step-is (no_such_field {w} {s} {field} there none) = get-is w s field false there none
+  step-is (shows_field {w} {s} {field} there some) = get-is w s field true there some
+  step-is (processes_record {w} {w'} {s} {outcome} {requests} there r is) = step-process k answers w s there ∙ told-is w w' s outcome requests r is
+  step-is (refuses_value {w} {s} {field} {given} {e} there is) = put-refused-is w s field given e there is
+  step-is (stores_alone {w} {s} {field} {given} {r} there is plain) =
+      step-put k answers w s field given r there is ∙ after-is (put w s r) s field false (k.common r).active (type-put w s r field false plain) (active-put w s r _ refl)
+  step-is (stores_while_active {w} {s} {field} {given} {r} there is proc active) =
+      step-put k answers w s field given r there is ∙ after-is (put w s r) s field true true (type-put w s r field true proc) (active-put w s r true active)
+  step-is (stores_and_processes {w} {w'} {s} {field} {given} {r} {outcome} {requests} there is proc idle q first) =
+      step-put k answers w s field given r there is ∙ after-is (put w s r) s field true false (type-put w s r field true proc) (active-put w s r false idle)
+      ∙ told-is (put w s r) w' s outcome requests q first
+
+  -- ---- and the result of the function is allowed
+
+  Allows : World R → Event → Stepped R → Type 0
+  Allows w event x = Step k answers w event x.world x.reply x.requests
+
+  some-outcome : {w : World R} {s : ℕ} {w' : World R} {requests : Requests} → Requested k answers w s w' requests → (o : Outcome) × (first_outcome requests ≡ Some o)
+  some-outcome (while_active _) = (_, refl)
+  some-outcome (while_idle _ _) = (_, refl)
+
+  process-allowed : (w : World R) (s : ℕ) → contains_key w.records s ≡ true → Allows w (Process s) (told k answers w s)
+  unfolding told Allows
+  process-allowed w s there =
+      let r = request-allowed k lawful answers w s in
+      let o = some-outcome r in
+      rw o.1 (processes_record there r o.1)
+
+  get-allowed : (w : World R) (s : ℕ) (field : FieldNo) → contains_key w.records s ≡ true → Allows w (Get s field) (stepped_there k answers w (Get s field))
+  unfolding Allows stepped_there
+  get-allowed w s field there =
+      elim (is_some (row_of (k.record_type (at k w s)) field)) as (λ b. is_some (row_of (k.record_type (at k w s)) field) ≡ b →
+      let x = cond {A = Stepped R} b (record { world = w; reply = Shown (text_of k (at k w s) field); requests = None }) (refused w NoField) in
+      Step k answers w (Get s field) x.world x.reply x.requests) [
+        | true ↦ λ some. shows_field there some
+        | false ↦ λ none. no_such_field there none
+      ] refl
+
+  after-allowed : (w : World R) (s : ℕ) (field : FieldNo) (given : Input) (r : R) → contains_key w.records s ≡ true → put_field k (at k w s) field given ≡ Ok r
+      → Allows w (Put s field given) (after_put k answers (put w s r) s field)
+  unfolding Allows told
+  after-allowed w s field given r there is =
+      let v = put w s r in
+      elim (processes (k.record_type r) field) as (λ b. processes (k.record_type r) field ≡ b → Allows w (Put s field given) (after_put k answers v s field)) [
+        | true ↦ λ proc. elim (k.common r).active as (λ b. (k.common r).active ≡ b → Allows w (Put s field given) (after_put k answers v s field)) [
+          | true ↦ λ active. rw (after-is v s field true true (type-put w s r field true proc) (active-put w s r true active)) (stores_while_active there is proc active)
+          | false ↦ λ idle.
+              let q = request-allowed k lawful answers v s in
+              let o = some-outcome q in
+              rw (after-is v s field true false (type-put w s r field true proc) (active-put w s r false idle)) (rw o.1 (stores_and_processes there is proc idle q o.1))
+        ] refl
+        | false ↦ λ plain. rw (after-is v s field false (k.common r).active (type-put w s r field false plain) (active-put w s r _ refl)) (stores_alone there is plain)
+      ] refl
+
+  put-allowed : (w : World R) (s : ℕ) (field : FieldNo) (given : Input) (result : Result R IocError) → contains_key w.records s ≡ true → put_field k (at k w s) field given ≡ result
+      → Allows w (Put s field given) (put_with k answers w s field result)
+  unfolding Allows
+  put-allowed w s field given (Ok r) there is = after-allowed w s field given r there is
+  put-allowed w s field given (Err e) there is = refuses_value there is
+
+  there-allowed : (w : World R) (event : Event) → contains_key w.records (number_of event) ≡ true → Allows w event (stepped_there k answers w event)
+  unfolding stepped_there
+  there-allowed w (Get s field) there = get-allowed w s field there
+  there-allowed w (Process s) there = process-allowed w s there
+  there-allowed w (Put s field given) there = put-allowed w s field given _ there refl
+
+  pub step-allowed : (w : World R) (event : Event) → Step k answers w event (stepped k answers w event).world (stepped k answers w event).reply (stepped k answers w event).requests
+  unfolding Allows
+  step-allowed w event =
+      elim (contains_key w.records (number_of event)) as (λ b. contains_key w.records (number_of event) ≡ b → Allows w event (stepped k answers w event)) [
+        | true ↦ λ there. rw (step-there k answers w event there) (there-allowed w event there)
+        | false ↦ λ missing. rw (step-missing k answers w event missing) (no_such_record missing)
+      ] refl
+
+module _ {R : Type 0} (k : RecordRules R) (lawful : IsLawful k) where
+  -- a list of events replays in one way
+  pub replay-is : {w w' w'' : World R} {entries : List Entry} → Replay k w entries w' → Replay k w entries w'' → w' ≡ w''
+  replay-is at_the_end at_the_end = refl
+  replay-is (and_then {w} {w'} {w''} {entry} {entries} first _ rest) (and_then second _ others) =
+      let same = sym (step-is k lawful entry.answers first) ∙ step-is k lawful entry.answers second in
+      replay-is (subst (λ (v : World R). Replay k v entries w'') (ap (λ (x : Stepped R). x.world) same) rest) others

@@ -1,0 +1,59 @@
+-- What a change of one record does to a world.
+use Rattle.std.proofs.Common.{◌≡◌, ◌≢◌, ℕ, ◌+◌, Bool, true, false, cond, Option, Some, None, unwrap_or, refl, sym, ap, ◌∙◌, arith}
+use Rattle.std.specs.FinMap.{gets}
+use Rattle.std.proofs.lemmas.Grind.{common_steps}
+use Rattle.ioc_record.specs.declared.common.Common.{Common}
+use Rattle.ioc_record.specs.Steps.{with_active}
+use Rattle.ioc_record.specs.RecordRules.{RecordRules}
+use Rattle.ioc_record.specs.Laws.{IsLawful}
+use Rattle.ioc_process.specs.World.{World, Has, at, common_at, put, changed, idle, one_if_idle}
+use Rattle.ioc_process.proofs.Weights.{weight_of, total-insert}
+
+pub one_of_two : (b : Bool) → cond b 1 0 + cond b 0 1 ≡ 1
+one_of_two true = refl
+one_of_two false = refl
+
+module _ {R : Type 0} (k : RecordRules R) where
+  pub at-put_same : (w : World R) (n : ℕ) (r : R) → at k (put w n r) n ≡ r
+  unfolding at put
+  at-put_same w n r = grind (gets, arith, common_steps)
+
+  pub at-put_other : (w : World R) (n m : ℕ) (r : R) → m ≢ n → at k (put w n r) m ≡ at k w m
+  unfolding at put
+  at-put_other w n m r apart = grind (gets, arith, common_steps)
+
+  pub has-put : (w : World R) (n m : ℕ) (r : R) → Has w m → Has (put w n r) m
+  unfolding put
+  has-put w n m r has = grind (gets, arith, common_steps)
+
+  -- the idle records, and one more where this one is active
+  abbrev pub room : World R → ℕ → ℕ
+  room w n = idle k w + cond (common_at k w n).active 1 0
+
+module _ {R : Type 0} (k : RecordRules R) (lawful : IsLawful k) where
+  one_if_missing : one_if_idle k k.missing ≡ 0
+  one_if_missing = ap (λ b. cond b 0 1) lawful.missing_is_active
+
+  weight-at : (o : Option R) → weight_of (one_if_idle k) o ≡ one_if_idle k (unwrap_or o k.missing)
+  weight-at None = sym one_if_missing
+  weight-at (Some r) = refl
+
+  pub idle-put : (w : World R) (n : ℕ) (r : R) → idle k (put w n r) + one_if_idle k (at k w n) ≡ idle k w + one_if_idle k r
+  unfolding idle put at
+  idle-put w n r = rw (← weight-at) (total-insert (one_if_idle k) w.records n r)
+
+  pub common_at-changed : (w : World R) (n : ℕ) (f : Common → Common) → common_at k (changed k w n f) n ≡ f (common_at k w n)
+  unfolding changed
+  common_at-changed w n f = ap k.common (at-put_same k w n _) ∙ lawful.common_set _ _
+
+  pub idle-changed : (w : World R) (n : ℕ) (f : Common → Common) →
+      idle k (changed k w n f) + cond (common_at k w n).active 0 1 ≡ idle k w + cond (f (common_at k w n)).active 0 1
+  unfolding changed
+  idle-changed w n f = idle-put w n _ ∙ ap (λ (c : Common). idle k w + cond c.active 0 1) (lawful.common_set _ _)
+
+  -- a change that leaves a record as active as it was
+  pub idle-kept : (w : World R) (n : ℕ) (f : Common → Common) → (f (common_at k w n)).active ≡ (common_at k w n).active → idle k (changed k w n f) ≡ idle k w
+  idle-kept w n f same = omega (arith, idle-changed w n f, ap {A = Bool} {B = ℕ} (λ b. cond b 0 1) same)
+
+  pub room-active : (w : World R) (n : ℕ) → idle k (changed k w n (with_active true)) + 1 ≡ room k w n
+  room-active w n = omega (arith, idle-changed w n (with_active true), one_of_two (common_at k w n).active)

@@ -1,0 +1,37 @@
+use Rattle.std.proofs.Common.{sym, ◌∙◌}
+use Rattle.ioc_process.specs.Step.{Put}
+use Rattle.ioc_process.proofs.Worlds.{has-put}
+use Rattle.ioc_process.proofs.Keeping.{keeps_on, closed_on}
+use Rattle.ioc_process.proofs.Stepping.{tells-refused, tells-put_refused, step-put, keeps-put_field}
+use Rattle.ioc_process.proofs.events.run_put.Goals as goal
+
+pub returns-then-not-has-clause-step : goal.returns-then-not-has-clause-step
+returns-then-not-has-clause-step g c = λ answers begins.
+    tells-refused g.S.Record.RecordKind.rules answers _ (Put c.args.number c.args.field c.args.given) _ (sym c.has.ensures ∙ c.if-not-has.true)
+
+pub process_after_put-requires-clause-there : goal.process_after_put-requires-clause-there
+process_after_put-requires-clause-there g c =
+    rw c.in-Ok.ensures.stored (has-put g.S.Record.RecordKind.rules (g.S.Store.world c.args.store.now) c.args.number c.args.number _ (sym c.has.ensures ∙ c.if-not-has.false))
+
+pub process_after_put-requires-clause-closed : goal.process_after_put-requires-clause-closed
+process_after_put-requires-clause-closed g c =
+    let k = g.S.Record.RecordKind.rules in
+    rw c.in-Ok.ensures.stored (closed_on k (keeps-put_field k g.met.S.Record.RecordKind.lawful (g.S.Store.world c.args.store.now) c.args.number c.args.field c.args.given _ c.in-Ok.ensures.ok) c.requires.closed)
+
+pub returns-in-Ok-clause-step : goal.returns-in-Ok-clause-step
+returns-in-Ok-clause-step g c = λ answers begins.
+    rw (
+      step-put g.S.Record.RecordKind.rules answers (g.S.Store.world c.args.store.now) c.args.number c.args.field c.args.given _ (sym c.has.ensures ∙ c.if-not-has.false) c.in-Ok.ensures.ok,
+      ← c.in-Ok.ensures.stored,
+    ) (c.process_after_put.ensures.after answers begins)
+
+pub returns-in-Ok-clause-keeps : goal.returns-in-Ok-clause-keeps
+returns-in-Ok-clause-keeps g c =
+    let k = g.S.Record.RecordKind.rules in
+    keeps_on k (keeps-put_field k g.met.S.Record.RecordKind.lawful (g.S.Store.world c.args.store.now) c.args.number c.args.field c.args.given _ c.in-Ok.ensures.ok)
+    (rw c.in-Ok.ensures.stored at c.process_after_put.ensures.keeps)
+
+pub returns-in-Err-clause-step : goal.returns-in-Err-clause-step
+returns-in-Err-clause-step g c = λ answers begins.
+    rw c.in-Err.ensures.same
+    (tells-put_refused g.S.Record.RecordKind.rules answers (g.S.Store.world c.args.store.now) c.args.number c.args.field c.args.given c.in-Err.refused c.args.tally.now (sym c.has.ensures ∙ c.if-not-has.false) c.in-Err.ensures.err)

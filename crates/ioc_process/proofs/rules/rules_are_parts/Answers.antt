@@ -1,0 +1,17 @@
+use Rattle.ioc_process.proofs.RulesAlone.{caused-is, read_link-is, followed-is, completed-is, body-is}
+use Rattle.ioc_process.proofs.rules.rules_are_parts.Goals as goal
+
+pub returns-clause-causes : goal.returns-clause-causes
+returns-clause-causes g c = λ answers w after s t requests r. caused-is g.K.RecordKind.rules g.met.K.RecordKind.lawful answers r
+
+pub returns-clause-reads : goal.returns-clause-reads
+returns-clause-reads g c = λ answers w after s link got requests r. read_link-is g.K.RecordKind.rules g.met.K.RecordKind.lawful answers r
+
+pub returns-clause-follows : goal.returns-clause-follows
+returns-clause-follows g c = λ answers w after s link requests r. followed-is g.K.RecordKind.rules g.met.K.RecordKind.lawful answers r
+
+pub returns-clause-finishes : goal.returns-clause-finishes
+returns-clause-finishes g c = λ answers w after s got requests r. completed-is g.K.RecordKind.rules g.met.K.RecordKind.lawful answers r
+
+pub returns-clause-runs : goal.returns-clause-runs
+returns-clause-runs g c = λ answers w after s requests r. body-is g.K.RecordKind.rules g.met.K.RecordKind.lawful answers r
