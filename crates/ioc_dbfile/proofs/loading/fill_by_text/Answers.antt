@@ -1,0 +1,8 @@
+use Rattle.std.proofs.Common.{◌≡◌, length, arith}
+use Rattle.ioc_dbfile.proofs.Loads.{filled_so}
+use Rattle.ioc_dbfile.proofs.loading.fill_by_text.Goals as goal
+
+pub returns : goal.returns
+returns g c =
+    let count : c.len.result ≡ length c.in_ok-texts.texts.lengths.items = omega (arith, c.len.ensures, c.in_ok-texts.texts.lengths.ok.0) in
+    rw (← filled_so g.B.Builder.rules c.args.builder.now c.in_ok-texts.texts c.args.text.now c.len.result c.new-tokens.result c.in_ok-texts.ensures count c.new-tokens.ensures) c.fill.ensures

@@ -1,0 +1,84 @@
+-- The end of a load: it is decided where links lead, and constants are put.
+-- EPICS Application Developer's Guide, "Database Links" and "iocInit".
+use Rattle.std.specs.Prelude.{◌≡◌, ℕ, Bool, true, false, List, [], ◌∷◌, Option, Some, None, Result, Ok, Err, map, slice_get, if◌then◌else◌}
+use Rattle.ioc_values.specs.declared.error.IocError.{IocError}
+use Rattle.ioc_values.specs.declared.error.IocError.TheVariants as refusals
+use Rattle.ioc_names.specs.NameTable.{NameTable, number_of, no_names}
+use Rattle.ioc_links.specs.declared.link.Link.{Link}
+use Rattle.ioc_links.specs.declared.link.Link.TheVariants.{Database}
+use Rattle.ioc_links.specs.declared.link.Target.{Target}
+use Rattle.ioc_fields.specs.declared.record_type.RecordType.{RecordType}
+use Rattle.ioc_fields.specs.declared.field_no.FieldNo.{FieldNo}
+use Rattle.ioc_fields.specs.declared.field_kind.FieldKind.{FieldKind}
+use Rattle.ioc_fields.specs.declared.field_kind.FieldKind.TheVariants as fields
+use Rattle.ioc_fields.specs.Names.{field_of}
+use Rattle.ioc_fields.specs.Table.{kind_of}
+use Rattle.ioc_record.specs.declared.link_field.LinkField.{LinkField}
+use Rattle.ioc_record.specs.declared.link_field.Standing.{Standing}
+use Rattle.ioc_record.specs.RecordRules.{RecordRules}
+use Rattle.ioc_dbfile.specs.declared.fault.DbFault.{DbFault}
+use Rattle.ioc_dbfile.specs.Statements.{◌>>=◌}
+use Rattle.ioc_dbfile.specs.Loader.{Loading, loading}
+use Rattle.ioc_dbfile.specs.Loading.{filled_by}
+
+-- a link field
+abbrev pub is_link : Option FieldKind → Bool
+is_link (Some (fields.Link role)) = true
+is_link _ = false
+
+-- a field that a link can lead to: one that is there and no link field itself
+abbrev pub target_field : ℕ → RecordType → Option FieldNo → Option Standing
+target_field n type None = None
+target_field n type (Some field) = if is_link (kind_of type field) then None else Some (record { number = n; field = field })
+
+-- a field of this name in a record of this type
+abbrev pub target_in : ℕ → List ℕ → Option RecordType → Option Standing
+target_in n name None = None
+target_in n name (Some type) = target_field n type (field_of type name)
+
+-- a field of this name in the record of this number
+abbrev pub target_at : List RecordType → List ℕ → Option ℕ → Option Standing
+target_at types name None = None
+target_at types name (Some n) = target_in n name (slice_get types n)
+
+-- where a database link leads, in a database with these names and types of records
+unfoldable pub standing_of : NameTable → List RecordType → Target → Option Standing
+standing_of names types target = target_at types target.field (number_of names target.record_name)
+
+-- where a link leads
+abbrev pub leads_to : NameTable → List RecordType → Link → Option Standing
+leads_to names types (Database target flags) = standing_of names types target
+leads_to names types _ = None
+
+module _ {R : Type 0} (k : RecordRules R) where
+  -- a record with a link field that leads where it leads
+  abbrev pub with_standing : NameTable → List RecordType → R → FieldNo → Option LinkField → R
+  with_standing names types r field None = r
+  with_standing names types r field (Some l) = k.with_link r field (record { link = l.link; standing = leads_to names types l.link })
+
+  -- one link field
+  unfoldable pub linked : NameTable → List RecordType → FieldNo → R → R
+  linked names types field r = with_standing names types r field (k.link r field)
+
+  -- these link fields
+  abbrev pub linked_all : NameTable → List RecordType → List FieldNo → R → R
+  linked_all names types [] r = r
+  linked_all names types (field ∷ fields) r = linked_all names types fields (linked names types field r)
+
+  -- a record at the end of a load
+  unfoldable pub finished : NameTable → List RecordType → R → R
+  finished names types r = k.loaded (linked_all names types (k.link_fields r) r)
+
+  -- all records at the end of a load
+  abbrev pub all_finished : Loading R → Loading R
+  all_finished s = record { names = s.names; records = map (finished s.names (map k.record_type s.records)) s.records }
+
+  -- the database of a text, or its first fault
+  unfoldable pub loaded_by : (RecordType → List ℕ → R) → List ℕ → Result (Loading R) DbFault
+  loaded_by created text = filled_by (loading k created) (record { names = no_names; records = [] }) text >>= λ s. Ok (all_finished s)
+
+-- a load gave this database, or this fault, or memory ran out
+abbrev pub Refuses : {R : Type 0} → IocError → Result (Loading R) DbFault → Type 0
+Refuses refusals.NoMemory wanted = Unit {0}
+Refuses (refusals.BadDb line kind) wanted = wanted ≡ Err (record { line = line; kind = kind })
+Refuses _ wanted = ⊥

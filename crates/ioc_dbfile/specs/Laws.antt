@@ -1,0 +1,29 @@
+-- Laws of the database grammar, in the user's words.
+use Rattle.std.specs.Prelude.{◌≡◌, ℕ, Bool, true, List, [], ◌∷◌, ◌++◌, Err, ◌==◌, ◌<◌, ◌≤◌, length, Ok}
+use Rattle.ioc_values.specs.declared.error.BadDbKind.TheVariants as kinds
+use Rattle.ioc_dbfile.specs.declared.fault.DbFault.{DbFault}
+use Rattle.ioc_dbfile.specs.Rules.{Rules}
+use Rattle.ioc_dbfile.specs.Lexing.{Lexeme}
+use Rattle.ioc_dbfile.specs.Statements.{◌>>=◌, most_turns, statements_at, filled}
+use Rattle.ioc_dbfile.specs.Loading.{filled_by}
+
+-- nothing, or the last byte is a line feed
+abbrev pub ends_line : List ℕ → Bool
+ends_line [] = true
+ends_line (b ∷ []) = b == 10
+ends_line (b ∷ c ∷ cs) = ends_line (c ∷ cs)
+
+-- what stands behind the tokens up to and with a refused one doesn't change the line and the kind of the fault
+abbrev pub FirstTokenRefused : {S : Type 0} → Rules S → Type 0
+FirstTokenRefused {S} rules =
+    (s : S) (last last' : ℕ) (tokens more : List Lexeme) (fault : DbFault) → filled rules last s tokens ≡ Err fault → (fault.kind ≡ kinds.OpenBody → ⊥) → filled rules last' s (tokens ++ more) ≡ Err fault
+
+-- a fault in some lines is the fault of each text that begins with them, unless they only end too early
+abbrev pub FirstFaultGiven : {S : Type 0} → Rules S → Type 0
+FirstFaultGiven {S} rules =
+    (s : S) (lines more : List ℕ) (fault : DbFault) → ends_line lines ≡ true → filled_by rules s lines ≡ Err fault → (fault.kind ≡ kinds.OpenBody → ⊥) → filled_by rules s (lines ++ more) ≡ Err fault
+
+-- the bound on the turns of reading plays no part where there are fewer tokens: a text that is read has one a byte at most, and one that ends it
+abbrev pub TurnsSuffice : {S : Type 0} → Rules S → Type 0
+TurnsSuffice {S} rules =
+    (last : ℕ) (s : S) (tokens : List Lexeme) (turns : ℕ) → length tokens < most_turns → most_turns ≤ turns → (statements_at rules turns last s tokens >>= λ read. Ok read.0) ≡ filled rules last s tokens

@@ -1,0 +1,17 @@
+pub mod Bytes
+pub mod Lines
+pub mod Lexing
+pub mod Texts
+pub mod Seen
+pub mod SeenTexts
+pub mod SeenPlace
+pub mod Escapes
+pub mod Rules
+pub mod Errors
+pub mod Statements
+pub mod Loading
+pub mod Loader
+pub mod Finished
+pub mod SeenDatabase
+pub mod Laws
+pub mod Spelling

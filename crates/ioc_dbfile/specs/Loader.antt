@@ -1,0 +1,82 @@
+-- A database that is being loaded: its names, and its records by number.
+-- EPICS Application Developer's Guide, "Database Definition", "Record Instance Definition".
+use Rattle.std.specs.Prelude.{ℕ, List, [], ◌∷◌, ◌++◌, Option, Some, None, Result, Ok, Err, nat_lt, slice_get, slice_set, refl, if◌then◌else◌}
+use Rattle.std.specs.Coded.{Coded, code_by, coded×, coded_list}
+use Rattle.ioc_values.specs.declared.error.BadDbKind.{BadDbKind}
+use Rattle.ioc_values.specs.declared.error.BadDbKind.TheVariants as kinds
+use Rattle.ioc_values.specs.declared.error.IocError.{IocError}
+use Rattle.ioc_values.specs.declared.error.IocError.TheVariants as refusals
+use Rattle.ioc_names.specs.NameTable.{NameTable, table_code, number_of, added}
+use Rattle.ioc_links.specs.Grammar.{is_record_name}
+use Rattle.ioc_fields.specs.declared.record_type.RecordType.{RecordType}
+use Rattle.ioc_fields.specs.declared.field_no.FieldNo.{FieldNo}
+use Rattle.ioc_fields.specs.Types.{type_of}
+use Rattle.ioc_fields.specs.Names.{field_of}
+use Rattle.ioc_fields.specs.Table.{can_set}
+use Rattle.ioc_record.specs.RecordRules.{RecordRules}
+use Rattle.ioc_record.specs.Loading.{set_field}
+use Rattle.ioc_dbfile.specs.Rules.{Rules}
+
+-- the names, and the records by their numbers
+pub record Loading (R : Type 0) : Type 0 where
+  pub names : NameTable
+  pub records : List R
+
+-- how it is stored: as the pair of its fields
+abbrev pub loading_code : {R : Type 0} → Coded R → Coded (Loading R)
+loading_code {R} c =
+    code_by (NameTable × List R) (coded× table_code (coded_list c)) (λ s. (s.names, s.records)) (λ p. record { names = p.0; records = p.1 }) (λ _. refl)
+
+-- 131,072, the most records of a database
+unfoldable pub most_records : ℕ
+most_records = 131072
+
+-- what is wrong with a database text where a field can't be set
+abbrev pub kind_of_refusal : IocError → BadDbKind
+kind_of_refusal refusals.NoField = kinds.BadField
+kind_of_refusal refusals.NoMod = kinds.NoMod
+kind_of_refusal refusals.BadLink = kinds.BadLink
+kind_of_refusal _ = kinds.BadValue
+
+module _ {R : Type 0} (k : RecordRules R) (created : RecordType → List ℕ → R) where
+  -- a record of this name, where no other has it
+  abbrev pub add_free : RecordType → List ℕ → Loading R → Option ℕ → Result (ℕ × Loading R) BadDbKind
+  add_free kind name s (Some n) = Err kinds.Duplicate
+  add_free kind name s None =
+      if nat_lt s.names.count most_records then Ok (s.names.count, record { names = added s.names name; records = s.records ++ created kind name ∷ [] }) else Err kinds.TooMany
+
+  -- a record of this name: a name that is none comes first, then one that is taken, then one too many
+  unfoldable pub add_record : RecordType → List ℕ → Loading R → Result (ℕ × Loading R) BadDbKind
+  add_record kind name s = if is_record_name name then add_free kind name s (number_of s.names name) else Err kinds.BadName
+
+  -- a field that a database text may set
+  abbrev pub settable : RecordType → Option FieldNo → Result FieldNo BadDbKind
+  settable kind None = Err kinds.BadField
+  settable kind (Some field) = if can_set kind field then Ok field else Err kinds.NoMod
+
+  -- the field of this name of a record
+  abbrev pub field_in : List ℕ → Option R → Result FieldNo BadDbKind
+  field_in name None = Err kinds.BadField
+  field_in name (Some r) = settable (k.record_type r) (field_of (k.record_type r) name)
+
+  -- the field of this name of the record of this number
+  unfoldable pub find_field : ℕ → List ℕ → Loading R → Result FieldNo BadDbKind
+  find_field n name s = field_in name (slice_get s.records n)
+
+  -- the records with this one in its place
+  abbrev pub with_set : Loading R → ℕ → Result R IocError → Result (Loading R) BadDbKind
+  with_set s n (Ok r) = Ok (record { names = s.names; records = slice_set s.records n r })
+  with_set s n (Err e) = Err (kind_of_refusal e)
+
+  -- a field of a record set
+  abbrev pub set_in : Loading R → ℕ → FieldNo → List ℕ → Option R → Result (Loading R) BadDbKind
+  set_in s n field text None = Err kinds.BadValue
+  set_in s n field text (Some r) = with_set s n (set_field k r field text)
+
+  -- a field of the record of this number set
+  unfoldable pub set_at : ℕ → FieldNo → List ℕ → Loading R → Result (Loading R) BadDbKind
+  set_at n field text s = set_in s n field text (slice_get s.records n)
+
+  -- what statements do to a database that is being loaded
+  abbrev pub loading : Rules (Loading R)
+  loading = record { type_of = type_of; add = add_record; field_of = find_field; set = set_at }

@@ -1,0 +1,16 @@
+-- What a database text makes of a database.
+use Rattle.std.specs.Prelude.{ℕ, List, length, Result}
+use Rattle.ioc_dbfile.specs.declared.fault.DbFault.{DbFault}
+use Rattle.ioc_dbfile.specs.Lines.{lines_of}
+use Rattle.ioc_dbfile.specs.Texts.{Expansion, expansion, most_bytes}
+use Rattle.ioc_dbfile.specs.Lexing.{tokens_of}
+use Rattle.ioc_dbfile.specs.Rules.{Rules}
+use Rattle.ioc_dbfile.specs.Statements.{filled}
+
+-- what the texts of lines make of a database
+abbrev pub filled_by_texts : {S : Type 0} → Rules S → S → Expansion → Result S DbFault
+filled_by_texts rules s e = filled rules (length e.texts) s (tokens_of e.end 1 e.texts)
+
+-- what a text makes of a database, or its first fault
+unfoldable pub filled_by : {S : Type 0} → Rules S → S → List ℕ → Result S DbFault
+filled_by rules s text = filled_by_texts rules s (expansion most_bytes (lines_of text))

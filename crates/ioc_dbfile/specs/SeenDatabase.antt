@@ -1,0 +1,8 @@
+-- What a clause sees of a loaded database.
+use Rattle.ioc_process.specs.declared.record.Record.{Record}
+use Rattle.ioc_dbfile.specs.declared.database.Database.{Database}
+use Rattle.ioc_dbfile.specs.Loader.{Loading}
+
+-- its names, and its records by their numbers
+abbrev pub database_of : Database → Loading Record
+database_of d = record { names = d.names; records = d.map.records.items }

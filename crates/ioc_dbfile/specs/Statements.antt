@@ -1,0 +1,214 @@
+-- The database that statements make, or the first fault.
+-- EPICS Application Developer's Guide, "Database Definition", "Record Instance Definition".
+use Rattle.std.specs.Prelude.{◌≡◌, ℕ, zero, suc, ◌+◌, ◌^◌, Bool, true, false, List, [], ◌∷◌, codes, Option, Some, None, Result, Ok, Err, nat_eq, ◌==◌, ◌&&◌, ◌||◌, if◌then◌else◌}
+use Rattle.std.specs.Cmp.Lexicographic.{pointwise}
+use Rattle.ioc_values.specs.declared.error.BadDbKind.{BadDbKind}
+use Rattle.ioc_values.specs.declared.error.BadDbKind.TheVariants as kinds
+use Rattle.ioc_fields.specs.declared.record_type.RecordType.{RecordType}
+use Rattle.ioc_fields.specs.declared.field_no.FieldNo.{FieldNo}
+use Rattle.ioc_dbfile.specs.declared.token.TokenKind.{TokenKind}
+use Rattle.ioc_dbfile.specs.declared.token.TokenKind.TheVariants.{Sign, Word, Quoted, Fault}
+use Rattle.ioc_dbfile.specs.declared.fault.DbFault.{DbFault}
+use Rattle.ioc_dbfile.specs.declared.fault.LoadError.{LoadError}
+use Rattle.ioc_dbfile.specs.declared.fault.LoadError.TheVariants as errors
+use Rattle.ioc_dbfile.specs.Lexing.{Lexeme}
+use Rattle.ioc_dbfile.specs.Escapes.{unescaped_from}
+use Rattle.ioc_dbfile.specs.Rules.{Rules}
+
+-- a step, then what is made of what it gave
+infixl 10 ◌>>=◌
+abbrev pub ◌>>=◌ : {A B : Type 0} → Result A DbFault → (A → Result B DbFault) → Result B DbFault
+(Ok x) >>= f = f x
+(Err e) >>= f = Err e
+
+-- an error is the fault that is wanted, or want of memory
+abbrev pub Fails : {Y : Type 0} → LoadError → Result Y DbFault → Type 0
+Fails errors.Memory wanted = Unit {0}
+Fails (errors.Fault f) wanted = wanted ≡ Err f
+
+-- what a function returned, seen by view, is what is wanted, unless memory ran out
+abbrev pub Gives : {X Y : Type 0} → (X → Y) → Result X LoadError → Result Y DbFault → Type 0
+Gives view (Ok x) wanted = wanted ≡ Ok (view x)
+Gives view (Err e) wanted = Fails e wanted
+
+-- a fault of this kind on this line
+abbrev pub at : ℕ → BadDbKind → DbFault
+at line kind = record { line = line; kind = kind }
+
+-- what is refused is refused on this line
+abbrev pub on_line : {A : Type 0} → ℕ → Result A BadDbKind → Result A DbFault
+on_line line (Ok x) = Ok x
+on_line line (Err kind) = Err (at line kind)
+
+-- what isn't there is a fault
+abbrev pub or_fault : {A : Type 0} → DbFault → Option A → Result A DbFault
+or_fault fault (Some x) = Ok x
+or_fault fault None = Err fault
+
+-- ---- tokens
+
+-- a token that is there, or its fault
+abbrev pub sound : Lexeme → TokenKind → List Lexeme → Result (Lexeme × List Lexeme) DbFault
+sound token (Fault kind) rest = Err (at token.line kind)
+sound token _ rest = Ok (token, rest)
+
+-- the next token of a statement, of a text whose last line is given
+unfoldable pub next_at : ℕ → List Lexeme → Result (Lexeme × List Lexeme) DbFault
+next_at last [] = Err (at last kinds.OpenBody)
+next_at last (token ∷ rest) = sound token token.kind rest
+
+-- this sign
+abbrev pub is_sign_of : ℕ → TokenKind → Bool
+is_sign_of b (Sign c) = c == b
+is_sign_of b _ = false
+
+-- the rest behind this sign
+unfoldable pub expect : ℕ → ℕ → List Lexeme → Result (List Lexeme) DbFault
+expect b last tokens = do
+  token ← next_at last tokens
+  if is_sign_of b token.0.kind then Ok token.1 else Err (at token.0.line kinds.Syntax)
+
+-- a bareword or a quoted text
+abbrev pub is_value : TokenKind → Bool
+is_value Word = true
+is_value Quoted = true
+is_value _ = false
+
+-- the next token, which is a bareword or a quoted text
+unfoldable pub value_at : ℕ → List Lexeme → Result (Lexeme × List Lexeme) DbFault
+value_at last tokens = do
+  token ← next_at last tokens
+  if is_value token.0.kind then Ok token else Err (at token.0.line kinds.Syntax)
+
+-- a bareword
+abbrev pub is_bareword : TokenKind → Bool
+is_bareword Word = true
+is_bareword _ = false
+
+-- this bareword
+abbrev pub is_word : List ℕ → Lexeme → Bool
+is_word word token = is_bareword token.kind && pointwise nat_eq token.text word
+
+-- what a token says, in a name or in a field's value
+abbrev pub text_of : Bool → Lexeme → List ℕ
+text_of in_value token = unescaped_from in_value false token.text
+
+-- where a name is refused: too many records on the line of the word `record`
+abbrev pub name_line : ℕ → ℕ → BadDbKind → ℕ
+name_line begun line kinds.TooMany = begun
+name_line begun line _ = line
+
+-- a word of a database definition, whose statements are left out
+unfoldable pub is_left_out : Lexeme → Bool
+is_left_out token =
+    is_word (codes "menu") token || (is_word (codes "recordtype") token || (is_word (codes "device") token || (is_word (codes "driver") token || (is_word (codes "include") token || (is_word (codes "path") token || (is_word (codes "addpath") token || (is_word (codes "breaktable") token || (is_word (codes "registrar") token || (is_word (codes "function") token || (is_word (codes "variable") token || is_word (codes "link") token))))))))))
+
+-- what begins no statement
+abbrev pub refused_word : Lexeme → BadDbKind
+refused_word token = if is_left_out token then kinds.LeftOut else kinds.Syntax
+
+-- ---- steps over the databases of some rules
+
+-- as long as a step says that there may be more; at most that many turns
+abbrev pub and_others : {S : Type 0} → (S → List Lexeme → Result (S × List Lexeme) DbFault) → Bool × S × List Lexeme → Result (S × List Lexeme) DbFault
+and_others more (false, s, rest) = Ok (s, rest)
+and_others more (true, s, rest) = more s rest
+
+-- a step again and again
+unfoldable pub repeated : {S : Type 0} → (S → List Lexeme → Result (Bool × S × List Lexeme) DbFault) → DbFault → ℕ → S → List Lexeme → Result (S × List Lexeme) DbFault
+repeated step out zero s tokens = Err out
+repeated step out (suc turns) s tokens = step s tokens >>= and_others (repeated step out turns)
+
+-- 2^24 + 2, more than a text of 16 MiB has tokens
+unfoldable pub most_turns : ℕ
+most_turns = 2 ^ 24 + 2
+
+module _ {S : Type 0} (rules : Rules S) where
+  -- F of field(F, V)
+  unfoldable pub field_at : ℕ → ℕ → S → List Lexeme → Result (FieldNo × List Lexeme) DbFault
+  field_at last number s tokens = do
+    token ← value_at last tokens
+    field ← on_line token.0.line (rules.field_of number (text_of false token.0) s)
+    Ok (field, token.1)
+
+  -- V of field(F, V)
+  unfoldable pub set_at : ℕ → ℕ → FieldNo → S → List Lexeme → Result (S × List Lexeme) DbFault
+  set_at last number field s tokens = do
+    token ← value_at last tokens
+    changed ← on_line token.0.line (rules.set number field (text_of true token.0) s)
+    Ok (changed, token.1)
+
+  -- (F, V)
+  unfoldable pub setting_at : ℕ → ℕ → S → List Lexeme → Result (S × List Lexeme) DbFault
+  setting_at last number s tokens = do
+    opened ← expect 40 last tokens
+    field ← field_at last number s opened
+    comma ← expect 44 last field.1
+    changed ← set_at last number field.0 s comma
+    closed ← expect 41 last changed.1
+    Ok (changed.0, closed)
+
+  -- there may be more behind it
+  abbrev pub with_more : S × List Lexeme → Result (Bool × S × List Lexeme) DbFault
+  with_more r = Ok (true, r.0, r.1)
+
+  -- `}`, or `field` with what follows it
+  abbrev pub entry_by : ℕ → ℕ → S → Lexeme × List Lexeme → Result (Bool × S × List Lexeme) DbFault
+  entry_by last number s token =
+      if is_sign_of 125 token.0.kind then Ok (false, s, token.1)
+      else (if is_word (codes "field") token.0 then (setting_at last number s token.1 >>= with_more) else Err (at token.0.line kinds.Syntax))
+
+  -- one entry of a body
+  unfoldable pub entry_at : ℕ → ℕ → S → List Lexeme → Result (Bool × S × List Lexeme) DbFault
+  entry_at last number s tokens = next_at last tokens >>= entry_by last number s
+
+  -- field(F, V) .. }
+  abbrev pub body_at : ℕ → ℕ → ℕ → S → List Lexeme → Result (S × List Lexeme) DbFault
+  body_at turns last number s tokens = repeated (entry_at last number) (at last kinds.OpenBody) turns s tokens
+
+  -- TYPE
+  unfoldable pub type_at : ℕ → List Lexeme → Result (RecordType × List Lexeme) DbFault
+  type_at last tokens = do
+    token ← value_at last tokens
+    kind ← or_fault (at token.0.line kinds.BadType) (rules.type_of (text_of false token.0))
+    Ok (kind, token.1)
+
+  -- a record that was added, or why it could not be
+  abbrev pub named : ℕ → Lexeme × List Lexeme → Result (ℕ × S) BadDbKind → Result (ℕ × S × List Lexeme) DbFault
+  named begun token (Ok added) = Ok (added.0, added.1, token.1)
+  named begun token (Err kind) = Err (at (name_line begun token.0.line kind) kind)
+
+  -- NAME
+  unfoldable pub name_at : ℕ → ℕ → RecordType → S → List Lexeme → Result (ℕ × S × List Lexeme) DbFault
+  name_at last begun kind s tokens = do
+    token ← value_at last tokens
+    named begun token (rules.add kind (text_of false token.0) s)
+
+  -- (TYPE, NAME) { .. }
+  unfoldable pub record_at : ℕ → ℕ → ℕ → S → List Lexeme → Result (S × List Lexeme) DbFault
+  record_at turns last begun s tokens = do
+    opened ← expect 40 last tokens
+    kind ← type_at last opened
+    comma ← expect 44 last kind.1
+    name ← name_at last begun kind.0 s comma
+    closed ← expect 41 last name.2
+    body ← expect 123 last closed
+    body_at turns last name.0 name.1 body
+
+  -- `record` with what follows it
+  abbrev pub statement_by : ℕ → ℕ → S → Lexeme × List Lexeme → Result (Bool × S × List Lexeme) DbFault
+  statement_by turns last s token =
+      if is_word (codes "record") token.0 then (record_at turns last token.0.line s token.1 >>= with_more) else Err (at token.0.line (refused_word token.0))
+
+  -- one statement: none at the text's end
+  unfoldable pub statement_at : ℕ → ℕ → S → List Lexeme → Result (Bool × S × List Lexeme) DbFault
+  statement_at turns last s [] = Ok (false, s, [])
+  statement_at turns last s (token ∷ rest) = next_at last (token ∷ rest) >>= statement_by turns last s
+
+  -- all statements
+  abbrev pub statements_at : ℕ → ℕ → S → List Lexeme → Result (S × List Lexeme) DbFault
+  statements_at turns last s tokens = repeated (statement_at turns last) (at last kinds.OpenBody) turns s tokens
+
+  -- what these tokens make of a database, of a text whose last line is given
+  unfoldable pub filled : ℕ → S → List Lexeme → Result S DbFault
+  filled last s tokens = statements_at most_turns last s tokens >>= λ read. Ok read.0

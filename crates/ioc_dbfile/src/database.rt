@@ -1,0 +1,35 @@
+//! Loaded databases.
+ghost use Rattle.ioc_process.specs.Record.{record_rules};
+ghost use Rattle.ioc_process.specs.OneMap.{world_of};
+ghost use Rattle.ioc_process.specs.World.{IsClosed};
+
+use crate::finish::finish_all;
+use ioc_names::Names;
+use ioc_process::one_map::OneMap;
+use ioc_process::record::Record;
+use std::alloc::{AllocError, Global};
+
+/// A loaded database: the names of its records, and the records by their numbers.
+#[derive(Drop)]
+pub struct Database {
+    pub names: Names,
+    pub map: OneMap<Record>,
+    ghost closed: { IsClosed record_rules (world_of map) },
+}
+
+impl Database {
+    ghost use Rattle.std.specs.Prelude.{◌≡◌, IfOk};
+    ghost use Rattle.ioc_dbfile.specs.Finished.{all_finished};
+    ghost use Rattle.ioc_dbfile.specs.SeenDatabase.{database_of};
+
+    /// The database of names and records that a text has made: it is decided where links lead, and
+    /// constants are put.
+    pub fn new(alloc: Global, names: Names, records: Vec<Record>) -> Result<Self, AllocError>
+        ensures { IfOk result (λ d. database_of d ≡ all_finished record_rules (record { names = names; records = records.items })) }
+    {
+        let mut records = records;
+        finish_all(alloc, &names, records.as_mut_slice())?;
+        let map = OneMap::new(records);
+        Ok(Database { names, map })
+    }
+}

@@ -1,0 +1,139 @@
+//! The database that statements fill.
+ghost use Rattle.std.specs.Prelude.{◌≡◌, ◌↔◌, [], true, IsSome, IfSome, IfOk};
+ghost use Rattle.ioc_links.specs.Grammar.{is_record_name};
+ghost use Rattle.ioc_dbfile.specs.Loader.{kind_of_refusal};
+ghost use Rattle.ioc_names.specs.NameTable.{no_names};
+
+use crate::builder::{BuildError, Builder};
+use crate::database::Database;
+use crate::new_records::push_new;
+use ioc_fields::{FieldNo, RecordType, can_set, field};
+use ioc_links::is_record_name;
+use ioc_names::{Names, RecordNo};
+use ioc_process::record::Record;
+use ioc_record::{RecordKind, set_field};
+use ioc_values::{BadDbKind, IocError, Name};
+use std::alloc::{AllocError, Global};
+use std::marker::Model;
+
+/// The most records of a database.
+pub const MAX_RECORDS: usize = 131_072;
+
+/// The names and the records that statements have made so far.
+#[derive(Drop)]
+pub struct DatabaseBuilder {
+    names: Names,
+    records: Vec<Record>,
+}
+
+impl Model for DatabaseBuilder {
+    ghost use Rattle.ioc_dbfile.specs.Loader.{Loading};
+    ghost use Rattle.ioc_process.specs.declared.record.Record.{Record};
+    ghost use Rattle.ioc_process.specs.contracts.record.Record as row;
+    ghost use Rattle.ioc_dbfile.specs.Loader.{loading_code};
+
+    ghost Value = { Loading Record };
+
+    ghost coded = { loading_code row.the_row.coded };
+
+    ghost view = { λ l. record { names = l.names; records = l.records.items } };
+}
+
+impl DatabaseBuilder {
+    ghost use Rattle.ioc_process.specs.Record.{record_rules};
+    ghost use Rattle.ioc_dbfile.specs.Finished.{all_finished};
+    ghost use Rattle.ioc_dbfile.specs.SeenDatabase.{database_of};
+
+    /// No records.
+    pub fn new(alloc: Global) -> Self
+        ensures { result ≡ record { names = no_names; records = [] } }
+    {
+        DatabaseBuilder {
+            names: Names::new(alloc),
+            records: Vec::new(alloc),
+        }
+    }
+
+    /// The database of these names and records: it is decided where links lead, and constants are put.
+    pub fn finish(self, alloc: Global) -> Result<Database, AllocError>
+        ensures { IfOk result (λ d. database_of d ≡ all_finished record_rules self) }
+    {
+        let DatabaseBuilder { names, records } = self;
+        Database::new(alloc, names, records)
+    }
+}
+
+/// What is wrong with a database text where a field can't be set.
+fn kind_of_refusal(refusal: IocError) -> BadDbKind
+    ensures { result ≡ kind_of_refusal refusal }
+{
+    match refusal {
+        IocError::NoField => BadDbKind::BadField,
+        IocError::NoMod => BadDbKind::NoMod,
+        IocError::BadLink => BadDbKind::BadLink,
+        _ => BadDbKind::BadValue,
+    }
+}
+
+#[tactic(auto, unfolding(crate::specs::Loader::add_record, crate::specs::Loader::find_field, crate::specs::Loader::set_at, crate::specs::Loader::most_records))]
+impl Builder for DatabaseBuilder {
+    ghost use Rattle.ioc_dbfile.specs.Loader.{loading};
+    ghost use Rattle.ioc_process.specs.Record.{record_rules, new_record};
+
+    ghost rules = { loading record_rules new_record };
+
+    fn type_of(&self, name: &[u8]) -> Option<RecordType> {
+        RecordType::from_name(name)
+    }
+
+    fn add(&mut self, record_type: RecordType, name: &[u8]) -> Result<RecordNo, BuildError> {
+        let Some(short) = valid_name(name) else {
+            return Err(BuildError::Refused(BadDbKind::BadName));
+        };
+        if self.names.find(name).is_some() {
+            return Err(BuildError::Refused(BadDbKind::Duplicate));
+        }
+        if self.names.len() >= MAX_RECORDS {
+            return Err(BuildError::Refused(BadDbKind::TooMany));
+        }
+        push_new(&mut self.records, record_type, short)?;
+        let number = self.names.add(short)?;
+        Ok(number)
+    }
+
+    fn field_of(&self, number: RecordNo, name: &[u8]) -> Result<FieldNo, BuildError> {
+        let Some(record) = self.records.get(number.index()) else {
+            return Err(BuildError::Refused(BadDbKind::BadField));
+        };
+        let record_type = record.record_type();
+        let Some(found) = field(record_type, name) else {
+            return Err(BuildError::Refused(BadDbKind::BadField));
+        };
+        if !can_set(record_type, found) {
+            return Err(BuildError::Refused(BadDbKind::NoMod));
+        }
+        Ok(found)
+    }
+
+    fn set(&mut self, number: RecordNo, field: FieldNo, value: &[u8]) -> Result<(), BuildError> {
+        let place = number.index();
+        if place >= self.records.len() {
+            return Err(BuildError::Refused(BadDbKind::BadValue));
+        }
+        match set_field(&mut self.records[place], field, value) {
+            Ok(()) => Ok(()),
+            Err(refusal) => Err(BuildError::Refused(kind_of_refusal(refusal))),
+        }
+    }
+}
+
+/// The name, where it is one.
+fn valid_name(name: &[u8]) -> Option<Name>
+    ensures valid { IsSome result ↔ (is_record_name name.now ≡ true) }
+    ensures same { IfSome result (λ n. n ≡ name.now) }
+{
+    if !is_record_name(name) {
+        return None;
+    }
+    Name::from_slice(name)
+}

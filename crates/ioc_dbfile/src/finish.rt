@@ -1,0 +1,98 @@
+//! The end of a load: where links lead, and what constants put.
+ghost use Rattle.std.specs.Prelude.{◌≡◌, IfOk, OnOk, map};
+ghost use Rattle.ioc_process.specs.Record.{record_rules};
+ghost use Rattle.ioc_dbfile.specs.Finished.{is_link, standing_of, leads_to, linked, linked_all, finished};
+
+use ioc_fields::{FieldKind, FieldNo, RecordType, field, kind_of};
+use ioc_links::{Link, Target};
+use ioc_names::Names;
+use ioc_process::record::Record;
+use ioc_record::{LinkField, RecordKind, Standing};
+use std::alloc::{AllocError, Global};
+
+fn is_link(kind: Option<FieldKind>) -> bool
+    ensures { result ≡ is_link kind }
+{
+    matches!(kind, Some(FieldKind::Link(_)))
+}
+
+/// Where a database link leads: nowhere, if its record or field isn't there or the field is a link field.
+#[tactic(auto, unfolding(crate::specs::Finished::standing_of))]
+fn standing_of(names: &Names, types: &[RecordType], target: &Target) -> Option<Standing>
+    ensures { result ≡ standing_of names.now types.now target.now }
+{
+    let number = names.find(target.record_name.as_slice())?;
+    let record_type = types.get(number.index()).copied()?;
+    let field = field(record_type, target.field.as_slice())?;
+    if is_link(kind_of(record_type, field)) {
+        return None;
+    }
+    Some(Standing { number, field })
+}
+
+fn leads_to(names: &Names, types: &[RecordType], link: &Link) -> Option<Standing>
+    ensures { result ≡ leads_to names.now types.now link.now }
+{
+    match link {
+        Link::Database(target, _) => standing_of(names, types, target),
+        _ => None,
+    }
+}
+
+/// Decides where a link field leads.
+#[tactic(auto, unfolding(crate::specs::Finished::linked))]
+fn link_one(names: &Names, types: &[RecordType], field: FieldNo, item: &mut Record)
+    ensures { item.new ≡ linked record_rules names.now types.now field item.old }
+{
+    let Some(found) = item.link(field).copied() else {
+        return;
+    };
+    let link = found.link;
+    let standing = leads_to(names, types, &link);
+    item.set_link(field, LinkField { link, standing });
+}
+
+/// Decides where these link fields lead.
+fn link_all(names: &Names, types: &[RecordType], fields: &[FieldNo], item: &mut Record)
+    ensures { item.new ≡ linked_all record_rules names.now types.now fields.now item.old }
+{
+    let mut rest = fields;
+    while let [field, others @ ..] = rest {
+        link_one(names, types, *field, item);
+        rest = others;
+    }
+}
+
+/// Ends the load of a record.
+#[tactic(auto, unfolding(crate::specs::Finished::finished))]
+fn finish_record(names: &Names, types: &[RecordType], item: &mut Record)
+    ensures { item.new ≡ finished record_rules names.now types.now item.old }
+{
+    let fields = item.link_fields();
+    link_all(names, types, fields, item);
+    item.load();
+}
+
+/// The types of records.
+fn types_of(alloc: Global, records: &[Record]) -> Result<Vec<RecordType>, AllocError>
+    ensures { IfOk result (λ v. v.items ≡ map record_rules.record_type records.now) }
+{
+    let mut types = Vec::new(alloc);
+    let mut rest = records;
+    while let [first, others @ ..] = rest {
+        types.push(first.record_type())?;
+        rest = others;
+    }
+    Ok(types)
+}
+
+/// Ends the load of records.
+pub fn finish_all(alloc: Global, names: &Names, records: &mut [Record]) -> Result<(), AllocError>
+    ensures { OnOk result (records.new ≡ map (finished record_rules names.now (map record_rules.record_type records.old)) records.old) }
+{
+    let types = types_of(alloc, records)?;
+    for item in records.iter_mut() {
+        finish_record(names, types.as_slice(), item);
+    }
+    Ok(())
+}

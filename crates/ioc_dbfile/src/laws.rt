@@ -1,0 +1,27 @@
+//! Laws of the database grammar. The functions do nothing: each contract is a law.
+ghost use Rattle.ioc_dbfile.specs.Laws.{FirstTokenRefused, FirstFaultGiven, TurnsSuffice};
+ghost use Rattle.ioc_dbfile.specs.Spelling.{SpelledIsRead, SpelledOnLinesIsRead};
+
+use crate::builder::Builder;
+
+/// The fault that is given is the first one: what stands behind a refused token plays no part. So
+/// texts with the same lines, up to and with that of the refused token, get the same line and kind.
+#[tactic(auto, using(crate::proofs::Fronts::fault_of_lines, crate::proofs::Local::filled_local))]
+pub fn first_fault_is_given<B: Builder>(_builder: &B)
+    ensures tokens { FirstTokenRefused B.rules }
+    ensures lines { FirstFaultGiven B.rules }
+{}
+
+/// The spelled form of a list of statements, with any blanks, reads as these statements: where each
+/// record can be added and each field set, in this order, the text makes just that database.
+#[tactic(auto, using(crate::proofs::Reading::spelled_is_read, crate::proofs::OnLines::spelled_on_lines))]
+pub fn spelled_is_read<B: Builder>(_builder: &B)
+    ensures on_one_line { SpelledIsRead B.rules }
+    ensures on_lines { SpelledOnLinesIsRead B.rules }
+{}
+
+/// Reading takes no more turns than there are tokens, so its bound on them plays no part.
+#[tactic(auto, using(crate::proofs::Shrinking::turns_suffice))]
+pub fn turns_suffice<B: Builder>(_builder: &B)
+    ensures { TurnsSuffice B.rules }
+{}

@@ -1,0 +1,39 @@
+//! Database texts: the records that they make, or the first fault.
+//!
+//! A text is cut into lines, comments go and macros are replaced, tokens are read, and statements fill a
+//! database. EPICS Application Developer's Guide, "Database Definition".
+#![tactic(auto)]
+
+pub mod builder;
+mod bytes;
+pub mod database;
+pub mod database_builder;
+mod entries;
+mod escapes;
+mod expand;
+pub mod fault;
+mod finish;
+pub mod laws;
+mod lexer;
+mod lines;
+#[cfg(test)]
+mod load_tests;
+pub mod loading;
+pub mod macros;
+mod new_records;
+mod place;
+mod statements;
+#[cfg(test)]
+mod tests;
+mod texts;
+mod token;
+mod tokens;
+mod words;
+
+pub use builder::{BuildError, Builder};
+pub use database::Database;
+pub use database_builder::{DatabaseBuilder, MAX_RECORDS};
+pub use expand::MAX_BYTES;
+pub use fault::{DbFault, LoadError};
+pub use loading::{fill_by_text, load};
+pub use macros::Macros;

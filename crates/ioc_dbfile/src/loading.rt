@@ -1,0 +1,47 @@
+//! From a database text to a database.
+ghost use Rattle.ioc_dbfile.specs.Loading.{filled_by};
+ghost use Rattle.ioc_dbfile.specs.Statements.{Gives};
+ghost use Rattle.ioc_dbfile.specs.Finished.{loaded_by};
+ghost use Rattle.ioc_dbfile.specs.SeenDatabase.{database_of};
+ghost use Rattle.ioc_process.specs.Record.{record_rules, new_record};
+
+use crate::builder::Builder;
+use crate::database::Database;
+use crate::database_builder::DatabaseBuilder;
+use crate::expand::expand;
+use crate::fault::LoadError;
+use crate::macros::Macros;
+use crate::statements::fill;
+use crate::tokens::Tokens;
+use std::alloc::Global;
+
+/// Fills a database by a text, or says what the first fault in the text is, and on which line.
+/// After an error the database is of no use.
+pub fn fill_by_text<B: Builder>(
+    alloc: Global,
+    text: &[u8],
+    _macros: &Macros,
+    builder: &mut B,
+) -> Result<(), LoadError>
+    ensures { Gives (λ _. builder.new) result (filled_by B.rules builder.old text.now) }
+{
+    let texts = expand(alloc, text)?;
+    let mut tokens = Tokens::new(&texts);
+    fill(alloc, texts.lengths.len() as u64, builder, &mut tokens)
+}
+
+/// The database of a text.
+///
+/// # Errors
+///
+/// [`LoadError::Fault`] with the line and the kind of the first fault in the text, and
+/// [`LoadError::Memory`] where a growth was refused; nothing is loaded then.
+#[tactic(auto, unfolding(crate::specs::Finished::loaded_by))]
+pub fn load(alloc: Global, text: &[u8], macros: &Macros) -> Result<Database, LoadError>
+    ensures { Gives database_of result (loaded_by record_rules new_record text.now) }
+{
+    let mut builder = DatabaseBuilder::new(alloc);
+    fill_by_text(alloc, text, macros, &mut builder)?;
+    let database = builder.finish(alloc)?;
+    Ok(database)
+}

@@ -1,0 +1,147 @@
+//! Single tokens of statements.
+ghost use Rattle.std.specs.Prelude.{◌≡◌, IfOk};
+ghost use Rattle.ioc_dbfile.specs.Errors.{error_on};
+ghost use Rattle.ioc_dbfile.specs.Seen.{seen};
+ghost use Rattle.ioc_dbfile.specs.Statements.{Gives, Fails, at, next_at, is_sign_of, expect, is_value, value_at, is_bareword, is_word, text_of, name_line, is_left_out, refused_word};
+
+use crate::builder::BuildError;
+use crate::escapes::unescaped;
+use crate::fault::{DbFault, LoadError};
+use crate::token::{Token, TokenKind};
+use crate::tokens::Tokens;
+use ioc_values::BadDbKind;
+use std::alloc::{AllocError, Global};
+
+/// A fault of this kind on this line.
+pub fn fault(line: u64, kind: BadDbKind) -> LoadError
+    ensures { result ≡ LoadError.Fault (at line kind) }
+{
+    LoadError::Fault(DbFault { line, kind })
+}
+
+/// The next token of a statement, of a text with this last line.
+#[tactic(auto, unfolding(crate::specs::Statements::next_at))]
+pub fn next_at<'a>(last: u64, tokens: &mut Tokens<'a>) -> Result<Token<'a>, LoadError>
+    ensures { Gives (λ t. (seen t, tokens.new)) result (next_at last tokens.old) }
+{
+    let Some(token) = tokens.next() else {
+        return Err(fault(last, BadDbKind::OpenBody));
+    };
+    match token.kind {
+        TokenKind::Fault(kind) => Err(fault(token.line, kind)),
+        _ => Ok(token),
+    }
+}
+
+/// Whether it is this sign.
+pub fn is_sign_of(b: u8, kind: TokenKind) -> bool
+    ensures { result ≡ is_sign_of b kind }
+{
+    match kind {
+        TokenKind::Sign(c) => c == b,
+        _ => false,
+    }
+}
+
+/// Takes this sign.
+#[tactic(auto, unfolding(crate::specs::Statements::expect))]
+pub fn expect(b: u8, last: u64, tokens: &mut Tokens<'_>) -> Result<(), LoadError>
+    ensures { Gives (λ _. tokens.new) result (expect b last tokens.old) }
+{
+    let token = next_at(last, tokens)?;
+    if !is_sign_of(b, token.kind) {
+        return Err(fault(token.line, BadDbKind::Syntax));
+    }
+    Ok(())
+}
+
+/// Whether it is a bareword or a quoted text.
+fn is_value(kind: TokenKind) -> bool
+    ensures { result ≡ is_value kind }
+{
+    matches!(kind, TokenKind::Word | TokenKind::Quoted)
+}
+
+/// Takes a bareword or a quoted text.
+#[tactic(auto, unfolding(crate::specs::Statements::value_at))]
+pub fn value_at<'a>(last: u64, tokens: &mut Tokens<'a>) -> Result<Token<'a>, LoadError>
+    ensures { Gives (λ t. (seen t, tokens.new)) result (value_at last tokens.old) }
+{
+    let token = next_at(last, tokens)?;
+    if !is_value(token.kind) {
+        return Err(fault(token.line, BadDbKind::Syntax));
+    }
+    Ok(token)
+}
+
+/// Whether it is a bareword.
+fn is_bareword(kind: TokenKind) -> bool
+    ensures { result ≡ is_bareword kind }
+{
+    matches!(kind, TokenKind::Word)
+}
+
+/// Whether it is this bareword.
+pub fn is_word(word: &[u8], token: &Token<'_>) -> bool
+    ensures { result ≡ is_word word.now (seen token.now) }
+{
+    let token = *token;
+    is_bareword(token.kind) && token.text == word
+}
+
+/// What a token says: in a field's value, or in a name.
+pub fn text_of(alloc: Global, in_value: bool, token: &Token<'_>) -> Result<Vec<u8>, AllocError>
+    ensures { IfOk result (λ v. v.items ≡ text_of in_value (seen token.now)) }
+{
+    unescaped(alloc, in_value, token.text)
+}
+
+/// The error of a step that was refused on this line.
+pub fn error_on(line: u64, error: BuildError) -> LoadError
+    ensures { result ≡ error_on line error }
+{
+    match error {
+        BuildError::Memory => LoadError::Memory,
+        BuildError::Refused(kind) => fault(line, kind),
+    }
+}
+
+/// Whether it is a word of a database definition, whose statements are left out.
+#[tactic(auto, unfolding(crate::specs::Statements::is_left_out))]
+fn is_left_out(token: &Token<'_>) -> bool
+    ensures { result ≡ is_left_out (seen token.now) }
+{
+    is_word(b"menu", token)
+        || is_word(b"recordtype", token)
+        || is_word(b"device", token)
+        || is_word(b"driver", token)
+        || is_word(b"include", token)
+        || is_word(b"path", token)
+        || is_word(b"addpath", token)
+        || is_word(b"breaktable", token)
+        || is_word(b"registrar", token)
+        || is_word(b"function", token)
+        || is_word(b"variable", token)
+        || is_word(b"link", token)
+}
+
+/// Why no statement begins with this token.
+pub fn refused_word(token: &Token<'_>) -> BadDbKind
+    ensures { result ≡ refused_word (seen token.now) }
+{
+    if is_left_out(token) {
+        BadDbKind::LeftOut
+    } else {
+        BadDbKind::Syntax
+    }
+}
+
+/// Where a name is refused: too many records on the line of the word `record`.
+pub fn name_line(begun: u64, line: u64, kind: BadDbKind) -> u64
+    ensures { result ≡ name_line begun line kind }
+{
+    match kind {
+        BadDbKind::TooMany => begun,
+        _ => line,
+    }
+}
