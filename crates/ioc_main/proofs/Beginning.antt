@@ -1,0 +1,42 @@
+-- A run begins with the database of its text.
+use Rattle.std.proofs.Common.{◌≡◌, ℕ, List, Option, Some, None, Ok, refl, sym, ap, subst, ◌∙◌}
+use Rattle.std.specs.Prelude.{IfSome}
+use Rattle.std.specs.Io.KnownBytes.{Appends}
+use Rattle.ioc_names.specs.NameTable.{NameTable}
+use Rattle.ioc_process.specs.Record.{record_rules}
+use Rattle.ioc_process.specs.declared.record.Record.{Record}
+use Rattle.ioc_process.specs.OneMap.{world_of as world_on}
+use Rattle.ioc_process.specs.declared.one_map.OneMap.{OneMap}
+use Rattle.ioc_process.specs.World.{World}
+use Rattle.ioc_dbfile.specs.Loader.{Loading}
+use Rattle.ioc_main.specs.declared.fault.ScriptFault.{ScriptFault}
+use Rattle.ioc_main.specs.declared.fault.ScriptFault.TheVariants as script
+use Rattle.ioc_main.specs.Faults.{run_fault_of}
+use Rattle.ioc_main.specs.Script.{lines_of}
+use Rattle.ioc_main.specs.Replay.{begun, transcript}
+use Rattle.ioc_main.specs.Written.{WritesFront}
+use Rattle.ioc_main.specs.Transcript.{loaded, first_world, transcript_by, transcript_of, IsDatabase, StopsWith}
+
+first_is : (map : OneMap Record) → first_world map.records.items ≡ begun (world_on map)
+unfolding begun
+first_is map = refl
+
+module _ (text : List ℕ) (database : Loading Record) (map : OneMap Record) (names : NameTable) (world : World Record)
+    (reads : loaded text ≡ Ok database) (records : database.records ≡ map.records.items) (named : names ≡ database.names) (is : world ≡ begun (world_on map)) where
+  begins : (given : List ℕ) → transcript_of text given ≡ transcript record_rules names world (lines_of given)
+  unfolding transcript_of
+  begins given =
+      ap (λ x. transcript_by x given) reads ∙ ap (λ (rs : List Record). transcript record_rules database.names (first_world rs) (lines_of given)) records
+      ∙ ap (λ (w : World Record). transcript record_rules database.names w (lines_of given)) (first_is map ∙ sym is) ∙ ap (λ (n : NameTable). transcript record_rules n world (lines_of given)) (sym named)
+
+  pub runs_whole : (a w v : Option (List ℕ)) → IfSome a (λ given. Appends w v (transcript record_rules names world (lines_of given))) → IsDatabase text × IfSome a (λ given. Appends w v (transcript_of text given))
+  runs_whole None w v p = ((database, reads), tt)
+  runs_whole (Some given) w v p = ((database, reads), subst (λ (l : List ℕ). Appends w v l) (sym (begins given)) p)
+
+  front : (a w v : Option (List ℕ)) → IfSome a (λ given. WritesFront w (transcript record_rules names world (lines_of given)) v) → IfSome a (λ given. WritesFront w (transcript_of text given) v)
+  front None w v p = tt
+  front (Some given) w v p = subst (λ (l : List ℕ). WritesFront w l v) (sym (begins given)) p
+
+  pub runs_stop : (fault : ScriptFault) (a w v : Option (List ℕ)) → IfSome a (λ given. WritesFront w (transcript record_rules names world (lines_of given)) v) → StopsWith (run_fault_of fault) text a w v
+  runs_stop script.Read a w v p = ((database, reads), front a w v p)
+  runs_stop script.Write a w v p = ((database, reads), front a w v p)

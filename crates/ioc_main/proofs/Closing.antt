@@ -1,0 +1,70 @@
+-- Links stay closed, and the answers of devices are faults.
+use Rattle.std.proofs.Common.{◌≡◌, ℕ, ◌+◌, ◌-◌, ◌≤◌, Bool, true, false, List, replicate, is_some, Result, Ok, Err, subst, ap, sym, refl, ◌∙◌, arith}
+use Rattle.std.specs.Prelude.{Contains, if◌then◌else◌}
+use Rattle.std.specs.FinMap.{contains_key}
+use Rattle.ioc_values.specs.declared.error.IocError.TheVariants.{NoRecord, NoField}
+use Rattle.ioc_values.specs.declared.error.IocError.{IocError}
+use Rattle.ioc_names.specs.NameTable.{NameTable}
+use Rattle.ioc_fields.specs.declared.field_no.FieldNo.{FieldNo}
+use Rattle.ioc_fields.specs.Table.{row_of}
+use Rattle.ioc_ledger.specs.Requests.{None}
+use Rattle.ioc_record.specs.Values.{text_of}
+use Rattle.ioc_process.specs.declared.reply.Reply.{Reply}
+use Rattle.ioc_process.specs.declared.reply.Reply.TheVariants.{Shown}
+use Rattle.ioc_process.specs.Step.{Stepped, Get, stepped, stepped_there, refused}
+use Rattle.std.proofs.lemmas.List.{replicate-append-replicate}
+use Rattle.ioc_device.specs.declared.Answer.TheVariants.{Fault}
+use Rattle.ioc_record.specs.RecordRules.{RecordRules, targets}
+use Rattle.ioc_process.specs.World.{World, IsClosed, Keeps, Has, at}
+use Rattle.ioc_process.specs.Runs.{Begins}
+use Rattle.ioc_main.specs.Replay.{begun, faults, got}
+
+pub closed_kept : {R : Type 0} (k : RecordRules R) (w v : World R) → IsClosed k w → Keeps k w v → IsClosed k v
+closed_kept k w v is keeps = record {
+  closed = λ n target named. keeps.has target (is.closed n target (subst (λ (ts : List ℕ). Contains ts target) (keeps.targets n) named));
+}
+
+at_begun : {R : Type 0} (k : RecordRules R) (w : World R) (n : ℕ) → at k (begun w) n ≡ at k w n
+unfolding at begun
+at_begun k w n = refl
+
+has_begun : {R : Type 0} (w : World R) (n : ℕ) → Has w n → Has (begun w) n
+unfolding begun
+has_begun w n has = has
+
+pub closed_begun : {R : Type 0} (k : RecordRules R) (w : World R) → IsClosed k w → IsClosed k (begun w)
+closed_begun {R} k w is = record {
+  closed = λ n target named. has_begun w target (is.closed n target (subst (λ (r : R). Contains (targets k r) target) (at_begun k w n) named));
+}
+
+pub closed_same : {R : Type 0} (k : RecordRules R) (w v : World R) → v ≡ begun w → IsClosed k w → IsClosed k v
+closed_same {R} k w v e is = subst (λ (x : World R). IsClosed k x) (sym e) (closed_begun k w is)
+
+-- however many devices were asked
+pub faults_begin : (n : ℕ) → n ≤ 256 → Begins (replicate n Fault) faults
+unfolding faults
+faults_begin n few = record {
+  others = replicate (256 - n) Fault;
+  is = let e : n + (256 - n) ≡ 256 = omega (arith, few) in replicate-append-replicate n (256 - n) Fault ∙ ap (λ (m : ℕ). replicate m Fault) e;
+}
+
+-- a get changes nothing
+shown_keeps : {R : Type 0} (w : World R) (b : Bool) (shown : Reply) → (if b then record { world = w; reply = shown; requests = None } else refused w NoField).world ≡ w
+shown_keeps w true shown = refl
+shown_keeps w false shown = refl
+
+either_keeps : {R : Type 0} (w : World R) (b : Bool) (there : Stepped R) → there.world ≡ w → (if b then there else refused w NoRecord).world ≡ w
+either_keeps w true there e = e
+either_keeps w false there e = refl
+
+there_keeps : {R : Type 0} (k : RecordRules R) (w : World R) (number : ℕ) (field : FieldNo) → (stepped_there k faults w (Get number field)).world ≡ w
+unfolding stepped_there
+there_keeps k w number field = shown_keeps w (is_some (row_of (k.record_type (at k w number)) field)) (Shown (text_of k (at k w number) field))
+
+get_keeps : {R : Type 0} (k : RecordRules R) (w : World R) (number : ℕ) (field : FieldNo) → (stepped k faults (begun w) (Get number field)).world ≡ begun w
+unfolding stepped
+get_keeps k w number field = either_keeps (begun w) (contains_key (begun w).records number) (stepped_there k faults (begun w) (Get number field)) (there_keeps k (begun w) number field)
+
+pub got_keeps : {R : Type 0} (k : RecordRules R) (names : NameTable) (w : World R) (channel : Result (ℕ × FieldNo) IocError) → (got k names w channel).world ≡ begun w
+got_keeps k names w (Ok c) = get_keeps k w c.0 c.1
+got_keeps k names w (Err e) = refl

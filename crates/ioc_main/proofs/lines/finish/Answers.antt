@@ -1,0 +1,16 @@
+use Rattle.std.proofs.Common.{[]}
+use Rattle.std.proofs.lemmas.Result.{on_ok_weaker, on_err_weaker}
+use Rattle.ioc_main.proofs.Feeding.{last_empty, last_ends, last_fails}
+use Rattle.ioc_main.proofs.lines.finish.Goals as goal
+
+pub returns-in-empty-clause-ok : goal.returns-in-empty-clause-ok
+returns-in-empty-clause-ok g c =
+    last_empty (g.S.Session.transcript c.args.session.now) (g.W.Write.contents c.args.out.now) c.args.line.now c.as_slice.result.now c.as_slice.ensures.value c.in-empty.len_below (g.met.S.Session.no_lines c.args.session.now)
+
+pub returns-in-len1-up-clause-ok : goal.returns-in-len1-up-clause-ok
+returns-in-len1-up-clause-ok g c =
+    on_ok_weaker c.end_line.result (λ p. last_ends (g.S.Session.transcript c.args.session.now) (g.S.Session.transcript c.end_line.new.session) _ _ c.args.line.now c.as_slice.result.now c.as_slice.ensures.value c.in-len1-up.len_at_least (g.met.S.Session.no_lines c.end_line.new.session) (p.1 [])) c.end_line.ensures.ok
+
+pub returns-in-len1-up-clause-err : goal.returns-in-len1-up-clause-err
+returns-in-len1-up-clause-err g c =
+    on_err_weaker c.end_line.result (λ p. last_fails (g.S.Session.transcript c.args.session.now) _ _ c.args.line.now c.as_slice.result.now c.as_slice.ensures.value c.in-len1-up.len_at_least (p [])) c.end_line.ensures.err

@@ -1,0 +1,7 @@
+use Rattle.std.proofs.Common.{◌≡◌, length}
+use Rattle.ioc_main.specs.Coming.{ReadsSo}
+use Rattle.ioc_main.proofs.lines.run_script.Given as goal
+
+abbrev pub invariant-loop : goal.invariant-loop
+invariant-loop g l =
+    (length l.buffer ≡ 512) × ReadsSo (g.S.Session.transcript l.initial.session) (g.R.Read.remaining l.fn.script) (g.R.Read.remaining l.script) (g.W.Write.contents l.initial.out) (g.S.Session.transcript l.session) l.line (g.W.Write.contents l.out)

@@ -1,0 +1,12 @@
+use Rattle.std.proofs.Common.{sym, ◌∙◌}
+use Rattle.ioc_process.specs.Record.{record_rules}
+use Rattle.ioc_main.specs.Records.{world_of}
+use Rattle.ioc_main.proofs.Closing.{closed_same, got_keeps}
+use Rattle.ioc_main.proofs.replay.Replay.get.Goals as goal
+
+pub invariant_of-self : goal.invariant_of-self
+invariant_of-self c = record { closed = closed_same record_rules (world_of c.args.self.now.records) _ c.begin.ensures c.args.self.now.closed }
+
+pub returns-in-Ok-clause-world : goal.returns-in-Ok-clause-world
+returns-in-Ok-clause-world c =
+    c.begin.ensures ∙ sym (got_keeps record_rules c.args.self.now.names (world_of c.args.self.now.records) _)

@@ -1,0 +1,30 @@
+-- The laws of a database to which a script is done.
+use Rattle.std.proofs.Common.{◌≡◌, ℕ, List, [], ◌∷◌, ◌++◌, length, take, refl, sym, ap, ◌∙◌, inl, inr, arith}
+use Rattle.std.proofs.lemmas.Bool.{cases_lt, lt-ltb}
+use Rattle.std.proofs.lemmas.List.{length-take, take_all}
+use Rattle.ioc_process.specs.Record.{record_rules}
+use Rattle.ioc_main.specs.declared.replay.Replay.{Replay}
+use Rattle.ioc_main.specs.Records.{world_of}
+use Rattle.ioc_main.specs.Script.{Command, cut, command_of}
+use Rattle.ioc_main.specs.Replay.{transcript, answered}
+
+-- what is printed for these lines
+abbrev pub printed : Replay → List (List ℕ) → List ℕ
+printed s lines = transcript record_rules s.names (world_of s.records) lines
+
+pub no-lines : (s : Replay) → printed s [] ≡ []
+no-lines s = refl
+
+-- past 1,025 bytes a line's further bytes don't matter
+cut-command : (line : List ℕ) → command_of (cut line) ≡ command_of line
+unfolding command_of cut
+cut-command line =
+    elim (cases_lt 1025 (length line)) [
+      | inl long ↦ rw (lt-ltb 1024 (length (take 1025 line)) (omega (arith, length-take 1025 line)), lt-ltb 1024 (length line) (omega arith)) refl
+      | inr short ↦ rw (take_all 1025 line short) refl
+    ]
+
+pub long-lines : (s : Replay) (a b : List ℕ) (lines : List (List ℕ)) → cut a ≡ cut b → printed s (a ∷ lines) ≡ printed s (b ∷ lines)
+long-lines s a b lines e =
+    let same : command_of a ≡ command_of b = sym (cut-command a) ∙ ap command_of e ∙ cut-command b in
+    ap (λ (c : Command). let did = answered record_rules s.names (world_of s.records) c in did.said ++ transcript record_rules s.names did.world lines) same

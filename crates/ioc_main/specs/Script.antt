@@ -1,0 +1,79 @@
+-- The lines of a script, and what each asks for: `process REC`, `put REC.F TEXT`, `get REC.F`.
+use Rattle.std.specs.Prelude.{ℕ, List, [], ◌∷◌, take, length, codes, nat_lt, nat_eq, ◌==◌, if◌then◌else◌, Option, Some, None}
+use Rattle.std.specs.List.{onto_first}
+use Rattle.std.specs.Cmp.Lexicographic.{pointwise}
+
+-- the lines, without the line feeds that end them
+abbrev pub lines_of : List ℕ → List (List ℕ)
+lines_of [] = []
+lines_of (b ∷ bs) = if b == 10 then [] ∷ lines_of bs else onto_first b (lines_of bs)
+
+-- enough of a line to see that it is too long
+unfoldable pub cut : List ℕ → List ℕ
+cut line = take 1025 line
+
+-- what stands before the first such byte
+abbrev pub before : ℕ → List ℕ → List ℕ
+before separator [] = []
+before separator (b ∷ bs) = if b == separator then [] else b ∷ before separator bs
+
+-- what stands behind the first such byte, where there is one
+abbrev pub behind : ℕ → List ℕ → Option (List ℕ)
+behind separator [] = None
+behind separator (b ∷ bs) = if b == separator then Some bs else behind separator bs
+
+-- what a line asks for, its records and fields by their names
+pub data Command : Type 0 where
+  Silent : Command
+  Bad : Command
+  Process : (name : List ℕ) → Command
+  Put : (name : List ℕ) → (field : List ℕ) → (text : List ℕ) → Command
+  Get : (name : List ℕ) → (field : List ℕ) → Command
+
+-- one word, and nothing behind it
+abbrev pub process_of : List ℕ → Option (List ℕ) → Command
+process_of [] more = Bad
+process_of (b ∷ bs) (Some words) = Bad
+process_of (b ∷ bs) None = Process (b ∷ bs)
+
+-- the text may be missing
+abbrev pub put_at : List ℕ → Option (List ℕ) → Option (List ℕ) → Command
+put_at name None text = Bad
+put_at name (Some field) (Some text) = Put name field text
+put_at name (Some field) None = Put name field []
+
+abbrev pub get_at : List ℕ → Option (List ℕ) → Option (List ℕ) → Command
+get_at name None more = Bad
+get_at name (Some field) (Some words) = Bad
+get_at name (Some field) None = Get name field
+
+-- the word is cut at its first dot
+abbrev pub put_of : List ℕ → Option (List ℕ) → Command
+put_of word text = put_at (before 46 word) (behind 46 word) text
+
+abbrev pub get_of : List ℕ → Option (List ℕ) → Command
+get_of word more = get_at (before 46 word) (behind 46 word) more
+
+-- a first word, and the words behind it
+abbrev pub by_verb : List ℕ → List ℕ → Command
+by_verb verb words =
+    if pointwise nat_eq verb (codes "process") then process_of (before 32 words) (behind 32 words)
+    else (if pointwise nat_eq verb (codes "put") then put_of (before 32 words) (behind 32 words)
+    else (if pointwise nat_eq verb (codes "get") then get_of (before 32 words) (behind 32 words) else Bad))
+
+abbrev pub with_words : List ℕ → Option (List ℕ) → Command
+with_words verb None = Bad
+with_words verb (Some words) = by_verb verb words
+
+-- words are parted by one space
+abbrev pub worded : List ℕ → Command
+worded line = with_words (before 32 line) (behind 32 line)
+
+-- empty lines, and those that begin with `#`, ask for nothing
+abbrev pub short_command : List ℕ → Command
+short_command [] = Silent
+short_command (b ∷ bs) = if b == 35 then Silent else worded (b ∷ bs)
+
+-- past 1,024 bytes a line is bad, whatever it holds
+unfoldable pub command_of : List ℕ → Command
+command_of line = if nat_lt 1024 (length line) then Bad else short_command line

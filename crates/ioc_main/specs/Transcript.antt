@@ -1,0 +1,47 @@
+-- What a run prints for a database text and a script.
+use Rattle.std.specs.Prelude.{◌≡◌, ℕ, List, [], Option, IfSome, Result, Ok, Err}
+use Rattle.std.specs.Io.KnownBytes.{Keeps}
+use Rattle.ioc_process.specs.Record.{record_rules, new_record}
+use Rattle.ioc_process.specs.declared.record.Record.{Record}
+use Rattle.ioc_process.specs.OneMap.{numbered}
+use Rattle.ioc_process.specs.World.{World}
+use Rattle.ioc_dbfile.specs.declared.fault.DbFault.{DbFault}
+use Rattle.ioc_dbfile.specs.Loader.{Loading}
+use Rattle.ioc_dbfile.specs.Finished.{loaded_by}
+use Rattle.ioc_main.specs.declared.fault.RunFault.{RunFault}
+use Rattle.ioc_main.specs.declared.fault.RunFault.TheVariants.{BadDb, Usage, Read, Write, Memory}
+use Rattle.ioc_main.specs.Script.{lines_of}
+use Rattle.ioc_main.specs.Replay.{transcript}
+use Rattle.ioc_main.specs.Written.{WritesFront}
+
+-- the database of a text, or its first fault
+abbrev pub loaded : List ℕ → Result (Loading Record) DbFault
+loaded text = loaded_by record_rules new_record text
+
+-- a loaded database at the beginning
+abbrev pub first_world : List Record → World Record
+first_world records = record { records = numbered records; moment = 0; used = 0; outbox = []; dropped = 0; ended = [] }
+
+abbrev pub transcript_on : Loading Record → List ℕ → List ℕ
+transcript_on database script = transcript record_rules database.names (first_world database.records) (lines_of script)
+
+-- nothing is printed where the database text is refused
+abbrev pub transcript_by : Result (Loading Record) DbFault → List ℕ → List ℕ
+transcript_by (Ok database) script = transcript_on database script
+transcript_by (Err fault) script = []
+
+-- the transcript of a database text and a script
+unfoldable pub transcript_of : List ℕ → List ℕ → List ℕ
+transcript_of text script = transcript_by (loaded text) script
+
+-- the text is that of a database
+abbrev pub IsDatabase : List ℕ → Type 0
+IsDatabase text = (database : Loading Record) × (loaded text ≡ Ok database)
+
+-- a refused text is told by its first fault, and nothing is written; else a beginning of the transcript was written
+abbrev pub StopsWith : RunFault → List ℕ → Option (List ℕ) → Option (List ℕ) → Option (List ℕ) → Type 0
+StopsWith (BadDb line kind) text script old new = (loaded text ≡ Err (record { line = line; kind = kind })) × Keeps old new
+StopsWith Usage text script old new = ⊥
+StopsWith Memory text script old new = Keeps old new
+StopsWith Read text script old new = IsDatabase text × IfSome script (λ script. WritesFront old (transcript_of text script) new)
+StopsWith Write text script old new = IsDatabase text × IfSome script (λ script. WritesFront old (transcript_of text script) new)
