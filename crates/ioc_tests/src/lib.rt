@@ -1,0 +1,13 @@
+//! Tests that cross the crates: whole runs over memory.
+#![tactic(auto)]
+
+#[cfg(test)]
+mod events;
+#[cfg(test)]
+mod lines;
+#[cfg(test)]
+mod rows;
+#[cfg(test)]
+mod runs;
+#[cfg(test)]
+mod streams;
