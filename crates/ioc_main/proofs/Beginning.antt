@@ -7,13 +7,13 @@ use Rattle.ioc_process.specs.Record.{record_rules}
 use Rattle.ioc_process.specs.declared.record.Record.{Record}
 use Rattle.ioc_process.specs.OneMap.{world_of as world_on}
 use Rattle.ioc_process.specs.declared.one_map.OneMap.{OneMap}
-use Rattle.ioc_process.specs.World.{World}
+use Rattle.ioc_process.specs.World.{World, begun}
 use Rattle.ioc_dbfile.specs.Loader.{Loading}
 use Rattle.ioc_main.specs.declared.fault.ScriptFault.{ScriptFault}
 use Rattle.ioc_main.specs.declared.fault.ScriptFault.TheVariants as script
 use Rattle.ioc_main.specs.Faults.{run_fault_of}
 use Rattle.ioc_main.specs.Script.{lines_of}
-use Rattle.ioc_main.specs.Replay.{begun, transcript}
+use Rattle.ioc_main.specs.Replay.{transcript}
 use Rattle.ioc_main.specs.Written.{WritesFront}
 use Rattle.ioc_main.specs.Transcript.{loaded, first_world, transcript_by, transcript_of, IsDatabase, StopsWith}
 

@@ -15,9 +15,9 @@ use Rattle.ioc_process.specs.Step.{Stepped, Get, stepped, stepped_there, refused
 use Rattle.std.proofs.lemmas.List.{replicate-append-replicate}
 use Rattle.ioc_device.specs.declared.Answer.TheVariants.{Fault}
 use Rattle.ioc_record.specs.RecordRules.{RecordRules, targets}
-use Rattle.ioc_process.specs.World.{World, IsClosed, Keeps, Has, at}
+use Rattle.ioc_process.specs.World.{World, IsClosed, Keeps, Has, at, begun}
 use Rattle.ioc_process.specs.Runs.{Begins}
-use Rattle.ioc_main.specs.Replay.{begun, faults, got}
+use Rattle.ioc_main.specs.Replay.{faults, got}
 
 pub closed_kept : {R : Type 0} (k : RecordRules R) (w v : World R) → IsClosed k w → Keeps k w v → IsClosed k v
 closed_kept k w v is keeps = record {

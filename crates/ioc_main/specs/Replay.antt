@@ -15,7 +15,7 @@ use Rattle.ioc_ledger.specs.declared.outcome.Outcome.TheVariants.{Processed, Dis
 use Rattle.ioc_record.specs.RecordRules.{RecordRules}
 use Rattle.ioc_process.specs.declared.reply.Reply.{Reply}
 use Rattle.ioc_process.specs.declared.reply.Reply.TheVariants.{Plain, Outcome as Outcome-reply, Shown, Refused}
-use Rattle.ioc_process.specs.World.{World, at}
+use Rattle.ioc_process.specs.World.{World, at, begun}
 use Rattle.ioc_process.specs.Step.{Event, Get as Get-event, Process as Process-event, Put as Put-event, Stepped, stepped, refused}
 use Rattle.ioc_main.specs.Script.{Command, Silent, Bad, Process, Put, Get, command_of}
 
@@ -36,10 +36,6 @@ reply_words (Refused e) = refusal_words e
 -- the answers of devices in an event: no record has a device yet, and one that is asked faults, at most 256 times
 unfoldable pub faults : List Answer
 faults = replicate 256 Fault
-
--- an event begins with no answers used
-unfoldable pub begun : {R : Type 0} → World R → World R
-begun w = record w { used = 0 }
 
 -- what a line leaves, and what is printed for it
 pub record Answered (R : Type 0) : Type 0 where

@@ -31,10 +31,10 @@ pub struct ReplayRecords {
 impl ReplayRecords {
     ghost use Rattle.ioc_process.specs.OneMap.{world_of as world_on};
     ghost use Rattle.ioc_main.specs.Records.{world_of};
-    ghost use Rattle.ioc_main.specs.Replay.{begun};
+    ghost use Rattle.ioc_process.specs.World.{begun};
 
     /// These records.
-    #[tactic(auto, unfolding(crate::specs::Replay::begun))]
+    #[tactic(auto, unfolding(ioc_process::specs::World::begun))]
     pub fn new(map: OneMap<Record>) -> Self
         ensures { world_of result ≡ begun (world_on map) }
     {
@@ -45,7 +45,7 @@ impl ReplayRecords {
     }
 
     /// Begins an event.
-    #[tactic(auto, unfolding(crate::specs::Replay::begun))]
+    #[tactic(auto, unfolding(ioc_process::specs::World::begun))]
     pub fn begin(&mut self)
         ensures { world_of self.new ≡ begun (world_of self.old) }
     {

@@ -2,10 +2,10 @@
 ghost use Rattle.std.specs.Prelude.{◌≡◌};
 ghost use Rattle.ioc_names.specs.NameTable.{number_of};
 ghost use Rattle.ioc_process.specs.Record.{record_rules};
-ghost use Rattle.ioc_process.specs.World.{IsClosed};
+ghost use Rattle.ioc_process.specs.World.{IsClosed, begun};
 ghost use Rattle.ioc_process.specs.OneMap.{world_of as world_on};
 ghost use Rattle.ioc_main.specs.Records.{world_of};
-ghost use Rattle.ioc_main.specs.Replay.{begun, channel, processed, got, were_put, answered};
+ghost use Rattle.ioc_main.specs.Replay.{channel, processed, got, were_put, answered};
 ghost use Rattle.ioc_main.specs.Seen.{seen};
 
 use crate::command::Command;

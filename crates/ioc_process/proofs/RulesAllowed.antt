@@ -170,3 +170,28 @@ module _ {R : Type 0} (k : RecordRules R) (lawful : IsLawful k) (answers : List 
 
   pub request-allowed : (w : World R) (s : ℕ) → Requested k answers w s (ask w s).world (ask w s).requests
   request-allowed w s = allowed-below (suc (idle k w)) w s (omega arith)
+
+  -- the parts of a request, whose own requests are requests
+  asks-allowed : (bound : ℕ) (w : World R) (s : ℕ) → idle k w < bound → Requested k answers w s (ask w s).world (ask w s).requests
+  asks-allowed bound w s few = request-allowed w s
+
+  pub cause-allowed : (w : World R) (s t : ℕ) → Causes k answers w s t (caused k ask w s t).world (caused k ask w s t).requests
+  cause-allowed w s t = caused-allowed (idle k w + 2) (asks-allowed _) w s t (omega arith)
+
+  pub follow-allowed : (w : World R) (s : ℕ) (link : LinkUse) → Follows k answers w s link (followed k ask w s link).world (followed k ask w s link).requests
+  follow-allowed w s link = followed-allowed (idle k w + 2) (asks-allowed _) w s link (omega arith)
+
+  pub gets-allowed : (w : World R) (s : ℕ) (want : Want)
+      → Gets k answers w s want (input k answers ask w s want).world (input k answers ask w s want).came (input k answers ask w s want).requests
+  gets-allowed w s want = input-allowed (idle k w + 2) (asks-allowed _) w s want (omega arith)
+
+  pub finish-allowed : (w : World R) (s : ℕ) (got : Got) → Finishes k answers w s got (completed k ask w s got).world (completed k ask w s got).requests
+  finish-allowed w s got =
+      completed-allowed (idle k w + 2) (asks-allowed _) w s got
+      (elim (common_at k w s).active as (λ b. idle k w + cond b 1 0 ≤ idle k w + 2) [
+        | true ↦ omega arith
+        | false ↦ omega arith
+      ])
+
+  pub run-allowed : (w : World R) (s : ℕ) → (common_at k w s).active ≡ false → Runs k answers w s (body k answers ask w s).world (body k answers ask w s).requests
+  run-allowed w s inactive = body-allowed (idle k w + 2) (asks-allowed _) w s inactive (omega arith)

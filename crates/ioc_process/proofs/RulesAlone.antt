@@ -150,7 +150,7 @@ module _ {R : Type 0} (k : RecordRules R) (lawful : IsLawful k) (answers : List 
     followed-is (to_record c) = caused-is c
     followed-is (nowhere {w} {s} {link} none) = followed-nowhere w s link none
 
-    input-is : {w : World R} {s : ℕ} {want : Want} {w' : World R} {came : Option Got} {requests : Requests} → Gets k answers w s want w' came requests
+    pub input-is : {w : World R} {s : ℕ} {want : Want} {w' : World R} {came : Option Got} {requests : Requests} → Gets k answers w s want w' came requests
         → input k answers ask w s want ≡ record { world = w'; requests = requests; came = came }
     input-is no_input = refl
     input-is (of_link r) = read_link-is r

@@ -14,7 +14,7 @@ use Rattle.ioc_record.specs.RecordRules.{RecordRules}
 use Rattle.ioc_record.specs.Values.{text_of, put_field}
 use Rattle.ioc_process.specs.declared.reply.Reply.{Reply}
 use Rattle.ioc_process.specs.declared.reply.Reply.TheVariants.{Plain, Outcome as Outcome-reply, Shown, Refused}
-use Rattle.ioc_process.specs.World.{World, at, put}
+use Rattle.ioc_process.specs.World.{World, at, put, begun}
 use Rattle.ioc_process.specs.Rules.{Requested}
 use Rattle.ioc_process.specs.Step.{Event, Get, Process, Put, number_of, processes}
 
@@ -68,15 +68,11 @@ pub record Entry : Type 0 where
   pub reply : Reply
 
 module _ {R : Type 0} (k : RecordRules R) where
-  -- an event begins with nothing used, sent or ended
-  unfoldable pub fresh : World R → World R
-  fresh w = record w { used = 0; outbox = []; dropped = 0; ended = [] }
-
   -- the events of a list, one after another, lead from one database to another, each with the reply kept beside it and all its answers used
   pub data Replay : World R → List Entry → World R → Type 0 where
     at_the_end : {w : World R} → Replay w [] w
     and_then : {w w' w'' : World R} {entry : Entry} {entries : List Entry} {requests : Requests}
-        → Step k entry.answers (fresh w) entry.event w' entry.reply requests
+        → Step k entry.answers (begun w) entry.event w' entry.reply requests
         → w'.used ≡ length entry.answers
         → Replay w' entries w''
         → Replay w (entry ∷ entries) w''

@@ -26,6 +26,10 @@ Has w n = IsTrue (contains_key w.records n)
 unfoldable pub put : {R : Type 0} → World R → ℕ → R → World R
 put w n r = record w { records = insert w.records n r }
 
+-- an event begins with nothing used, sent or ended
+unfoldable pub begun : {R : Type 0} → World R → World R
+begun w = record w { used = 0; outbox = []; dropped = 0; ended = [] }
+
 -- with one more answer used
 unfoldable pub used_one : {R : Type 0} → World R → World R
 used_one w = record w { used = w.used + 1 }

@@ -34,12 +34,29 @@ pub fn rules_are_parts<K: RecordKind>()
         → caused K.rules (request K.rules answers) w s t ≡ record { world = after; requests = requests } }
     ensures reads { (answers : List Answer) (w after : World K) (s : ℕ) (link : LinkUse) (got : Got) (requests : Requests) → Reads K.rules answers w s link after got requests
         → read_link K.rules (request K.rules answers) w s link ≡ record { world = after; requests = requests; came = Option.Some got } }
+    ensures gets { (answers : List Answer) (w after : World K) (s : ℕ) (want : Want) (came : Option Got) (requests : Requests) → Gets K.rules answers w s want after came requests
+        → input K.rules answers (request K.rules answers) w s want ≡ record { world = after; requests = requests; came = came } }
     ensures follows { (answers : List Answer) (w after : World K) (s : ℕ) (link : LinkUse) (requests : Requests) → Follows K.rules answers w s link after requests
         → followed K.rules (request K.rules answers) w s link ≡ record { world = after; requests = requests } }
     ensures finishes { (answers : List Answer) (w after : World K) (s : ℕ) (got : Got) (requests : Requests) → Finishes K.rules answers w s got after requests
         → completed K.rules (request K.rules answers) w s got ≡ record { world = after; requests = requests } }
     ensures runs { (answers : List Answer) (w after : World K) (s : ℕ) (requests : Requests) → Runs K.rules answers w s after requests
         → body K.rules answers (request K.rules answers) w s ≡ record { world = after; requests = requests } }
+{}
+
+/// The rules allow what the function gives for the parts of a request. (A link is read where an input is got of it; a body
+/// is run of a record that was idle.)
+pub fn rules_allow_parts<K: RecordKind>()
+    ensures causes { (answers : List Answer) (w : World K) (s t : ℕ) → Causes K.rules answers w s t
+        (caused K.rules (request K.rules answers) w s t).world (caused K.rules (request K.rules answers) w s t).requests }
+    ensures gets { (answers : List Answer) (w : World K) (s : ℕ) (want : Want) → Gets K.rules answers w s want
+        (input K.rules answers (request K.rules answers) w s want).world (input K.rules answers (request K.rules answers) w s want).came (input K.rules answers (request K.rules answers) w s want).requests }
+    ensures follows { (answers : List Answer) (w : World K) (s : ℕ) (link : LinkUse) → Follows K.rules answers w s link
+        (followed K.rules (request K.rules answers) w s link).world (followed K.rules (request K.rules answers) w s link).requests }
+    ensures finishes { (answers : List Answer) (w : World K) (s : ℕ) (got : Got) → Finishes K.rules answers w s got
+        (completed K.rules (request K.rules answers) w s got).world (completed K.rules (request K.rules answers) w s got).requests }
+    ensures runs { (answers : List Answer) (w : World K) (s : ℕ) → (common_at K.rules w s).active ≡ false → Runs K.rules answers w s
+        (body K.rules answers (request K.rules answers) w s).world (body K.rules answers (request K.rules answers) w s).requests }
 {}
 
 /// Each request has a result by the rules, and only one.

@@ -1,4 +1,4 @@
-use Rattle.ioc_process.proofs.RulesAlone.{caused-is, read_link-is, followed-is, completed-is, body-is}
+use Rattle.ioc_process.proofs.RulesAlone.{caused-is, read_link-is, followed-is, input-is, completed-is, body-is}
 use Rattle.ioc_process.proofs.rules.rules_are_parts.Goals as goal
 
 pub returns-clause-causes : goal.returns-clause-causes
@@ -6,6 +6,9 @@ returns-clause-causes g c = λ answers w after s t requests r. caused-is g.K.Rec
 
 pub returns-clause-reads : goal.returns-clause-reads
 returns-clause-reads g c = λ answers w after s link got requests r. read_link-is g.K.RecordKind.rules g.met.K.RecordKind.lawful answers r
+
+pub returns-clause-gets : goal.returns-clause-gets
+returns-clause-gets g c = λ answers w after s want came requests r. input-is g.K.RecordKind.rules g.met.K.RecordKind.lawful answers r
 
 pub returns-clause-follows : goal.returns-clause-follows
 returns-clause-follows g c = λ answers w after s link requests r. followed-is g.K.RecordKind.rules g.met.K.RecordKind.lawful answers r

@@ -1,0 +1,17 @@
+use Rattle.ioc_process.proofs.RulesAllowed.{cause-allowed, follow-allowed, gets-allowed, finish-allowed, run-allowed}
+use Rattle.ioc_process.proofs.rules.rules_allow_parts.Goals as goal
+
+pub returns-clause-causes : goal.returns-clause-causes
+returns-clause-causes g c = λ answers w s t. cause-allowed g.K.RecordKind.rules g.met.K.RecordKind.lawful answers w s t
+
+pub returns-clause-gets : goal.returns-clause-gets
+returns-clause-gets g c = λ answers w s want. gets-allowed g.K.RecordKind.rules g.met.K.RecordKind.lawful answers w s want
+
+pub returns-clause-follows : goal.returns-clause-follows
+returns-clause-follows g c = λ answers w s link. follow-allowed g.K.RecordKind.rules g.met.K.RecordKind.lawful answers w s link
+
+pub returns-clause-finishes : goal.returns-clause-finishes
+returns-clause-finishes g c = λ answers w s got. finish-allowed g.K.RecordKind.rules g.met.K.RecordKind.lawful answers w s got
+
+pub returns-clause-runs : goal.returns-clause-runs
+returns-clause-runs g c = λ answers w s inactive. run-allowed g.K.RecordKind.rules g.met.K.RecordKind.lawful answers w s inactive
