@@ -4,8 +4,9 @@
 use ioc_dbfile::macros::Macros;
 use ioc_main::{RunFault, run};
 use std::fs::{self, File};
+use std::io::{self, BufWriter, Write};
 use std::process::ExitCode;
-use std::{env, io};
+use std::env;
 
 // The two files that the program was given: exactly these.
 fn files(rt: &HostRuntime) -> Result<(String, String), RunFault> {
@@ -28,8 +29,13 @@ fn replay(rt: &HostRuntime) -> Result<(), RunFault> {
     let (db, script) = files(rt)?;
     let text = fs::read(rt, db.as_str()).map_err(read_fault)?;
     let script = File::open(rt, script.as_str()).map_err(read_fault)?;
-    let mut out = io::writer(rt);
-    run(rt.alloc(), &text, &Macros::new(), script, &mut out)
+    let out = BufWriter::new(rt.alloc(), io::writer(rt));
+    let mut out = out.map_err(|_| RunFault::Memory)?;
+    let ran = run(rt.alloc(), &text, &Macros::new(), script, &mut out);
+    // The replies before a fault are written all the same.
+    let flushed = out.flush();
+    ran?;
+    flushed.map_err(|_| RunFault::Write)
 }
 
 fn main(rt: HostRuntime) -> ExitCode {
