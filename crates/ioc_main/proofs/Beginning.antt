@@ -14,7 +14,7 @@ use Rattle.ioc_main.specs.declared.fault.ScriptFault.TheVariants as script
 use Rattle.ioc_main.specs.Faults.{run_fault_of}
 use Rattle.ioc_main.specs.Script.{lines_of}
 use Rattle.ioc_main.specs.Replay.{transcript}
-use Rattle.ioc_main.specs.Written.{WritesFront}
+use Rattle.ioc_main.specs.Written.{WritesFront, WritesPart, StopsScript}
 use Rattle.ioc_main.specs.Transcript.{loaded, first_world, transcript_by, transcript_of, IsDatabase, StopsWith}
 
 first_is : (map : OneMap Record) → first_world map.records.items ≡ begun (world_on map)
@@ -37,6 +37,10 @@ module _ (text : List ℕ) (database : Loading Record) (map : OneMap Record) (na
   front None w v p = tt
   front (Some given) w v p = subst (λ (l : List ℕ). WritesFront w l v) (sym (begins given)) p
 
-  pub runs_stop : (fault : ScriptFault) (a w v : Option (List ℕ)) → IfSome a (λ given. WritesFront w (transcript record_rules names world (lines_of given)) v) → StopsWith (run_fault_of fault) text a w v
+  part : (a w v : Option (List ℕ)) → IfSome a (λ given. WritesPart w (transcript record_rules names world (lines_of given)) v) → IfSome a (λ given. WritesPart w (transcript_of text given) v)
+  part None w v p = tt
+  part (Some given) w v p = subst (λ (l : List ℕ). WritesPart w l v) (sym (begins given)) p
+
+  pub runs_stop : (fault : ScriptFault) (a w v : Option (List ℕ)) → IfSome a (λ given. StopsScript fault w (transcript record_rules names world (lines_of given)) v) → StopsWith (run_fault_of fault) text a w v
   runs_stop script.Read a w v p = ((database, reads), front a w v p)
-  runs_stop script.Write a w v p = ((database, reads), front a w v p)
+  runs_stop script.Write a w v p = ((database, reads), part a w v p)

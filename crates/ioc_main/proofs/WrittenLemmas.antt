@@ -1,7 +1,7 @@
 -- One write after the other.
-use Rattle.std.proofs.Common.{◌≡◌, ℕ, List, [], ◌++◌, take, drop, Option, Some, None, refl, sym, ap, subst, ◌∙◌, append_assoc, append-nil, take-append-drop}
-use Rattle.std.specs.Io.KnownBytes.{Appends}
-use Rattle.ioc_main.specs.Written.{Writes, WritesFront}
+use Rattle.std.proofs.Common.{◌≡◌, ℕ, false, eqb, length, List, [], ◌∷◌, ◌++◌, take, drop, Option, Some, None, refl, sym, ap, subst, ◌∙◌, append_assoc, append-nil, take-append-drop}
+use Rattle.std.specs.Io.KnownBytes.{Appends, Keeps}
+use Rattle.ioc_main.specs.Written.{Writes, WritesPart}
 
 appends_trans : (a b c : Option (List ℕ)) (bs cs : List ℕ) → Appends a b bs → Appends b c cs → Appends a c (bs ++ cs)
 appends_trans None b c bs cs p q = tt
@@ -13,9 +13,6 @@ appends_none : (a : Option (List ℕ)) → Appends a a []
 appends_none None = tt
 appends_none (Some x) = sym (append-nil x)
 
-pub writes_none : (a : Option (List ℕ)) (text : List ℕ) → Writes a text a text
-writes_none a text = ([], refl, appends_none a)
-
 pub writes_trans : (a b c : Option (List ℕ)) (x y z : List ℕ) → Writes a x b y → Writes b y c z → Writes a x c z
 writes_trans a b c x y z p q =
     (p.0 ++ q.0, p.1 ∙ ap (λ l. p.0 ++ l) q.1 ∙ sym (append_assoc p.0 q.0 z), appends_trans a b c p.0 q.0 p.2 q.2)
@@ -25,11 +22,25 @@ pub writes_more : (a b c : Option (List ℕ)) (x y z : List ℕ) (n : ℕ) → W
 writes_more a b c x y z n p q e =
     writes_trans a b c x y z p (take n y, sym (take-append-drop n y) ∙ ap (λ l. take n y ++ l) (sym e), q)
 
-pub front_none : (a : Option (List ℕ)) (text : List ℕ) → WritesFront a text a
-front_none a text = (text, writes_none a text)
+pub writes_then_part : (a b c : Option (List ℕ)) (x y : List ℕ) → Writes a x b y → WritesPart b y c → WritesPart a x c
+writes_then_part a b c x y p q = (q.0, q.1, writes_trans a b c x y (q.0 ∷ q.1) p q.2)
 
-pub writes_then_front : (a b c : Option (List ℕ)) (x y : List ℕ) → Writes a x b y → WritesFront b y c → WritesFront a x c
-writes_then_front a b c x y p q = (q.0, writes_trans a b c x y q.0 p q.1)
+-- a writer that kept what it had took nothing
+appends_kept : (a b : Option (List ℕ)) → Keeps a b → Appends a b []
+appends_kept None b k = tt
+appends_kept (Some x) None k = absurd k
+appends_kept (Some x) (Some y) k = k ∙ sym (append-nil x)
+
+pub writes_kept : (a b c : Option (List ℕ)) (x y : List ℕ) → Writes a x b y → Keeps b c → Writes a x c y
+writes_kept a b c x y p k = writes_trans a b c x y y p ([], refl, appends_kept b c k)
+
+pub writes_zero : (a b c : Option (List ℕ)) (x y : List ℕ) (n : ℕ) → n ≡ 0 → Writes a x b y → Appends b c (take n y) → Writes a x c y
+writes_zero a b c x y n e p q = writes_more a b c x y y 0 p (subst (λ (k : ℕ). Appends b c (take k y)) e q) refl
+
+-- something is left
+pub part_left : (a b : Option (List ℕ)) (x y : List ℕ) → false ≡ eqb (length y) 0 → Writes a x b y → WritesPart a x b
+part_left a b x [] h p = absurd cc
+part_left a b x (c ∷ cs) h p = (c, cs, p)
 
 -- all of a text was taken
 pub writes_all : (a b : Option (List ℕ)) (x y : List ℕ) → Appends a b x → Writes a (x ++ y) b y
@@ -38,9 +49,9 @@ writes_all a b x y p = (x, refl, p)
 pub appends_all : (a b : Option (List ℕ)) (x : List ℕ) → Writes a x b [] → Appends a b x
 appends_all a b x p = subst (Appends a b) (sym (p.1 ∙ append-nil p.0)) p.2
 
--- a beginning of a text's front is one of the text
-pub front_more : (a b : Option (List ℕ)) (x y : List ℕ) → WritesFront a x b → WritesFront a (x ++ y) b
-front_more a b x y p = (p.0 ++ y, (p.1.0, ap (λ l. l ++ y) p.1.1 ∙ append_assoc p.1.0 p.0 y, p.1.2))
+-- a part of a text's front is one of the text
+pub part_more : (a b : Option (List ℕ)) (x y : List ℕ) → WritesPart a x b → WritesPart a (x ++ y) b
+part_more a b x y p = (p.0, p.1 ++ y, (p.2.0, ap (λ l. l ++ y) p.2.1 ∙ append_assoc p.2.0 (p.0 ∷ p.1) y, p.2.2))
 
 -- nothing was to be written
 pub writes_same : (a : Option (List ℕ)) (x y : List ℕ) → x ≡ y → Writes a x a y
@@ -50,7 +61,7 @@ pub appends_empty : (a : Option (List ℕ)) (x : List ℕ) → x ≡ [] → Appe
 appends_empty a x e = subst (Appends a a) (sym e) (appends_none a)
 
 -- what is written for a line is the front of what the lines give
-pub said_fails : (a b : Option (List ℕ)) (x slice said more : List ℕ) → slice ≡ said → x ≡ said ++ more → WritesFront a slice b → WritesFront a x b
+pub said_fails : (a b : Option (List ℕ)) (x slice said more : List ℕ) → slice ≡ said → x ≡ said ++ more → WritesPart a slice b → WritesPart a x b
 said_fails a b x slice said more e f p =
-    let q : WritesFront a said b = subst (λ (l : List ℕ). WritesFront a l b) e p in
-    subst (λ (l : List ℕ). WritesFront a l b) (sym f) (front_more a b said more q)
+    let q : WritesPart a said b = subst (λ (l : List ℕ). WritesPart a l b) e p in
+    subst (λ (l : List ℕ). WritesPart a l b) (sym f) (part_more a b said more q)

@@ -1,4 +1,5 @@
--- The lines of a script, and what each asks for: `process REC`, `put REC.F TEXT`, `get REC.F`.
+-- The lines of a script, and what each asks for: `process REC`, `put REC.F TEXT`, `get REC.F`. This project's own, after the
+-- commands dbtr, dbpf and dbgf of an IOC's shell: Application Developer's Guide, "IOC Test Facilities".
 use Rattle.std.specs.Prelude.{ℕ, List, [], ◌∷◌, take, length, codes, nat_lt, nat_eq, ◌==◌, if◌then◌else◌, Option, Some, None}
 use Rattle.std.specs.List.{onto_first}
 use Rattle.std.specs.Cmp.Lexicographic.{pointwise}

@@ -12,7 +12,7 @@ use Rattle.ioc_main.specs.declared.fault.RunFault.{RunFault}
 use Rattle.ioc_main.specs.declared.fault.RunFault.TheVariants.{BadDb, Usage, Read, Write, Memory}
 use Rattle.ioc_main.specs.Script.{lines_of}
 use Rattle.ioc_main.specs.Replay.{transcript}
-use Rattle.ioc_main.specs.Written.{WritesFront}
+use Rattle.ioc_main.specs.Written.{WritesFront, WritesPart}
 
 -- the database of a text, or its first fault
 abbrev pub loaded : List ℕ → Result (Loading Record) DbFault
@@ -38,10 +38,11 @@ transcript_of text script = transcript_by (loaded text) script
 abbrev pub IsDatabase : List ℕ → Type 0
 IsDatabase text = (database : Loading Record) × (loaded text ≡ Ok database)
 
--- a refused text is told by its first fault, and nothing is written; else a beginning of the transcript was written
+-- a refused text is told by its first fault, and nothing is written; else a beginning of the transcript was written, and after a
+-- failed write not all of it
 abbrev pub StopsWith : RunFault → List ℕ → Option (List ℕ) → Option (List ℕ) → Option (List ℕ) → Type 0
 StopsWith (BadDb line kind) text script old new = (loaded text ≡ Err (record { line = line; kind = kind })) × Keeps old new
 StopsWith Usage text script old new = ⊥
 StopsWith Memory text script old new = Keeps old new
 StopsWith Read text script old new = IsDatabase text × IfSome script (λ script. WritesFront old (transcript_of text script) new)
-StopsWith Write text script old new = IsDatabase text × IfSome script (λ script. WritesFront old (transcript_of text script) new)
+StopsWith Write text script old new = IsDatabase text × IfSome script (λ script. WritesPart old (transcript_of text script) new)

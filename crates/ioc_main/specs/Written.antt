@@ -1,6 +1,8 @@
 -- What a writer took of a text.
-use Rattle.std.specs.Prelude.{◌≡◌, ℕ, List, ◌++◌, Option}
+use Rattle.std.specs.Prelude.{◌≡◌, ℕ, List, ◌∷◌, ◌++◌, Option}
 use Rattle.std.specs.Io.KnownBytes.{Appends}
+use Rattle.ioc_main.specs.declared.fault.ScriptFault.{ScriptFault}
+use Rattle.ioc_main.specs.declared.fault.ScriptFault.TheVariants.{Read, Write}
 
 -- the writer took the front of the text, and rest is what it did not take
 abbrev pub Writes : Option (List ℕ) → List ℕ → Option (List ℕ) → List ℕ → Type 0
@@ -9,3 +11,12 @@ Writes old text new rest = (front : List ℕ) × (text ≡ front ++ rest) × App
 -- the writer took a beginning of the text
 abbrev pub WritesFront : Option (List ℕ) → List ℕ → Option (List ℕ) → Type 0
 WritesFront old text new = (rest : List ℕ) × Writes old text new rest
+
+-- the writer took a beginning of the text, and not all of it
+abbrev pub WritesPart : Option (List ℕ) → List ℕ → Option (List ℕ) → Type 0
+WritesPart old text new = (b : ℕ) × (rest : List ℕ) × Writes old text new (b ∷ rest)
+
+-- what was written of the transcript where a script stopped: a write that failed left something unwritten
+abbrev pub StopsScript : ScriptFault → Option (List ℕ) → List ℕ → Option (List ℕ) → Type 0
+StopsScript Read old text new = WritesFront old text new
+StopsScript Write old text new = WritesPart old text new

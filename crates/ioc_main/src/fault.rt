@@ -34,6 +34,20 @@ pub enum ScriptFault {
     Write,
 }
 
+/// The writer took no byte, or answered an error.
+#[derive(Clone, Copy, Debug, PartialEq, Eq)]
+pub struct WriteFault;
+
+impl From<WriteFault> for ScriptFault {
+    ghost use Rattle.ioc_main.specs.declared.fault.ScriptFault.TheVariants.{Write};
+
+    ghost from_gives = { λ e fault. fault ≡ Write };
+
+    fn from(_fault: WriteFault) -> ScriptFault {
+        ScriptFault::Write
+    }
+}
+
 #[tactic(auto, unfolding(crate::specs::Faults::status_of))]
 impl RunFault {
     /// The exit status of the program, 1 to 4.

@@ -13,7 +13,7 @@ mod session;
 mod writing;
 
 pub use command::Command;
-pub use fault::{RunFault, ScriptFault};
+pub use fault::{RunFault, ScriptFault, WriteFault};
 pub use lines::run_script;
 pub use records::ReplayRecords;
 pub use replay::Replay;

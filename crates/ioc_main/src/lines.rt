@@ -3,9 +3,9 @@ ghost use Rattle.std.specs.Prelude.{◌≡◌, ◌∷◌, ◌++◌, [], List, �
 ghost use Rattle.std.specs.Io.KnownBytes.{Appends};
 ghost use Rattle.ioc_main.specs.Script.{lines_of, cut};
 ghost use Rattle.ioc_main.specs.Coming.{to_come};
-ghost use Rattle.ioc_main.specs.Written.{Writes, WritesFront};
+ghost use Rattle.ioc_main.specs.Written.{Writes, WritesPart, StopsScript};
 
-use crate::fault::ScriptFault;
+use crate::fault::{ScriptFault, WriteFault};
 use crate::session::Session;
 use crate::writing::write_text;
 use ioc_values::Short;
@@ -19,9 +19,9 @@ fn end_line<S: Session, W: Write>(
     session: &mut S,
     line: &mut Line,
     out: &mut W,
-) -> Result<(), ScriptFault>
+) -> Result<(), WriteFault>
     ensures ok { OnOk result ((line.new ≡ []) × ((lines : List (List ℕ)) → Writes (W.contents out.old) (S.transcript session.old (line.old ∷ lines)) (W.contents out.new) (S.transcript session.new lines))) }
-    ensures err { OnErr result ((lines : List (List ℕ)) → WritesFront (W.contents out.old) (S.transcript session.old (line.old ∷ lines)) (W.contents out.new)) }
+    ensures err { OnErr result ((lines : List (List ℕ)) → WritesPart (W.contents out.old) (S.transcript session.old (line.old ∷ lines)) (W.contents out.new)) }
 {
     let reply = session.answer(line.as_slice());
     write_text(out, reply.as_slice())?;
@@ -41,9 +41,9 @@ fn take_byte<S: Session, W: Write>(
     line: &mut Line,
     out: &mut W,
     b: u8,
-) -> Result<(), ScriptFault>
+) -> Result<(), WriteFault>
     ensures ok { OnOk result ((rest : List ℕ) → Writes (W.contents out.old) (to_come (S.transcript session.old) line.old (b ∷ rest)) (W.contents out.new) (to_come (S.transcript session.new) line.new rest)) }
-    ensures err { OnErr result ((rest : List ℕ) → WritesFront (W.contents out.old) (to_come (S.transcript session.old) line.old (b ∷ rest)) (W.contents out.new)) }
+    ensures err { OnErr result ((rest : List ℕ) → WritesPart (W.contents out.old) (to_come (S.transcript session.old) line.old (b ∷ rest)) (W.contents out.new)) }
 {
     if b == b'\n' {
         return end_line(session, line, out);
@@ -57,9 +57,9 @@ fn feed<S: Session, W: Write>(
     line: &mut Line,
     out: &mut W,
     piece: &[u8],
-) -> Result<(), ScriptFault>
+) -> Result<(), WriteFault>
     ensures ok { OnOk result ((rest : List ℕ) → Writes (W.contents out.old) (to_come (S.transcript session.old) line.old (piece.now ++ rest)) (W.contents out.new) (to_come (S.transcript session.new) line.new rest)) }
-    ensures err { OnErr result ((rest : List ℕ) → WritesFront (W.contents out.old) (to_come (S.transcript session.old) line.old (piece.now ++ rest)) (W.contents out.new)) }
+    ensures err { OnErr result ((rest : List ℕ) → WritesPart (W.contents out.old) (to_come (S.transcript session.old) line.old (piece.now ++ rest)) (W.contents out.new)) }
 {
     for b in piece {
         take_byte(session, line, out, *b)?;
@@ -72,9 +72,9 @@ fn finish<S: Session, W: Write>(
     session: &mut S,
     line: &mut Line,
     out: &mut W,
-) -> Result<(), ScriptFault>
+) -> Result<(), WriteFault>
     ensures ok { OnOk result (Appends (W.contents out.old) (W.contents out.new) (to_come (S.transcript session.old) line.old [])) }
-    ensures err { OnErr result (WritesFront (W.contents out.old) (to_come (S.transcript session.old) line.old []) (W.contents out.new)) }
+    ensures err { OnErr result (WritesPart (W.contents out.old) (to_come (S.transcript session.old) line.old []) (W.contents out.new)) }
 {
     match line.as_slice() {
         [] => Ok(()),
@@ -87,20 +87,23 @@ fn finish<S: Session, W: Write>(
 /// # Errors
 ///
 /// [`ScriptFault::Read`] where a read failed, [`ScriptFault::Write`] where a write did. Then what was written is a beginning of
-/// the transcript, and nothing more is written.
+/// the transcript (after a failed write not all of it), and nothing more is written.
 pub fn run_script<S: Session, R: Read + Drop, W: Write>(
     session: &mut S,
     mut script: R,
     out: &mut W,
 ) -> Result<(), ScriptFault>
     ensures ok { OnOk result (IfSome (R.remaining script) (λ text. Appends (W.contents out.old) (W.contents out.new) (S.transcript session.old (lines_of text)))) }
-    ensures err { OnErr result (IfSome (R.remaining script) (λ text. WritesFront (W.contents out.old) (S.transcript session.old (lines_of text)) (W.contents out.new))) }
+    ensures err { IfErr result (λ fault. IfSome (R.remaining script) (λ text. StopsScript fault (W.contents out.old) (S.transcript session.old (lines_of text)) (W.contents out.new))) }
 {
     let mut line = Line::new();
     let mut buffer = [0u8; 512];
     for _ in 0..u64::MAX {
         match script.read(&mut buffer) {
-            Ok(0) => return finish(session, &mut line, out),
+            Ok(0) => {
+                finish(session, &mut line, out)?;
+                return Ok(());
+            }
             Ok(n) => feed(session, &mut line, out, buffer.split_at(n).0)?,
             Err(_) => return Err(ScriptFault::Read),
         }

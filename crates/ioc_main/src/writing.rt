@@ -1,23 +1,27 @@
 //! Writing a text whole.
 ghost use Rattle.std.specs.Prelude.{OnOk, OnErr};
 ghost use Rattle.std.specs.Io.KnownBytes.{Appends};
-ghost use Rattle.ioc_main.specs.Written.{WritesFront};
+ghost use Rattle.ioc_main.specs.Written.{WritesPart};
 
-use crate::fault::ScriptFault;
+use crate::fault::WriteFault;
 use std::io::Write;
 
 /// Writes all of a text, however little the writer takes a call. A writer that takes no byte, or answers an error, has
 /// failed.
-pub fn write_text<W: Write>(out: &mut W, text: &[u8]) -> Result<(), ScriptFault>
+///
+/// # Errors
+///
+/// [`WriteFault`] where the writer has failed before it took all.
+pub fn write_text<W: Write>(out: &mut W, text: &[u8]) -> Result<(), WriteFault>
     ensures ok { OnOk result (Appends (W.contents out.old) (W.contents out.new) text.now) }
-    ensures err { OnErr result (WritesFront (W.contents out.old) text.now (W.contents out.new)) }
+    ensures err { OnErr result (WritesPart (W.contents out.old) text.now (W.contents out.new)) }
 {
     let mut rest = text;
     while !rest.is_empty() {
         match out.write(rest) {
-            Ok(0) => return Err(ScriptFault::Write),
+            Ok(0) => return Err(WriteFault),
             Ok(n) => rest = rest.split_at(n).1,
-            Err(_) => return Err(ScriptFault::Write),
+            Err(_) => return Err(WriteFault),
         }
     }
     Ok(())

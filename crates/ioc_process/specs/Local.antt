@@ -1,4 +1,5 @@
 -- What an event does to the records of some numbers, whatever stands beside them.
+-- Application Developer's Guide, "Database Locking, Scanning, and Processing": records of other lock sets play no part.
 use Rattle.std.specs.Prelude.{◌≡◌, ℕ, List, Contains}
 use Rattle.ioc_device.specs.declared.Answer.{Answer}
 use Rattle.ioc_record.specs.RecordRules.{RecordRules, targets}

@@ -1,4 +1,4 @@
--- What requests do, as a function. The rules that it computes stand in Rules.
+-- What requests do, as a function. The rules that it computes stand in Rules, with their sources.
 use Rattle.std.specs.Prelude.{ℕ, ◌-◌, ◌^◌, zero, suc, Bool, true, false, nat_lt, ◌&&◌, ◌==◌, if◌then◌else◌, List, slice_get, Option, Some, unwrap_or, Result, Ok, Err}
 use Rattle.std.specs.Prelude.{None as Nothing_}
 use Rattle.ioc_values.specs.declared.value.Value.{Value}

@@ -1,4 +1,4 @@
--- Records of all types: each does what its type says.
+-- Records of all types: each does what its type says. Record Reference Manual, one chapter a type.
 use Rattle.std.specs.Prelude.{ℕ, List, Option}
 use Rattle.ioc_values.specs.declared.value.Value.{Value}
 use Rattle.ioc_values.specs.declared.value.Finished.{Finished}

@@ -1,4 +1,5 @@
 -- What one event does to a database, as a function. The rules that it computes stand in StepRules.
+-- Application Developer's Guide, "Runtime Database Access": dbGetField, dbPutField, dbProcess.
 use Rattle.std.specs.Prelude.{ℕ, Bool, true, false, ◌||◌, if◌then◌else◌, List, Option, Some, None as Nothing_, Result, Ok, Err, is_some}
 use Rattle.std.specs.FinMap.{contains_key}
 use Rattle.ioc_values.specs.declared.error.IocError.{IocError}
