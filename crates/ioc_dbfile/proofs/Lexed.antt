@@ -2,10 +2,10 @@
 use Rattle.std.proofs.Common.{◌≡◌, ℕ, ◌+◌, Bool, true, false, cond, not, ◌&&◌, ◌||◌, eqb, List, [], ◌∷◌, ◌++◌, Some, refl, sym, ap, ◌∙◌, inl, inr}
 use Rattle.std.specs.List.{onto_first}
 use Rattle.std.proofs.lemmas.Bool.{cases_Bool, eqb-true}
-use Rattle.ioc_dbfile.specs.declared.lines.Quoting.TheVariants.{Outside, Inside}
-use Rattle.ioc_dbfile.specs.Bytes.{is_word_byte}
-use Rattle.ioc_dbfile.specs.Lines.{quoting_after, begins_comment, uncommented, begins_with, has_macro, without_end, lines_of, line_text}
-use Rattle.ioc_dbfile.specs.Lexing.{is_sign}
+use Rattle.ioc_dbtext.specs.declared.lines.Quoting.TheVariants.{Outside, Inside}
+use Rattle.ioc_dbtext.specs.Bytes.{is_word_byte}
+use Rattle.ioc_dbtext.specs.Lines.{quoting_after, begins_comment, uncommented, begins_with, has_macro, without_end, lines_of, line_text}
+use Rattle.ioc_dbtext.specs.Lexing.{is_sign}
 use Rattle.ioc_dbfile.specs.Spelling.{Each, is_space, is_plain, escaped_of, Piece, Call, Mark, Text, with_gaps}
 
 -- a byte of a class is none that isn't in it

@@ -1,9 +1,3 @@
-pub mod Turns
-pub mod Parts
-pub mod Begun
-pub mod LineLemmas
-pub mod Expanding
-pub mod Advance
 pub mod Loop
 pub mod Loads
 pub mod Agreeing

@@ -1,10 +1,11 @@
 -- From the texts of lines to what they make of a database.
 use Rattle.std.proofs.Common.{◌≡◌, ℕ, List, [], ◌∷◌, length, drop, refl, sym, ap, ◌∙◌, arith}
-use Rattle.ioc_dbfile.specs.declared.texts.Texts.{Texts}
-use Rattle.ioc_dbfile.specs.Lines.{lines_of}
-use Rattle.ioc_dbfile.specs.Lexing.{Lexeme, tokens_of}
-use Rattle.ioc_dbfile.specs.Texts.{parts_of, expansion, most_bytes}
-use Rattle.ioc_dbfile.specs.SeenTexts.{expansion_of}
+use Rattle.ioc_dbtext.specs.declared.texts.Texts.{Texts}
+use Rattle.ioc_dbtext.specs.Lines.{lines_of}
+use Rattle.ioc_dbtext.specs.Lexing.{Lexeme}
+use Rattle.ioc_dbtokens.specs.Tokens.{tokens_of}
+use Rattle.ioc_dbtext.specs.Texts.{parts_of, expansion, most_bytes}
+use Rattle.ioc_dbtext.specs.SeenTexts.{expansion_of}
 use Rattle.ioc_dbfile.specs.Rules.{Rules}
 use Rattle.ioc_dbfile.specs.Statements.{filled}
 use Rattle.ioc_dbfile.specs.Loading.{filled_by_texts, filled_by}

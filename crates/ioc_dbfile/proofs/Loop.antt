@@ -3,7 +3,7 @@ use Rattle.std.proofs.Common.{◌≡◌, ℕ, suc, ◌-◌, ◌+◌, ◌≤◌, 
 use Rattle.ioc_dbfile.specs.declared.fault.DbFault.{DbFault}
 use Rattle.ioc_dbfile.specs.declared.fault.LoadError.{LoadError}
 use Rattle.ioc_dbfile.specs.declared.fault.LoadError.TheVariants as errors
-use Rattle.ioc_dbfile.specs.Lexing.{Lexeme}
+use Rattle.ioc_dbtext.specs.Lexing.{Lexeme}
 use Rattle.ioc_dbfile.specs.Statements.{Fails, repeated}
 
 module _ {S : Type 0} (step : S → List Lexeme → Result (Bool × S × List Lexeme) DbFault) (out : DbFault) (turns : ℕ) (total : Result (S × List Lexeme) DbFault) (i : ℕ) (s : S) (tokens : List Lexeme) where

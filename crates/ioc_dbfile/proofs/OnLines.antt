@@ -1,11 +1,12 @@
 -- Statements spelled on several lines read as these statements.
 use Rattle.std.proofs.Common.{◌≡◌, ℕ, ◌+◌, ◌-◌, ◌≤◌, ◌<◌, ◌^◌, true, false, ◌&&◌, eqb, nat_lt, List, [], ◌∷◌, ◌++◌, length, Some, Ok, refl, ap, ◌∙◌, arith, length-append, le-ltb}
 use Rattle.std.specs.List.{onto_first}
-use Rattle.ioc_dbfile.specs.declared.texts.End.TheVariants.{Whole}
-use Rattle.ioc_dbfile.specs.declared.lines.Quoting.TheVariants.{Outside}
-use Rattle.ioc_dbfile.specs.Lines.{begins_with, uncommented, without_end, lines_of, line_text}
-use Rattle.ioc_dbfile.specs.Lexing.{Lexeme, is_sign, tokens_of}
-use Rattle.ioc_dbfile.specs.Texts.{Expansion, expansion, most_bytes}
+use Rattle.ioc_dbtext.specs.declared.texts.End.TheVariants.{Whole}
+use Rattle.ioc_dbtext.specs.declared.lines.Quoting.TheVariants.{Outside}
+use Rattle.ioc_dbtext.specs.Lines.{begins_with, uncommented, without_end, lines_of, line_text}
+use Rattle.ioc_dbtext.specs.Lexing.{Lexeme, is_sign}
+use Rattle.ioc_dbtokens.specs.Tokens.{tokens_of}
+use Rattle.ioc_dbtext.specs.Texts.{Expansion, expansion, most_bytes}
 use Rattle.ioc_dbfile.specs.Rules.{Rules}
 use Rattle.ioc_dbfile.specs.Statements.{filled}
 use Rattle.ioc_dbfile.specs.Loading.{filled_by}

@@ -3,18 +3,19 @@ use Rattle.std.proofs.Common.{◌≡◌, ℕ, zero, suc, ◌+◌, ◌≤◌, ◌
 use Rattle.ioc_values.specs.declared.error.BadDbKind.TheVariants as kinds
 use Rattle.ioc_fields.specs.declared.record_type.RecordType.{RecordType}
 use Rattle.ioc_fields.specs.declared.field_no.FieldNo.{FieldNo}
-use Rattle.ioc_dbfile.specs.declared.token.TokenKind.TheVariants.{Sign, Word, Quoted}
+use Rattle.ioc_dbtext.specs.declared.token.TokenKind.TheVariants.{Sign, Word, Quoted}
 use Rattle.ioc_dbfile.specs.declared.fault.DbFault.{DbFault}
-use Rattle.ioc_dbfile.specs.Bytes.{escapes, is_word_byte}
-use Rattle.ioc_dbfile.specs.Lines.{lines_of, line_text}
-use Rattle.ioc_dbfile.specs.Lexing.{Lexeme, is_sign, tokens_before, tokens_of}
-use Rattle.ioc_dbfile.specs.Texts.{Expansion, expansion, most_bytes}
-use Rattle.ioc_dbfile.specs.Escapes.{escaped_byte, piece_of, unescaped_from}
+use Rattle.ioc_dbtext.specs.Bytes.{escapes, is_word_byte}
+use Rattle.ioc_dbtext.specs.Lines.{lines_of, line_text}
+use Rattle.ioc_dbtext.specs.Lexing.{Lexeme, is_sign}
+use Rattle.ioc_dbtokens.specs.Tokens.{tokens_before, tokens_of}
+use Rattle.ioc_dbtext.specs.Texts.{Expansion, expansion, most_bytes}
+use Rattle.ioc_dbtokens.specs.Escapes.{escaped_byte, piece_of, unescaped_from}
 use Rattle.ioc_dbfile.specs.Rules.{Rules}
 use Rattle.ioc_dbfile.specs.Statements.{at, next_at, expect, value_at, field_at, set_at, setting_at, entry_at, repeated, body_at, type_at, name_at, record_at, statement_at, most_turns, filled}
 use Rattle.ioc_dbfile.specs.Loading.{filled_by}
 use Rattle.ioc_dbfile.specs.Spelling.{Each, is_space, is_plain, escaped_of, Setting, Statement, Piece, Call, Mark, Text, settings_pieces, pieces_of, with_gaps, spelled, PlainSettings, PlainStatements, Sets, Makes}
-use Rattle.ioc_dbfile.proofs.Turns.{tokens_nil}
+use Rattle.ioc_dbtokens.proofs.Turns.{tokens_nil}
 use Rattle.ioc_dbfile.proofs.Lexed.{Fine, all_plain, one_line, line_text_same}
 use Rattle.ioc_dbfile.proofs.Spelled.{lexeme, lexemes, pieces_tokens}
 

@@ -1,12 +1,13 @@
 -- The tokens of pieces with blanks.
 use Rattle.std.proofs.Common.{◌≡◌, ℕ, ◌+◌, Bool, true, false, cond, ◌||◌, eqb, List, [], ◌∷◌, ◌++◌, Some, refl, ap, ◌∙◌, inl, inr}
 use Rattle.std.proofs.lemmas.Bool.{cases_Bool, eqb-true}
-use Rattle.ioc_dbfile.specs.declared.token.TokenKind.{TokenKind}
-use Rattle.ioc_dbfile.specs.declared.token.TokenKind.TheVariants.{Sign, Word, Quoted}
-use Rattle.ioc_dbfile.specs.Bytes.{is_word_byte, word_of, behind_word, closes, escapes, quoted_of, behind_quoted, behind_gap}
-use Rattle.ioc_dbfile.specs.Lexing.{Lexeme, Cut, is_sign, is_fault, token_at, tokens_before}
+use Rattle.ioc_dbtext.specs.declared.token.TokenKind.{TokenKind}
+use Rattle.ioc_dbtext.specs.declared.token.TokenKind.TheVariants.{Sign, Word, Quoted}
+use Rattle.ioc_dbtext.specs.Bytes.{is_word_byte, word_of, behind_word, closes, escapes, quoted_of, behind_quoted, behind_gap}
+use Rattle.ioc_dbtext.specs.Lexing.{Lexeme, Cut, is_sign, is_fault, token_at}
+use Rattle.ioc_dbtokens.specs.Tokens.{tokens_before}
 use Rattle.ioc_dbfile.specs.Spelling.{Each, is_space, escaped_of, Piece, Call, Mark, Text, with_gaps}
-use Rattle.ioc_dbfile.proofs.Turns.{one_left, none_left}
+use Rattle.ioc_dbtokens.proofs.Turns.{one_left, none_left}
 use Rattle.ioc_dbfile.proofs.Lexed.{Fine, other_byte}
 
 -- a token on a line

@@ -3,7 +3,7 @@ use Rattle.std.specs.Prelude.{◌≡◌, ℕ, Bool, true, List, [], ◌∷◌, �
 use Rattle.ioc_values.specs.declared.error.BadDbKind.TheVariants as kinds
 use Rattle.ioc_dbfile.specs.declared.fault.DbFault.{DbFault}
 use Rattle.ioc_dbfile.specs.Rules.{Rules}
-use Rattle.ioc_dbfile.specs.Lexing.{Lexeme}
+use Rattle.ioc_dbtext.specs.Lexing.{Lexeme}
 use Rattle.ioc_dbfile.specs.Statements.{◌>>=◌, most_turns, statements_at, filled}
 use Rattle.ioc_dbfile.specs.Loading.{filled_by}
 

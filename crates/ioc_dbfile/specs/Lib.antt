@@ -1,11 +1,3 @@
-pub mod Bytes
-pub mod Lines
-pub mod Lexing
-pub mod Texts
-pub mod Seen
-pub mod SeenTexts
-pub mod SeenPlace
-pub mod Escapes
 pub mod Rules
 pub mod Errors
 pub mod Statements

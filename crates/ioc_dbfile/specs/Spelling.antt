@@ -4,7 +4,7 @@ use Rattle.std.specs.Prelude.{◌≡◌, ℕ, ◌+◌, ◌≤◌, Bool, true, no
 use Rattle.ioc_fields.specs.declared.record_type.RecordType.{RecordType}
 use Rattle.ioc_fields.specs.declared.field_no.FieldNo.{FieldNo}
 use Rattle.ioc_dbfile.specs.Rules.{Rules}
-use Rattle.ioc_dbfile.specs.Texts.{most_bytes}
+use Rattle.ioc_dbtext.specs.Texts.{most_bytes}
 use Rattle.ioc_dbfile.specs.Loading.{filled_by}
 
 -- field(F, V)

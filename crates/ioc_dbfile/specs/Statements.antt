@@ -6,13 +6,13 @@ use Rattle.ioc_values.specs.declared.error.BadDbKind.{BadDbKind}
 use Rattle.ioc_values.specs.declared.error.BadDbKind.TheVariants as kinds
 use Rattle.ioc_fields.specs.declared.record_type.RecordType.{RecordType}
 use Rattle.ioc_fields.specs.declared.field_no.FieldNo.{FieldNo}
-use Rattle.ioc_dbfile.specs.declared.token.TokenKind.{TokenKind}
-use Rattle.ioc_dbfile.specs.declared.token.TokenKind.TheVariants.{Sign, Word, Quoted, Fault}
+use Rattle.ioc_dbtext.specs.declared.token.TokenKind.{TokenKind}
+use Rattle.ioc_dbtext.specs.declared.token.TokenKind.TheVariants.{Sign, Word, Quoted, Fault}
 use Rattle.ioc_dbfile.specs.declared.fault.DbFault.{DbFault}
 use Rattle.ioc_dbfile.specs.declared.fault.LoadError.{LoadError}
 use Rattle.ioc_dbfile.specs.declared.fault.LoadError.TheVariants as errors
-use Rattle.ioc_dbfile.specs.Lexing.{Lexeme}
-use Rattle.ioc_dbfile.specs.Escapes.{unescaped_from}
+use Rattle.ioc_dbtext.specs.Lexing.{Lexeme}
+use Rattle.ioc_dbtokens.specs.Escapes.{unescaped_from}
 use Rattle.ioc_dbfile.specs.Rules.{Rules}
 
 -- a step, then what is made of what it gave

@@ -4,8 +4,8 @@ ghost use Rattle.ioc_dbfile.specs.Statements.{Gives, Fails, field_at, set_at, se
 
 use crate::builder::Builder;
 use crate::fault::LoadError;
-use crate::tokens::Tokens;
 use crate::words::{error_on, expect, fault, is_sign_of, is_word, next_at, text_of, value_at};
+use ioc_dbtokens::Tokens;
 use ioc_fields::FieldNo;
 use ioc_names::RecordNo;
 use ioc_values::BadDbKind;

@@ -5,35 +5,26 @@
 #![tactic(auto)]
 
 pub mod builder;
-mod bytes;
 pub mod database;
 pub mod database_builder;
 mod entries;
-mod escapes;
-mod expand;
 pub mod fault;
 mod finish;
 pub mod laws;
-mod lexer;
-mod lines;
 #[cfg(test)]
 mod load_tests;
 pub mod loading;
 pub mod macros;
 mod new_records;
-mod place;
 mod statements;
 #[cfg(test)]
 mod tests;
-mod texts;
-mod token;
-mod tokens;
 mod words;
 
 pub use builder::{BuildError, Builder};
 pub use database::Database;
 pub use database_builder::{DatabaseBuilder, MAX_RECORDS};
-pub use expand::MAX_BYTES;
 pub use fault::{DbFault, LoadError};
+pub use ioc_dbtext::MAX_BYTES;
 pub use loading::{fill_by_text, load};
 pub use macros::Macros;

@@ -8,11 +8,11 @@ ghost use Rattle.ioc_process.specs.Record.{record_rules, new_record};
 use crate::builder::Builder;
 use crate::database::Database;
 use crate::database_builder::DatabaseBuilder;
-use crate::expand::expand;
 use crate::fault::LoadError;
 use crate::macros::Macros;
 use crate::statements::fill;
-use crate::tokens::Tokens;
+use ioc_dbtext::expand;
+use ioc_dbtokens::Tokens;
 use std::alloc::Global;
 
 /// Fills a database by a text, or says what the first fault in the text is, and on which line.

@@ -5,8 +5,8 @@ ghost use Rattle.ioc_dbfile.specs.Statements.{Gives, Fails, type_at, name_at, re
 use crate::builder::{BuildError, Builder};
 use crate::entries::body_at;
 use crate::fault::LoadError;
-use crate::tokens::Tokens;
 use crate::words::{expect, fault, is_word, name_line, next_at, refused_word, text_of, value_at};
+use ioc_dbtokens::Tokens;
 use ioc_fields::RecordType;
 use ioc_names::RecordNo;
 use ioc_values::BadDbKind;

@@ -1,14 +1,13 @@
 //! Single tokens of statements.
 ghost use Rattle.std.specs.Prelude.{◌≡◌, IfOk};
 ghost use Rattle.ioc_dbfile.specs.Errors.{error_on};
-ghost use Rattle.ioc_dbfile.specs.Seen.{seen};
+ghost use Rattle.ioc_dbtext.specs.SeenToken.{seen};
 ghost use Rattle.ioc_dbfile.specs.Statements.{Gives, Fails, at, next_at, is_sign_of, expect, is_value, value_at, is_bareword, is_word, text_of, name_line, is_left_out, refused_word};
 
 use crate::builder::BuildError;
-use crate::escapes::unescaped;
 use crate::fault::{DbFault, LoadError};
-use crate::token::{Token, TokenKind};
-use crate::tokens::Tokens;
+use ioc_dbtext::{Token, TokenKind};
+use ioc_dbtokens::{Tokens, unescaped};
 use ioc_values::BadDbKind;
 use std::alloc::{AllocError, Global};
 

@@ -1,9 +1,0 @@
--- The tokens from a place on.
-use Rattle.std.specs.Prelude.{List}
-use Rattle.ioc_dbfile.specs.declared.place.Place.{Place}
-use Rattle.ioc_dbfile.specs.Lexing.{Lexeme, tokens_at}
-use Rattle.ioc_dbfile.specs.Seen.{texts}
-
--- the tokens of what is left of the line, then those of the lines behind it
-abbrev pub tokens_of_place : Place → List Lexeme
-tokens_of_place p = tokens_at p.line p.rest.now (texts p.behind) p.end

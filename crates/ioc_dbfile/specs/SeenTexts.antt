@@ -1,7 +1,0 @@
--- What a clause sees of the texts of lines.
-use Rattle.ioc_dbfile.specs.declared.texts.Texts.{Texts}
-use Rattle.ioc_dbfile.specs.Texts.{Expansion, parts_of}
-
--- the texts, and what ended them
-abbrev pub expansion_of : Texts → Expansion
-expansion_of t = record { texts = parts_of t.lengths.items t.bytes.items; end = t.end }

@@ -1,0 +1,60 @@
+-- The texts of lines, line by line.
+use Rattle.std.proofs.Common.{◌≡◌, ℕ, ◌+◌, ◌-◌, ◌<◌, Bool, true, false, cond, eqb, List, [], ◌∷◌, ◌++◌, length, nat_lt, Some, None, refl, sym, ap, ◌∙◌, append_assoc, append-nil, arith}
+use Rattle.std.proofs.lemmas.Bool.{eqb-true}
+use Rattle.ioc_dbtext.specs.declared.texts.End.TheVariants.{Whole, BadMacro, TooLong}
+use Rattle.ioc_dbtext.specs.Lines.{lines_of, first_line, behind_line, line_text}
+use Rattle.ioc_dbtext.specs.Lexing.{begun_within}
+use Rattle.ioc_dbtext.specs.Texts.{parts_of, most_bytes, Expansion, onto_texts, last_text, expansion}
+use Rattle.ioc_dbtext.proofs.LineLemmas.{splits_off, line_whole, line_some}
+
+-- texts before others
+abbrev pub after : List (List ℕ) → Expansion → Expansion
+after front e = record { texts = front ++ e.texts; end = e.end }
+
+pub done : (front : List (List ℕ)) (room : ℕ) (rest : List ℕ) (total : Expansion) → eqb (length rest) 0 ≡ true → after front (expansion room (lines_of rest)) ≡ total → record { texts = front; end = Whole } ≡ total
+done front room [] total e h = ap (λ (ts : List (List ℕ)). let x : Expansion = record { texts = ts; end = Whole } in x) (sym (append-nil front)) ∙ h
+done front room (b ∷ bs) total e h = let none : length (b ∷ bs) ≡ 0 = eqb-true (length (b ∷ bs)) 0 e in absurd (omega arith)
+
+pub begins : (ns bs : List ℕ) (lines : List (List ℕ)) → ns ≡ [] → after (parts_of ns bs) (expansion most_bytes lines) ≡ expansion most_bytes lines
+begins ns bs lines e = rw e refl
+
+module _ (rest line behind : List ℕ) (some : eqb (length rest) 0 ≡ false) (line_is : line ≡ first_line rest) (behind_is : behind ≡ behind_line rest) where
+  off_by : (bs : List ℕ) → eqb (length bs) 0 ≡ false → (lines_of bs ≡ first_line bs ∷ lines_of (behind_line bs)) × (0 < length (first_line bs))
+  off_by [] h = absurd cc
+  off_by (b ∷ bs) h = (splits_off b bs, line_some b bs)
+
+  off : lines_of rest ≡ line ∷ lines_of behind
+  off = (off_by rest some).0 ∙ rw (← line_is, ← behind_is) refl
+
+  pub whole : length line + length behind ≡ length rest
+  whole = rw (line_is, behind_is) (line_whole rest)
+
+  pub some_line : 0 < length line
+  some_line = rw line_is (off_by rest some).1
+
+  module _ (front : List (List ℕ)) (room : ℕ) (total : Expansion) (so_far : after front (expansion room (lines_of rest)) ≡ total) where
+    split : after front (expansion room (line ∷ lines_of behind)) ≡ total
+    split = ap (λ (ls : List (List ℕ)). after front (expansion room ls)) (sym off) ∙ so_far
+
+    none_step : (t : Bool) (e : Expansion) → cond t (last_text room None) (onto_texts None e) ≡ record { texts = []; end = BadMacro }
+    none_step true e = refl
+    none_step false e = refl
+
+    -- a line without a text
+    pub stops : line_text line ≡ None → record { texts = front; end = BadMacro } ≡ total
+    stops e =
+        let k : expansion room (line ∷ lines_of behind) ≡ record { texts = []; end = BadMacro } = rw e (none_step (nat_lt room (length line)) (expansion (room - length line) (lines_of behind))) in
+        ap (λ (ts : List (List ℕ)). let x : Expansion = record { texts = ts; end = BadMacro } in x) (sym (append-nil front)) ∙ ap (after front) (sym k) ∙ split
+
+    -- the line on which the limit is passed
+    pub passes : (text : List ℕ) → line_text line ≡ Some text → nat_lt room (length line) ≡ true → record { texts = front ++ begun_within room text ∷ []; end = TooLong } ≡ total
+    passes text e p =
+        let k : expansion room (line ∷ lines_of behind) ≡ record { texts = begun_within room text ∷ []; end = TooLong } = rw (p, e) refl in
+        ap (after front) (sym k) ∙ split
+
+    -- a line, and those behind it
+    pub goes_on : (text : List ℕ) → line_text line ≡ Some text → nat_lt room (length line) ≡ false → after (front ++ text ∷ []) (expansion (room - length line) (lines_of behind)) ≡ total
+    goes_on text e p =
+        let left = expansion (room - length line) (lines_of behind) in
+        let k : expansion room (line ∷ lines_of behind) ≡ record { texts = text ∷ left.texts; end = left.end } = rw (p, e) refl in
+        ap (λ (ts : List (List ℕ)). let x : Expansion = record { texts = ts; end = left.end } in x) (append_assoc front (text ∷ []) left.texts) ∙ ap (after front) (sym k) ∙ split

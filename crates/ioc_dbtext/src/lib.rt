@@ -1,0 +1,21 @@
+//! The lines of a database text: what is left of each without its comment, its macros and its line end, all in
+//! one piece, and the token at the front of a line.
+//!
+//! EPICS Application Developer's Guide, "Database Definition".
+#![tactic(auto)]
+
+pub mod bytes;
+pub mod expansion;
+pub mod lexer;
+pub mod lines;
+pub mod texts;
+pub mod token;
+
+pub use bytes::{escapes, skip_gap};
+pub use expansion::{MAX_BYTES, expand};
+pub use lexer::{is_fault, token_at};
+pub use texts::{End, Texts};
+pub use token::{Token, TokenKind};
+
+#[cfg(test)]
+mod tests;

@@ -1,0 +1,4 @@
+pub mod Tokens
+pub mod SeenLines
+pub mod SeenPlace
+pub mod Escapes

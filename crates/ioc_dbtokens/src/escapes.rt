@@ -1,0 +1,70 @@
+//! What the bytes between double quotes stand for.
+ghost use Rattle.std.specs.Prelude.{◌≡◌, ◌++◌, false, OnOk, IfOk};
+ghost use Rattle.ioc_dbtext.specs.Bytes.{escapes};
+ghost use Rattle.ioc_dbtokens.specs.Escapes.{control_of, escaped_byte, piece_of, unescaped_from};
+
+use ioc_dbtext::escapes;
+use std::alloc::{AllocError, Global};
+
+/// What a backslash and this byte stand for in a field's value alone.
+#[tactic(auto, unfolding(crate::specs::Escapes::control_of))]
+fn control_of(b: u8) -> Option<u8>
+    ensures { result ≡ control_of b }
+{
+    match b {
+        b'\'' => Some(b'\''),
+        b'a' => Some(7),
+        b'b' => Some(8),
+        b't' => Some(b'\t'),
+        b'n' => Some(b'\n'),
+        b'v' => Some(11),
+        b'f' => Some(12),
+        b'r' => Some(b'\r'),
+        _ => None,
+    }
+}
+
+/// What a backslash and this byte stand for.
+#[tactic(auto, unfolding(crate::specs::Escapes::escaped_byte))]
+fn escaped_byte(in_value: bool, b: u8) -> Option<u8>
+    ensures { result ≡ escaped_byte in_value b }
+{
+    match b {
+        b'"' | b'\\' => Some(b),
+        _ => if in_value { control_of(b) } else { None },
+    }
+}
+
+/// Adds what one more byte stands for, and says whether a backslash stands before the next.
+#[tactic(auto, unfolding(crate::specs::Escapes::piece_of))]
+fn add_piece(text: &mut Vec<u8>, in_value: bool, escaped: bool, b: u8) -> Result<bool, AllocError>
+    ensures text { OnOk result (text.new.items ≡ text.old.items ++ piece_of in_value escaped b) }
+    ensures next { IfOk result (λ e. e ≡ escapes escaped b) }
+{
+    if escaped {
+        match escaped_byte(in_value, b) {
+            Some(c) => text.push(c)?,
+            None => text.extend_from_slice(&[b'\\', b])?,
+        }
+    } else if b != b'\\' {
+        text.push(b)?;
+    }
+    Ok(escapes(escaped, b))
+}
+
+/// What the bytes stand for: in a field's value, or in a name.
+pub fn unescaped(alloc: Global, in_value: bool, bytes: &[u8]) -> Result<Vec<u8>, AllocError>
+    ensures { IfOk result (λ v. v.items ≡ unescaped_from in_value false bytes.now) }
+{
+    let mut text = Vec::new(alloc);
+    let mut escaped = false;
+    let mut rest = bytes;
+    while let [first, after @ ..] = rest {
+        escaped = add_piece(&mut text, in_value, escaped, *first)?;
+        rest = after;
+    }
+    if escaped {
+        text.push(b'\\')?;
+    }
+    Ok(text)
+}

@@ -1,0 +1,16 @@
+//! The tokens of a database text, each with the line on which it begins, and what they say. The first fault that
+//! they have is itself the last token.
+//!
+//! EPICS Application Developer's Guide, "Database Definition".
+#![tactic(auto)]
+
+pub mod escapes;
+pub mod lines;
+pub mod place;
+pub mod tokens;
+
+pub use escapes::unescaped;
+pub use tokens::Tokens;
+
+#[cfg(test)]
+mod tests;

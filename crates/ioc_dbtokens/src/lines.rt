@@ -1,0 +1,10 @@
+//! Texts of lines that are still to come.
+ghost use Rattle.std.specs.Prelude.{◌≤◌, length, sum};
+
+/// Some of a database text's lines: one text behind the other, and the length of each in bytes.
+#[derive(Clone, Copy)]
+pub struct Lines<'a> {
+    pub bytes: &'a [u8],
+    pub lengths: &'a [usize],
+    ghost fits: { sum lengths.now ≤ length bytes.now },
+}
