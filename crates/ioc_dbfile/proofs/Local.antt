@@ -1,5 +1,5 @@
 -- Readers of tokens look at no token behind the one that they refuse.
-use Rattle.std.proofs.Common.{◌≡◌, ℕ, zero, suc, Bool, true, false, cond, List, [], ◌∷◌, ◌++◌, Option, Some, None, Result, Ok, Err, refl, codes}
+use Rattle.std.proofs.Common.{◌≡◌, ℕ, zero, suc, Bool, true, false, cond, List, [], ◌∷◌, ◌++◌, Option, Some, None, Result, Ok, Err, length, ◌+◌, ◌<◌, arith, length-append, sym, ◌∙◌, refl, codes}
 use Rattle.ioc_values.specs.declared.error.BadDbKind.{BadDbKind}
 use Rattle.ioc_values.specs.declared.error.BadDbKind.TheVariants as kinds
 use Rattle.ioc_fields.specs.declared.record_type.RecordType.{RecordType}
@@ -9,7 +9,8 @@ use Rattle.ioc_dbtext.specs.declared.token.TokenKind.TheVariants.{Sign, Word, Qu
 use Rattle.ioc_dbfile.specs.declared.fault.DbFault.{DbFault}
 use Rattle.ioc_dbtext.specs.Lexing.{Lexeme}
 use Rattle.ioc_dbfile.specs.Rules.{Rules}
-use Rattle.ioc_dbfile.specs.Statements.{◌>>=◌, at, on_line, or_fault, sound, next_at, is_sign_of, expect, is_value, value_at, is_word, text_of, field_at, set_at, setting_at, with_more, entry_at, repeated, and_others, body_at, type_at, named, name_line, name_at, record_at, refused_word, statement_at, filled, most_turns}
+use Rattle.ioc_dbfile.specs.Statements.{◌>>=◌, at, on_line, or_fault, sound, next_at, is_sign_of, expect, is_value, value_at, is_word, text_of, field_at, set_at, setting_at, with_more, entry_at, repeated, and_others, body_at, type_at, named, name_line, name_at, record_at, refused_word, statement_at, filled}
+use Rattle.ioc_dbfile.proofs.Shrinking.{turns_suffice}
 use Rattle.ioc_dbfile.proofs.Agreeing.{Agrees, both, refused, short, Refused, taken, ended, agrees_bind, refused_bind, refused_then, fault_stays}
 
 on_line_local : {A : Type 0} (line : ℕ) (r : Result A BadDbKind) → Agrees (λ x. x) (on_line line r) (on_line line r)
@@ -147,5 +148,7 @@ module _ (last last' : ℕ) (more : List Lexeme) where
 
     -- a fault that some tokens give is that of all tokens that begin so
     pub filled_local : (s : S) (ts : List Lexeme) (e : DbFault) → filled rules last s ts ≡ Err e → (e.kind ≡ kinds.OpenBody → ⊥) → filled rules last' s (ts ++ more) ≡ Err e
-    unfolding filled
-    filled_local s ts e i inside = fault_stays _ _ e (refused_then (λ r. r.0) (repeated_refused most_turns most_turns s ts)) i inside
+    filled_local s ts e i inside =
+        let all = length (ts ++ more) + 1 in
+        let few : length ts < all = omega (arith, length-append ts more) in
+        sym (turns_suffice rules last' s (ts ++ more) all (omega arith)) ∙ fault_stays _ _ e (refused_then (λ r. r.0) (repeated_refused all all s ts)) (turns_suffice rules last s ts all few ∙ i) inside

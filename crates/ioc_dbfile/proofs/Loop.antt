@@ -4,7 +4,7 @@ use Rattle.ioc_dbfile.specs.declared.fault.DbFault.{DbFault}
 use Rattle.ioc_dbfile.specs.declared.fault.LoadError.{LoadError}
 use Rattle.ioc_dbfile.specs.declared.fault.LoadError.TheVariants as errors
 use Rattle.ioc_dbtext.specs.Lexing.{Lexeme}
-use Rattle.ioc_dbfile.specs.Statements.{Fails, repeated}
+use Rattle.ioc_dbfile.specs.Statements.{◌>>=◌, Fails, Gives, repeated}
 
 module _ {S : Type 0} (step : S → List Lexeme → Result (Bool × S × List Lexeme) DbFault) (out : DbFault) (turns : ℕ) (total : Result (S × List Lexeme) DbFault) (i : ℕ) (s : S) (tokens : List Lexeme) where
   turn : i < turns → turns - i ≡ suc (turns - (i + 1))
@@ -33,3 +33,9 @@ module _ {S : Type 0} (step : S → List Lexeme → Result (Bool × S × List Le
       let k : turns - i ≡ 0 = omega arith in
       let one : repeated step out (turns - i) s tokens ≡ Err out = rw k refl in
       sym so_far ∙ one
+
+-- what was given, and what is made of it
+pub gives_then : {X Y Z : Type 0} (view : X → Y) (k : Y → Z) (r : Result X LoadError) (wanted : Result Y DbFault) → Gives view r wanted → Gives (λ x. k (view x)) r (wanted >>= λ y. Ok (k y))
+gives_then view k (Ok x) wanted h = rw h refl
+gives_then view k (Err errors.Memory) wanted h = tt
+gives_then view k (Err (errors.Fault f)) wanted h = rw h refl

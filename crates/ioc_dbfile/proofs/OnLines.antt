@@ -1,5 +1,5 @@
 -- Statements spelled on several lines read as these statements.
-use Rattle.std.proofs.Common.{◌≡◌, ℕ, ◌+◌, ◌-◌, ◌≤◌, ◌<◌, ◌^◌, true, false, ◌&&◌, eqb, nat_lt, List, [], ◌∷◌, ◌++◌, length, Some, Ok, refl, ap, ◌∙◌, arith, length-append, le-ltb}
+use Rattle.std.proofs.Common.{◌≡◌, ℕ, ◌+◌, ◌-◌, ◌≤◌, ◌<◌, true, false, ◌&&◌, eqb, nat_lt, List, [], ◌∷◌, ◌++◌, length, Some, Ok, refl, ap, ◌∙◌, arith, length-append, le-ltb}
 use Rattle.std.specs.List.{onto_first}
 use Rattle.ioc_dbtext.specs.declared.texts.End.TheVariants.{Whole}
 use Rattle.ioc_dbtext.specs.declared.lines.Quoting.TheVariants.{Outside}
@@ -13,7 +13,7 @@ use Rattle.ioc_dbfile.specs.Loading.{filled_by}
 use Rattle.ioc_dbfile.specs.Spelling.{Each, is_space, is_plain, escaped_of, Statement, Piece, Call, Mark, Text, pieces_of, with_gaps, PieceLine, on_lines, pieces_on, Spaced, PlainStatements, Makes}
 use Rattle.ioc_dbfile.proofs.Lexed.{Fine, other_byte, all_plain, no_comment, no_macro, not_feed, never}
 use Rattle.ioc_dbfile.proofs.Spelled.{lexemes, pieces_tokens}
-use Rattle.ioc_dbfile.proofs.Reading.{statements_count, statements_fine, pieces_length}
+use Rattle.ioc_dbfile.proofs.Reading.{statements_count, statements_fine}
 use Rattle.ioc_dbfile.proofs.Saying.{Says, says_append, tokens_said}
 
 -- ---- a plain line with its line feed
@@ -131,11 +131,6 @@ unfolding lexemes_on
 says_on n [] = refl
 says_on n (l ∷ ls) = says_append n l.pieces (pieces_on ls) (lexemes_on (n + 1) ls) (says_on (n + 1) ls)
 
-length-pieces_on : (ls : List PieceLine) → length (pieces_on ls) ≤ length (on_lines ls)
-length-pieces_on [] = omega arith
-length-pieces_on (l ∷ ls) =
-    omega (arith, length-pieces_on ls, pieces_length l.gaps 0 l.pieces, length-append l.pieces (pieces_on ls), length-append (with_gaps l.gaps 0 l.pieces) (10 ∷ on_lines ls))
-
 -- the form of statements that is spelled on lines reads as these statements
 pub spelled_on_lines : {S : Type 0} (rules : Rules S) (statements : List Statement) (lines : List PieceLine) (old new : S) → pieces_on lines ≡ pieces_of statements → Spaced lines → PlainStatements statements → length (on_lines lines) ≤ most_bytes → Makes rules statements old new
     → filled_by rules old (on_lines lines) ≡ Ok new
@@ -144,6 +139,5 @@ spelled_on_lines rules xs ls old new same spaced plain short makes =
     let fine = fine_lines ls (rw same (statements_fine xs plain)) in
     let all : expansion most_bytes (lines_of (on_lines ls)) ≡ record { texts = texts_on ls; end = Whole } = expanded most_bytes ls spaced fine short in
     let said : Says (pieces_of xs) (lexemes_on 1 ls) = rw (← same) (says_on 1 ls) in
-    let few : length (pieces_of xs) < 2 ^ 24 + 2 = rw (← same) (omega (arith, length-pieces_on ls)) in
     let e = expansion most_bytes (lines_of (on_lines ls)) in
-    ap (λ (x : Expansion). filled rules (length x.texts) old (tokens_of x.end 1 x.texts)) all ∙ ap (filled rules (length (texts_on ls)) old) (tokens_on 1 ls spaced fine) ∙ tokens_said rules (length (texts_on ls)) xs old new (lexemes_on 1 ls) few (statements_count xs) makes said
+    ap (λ (x : Expansion). filled rules (length x.texts) old (tokens_of x.end 1 x.texts)) all ∙ ap (filled rules (length (texts_on ls)) old) (tokens_on 1 ls spaced fine) ∙ tokens_said rules (length (texts_on ls)) xs old new (lexemes_on 1 ls) (statements_count xs) makes said

@@ -1,5 +1,5 @@
 -- Spelled statements read as these statements.
-use Rattle.std.proofs.Common.{◌≡◌, ℕ, zero, suc, ◌+◌, ◌≤◌, ◌<◌, ◌^◌, Bool, true, false, cond, ◌||◌, eqb, nat_lt, List, [], ◌∷◌, ◌++◌, length, Some, Result, Ok, refl, sym, ap, ◌∙◌, arith, codes, length-append, le-ltb}
+use Rattle.std.proofs.Common.{◌≡◌, ℕ, zero, suc, ◌+◌, ◌≤◌, ◌<◌, Bool, true, false, cond, ◌||◌, eqb, nat_lt, List, [], ◌∷◌, ◌++◌, length, Some, Result, Ok, refl, sym, ap, ◌∙◌, arith, codes, le-ltb}
 use Rattle.ioc_values.specs.declared.error.BadDbKind.TheVariants as kinds
 use Rattle.ioc_fields.specs.declared.record_type.RecordType.{RecordType}
 use Rattle.ioc_fields.specs.declared.field_no.FieldNo.{FieldNo}
@@ -12,10 +12,11 @@ use Rattle.ioc_dbtokens.specs.Tokens.{tokens_before, tokens_of}
 use Rattle.ioc_dbtext.specs.Texts.{Expansion, expansion, most_bytes}
 use Rattle.ioc_dbtokens.specs.Escapes.{escaped_byte, piece_of, unescaped_from}
 use Rattle.ioc_dbfile.specs.Rules.{Rules}
-use Rattle.ioc_dbfile.specs.Statements.{at, next_at, expect, value_at, field_at, set_at, setting_at, entry_at, repeated, body_at, type_at, name_at, record_at, statement_at, most_turns, filled}
+use Rattle.ioc_dbfile.specs.Statements.{at, next_at, expect, value_at, field_at, set_at, setting_at, entry_at, repeated, body_at, type_at, name_at, record_at, statement_at, filled}
 use Rattle.ioc_dbfile.specs.Loading.{filled_by}
-use Rattle.ioc_dbfile.specs.Spelling.{Each, is_space, is_plain, escaped_of, Setting, Statement, Piece, Call, Mark, Text, settings_pieces, pieces_of, with_gaps, spelled, PlainSettings, PlainStatements, Sets, Makes}
+use Rattle.ioc_dbfile.specs.Spelling.{Each, is_space, is_plain, escaped_of, Setting, Statement, Piece, Mark, settings_pieces, pieces_of, with_gaps, spelled, PlainSettings, PlainStatements, Sets, Makes}
 use Rattle.ioc_dbtokens.proofs.Turns.{tokens_nil}
+use Rattle.ioc_dbfile.proofs.Shrinking.{turns_suffice}
 use Rattle.ioc_dbfile.proofs.Lexed.{Fine, all_plain, one_line, line_text_same}
 use Rattle.ioc_dbfile.proofs.Spelled.{lexeme, lexemes, pieces_tokens}
 
@@ -85,9 +86,11 @@ module _ {S : Type 0} (rules : Rules S) (line last : ℕ) where
       let one = statement_read all s h.3 _ (lexemes line (pieces_of xs)) (record_read all line s h.2 x.type_name x.name h.0 h.1 _ h.4 h.5 ∙ body) in
       rw one (all_read all turns xs h.3 t (omega arith) (omega arith) h.7)
 
-  tokens_read : (xs : List Statement) (s t : S) → length (pieces_of xs) < 2 ^ 24 + 2 → length xs ≤ length (pieces_of xs) → Makes rules xs s t → filled rules last s (lexemes line (pieces_of xs)) ≡ Ok t
-  unfolding filled most_turns
-  tokens_read xs s t few fewer h = rw (all_read (2 ^ 24 + 2) (2 ^ 24 + 2) xs s t few (omega arith) h) refl
+  tokens_read : (xs : List Statement) (s t : S) → length xs ≤ length (pieces_of xs) → Makes rules xs s t → filled rules last s (lexemes line (pieces_of xs)) ≡ Ok t
+  tokens_read xs s t fewer h =
+      let ts = lexemes line (pieces_of xs) in
+      let all = length (pieces_of xs) + length ts + 1 in
+      sym (turns_suffice rules last s ts all (omega arith)) ∙ rw (all_read all all xs s t (omega arith) (omega arith) h) refl
 
 -- ---- the pieces of statements
 
@@ -115,15 +118,6 @@ statements_fine (x ∷ xs) h = (
   (h.0, (refl, (h.1, (refl, (refl, settings_fine x.settings (Mark 125 ∷ pieces_of xs) h.2 (refl, statements_fine xs h.3)))))),
 )
 
--- each piece has a byte at least
-pub pieces_length : (gaps : ℕ → List ℕ) (i : ℕ) (ps : List Piece) → length ps ≤ length (with_gaps gaps i ps)
-pieces_length gaps i [] = omega arith
-pieces_length gaps i (Call word ∷ ps) =
-    omega (arith, pieces_length gaps (i + 2) ps, length-append (gaps i) (word ++ (gaps (i + 1) ++ (40 ∷ with_gaps gaps (i + 2) ps))), length-append word (gaps (i + 1) ++ (40 ∷ with_gaps gaps (i + 2) ps)), length-append (gaps (i + 1)) (40 ∷ with_gaps gaps (i + 2) ps))
-pieces_length gaps i (Mark b ∷ ps) = omega (arith, pieces_length gaps (i + 1) ps, length-append (gaps i) (b ∷ with_gaps gaps (i + 1) ps))
-pieces_length gaps i (Text text ∷ ps) =
-    omega (arith, pieces_length gaps (i + 1) ps, length-append (gaps i) (34 ∷ escaped_of text ++ (34 ∷ with_gaps gaps (i + 1) ps)), length-append (escaped_of text) (34 ∷ with_gaps gaps (i + 1) ps))
-
 -- ---- the whole text
 
 abbrev tokens_of_expansion : Expansion → List Lexeme
@@ -149,5 +143,4 @@ spelled_is_read rules xs gaps old new spaces plain short makes =
     let text = with_gaps gaps 0 ps in
     let e = expansion most_bytes (lines_of text) in
     let tokens : tokens_of_expansion e ≡ lexemes 1 ps = one_text most_bytes text (all_plain gaps spaces 0 ps fine) (line_text_same gaps spaces ps fine) short ∙ pieces_tokens gaps spaces 1 [] 0 ps fine ∙ lexemes_nil (lexemes 1 ps) in
-    let few : length ps < 2 ^ 24 + 2 = omega (arith, pieces_length gaps 0 ps) in
-    ap (filled rules (length e.texts) old) tokens ∙ tokens_read rules 1 (length e.texts) xs old new few (statements_count xs) makes
+    ap (filled rules (length e.texts) old) tokens ∙ tokens_read rules 1 (length e.texts) xs old new (statements_count xs) makes

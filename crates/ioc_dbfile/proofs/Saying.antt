@@ -1,5 +1,5 @@
 -- Tokens of pieces, on whatever lines, read as statements.
-use Rattle.std.proofs.Common.{◌≡◌, ℕ, zero, suc, ◌+◌, ◌≤◌, ◌<◌, ◌^◌, true, false, List, [], ◌∷◌, ◌++◌, length, Some, Result, Ok, refl, ap, ◌∙◌, arith, codes}
+use Rattle.std.proofs.Common.{◌≡◌, ℕ, zero, suc, ◌+◌, ◌≤◌, ◌<◌, true, false, List, [], ◌∷◌, ◌++◌, length, Some, Result, Ok, refl, sym, ap, ◌∙◌, arith, codes}
 use Rattle.ioc_values.specs.declared.error.BadDbKind.TheVariants as kinds
 use Rattle.ioc_fields.specs.declared.record_type.RecordType.{RecordType}
 use Rattle.ioc_fields.specs.declared.field_no.FieldNo.{FieldNo}
@@ -7,8 +7,9 @@ use Rattle.ioc_dbtext.specs.declared.token.TokenKind.TheVariants.{Sign, Word, Qu
 use Rattle.ioc_dbfile.specs.declared.fault.DbFault.{DbFault}
 use Rattle.ioc_dbtext.specs.Lexing.{Lexeme}
 use Rattle.ioc_dbfile.specs.Rules.{Rules}
-use Rattle.ioc_dbfile.specs.Statements.{at, next_at, expect, value_at, field_at, set_at, setting_at, entry_at, repeated, body_at, type_at, name_at, record_at, statement_at, most_turns, filled}
+use Rattle.ioc_dbfile.specs.Statements.{at, next_at, expect, value_at, field_at, set_at, setting_at, entry_at, repeated, body_at, type_at, name_at, record_at, statement_at, filled}
 use Rattle.ioc_dbfile.specs.Spelling.{escaped_of, Setting, Statement, Piece, Call, Mark, Text, settings_pieces, pieces_of, Sets, Makes}
+use Rattle.ioc_dbfile.proofs.Shrinking.{turns_suffice}
 use Rattle.ioc_dbfile.proofs.Spelled.{lexeme, lexemes}
 use Rattle.ioc_dbfile.proofs.Reading.{again, settings_count}
 
@@ -73,6 +74,7 @@ module _ {S : Type 0} (rules : Rules S) (last : ℕ) where
       rw (i1, i2, i3, i4, i5, i6) (statement_said l all s filled _ body.0 (record_said a b c d e f all l s added x.type_name x.name kind number r6 p q ∙ body.1)) in
       rw one (all_said all turns xs filled t body.0 (omega arith) (omega arith) makes body.2)
 
-  pub tokens_said : (xs : List Statement) (s t : S) (ts : List Lexeme) → length (pieces_of xs) < 2 ^ 24 + 2 → length xs ≤ length (pieces_of xs) → Makes rules xs s t → Says (pieces_of xs) ts → filled rules last s ts ≡ Ok t
-  unfolding filled most_turns
-  tokens_said xs s t ts few fewer h k = rw (all_said (2 ^ 24 + 2) (2 ^ 24 + 2) xs s t ts few (omega arith) h k) refl
+  pub tokens_said : (xs : List Statement) (s t : S) (ts : List Lexeme) → length xs ≤ length (pieces_of xs) → Makes rules xs s t → Says (pieces_of xs) ts → filled rules last s ts ≡ Ok t
+  tokens_said xs s t ts fewer h k =
+      let all = length (pieces_of xs) + length ts + 1 in
+      sym (turns_suffice rules last s ts all (omega arith)) ∙ rw (all_said all all xs s t ts (omega arith) (omega arith) h k) refl

@@ -1,5 +1,5 @@
 -- Readers of tokens take at least one, so that no more turns are needed than there are tokens.
-use Rattle.std.proofs.Common.{◌≡◌, ℕ, zero, suc, ◌<◌, ◌≤◌, Bool, true, false, cond, List, [], ◌∷◌, length, Result, Ok, Err, refl, ap, ◌∙◌, codes, arith}
+use Rattle.std.proofs.Common.{◌≡◌, ℕ, zero, suc, ◌+◌, ◌<◌, ◌≤◌, Bool, true, false, cond, List, [], ◌∷◌, length, Result, Ok, Err, refl, ap, ◌∙◌, codes, arith}
 use Rattle.ioc_values.specs.declared.error.BadDbKind.{BadDbKind}
 use Rattle.ioc_values.specs.declared.error.BadDbKind.TheVariants as kinds
 use Rattle.ioc_fields.specs.declared.record_type.RecordType.{RecordType}
@@ -9,7 +9,7 @@ use Rattle.ioc_dbtext.specs.declared.token.TokenKind.TheVariants.{Sign, Word, Qu
 use Rattle.ioc_dbfile.specs.declared.fault.DbFault.{DbFault}
 use Rattle.ioc_dbtext.specs.Lexing.{Lexeme}
 use Rattle.ioc_dbfile.specs.Rules.{Rules}
-use Rattle.ioc_dbfile.specs.Statements.{◌>>=◌, at, on_line, or_fault, sound, next_at, is_sign_of, expect, is_value, value_at, is_word, text_of, field_at, set_at, setting_at, with_more, entry_at, repeated, and_others, body_at, type_at, named, name_line, name_at, record_at, refused_word, statement_at, statements_at, filled, most_turns}
+use Rattle.ioc_dbfile.specs.Statements.{◌>>=◌, at, on_line, or_fault, sound, next_at, is_sign_of, expect, is_value, value_at, is_word, text_of, field_at, set_at, setting_at, with_more, entry_at, repeated, and_others, body_at, type_at, named, name_line, name_at, record_at, refused_word, statement_at, statements_at, filled}
 
 -- a fault, or fewer tokens are left than this
 data Shrinks {A : Type 0} (n : ℕ) (rest : A → List Lexeme) : Result A DbFault → Type 0 where
@@ -184,7 +184,9 @@ module _ {S : Type 0} (rules : Rules S) (last : ℕ) where
       ap (λ (r : Result (Bool × S × List Lexeme) DbFault). r >>= and_others (repeated (statement_at rules p last) (at last kinds.OpenBody) k)) (statement_same p q s t ts a b)
       ∙ then_same _ _ (statement_shrinks last (length (t ∷ ts)) rules q s t ts (omega arith)) others
 
-  -- more turns than the database's reader has make nothing else of so few tokens
-  pub turns_suffice : (s : S) (tokens : List Lexeme) (turns : ℕ) → length tokens < most_turns → most_turns ≤ turns → (statements_at rules turns last s tokens >>= λ read. Ok read.0) ≡ filled rules last s tokens
+  -- any turns past the number of tokens make the same of them
+  pub turns_suffice : (s : S) (tokens : List Lexeme) (turns : ℕ) → length tokens < turns → (statements_at rules turns last s tokens >>= λ read. Ok read.0) ≡ filled rules last s tokens
   unfolding filled
-  turns_suffice s tokens turns a b = ap (λ (r : Result (S × List Lexeme) DbFault). r >>= λ read. Ok read.0) (all_same turns most_turns turns most_turns s tokens (omega arith) a (omega arith) a)
+  turns_suffice s tokens turns a =
+      let all = length tokens + 1 in
+      ap (λ (r : Result (S × List Lexeme) DbFault). r >>= λ read. Ok read.0) (all_same turns all turns all s tokens a (omega arith) a (omega arith))

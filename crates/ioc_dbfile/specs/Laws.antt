@@ -1,10 +1,10 @@
 -- Laws of the database grammar, in the user's words.
-use Rattle.std.specs.Prelude.{◌≡◌, ℕ, Bool, true, List, [], ◌∷◌, ◌++◌, Err, ◌==◌, ◌<◌, ◌≤◌, length, Ok}
+use Rattle.std.specs.Prelude.{◌≡◌, ℕ, Bool, true, List, [], ◌∷◌, ◌++◌, Err, ◌==◌, ◌<◌, length, Ok}
 use Rattle.ioc_values.specs.declared.error.BadDbKind.TheVariants as kinds
 use Rattle.ioc_dbfile.specs.declared.fault.DbFault.{DbFault}
 use Rattle.ioc_dbfile.specs.Rules.{Rules}
 use Rattle.ioc_dbtext.specs.Lexing.{Lexeme}
-use Rattle.ioc_dbfile.specs.Statements.{◌>>=◌, most_turns, statements_at, filled}
+use Rattle.ioc_dbfile.specs.Statements.{◌>>=◌, statements_at, filled}
 use Rattle.ioc_dbfile.specs.Loading.{filled_by}
 
 -- nothing, or the last byte is a line feed
@@ -23,7 +23,7 @@ abbrev pub FirstFaultGiven : {S : Type 0} → Rules S → Type 0
 FirstFaultGiven {S} rules =
     (s : S) (lines more : List ℕ) (fault : DbFault) → ends_line lines ≡ true → filled_by rules s lines ≡ Err fault → (fault.kind ≡ kinds.OpenBody → ⊥) → filled_by rules s (lines ++ more) ≡ Err fault
 
--- the bound on the turns of reading plays no part where there are fewer tokens: a text that is read has one a byte at most, and one that ends it
+-- any bound on the turns of reading that is past the number of tokens makes the same of them
 abbrev pub TurnsSuffice : {S : Type 0} → Rules S → Type 0
 TurnsSuffice {S} rules =
-    (last : ℕ) (s : S) (tokens : List Lexeme) (turns : ℕ) → length tokens < most_turns → most_turns ≤ turns → (statements_at rules turns last s tokens >>= λ read. Ok read.0) ≡ filled rules last s tokens
+    (last : ℕ) (s : S) (tokens : List Lexeme) (turns : ℕ) → length tokens < turns → (statements_at rules turns last s tokens >>= λ read. Ok read.0) ≡ filled rules last s tokens

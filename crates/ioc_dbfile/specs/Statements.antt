@@ -1,6 +1,6 @@
 -- The database that statements make, or the first fault.
 -- EPICS Application Developer's Guide, "Database Definition", "Record Instance Definition".
-use Rattle.std.specs.Prelude.{◌≡◌, ℕ, zero, suc, ◌+◌, ◌^◌, Bool, true, false, List, [], ◌∷◌, codes, Option, Some, None, Result, Ok, Err, nat_eq, ◌==◌, ◌&&◌, ◌||◌, if◌then◌else◌}
+use Rattle.std.specs.Prelude.{◌≡◌, ℕ, zero, suc, ◌+◌, length, Bool, true, false, List, [], ◌∷◌, codes, Option, Some, None, Result, Ok, Err, nat_eq, ◌==◌, ◌&&◌, ◌||◌, if◌then◌else◌}
 use Rattle.std.specs.Cmp.Lexicographic.{pointwise}
 use Rattle.ioc_values.specs.declared.error.BadDbKind.{BadDbKind}
 use Rattle.ioc_values.specs.declared.error.BadDbKind.TheVariants as kinds
@@ -119,10 +119,6 @@ unfoldable pub repeated : {S : Type 0} → (S → List Lexeme → Result (Bool �
 repeated step out zero s tokens = Err out
 repeated step out (suc turns) s tokens = step s tokens >>= and_others (repeated step out turns)
 
--- 2^24 + 2, more than a text of 16 MiB has tokens
-unfoldable pub most_turns : ℕ
-most_turns = 2 ^ 24 + 2
-
 module _ {S : Type 0} (rules : Rules S) where
   -- F of field(F, V)
   unfoldable pub field_at : ℕ → ℕ → S → List Lexeme → Result (FieldNo × List Lexeme) DbFault
@@ -209,6 +205,6 @@ module _ {S : Type 0} (rules : Rules S) where
   abbrev pub statements_at : ℕ → ℕ → S → List Lexeme → Result (S × List Lexeme) DbFault
   statements_at turns last s tokens = repeated (statement_at turns last) (at last kinds.OpenBody) turns s tokens
 
-  -- what these tokens make of a database, of a text whose last line is given
+  -- what these tokens make of a database, of a text whose last line is given: each turn but the last takes a token at least
   unfoldable pub filled : ℕ → S → List Lexeme → Result S DbFault
-  filled last s tokens = statements_at most_turns last s tokens >>= λ read. Ok read.0
+  filled last s tokens = statements_at (length tokens + 1) last s tokens >>= λ read. Ok read.0

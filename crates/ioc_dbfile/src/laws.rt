@@ -20,7 +20,8 @@ pub fn spelled_is_read<B: Builder>(_builder: &B)
     ensures on_lines { SpelledOnLinesIsRead B.rules }
 {}
 
-/// Reading takes no more turns than there are tokens, so its bound on them plays no part.
+/// Reading takes no more turns than there are tokens and one: more of them make the same. So the bound on the
+/// turns, of which each text has more than tokens, plays no part.
 #[tactic(auto, using(crate::proofs::Shrinking::turns_suffice))]
 pub fn turns_suffice<B: Builder>(_builder: &B)
     ensures { TurnsSuffice B.rules }

@@ -27,7 +27,9 @@ pub fn fill_by_text<B: Builder>(
 {
     let texts = expand(alloc, text)?;
     let mut tokens = Tokens::new(&texts);
-    fill(alloc, texts.lengths.len() as u64, builder, &mut tokens)
+    let last = texts.lengths.len() as u64;
+    let turns = texts.bytes.len() as u64 + 2;
+    fill(alloc, turns, last, builder, &mut tokens)
 }
 
 /// The database of a text.

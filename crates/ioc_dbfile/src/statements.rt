@@ -1,5 +1,5 @@
 //! The statements that tokens make.
-ghost use Rattle.std.specs.Prelude.{◌≡◌};
+ghost use Rattle.std.specs.Prelude.{◌≡◌, ◌<◌, length};
 ghost use Rattle.ioc_dbfile.specs.Statements.{Gives, Fails, type_at, name_at, record_at, statement_at, statements_at, filled};
 
 use crate::builder::{BuildError, Builder};
@@ -112,18 +112,17 @@ fn statements_at<B: Builder>(
     Err(fault(last, BadDbKind::OpenBody))
 }
 
-/// More than a text has tokens.
-const MAX_TURNS: u64 = (1 << 24) + 2;
-
-/// Fills a database by the statements that tokens make, of a text with this last line.
-#[tactic(auto, unfolding(crate::specs::Statements::filled, crate::specs::Statements::most_turns))]
+/// Fills a database by the statements that tokens make, of a text with this last line, in more turns than
+/// there are tokens.
 pub fn fill<B: Builder>(
     alloc: Global,
+    turns: u64,
     last: u64,
     builder: &mut B,
     tokens: &mut Tokens<'_>,
 ) -> Result<(), LoadError>
+    requires { length tokens.old < turns }
     ensures { Gives (λ _. builder.new) result (filled B.rules last builder.old tokens.old) }
 {
-    statements_at(alloc, MAX_TURNS, last, builder, tokens)
+    statements_at(alloc, turns, last, builder, tokens)
 }

@@ -54,7 +54,7 @@ at_shorter line (b ∷ bs) cut e =
     let k : token_by line b bs ≡ cut = cc in
     rw (← k) (omega (arith, by_shorter line b bs))
 
-first_shorter : (line : ℕ) (bs : List ℕ) (cut : Cut) → token_at line (behind_gap bs) ≡ Some cut → length cut.rest < length bs
+pub first_shorter : (line : ℕ) (bs : List ℕ) (cut : Cut) → token_at line (behind_gap bs) ≡ Some cut → length cut.rest < length bs
 first_shorter line bs cut e = omega (arith, at_shorter line (behind_gap bs) cut e, gap_le bs)
 
 chain_same : (o : Option Cut) (f g : List ℕ → List Lexeme) (more : List Lexeme) → ((cut : Cut) → o ≡ Some cut → f cut.rest ≡ g cut.rest) → chain o f more ≡ chain o g more

@@ -128,9 +128,10 @@ fn done<'a>(line: u64) -> Place<'a>
 }
 
 impl<'a> Tokens<'a> {
-    /// The tokens of some texts, of which the first is line 1.
+    /// The tokens of some texts, of which the first is line 1: no more than there are bytes, and one that ends them.
     pub fn new(texts: &'a Texts) -> Self
-        ensures { result ≡ tokens_of texts.now.end 1 (expansion_of texts.now).texts }
+        ensures tokens { result ≡ tokens_of texts.now.end 1 (expansion_of texts.now).texts }
+        ensures few { length result ≤ length texts.now.bytes.items + 1 }
     {
         let behind = Lines {
             bytes: texts.bytes.as_slice(),
