@@ -13,3 +13,4 @@ mod RulesLaws
 mod Stepping
 mod StepLaws
 mod Quieting
+mod QuietEvents

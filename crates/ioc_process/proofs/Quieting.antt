@@ -16,15 +16,15 @@ use Rattle.ioc_process.proofs.Alongside.{Guards, request-goes}
 use Rattle.ioc_process.proofs.RulesAllowed.{request-allowed}
 use Rattle.ioc_process.proofs.RulesLaws.{requested-leaves}
 
-module _ {R : Type 0} (k : RecordRules R) (lawful : IsLawful k) (w0 : World R) (is : IsClosed k w0) where
-  has-put_back : (w : World R) (n m : ℕ) (r : R) → Has w n → Has (put w n r) m → Has w m
-  unfolding put
-  has-put_back w n m r there has =
-      elim (eqb m n) as (λ b. eqb m n ≡ b → Has w m) [
-        | true ↦ λ e. let same : n ≡ m = grind (arith, common_steps) in subst (λ (q : ℕ). Has w q) same there
-        | false ↦ λ e. let apart : m ≢ n = grind (arith, common_steps) in grind (gets, arith, common_steps)
-      ] refl
+pub has-put_back : {R : Type 0} (w : World R) (n m : ℕ) (r : R) → Has w n → Has (put w n r) m → Has w m
+unfolding put
+has-put_back w n m r there has =
+    elim (eqb m n) as (λ b. eqb m n ≡ b → Has w m) [
+      | true ↦ λ e. let same : n ≡ m = grind (arith, common_steps) in subst (λ (q : ℕ). Has w q) same there
+      | false ↦ λ e. let apart : m ≢ n = grind (arith, common_steps) in grind (gets, arith, common_steps)
+    ] refl
 
+module _ {R : Type 0} (k : RecordRules R) (lawful : IsLawful k) (w0 : World R) (is : IsClosed k w0) where
   -- the records are those of w0, with the same links
   record Members (w v : World R) : Type 0 where
     same : w ≡ v

@@ -81,22 +81,35 @@ module _ {R : Type 0} (k : RecordRules R) where
     step-put w s field given r there is = step-there w (Put s field given) there ∙ ap (put_with k answers w s field) is
 
 module _ {R : Type 0} (k : RecordRules R) (lawful : IsLawful k) where
-  stored_targets : (r r' : R) (field : FieldNo) (value : Result Value IocError) → stored_if k r field value ≡ Ok r' → targets k r' ≡ targets k r
-  stored_targets r r' field (Ok v) is = let e : k.stored r field v ≡ r' = cc in subst (λ (x : R). targets k x ≡ targets k r) e (targets-stored k lawful r field v)
-  stored_targets r r' field (Err e) is = cc
+  -- the record after is that before with some value stored in the field
+  abbrev Stores : R → FieldNo → R → Type 0
+  Stores r field r' = (v : Value) × (k.stored r field v ≡ r')
 
-  allowed_targets : (b : Bool) (r r' : R) (field : FieldNo) (value : Result Value IocError) → cond b (stored_if k r field value) (Err NoMod) ≡ Ok r' → targets k r' ≡ targets k r
-  allowed_targets true r r' field value is = stored_targets r r' field value is
-  allowed_targets false r r' field value is = cc
+  stores : (r r' : R) (field : FieldNo) (value : Result Value IocError) → stored_if k r field value ≡ Ok r' → Stores r field r'
+  stores r r' field (Ok v) is = (v, cc)
+  stores r r' field (Err e) is = absurd cc
 
-  put_by_targets : (r r' : R) (field : FieldNo) (given : Input) (row : Option Row) → put_by k r field given row ≡ Ok r' → targets k r' ≡ targets k r
-  put_by_targets r r' field given Nothing_ is = cc
-  put_by_targets r r' field given (Some row) is = allowed_targets row.can_put r r' field (converted_input given (field_sort (k.states r) row.kind)) is
+  stores_allowed : (b : Bool) (r r' : R) (field : FieldNo) (value : Result Value IocError) → cond b (stored_if k r field value) (Err NoMod) ≡ Ok r' → Stores r field r'
+  stores_allowed true r r' field value is = stores r r' field value is
+  stores_allowed false r r' field value is = absurd cc
 
-  -- a put changes no link
-  put_targets : (r r' : R) (field : FieldNo) (given : Input) → put_field k r field given ≡ Ok r' → targets k r' ≡ targets k r
+  stores_by : (r r' : R) (field : FieldNo) (given : Input) (row : Option Row) → put_by k r field given row ≡ Ok r' → Stores r field r'
+  stores_by r r' field given Nothing_ is = absurd cc
+  stores_by r r' field given (Some row) is = stores_allowed row.can_put r r' field (converted_input given (field_sort (k.states r) row.kind)) is
+
+  put_stores : (r r' : R) (field : FieldNo) (given : Input) → put_field k r field given ≡ Ok r' → Stores r field r'
   unfolding put_field
-  put_targets r r' field given is = put_by_targets r r' field given (row_of (k.record_type r) field) is
+  put_stores r r' field given is = stores_by r r' field given (row_of (k.record_type r) field) is
+
+  -- a put changes no link, no active mark and nothing that is pending
+  put_targets : (r r' : R) (field : FieldNo) (given : Input) → put_field k r field given ≡ Ok r' → targets k r' ≡ targets k r
+  put_targets r r' field given is = let s = put_stores r r' field given is in subst (λ (x : R). targets k x ≡ targets k r) s.1 (targets-stored k lawful r field s.0)
+
+  pub put_active : (r r' : R) (field : FieldNo) (given : Input) → put_field k r field given ≡ Ok r' → (k.common r').active ≡ (k.common r).active
+  put_active r r' field given is = let s = put_stores r r' field given is in subst (λ (x : R). (k.common x).active ≡ (k.common r).active) s.1 (lawful.stored_active r field s.0)
+
+  pub put_pending : (r r' : R) (field : FieldNo) (given : Input) → put_field k r field given ≡ Ok r' → (k.common r').pending ≡ (k.common r).pending
+  put_pending r r' field given is = let s = put_stores r r' field given is in subst (λ (x : R). (k.common x).pending ≡ (k.common r).pending) s.1 (lawful.stored_pending r field s.0)
 
   pub keeps-put_field : (w : World R) (s : ℕ) (field : FieldNo) (given : Input) (r : R) → put_field k (at k w s) field given ≡ Ok r → Keeps k w (put w s r)
   keeps-put_field w s field given r is = keeps-put k w s r (put_targets (at k w s) r field given is)

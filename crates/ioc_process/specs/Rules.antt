@@ -25,7 +25,7 @@ use Rattle.ioc_record.specs.Links.{use_of}
 use Rattle.ioc_record.specs.Values.{read_as, converted_to}
 use Rattle.ioc_record.specs.Steps.{raised, inherited, blocked, unblocked, with_active, shown, waiting}
 use Rattle.ioc_record.specs.RecordRules.{RecordRules}
-use Rattle.ioc_process.specs.World.{World, Has, at, common_at, put, changed, used_one}
+use Rattle.ioc_process.specs.World.{World, Has, at, common_at, put, changed, used_one, IsClosed}
 
 module _ {R : Type 0} (k : RecordRules R) where
   -- s takes over the alarm of the record that its link names
@@ -168,3 +168,8 @@ module _ {R : Type 0} (k : RecordRules R) where
   -- between events: a record is active exactly where a completion of it is pending
   pub record IsQuiet (w : World R) : Type 0 where
     pub quiet : (n : ℕ) → Has w n → IsTrue (common_at k w n).active ↔ IsSome (common_at k w n).pending
+
+  -- what holds of a database between events: no link leaves it, and it is quiet
+  pub record IsSettled (w : World R) : Type 0 where
+    pub closed : IsClosed k w
+    pub quiet : IsQuiet w
