@@ -14,3 +14,4 @@ mod Stepping
 mod StepLaws
 mod Quieting
 mod QuietEvents
+mod LocalEvents

@@ -102,7 +102,7 @@ module _ {R : Type 0} (k : RecordRules R) (lawful : IsLawful k) where
   put_stores r r' field given is = stores_by r r' field given (row_of (k.record_type r) field) is
 
   -- a put changes no link, no active mark and nothing that is pending
-  put_targets : (r r' : R) (field : FieldNo) (given : Input) → put_field k r field given ≡ Ok r' → targets k r' ≡ targets k r
+  pub put_targets : (r r' : R) (field : FieldNo) (given : Input) → put_field k r field given ≡ Ok r' → targets k r' ≡ targets k r
   put_targets r r' field given is = let s = put_stores r r' field given is in subst (λ (x : R). targets k x ≡ targets k r) s.1 (targets-stored k lawful r field s.0)
 
   pub put_active : (r r' : R) (field : FieldNo) (given : Input) → put_field k r field given ≡ Ok r' → (k.common r').active ≡ (k.common r).active

@@ -1,0 +1,122 @@
+-- Events look at the records that links lead to, and change these alone.
+use Rattle.std.proofs.Common.{◌≡◌, ℕ, Bool, true, false, cond, List, Ok, Err, is_some, refl, sym, ap, subst, ◌∙◌}
+use Rattle.std.specs.Prelude.{Result, Contains}
+use Rattle.std.specs.FinMap.{contains_key}
+use Rattle.ioc_values.specs.declared.error.IocError.{IocError}
+use Rattle.ioc_values.specs.declared.error.IocError.TheVariants.{NoField}
+use Rattle.ioc_values.specs.declared.input.Input.{Input}
+use Rattle.ioc_fields.specs.declared.field_no.FieldNo.{FieldNo}
+use Rattle.ioc_fields.specs.Table.{row_of}
+use Rattle.ioc_device.specs.declared.Answer.{Answer}
+use Rattle.ioc_ledger.specs.declared.outcome.Outcome.TheVariants.{Reprocess}
+use Rattle.ioc_ledger.specs.Requests.{Requests, None, Request, first_outcome}
+use Rattle.ioc_record.specs.RecordRules.{RecordRules, targets}
+use Rattle.ioc_record.specs.Values.{text_of, put_field}
+use Rattle.ioc_record.specs.Laws.{IsLawful}
+use Rattle.ioc_process.specs.declared.reply.Reply.{Reply}
+use Rattle.ioc_process.specs.declared.reply.Reply.TheVariants.{Plain, Outcome as Outcome-reply, Shown}
+use Rattle.ioc_process.specs.World.{World, at, put}
+use Rattle.ioc_process.specs.Local.{Shut, Same, AgreeEvent, EventIsLocal}
+use Rattle.ioc_process.specs.Step.{Event, Get, Process, Put, Stepped, number_of, processes, outcome_reply, refused, told, after_put, put_with, stepped_there, stepped}
+use Rattle.ioc_process.proofs.Locality.{Along, guards, along, request-local}
+use Rattle.ioc_process.proofs.Stepping.{step-there, step-missing, put_targets}
+
+module _ {R : Type 0} (k : RecordRules R) (lawful : IsLawful k) (U : ℕ → Type 0) (answers : List Answer) where
+  abbrev made : World R → Reply → Requests → Stepped R
+  made w reply requests = record { world = w; reply = reply; requests = requests }
+
+  -- what came of an event goes on from where the two began
+  from-there : (w v mid other_mid : World R) (event other : Stepped R) → Along k U w v mid other_mid → AgreeEvent k U mid other_mid event other → AgreeEvent k U w v event other
+  from-there w v mid other_mid event other first rest = record {
+    same = rest.same;
+    reply = rest.reply;
+    requests = rest.requests;
+    shut = rest.shut;
+    spares = record { spared = λ n out. rest.spares.spared n out ∙ first.spares.spared n out };
+    other_spares = record { spared = λ n out. rest.other_spares.spared n out ∙ first.other_spares.spared n out };
+  }
+
+  module _ (w v : World R) (shut : Shut k U w) (same : Same k U w v) where
+    unchanged : (reply : Reply) (requests : Requests) → AgreeEvent k U w v (made w reply requests) (made v reply requests)
+    unchanged reply requests = record {
+      same = same;
+      reply = refl;
+      requests = refl;
+      shut = shut;
+      spares = record { spared = λ _ _. refl };
+      other_spares = record { spared = λ _ _. refl };
+    }
+
+    told-local : (s : ℕ) → U s → AgreeEvent k U w v (told k answers w s) (told k answers v s)
+    unfolding told
+    told-local s u =
+        let a = request-local k lawful U answers w v s shut same u in
+        record {
+          same = a.same;
+          reply = ap (λ (made : Requests). outcome_reply (first_outcome made)) a.requests;
+          requests = a.requests;
+          shut = a.shut;
+          spares = a.spares;
+          other_spares = a.other_spares;
+        }
+
+    -- a get of this record
+    abbrev shows : FieldNo → R → World R → Stepped R
+    shows field r x = cond (is_some (row_of (k.record_type r) field)) (made x (Shown (text_of k r field)) None) (refused x NoField)
+
+    shows-local : (field : FieldNo) (r : R) → AgreeEvent k U w v (shows field r w) (shows field r v)
+    shows-local field r =
+        elim (is_some (row_of (k.record_type r) field)) as (λ b. AgreeEvent k U w v (cond b (made w (Shown (text_of k r field)) None) (refused w NoField)) (cond b (made v (Shown (text_of k r field)) None) (refused v NoField))) [
+          | true ↦ unchanged _ _
+          | false ↦ unchanged _ _
+        ]
+
+    get-local : (s : ℕ) (field : FieldNo) → U s → AgreeEvent k U w v (stepped_there k answers w (Get s field)) (stepped_there k answers v (Get s field))
+    unfolding stepped_there
+    get-local s field u = subst (λ (r : R). AgreeEvent k U w v (shows field (at k w s) w) (shows field r v)) (same.records s u) (shows-local field (at k w s))
+
+    -- what follows a put, by whether the field processes the record and whether it is active
+    abbrev follows : ℕ → Bool → Bool → World R → Stepped R
+    follows s proc active x = cond proc (cond active (made x (Outcome-reply Reprocess) (Request Reprocess None None)) (told k answers x s)) (made x Plain None)
+
+    follows-local : (s : ℕ) → U s → (proc active : Bool) → AgreeEvent k U w v (follows s proc active w) (follows s proc active v)
+    follows-local s u true true = unchanged _ _
+    follows-local s u true false = told-local s u
+    follows-local s u false active = unchanged _ _
+
+    after-local : (s : ℕ) (field : FieldNo) → U s → AgreeEvent k U w v (after_put k answers w s field) (after_put k answers v s field)
+    unfolding after_put
+    after-local s field u =
+        subst (λ (r : R). AgreeEvent k U w v (follows s (processes (k.record_type (at k w s)) field) (k.common (at k w s)).active w) (follows s (processes (k.record_type r) field) (k.common r).active v))
+        (same.records s u) (follows-local s u _ _)
+
+  module _ (w v : World R) (shut : Shut k U w) (same : Same k U w v) where
+    put_with-local : (s : ℕ) (field : FieldNo) (given : Input) (result : Result R IocError) → U s → put_field k (at k w s) field given ≡ result
+        → AgreeEvent k U w v (put_with k answers w s field result) (put_with k answers v s field result)
+    put_with-local s field given (Ok r) u is =
+        let links : targets k r ≡ targets k (at k w s) = put_targets k lawful (at k w s) r field given is in
+        let both = (guards k U w v lawful).put (along k U w v shut same) s u r (λ target h. shut.shut s target u (subst (λ (l : List ℕ). Contains l target) links h)) in
+        from-there w v (put w s r) (put v s r) _ _ both (after-local (put w s r) (put v s r) both.shut both.same s field u)
+    put_with-local s field given (Err e) u is = unchanged w v shut same _ _
+
+    put-local : (s : ℕ) (field : FieldNo) (given : Input) → U s → AgreeEvent k U w v (stepped_there k answers w (Put s field given)) (stepped_there k answers v (Put s field given))
+    unfolding stepped_there
+    put-local s field given u =
+        subst (λ (r : R). AgreeEvent k U w v (put_with k answers w s field (put_field k (at k w s) field given)) (put_with k answers v s field (put_field k r field given)))
+        (same.records s u) (put_with-local s field given _ u refl)
+
+    process-local : (s : ℕ) → U s → AgreeEvent k U w v (stepped_there k answers w (Process s)) (stepped_there k answers v (Process s))
+    unfolding stepped_there
+    process-local s u = told-local w v shut same s u
+
+    there-local : (event : Event) → U (number_of event) → AgreeEvent k U w v (stepped_there k answers w event) (stepped_there k answers v event)
+    there-local (Get s field) u = get-local w v shut same s field u
+    there-local (Process s) u = process-local s u
+    there-local (Put s field given) u = put-local s field given u
+
+  pub event-local : EventIsLocal k U answers
+  event-local w v event shut same u both =
+      elim (contains_key w.records (number_of event)) as (λ b. contains_key w.records (number_of event) ≡ b → AgreeEvent k U w v (stepped k answers w event) (stepped k answers v event)) [
+        | true ↦ λ is. rw (step-there k answers w event is, step-there k answers v event (sym both ∙ is)) (there-local w v shut same event u)
+        | false ↦ λ is. rw (step-missing k answers w event is, step-missing k answers v event (sym both ∙ is)) (unchanged w v shut same _ _)
+      ] refl
