@@ -1,5 +1,5 @@
 -- A number that is printed in decimal is read again.
-use Rattle.std.proofs.Common.{◌≡◌, ℕ, suc, ◌+◌, ◌*◌, ◌≤◌, ◌<◌, Bool, true, false, cond, ◌&&◌, eqb, List, [], ◌∷◌, reverse, Option, Some, ℤ, pos, negsuc, refl, ap, ◌∙◌, arith}
+use Rattle.std.proofs.Common.{◌≡◌, ℕ, suc, ◌≤◌, ◌<◌, Bool, true, false, cond, ◌&&◌, eqb, List, [], ◌∷◌, reverse, Option, Some, None, ℤ, pos, negsuc, refl, ap, ◌∙◌, arith}
 use mathlib.Core.List.{reverse_aux}
 use Rattle.std.specs.List.{AllByRecursion}
 use Rattle.std.specs.Prelude.{FitsSigned}
@@ -7,13 +7,13 @@ use Rattle.std.specs.Int.{w64}
 use Rattle.std.proofs.lemmas.Int.{ints}
 use Rattle.std.specs.Fmt.{decimal, signed_decimal}
 use Rattle.std.specs.Char.{digit_value}
-use Rattle.std.specs.Str.Parse.{AllDigits, IsNumeral, digits_value, digits_value_after}
+use Rattle.std.specs.Str.Parse.{AllDigits, IsNumeral, digits_value}
 use Rattle.std.proofs.lemmas.Bool.{lt-ltb, ne_eqb}
 use Rattle.std.proofs.lemmas.Bool.Decides.{nat_tests}
 use Rattle.std.proofs.lemmas.List.{reverse-reverse}
 use Rattle.std.proofs.lemmas.Fmt.{decimal_is_IsNumeral}
 use Rattle.ioc_values.specs.Trim.{is_blank, skip_front, trimmed}
-use Rattle.ioc_values.specs.Number.{numeral, numeral_after, magnitude, signed, number_of}
+use Rattle.ioc_values.specs.Number.{numeral, all_digits, magnitude, signed, number_of}
 
 -- ---- nothing to trim
 
@@ -45,9 +45,12 @@ pub digits_solid : (tabs : Bool) (cs : List ℕ) → AllDigits 10 cs → IsSolid
 digits_solid tabs [] h = tt
 digits_solid tabs (c ∷ cs) h = (digit_solid tabs c (omega (arith, digit_range c h.0)), digits_solid tabs cs h.1)
 
-numeral_of_digits : (n : ℕ) (cs : List ℕ) → AllDigits 10 cs → numeral_after 10 n cs ≡ Some (digits_value_after 10 n cs)
-numeral_of_digits n [] h = refl
-numeral_of_digits n (c ∷ cs) h = rw (lt-ltb _ _ h.0) (numeral_of_digits (n * 10 + digit_value c) cs h.1)
+digits_all : (cs : List ℕ) → AllDigits 10 cs → all_digits 10 cs ≡ true
+digits_all [] h = refl
+digits_all (c ∷ cs) h = rw (lt-ltb _ _ h.0) (digits_all cs h.1)
+
+numeral_of_digits : (c : ℕ) (cs : List ℕ) → AllDigits 10 (c ∷ cs) → numeral 10 (c ∷ cs) ≡ Some (digits_value 10 (c ∷ cs))
+numeral_of_digits c cs h = ap (λ b. cond b (Some (digits_value 10 (c ∷ cs))) None) (digits_all (c ∷ cs) h)
 
 other_way : (b e : Bool) (x y z : Option ℕ) → e ≡ false → y ≡ z → cond (b && e) x y ≡ z
 other_way true e x y z is h = rw is h
@@ -56,10 +59,10 @@ other_way false e x y z is h = h
 pub magnitude_of_digits : (cs : List ℕ) → IsNumeral 10 cs → magnitude cs ≡ Some (digits_value 10 cs)
 unfolding magnitude
 magnitude_of_digits [] h = absurd (omega (arith, h.0))
-magnitude_of_digits (c ∷ []) h = numeral_of_digits 0 (c ∷ []) h.1
+magnitude_of_digits (c ∷ []) h = numeral_of_digits c [] h.1
 magnitude_of_digits (c ∷ d ∷ ds) h =
     let no_x : eqb d 120 ≡ false = ne_eqb d 120 (λ e. omega (arith, digit_range d h.1.1.0)) in
-    let plain : numeral 10 (c ∷ d ∷ ds) ≡ Some (digits_value 10 (c ∷ d ∷ ds)) = numeral_of_digits 0 (c ∷ d ∷ ds) h.1 in
+    let plain : numeral 10 (c ∷ d ∷ ds) ≡ Some (digits_value 10 (c ∷ d ∷ ds)) = numeral_of_digits c (d ∷ ds) h.1 in
     other_way (eqb c 48) (eqb d 120) (numeral 16 ds) (numeral 10 (c ∷ d ∷ ds)) _ no_x plain
 
 signed_of_digits : (cs : List ℕ) → IsNumeral 10 cs → signed cs ≡ Some (pos (digits_value 10 cs))

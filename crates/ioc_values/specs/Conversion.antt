@@ -1,6 +1,6 @@
 -- What a field makes of a value. Record Reference Manual, "Fields: data types"; Application Developer's Guide,
 -- "Database Access: conversion of field types".
-use Rattle.std.specs.Prelude.{ℕ, ◌^◌, Bool, true, false, List, map, ℤ, pos, negsuc, Option, Some, None, Result, Err, length, take, position, min, nat_eq, nat_lt, nat_le, ◌||◌, if◌then◌else◌}
+use Rattle.std.specs.Prelude.{ℕ, ◌^◌, Bool, true, false, List, map, ℤ, pos, negsuc, Option, Some, None, Result, Err, length, take, position, min, nat_eq, nat_lt, nat_le, if◌then◌else◌}
 use Rattle.std.specs.Fmt.{signed_decimal}
 use Rattle.std.specs.Option.{ok_or, option_and_then}
 use Rattle.std.specs.Cmp.Lexicographic.{pointwise}
@@ -14,7 +14,7 @@ use Rattle.ioc_values.specs.declared.kind.Range.{Range}
 use Rattle.ioc_values.specs.declared.kind.Range.TheVariants.{Long as LongRange, ULong as ULongRange, Short as ShortRange, UShort as UShortRange, UChar as UCharRange, Enum as EnumRange}
 use Rattle.ioc_values.specs.declared.value.Value.{Value}
 use Rattle.ioc_values.specs.declared.value.Value.TheVariants.{Long, ULong, Short, UShort, UChar, Enum, Text}
-use Rattle.ioc_values.specs.Number.{number_of}
+use Rattle.ioc_values.specs.Number.{is_within, number_of}
 
 -- the number that a value is; a text is none
 abbrev pub number_of_value : Value → Option ℤ
@@ -26,12 +26,7 @@ number_of_value (UChar n) = Some (pos n)
 number_of_value (Enum n) = Some (pos n)
 number_of_value (Text text) = None
 
--- from -limit to limit - 1
-abbrev pub is_within : ℕ → ℤ → Bool
-is_within limit (pos n) = nat_lt n limit
-is_within limit (negsuc n) = nat_lt n limit
-
--- a number in such a range
+-- a number from -limit to limit - 1
 abbrev pub signed_value : ℕ → (ℤ → Value) → ℤ → Option Value
 signed_value limit made z = if is_within limit z then Some (made z) else None
 
@@ -73,12 +68,14 @@ pub data FieldSort : Type 0 where
   Choices : List (List ℕ) → FieldSort
   States : List (List ℕ) → FieldSort
 
+-- the kind as the code has it, with its texts as lists of bytes
 unfoldable pub sort_of : Kind → FieldSort
 sort_of (NumberField range) = Numbers range
 sort_of TextField = Texts
 sort_of (MenuField choices) = Choices (map (λ c. c.now) choices.now)
 sort_of (StateField states) = States states.now
 
+-- a field that holds a text
 abbrev pub is_text : FieldSort → Bool
 is_text Texts = true
 is_text _ = false
@@ -107,15 +104,15 @@ converted (UChar n) sort = ok_or (of_number sort (pos n)) BadValue
 converted (Enum n) sort = ok_or (of_number sort (pos n)) BadValue
 converted (Text text) sort = ok_or (of_text sort text) BadValue
 
--- what it makes of a value that a script or a database spells
-unfoldable pub converted_text : List ℕ → FieldSort → Result Value IocError
-converted_text text sort = if is_text sort || nat_le (length text) 39 then converted (Text (take 39 text)) sort else Err BadValue
-
--- a value that a script or a database spells, as a caller gives it
+-- a value that a script or a database spells: where it has more than 39 bytes, the first 39, known to be cut
 unfoldable pub input_of : List ℕ → Input
 input_of text = if nat_le (length text) 39 then InputValue (Text (take 39 text)) else LongText (take 39 text)
 
--- what a field of the sort makes of a value that a caller gives
+-- what a field makes of a value that a caller gives: a cut text fits a text field alone
 unfoldable pub converted_input : Input → FieldSort → Result Value IocError
 converted_input (InputValue value) sort = converted value sort
 converted_input (LongText text) sort = if is_text sort then converted (Text text) sort else Err BadValue
+
+-- what it makes of a value that a script or a database spells
+unfoldable pub converted_text : List ℕ → FieldSort → Result Value IocError
+converted_text text sort = converted_input (input_of text) sort

@@ -1,22 +1,18 @@
 -- The number that a text writes: an optional sign, then decimal digits, or 0x and hexadecimal digits.
-use Rattle.std.specs.Prelude.{ℕ, Bool, true, false, ◌+◌, ◌*◌, ◌^◌, List, [], ◌∷◌, ℤ, pos, negsuc, neg_ℤ, Option, Some, None, option_map, ◌==◌, nat_lt, ◌&&◌, if◌then◌else◌}
+use Rattle.std.specs.Prelude.{ℕ, Bool, true, false, ◌^◌, List, [], ◌∷◌, ℤ, pos, negsuc, neg_ℤ, Option, Some, None, option_map, ◌==◌, nat_lt, ◌&&◌, if◌then◌else◌}
 use Rattle.std.specs.Char.{digit_value}
+use Rattle.std.specs.Str.Parse.{digits_value}
 use Rattle.ioc_values.specs.Trim.{is_blank, trimmed}
-
--- what the digits write behind those of n
-abbrev pub numeral_after : ℕ → ℕ → List ℕ → Option ℕ
-numeral_after radix n [] = Some n
-numeral_after radix n (c ∷ cs) = if nat_lt (digit_value c) radix then numeral_after radix (n * radix + digit_value c) cs else None
 
 -- each byte is a digit
 abbrev pub all_digits : ℕ → List ℕ → Bool
 all_digits radix [] = true
 all_digits radix (c ∷ cs) = nat_lt (digit_value c) radix && all_digits radix cs
 
--- what one digit or more write
+-- the number that one digit or more write
 abbrev pub numeral : ℕ → List ℕ → Option ℕ
 numeral radix [] = None
-numeral radix (c ∷ cs) = numeral_after radix 0 (c ∷ cs)
+numeral radix (c ∷ cs) = if all_digits radix (c ∷ cs) then Some (digits_value radix (c ∷ cs)) else None
 
 -- decimal digits, or 0x and hexadecimal digits
 unfoldable pub magnitude : List ℕ → Option ℕ
@@ -40,10 +36,14 @@ signed (c ∷ cs) =
 abbrev pub number_of : List ℕ → Option ℤ
 number_of text = signed (trimmed (is_blank false) text)
 
+-- from -limit to limit - 1
+abbrev pub is_within : ℕ → ℤ → Bool
+is_within limit (pos n) = nat_lt n limit
+is_within limit (negsuc n) = nat_lt n limit
+
 -- from -2^63 to 2^63 - 1
 abbrev pub fits_i64 : ℤ → Bool
-fits_i64 (pos n) = nat_lt n (2 ^ 63)
-fits_i64 (negsuc n) = nat_lt n (2 ^ 63)
+fits_i64 z = is_within (2 ^ 63) z
 
 -- a number of 64 bits
 abbrev pub within_i64 : Option ℤ → Option ℤ

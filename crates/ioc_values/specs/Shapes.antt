@@ -15,7 +15,7 @@ use Rattle.ioc_values.specs.declared.value.Value.TheVariants.{Long, ULong, Short
 use Rattle.ioc_values.specs.Number.{number_of}
 use Rattle.ioc_values.specs.Conversion.{FieldSort, Numbers, Texts, Choices, States, signed_value, unsigned_value, value_in, numbered, found_or_numbered, same_text, state_of, is_text, of_number, of_text, converted, converted_input}
 
--- a value of the range
+-- a value of the range's variant, whose type keeps it in range
 abbrev pub IsInRange : Range → Value → Type 0
 IsInRange LongRange v = (z : ℤ) × (v ≡ Long z)
 IsInRange ULongRange v = (n : ℕ) × (v ≡ ULong n)
@@ -24,7 +24,7 @@ IsInRange UShortRange v = (n : ℕ) × (v ≡ UShort n)
 IsInRange UCharRange v = (n : ℕ) × (v ≡ UChar n)
 IsInRange EnumRange v = (n : ℕ) × (v ≡ Enum n)
 
--- a value that a field of the sort can hold
+-- a value of the variant that a field of the sort holds; of choices, the number of one
 abbrev pub IsValueOf : FieldSort → Value → Type 0
 IsValueOf (Numbers range) v = IsInRange range v
 IsValueOf Texts v = (t : List ℕ) × (v ≡ Text t)
@@ -112,7 +112,3 @@ pub input_is : (given : Input) (sort : FieldSort) (v : Value) → converted_inpu
 unfolding converted_input
 input_is (InputValue value) sort v is = converted_is value sort v is
 input_is (LongText text) sort v is = long_is (is_text sort) text sort v is
-
--- and a constant
-pub constant_is : (sort : FieldSort) (z : ℤ) (v : Value) → of_number sort z ≡ Some v → IsValueOf sort v
-constant_is sort z v is = number_is sort z v is

@@ -7,7 +7,7 @@ ghost use Rattle.std.specs.Cmp.Lexicographic.{pointwise};
 ghost use Rattle.std.specs.Option.{ok_or, option_and_then};
 ghost use Rattle.std.specs.Fmt.{signed_decimal};
 ghost use Rattle.ioc_values.specs.Number.{number_of};
-ghost use Rattle.ioc_values.specs.Conversion.{sort_of, same_text, state_of, found_or_numbered, value_in, numbered, of_number, of_text, converted, converted_text};
+ghost use Rattle.ioc_values.specs.Conversion.{sort_of, same_text, state_of, found_or_numbered, value_in, numbered, of_number, of_text, converted};
 
 use crate::error::IocError;
 use crate::kind::{Kind, Range};
@@ -51,6 +51,7 @@ fn choice_of(choices: &[&'static str], text: &[u8]) -> Option<usize>
     place_of(choices, text)
 }
 
+/// The place of the text among the choices.
 fn place_of(choices: &[&'static str], text: &[u8]) -> Option<usize>
     ensures { result ≡ position (λ choice. pointwise nat_eq choice.now text.now) choices.now }
 {
@@ -145,22 +146,4 @@ pub fn convert(value: Value, kind: Kind<'_>) -> Result<Value, IocError>
         Value::Text(text) => of_text(kind, text),
     };
     made.ok_or(IocError::BadValue)
-}
-
-/// What a field of the kind makes of a value that a script or a database spells: a text field takes its first 39
-/// bytes.
-///
-/// # Errors
-///
-/// [`IocError::BadValue`] where the value doesn't convert or is out of range, or has more than 39 bytes and the
-/// field is no text.
-#[tactic(auto, unfolding(crate::specs::Conversion::converted_text))]
-pub fn convert_text(text: &[u8], kind: Kind<'_>) -> Result<Value, IocError>
-    ensures { result ≡ converted_text text.now (sort_of kind.entry) }
-{
-    if kind.is_text() || text.len() <= 39 {
-        convert(Value::Text(Text::cut(text)), kind)
-    } else {
-        Err(IocError::BadValue)
-    }
 }

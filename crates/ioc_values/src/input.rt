@@ -51,3 +51,17 @@ pub fn convert_input(input: Input, kind: Kind<'_>) -> Result<Value, IocError>
         }
     }
 }
+
+/// What a field of the kind makes of a value that a script or a database spells: a text field takes its first 39
+/// bytes.
+///
+/// # Errors
+///
+/// [`IocError::BadValue`] where the value doesn't convert or is out of range, or has more than 39 bytes and the
+/// field is no text.
+#[tactic(auto, unfolding(crate::specs::Conversion::converted_text))]
+pub fn convert_text(text: &[u8], kind: Kind<'_>) -> Result<Value, IocError>
+    ensures { result ≡ converted_text text.now (sort_of kind.entry) }
+{
+    convert_input(Input::from_text(text), kind)
+}

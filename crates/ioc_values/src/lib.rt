@@ -10,9 +10,9 @@ pub mod short;
 pub mod trim;
 pub mod value;
 
-pub use conversion::{convert, convert_text, of_number};
+pub use conversion::{convert, of_number};
 pub use error::{BadDbKind, IocError};
-pub use input::{Input, convert_input};
+pub use input::{Input, convert_input, convert_text};
 pub use kind::{Kind, Range};
 pub use short::{FieldName, Name, Short, Text};
 pub use value::{Finished, Value};

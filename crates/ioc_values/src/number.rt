@@ -8,7 +8,7 @@ ghost use Rattle.ioc_values.specs.Number.{numeral, magnitude, below, signed, wit
 use crate::trim::trim;
 
 /// What the digits write, where it is below 2^64.
-#[tactic(auto, using(crate::proofs::Numerals::numeral_past))]
+#[tactic(auto, using(crate::proofs::Numerals::numeral_past, crate::proofs::Numerals::numeral_is))]
 fn numeral(digits: &[u8], radix: u32) -> Option<u64>
     requires low { 2 ≤ radix }
     requires high { radix ≤ 36 }

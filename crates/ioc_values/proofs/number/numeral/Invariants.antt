@@ -1,5 +1,6 @@
 use Rattle.std.proofs.Common.{◌≡◌, ◌^◌, ◌<◌, length}
-use Rattle.ioc_values.specs.Number.{numeral, numeral_after, below}
+use Rattle.ioc_values.specs.Number.{numeral, below}
+use Rattle.ioc_values.proofs.Numerals.{numeral_after}
 use Rattle.ioc_values.proofs.number.numeral.Given as goal
 
 abbrev pub invariant-loop-rest : goal.invariant-loop-rest
