@@ -1,8 +1,6 @@
 -- The end of a load: it is decided where links lead, and constants are put.
 -- EPICS Application Developer's Guide, "Database Links" and "iocInit".
-use Rattle.std.specs.Prelude.{◌≡◌, ℕ, Bool, true, false, List, [], ◌∷◌, Option, Some, None, Result, Ok, Err, map, slice_get, if◌then◌else◌}
-use Rattle.ioc_values.specs.declared.error.IocError.{IocError}
-use Rattle.ioc_values.specs.declared.error.IocError.TheVariants as refusals
+use Rattle.std.specs.Prelude.{ℕ, Bool, true, false, List, [], ◌∷◌, Option, Some, None, Result, Ok, map, slice_get, if◌then◌else◌}
 use Rattle.ioc_names.specs.NameTable.{NameTable, number_of, no_names}
 use Rattle.ioc_links.specs.declared.link.Link.{Link}
 use Rattle.ioc_links.specs.declared.link.Link.TheVariants.{Database}
@@ -76,9 +74,3 @@ module _ {R : Type 0} (k : RecordRules R) where
   -- the database of a text, or its first fault
   unfoldable pub loaded_by : (RecordType → List ℕ → R) → List ℕ → Result (Loading R) DbFault
   loaded_by created text = filled_by (loading k created) (record { names = no_names; records = [] }) text >>= λ s. Ok (all_finished s)
-
--- a load gave this database, or this fault, or memory ran out
-abbrev pub Refuses : {R : Type 0} → IocError → Result (Loading R) DbFault → Type 0
-Refuses refusals.NoMemory wanted = Unit {0}
-Refuses (refusals.BadDb line kind) wanted = wanted ≡ Err (record { line = line; kind = kind })
-Refuses _ wanted = ⊥

@@ -15,8 +15,12 @@ use ioc_dbtext::expand;
 use ioc_dbtokens::Tokens;
 use std::alloc::Global;
 
-/// Fills a database by a text, or says what the first fault in the text is, and on which line.
-/// After an error the database is of no use.
+/// Fills a database by a text of at most [`MAX_BYTES`](crate::MAX_BYTES) bytes.
+///
+/// # Errors
+///
+/// [`LoadError::Fault`] with the line and the kind of the first fault in the text, and
+/// [`LoadError::Memory`] where a growth was refused; the database is of no use then.
 pub fn fill_by_text<B: Builder>(
     alloc: Global,
     text: &[u8],

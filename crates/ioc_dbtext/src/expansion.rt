@@ -63,7 +63,12 @@ fn add_text(bytes: &mut Vec<u8>, lengths: &mut Vec<usize>, text: &[u8]) -> Resul
     Ok(())
 }
 
-/// The texts of a database text's lines, up to the first that has none or that passes the limit.
+/// The texts of a database text's lines, up to the first that has none or that passes the limit of
+/// [`MAX_BYTES`]. Of that line the text ends behind the last token that begins before the limit.
+///
+/// # Errors
+///
+/// [`AllocError`] where a growth was refused.
 pub fn expand(alloc: Global, text: &[u8]) -> Result<Texts, AllocError>
     ensures { IfOk result (λ t. expansion_of t ≡ expansion most_bytes (lines_of text.now)) }
 {

@@ -4,9 +4,9 @@
 //! EPICS Application Developer's Guide, "Database Definition".
 #![tactic(auto)]
 
-pub mod bytes;
-pub mod expansion;
-pub mod lexer;
+mod bytes;
+mod expansion;
+mod lexer;
 pub mod lines;
 pub mod texts;
 pub mod token;

@@ -14,7 +14,7 @@ pub enum TokenKind {
     Fault(BadDbKind),
 }
 
-/// A token, and the line on which it begins.
+/// A token, and the line on which it begins, from 1 on.
 #[derive(Clone, Copy)]
 pub struct Token<'a> {
     pub line: u64,

@@ -44,7 +44,3 @@ pub takes_one : (line : ℕ) (rest : List ℕ) (behind : List (List ℕ)) (end :
     → tokens_at line rest behind end ≡ total → total ≡ cut.token ∷ tokens_at line cut.rest behind end
 takes_one line rest behind end total cut solid e f same =
     sym same ∙ one line rest behind end cut solid e ∙ ap (λ (t : Bool). cut.token ∷ cond t [] (tokens_at line cut.rest behind end)) f
-
-pub takes_front : (old new : List Lexeme) (o : Option Lexeme) → TakesToken old o new → o ≡ front_of old
-takes_front old new None t = sym (ap front_of t.0)
-takes_front old new (Some x) t = sym (ap front_of t)

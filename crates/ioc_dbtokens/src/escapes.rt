@@ -52,7 +52,11 @@ fn add_piece(text: &mut Vec<u8>, in_value: bool, escaped: bool, b: u8) -> Result
     Ok(escapes(escaped, b))
 }
 
-/// What the bytes stand for: in a field's value, or in a name.
+/// What the bytes between double quotes stand for: in a field's value, or in a name, which knows fewer escapes.
+///
+/// # Errors
+///
+/// [`AllocError`] where a growth was refused.
 pub fn unescaped(alloc: Global, in_value: bool, bytes: &[u8]) -> Result<Vec<u8>, AllocError>
     ensures { IfOk result (λ v. v.items ≡ unescaped_from in_value false bytes.now) }
 {
