@@ -5,6 +5,7 @@ use Rattle.std.specs.Cmp.Lexicographic.{slice_cmp}
 use Rattle.std.specs.FinMap.{FinMap, empty, get, insert, code}
 use Rattle.std.specs.Coded.{Coded, code_by, coded×, coded_list, coded_ℕ}
 
+-- which number each name has, and how many records there are
 pub record NameTable : Type 0 where
   pub numbers : FinMap (slice_cmp nat_cmp) ℕ
   pub count : ℕ
@@ -18,6 +19,7 @@ table_code =
 abbrev pub number_of : NameTable → List ℕ → Option ℕ
 number_of t name = get t.numbers name
 
+-- before the first record
 abbrev pub no_names : NameTable
 no_names = record { numbers = empty; count = 0 }
 

@@ -50,7 +50,7 @@ impl Names {
         self.count
     }
 
-    /// Are there no records?
+    /// Whether there are no records.
     pub fn is_empty(&self) -> bool
         ensures { IsTrue result ↔ (self.now.count ≡ 0) }
     {
@@ -69,7 +69,10 @@ impl Names {
     }
 
     /// A new record has this name, and the next number, from 0 on. No record has the name yet: see `find`.
-    /// Where memory is wanting nothing changes.
+    ///
+    /// # Errors
+    ///
+    /// [`AllocError`] where memory is wanting: nothing has changed then.
     pub fn add(&mut self, name: Name) -> Result<RecordNo, AllocError>
         requires free { number_of self.old name ≡ None }
         requires room { self.old.count < 2 ^ 64 - 1 }
@@ -84,7 +87,10 @@ impl Names {
     }
 
     /// The record of this number has this second name. No record has the name yet: see `find`.
-    /// Where memory is wanting nothing changes.
+    ///
+    /// # Errors
+    ///
+    /// [`AllocError`] where memory is wanting: nothing has changed then.
     pub fn alias(&mut self, number: RecordNo, alias: Name) -> Result<(), AllocError>
         requires free { number_of self.old alias ≡ None }
         requires known { number < self.old.count }
