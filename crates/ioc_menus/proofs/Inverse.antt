@@ -6,7 +6,11 @@ use Rattle.std.proofs.lemmas.Option.{slice_get_within}
 use Rattle.std.proofs.lemmas.Slice.Eq.{bytes_eq-Decides}
 use Rattle.std.specs.List.{slice_get, list_any, position_or_len}
 use Rattle.std.specs.Str.{bytes_eq}
-use Rattle.ioc_menus.specs.Distinct.{are_distinct}
+
+-- no text stands twice in the list
+abbrev pub are_distinct : List (List ℕ) → Bool
+are_distinct [] = true
+are_distinct (t ∷ ts) = not (list_any (λ u. bytes_eq t u) ts) && are_distinct ts
 
 or_false : (a b : Bool) → (a || b) ≡ false → (a ≡ false) × (b ≡ false)
 or_false true b e = cc

@@ -2,8 +2,8 @@
 use Rattle.std.proofs.Common.{◌≡◌, true, refl}
 use Rattle.ioc_menus.specs.declared.menu.Menu.{Menu}
 use Rattle.ioc_menus.specs.declared.menu.Menu.TheVariants.{Severity, Status, Scan, Priority, Pini, Omsl, Ivoa, Selm}
-use Rattle.ioc_menus.specs.Distinct.{are_distinct}
 use Rattle.ioc_menus.specs.Texts.{texts_of}
+use Rattle.ioc_menus.proofs.Inverse.{are_distinct}
 
 pub texts_distinct : (menu : Menu) → are_distinct (texts_of menu) ≡ true
 texts_distinct Severity = refl

@@ -1,3 +1,3 @@
-pub mod Distinct
+pub mod Laws
 pub mod Numbers
 pub mod Texts

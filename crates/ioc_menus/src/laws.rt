@@ -1,5 +1,5 @@
 //! Texts and numbers of choices belong together one to one.
-ghost use Rattle.ioc_menus.specs.Distinct.{IsInverse};
+ghost use Rattle.ioc_menus.specs.Laws.{IsInverse};
 
 use crate::menu::Menu;
 
