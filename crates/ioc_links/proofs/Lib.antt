@@ -3,3 +3,4 @@ pub mod Spelling
 pub mod Reprint
 pub mod Ends
 pub mod Parsed
+pub mod Digits

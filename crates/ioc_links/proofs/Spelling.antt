@@ -101,16 +101,13 @@ unfolding in_class
 some_space [] h = absurd cc
 some_space (b ∷ bs) h = none_of Digit refl (b ∷ bs) h
 
+space_among : (xs ys : List ℕ) → has_space (xs ++ ys) ≡ (has_space xs || has_space ys)
+space_among [] ys = refl
+space_among (x ∷ xs) ys = or_regroup (eqb x 32) (has_space xs) (has_space ys) (has_space (xs ++ ys)) (space_among xs ys)
+
 mantissa_space_at : (whole back : List ℕ) → (has_space whole || has_space (rest_of back)) ≡ true → mantissa_at whole back ≡ false
-unfolding in_class
-mantissa_space_at [] [] h = absurd cc
-mantissa_space_at (b ∷ bs) [] h = none_of Digit refl (b ∷ bs) (or_nil (has_space (b ∷ bs)) h)
-mantissa_space_at [] (p ∷ part) h = some_space part h
-mantissa_space_at (b ∷ bs) (p ∷ part) h =
-    elim (or_cases (has_space (b ∷ bs)) (has_space part) h) [
-      | inl is ↦ and_left (all_of Digit (b ∷ bs)) (all_of Digit part) (none_of Digit refl (b ∷ bs) is)
-      | inr is ↦ and_right (all_of Digit (b ∷ bs)) (all_of Digit part) (none_of Digit refl part is)
-    ]
+mantissa_space_at whole [] h = some_space whole (or_nil (has_space whole) h)
+mantissa_space_at whole (p ∷ part) h = some_space (whole ++ part) (space_among whole part ∙ h)
 
 mantissa_space : (bs : List ℕ) → has_space bs ≡ true → is_mantissa bs ≡ false
 unfolding is_mantissa in_class

@@ -31,13 +31,12 @@ abbrev pub is_some_of : Class → List ℕ → Bool
 is_some_of class [] = false
 is_some_of class (b ∷ bs) = all_of class (b ∷ bs)
 
--- digits, at least one, with or without one point
+-- digits, at least one, before and behind the point, if there is one
 abbrev pub mantissa_at : List ℕ → List ℕ → Bool
 mantissa_at whole [] = is_some_of Digit whole
-mantissa_at [] (point ∷ part) = is_some_of Digit part
-mantissa_at (b ∷ bs) (point ∷ part) = all_of Digit (b ∷ bs) && all_of Digit part
+mantissa_at whole (point ∷ part) = is_some_of Digit (whole ++ part)
 
--- cut at its first point
+-- digits, at least one, with or without one point
 unfoldable pub is_mantissa : List ℕ → Bool
 is_mantissa bs = mantissa_at (front_of Point bs) (back_of Point bs)
 

@@ -1,6 +1,6 @@
 //! The parts of link texts: decimal numbers, record names, field names.
 
-ghost use Rattle.std.specs.Prelude.{◌≡◌};
+ghost use Rattle.std.specs.Prelude.{◌≡◌, ◌++◌};
 ghost use Rattle.ioc_links.specs.Grammar.{without_sign, is_some_of, is_mantissa, is_float, is_record_name, is_field_name, named, target_at};
 
 use crate::class::{Class, all_of, split_at};
@@ -27,16 +27,25 @@ fn is_some_of(class: Class, bytes: &[u8]) -> bool
     all_of(class, bytes)
 }
 
+/// Whether there is a byte in either part, and each is of the class.
+fn is_some_of_both(class: Class, front: &[u8], back: &[u8]) -> bool
+    ensures { result ≡ is_some_of class (front.now ++ back.now) }
+{
+    match front {
+        [] => is_some_of(class, back),
+        [_, ..] => all_of(class, front) && all_of(class, back),
+    }
+}
+
 /// Whether the text is digits, at least one, with or without one point.
 #[tactic(auto, unfolding(crate::specs::Grammar::is_mantissa))]
 fn is_mantissa(text: &[u8]) -> bool
     ensures { result ≡ is_mantissa text.now }
 {
     let (whole, back) = split_at(Class::Point, text);
-    match (whole, back) {
-        (_, []) => is_some_of(Class::Digit, whole),
-        ([], [_, part @ ..]) => is_some_of(Class::Digit, part),
-        ([_, ..], [_, part @ ..]) => all_of(Class::Digit, whole) && all_of(Class::Digit, part),
+    match back {
+        [] => is_some_of(Class::Digit, whole),
+        [_, part @ ..] => is_some_of_both(Class::Digit, whole, part),
     }
 }
 
