@@ -9,6 +9,7 @@ pub data Requests : Type 0 where
   None : Requests
   Request : (outcome : Outcome) → (caused : Requests) → (later : Requests) → Requests
 
+-- requests, and others after them
 abbrev pub followed_by : Requests → Requests → Requests
 followed_by None others = others
 followed_by (Request outcome caused later) others = Request outcome caused (followed_by later others)
@@ -17,6 +18,7 @@ followed_by (Request outcome caused later) others = Request outcome caused (foll
 abbrev pub more : ℕ → ℕ
 more n = min (2 ^ 64 - 1) (n + 1)
 
+-- with one request counted: as begun, and by its outcome
 abbrev pub counted_one : Tally → Outcome → Tally
 counted_one t Processed = record t { begun = more t.begun; processed = more t.processed }
 counted_one t Disabled = record t { begun = more t.begun; disabled = more t.disabled }
