@@ -1,27 +1,22 @@
 -- The steps on a record's alarm fields. Record Reference Manual, "Alarm Fields".
-use Rattle.std.specs.Prelude.{ℕ, Bool, true, false, nat_lt, if◌then◌else◌}
+use Rattle.std.specs.Prelude.{Bool, true, false, nat_lt, if◌then◌else◌}
 use Rattle.ioc_menus.specs.declared.severity.Severity.{Severity}
-use Rattle.ioc_menus.specs.declared.severity.Severity.TheVariants.{NoAlarm as NoSeverity, Minor, Major, Invalid}
+use Rattle.ioc_menus.specs.declared.severity.Severity.TheVariants.{NoAlarm as NoSeverity, Invalid}
 use Rattle.ioc_menus.specs.declared.status.Status.{Status}
 use Rattle.ioc_menus.specs.declared.status.Status.TheVariants.{NoAlarm, Link}
+use Rattle.ioc_menus.specs.Numbers.{severity_number}
 use Rattle.ioc_links.specs.declared.link.Mode.{Mode}
 use Rattle.ioc_links.specs.declared.link.Mode.TheVariants.{Nms, Ms, Msi, Mss}
 use Rattle.ioc_alarms.specs.declared.alarms.Alarms.{Alarms}
 
--- how grave a severity is
-abbrev pub rank : Severity → ℕ
-rank NoSeverity = 0
-rank Minor = 1
-rank Major = 2
-rank Invalid = 3
-
+-- the gravest severity
 abbrev pub is_invalid : Severity → Bool
 is_invalid Invalid = true
 is_invalid _ = false
 
--- an alarm takes effect where it is graver than those raised before
+-- an alarm takes effect where it is graver than those raised before: a graver severity has a greater number
 abbrev pub takes_effect : Severity → Alarms → Bool
-takes_effect severity a = nat_lt (rank a.new_severity) (rank severity)
+takes_effect severity a = nat_lt (severity_number a.new_severity) (severity_number severity)
 
 -- with an alarm raised, where it takes effect
 unfoldable pub raised : Status → Severity → Alarms → Alarms
@@ -34,7 +29,7 @@ raised status severity a =
 unfoldable pub settled : Alarms → Alarms
 settled a = record { status = a.new_status; severity = a.new_severity; new_status = NoAlarm; new_severity = NoSeverity }
 
--- the alarm of another record is taken over by the mode of the link
+-- the alarm of another record is taken over by the mode of the link. Record Reference Manual, "Link types: maximize severity attribute"
 unfoldable pub inherited : Mode → Status → Severity → Alarms → Alarms
 inherited Nms _ _ a = a
 inherited Ms _ severity a = raised Link severity a

@@ -34,7 +34,7 @@ limit_tests value last l =
 unfoldable pub first_reached : ℤ → ℤ → Limits → Option ReachedLimit
 first_reached value last l = first_that_holds (limit_tests value last l)
 
--- with the alarm of a limit raised; LALM becomes the limit where the alarm took effect
+-- with the alarm of a limit that is reached raised: LALM becomes the limit where the alarm took effect, else it stays. Where no limit is reached LALM becomes the value
 abbrev pub limited_by : ℤ → ℤ → Option ReachedLimit → Alarms → Alarms × ℤ
 limited_by value last None a = (a, value)
 limited_by value last (Some r) a = (raised r.status r.severity a, if takes_effect r.severity a then r.limit else last)

@@ -23,7 +23,7 @@ impl Alarms {
     pub fn takes_effect(&self, severity: Severity) -> bool
         ensures { result ≡ takes_effect severity self.now }
     {
-        severity as u8 > self.new_severity as u8
+        severity.number() > self.new_severity.number()
     }
 
     /// Raises an alarm, which takes effect where it is graver than those raised before.
