@@ -1,5 +1,6 @@
 -- The values that fields have before anything sets them. Record Reference Manual, "Fields Common to All Record Types", column "Default".
 use Rattle.std.specs.Prelude.{Option, Some, None, [], pos}
+use Rattle.std.specs.Option.{option_and_then}
 use Rattle.ioc_values.specs.declared.kind.Range.TheVariants as range
 use Rattle.ioc_values.specs.declared.value.Value.{Value}
 use Rattle.ioc_values.specs.declared.value.Value.TheVariants as value
@@ -25,12 +26,8 @@ zero_of (Menu menu) = Some (value.Enum 0)
 zero_of State = Some (value.Enum 0)
 zero_of (Link role) = None
 
-abbrev pub zero_in : Option FieldKind → Option Value
-zero_in None = None
-zero_in (Some kind) = zero_of kind
-
--- the value of a field that no database text has set
+-- the value of a field that no database text has set: UDF is 1, UDFS is INVALID, every other one is 0 or empty
 unfoldable pub default_of : RecordType → FieldNo → Option Value
 default_of type Udf = Some (value.UChar 1)
 default_of type Udfs = Some (value.Enum (severity_number Invalid))
-default_of type field = zero_in (kind_of type field)
+default_of type field = option_and_then zero_of (kind_of type field)

@@ -1,5 +1,6 @@
 -- The field tables. Record Reference Manual, "Fields Common to All Record Types" and "Long Input Record".
 use Rattle.std.specs.Prelude.{Bool, false, Option, Some, None}
+use Rattle.std.specs.Option.{option_or, option_map, option_map_or}
 use Rattle.ioc_values.specs.declared.kind.Range.TheVariants.{Long, UChar}
 use Rattle.ioc_menus.specs.declared.menu.Menu.TheVariants as menu
 use Rattle.ioc_fields.specs.declared.field_kind.FieldKind.{FieldKind}
@@ -37,39 +38,26 @@ longin_row _ = None
 unfoldable pub own_row : RecordType → FieldNo → Option Row
 own_row Longin field = longin_row field
 
--- the first of two answers
-abbrev pub or_else : Option Row → Option Row → Option Row
-or_else (Some row) _ = Some row
-or_else None other = other
-
--- the row of a field, where the type has it
+-- the row of a field, where the type has it: that of a field that every record has, or one of the type's own
 unfoldable pub row_of : RecordType → FieldNo → Option Row
-row_of type field = or_else (common_row field) (own_row type field)
-
-abbrev pub kind_in : Option Row → Option FieldKind
-kind_in None = None
-kind_in (Some row) = Some row.kind
+row_of type field = option_or (common_row field) (own_row type field)
 
 -- what a field holds, where the type has it
 abbrev pub kind_of : RecordType → FieldNo → Option FieldKind
-kind_of type field = kind_in (row_of type field)
-
-abbrev pub flag_in : (Row → Bool) → Option Row → Bool
-flag_in flag None = false
-flag_in flag (Some row) = flag row
+kind_of type field = option_map (λ row. row.kind) (row_of type field)
 
 -- a put to the field processes a passive record
 abbrev pub is_process_passive : RecordType → FieldNo → Bool
-is_process_passive type field = flag_in (λ row. row.is_process_passive) (row_of type field)
+is_process_passive type field = option_map_or (λ row. row.is_process_passive) (row_of type field) false
 
 -- clients and links may put the field
 abbrev pub can_put : RecordType → FieldNo → Bool
-can_put type field = flag_in (λ row. row.can_put) (row_of type field)
+can_put type field = option_map_or (λ row. row.can_put) (row_of type field) false
 
 -- a database text may set the field
 abbrev pub can_set : RecordType → FieldNo → Bool
-can_set type field = flag_in (λ row. row.can_set) (row_of type field)
+can_set type field = option_map_or (λ row. row.can_set) (row_of type field) false
 
 -- the field is kept, and nothing looks at it
 abbrev pub is_kept_only : RecordType → FieldNo → Bool
-is_kept_only type field = flag_in (λ row. row.is_kept_only) (row_of type field)
+is_kept_only type field = option_map_or (λ row. row.is_kept_only) (row_of type field) false
