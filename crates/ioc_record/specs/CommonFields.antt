@@ -27,19 +27,22 @@ common_get c Lcnt = Some (value.UChar c.lock_count)
 common_get c Pact = Some (value.UChar (if c.active then 1 else 0))
 common_get c _ = None
 
--- with UDF, UDFS or PROC set
+-- with UDF set to a converted value
 abbrev pub undefined_set : Common → Value → Common
 undefined_set c (value.UChar n) = record c { undefined = n }
 undefined_set c _ = c
 
+-- with UDFS set to a severity, if there is one
 abbrev pub severity_set : Common → Option Severity → Common
 severity_set c None = c
 severity_set c (Some severity) = record c { undefined_severity = severity }
 
+-- with UDFS set to the choice of a number
 abbrev pub undefined_severity_set : Common → Value → Common
 undefined_severity_set c (value.Enum n) = severity_set c (slice_get severities n)
 undefined_severity_set c _ = c
 
+-- with PROC set to a converted value
 abbrev pub process_set : Common → Value → Common
 process_set c (value.UChar n) = record c { process = n }
 process_set c _ = c

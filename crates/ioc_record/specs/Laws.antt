@@ -1,15 +1,17 @@
--- The laws of a record type.
-use Rattle.std.specs.Prelude.{◌≡◌, ◌≢◌, Bool, true, false, [], Option, Some, Contains, Ok, filter, is_some}
+-- What a new record is, and the laws of a record type.
+use Rattle.std.specs.Prelude.{◌≡◌, ◌≢◌, ℕ, List, Bool, true, false, [], Option, Some, Contains, Ok, filter, is_some}
 use Rattle.ioc_values.specs.declared.input.Input.{Input}
 use Rattle.ioc_values.specs.declared.value.Value.{Value}
 use Rattle.ioc_values.specs.declared.value.Finished.{Finished}
 use Rattle.ioc_values.specs.Conversion.{converted_input}
 use Rattle.ioc_fields.specs.declared.field_no.FieldNo.{FieldNo}
+use Rattle.ioc_fields.specs.declared.field_no.FieldNo.TheVariants.{Name}
 use Rattle.ioc_fields.specs.declared.field_kind.FieldKind.{FieldKind}
 use Rattle.ioc_fields.specs.declared.field_kind.FieldKind.TheVariants as kind
 use Rattle.ioc_fields.specs.declared.record_type.RecordType.{RecordType}
 use Rattle.ioc_fields.specs.Names.{all_fields}
 use Rattle.ioc_fields.specs.Table.{kind_of, can_put}
+use Rattle.ioc_fields.specs.Defaults.{default_of}
 use Rattle.ioc_record.specs.declared.common.Common.{Common}
 use Rattle.ioc_record.specs.declared.link_field.LinkField.{LinkField}
 use Rattle.ioc_record.specs.declared.link_field.LinkUse.TheVariants.{Standing}
@@ -17,10 +19,11 @@ use Rattle.ioc_record.specs.declared.link_field.Target.{Target}
 use Rattle.ioc_record.specs.declared.body.Want.TheVariants.{ReadLink}
 use Rattle.ioc_record.specs.declared.body.Got.{Got}
 use Rattle.ioc_record.specs.declared.body.Output.TheVariants.{WriteLink, WriteDevice}
-use Rattle.ioc_record.specs.Links.{use_of}
+use Rattle.ioc_record.specs.Links.{no_link, use_of}
 use Rattle.ioc_record.specs.RecordRules.{RecordRules, targets}
 use Rattle.ioc_record.specs.Values.{sort_at}
 
+-- a kind of fields that hold links
 abbrev pub is_link_kind : Option FieldKind → Bool
 is_link_kind (Some (kind.Link role)) = true
 is_link_kind _ = false
@@ -29,8 +32,16 @@ is_link_kind _ = false
 abbrev pub is_link : RecordType → FieldNo → Bool
 is_link type field = is_link_kind (kind_of type field)
 
+-- a new record of this name: its links are empty, and every other field but NAME has its default.
+-- Record Reference Manual, "Fields Common to All Record Types", column "Default"
+pub record IsNew {R : Type 0} (k : RecordRules R) (name : List ℕ) (r : R) : Type 0 where
+  pub named : (k.common r).name ≡ name
+  pub values : (f : FieldNo) → f ≢ Name → k.get r f ≡ default_of (k.record_type r) f
+  pub links : (f : FieldNo) → is_link (k.record_type r) f ≡ true → k.link r f ≡ Some no_link
+
 -- the laws of a record type
 pub record IsLawful {R : Type 0} (k : RecordRules R) : Type 0 where
+  -- what stands for a record that isn't there is asked for nothing: it is active, and names no record
   pub missing_is_active : (k.common k.missing).active ≡ true
   pub missing_targets : targets k k.missing ≡ []
   -- the link fields are those of the type's table, each once, and these alone have links

@@ -13,11 +13,12 @@ use Rattle.ioc_record.specs.declared.link_field.LinkUse.TheVariants.{Unused, Own
 abbrev pub no_link : LinkField
 no_link = record { link = Empty; standing = None }
 
--- a database link with these flags
+-- a database link with these flags is absent where it leads nowhere
 abbrev pub database_use : Flags → Option Standing → LinkUse
 database_use flags None = Absent
 database_use flags (Some to) = Standing-link (record { number = to.number; field = to.field; process_passive = flags.process_passive; mode = flags.mode })
 
+-- what a link comes to, with where it leads
 abbrev pub use_as : Link → Option Standing → LinkUse
 use_as Empty standing = Unused
 use_as (Constant n) standing = Unused

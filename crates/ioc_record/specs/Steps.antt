@@ -10,6 +10,7 @@ use Rattle.ioc_alarms.specs.Alarms.{raised as raised_in, settled as settled_in, 
 use Rattle.ioc_record.specs.declared.common.Common.{Common}
 use Rattle.ioc_record.specs.Links.{no_link}
 
+-- the status that says that a record was found active too often
 abbrev pub is_scan : Status → Bool
 is_scan Scan = true
 is_scan _ = false
@@ -32,6 +33,7 @@ blocked c =
     if nat_lt c.lock_count 10 || is_invalid c.alarms.severity then counted
     else record counted { alarms = settled_in (raised_in Scan Invalid c.alarms) }
 
+-- with the active mark as given
 abbrev pub with_active : Bool → Common → Common
 with_active active c = record c { active = active }
 
