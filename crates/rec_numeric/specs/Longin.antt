@@ -46,6 +46,7 @@ longin_get r field = common_get r.common field
 abbrev pub defined : Longin → ℤ → Longin
 defined r z = record r { value = z; common = record r.common { undefined = 0 } }
 
+-- with a value of VAL's kind set; one of another kind changes nothing
 abbrev pub value_set : Longin → Value → Longin
 value_set r (value.Long z) = defined r z
 value_set r _ = r
@@ -90,25 +91,29 @@ longin_taken r got.Fault = tested r
 abbrev pub read_fault : Longin → Longin
 read_fault r = record r { common = raised Read Invalid r.common }
 
+-- with what the device gave at last, converted or not
 abbrev pub finished_with : Longin → Result Value IocError → Longin
 finished_with r (Ok v) = longin_taken r (got.Value v)
 finished_with r (Err e) = longin_taken (read_fault r) got.Fault
 
+-- with the device's answer at last
 unfoldable pub longin_finished : Longin → Finished → Longin
 longin_finished r (finished.Done v) = finished_with r (converted_to longin_kind v)
 longin_finished r finished.Fault = longin_taken (read_fault r) got.Fault
 
 -- ---- the load
 
+-- a constant of INP must convert to VAL; one of FLNK is kept without effect
 abbrev pub longin_constant_kind : FieldNo → Option InputKind
 longin_constant_kind Inp = Some longin_kind
 longin_constant_kind _ = None
 
--- with a constant of INP put into VAL
+-- with VAL set to a value, if there is one
 abbrev pub defined_if : Longin → Option Value → Longin
 defined_if r None = r
 defined_if r (Some v) = value_set r v
 
+-- with a constant of INP put into VAL
 abbrev pub constant_put : Longin → Link → Longin
 constant_put r (Constant z) = defined_if r (of_number (Numbers range.Long) z)
 constant_put r _ = r

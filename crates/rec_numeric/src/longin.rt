@@ -1,6 +1,7 @@
 //! The type longin.
 ghost use Rattle.std.specs.Prelude.{◌≡◌, Option};
-ghost use Rattle.rec_numeric.specs.Longin.{new_longin, defined, value_set, tested, longin_taken, finished_with, defined_if, constant_put};
+ghost use Rattle.ioc_record.specs.Laws.{IsNew};
+ghost use Rattle.rec_numeric.specs.Longin.{longin, new_longin, defined, value_set, tested, longin_taken, finished_with, defined_if, constant_put};
 
 use ioc_fields::{FieldNo, RecordType};
 use ioc_links::Link;
@@ -23,10 +24,11 @@ pub struct Longin {
 }
 
 impl Longin {
-    /// A new record: VAL is 0 and undefined, and INP is empty.
+    /// A new record: VAL is 0 and undefined, INP is empty, and each field has its default.
     #[tactic(auto, unfolding(crate::specs::Longin::new_longin))]
     pub fn new(name: Name) -> Self
-        ensures { result ≡ new_longin name }
+        ensures value { result ≡ new_longin name }
+        ensures defaults { IsNew longin name result }
     {
         Longin {
             common: Common::new(name),
@@ -82,7 +84,6 @@ impl Longin {
 }
 
 impl RecordKind for Longin {
-    ghost use Rattle.rec_numeric.specs.Longin.{longin};
     ghost use Rattle.rec_numeric.specs.LonginLaws.{longin_lawful};
 
     ghost rules = { longin };
