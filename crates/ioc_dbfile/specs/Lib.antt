@@ -1,5 +1,4 @@
 pub mod Rules
-pub mod Errors
 pub mod Statements
 pub mod Loading
 pub mod Loader

@@ -17,6 +17,11 @@ pub record Rules (S : Type 0) : Type 0 where
   -- the database with a field of a record set to what the text says
   pub set : ℕ → FieldNo → List ℕ → S → Result S BadDbKind
 
+-- what a step that needs no memory returned, seen by view, or its refusal, is what is wanted
+abbrev pub Allows : {X Y : Type 0} → (X → Y) → Result X BadDbKind → Result Y BadDbKind → Type 0
+Allows view (Ok x) wanted = wanted ≡ Ok (view x)
+Allows view (Err kind) wanted = wanted ≡ Err kind
+
 -- an error is the refusal that is wanted, or want of memory
 abbrev pub Refuses : {Y : Type 0} → BuildError → Result Y BadDbKind → Type 0
 Refuses Memory wanted = Unit {0}

@@ -31,6 +31,11 @@ abbrev pub Gives : {X Y : Type 0} → (X → Y) → Result X LoadError → Resul
 Gives view (Ok x) wanted = wanted ≡ Ok (view x)
 Gives view (Err e) wanted = Fails e wanted
 
+-- what was read, seen by view, or the fault, is what is wanted
+abbrev pub Reads : {X Y : Type 0} → (X → Y) → Result X DbFault → Result Y DbFault → Type 0
+Reads view (Ok x) wanted = wanted ≡ Ok (view x)
+Reads view (Err f) wanted = wanted ≡ Err f
+
 -- a fault of this kind on this line
 abbrev pub at : ℕ → BadDbKind → DbFault
 at line kind = record { line = line; kind = kind }

@@ -1,6 +1,6 @@
 //! What fills a database, statement by statement.
 ghost use Rattle.std.specs.Prelude.{◌≡◌};
-ghost use Rattle.ioc_dbfile.specs.Rules.{Rules, Builds};
+ghost use Rattle.ioc_dbfile.specs.Rules.{Rules, Builds, Allows};
 ghost use Rattle.ioc_dbfile.specs.declared.builder.BuildError.TheVariants.{Memory};
 
 use ioc_fields::{FieldNo, RecordType};
@@ -42,14 +42,26 @@ pub trait Builder {
         ensures { result ≡ rules.type_of name.now };
 
     /// Adds a record of this name, with no field set, and gives its number.
+    ///
+    /// # Errors
+    ///
+    /// [`BuildError::Refused`] where the rules refuse the name, and [`BuildError::Memory`] where a growth was refused.
     fn add(&mut self, record_type: RecordType, name: &[u8]) -> Result<RecordNo, BuildError>
         ensures { Builds (λ n. (n, self.new)) result (rules.add record_type name.now self.old) };
 
     /// The field of this name, where the record has it and it may be set.
-    fn field_of(&self, number: RecordNo, name: &[u8]) -> Result<FieldNo, BuildError>
-        ensures { Builds (λ f. f) result (rules.field_of number name.now self.now) };
+    ///
+    /// # Errors
+    ///
+    /// What is wrong with the name.
+    fn field_of(&self, number: RecordNo, name: &[u8]) -> Result<FieldNo, BadDbKind>
+        ensures { Allows (λ f. f) result (rules.field_of number name.now self.now) };
 
     /// Sets a field of a record to what a text says.
-    fn set(&mut self, number: RecordNo, field: FieldNo, value: &[u8]) -> Result<(), BuildError>
-        ensures { Builds (λ _. self.new) result (rules.set number field value.now self.old) };
+    ///
+    /// # Errors
+    ///
+    /// What is wrong with the text.
+    fn set(&mut self, number: RecordNo, field: FieldNo, value: &[u8]) -> Result<(), BadDbKind>
+        ensures { Allows (λ _. self.new) result (rules.set number field value.now self.old) };
 }

@@ -101,28 +101,28 @@ impl Builder for DatabaseBuilder {
         Ok(number)
     }
 
-    fn field_of(&self, number: RecordNo, name: &[u8]) -> Result<FieldNo, BuildError> {
+    fn field_of(&self, number: RecordNo, name: &[u8]) -> Result<FieldNo, BadDbKind> {
         let Some(record) = self.records.get(number.index()) else {
-            return Err(BuildError::Refused(BadDbKind::BadField));
+            return Err(BadDbKind::BadField);
         };
         let record_type = record.record_type();
         let Some(found) = field(record_type, name) else {
-            return Err(BuildError::Refused(BadDbKind::BadField));
+            return Err(BadDbKind::BadField);
         };
         if !can_set(record_type, found) {
-            return Err(BuildError::Refused(BadDbKind::NoMod));
+            return Err(BadDbKind::NoMod);
         }
         Ok(found)
     }
 
-    fn set(&mut self, number: RecordNo, field: FieldNo, value: &[u8]) -> Result<(), BuildError> {
+    fn set(&mut self, number: RecordNo, field: FieldNo, value: &[u8]) -> Result<(), BadDbKind> {
         let place = number.index();
         if place >= self.records.len() {
-            return Err(BuildError::Refused(BadDbKind::BadValue));
+            return Err(BadDbKind::BadValue);
         }
         match set_field(&mut self.records[place], field, value) {
             Ok(()) => Ok(()),
-            Err(refusal) => Err(BuildError::Refused(kind_of_refusal(refusal))),
+            Err(refusal) => Err(kind_of_refusal(refusal)),
         }
     }
 }

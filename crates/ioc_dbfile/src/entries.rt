@@ -4,7 +4,7 @@ ghost use Rattle.ioc_dbfile.specs.Statements.{Gives, Fails, field_at, set_at, se
 
 use crate::builder::Builder;
 use crate::fault::LoadError;
-use crate::words::{error_on, expect, fault, is_sign_of, is_word, next_at, text_of, value_at};
+use crate::words::{expect, fault, is_sign_of, is_word, next_at, text_of, value_at};
 use ioc_dbtokens::Tokens;
 use ioc_fields::FieldNo;
 use ioc_names::RecordNo;
@@ -26,7 +26,7 @@ fn field_at<B: Builder>(
     let name = text_of(alloc, false, &token)?;
     match builder.field_of(number, name.as_slice()) {
         Ok(field) => Ok(field),
-        Err(error) => Err(error_on(token.line, error)),
+        Err(kind) => Err(fault(token.line, kind)),
     }
 }
 
@@ -46,7 +46,7 @@ fn set_at<B: Builder>(
     let value = text_of(alloc, true, &token)?;
     match builder.set(number, field, value.as_slice()) {
         Ok(()) => Ok(()),
-        Err(error) => Err(error_on(token.line, error)),
+        Err(kind) => Err(fault(token.line, kind)),
     }
 }
 
@@ -65,7 +65,8 @@ fn setting_at<B: Builder>(
     let field = field_at(alloc, last, number, &*builder, tokens)?;
     expect(b',', last, tokens)?;
     set_at(alloc, last, number, field, builder, tokens)?;
-    expect(b')', last, tokens)
+    expect(b')', last, tokens)?;
+    Ok(())
 }
 
 /// `field` and what follows it: whether there may be more, which is not so behind the closing brace.

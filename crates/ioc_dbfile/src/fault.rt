@@ -1,6 +1,6 @@
 //! What can be wrong with a database text.
 ghost use Rattle.std.specs.Prelude.{◌≡◌};
-ghost use Rattle.ioc_dbfile.specs.declared.fault.LoadError.TheVariants.{Memory};
+ghost use Rattle.ioc_dbfile.specs.declared.fault.LoadError.TheVariants.{Memory, Fault};
 
 use ioc_values::BadDbKind;
 use std::alloc::{AllocError, AllocFailed};
@@ -19,6 +19,14 @@ pub enum LoadError {
     Memory,
     /// The text is no database text.
     Fault(DbFault),
+}
+
+impl From<DbFault> for LoadError {
+    ghost from_gives = { λ fault e. e ≡ Fault fault };
+
+    fn from(fault: DbFault) -> LoadError {
+        LoadError::Fault(fault)
+    }
 }
 
 impl From<AllocError> for LoadError {

@@ -63,19 +63,19 @@ impl Builder for LastRecord {
         Ok(number)
     }
 
-    fn field_of(&self, _number: RecordNo, name: &[u8]) -> Result<FieldNo, BuildError> {
+    fn field_of(&self, _number: RecordNo, name: &[u8]) -> Result<FieldNo, BadDbKind> {
         if name == b"VAL".as_slice() {
             return Ok(FieldNo::Val);
         }
         if name == b"STAT".as_slice() {
-            return Err(BuildError::Refused(BadDbKind::NoMod));
+            return Err(BadDbKind::NoMod);
         }
-        Err(BuildError::Refused(BadDbKind::BadField))
+        Err(BadDbKind::BadField)
     }
 
-    fn set(&mut self, _number: RecordNo, _field: FieldNo, value: &[u8]) -> Result<(), BuildError> {
+    fn set(&mut self, _number: RecordNo, _field: FieldNo, value: &[u8]) -> Result<(), BadDbKind> {
         if value == b"bad".as_slice() {
-            return Err(BuildError::Refused(BadDbKind::BadValue));
+            return Err(BadDbKind::BadValue);
         }
         self.value = Text::cut(value);
         Ok(())

@@ -1,10 +1,9 @@
 //! Single tokens of statements.
 ghost use Rattle.std.specs.Prelude.{◌≡◌, IfOk};
-ghost use Rattle.ioc_dbfile.specs.Errors.{error_on};
+ghost use Rattle.ioc_values.specs.declared.error.BadDbKind.TheVariants as kinds;
 ghost use Rattle.ioc_dbtext.specs.SeenToken.{seen};
-ghost use Rattle.ioc_dbfile.specs.Statements.{Gives, Fails, at, next_at, is_sign_of, expect, is_value, value_at, is_bareword, is_word, text_of, name_line, is_left_out, refused_word};
+ghost use Rattle.ioc_dbfile.specs.Statements.{Reads, at, next_at, is_sign_of, expect, is_value, value_at, is_bareword, is_word, text_of, name_line, is_left_out, refused_word};
 
-use crate::builder::BuildError;
 use crate::fault::{DbFault, LoadError};
 use ioc_dbtext::{Token, TokenKind};
 use ioc_dbtokens::{Tokens, unescaped};
@@ -20,15 +19,27 @@ pub fn fault(line: u64, kind: BadDbKind) -> LoadError
 
 /// The next token of a statement, of a text with this last line.
 #[tactic(auto, unfolding(crate::specs::Statements::next_at))]
-pub fn next_at<'a>(last: u64, tokens: &mut Tokens<'a>) -> Result<Token<'a>, LoadError>
-    ensures { Gives (λ t. (seen t, tokens.new)) result (next_at last tokens.old) }
+pub fn next_at<'a>(last: u64, tokens: &mut Tokens<'a>) -> Result<Token<'a>, DbFault>
+    ensures { Reads (λ t. (seen t, tokens.new)) result (next_at last tokens.old) }
 {
     let Some(token) = tokens.next() else {
-        return Err(fault(last, BadDbKind::OpenBody));
+        let kind = BadDbKind::OpenBody;
+        return Err(DbFault { line: last, kind });
     };
+    let line = token.line;
     match token.kind {
-        TokenKind::Fault(kind) => Err(fault(token.line, kind)),
+        TokenKind::Fault(kind) => Err(DbFault { line, kind }),
         _ => Ok(token),
+    }
+}
+
+/// A token that does not fit.
+fn misfit(token: &Token<'_>) -> DbFault
+    ensures { result ≡ at token.now.line kinds.Syntax }
+{
+    DbFault {
+        line: token.line,
+        kind: BadDbKind::Syntax,
     }
 }
 
@@ -44,12 +55,12 @@ pub fn is_sign_of(b: u8, kind: TokenKind) -> bool
 
 /// Takes this sign.
 #[tactic(auto, unfolding(crate::specs::Statements::expect))]
-pub fn expect(b: u8, last: u64, tokens: &mut Tokens<'_>) -> Result<(), LoadError>
-    ensures { Gives (λ _. tokens.new) result (expect b last tokens.old) }
+pub fn expect(b: u8, last: u64, tokens: &mut Tokens<'_>) -> Result<(), DbFault>
+    ensures { Reads (λ _. tokens.new) result (expect b last tokens.old) }
 {
     let token = next_at(last, tokens)?;
     if !is_sign_of(b, token.kind) {
-        return Err(fault(token.line, BadDbKind::Syntax));
+        return Err(misfit(&token));
     }
     Ok(())
 }
@@ -63,12 +74,12 @@ fn is_value(kind: TokenKind) -> bool
 
 /// Takes a bareword or a quoted text.
 #[tactic(auto, unfolding(crate::specs::Statements::value_at))]
-pub fn value_at<'a>(last: u64, tokens: &mut Tokens<'a>) -> Result<Token<'a>, LoadError>
-    ensures { Gives (λ t. (seen t, tokens.new)) result (value_at last tokens.old) }
+pub fn value_at<'a>(last: u64, tokens: &mut Tokens<'a>) -> Result<Token<'a>, DbFault>
+    ensures { Reads (λ t. (seen t, tokens.new)) result (value_at last tokens.old) }
 {
     let token = next_at(last, tokens)?;
     if !is_value(token.kind) {
-        return Err(fault(token.line, BadDbKind::Syntax));
+        return Err(misfit(&token));
     }
     Ok(token)
 }
@@ -93,16 +104,6 @@ pub fn text_of(alloc: Global, in_value: bool, token: &Token<'_>) -> Result<Vec<u
     ensures { IfOk result (λ v. v.items ≡ text_of in_value (seen token.now)) }
 {
     unescaped(alloc, in_value, token.text)
-}
-
-/// The error of a step that was refused on this line.
-pub fn error_on(line: u64, error: BuildError) -> LoadError
-    ensures { result ≡ error_on line error }
-{
-    match error {
-        BuildError::Memory => LoadError::Memory,
-        BuildError::Refused(kind) => fault(line, kind),
-    }
 }
 
 /// Whether it is a word of a database definition, whose statements are left out.
