@@ -3,10 +3,10 @@
 
 use ioc_dbfile::macros::Macros;
 use ioc_main::{RunFault, run};
+use std::env;
 use std::fs::{self, File};
 use std::io::{self, BufWriter, Write};
 use std::process::ExitCode;
-use std::env;
 
 // The two files that the program was given: exactly these.
 fn files(rt: &HostRuntime) -> Result<(String, String), RunFault> {
