@@ -12,8 +12,8 @@ use Rattle.ioc_links.specs.declared.link.Flags.{Flags}
 use Rattle.ioc_fields.specs.declared.record_type.RecordType.{RecordType}
 use Rattle.ioc_fields.specs.declared.field_no.FieldNo.{FieldNo}
 use Rattle.ioc_fields.specs.Names.{field_of}
-use Rattle.ioc_fields.specs.Table.{kind_of}
 use Rattle.ioc_record.specs.declared.link_field.Standing.{Standing}
+use Rattle.ioc_record.specs.Laws.{is_link}
 use Rattle.ioc_record.specs.Links.{use_of, use_as, database_use, named_by}
 use Rattle.ioc_record.specs.RecordRules.{targets}
 use Rattle.ioc_record.specs.Steps.{first_shown, new_common}
@@ -26,7 +26,7 @@ use Rattle.ioc_process.specs.Record.{record_rules}
 use Rattle.ioc_process.specs.OneMap.{world_of}
 use Rattle.ioc_process.specs.OneMapLaws.{get-numbered, contains-numbered}
 use Rattle.ioc_process.specs.World.{at, IsClosed}
-use Rattle.ioc_dbfile.specs.Finished.{is_link, target_field, target_in, target_at, standing_of, leads_to, linked, finished}
+use Rattle.ioc_dbfile.specs.Finished.{target_field, target_in, target_at, standing_of, leads_to, linked, finished}
 
 -- each number is below a limit
 abbrev Below : ℕ → List ℕ → Type 0
@@ -58,7 +58,7 @@ test_below n limit field false lt = lt
 
 field_below : (n limit : ℕ) (type : RecordType) (o : Option FieldNo) → n < limit → StandsBelow limit (target_field n type o)
 field_below n limit type None lt = tt
-field_below n limit type (Some field) lt = test_below n limit field (is_link (kind_of type field)) lt
+field_below n limit type (Some field) lt = test_below n limit field (is_link type field) lt
 
 record_below : (types : List RecordType) (n : ℕ) (name : List ℕ) (o : Option RecordType) → slice_get types n ≡ o → StandsBelow (length types) (target_in n name o)
 record_below types n name None e = tt

@@ -1,33 +1,26 @@
 -- The end of a load: it is decided where links lead, and constants are put.
 -- EPICS Application Developer's Guide, "Database Links" and "iocInit".
-use Rattle.std.specs.Prelude.{ℕ, Bool, true, false, List, [], ◌∷◌, Option, Some, None, Result, Ok, map, slice_get, if◌then◌else◌}
+use Rattle.std.specs.Prelude.{ℕ, List, [], ◌∷◌, Option, Some, None, Result, Ok, map, slice_get, if◌then◌else◌}
 use Rattle.ioc_names.specs.NameTable.{NameTable, number_of, no_names}
 use Rattle.ioc_links.specs.declared.link.Link.{Link}
 use Rattle.ioc_links.specs.declared.link.Link.TheVariants.{Database}
 use Rattle.ioc_links.specs.declared.link.Target.{Target}
 use Rattle.ioc_fields.specs.declared.record_type.RecordType.{RecordType}
 use Rattle.ioc_fields.specs.declared.field_no.FieldNo.{FieldNo}
-use Rattle.ioc_fields.specs.declared.field_kind.FieldKind.{FieldKind}
-use Rattle.ioc_fields.specs.declared.field_kind.FieldKind.TheVariants as fields
 use Rattle.ioc_fields.specs.Names.{field_of}
-use Rattle.ioc_fields.specs.Table.{kind_of}
 use Rattle.ioc_record.specs.declared.link_field.LinkField.{LinkField}
 use Rattle.ioc_record.specs.declared.link_field.Standing.{Standing}
+use Rattle.ioc_record.specs.Laws.{is_link}
 use Rattle.ioc_record.specs.RecordRules.{RecordRules}
 use Rattle.ioc_dbfile.specs.declared.fault.DbFault.{DbFault}
 use Rattle.ioc_dbfile.specs.Statements.{◌>>=◌}
 use Rattle.ioc_dbfile.specs.Loader.{Loading, loading}
 use Rattle.ioc_dbfile.specs.Loading.{filled_by}
 
--- a link field
-abbrev pub is_link : Option FieldKind → Bool
-is_link (Some (fields.Link role)) = true
-is_link _ = false
-
 -- a field that a link can lead to: one that is there and no link field itself
 abbrev pub target_field : ℕ → RecordType → Option FieldNo → Option Standing
 target_field n type None = None
-target_field n type (Some field) = if is_link (kind_of type field) then None else Some (record { number = n; field = field })
+target_field n type (Some field) = if is_link type field then None else Some (record { number = n; field = field })
 
 -- a field of this name in a record of this type
 abbrev pub target_in : ℕ → List ℕ → Option RecordType → Option Standing

@@ -1,7 +1,8 @@
 //! The end of a load: where links lead, and what constants put.
 ghost use Rattle.std.specs.Prelude.{◌≡◌, IfOk, OnOk, map};
 ghost use Rattle.ioc_process.specs.Record.{record_rules};
-ghost use Rattle.ioc_dbfile.specs.Finished.{is_link, standing_of, leads_to, linked, linked_all, finished};
+ghost use Rattle.ioc_record.specs.Laws.{is_link_kind};
+ghost use Rattle.ioc_dbfile.specs.Finished.{standing_of, leads_to, linked, linked_all, finished};
 
 use ioc_fields::{FieldKind, FieldNo, RecordType, field, kind_of};
 use ioc_links::{Link, Target};
@@ -11,7 +12,7 @@ use ioc_record::{LinkField, RecordKind, Standing};
 use std::alloc::{AllocError, Global};
 
 fn is_link(kind: Option<FieldKind>) -> bool
-    ensures { result ≡ is_link kind }
+    ensures { result ≡ is_link_kind kind }
 {
     matches!(kind, Some(FieldKind::Link(_)))
 }

@@ -15,7 +15,7 @@ use ioc_dbtext::expand;
 use ioc_dbtokens::Tokens;
 use std::alloc::Global;
 
-/// Fills a database by a text of at most [`MAX_BYTES`](crate::MAX_BYTES) bytes.
+/// Fills a database by a text. One of more than [`MAX_BYTES`](crate::MAX_BYTES) bytes is refused at that limit.
 ///
 /// # Errors
 ///
