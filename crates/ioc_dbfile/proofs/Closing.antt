@@ -1,10 +1,6 @@
 -- Each standing link of a loaded database names a record that is there.
-use Rattle.std.proofs.Common.{◌≡◌, ℕ, zero, suc, ◌<◌, Bool, true, false, cond, List, [], ◌∷◌, ◌++◌, length, map, Option, Some, None, refl, sym, ap, ◌∙◌, arith, lt-ltb, unwrap_or}
-use Rattle.std.specs.Prelude.{slice_get, slice_index_or, Contains}
-use Rattle.ioc_values.specs.declared.value.Value.{Value}
-use Rattle.ioc_values.specs.declared.value.Value.TheVariants.{Long, ULong, Short, UShort, UChar, Enum, Text}
-use Rattle.ioc_values.specs.declared.kind.Range.TheVariants as range
-use Rattle.ioc_values.specs.Conversion.{Numbers, of_number}
+use Rattle.std.proofs.Common.{◌≡◌, ℕ, zero, suc, ◌<◌, Bool, true, false, cond, List, [], ◌∷◌, ◌++◌, length, map, Option, Some, None, refl, sym, ap, ◌∙◌, ◌⊎◌, inl, inr, arith, lt-ltb, unwrap_or}
+use Rattle.std.specs.Prelude.{slice_get, slice_index_or, Contains, is_some}
 use Rattle.ioc_names.specs.NameTable.{NameTable, number_of}
 use Rattle.ioc_links.specs.declared.link.Link.{Link}
 use Rattle.ioc_links.specs.declared.link.Link.TheVariants.{Empty, Constant, Device, Database}
@@ -13,20 +9,19 @@ use Rattle.ioc_fields.specs.declared.record_type.RecordType.{RecordType}
 use Rattle.ioc_fields.specs.declared.field_no.FieldNo.{FieldNo}
 use Rattle.ioc_fields.specs.Names.{field_of}
 use Rattle.ioc_record.specs.declared.link_field.Standing.{Standing}
-use Rattle.ioc_record.specs.Laws.{is_link}
-use Rattle.ioc_record.specs.Links.{use_of, use_as, database_use, named_by}
-use Rattle.ioc_record.specs.RecordRules.{targets}
-use Rattle.ioc_record.specs.Steps.{first_shown, new_common}
-use Rattle.rec_numeric.specs.declared.longin.Longin.{Longin as LonginRecord}
-use Rattle.rec_numeric.specs.Longin.{longin_with_link, longin_loaded, constant_put, defined_if}
-use Rattle.ioc_process.specs.declared.record.Record.{Record}
-use Rattle.ioc_process.specs.declared.record.Record.TheVariants.{Longin}
+use Rattle.ioc_fields.specs.Table.{is_link}
+use Rattle.ioc_record.specs.declared.link_field.LinkField.{LinkField}
+use Rattle.ioc_record.specs.Links.{use_of, use_as, database_use, named_by, named_by_field, named_by_all}
+use Rattle.ioc_record.specs.Laws.{IsLawful}
+use Rattle.ioc_record.specs.RecordRules.{RecordRules, targets}
+use Rattle.ioc_process.specs.RecordLaws.{record_lawful}
+use Rattle.ioc_fields.specs.LinkFields.{link_fields, link_fields_are, stands_among_links}
 use Rattle.ioc_process.specs.declared.one_map.OneMap.{OneMap}
-use Rattle.ioc_process.specs.Record.{record_rules}
+use Rattle.ioc_process.specs.Record.{Record, record_rules}
 use Rattle.ioc_process.specs.OneMap.{world_of}
 use Rattle.ioc_process.specs.OneMapLaws.{get-numbered, contains-numbered}
 use Rattle.ioc_process.specs.World.{at, IsClosed}
-use Rattle.ioc_dbfile.specs.Finished.{target_field, target_in, target_at, standing_of, leads_to, linked, finished}
+use Rattle.ioc_dbfile.specs.Finished.{target_field, target_in, target_at, standing_of, lead_of, leads_to, with_standing, linked, linked_all, finished}
 
 -- each number is below a limit
 abbrev Below : ℕ → List ℕ → Type 0
@@ -68,7 +63,7 @@ target_below : (types : List RecordType) (name : List ℕ) (o : Option ℕ) → 
 target_below types name None = tt
 target_below types name (Some n) = record_below types n name (slice_get types n) refl
 
-database_below : (n : ℕ) (flags : Flags) (o : Option Standing) → StandsBelow n o → Below n (named_by (database_use flags o))
+database_below : (n : ℕ) (flags : Flags) (o : Option Standing) → StandsBelow n o → Below n (named_by (database_use flags (lead_of o)))
 database_below n flags None h = tt
 database_below n flags (Some s) h = (h, tt)
 
@@ -79,27 +74,87 @@ link_below names types (Constant z) = tt
 link_below names types (Device text) = tt
 link_below names types (Database target flags) = database_below (length types) flags (target_at types target.field (number_of names target.record_name)) (target_below types target.field (number_of names target.record_name))
 
-value_targets : (r : LonginRecord) (o : Option Value) → targets record_rules (Longin (defined_if r o)) ≡ targets record_rules (Longin r)
-value_targets r None = refl
-value_targets r (Some (Long z)) = refl
-value_targets r (Some (ULong z)) = refl
-value_targets r (Some (Short z)) = refl
-value_targets r (Some (UShort z)) = refl
-value_targets r (Some (UChar z)) = refl
-value_targets r (Some (Enum z)) = refl
-value_targets r (Some (Text z)) = refl
+-- a link field whose link leads where it leads
+led_below : (names : NameTable) (types : List RecordType) (l : LinkField)
+    → Below (length types) (named_by_field (Some (record { link = l.link; lead = leads_to names types l.link })))
+unfolding use_of
+led_below names types l = link_below names types l.link
 
-constant_targets : (r : LonginRecord) (l : Link) → targets record_rules (Longin (constant_put r l)) ≡ targets record_rules (Longin r)
-constant_targets r Empty = refl
-constant_targets r (Constant z) = value_targets r (of_number (Numbers range.Long) z)
-constant_targets r (Device text) = refl
-constant_targets r (Database target flags) = refl
+none_below : (n : ℕ) (o : Option LinkField) → o ≡ None → Below n (named_by_field o)
+none_below n o is = rw is tt
 
--- the links of a record at the end of a load lead to records that are there
-finished_below : (names : NameTable) (types : List RecordType) (r : Record) → Below (length types) (targets record_rules (finished record_rules names types r))
-unfolding finished linked longin_with_link longin_loaded first_shown use_of
-finished_below names types (Longin r) =
-    rw (constant_targets _ r.input.link) (below_append (length types) _ _ (link_below names types r.common.forward_link.link) (below_append (length types) _ [] (link_below names types r.input.link) tt))
+some_is : {X : Type 0} (o : Option X) (x : X) → o ≡ Some x → is_some o ≡ true
+some_is o x is = rw is refl
+
+module _ {R : Type 0} (k : RecordRules R) (lawful : IsLawful k) (names : NameTable) (types : List RecordType) where
+  -- a field is still to be linked, or its link leads to a record that is there
+  abbrev Ready : List FieldNo → R → FieldNo → Type 0
+  Ready fields r g = ((i : ℕ) × (slice_get fields i ≡ Some g)) ⊎ Below (length types) (named_by_field (k.link r g))
+
+  first_or_later : (f : FieldNo) (fs : List FieldNo) (r : R) (g : FieldNo) (l : LinkField) → k.link r f ≡ Some l → Below (length types) (named_by_field (Some l))
+      → (i : ℕ) → slice_get (f ∷ fs) i ≡ Some g → Ready fs r g
+  first_or_later f fs r g l is below zero at = let same : f ≡ g = cc in inr (rw (← same, is) below)
+  first_or_later f fs r g l is below (suc i) at = inl (i, at)
+
+  set_ready : (f : FieldNo) (fs : List FieldNo) (r : R) (l : LinkField) (g : FieldNo) → k.link r f ≡ Some l → Ready (f ∷ fs) r g
+      → Ready fs (k.with_link r f (record { link = l.link; lead = leads_to names types l.link })) g
+  set_ready f fs r l g is ready =
+      let new : LinkField = record { link = l.link; lead = leads_to names types l.link } in
+      let here : k.link (k.with_link r f new) f ≡ Some new = lawful.set_here r f new (some_is (k.link r f) l is) in
+      elim (lawful.set_there r f g new) [
+        | inl set ↦ inr (rw set (led_below names types l))
+        | inr same ↦ elim ready [
+          | inr below ↦ inr (rw same below)
+          | inl at ↦ first_or_later f fs (k.with_link r f new) g new here (led_below names types l) at.0 at.1
+        ]
+      ]
+
+  none_or_later : (f : FieldNo) (fs : List FieldNo) (r : R) (g : FieldNo) → k.link r f ≡ None → (i : ℕ) → slice_get (f ∷ fs) i ≡ Some g → Ready fs r g
+  none_or_later f fs r g is zero at = let same : f ≡ g = cc in inr (none_below (length types) (k.link r g) (rw (← same) is))
+  none_or_later f fs r g is (suc i) at = inl (i, at)
+
+  standing_ready : (f : FieldNo) (fs : List FieldNo) (r : R) (o : Option LinkField) (g : FieldNo) → k.link r f ≡ o → Ready (f ∷ fs) r g
+      → Ready fs (with_standing k names types r f o) g
+  standing_ready f fs r (Some l) g is ready = set_ready f fs r l g is ready
+  standing_ready f fs r None g is ready = elim ready [
+    | inr below ↦ inr below
+    | inl at ↦ none_or_later f fs r g is at.0 at.1
+  ]
+
+  linked_ready : (f : FieldNo) (fs : List FieldNo) (r : R) (g : FieldNo) → Ready (f ∷ fs) r g → Ready fs (linked k names types f r) g
+  unfolding linked
+  linked_ready f fs r g ready = standing_ready f fs r (k.link r f) g refl ready
+
+  all_ready : (fields : List FieldNo) (r : R) → ((g : FieldNo) → Ready fields r g) → (g : FieldNo) → Below (length types) (named_by_field (k.link (linked_all k names types fields r) g))
+  all_ready [] r ready g = elim (ready g) [
+    | inl at ↦ cc
+    | inr below ↦ below
+  ]
+  all_ready (f ∷ fs) r ready g = all_ready fs (linked k names types f r) (λ x. linked_ready f fs r x (ready x)) g
+
+  all_below : (link : FieldNo → Option LinkField) (fields : List FieldNo) → ((g : FieldNo) → Below (length types) (named_by_field (link g))) → Below (length types) (named_by_all link fields)
+  all_below link [] each = tt
+  all_below link (f ∷ fs) each = below_append (length types) (named_by_field (link f)) (named_by_all link fs) (each f) (all_below link fs each)
+
+  -- every field with a link is a link field
+  ready_by : (r : R) (g : FieldNo) (o : Option LinkField) → k.link r g ≡ o → Ready (k.link_fields r) r g
+  ready_by r g None is = inr (none_below (length types) (k.link r g) is)
+  ready_by r g (Some l) is =
+      let type = k.record_type r in
+      let at = stands_among_links type g (sym (lawful.link_there r g) ∙ some_is (k.link r g) l is) in
+      let fields : k.link_fields r ≡ link_fields type = lawful.link_fields_are r ∙ sym (link_fields_are type) in
+      inl (at.0, rw fields at.1)
+
+  first_ready : (r : R) (g : FieldNo) → Ready (k.link_fields r) r g
+  first_ready r g = ready_by r g (k.link r g) refl
+
+  -- the links of a record at the end of a load lead to records that are there
+  finished_below : (r : R) → Below (length types) (targets k (finished k names types r))
+  unfolding finished
+  finished_below r =
+      let ready = linked_all k names types (k.link_fields r) r in
+      all_below (k.link (k.loaded ready)) (k.link_fields (k.loaded ready))
+      (λ g. rw (lawful.loaded_links ready) (all_ready (k.link_fields r) r (first_ready r) g))
 
 -- ---- the whole map
 
@@ -108,9 +163,8 @@ length-map f [] = refl
 length-map f (x ∷ xs) = let e = length-map f xs in omega (arith, e)
 
 at_below : (names : NameTable) (types : List RecordType) (rs : List Record) (i : ℕ) → Below (length types) (targets record_rules (unwrap_or (slice_get (map (finished record_rules names types) rs) i) record_rules.missing))
-unfolding use_of new_common
-at_below names types [] i = tt
-at_below names types (r ∷ rs) zero = finished_below names types r
+at_below names types [] i = rw record_lawful.missing_targets tt
+at_below names types (r ∷ rs) zero = finished_below record_rules record_lawful names types r
 at_below names types (r ∷ rs) (suc i) = at_below names types rs i
 
 -- a map of records at the end of a load

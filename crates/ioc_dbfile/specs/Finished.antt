@@ -10,7 +10,9 @@ use Rattle.ioc_fields.specs.declared.field_no.FieldNo.{FieldNo}
 use Rattle.ioc_fields.specs.Names.{field_of}
 use Rattle.ioc_record.specs.declared.link_field.LinkField.{LinkField}
 use Rattle.ioc_record.specs.declared.link_field.Standing.{Standing}
-use Rattle.ioc_record.specs.Laws.{is_link}
+use Rattle.ioc_record.specs.declared.link_field.Lead.{Lead}
+use Rattle.ioc_record.specs.declared.link_field.Lead.TheVariants.{Nowhere, Field}
+use Rattle.ioc_fields.specs.Table.{is_link}
 use Rattle.ioc_record.specs.RecordRules.{RecordRules}
 use Rattle.ioc_dbfile.specs.declared.fault.DbFault.{DbFault}
 use Rattle.ioc_dbfile.specs.Statements.{◌>>=◌}
@@ -36,16 +38,21 @@ target_at types name (Some n) = target_in n name (slice_get types n)
 unfoldable pub standing_of : NameTable → List RecordType → Target → Option Standing
 standing_of names types target = target_at types target.field (number_of names target.record_name)
 
+-- to a field, if there is one
+abbrev pub lead_of : Option Standing → Lead
+lead_of None = Nowhere
+lead_of (Some to) = Field to
+
 -- where a link leads
-abbrev pub leads_to : NameTable → List RecordType → Link → Option Standing
-leads_to names types (Database target flags) = standing_of names types target
-leads_to names types _ = None
+abbrev pub leads_to : NameTable → List RecordType → Link → Lead
+leads_to names types (Database target flags) = lead_of (standing_of names types target)
+leads_to names types _ = Nowhere
 
 module _ {R : Type 0} (k : RecordRules R) where
   -- a record with a link field that leads where it leads
   abbrev pub with_standing : NameTable → List RecordType → R → FieldNo → Option LinkField → R
   with_standing names types r field None = r
-  with_standing names types r field (Some l) = k.with_link r field (record { link = l.link; standing = leads_to names types l.link })
+  with_standing names types r field (Some l) = k.with_link r field (record { link = l.link; lead = leads_to names types l.link })
 
   -- one link field
   unfoldable pub linked : NameTable → List RecordType → FieldNo → R → R

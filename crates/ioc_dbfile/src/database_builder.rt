@@ -22,19 +22,21 @@ pub const MAX_RECORDS: usize = 131_072;
 /// The names and the records that statements have made so far.
 #[derive(Drop)]
 pub struct DatabaseBuilder {
+    alloc: Global,
     names: Names,
     records: Vec<Record>,
 }
 
 impl Model for DatabaseBuilder {
     ghost use Rattle.ioc_dbfile.specs.Loader.{Loading};
-    ghost use Rattle.ioc_process.specs.declared.record.Record.{Record};
-    ghost use Rattle.ioc_process.specs.contracts.record.Record as row;
+    ghost use Rattle.ioc_process.specs.Record.{Record};
+    ghost use Rattle.ioc_record.specs.contracts.record.Record as row;
+    ghost use Rattle.ioc_process.specs.contracts.record.Body as body;
     ghost use Rattle.ioc_dbfile.specs.Loader.{loading_code};
 
     ghost Value = { Loading Record };
 
-    ghost coded = { loading_code row.the_row.coded };
+    ghost coded = { loading_code (row.the_row body.the_row).coded };
 
     ghost view = { λ l. record { names = l.names; records = l.records.items } };
 }
@@ -49,6 +51,7 @@ impl DatabaseBuilder {
         ensures { result ≡ record { names = no_names; records = [] } }
     {
         DatabaseBuilder {
+            alloc,
             names: Names::new(alloc),
             records: Vec::new(alloc),
         }
@@ -58,7 +61,7 @@ impl DatabaseBuilder {
     pub fn finish(self, alloc: Global) -> Result<Database, AllocError>
         ensures { IfOk result (λ d. database_of d ≡ all_finished record_rules self) }
     {
-        let DatabaseBuilder { names, records } = self;
+        let DatabaseBuilder { names, records, .. } = self;
         Database::new(alloc, names, records)
     }
 }
@@ -96,7 +99,7 @@ impl Builder for DatabaseBuilder {
         if self.names.len() >= MAX_RECORDS {
             return Err(BuildError::Refused(BadDbKind::TooMany));
         }
-        push_new(&mut self.records, record_type, short)?;
+        push_new(self.alloc, &mut self.records, record_type, short)?;
         let number = self.names.add(short)?;
         Ok(number)
     }

@@ -1,14 +1,14 @@
 //! The end of a load: where links lead, and what constants put.
 ghost use Rattle.std.specs.Prelude.{◌≡◌, IfOk, OnOk, map};
 ghost use Rattle.ioc_process.specs.Record.{record_rules};
-ghost use Rattle.ioc_record.specs.Laws.{is_link_kind};
+ghost use Rattle.ioc_fields.specs.Table.{is_link_kind};
 ghost use Rattle.ioc_dbfile.specs.Finished.{standing_of, leads_to, linked, linked_all, finished};
 
 use ioc_fields::{FieldKind, FieldNo, RecordType, field, kind_of};
 use ioc_links::{Link, Target};
 use ioc_names::Names;
 use ioc_process::record::Record;
-use ioc_record::{LinkField, RecordKind, Standing};
+use ioc_record::{Lead, LinkField, RecordKind, Standing};
 use std::alloc::{AllocError, Global};
 
 fn is_link(kind: Option<FieldKind>) -> bool
@@ -31,12 +31,15 @@ fn standing_of(names: &Names, types: &[RecordType], target: &Target) -> Option<S
     Some(Standing { number, field })
 }
 
-fn leads_to(names: &Names, types: &[RecordType], link: &Link) -> Option<Standing>
+fn leads_to(names: &Names, types: &[RecordType], link: &Link) -> Lead
     ensures { result ≡ leads_to names.now types.now link.now }
 {
     match link {
-        Link::Database(target, _) => standing_of(names, types, target),
-        _ => None,
+        Link::Database(target, _) => match standing_of(names, types, target) {
+            Some(standing) => Lead::Field(standing),
+            None => Lead::Nowhere,
+        },
+        _ => Lead::Nowhere,
     }
 }
 
@@ -49,8 +52,8 @@ fn link_one(names: &Names, types: &[RecordType], field: FieldNo, item: &mut Reco
         return;
     };
     let link = found.link;
-    let standing = leads_to(names, types, &link);
-    item.set_link(field, LinkField { link, standing });
+    let lead = leads_to(names, types, &link);
+    item.set_link(field, LinkField { link, lead });
 }
 
 /// Decides where these link fields lead.

@@ -11,14 +11,10 @@ mod entries;
 pub mod fault;
 mod finish;
 pub mod laws;
-#[cfg(test)]
-mod load_tests;
 pub mod loading;
 pub mod macros;
 mod new_records;
 mod statements;
-#[cfg(test)]
-mod tests;
 mod words;
 
 pub use builder::{BuildError, Builder};

@@ -1,19 +1,19 @@
 //! Records that are made.
-ghost use Rattle.std.specs.Prelude.{◌≡◌, ◌++◌, ◌∷◌, [], OnOk, List, ℕ};
+ghost use Rattle.std.specs.Prelude.{◌≡◌, ◌++◌, ◌∷◌, [], OnOk, IfOk, List, ℕ};
 ghost use Rattle.ioc_fields.specs.declared.record_type.RecordType.{RecordType};
 
 use ioc_fields::RecordType;
-use ioc_process::record::Record;
+use ioc_process::record::{Body, Record};
 use ioc_values::Name;
-use std::alloc::AllocError;
+use std::alloc::{AllocError, Global};
 
 /// What a type and a name make.
 pub trait NewRecord: Drop {
     ghost created: { RecordType → List ℕ → Self };
 
     /// A record of this type and name, with no field set.
-    fn create(record_type: RecordType, name: Name) -> Self
-        ensures { result ≡ created record_type name };
+    fn create(alloc: Global, record_type: RecordType, name: Name) -> Result<Self, AllocError>
+        ensures { IfOk result (λ r. r ≡ created record_type name) };
 }
 
 impl NewRecord for Record {
@@ -21,19 +21,22 @@ impl NewRecord for Record {
 
     ghost created = { new_record };
 
-    fn create(record_type: RecordType, name: Name) -> Record {
-        Record::new(record_type, name)
+    fn create(alloc: Global, record_type: RecordType, name: Name) -> Result<Record, AllocError> {
+        let body = Body::new(alloc, record_type)?;
+        Ok(Record::new(name, body))
     }
 }
 
 /// Adds a record of this type and name behind the others, with no field set.
 pub fn push_new<R: NewRecord>(
+    alloc: Global,
     records: &mut Vec<R>,
     record_type: RecordType,
     name: Name,
 ) -> Result<(), AllocError>
     ensures { OnOk result (records.new.items ≡ records.old.items ++ R.created record_type name ∷ []) }
 {
-    records.push(R::create(record_type, name))?;
+    let record = R::create(alloc, record_type, name)?;
+    records.push(record)?;
     Ok(())
 }

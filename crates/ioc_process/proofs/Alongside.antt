@@ -65,11 +65,11 @@ module _ {R : Type 0} (k : RecordRules R) (lawful : IsLawful k) (May : ℕ → T
   unfolding inherits
   inherits-goes {w} {v} inv s may t there =
       elim (eqb s t.number) as (λ b. Inv
-      (cond b w (changed k w s (inherited t.mode (common_at k w t.number).alarms.status (common_at k w t.number).alarms.severity)))
-      (cond b v (changed k v s (inherited t.mode (common_at k v t.number).alarms.status (common_at k v t.number).alarms.severity)))) [
+      (cond b w (changed k w s (inherited t.mode (common_at k w t.number).condition.alarms.status (common_at k w t.number).condition.alarms.severity)))
+      (cond b v (changed k v s (inherited t.mode (common_at k v t.number).condition.alarms.status (common_at k v t.number).condition.alarms.severity)))) [
         | true ↦ inv
-        | false ↦ subst (λ (r : R). Inv (changed k w s (inherited t.mode (common_at k w t.number).alarms.status (common_at k w t.number).alarms.severity))
-            (changed k v s (inherited t.mode (k.common r).alarms.status (k.common r).alarms.severity)))
+        | false ↦ subst (λ (r : R). Inv (changed k w s (inherited t.mode (common_at k w t.number).condition.alarms.status (common_at k w t.number).condition.alarms.severity))
+            (changed k v s (inherited t.mode (k.common r).condition.alarms.status (k.common r).condition.alarms.severity)))
             (g.same inv t.number there)
             (changed-goes inv s may _ (λ c. refl))
       ]

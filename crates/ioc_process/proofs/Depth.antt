@@ -65,7 +65,7 @@ module _ {R : Type 0} (k : RecordRules R) (lawful : IsLawful k) where
   pub inherits-stays : (w : World R) (s : ℕ) (t : Target) → Stays k w s (inherits k w s t)
   unfolding inherits
   inherits-stays w s t =
-      elim (eqb s t.number) as (λ b. Stays k w s (cond b w (changed k w s (inherited t.mode (common_at k w t.number).alarms.status (common_at k w t.number).alarms.severity)))) [
+      elim (eqb s t.number) as (λ b. Stays k w s (cond b w (changed k w s (inherited t.mode (common_at k w t.number).condition.alarms.status (common_at k w t.number).condition.alarms.severity)))) [
         | true ↦ stays_here k w s
         | false ↦ stays-changed w s _ refl
       ]

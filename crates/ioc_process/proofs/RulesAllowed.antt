@@ -29,7 +29,7 @@ module _ {R : Type 0} (k : RecordRules R) where
   inherits-allowed : (w : World R) (s : ℕ) (t : Target) → Inherits k w s t (inherits k w s t)
   unfolding inherits
   inherits-allowed w s t =
-      elim (eqb s t.number) as (λ b. eqb s t.number ≡ b → Inherits k w s t (cond b w (changed k w s (inherited t.mode (common_at k w t.number).alarms.status (common_at k w t.number).alarms.severity)))) [
+      elim (eqb s t.number) as (λ b. eqb s t.number ≡ b → Inherits k w s t (cond b w (changed k w s (inherited t.mode (common_at k w t.number).condition.alarms.status (common_at k w t.number).condition.alarms.severity)))) [
         | true ↦ λ is. from_itself (grind (arith, common_steps))
         | false ↦ λ is. from_another (grind (arith, common_steps))
       ] refl

@@ -37,8 +37,8 @@ inherited-frame mode status severity c = record { active = refl; forward = refl;
 pub blocked-frame : (c : Common) → SameFrame c (blocked c)
 unfolding blocked
 blocked-frame c =
-    same_if (is_scan c.alarms.status) _ _ _ (same c)
-    (same_if (nat_lt c.lock_count 10 || is_invalid c.alarms.severity) c _ _ (record { active = refl; forward = refl; pending = refl })
+    same_if (is_scan c.condition.alarms.status) _ _ _ (same c)
+    (same_if (nat_lt c.lock_count 10 || is_invalid c.condition.alarms.severity) c _ _ (record { active = refl; forward = refl; pending = refl })
     (record { active = refl; forward = refl; pending = refl }))
 
 pub shown-forward : (c : Common) → (shown c).forward_link ≡ c.forward_link

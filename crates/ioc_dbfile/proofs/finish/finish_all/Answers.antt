@@ -1,5 +1,5 @@
 use Rattle.std.proofs.Common.{◌≡◌, ◌++◌, List, map, take, drop, get_or, ap, ◌∙◌}
-use Rattle.ioc_process.specs.declared.record.Record.{Record}
+use Rattle.ioc_process.specs.Record.{Record}
 use Rattle.ioc_fields.specs.declared.record_type.RecordType.{RecordType}
 use Rattle.ioc_process.specs.Record.{record_rules}
 use Rattle.ioc_dbfile.specs.Finished.{finished}
