@@ -8,16 +8,16 @@ use Rattle.ioc_links.specs.declared.link.Flags.{Flags}
 use Rattle.ioc_fields.specs.declared.record_type.RecordType.{RecordType}
 use Rattle.ioc_fields.specs.declared.field_no.FieldNo.{FieldNo}
 use Rattle.ioc_fields.specs.Names.{field_of}
-use Rattle.ioc_record.specs.declared.link_field.Standing.{Standing}
+use Rattle.ioc_record.specs.declared.link_field.FieldAddress.{FieldAddress}
 use Rattle.ioc_fields.specs.Table.{is_link}
 use Rattle.ioc_record.specs.declared.link_field.LinkField.{LinkField}
 use Rattle.ioc_record.specs.Links.{use_of, use_as, database_use, named_by, named_by_field, named_by_all}
 use Rattle.ioc_record.specs.Laws.{IsLawful}
 use Rattle.ioc_record.specs.RecordRules.{RecordRules, targets}
-use Rattle.ioc_process.specs.RecordLaws.{record_lawful}
+use Rattle.ioc_types.specs.RecordLaws.{record_lawful}
 use Rattle.ioc_fields.specs.LinkFields.{link_fields, link_fields_are, stands_among_links}
 use Rattle.ioc_process.specs.declared.one_map.OneMap.{OneMap}
-use Rattle.ioc_process.specs.Record.{Record, record_rules}
+use Rattle.ioc_types.specs.Record.{Record, record_rules}
 use Rattle.ioc_process.specs.OneMap.{world_of}
 use Rattle.ioc_process.specs.OneMapLaws.{get-numbered, contains-numbered}
 use Rattle.ioc_process.specs.World.{at, IsClosed}
@@ -38,7 +38,7 @@ below_at n (y ∷ ys) zero x h lt e = let same : y ≡ x = e in rw same at h.0
 below_at n (y ∷ ys) (suc i) x h lt e = let within : i < length ys = omega arith in below_at n ys i x h.1 within e
 
 -- a standing link names a number below a limit
-abbrev StandsBelow : ℕ → Option Standing → Type 0
+abbrev StandsBelow : ℕ → Option FieldAddress → Type 0
 StandsBelow n None = Unit {0}
 StandsBelow n (Some s) = s.number < n
 
@@ -63,7 +63,7 @@ target_below : (types : List RecordType) (name : List ℕ) (o : Option ℕ) → 
 target_below types name None = tt
 target_below types name (Some n) = record_below types n name (slice_get types n) refl
 
-database_below : (n : ℕ) (flags : Flags) (o : Option Standing) → StandsBelow n o → Below n (named_by (database_use flags (lead_of o)))
+database_below : (n : ℕ) (flags : Flags) (o : Option FieldAddress) → StandsBelow n o → Below n (named_by (database_use flags (lead_of o)))
 database_below n flags None h = tt
 database_below n flags (Some s) h = (h, tt)
 

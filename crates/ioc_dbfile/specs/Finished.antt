@@ -9,7 +9,7 @@ use Rattle.ioc_fields.specs.declared.record_type.RecordType.{RecordType}
 use Rattle.ioc_fields.specs.declared.field_no.FieldNo.{FieldNo}
 use Rattle.ioc_fields.specs.Names.{field_of}
 use Rattle.ioc_record.specs.declared.link_field.LinkField.{LinkField}
-use Rattle.ioc_record.specs.declared.link_field.Standing.{Standing}
+use Rattle.ioc_record.specs.declared.link_field.FieldAddress.{FieldAddress}
 use Rattle.ioc_record.specs.declared.link_field.Lead.{Lead}
 use Rattle.ioc_record.specs.declared.link_field.Lead.TheVariants.{Nowhere, Field}
 use Rattle.ioc_fields.specs.Table.{is_link}
@@ -20,26 +20,26 @@ use Rattle.ioc_dbfile.specs.Loader.{Loading, loading}
 use Rattle.ioc_dbfile.specs.Loading.{filled_by}
 
 -- a field that a link can lead to: one that is there and no link field itself
-abbrev pub target_field : ℕ → RecordType → Option FieldNo → Option Standing
+abbrev pub target_field : ℕ → RecordType → Option FieldNo → Option FieldAddress
 target_field n type None = None
 target_field n type (Some field) = if is_link type field then None else Some (record { number = n; field = field })
 
 -- a field of this name in a record of this type
-abbrev pub target_in : ℕ → List ℕ → Option RecordType → Option Standing
+abbrev pub target_in : ℕ → List ℕ → Option RecordType → Option FieldAddress
 target_in n name None = None
 target_in n name (Some type) = target_field n type (field_of type name)
 
 -- a field of this name in the record of this number
-abbrev pub target_at : List RecordType → List ℕ → Option ℕ → Option Standing
+abbrev pub target_at : List RecordType → List ℕ → Option ℕ → Option FieldAddress
 target_at types name None = None
 target_at types name (Some n) = target_in n name (slice_get types n)
 
 -- where a database link leads, in a database with these names and types of records
-unfoldable pub standing_of : NameTable → List RecordType → Target → Option Standing
+unfoldable pub standing_of : NameTable → List RecordType → Target → Option FieldAddress
 standing_of names types target = target_at types target.field (number_of names target.record_name)
 
 -- to a field, if there is one
-abbrev pub lead_of : Option Standing → Lead
+abbrev pub lead_of : Option FieldAddress → Lead
 lead_of None = Nowhere
 lead_of (Some to) = Field to
 

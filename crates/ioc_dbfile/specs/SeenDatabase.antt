@@ -1,5 +1,5 @@
 -- What a clause sees of a loaded database.
-use Rattle.ioc_process.specs.Record.{Record}
+use Rattle.ioc_types.specs.Record.{Record}
 use Rattle.ioc_dbfile.specs.declared.database.Database.{Database}
 use Rattle.ioc_dbfile.specs.Loader.{Loading}
 

@@ -1,12 +1,12 @@
 //! Loaded databases.
-ghost use Rattle.ioc_process.specs.Record.{record_rules};
+ghost use Rattle.ioc_types.specs.Record.{record_rules};
 ghost use Rattle.ioc_process.specs.OneMap.{world_of};
 ghost use Rattle.ioc_process.specs.World.{IsClosed};
 
 use crate::finish::finish_all;
 use ioc_names::Names;
 use ioc_process::one_map::OneMap;
-use ioc_process::record::Record;
+use ioc_types::Record;
 use std::alloc::{AllocError, Global};
 
 /// A loaded database: the names of its records, and the records by their numbers.

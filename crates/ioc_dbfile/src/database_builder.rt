@@ -10,7 +10,7 @@ use crate::new_records::push_new;
 use ioc_fields::{FieldNo, RecordType, can_set, field};
 use ioc_links::is_record_name;
 use ioc_names::{Names, RecordNo};
-use ioc_process::record::Record;
+use ioc_types::Record;
 use ioc_record::{RecordKind, set_field};
 use ioc_values::{BadDbKind, IocError, Name};
 use std::alloc::{AllocError, Global};
@@ -29,9 +29,9 @@ pub struct DatabaseBuilder {
 
 impl Model for DatabaseBuilder {
     ghost use Rattle.ioc_dbfile.specs.Loader.{Loading};
-    ghost use Rattle.ioc_process.specs.Record.{Record};
+    ghost use Rattle.ioc_types.specs.Record.{Record};
     ghost use Rattle.ioc_record.specs.contracts.record.Record as row;
-    ghost use Rattle.ioc_process.specs.contracts.record.Body as body;
+    ghost use Rattle.ioc_types.specs.contracts.record.Body as body;
     ghost use Rattle.ioc_dbfile.specs.Loader.{loading_code};
 
     ghost Value = { Loading Record };
@@ -42,7 +42,7 @@ impl Model for DatabaseBuilder {
 }
 
 impl DatabaseBuilder {
-    ghost use Rattle.ioc_process.specs.Record.{record_rules};
+    ghost use Rattle.ioc_types.specs.Record.{record_rules};
     ghost use Rattle.ioc_dbfile.specs.Finished.{all_finished};
     ghost use Rattle.ioc_dbfile.specs.SeenDatabase.{database_of};
 
@@ -81,7 +81,7 @@ fn kind_of_refusal(refusal: IocError) -> BadDbKind
 #[tactic(auto, unfolding(crate::specs::Loader::add_record, crate::specs::Loader::find_field, crate::specs::Loader::set_at, crate::specs::Loader::most_records))]
 impl Builder for DatabaseBuilder {
     ghost use Rattle.ioc_dbfile.specs.Loader.{loading};
-    ghost use Rattle.ioc_process.specs.Record.{record_rules, new_record};
+    ghost use Rattle.ioc_types.specs.Record.{record_rules, new_record};
 
     ghost rules = { loading record_rules new_record };
 

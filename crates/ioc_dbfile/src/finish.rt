@@ -1,14 +1,14 @@
 //! The end of a load: where links lead, and what constants put.
 ghost use Rattle.std.specs.Prelude.{◌≡◌, IfOk, OnOk, map};
-ghost use Rattle.ioc_process.specs.Record.{record_rules};
+ghost use Rattle.ioc_types.specs.Record.{record_rules};
 ghost use Rattle.ioc_fields.specs.Table.{is_link_kind};
 ghost use Rattle.ioc_dbfile.specs.Finished.{standing_of, leads_to, linked, linked_all, finished};
 
 use ioc_fields::{FieldKind, FieldNo, RecordType, field, kind_of};
 use ioc_links::{Link, Target};
 use ioc_names::Names;
-use ioc_process::record::Record;
-use ioc_record::{Lead, LinkField, RecordKind, Standing};
+use ioc_types::Record;
+use ioc_record::{Lead, LinkField, RecordKind, FieldAddress};
 use std::alloc::{AllocError, Global};
 
 fn is_link(kind: Option<FieldKind>) -> bool
@@ -19,7 +19,7 @@ fn is_link(kind: Option<FieldKind>) -> bool
 
 /// Where a database link leads: nowhere, if its record or field isn't there or the field is a link field.
 #[tactic(auto, unfolding(crate::specs::Finished::standing_of))]
-fn standing_of(names: &Names, types: &[RecordType], target: &Target) -> Option<Standing>
+fn standing_of(names: &Names, types: &[RecordType], target: &Target) -> Option<FieldAddress>
     ensures { result ≡ standing_of names.now types.now target.now }
 {
     let number = names.find(target.record_name.as_slice())?;
@@ -28,7 +28,7 @@ fn standing_of(names: &Names, types: &[RecordType], target: &Target) -> Option<S
     if is_link(kind_of(record_type, field)) {
         return None;
     }
-    Some(Standing { number, field })
+    Some(FieldAddress { number, field })
 }
 
 fn leads_to(names: &Names, types: &[RecordType], link: &Link) -> Lead

@@ -3,7 +3,7 @@ ghost use Rattle.ioc_dbfile.specs.Loading.{filled_by};
 ghost use Rattle.ioc_dbfile.specs.Statements.{Gives};
 ghost use Rattle.ioc_dbfile.specs.Finished.{loaded_by};
 ghost use Rattle.ioc_dbfile.specs.SeenDatabase.{database_of};
-ghost use Rattle.ioc_process.specs.Record.{record_rules, new_record};
+ghost use Rattle.ioc_types.specs.Record.{record_rules, new_record};
 
 use crate::builder::Builder;
 use crate::database::Database;

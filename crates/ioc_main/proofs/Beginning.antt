@@ -3,8 +3,8 @@ use Rattle.std.proofs.Common.{◌≡◌, ℕ, List, Option, Some, None, Ok, refl
 use Rattle.std.specs.Prelude.{IfSome}
 use Rattle.std.specs.Io.KnownBytes.{Appends}
 use Rattle.ioc_names.specs.NameTable.{NameTable}
-use Rattle.ioc_process.specs.Record.{record_rules}
-use Rattle.ioc_process.specs.Record.{Record}
+use Rattle.ioc_types.specs.Record.{record_rules}
+use Rattle.ioc_types.specs.Record.{Record}
 use Rattle.ioc_process.specs.OneMap.{world_of as world_on}
 use Rattle.ioc_process.specs.declared.one_map.OneMap.{OneMap}
 use Rattle.ioc_process.specs.World.{World, begun}

@@ -5,7 +5,7 @@ use Rattle.ioc_device.specs.declared.Answer.TheVariants.{Fault}
 use Rattle.ioc_process.specs.OneMap as on-map
 use Rattle.ioc_process.specs.OneMap.{numbered}
 use Rattle.ioc_process.specs.World.{World}
-use Rattle.ioc_process.specs.Record.{Record}
+use Rattle.ioc_types.specs.Record.{Record}
 use Rattle.ioc_main.specs.declared.records.ReplayRecords.{ReplayRecords}
 
 -- each device that was asked has faulted

@@ -6,7 +6,7 @@ use Rattle.ioc_record.specs.RecordRules.{RecordRules}
 use Rattle.ioc_process.specs.OneMap.{world_of as on-the-map}
 use Rattle.ioc_process.specs.World.{World, Has, put, at}
 use Rattle.ioc_process.specs.OneMapLaws as on-map
-use Rattle.ioc_process.specs.Record.{Record}
+use Rattle.ioc_types.specs.Record.{Record}
 use Rattle.ioc_main.specs.declared.records.ReplayRecords.{ReplayRecords}
 use Rattle.ioc_main.specs.Records.{world_of, given_of, with_record}
 

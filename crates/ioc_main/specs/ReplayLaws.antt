@@ -2,7 +2,7 @@
 use Rattle.std.proofs.Common.{◌≡◌, ℕ, List, [], ◌∷◌, ◌++◌, length, take, refl, sym, ap, ◌∙◌, inl, inr, arith}
 use Rattle.std.proofs.lemmas.Bool.{cases_lt, lt-ltb}
 use Rattle.std.proofs.lemmas.List.{length-take, take_all}
-use Rattle.ioc_process.specs.Record.{record_rules}
+use Rattle.ioc_types.specs.Record.{record_rules}
 use Rattle.ioc_main.specs.declared.replay.Replay.{Replay}
 use Rattle.ioc_main.specs.Records.{world_of}
 use Rattle.ioc_main.specs.Script.{Command, cut, command_of}

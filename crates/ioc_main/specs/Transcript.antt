@@ -1,8 +1,8 @@
 -- What a run prints for a database text and a script.
 use Rattle.std.specs.Prelude.{◌≡◌, ℕ, List, [], Option, IfSome, Result, Ok, Err}
 use Rattle.std.specs.Io.KnownBytes.{Keeps}
-use Rattle.ioc_process.specs.Record.{record_rules, new_record}
-use Rattle.ioc_process.specs.Record.{Record}
+use Rattle.ioc_types.specs.Record.{record_rules, new_record}
+use Rattle.ioc_types.specs.Record.{Record}
 use Rattle.ioc_process.specs.OneMap.{numbered}
 use Rattle.ioc_process.specs.World.{World}
 use Rattle.ioc_dbfile.specs.declared.fault.DbFault.{DbFault}

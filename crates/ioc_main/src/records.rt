@@ -3,7 +3,8 @@ ghost use Rattle.std.specs.Prelude.{◌≡◌, ◌<◌, ◌≤◌, ◌+◌};
 
 use ioc_device::Answer;
 use ioc_names::RecordNo;
-use ioc_process::{OneMap, Record, Store};
+use ioc_process::{OneMap, Store};
+use ioc_types::Record;
 
 // How many devices were asked in the event under way.
 #[derive(Drop)]

@@ -1,7 +1,7 @@
 //! A loaded database, to which a script is done.
 ghost use Rattle.std.specs.Prelude.{◌≡◌};
 ghost use Rattle.ioc_names.specs.NameTable.{number_of};
-ghost use Rattle.ioc_process.specs.Record.{record_rules};
+ghost use Rattle.ioc_types.specs.Record.{record_rules};
 ghost use Rattle.ioc_process.specs.World.{IsClosed, begun};
 ghost use Rattle.ioc_process.specs.OneMap.{world_of as world_on};
 ghost use Rattle.ioc_main.specs.Records.{world_of};
@@ -15,8 +15,9 @@ use crate::session::{LineReply, Session};
 use ioc_fields::{FieldNo, field};
 use ioc_ledger::Tally;
 use ioc_names::{Names, RecordNo};
-use ioc_process::{OneMap, Record, Reply, Store, run_get, run_put, run_request};
+use ioc_process::{OneMap, Reply, Store, run_get, run_put, run_request};
 use ioc_record::RecordKind;
+use ioc_types::Record;
 use ioc_values::{Input, IocError};
 
 /// A loaded database, to which a script is done.

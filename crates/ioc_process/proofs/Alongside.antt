@@ -4,7 +4,7 @@ use Rattle.std.specs.Prelude.{slice_get, unwrap_or, Result, Ok, Err, Contains, n
 use Rattle.ioc_record.specs.declared.common.Common.{Common}
 use Rattle.ioc_record.specs.declared.link_field.LinkUse.{LinkUse}
 use Rattle.ioc_record.specs.declared.link_field.LinkUse.TheVariants.{Unused, OwnDevice, Absent, Standing}
-use Rattle.ioc_record.specs.declared.link_field.Target.{Target}
+use Rattle.ioc_record.specs.declared.link_field.StandingLink.{StandingLink}
 use Rattle.ioc_record.specs.declared.body.Got.{Got}
 use Rattle.ioc_record.specs.declared.body.Want.{Want}
 use Rattle.ioc_record.specs.declared.body.Want.TheVariants.{NoInput, ReadLink, ReadDevice}
@@ -61,7 +61,7 @@ module _ {R : Type 0} (k : RecordRules R) (lawful : IsLawful k) (May : ℕ → T
   taken-goes {w} {v} inv s may got =
       subst (λ (r : R). Inv (put w s (k.taken (at k w s) got)) (put v s (k.taken r got))) (g.same inv s may) (g.put inv s may _ (g.taken (g.good inv s may) got))
 
-  pub inherits-goes : {w v : World R} → Inv w v → (s : ℕ) → May s → (t : Target) → May t.number → Inv (inherits k w s t) (inherits k v s t)
+  pub inherits-goes : {w v : World R} → Inv w v → (s : ℕ) → May s → (t : StandingLink) → May t.number → Inv (inherits k w s t) (inherits k v s t)
   unfolding inherits
   inherits-goes {w} {v} inv s may t there =
       elim (eqb s t.number) as (λ b. Inv
@@ -83,7 +83,7 @@ module _ {R : Type 0} (k : RecordRules R) (lawful : IsLawful k) (May : ℕ → T
   unfolding faulted
   faulted-goes inv s may = changed-goes inv s may _ (λ c. refl)
 
-  pub value_came-goes : {w v : World R} → Inv w v → (s : ℕ) → May s → (t : Target) → May t.number → (value : Result Value IocError)
+  pub value_came-goes : {w v : World R} → Inv w v → (s : ℕ) → May s → (t : StandingLink) → May t.number → (value : Result Value IocError)
       → GoesCame Inv (value_came k w s t value) (value_came k v s t value)
   unfolding value_came
   value_came-goes inv s may t there (Ok x) = record { inv = inherits-goes inv s may t there; came = refl }
@@ -126,7 +126,7 @@ module _ {R : Type 0} (k : RecordRules R) (lawful : IsLawful k) (May : ℕ → T
           requests = first.requests;
         }
 
-    pub followed-goes : {w v : World R} → Inv w v → (s : ℕ) → May s → (link : LinkUse) → ((t : Target) → link ≡ Standing t → May t.number)
+    pub followed-goes : {w v : World R} → Inv w v → (s : ℕ) → May s → (link : LinkUse) → ((t : StandingLink) → link ≡ Standing t → May t.number)
         → Goes Inv (followed k ask w s link) (followed k other v s link)
     unfolding followed
     followed-goes inv s may (Standing t) there = caused-goes inv s may t.number (there t refl)
@@ -134,7 +134,7 @@ module _ {R : Type 0} (k : RecordRules R) (lawful : IsLawful k) (May : ℕ → T
     followed-goes inv s may OwnDevice there = record { inv = inv; requests = refl }
     followed-goes inv s may Absent there = record { inv = inv; requests = refl }
 
-    pub prepared-goes : {w v : World R} → Inv w v → (s : ℕ) → May s → (t : Target) → May t.number → Goes Inv (prepared k ask w s t) (prepared k other v s t)
+    pub prepared-goes : {w v : World R} → Inv w v → (s : ℕ) → May s → (t : StandingLink) → May t.number → Goes Inv (prepared k ask w s t) (prepared k other v s t)
     unfolding prepared
     prepared-goes {w} {v} inv s may t there =
         elim t.process_passive as (λ b. Goes Inv
@@ -144,7 +144,7 @@ module _ {R : Type 0} (k : RecordRules R) (lawful : IsLawful k) (May : ℕ → T
           | false ↦ record { inv = inv; requests = refl }
         ]
 
-    pub read_record-goes : {w v : World R} → Inv w v → (s : ℕ) → May s → (t : Target) → May t.number → GoesRead Inv (read_record k ask w s t) (read_record k other v s t)
+    pub read_record-goes : {w v : World R} → Inv w v → (s : ℕ) → May s → (t : StandingLink) → May t.number → GoesRead Inv (read_record k ask w s t) (read_record k other v s t)
     unfolding read_record
     read_record-goes {w} {v} inv s may t there =
         let first = prepared-goes inv s may t there in
@@ -156,7 +156,7 @@ module _ {R : Type 0} (k : RecordRules R) (lawful : IsLawful k) (May : ℕ → T
         (subst (λ (r : R). GoesCame Inv mine (value_came k two s t (value (at k one t.number) r))) (g.same first.inv s may) (value_came-goes first.inv s may t there _)) in
         record { inv = came.inv; requests = first.requests; came = ap Some came.came }
 
-    pub read_link-goes : {w v : World R} → Inv w v → (s : ℕ) → May s → (link : LinkUse) → ((t : Target) → link ≡ Standing t → May t.number)
+    pub read_link-goes : {w v : World R} → Inv w v → (s : ℕ) → May s → (link : LinkUse) → ((t : StandingLink) → link ≡ Standing t → May t.number)
         → GoesRead Inv (read_link k ask w s link) (read_link k other v s link)
     unfolding read_link
     read_link-goes inv s may (Standing t) there = read_record-goes inv s may t (there t refl)
@@ -190,7 +190,7 @@ module _ {R : Type 0} (k : RecordRules R) (lawful : IsLawful k) (May : ℕ → T
         record { inv = rest.inv; requests = ap (λ (x : Requests). followed_by x (completed_if k ask reading.world s reading.came).requests) go.requests ∙ ap (followed_by reading'.requests) rest.requests }
 
     module _ (answers : List Answer) where
-      pub input-goes : {w v : World R} → Inv w v → (s : ℕ) → May s → (want : Want) → ((t : Target) → want ≡ ReadLink (Standing t) → May t.number)
+      pub input-goes : {w v : World R} → Inv w v → (s : ℕ) → May s → (want : Want) → ((t : StandingLink) → want ≡ ReadLink (Standing t) → May t.number)
           → GoesRead Inv (input k answers ask w s want) (input k answers other v s want)
       unfolding input
       input-goes inv s may NoInput there = record { inv = inv; requests = refl; came = refl }

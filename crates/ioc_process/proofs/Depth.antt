@@ -3,7 +3,7 @@ use Rattle.std.proofs.Common.{◌≡◌, ℕ, zero, suc, ◌+◌, ◌<◌, ◌�
 use Rattle.ioc_record.specs.declared.common.Common.{Common}
 use Rattle.ioc_record.specs.declared.link_field.LinkUse.{LinkUse}
 use Rattle.ioc_record.specs.declared.link_field.LinkUse.TheVariants.{Unused, OwnDevice, Absent, Standing}
-use Rattle.ioc_record.specs.declared.link_field.Target.{Target}
+use Rattle.ioc_record.specs.declared.link_field.StandingLink.{StandingLink}
 use Rattle.ioc_record.specs.declared.body.Got.{Got}
 use Rattle.ioc_record.specs.declared.body.Want.{Want}
 use Rattle.ioc_record.specs.declared.body.Want.TheVariants.{NoInput, ReadLink}
@@ -62,7 +62,7 @@ module _ {R : Type 0} (k : RecordRules R) (lawful : IsLawful k) where
   room-active : (bound : ℕ) (w : World R) (s : ℕ) → Room k bound w s → idle k (changed k w s (with_active true)) < bound
   room-active bound w s room = omega (arith, room, idle-changed k lawful w s (with_active true))
 
-  pub inherits-stays : (w : World R) (s : ℕ) (t : Target) → Stays k w s (inherits k w s t)
+  pub inherits-stays : (w : World R) (s : ℕ) (t : StandingLink) → Stays k w s (inherits k w s t)
   unfolding inherits
   inherits-stays w s t =
       elim (eqb s t.number) as (λ b. Stays k w s (cond b w (changed k w s (inherited t.mode (common_at k w t.number).condition.alarms.status (common_at k w t.number).condition.alarms.severity)))) [
@@ -74,7 +74,7 @@ module _ {R : Type 0} (k : RecordRules R) (lawful : IsLawful k) where
   unfolding faulted
   faulted-stays w s = stays-changed w s _ refl
 
-  pub value_came-stays : (w : World R) (s : ℕ) (t : Target) (value : Result Value IocError) → Stays k w s (value_came k w s t value).world
+  pub value_came-stays : (w : World R) (s : ℕ) (t : StandingLink) (value : Result Value IocError) → Stays k w s (value_came k w s t value).world
   unfolding value_came
   value_came-stays w s t (Ok v) = inherits-stays w s t
   value_came-stays w s t (Err e) = faulted-stays w s
@@ -147,7 +147,7 @@ module _ {R : Type 0} (k : RecordRules R) (lawful : IsLawful k) where
     followed-same w s OwnDevice room = refl
     followed-same w s Absent room = refl
 
-    prepared-stays : (w : World R) (s : ℕ) (t : Target) → Room k bound w s → Stays k w s (prepared k ask w s t).world
+    prepared-stays : (w : World R) (s : ℕ) (t : StandingLink) → Room k bound w s → Stays k w s (prepared k ask w s t).world
     unfolding prepared
     prepared-stays w s t room =
         elim t.process_passive as (λ b. Stays k w s (cond {A = Done R} b (caused k ask w s t.number) (record { world = w; requests = None })).world) [
@@ -155,15 +155,15 @@ module _ {R : Type 0} (k : RecordRules R) (lawful : IsLawful k) where
           | false ↦ stays_here k w s
         ]
 
-    prepared-same : (w : World R) (s : ℕ) (t : Target) → Room k bound w s → prepared k ask w s t ≡ prepared k other w s t
+    prepared-same : (w : World R) (s : ℕ) (t : StandingLink) → Room k bound w s → prepared k ask w s t ≡ prepared k other w s t
     unfolding prepared
     prepared-same w s t room = rw (caused-same w s t.number room) refl
 
-    pub read_record-stays : (w : World R) (s : ℕ) (t : Target) → Room k bound w s → Stays k w s (read_record k ask w s t).world
+    pub read_record-stays : (w : World R) (s : ℕ) (t : StandingLink) → Room k bound w s → Stays k w s (read_record k ask w s t).world
     unfolding read_record
     read_record-stays w s t room = stays_on k (prepared-stays w s t room) (value_came-stays _ s t _)
 
-    read_record-same : (w : World R) (s : ℕ) (t : Target) → Room k bound w s → read_record k ask w s t ≡ read_record k other w s t
+    read_record-same : (w : World R) (s : ℕ) (t : StandingLink) → Room k bound w s → read_record k ask w s t ≡ read_record k other w s t
     unfolding read_record
     read_record-same w s t room = rw (prepared-same w s t room) refl
 
@@ -329,10 +329,10 @@ module _ {R : Type 0} (k : RecordRules R) (lawful : IsLawful k) where
       pub stays-caused : (t : ℕ) → Stays k w s (caused k (request k answers) w s t).world
       stays-caused t = caused-stays _ _ _ (request-asks (idle k w + 1)) w s t free
 
-      pub stays-prepared : (t : Target) → Stays k w s (prepared k (request k answers) w s t).world
+      pub stays-prepared : (t : StandingLink) → Stays k w s (prepared k (request k answers) w s t).world
       stays-prepared t = prepared-stays _ _ _ (request-asks (idle k w + 1)) w s t free
 
-      pub stays-read_record : (t : Target) → Stays k w s (read_record k (request k answers) w s t).world
+      pub stays-read_record : (t : StandingLink) → Stays k w s (read_record k (request k answers) w s t).world
       stays-read_record t = read_record-stays _ _ _ (request-asks (idle k w + 1)) w s t free
 
       pub stays-read_link : (link : LinkUse) → Stays k w s (read_link k (request k answers) w s link).world

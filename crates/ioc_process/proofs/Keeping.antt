@@ -6,7 +6,7 @@ use Rattle.ioc_values.specs.declared.value.Value.{Value}
 use Rattle.ioc_values.specs.declared.error.IocError.{IocError}
 use Rattle.ioc_record.specs.declared.common.Common.{Common}
 use Rattle.ioc_record.specs.declared.link_field.LinkUse.{LinkUse}
-use Rattle.ioc_record.specs.declared.link_field.Target.{Target}
+use Rattle.ioc_record.specs.declared.link_field.StandingLink.{StandingLink}
 use Rattle.ioc_record.specs.declared.body.Got.{Got}
 use Rattle.ioc_record.specs.declared.body.Want.{Want}
 use Rattle.ioc_device.specs.declared.Answer.{Answer}
@@ -72,14 +72,14 @@ module _ {R : Type 0} (k : RecordRules R) (lawful : IsLawful k) where
     start : KeptFrom w0 w0
     start = (refl, keeps_all k w0)
 
-  pub inherits-keeps : (w : World R) (s : ℕ) (t : Target) → Keeps k w (inherits k w s t)
+  pub inherits-keeps : (w : World R) (s : ℕ) (t : StandingLink) → Keeps k w (inherits k w s t)
   inherits-keeps w s t = (inherits-goes k lawful _ _ _ (kept w) (start w) s tt t tt).1
 
   pub faulted-keeps : (w : World R) (s : ℕ) → Keeps k w (faulted k w s)
   unfolding faulted
   faulted-keeps w s = keeps-changed w s _ (λ c. refl)
 
-  pub value_came-keeps : (w : World R) (s : ℕ) (t : Target) (value : Result Value IocError) → Keeps k w (value_came k w s t value).world
+  pub value_came-keeps : (w : World R) (s : ℕ) (t : StandingLink) (value : Result Value IocError) → Keeps k w (value_came k w s t value).world
   value_came-keeps w s t value = (value_came-goes k lawful _ _ _ (kept w) (start w) s tt t tt value).inv.1
 
   pub received-keeps : (w : World R) (s : ℕ) (answer : Answer) → Keeps k w (received k w s answer).world
@@ -101,10 +101,10 @@ module _ {R : Type 0} (k : RecordRules R) (lawful : IsLawful k) where
     pub keeps-followed : (link : LinkUse) → Keeps k w (followed k (request k answers) w s link).world
     keeps-followed link = (followed-goes k lawful _ _ _ (kept w) _ _ asks (start w) s tt link (λ _ _. tt)).inv.1
 
-    pub keeps-prepared : (t : Target) → Keeps k w (prepared k (request k answers) w s t).world
+    pub keeps-prepared : (t : StandingLink) → Keeps k w (prepared k (request k answers) w s t).world
     keeps-prepared t = (prepared-goes k lawful _ _ _ (kept w) _ _ asks (start w) s tt t tt).inv.1
 
-    pub keeps-read_record : (t : Target) → Keeps k w (read_record k (request k answers) w s t).world
+    pub keeps-read_record : (t : StandingLink) → Keeps k w (read_record k (request k answers) w s t).world
     keeps-read_record t = (read_record-goes k lawful _ _ _ (kept w) _ _ asks (start w) s tt t tt).inv.1
 
     pub keeps-read_link : (link : LinkUse) → Keeps k w (read_link k (request k answers) w s link).world

@@ -4,7 +4,7 @@ use Rattle.std.specs.Prelude.{slice_get, Result, Ok, Err}
 use Rattle.std.proofs.lemmas.Grind.{common_steps}
 use Rattle.ioc_record.specs.declared.link_field.LinkUse.{LinkUse}
 use Rattle.ioc_record.specs.declared.link_field.LinkUse.TheVariants.{Unused, OwnDevice, Absent, Standing}
-use Rattle.ioc_record.specs.declared.link_field.Target.{Target}
+use Rattle.ioc_record.specs.declared.link_field.StandingLink.{StandingLink}
 use Rattle.ioc_record.specs.declared.body.Got.{Got}
 use Rattle.ioc_record.specs.declared.body.Want.{Want}
 use Rattle.ioc_record.specs.declared.body.Want.TheVariants.{NoInput, ReadLink, ReadDevice}
@@ -26,7 +26,7 @@ use Rattle.ioc_process.proofs.Depth.{Room, room-ready, reads-input, request-rule
 use Rattle.ioc_process.proofs.RulesAlone.{followed_by-none}
 
 module _ {R : Type 0} (k : RecordRules R) where
-  inherits-allowed : (w : World R) (s : ℕ) (t : Target) → Inherits k w s t (inherits k w s t)
+  inherits-allowed : (w : World R) (s : ℕ) (t : StandingLink) → Inherits k w s t (inherits k w s t)
   unfolding inherits
   inherits-allowed w s t =
       elim (eqb s t.number) as (λ b. eqb s t.number ≡ b → Inherits k w s t (cond b w (changed k w s (inherited t.mode (common_at k w t.number).condition.alarms.status (common_at k w t.number).condition.alarms.severity)))) [
@@ -34,13 +34,13 @@ module _ {R : Type 0} (k : RecordRules R) where
         | false ↦ λ is. from_another (grind (arith, common_steps))
       ] refl
 
-  taken-allowed : (w : World R) (s : ℕ) (t : Target) (value : Result Value IocError) → read_as k (at k w t.number) t.field (k.input_kind (at k w s)) ≡ value
+  taken-allowed : (w : World R) (s : ℕ) (t : StandingLink) (value : Result Value IocError) → read_as k (at k w t.number) t.field (k.input_kind (at k w s)) ≡ value
       → Takes k w s t (value_came k w s t value).world (value_came k w s t value).came
   unfolding value_came faulted
   taken-allowed w s t (Ok v) is = that_converts is (inherits-allowed w s t)
   taken-allowed w s t (Err e) is = that_does_not is
 
-  takes-allowed : (w : World R) (s : ℕ) (t : Target)
+  takes-allowed : (w : World R) (s : ℕ) (t : StandingLink)
       → let read = value_came k w s t (read_as k (at k w t.number) t.field (k.input_kind (at k w s))) in Takes k w s t read.world read.came
   takes-allowed w s t = taken-allowed w s t _ refl
 
@@ -101,7 +101,7 @@ module _ {R : Type 0} (k : RecordRules R) (lawful : IsLawful k) (answers : List 
     followed-allowed w s OwnDevice room = nowhere (λ t is. cc)
     followed-allowed w s Absent room = nowhere (λ t is. cc)
 
-    read_record-allowed : (w : World R) (s : ℕ) (t : Target) → Room k bound w s
+    read_record-allowed : (w : World R) (s : ℕ) (t : StandingLink) → Room k bound w s
         → Gets k answers w s (ReadLink (Standing t)) (read_record k ask w s t).world (read_record k ask w s t).came (read_record k ask w s t).requests
     unfolding read_record prepared
     read_record-allowed w s t room =

@@ -3,7 +3,7 @@ use Rattle.std.proofs.Common.{◌≡◌, ◌≢◌, ℕ, true, false, eqb, List,
 use Rattle.std.proofs.lemmas.Grind.{common_steps}
 use Rattle.ioc_record.specs.declared.link_field.LinkUse.{LinkUse}
 use Rattle.ioc_record.specs.declared.link_field.LinkUse.TheVariants.{Unused, OwnDevice, Absent, Standing}
-use Rattle.ioc_record.specs.declared.link_field.Target.{Target}
+use Rattle.ioc_record.specs.declared.link_field.StandingLink.{StandingLink}
 use Rattle.ioc_record.specs.declared.body.Got.{Got}
 use Rattle.ioc_record.specs.declared.body.Got.TheVariants.{Value as Got-value}
 use Rattle.ioc_record.specs.declared.body.Want.{Want}
@@ -28,7 +28,7 @@ true-not-false : true ≡ false → ⊥
 true-not-false is = cc
 
 module _ {R : Type 0} (k : RecordRules R) where
-  inherits-is : {w : World R} {s : ℕ} {t : Target} {w' : World R} → Inherits k w s t w' → inherits k w s t ≡ w'
+  inherits-is : {w : World R} {s : ℕ} {t : StandingLink} {w' : World R} → Inherits k w s t w' → inherits k w s t ≡ w'
   unfolding inherits
   inherits-is (from_itself {w} {s} {t} same) =
       let is : eqb s t.number ≡ true = grind (arith, common_steps) in
@@ -37,7 +37,7 @@ module _ {R : Type 0} (k : RecordRules R) where
       let is : eqb s t.number ≡ false = grind (arith, common_steps) in
       rw is refl
 
-  takes-is : {w : World R} {s : ℕ} {t : Target} {w' : World R} {got : Got} → Takes k w s t w' got
+  takes-is : {w : World R} {s : ℕ} {t : StandingLink} {w' : World R} {got : Got} → Takes k w s t w' got
       → value_came k w s t (read_as k (at k w t.number) t.field (k.input_kind (at k w s))) ≡ record { world = w'; came = got }
   unfolding value_came faulted
   takes-is (that_converts {w} {w'} {s} {t} {v} is i) = ap (value_came k w s t) is ∙ ap (λ (after : World R). record { world = after; came = Got-value v }) (inherits-is i)
@@ -84,7 +84,7 @@ module _ {R : Type 0} (k : RecordRules R) (lawful : IsLawful k) (answers : List 
   unfolding caused
   caused-step w s t done is = rw is refl
 
-  read-step : (w : World R) (s : ℕ) (t : Target) (done : Done R) (w' : World R) (got : Got) → prepared k ask w s t ≡ done
+  read-step : (w : World R) (s : ℕ) (t : StandingLink) (done : Done R) (w' : World R) (got : Got) → prepared k ask w s t ≡ done
       → value_came k done.world s t (read_as k (at k done.world t.number) t.field (k.input_kind (at k done.world s))) ≡ record { world = w'; came = got }
       → read_link k ask w s (Standing t) ≡ record { world = w'; requests = done.requests; came = Some got }
   unfolding read_link read_record
@@ -93,15 +93,15 @@ module _ {R : Type 0} (k : RecordRules R) (lawful : IsLawful k) (answers : List 
       ap (λ (d : Done R). record { world = (read d).world; requests = d.requests; came = Some (read d).came }) is
       ∙ ap (λ (c : Came R). record { world = c.world; requests = done.requests; came = Some c.came }) came
 
-  prepared-plain : (w : World R) (s : ℕ) (t : Target) → t.process_passive ≡ false → prepared k ask w s t ≡ record { world = w; requests = None }
+  prepared-plain : (w : World R) (s : ℕ) (t : StandingLink) → t.process_passive ≡ false → prepared k ask w s t ≡ record { world = w; requests = None }
   unfolding prepared
   prepared-plain w s t is = rw is refl
 
-  prepared-request : (w : World R) (s : ℕ) (t : Target) → t.process_passive ≡ true → prepared k ask w s t ≡ caused k ask w s t.number
+  prepared-request : (w : World R) (s : ℕ) (t : StandingLink) → t.process_passive ≡ true → prepared k ask w s t ≡ caused k ask w s t.number
   unfolding prepared
   prepared-request w s t is = rw is refl
 
-  followed-nowhere : (w : World R) (s : ℕ) (link : LinkUse) → ((t : Target) → link ≢ Standing t) → followed k ask w s link ≡ record { world = w; requests = None }
+  followed-nowhere : (w : World R) (s : ℕ) (link : LinkUse) → ((t : StandingLink) → link ≢ Standing t) → followed k ask w s link ≡ record { world = w; requests = None }
   unfolding followed
   followed-nowhere w s Unused none = refl
   followed-nowhere w s OwnDevice none = refl

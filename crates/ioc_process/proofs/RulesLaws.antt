@@ -5,7 +5,7 @@ use Rattle.ioc_device.specs.declared.Answer.{Answer}
 use Rattle.ioc_ledger.specs.Requests.{Requests}
 use Rattle.ioc_record.specs.declared.common.Common.{Common}
 use Rattle.ioc_record.specs.declared.link_field.LinkUse.{LinkUse}
-use Rattle.ioc_record.specs.declared.link_field.Target.{Target}
+use Rattle.ioc_record.specs.declared.link_field.StandingLink.{StandingLink}
 use Rattle.ioc_record.specs.declared.body.Got.{Got}
 use Rattle.ioc_record.specs.declared.body.Want.{Want}
 use Rattle.ioc_record.specs.Steps.{blocked, unblocked, with_active, shown, waiting}
@@ -94,11 +94,11 @@ module _ {R : Type 0} (k : RecordRules R) (lawful : IsLawful k) where
   both-changed : (w : World R) (s : ℕ) (f : Common → Common) → Same (common_at k w s) (f (common_at k w s)) → Both s w (changed k w s f)
   both-changed w s f same = record { others = λ n apart. left_same (changed-but w s f n apart); own = changed-own w s f same }
 
-  inherits-both : {w : World R} {s : ℕ} {t : Target} {w' : World R} → Inherits k w s t w' → Both s w w'
+  inherits-both : {w : World R} {s : ℕ} {t : StandingLink} {w' : World R} → Inherits k w s t w' → Both s w w'
   inherits-both (from_itself {w} {s} _) = both_here w s
   inherits-both (from_another {w} {s} {t} _) = both-changed w s _ (record { active = refl; pending = refl })
 
-  takes-both : {w : World R} {s : ℕ} {t : Target} {w' : World R} {got : Got} → Takes k w s t w' got → Both s w w'
+  takes-both : {w : World R} {s : ℕ} {t : StandingLink} {w' : World R} {got : Got} → Takes k w s t w' got → Both s w w'
   takes-both (that_converts _ i) = inherits-both i
   takes-both (that_does_not {w} {s} _) = both-changed w s _ (record { active = refl; pending = refl })
 

@@ -3,7 +3,8 @@ use ioc_dbfile::{Database, Macros, load};
 use ioc_fields::FieldNo;
 use ioc_ledger::{Outcome, Tally};
 use ioc_names::RecordNo;
-use ioc_process::{OneMap, Record, Reply, run_get, run_request};
+use ioc_process::{OneMap, Reply, run_get, run_request};
+use ioc_types::Record;
 use std::test::Fail;
 
 // Is this the text of the field of the record of this number?

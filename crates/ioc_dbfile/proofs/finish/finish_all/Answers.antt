@@ -1,7 +1,7 @@
 use Rattle.std.proofs.Common.{◌≡◌, ◌++◌, List, map, take, drop, get_or, ap, ◌∙◌}
-use Rattle.ioc_process.specs.Record.{Record}
+use Rattle.ioc_types.specs.Record.{Record}
 use Rattle.ioc_fields.specs.declared.record_type.RecordType.{RecordType}
-use Rattle.ioc_process.specs.Record.{record_rules}
+use Rattle.ioc_types.specs.Record.{record_rules}
 use Rattle.ioc_dbfile.specs.Finished.{finished}
 use Rattle.ioc_dbfile.proofs.Mapped.{map_more, get_more}
 use Rattle.ioc_dbfile.proofs.finish.finish_all.Goals as goal

@@ -1,5 +1,5 @@
 use Rattle.std.proofs.Common.{◌≡◌, ◌++◌, take, drop, map}
-use Rattle.ioc_process.specs.Record.{record_rules}
+use Rattle.ioc_types.specs.Record.{record_rules}
 use Rattle.ioc_dbfile.specs.Finished.{finished}
 use Rattle.ioc_dbfile.proofs.finish.finish_all.Given as goal
 

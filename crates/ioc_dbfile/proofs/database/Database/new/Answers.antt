@@ -1,7 +1,7 @@
 use Rattle.std.specs.Global.{Vec}
 use Rattle.std.proofs.Common.{◌≡◌, ◌∙◌, ap, length, arith}
 use Rattle.std.proofs.lemmas.List.{with_items_is}
-use Rattle.ioc_process.specs.Record.{Record}
+use Rattle.ioc_types.specs.Record.{Record}
 use Rattle.ioc_dbfile.proofs.Closing.{finished_closed}
 use Rattle.ioc_dbfile.proofs.database.Database.new.Goals as goal
 

@@ -1,5 +1,5 @@
 use Rattle.std.proofs.Common.{◌∙◌, refl}
-use Rattle.ioc_process.specs.Record.{record_rules}
+use Rattle.ioc_types.specs.Record.{record_rules}
 use Rattle.ioc_main.specs.RecordsLaws.{at-map}
 use Rattle.ioc_main.proofs.records.ReplayRecordsStore.record_mut.Goals as goal
 

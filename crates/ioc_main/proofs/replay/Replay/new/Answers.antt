@@ -1,4 +1,4 @@
-use Rattle.ioc_process.specs.Record.{record_rules}
+use Rattle.ioc_types.specs.Record.{record_rules}
 use Rattle.ioc_process.specs.OneMap.{world_of as world_on}
 use Rattle.ioc_main.proofs.Closing.{closed_same}
 use Rattle.ioc_main.proofs.replay.Replay.new.Goals as goal

@@ -1,5 +1,5 @@
 use Rattle.std.proofs.Common.{sym}
-use Rattle.ioc_process.specs.Record.{record_rules}
+use Rattle.ioc_types.specs.Record.{record_rules}
 use Rattle.ioc_main.specs.Records.{world_of}
 use Rattle.ioc_main.proofs.Closing.{closed_same, closed_kept, faults_begin}
 use Rattle.ioc_main.proofs.replay.Replay.put.Goals as goal

@@ -1,0 +1,6 @@
+//! The record types: a record of whatever type, by an enum over the own fields of each.
+#![tactic(auto)]
+
+pub mod record;
+
+pub use record::{Body, Record};
