@@ -9,18 +9,16 @@ use Rattle.ioc_record.specs.declared.link_field.LinkUse.{LinkUse}
 use Rattle.ioc_record.specs.declared.link_field.LinkUse.TheVariants.{Standing}
 use Rattle.ioc_record.specs.declared.link_field.StandingLink.{StandingLink}
 use Rattle.ioc_record.specs.declared.body.Got.{Got}
-use Rattle.ioc_record.specs.declared.body.Want.{Want}
-use Rattle.ioc_record.specs.declared.body.Want.TheVariants.{ReadLink}
 use Rattle.ioc_device.specs.declared.Answer.{Answer}
 use Rattle.ioc_device.specs.declared.Answer.TheVariants.{Done as Done-answer, Fault as Fault-answer, Later}
 use Rattle.ioc_record.specs.Steps.{with_active}
-use Rattle.ioc_record.specs.RecordRules.{RecordRules, targets}
+use Rattle.ioc_record.specs.RecordRules.{RecordRules}
 use Rattle.ioc_record.specs.Laws.{IsLawful}
 use Rattle.ioc_process.specs.World.{World, Has, at, put, changed, SameLinks, Keeps, IsClosed, used_one}
-use Rattle.ioc_process.specs.Processing.{caused, followed, inherits, value_came, prepared, read_record, faulted, read_link, device_gave, received, read_device, can_ask, input, request}
+use Rattle.ioc_process.specs.Processing.{caused, followed, inherits, value_came, prepared, read_record, faulted, device_gave, received, read_device, can_ask, request}
 use Rattle.ioc_process.proofs.StepFrames.{targets_same, links-set, links-taken}
-use Rattle.ioc_process.proofs.Worlds.{at-put_same, at-put_other, has-put, has-put_back}
-use Rattle.ioc_process.proofs.Alongside.{Guards, Goes, inherits-goes, value_came-goes, caused-goes, followed-goes, prepared-goes, read_record-goes, read_link-goes, input-goes, request-goes}
+use Rattle.ioc_process.proofs.Worlds.{at-put_same, at-put_other, has-put, has-put_back, len-put}
+use Rattle.ioc_process.proofs.Alongside.{Guards, Goes, inherits-goes, value_came-goes, caused-goes, followed-goes, prepared-goes, read_record-goes, request-goes}
 
 -- the same record has the same links, and so has one after another
 pub same_links : {R : Type 0} (k : RecordRules R) (r : R) → SameLinks k r r
@@ -31,16 +29,17 @@ links_on k one two = record { fields = two.fields ∙ one.fields; links = two.li
 
 module _ {R : Type 0} (k : RecordRules R) where
   pub keeps_all : (w : World R) → Keeps k w w
-  keeps_all w = record { has = λ _ h. h; only = λ _ h. h; links = λ n. same_links k (at k w n) }
+  keeps_all w = record { has = λ _ h. h; only = λ _ h. h; count = refl; links = λ n. same_links k (at k w n) }
 
   pub keeps_on : {w mid after : World R} → Keeps k w mid → Keeps k mid after → Keeps k w after
-  keeps_on one two = record { has = λ n h. two.has n (one.has n h); only = λ n h. one.only n (two.only n h); links = λ n. links_on k (one.links n) (two.links n) }
+  keeps_on one two = record { has = λ n h. two.has n (one.has n h); only = λ n h. one.only n (two.only n h); count = two.count ∙ one.count; links = λ n. links_on k (one.links n) (two.links n) }
 
   -- a record with the links that it had at the start
   pub put_kept : (w0 w : World R) (n : ℕ) → Has w0 n → (r : R) → Keeps k w0 w → SameLinks k (at k w0 n) r → Keeps k w0 (put w n r)
   put_kept w0 w n may r keeps good = record {
     has = λ m h. has-put k w n m r (keeps.has m h);
     only = λ m h. keeps.only m (has-put_back k w n m r (keeps.has n may) h);
+    count = len-put k w n r (keeps.has n may) ∙ keeps.count;
     links = λ m. elim (eqb m n) as (λ b. eqb m n ≡ b → SameLinks k (at k w0 m) (at k (put w n r) m)) [
       | true ↦ λ is. let e : m ≡ n = grind (arith, common_steps) in rw (e, at-put_same k w n r) good
       | false ↦ λ is. let apart : m ≢ n = grind (arith, common_steps) in rw (at-put_other k w n m r apart) (keeps.links m)
@@ -81,7 +80,7 @@ module _ {R : Type 0} (k : RecordRules R) (lawful : IsLawful k) where
 
   used-keeps : (w : World R) → Keeps k w (used_one w)
   unfolding at used_one
-  used-keeps w = record { has = λ _ h. h; only = λ _ h. h; links = λ n. record { fields = refl; links = refl } }
+  used-keeps w = record { has = λ _ h. h; only = λ _ h. h; count = refl; links = λ n. record { fields = refl; links = refl } }
 
   pub read_device-keeps : (answers : List Answer) (w : World R) (s : ℕ) → Has w s → Keeps k w (read_device k answers w s).world
   unfolding read_device

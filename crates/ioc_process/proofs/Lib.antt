@@ -15,3 +15,6 @@ mod StepLaws
 mod Quieting
 mod QuietEvents
 mod LocalEvents
+mod FrameSteps
+mod FrameWork
+mod FrameLoop

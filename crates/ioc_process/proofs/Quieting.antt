@@ -1,5 +1,5 @@
 -- A request leaves a quiet database quiet.
-use Rattle.std.proofs.Common.{◌≡◌, ℕ, List, IsSome, IsTrue}
+use Rattle.std.proofs.Common.{ℕ, List, IsSome, IsTrue}
 use Rattle.std.specs.Prelude.{◌↔◌}
 use Rattle.ioc_device.specs.declared.Answer.{Answer}
 use Rattle.ioc_record.specs.declared.common.Common.{Common}

@@ -1,17 +1,26 @@
 -- What a change of one record does to a world.
-use Rattle.std.proofs.Common.{◌≡◌, ◌≢◌, ℕ, ◌+◌, Bool, true, false, cond, eqb, Option, Some, None, unwrap_or, refl, sym, ap, subst, ◌∙◌, arith}
-use Rattle.std.specs.FinMap.{gets}
+use Rattle.std.proofs.Common.{◌≡◌, ◌≢◌, ◌≤◌, ℕ, ◌+◌, List, [], ◌∷◌, length, Bool, true, false, cond, eqb, Option, Some, None, unwrap_or, refl, sym, ap, subst, ◌∙◌, arith}
+use Rattle.std.specs.FinMap.{gets, entries, len, len-entries, len-insert}
+use Rattle.std.specs.Cmp.{nat_cmp_total}
 use Rattle.std.proofs.lemmas.Grind.{common_steps}
 use Rattle.ioc_record.specs.declared.common.Common.{Common}
 use Rattle.ioc_record.specs.Steps.{with_active}
 use Rattle.ioc_record.specs.RecordRules.{RecordRules}
 use Rattle.ioc_record.specs.Laws.{IsLawful}
-use Rattle.ioc_process.specs.World.{World, Has, at, common_at, put, changed, idle, one_if_idle}
+use Rattle.ioc_process.specs.World.{World, Has, at, common_at, put, changed, idle, one_if_idle, total}
 use Rattle.ioc_process.proofs.Weights.{weight_of, total-insert}
 
 pub one_of_two : (b : Bool) → cond b 1 0 + cond b 0 1 ≡ 1
 one_of_two true = refl
 one_of_two false = refl
+
+most_one : (b : Bool) → cond b 0 1 ≤ 1
+most_one true = omega arith
+most_one false = omega arith
+
+ones_few : {R : Type 0} (weight : R → ℕ) → ((r : R) → weight r ≤ 1) → (es : List (ℕ × R)) → total weight es ≤ length es
+ones_few weight small [] = omega arith
+ones_few weight small (e ∷ es) = omega (arith, small e.1, ones_few weight small es)
 
 module _ {R : Type 0} (k : RecordRules R) where
   pub at-put_same : (w : World R) (n : ℕ) (r : R) → at k (put w n r) n ≡ r
@@ -33,6 +42,16 @@ module _ {R : Type 0} (k : RecordRules R) where
         | true ↦ λ e. let same : n ≡ m = grind (arith, common_steps) in subst (λ (q : ℕ). Has w q) same there
         | false ↦ λ e. let apart : m ≢ n = grind (arith, common_steps) in grind (gets, arith, common_steps)
       ] refl
+
+  -- there are as many records after a put of one that is there
+  pub len-put : (w : World R) (n : ℕ) (r : R) → Has w n → len (put w n r).records ≡ len w.records
+  unfolding put
+  len-put w n r there = len-insert nat_cmp_total w.records n r ∙ ap (λ b. cond b (len w.records) (len w.records + 1)) there
+
+  -- no more are idle than there are
+  pub idle_few : (w : World R) → idle k w ≤ len w.records
+  unfolding idle
+  idle_few w = rw (len-entries w.records) (ones_few (one_if_idle k) (λ r. most_one (k.common r).active) (entries w.records))
 
   -- the idle records, and one more where this one is active
   abbrev pub room : World R → ℕ → ℕ

@@ -18,6 +18,12 @@ process_after_put-requires-clause-closed g c =
     let k = g.S.Record.RecordKind.rules in
     rw c.in-Ok.ensures.stored (closed_on k g.met.S.Record.RecordKind.lawful (keeps-put_field k g.met.S.Record.RecordKind.lawful (g.S.Store.world c.args.store.now) c.args.number c.args.field c.args.given _ (sym c.has.ensures ∙ c.if-not-has.false) c.in-Ok.ensures.ok) c.requires.closed)
 
+pub process_after_put-requires-clause-room : goal.process_after_put-requires-clause-room
+process_after_put-requires-clause-room g c =
+    let k = g.S.Record.RecordKind.rules in
+    let kept = keeps-put_field k g.met.S.Record.RecordKind.lawful (g.S.Store.world c.args.store.now) c.args.number c.args.field c.args.given _ (sym c.has.ensures ∙ c.if-not-has.false) c.in-Ok.ensures.ok in
+    rw (c.in-Ok.ensures.stored, kept.count) c.requires.room
+
 pub returns-in-Ok-clause-step : goal.returns-in-Ok-clause-step
 returns-in-Ok-clause-step g c = λ answers begins.
     rw (
