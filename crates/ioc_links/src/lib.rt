@@ -14,6 +14,3 @@ pub use grammar::is_record_name;
 pub use link::{Flags, Link, LinkKind, Mode, Target};
 pub use parsing::parse;
 pub use printing::{print, printed_is_read};
-
-#[cfg(test)]
-mod tests;

@@ -16,6 +16,3 @@ pub use input::{Input, convert_input, convert_text};
 pub use kind::{Kind, Range};
 pub use short::{FieldName, Name, Short, Text};
 pub use value::{Finished, Value};
-
-#[cfg(test)]
-mod tests;

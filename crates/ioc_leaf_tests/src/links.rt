@@ -1,5 +1,5 @@
 //! Link texts, each printed and read again, and texts that are no links.
-use crate::{LinkKind, is_record_name, parse, print};
+use ioc_links::{LinkKind, is_record_name, parse, print};
 use ioc_values::Short;
 use std::test::Fail;
 
