@@ -1,7 +1,7 @@
 //! Conversions at the ends of every range, and the printed refusals.
-use crate::number::{is_number, number, signed};
-use crate::trim::trim;
-use crate::{BadDbKind, IocError, Kind, Range, Text, Value, convert, convert_text};
+use ioc_values::number::{is_number, number, signed};
+use ioc_values::trim::trim;
+use ioc_values::{BadDbKind, IocError, Kind, Range, Short, Text, Value, convert, convert_text};
 use std::test::Fail;
 
 const BAD: Result<Value, IocError> = Err(IocError::BadValue);
@@ -118,6 +118,20 @@ fn long_texts(rt: HostRuntime) {
     assert!(rt; cut.as_slice().len() == 39);
     assert!(rt; Kind::Text.is_text());
     assert!(rt; !Kind::Menu(&STOP_GO).is_text());
+}
+
+#[test]
+fn texts_of_a_fixed_capacity(rt: HostRuntime) {
+    let mut short = Short::<4>::new();
+    short.extend(b"ab");
+    short.push(b'c');
+    assert!(rt; short.as_slice() == b"abc".as_slice());
+    short.push_cut(b'd');
+    short.push_cut(b'e');
+    assert!(rt; Short::from_slice(b"abcd") == Some(short));
+    assert!(rt; Short::<4>::from_slice(b"abcde").is_none());
+    short.clear();
+    assert!(rt; short == Short::cut(b""));
 }
 
 #[test]
