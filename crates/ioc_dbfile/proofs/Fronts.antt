@@ -3,7 +3,7 @@ use Rattle.std.proofs.Common.{◌≡◌, ℕ, zero, suc, ◌+◌, ◌-◌, Bool,
 use Rattle.std.specs.List.{onto_first}
 use Rattle.std.proofs.lemmas.Bool.{cases_Bool}
 use Rattle.ioc_values.specs.declared.error.BadDbKind.TheVariants as kinds
-use Rattle.ioc_dbfile.specs.declared.fault.DbFault.{DbFault}
+use Rattle.ioc_values.specs.declared.error.DbFault.{DbFault}
 use Rattle.ioc_dbtext.specs.declared.texts.End.{End}
 use Rattle.ioc_dbtext.specs.declared.texts.End.TheVariants.{Whole, BadMacro}
 use Rattle.ioc_dbtext.specs.Bytes.{behind_gap}

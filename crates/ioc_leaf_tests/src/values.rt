@@ -1,7 +1,7 @@
 //! Conversions at the ends of every range, and the printed refusals.
 use ioc_values::number::{is_number, number, signed};
 use ioc_values::trim::trim;
-use ioc_values::{BadDbKind, IocError, Kind, Range, Short, Text, Value, convert, convert_text};
+use ioc_values::{BadDbKind, DbFault, IocError, Kind, Range, Short, Text, Value, convert, convert_text};
 use std::test::Fail;
 
 const BAD: Result<Value, IocError> = Err(IocError::BadValue);
@@ -178,7 +178,12 @@ fn refused_databases_in_words(rt: HostRuntime) -> Result<(), Fail> {
     for (kind, words) in kinds {
         assert!(rt; kind.words() == words);
     }
-    let refused = IocError::BadDb(2, BadDbKind::Unclosed);
+    let fault = DbFault {
+        line: 2,
+        kind: BadDbKind::Unclosed,
+    };
+    assert!(rt; fault.to_string(rt.alloc())?.as_str() == "E13 BadDb line 2: text not closed");
+    let refused = IocError::BadDb(fault);
     assert!(rt; refused.words() == "E13 BadDb");
     assert!(rt; refused.to_string(rt.alloc())?.as_str() == "E13 BadDb line 2: text not closed");
     Ok(())

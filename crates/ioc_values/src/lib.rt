@@ -11,7 +11,7 @@ pub mod trim;
 pub mod value;
 
 pub use conversion::{convert, of_number};
-pub use error::{BadDbKind, IocError};
+pub use error::{BadDbKind, DbFault, IocError};
 pub use input::{Input, convert_input, convert_text};
 pub use kind::{Kind, Range};
 pub use short::{
