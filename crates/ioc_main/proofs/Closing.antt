@@ -19,14 +19,21 @@ use Rattle.ioc_process.specs.declared.given.Given.{Given}
 use Rattle.ioc_process.specs.declared.one_map.OneMap.{OneMap}
 use Rattle.ioc_process.specs.Given.{answers_of}
 use Rattle.ioc_process.specs.OneMapLaws.{all_faults-are}
+use Rattle.ioc_fields.specs.declared.field_no.FieldNo.{FieldNo}
+use Rattle.ioc_record.specs.declared.link_field.LinkField.{LinkField}
+use Rattle.ioc_record.specs.Links.{named_by_all}
 use Rattle.ioc_record.specs.RecordRules.{RecordRules, targets}
-use Rattle.ioc_process.specs.World.{World, IsClosed, Keeps, Has, at, begun}
+use Rattle.ioc_process.specs.World.{World, IsClosed, SameLinks, Keeps, Has, at, begun}
 use Rattle.ioc_process.specs.Runs.{Begins}
 use Rattle.ioc_main.specs.Replay.{faults, got}
 
+-- the same links name the same records
+links_lead : {R : Type 0} {k : RecordRules R} {r r' : R} → SameLinks k r r' → targets k r' ≡ targets k r
+links_lead {R} {k} {r} {r'} same = ap (λ (l : FieldNo → Option LinkField). named_by_all l (k.link_fields r')) same.links ∙ ap (named_by_all (k.link r)) same.fields
+
 pub closed_kept : {R : Type 0} (k : RecordRules R) (w v : World R) → IsClosed k w → Keeps k w v → IsClosed k v
 closed_kept k w v is keeps = record {
-  closed = λ n target named. keeps.has target (is.closed n target (subst (λ (ts : List ℕ). Contains ts target) (keeps.targets n) named));
+  closed = λ n target named. keeps.has target (is.closed n target (subst (λ (ts : List ℕ). Contains ts target) (links_lead (keeps.links n)) named));
 }
 
 at_begun : {R : Type 0} (k : RecordRules R) (w : World R) (n : ℕ) → at k (begun w) n ≡ at k w n
