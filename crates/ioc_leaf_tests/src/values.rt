@@ -1,7 +1,7 @@
 //! Conversions at the ends of every range, and the printed refusals.
-use crate::number::{is_number, number, signed};
-use crate::trim::trim;
-use crate::{BadDbKind, IocError, Kind, Range, Text, Value, convert, convert_text};
+use ioc_values::number::{is_number, number, signed};
+use ioc_values::trim::trim;
+use ioc_values::{BadDbKind, DbFault, IocError, Kind, Range, Short, Text, Value, convert, convert_text};
 use std::test::Fail;
 
 const BAD: Result<Value, IocError> = Err(IocError::BadValue);
@@ -121,6 +121,20 @@ fn long_texts(rt: HostRuntime) {
 }
 
 #[test]
+fn texts_of_a_fixed_capacity(rt: HostRuntime) {
+    let mut short = Short::<4>::new();
+    short.extend(b"ab");
+    short.push(b'c');
+    assert!(rt; short.as_slice() == b"abc".as_slice());
+    short.push_cut(b'd');
+    short.push_cut(b'e');
+    assert!(rt; Short::from_slice(b"abcd") == Some(short));
+    assert!(rt; Short::<4>::from_slice(b"abcde").is_none());
+    short.clear();
+    assert!(rt; short == Short::cut(b""));
+}
+
+#[test]
 fn refusals_in_words(rt: HostRuntime) -> Result<(), Fail> {
     let named = [
         (IocError::NoRecord, "E1 NoRecord"),
@@ -164,7 +178,12 @@ fn refused_databases_in_words(rt: HostRuntime) -> Result<(), Fail> {
     for (kind, words) in kinds {
         assert!(rt; kind.words() == words);
     }
-    let refused = IocError::BadDb(2, BadDbKind::Unclosed);
+    let fault = DbFault {
+        line: 2,
+        kind: BadDbKind::Unclosed,
+    };
+    assert!(rt; fault.to_string(rt.alloc())?.as_str() == "E13 BadDb line 2: text not closed");
+    let refused = IocError::BadDb(fault);
     assert!(rt; refused.words() == "E13 BadDb");
     assert!(rt; refused.to_string(rt.alloc())?.as_str() == "E13 BadDb line 2: text not closed");
     Ok(())

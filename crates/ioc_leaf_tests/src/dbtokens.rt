@@ -1,7 +1,6 @@
 //! Tokens and their lines, on examples of the database grammar.
-use crate::escapes::unescaped;
-use crate::tokens::Tokens;
 use ioc_dbtext::{TokenKind, expand};
+use ioc_dbtokens::{Tokens, unescaped};
 use ioc_values::BadDbKind;
 use std::test::Fail;
 

@@ -1,7 +1,6 @@
 //! Lines and their texts, on examples of the database grammar.
-use crate::expansion::expand;
-use crate::lines::line_text;
-use crate::texts::End;
+use ioc_dbtext::lines::line_text;
+use ioc_dbtext::{End, expand};
 use std::test::Fail;
 
 #[test]

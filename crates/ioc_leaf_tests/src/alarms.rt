@@ -1,4 +1,5 @@
-use crate::*;
+//! Alarms: raised, settled, inherited, and those of limits.
+use ioc_alarms::*;
 use ioc_links::Mode;
 use ioc_menus::{Severity, Status};
 

@@ -1,4 +1,5 @@
-use crate::*;
+//! Names of records, and their numbers.
+use ioc_names::*;
 use ioc_values::Name;
 use std::test::Fail;
 

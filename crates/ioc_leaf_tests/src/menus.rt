@@ -1,4 +1,5 @@
-use crate::*;
+//! Texts and numbers of choices.
+use ioc_menus::*;
 
 #[test]
 fn texts_of_choices(rt: HostRuntime) {

@@ -1,10 +1,10 @@
 //! Link texts, each printed and read again, and texts that are no links.
-use crate::{LinkKind, is_record_name, parse, print};
+use ioc_links::{LinkKind, MAX_LINK_BYTES, is_record_name, parse, print};
 use ioc_values::Short;
 use std::test::Fail;
 
 /// The printed link, or a question mark where the text is refused.
-fn spelled(kind: LinkKind, text: &[u8]) -> Short<120> {
+fn spelled(kind: LinkKind, text: &[u8]) -> Short<MAX_LINK_BYTES> {
     match parse(kind, text) {
         Ok(link) => print(&link),
         Err(_) => Short::cut(b"?"),
