@@ -1,6 +1,6 @@
 -- Links stay closed, and the answers of devices are faults.
 use Rattle.std.proofs.Common.{◌≡◌, ℕ, ◌+◌, ◌-◌, ◌≤◌, Bool, true, false, List, length, replicate, is_some, Result, Ok, Err, subst, ap, sym, refl, ◌∙◌, arith}
-use Rattle.std.specs.Prelude.{Contains, if◌then◌else◌}
+use Rattle.std.specs.Prelude.{Contains, Option, if◌then◌else◌}
 use Rattle.std.specs.FinMap.{contains_key}
 use Rattle.ioc_values.specs.declared.error.IocError.TheVariants.{NoRecord, NoField}
 use Rattle.ioc_values.specs.declared.error.IocError.{IocError}
