@@ -1,7 +1,7 @@
 -- Links stay closed, and the answers of devices are faults.
 use Rattle.std.proofs.Common.{◌≡◌, ℕ, ◌+◌, ◌-◌, ◌≤◌, Bool, true, false, List, length, replicate, is_some, Result, Ok, Err, subst, ap, sym, refl, ◌∙◌, arith}
 use Rattle.std.specs.Prelude.{Contains, Option, if◌then◌else◌}
-use Rattle.std.specs.FinMap.{contains_key}
+use Rattle.std.specs.FinMap.{contains_key, len}
 use Rattle.ioc_values.specs.declared.error.IocError.TheVariants.{NoRecord, NoField}
 use Rattle.ioc_values.specs.declared.error.IocError.{IocError}
 use Rattle.ioc_names.specs.NameTable.{NameTable}
@@ -51,6 +51,11 @@ closed_begun {R} k w is = record {
 
 pub closed_same : {R : Type 0} (k : RecordRules R) (w v : World R) → v ≡ begun w → IsClosed k w → IsClosed k v
 closed_same {R} k w v e is = subst (λ (x : World R). IsClosed k x) (sym e) (closed_begun k w is)
+
+-- an event begins with as many records
+pub room_same : {R : Type 0} (w v : World R) (room : ℕ) → v ≡ begun w → len w.records ≤ room → len v.records ≤ room
+unfolding begun
+room_same w v room e few = rw e few
 
 -- however many devices were asked
 all_faults_begin : (n : ℕ) → n ≤ 256 → Begins (replicate n Fault) faults

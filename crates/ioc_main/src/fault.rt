@@ -4,6 +4,7 @@ ghost use Rattle.std.specs.IoError.{error_kind};
 ghost use Rattle.ioc_main.specs.Faults.{status_of, is_out_of_memory};
 
 use ioc_values::{DbFault, IocError};
+use std::alloc::AllocError;
 use std::{fmt, io};
 
 /// Why a run stopped before the end of its script, or never began.
@@ -54,6 +55,16 @@ impl From<ScriptFault> for RunFault {
             ScriptFault::Read => RunFault::Read,
             ScriptFault::Write => RunFault::Write,
         }
+    }
+}
+
+impl From<AllocError> for RunFault {
+    ghost use Rattle.ioc_main.specs.declared.fault.RunFault.TheVariants.{Memory};
+
+    ghost from_gives = { λ _ fault. fault ≡ Memory };
+
+    fn from(_e: AllocError) -> RunFault {
+        RunFault::Memory
     }
 }
 

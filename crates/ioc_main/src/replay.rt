@@ -1,5 +1,7 @@
 //! A loaded database, to which a script is done.
-ghost use Rattle.std.specs.Prelude.{◌≡◌, ◌∷◌, ◌++◌, List, ℕ};
+ghost use Rattle.std.specs.Prelude.{◌≡◌, ◌≤◌, [], ◌∷◌, ◌++◌, List, ℕ, IfOk};
+ghost use Rattle.std.specs.FinMap.{len};
+ghost use Rattle.std.specs.Vec.{vec_capacity};
 ghost use Rattle.ioc_names.specs.NameTable.{number_of};
 ghost use Rattle.ioc_types.specs.Record.{record_rules};
 ghost use Rattle.ioc_process.specs.World.{IsClosed, begun};
@@ -15,34 +17,41 @@ use crate::session::{LineReply, Session};
 use ioc_fields::{FieldNo, field};
 use ioc_ledger::Tally;
 use ioc_names::{Names, RecordNo};
-use ioc_process::{OneMap, Reply, Store, run_get, run_put, run_request};
+use ioc_process::{Frame, OneMap, Reply, Store, run_get, run_put, run_request};
 use ioc_record::RecordKind;
 use ioc_types::Record;
 use ioc_values::{Input, IocError};
+use std::alloc::{AllocError, Global};
 
 /// A loaded database, to which a script is done.
 #[derive(Drop)]
 pub struct Replay {
     names: Names,
     map: OneMap<Record>,
+    // Open frames of the line under way, with room for all records from the load on.
+    frames: Vec<Frame>,
     tally: Tally,
     ghost closed: { IsClosed record_rules (world_of map) },
+    ghost empty: { frames.items ≡ [] },
+    ghost room: { len (world_of map).records ≤ vec_capacity frames },
 }
 
 impl Replay {
-    /// A database of these names and records.
-    pub fn new(names: Names, map: OneMap<Record>) -> Self
+    /// A database of these names and records. The frames take their room here, so that no line wants memory.
+    pub fn new(alloc: Global, names: Names, map: OneMap<Record>) -> Result<Self, AllocError>
         requires { IsClosed record_rules (world_of map) }
-        ensures names { result.names ≡ names }
-        ensures world { world_of result.map ≡ begun (world_of map) }
+        ensures names { IfOk result (λ r. r.names ≡ names) }
+        ensures world { IfOk result (λ r. world_of r.map ≡ begun (world_of map)) }
     {
+        let frames = Vec::with_capacity(alloc, map.records.len())?;
         let mut map = map;
         map.begin();
-        Replay {
+        Ok(Replay {
             names,
             map,
+            frames,
             tally: Tally::default(),
-        }
+        })
     }
 
     // The field of this name of the record of this name.
@@ -75,7 +84,7 @@ impl Replay {
     {
         self.map.begin();
         match self.names.find(record_name) {
-            Some(number) => run_request(&mut self.map, number, &mut self.tally),
+            Some(number) => run_request(&mut self.map, &mut self.frames, number, &mut self.tally),
             None => Reply::Refused(IocError::NoRecord),
         }
     }
@@ -105,6 +114,7 @@ impl Replay {
         match channel {
             Ok((number, field)) => run_put(
                 &mut self.map,
+                &mut self.frames,
                 number,
                 field,
                 Input::from_text(text),

@@ -31,7 +31,7 @@ pub fn run<R: Read + Drop, W: Write>(
     ensures err { IfErr result (λ fault. StopsWith fault db.now (R.remaining script) (W.contents out.old) (W.contents out.new)) }
 {
     let Database { names, map } = load(alloc, db, macros)?;
-    let mut replay = Replay::new(names, map);
+    let mut replay = Replay::new(alloc, names, map)?;
     run_script(&mut replay, script, out)?;
     Ok(())
 }

@@ -1,18 +1,31 @@
 use Rattle.std.proofs.Common.{sym}
 use Rattle.ioc_types.specs.Record.{record_rules}
 use Rattle.ioc_process.specs.OneMap.{world_of}
-use Rattle.ioc_main.proofs.Closing.{closed_same, closed_kept, faults_begin}
+use Rattle.ioc_main.proofs.Closing.{closed_same, closed_kept, room_same, faults_begin}
 use Rattle.ioc_main.proofs.replay.Replay.process.Goals as goal
 
 pub run_request-requires : goal.run_request-requires
-run_request-requires c = record { closed = closed_same record_rules (world_of c.args.self.now.map) _ c.begin.ensures c.args.self.now.closed }
+run_request-requires c = record {
+  closed = closed_same record_rules (world_of c.args.self.now.map) _ c.begin.ensures c.args.self.now.closed;
+  empty = c.args.self.now.empty;
+  room = room_same (world_of c.args.self.now.map) _ _ c.begin.ensures c.args.self.now.room;
+}
 
 pub invariant_of-self : goal.invariant_of-self
 invariant_of-self c =
-    record { closed = closed_kept record_rules (world_of c.begin.new.self) _ (closed_same record_rules (world_of c.args.self.now.map) _ c.begin.ensures c.args.self.now.closed) c.run_request.ensures.keeps }
+    let room = room_same (world_of c.args.self.now.map) _ _ c.begin.ensures c.args.self.now.room in
+    record {
+      closed = closed_kept record_rules (world_of c.begin.new.self) _ (closed_same record_rules (world_of c.args.self.now.map) _ c.begin.ensures c.args.self.now.closed) c.run_request.ensures.keeps;
+      empty = c.run_request.ensures.empty;
+      room = rw (c.run_request.ensures.keeps.count, c.run_request.ensures.room) room;
+    }
 
 pub invariant_of-self-in-None : goal.invariant_of-self-in-None
-invariant_of-self-in-None c = record { closed = closed_same record_rules (world_of c.args.self.now.map) _ c.begin.ensures c.args.self.now.closed }
+invariant_of-self-in-None c = record {
+  closed = closed_same record_rules (world_of c.args.self.now.map) _ c.begin.ensures c.args.self.now.closed;
+  empty = c.args.self.now.empty;
+  room = room_same (world_of c.args.self.now.map) _ _ c.begin.ensures c.args.self.now.room;
+}
 
 pub returns-in-Some-clause-world : goal.returns-in-Some-clause-world
 returns-in-Some-clause-world c =

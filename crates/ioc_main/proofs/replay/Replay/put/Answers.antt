@@ -1,18 +1,31 @@
 use Rattle.std.proofs.Common.{sym}
 use Rattle.ioc_types.specs.Record.{record_rules}
 use Rattle.ioc_process.specs.OneMap.{world_of}
-use Rattle.ioc_main.proofs.Closing.{closed_same, closed_kept, faults_begin}
+use Rattle.ioc_main.proofs.Closing.{closed_same, closed_kept, room_same, faults_begin}
 use Rattle.ioc_main.proofs.replay.Replay.put.Goals as goal
 
 pub run_put-requires : goal.run_put-requires
-run_put-requires c = record { closed = closed_same record_rules (world_of c.args.self.now.map) _ c.begin.ensures c.args.self.now.closed }
+run_put-requires c = record {
+  closed = closed_same record_rules (world_of c.args.self.now.map) _ c.begin.ensures c.args.self.now.closed;
+  empty = c.args.self.now.empty;
+  room = room_same (world_of c.args.self.now.map) _ _ c.begin.ensures c.args.self.now.room;
+}
 
 pub invariant_of-self : goal.invariant_of-self
 invariant_of-self c =
-    record { closed = closed_kept record_rules (world_of c.begin.new.self) _ (closed_same record_rules (world_of c.args.self.now.map) _ c.begin.ensures c.args.self.now.closed) c.run_put.ensures.keeps }
+    let room = room_same (world_of c.args.self.now.map) _ _ c.begin.ensures c.args.self.now.room in
+    record {
+      closed = closed_kept record_rules (world_of c.begin.new.self) _ (closed_same record_rules (world_of c.args.self.now.map) _ c.begin.ensures c.args.self.now.closed) c.run_put.ensures.keeps;
+      empty = c.run_put.ensures.empty;
+      room = rw (c.run_put.ensures.keeps.count, c.run_put.ensures.room) room;
+    }
 
 pub invariant_of-self-in-Err-1 : goal.invariant_of-self-in-Err-1
-invariant_of-self-in-Err-1 c = record { closed = closed_same record_rules (world_of c.args.self.now.map) _ c.begin.ensures c.args.self.now.closed }
+invariant_of-self-in-Err-1 c = record {
+  closed = closed_same record_rules (world_of c.args.self.now.map) _ c.begin.ensures c.args.self.now.closed;
+  empty = c.args.self.now.empty;
+  room = room_same (world_of c.args.self.now.map) _ _ c.begin.ensures c.args.self.now.room;
+}
 
 pub returns-in-Ok-clause-world : goal.returns-in-Ok-clause-world
 returns-in-Ok-clause-world c =
