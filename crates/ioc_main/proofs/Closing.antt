@@ -11,7 +11,8 @@ use Rattle.ioc_ledger.specs.Requests.{None}
 use Rattle.ioc_record.specs.Values.{text_of}
 use Rattle.ioc_process.specs.declared.reply.Reply.{Reply}
 use Rattle.ioc_process.specs.declared.reply.Reply.TheVariants.{Shown}
-use Rattle.ioc_process.specs.Step.{Stepped, Get, stepped, stepped_there, refused}
+use Rattle.ioc_process.specs.declared.event.Event.TheVariants.{Get}
+use Rattle.ioc_process.specs.Step.{Stepped, stepped, stepped_there, refused}
 use Rattle.std.proofs.lemmas.List.{length-take, replicate-append-replicate}
 use Rattle.ioc_device.specs.declared.Answer.{Answer}
 use Rattle.ioc_device.specs.declared.Answer.TheVariants.{Fault}

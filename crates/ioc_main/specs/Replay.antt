@@ -17,7 +17,9 @@ use Rattle.ioc_record.specs.RecordRules.{RecordRules}
 use Rattle.ioc_process.specs.declared.reply.Reply.{Reply}
 use Rattle.ioc_process.specs.declared.reply.Reply.TheVariants.{Plain, Outcome as Outcome-reply, Shown, Refused}
 use Rattle.ioc_process.specs.World.{World, at, begun}
-use Rattle.ioc_process.specs.Step.{Event, Get as Get-event, Process as Process-event, Put as Put-event, Stepped, stepped, refused}
+use Rattle.ioc_process.specs.declared.event.Event.{Event}
+use Rattle.ioc_process.specs.declared.event.Event.TheVariants.{Get as Get-event, Process as Process-event, Put as Put-event}
+use Rattle.ioc_process.specs.Step.{Stepped, stepped, refused}
 use Rattle.ioc_main.specs.Script.{Command, Silent, Bad, Process, Put, Get, command_of}
 
 -- what the outcome of a request is called

@@ -43,7 +43,7 @@ impl Replay {
         ensures names { IfOk result (λ r. r.names ≡ names) }
         ensures world { IfOk result (λ r. world_of r.map ≡ begun (world_of map)) }
     {
-        let frames = Vec::with_capacity(alloc, map.records.len())?;
+        let frames = map.frames(alloc)?;
         let mut map = map;
         map.begin();
         Ok(Replay {

@@ -17,7 +17,9 @@ use Rattle.ioc_process.specs.declared.reply.Reply.{Reply}
 use Rattle.ioc_process.specs.declared.reply.Reply.TheVariants.{Plain, Outcome as Outcome-reply, Shown}
 use Rattle.ioc_process.specs.World.{World, at, put}
 use Rattle.ioc_process.specs.Local.{Shut, Same, AgreeEvent, EventIsLocal}
-use Rattle.ioc_process.specs.Step.{Event, Get, Process, Put, Stepped, number_of, processes, outcome_reply, refused, told, after_put, put_with, stepped_there, stepped}
+use Rattle.ioc_process.specs.declared.event.Event.{Event}
+use Rattle.ioc_process.specs.declared.event.Event.TheVariants.{Get, Process, Put}
+use Rattle.ioc_process.specs.Step.{Stepped, number_of, processes, outcome_reply, refused, told, after_put, put_with, stepped_there, stepped}
 use Rattle.ioc_process.proofs.Locality.{Along, guards, along, request-local}
 use Rattle.ioc_process.proofs.Stepping.{step-there, step-missing, put_targets}
 

@@ -10,13 +10,14 @@ use Rattle.ioc_record.specs.RecordRules.{RecordRules}
 use Rattle.ioc_record.specs.Values.{put_field}
 use Rattle.ioc_record.specs.Laws.{IsLawful}
 use Rattle.ioc_process.specs.declared.reply.Reply.{Reply}
-use Rattle.ioc_process.specs.World.{World, Has, at, common_at, put, begun}
+use Rattle.ioc_process.specs.World.{World, Has, IsClosed, Keeps, at, common_at, put, begun, begun_at}
 use Rattle.ioc_process.specs.Rules.{Requested, IsQuiet, IsSettled}
 use Rattle.ioc_process.specs.Processing.{Done}
-use Rattle.ioc_process.specs.Step.{Event}
-use Rattle.ioc_process.specs.StepRules.{Step, no_such_record, no_such_field, shows_field, processes_record, refuses_value, stores_alone, stores_while_active, stores_and_processes, Entry, Replay, at_the_end, and_then}
+use Rattle.ioc_process.specs.declared.event.Event.{Event}
+use Rattle.ioc_process.specs.StepRules.{Step, no_such_record, no_such_field, shows_field, processes_record, refuses_value, stores_alone, stores_while_active, stores_and_processes, Replay, at_the_end, and_then}
+use Rattle.ioc_process.specs.declared.event.Entry.{Entry}
 use Rattle.ioc_process.proofs.Worlds.{at-put_same, at-put_other, has-put, has-put_back}
-use Rattle.ioc_process.proofs.Keeping.{closed_on, request-keeps}
+use Rattle.ioc_process.proofs.Keeping.{keeps_all, keeps_on, closed_on, request-keeps}
 use Rattle.ioc_process.proofs.Stepping.{keeps-put_field, put_active, put_pending}
 use Rattle.ioc_process.proofs.RulesAlone.{request-is}
 use Rattle.ioc_process.proofs.Quieting.{request-quiet}
@@ -56,13 +57,29 @@ module _ {R : Type 0} (k : RecordRules R) (lawful : IsLawful k) where
   step-settled answers (stores_and_processes {w} {w'} {s} {field} {given} {r} there is _ _ q _) settled =
       request-settled answers (has-put k w s s r there) q (put-settled w s field given r there is settled)
 
-  begun-settled : (w : World R) → IsSettled k w → IsSettled k (begun w)
-  unfolding at begun
-  begun-settled w settled = record {
+  -- an event adds no record, takes none away, and changes no link
+  request-kept : (answers : List Answer) {w w' : World R} {s : ℕ} {requests : Requests} → Has w s → Requested k answers w s w' requests → IsClosed k w → Keeps k w w'
+  request-kept answers {w} {w'} {s} there r closed = subst (Keeps k w) (ap (λ (d : Done R). d.world) (request-is k lawful answers r)) (request-keeps k lawful w closed answers s there)
+
+  pub step-keeps : (answers : List Answer) {w w' : World R} {event : Event} {reply : Reply} {requests : Requests} → Step k answers w event w' reply requests → IsClosed k w → Keeps k w w'
+  step-keeps answers (no_such_record {w} _) closed = keeps_all k w
+  step-keeps answers (no_such_field {w} _ _) closed = keeps_all k w
+  step-keeps answers (shows_field {w} _ _) closed = keeps_all k w
+  step-keeps answers (processes_record there r _) closed = request-kept answers there r closed
+  step-keeps answers (refuses_value {w} _ _) closed = keeps_all k w
+  step-keeps answers (stores_alone {w} {s} {field} {given} {r} there is _) closed = keeps-put_field k lawful w s field given r there is
+  step-keeps answers (stores_while_active {w} {s} {field} {given} {r} there is _ _) closed = keeps-put_field k lawful w s field given r there is
+  step-keeps answers (stores_and_processes {w} {w'} {s} {field} {given} {r} there is _ _ q _) closed =
+      let first = keeps-put_field k lawful w s field given r there is in
+      keeps_on k first (request-kept answers (first.has s there) q (closed_on k lawful first closed))
+
+  begun-settled : (moment : ℕ) (w : World R) → IsSettled k w → IsSettled k (begun_at moment w)
+  unfolding at begun begun_at
+  begun-settled moment w settled = record {
     closed = record { closed = λ n target h. settled.closed.closed n target h };
     quiet = record { quiet = λ n has. settled.quiet.quiet n has };
   }
 
   pub replay-settled : {w w' : World R} {entries : List Entry} → Replay k w entries w' → IsSettled k w → IsSettled k w'
   replay-settled at_the_end settled = settled
-  replay-settled (and_then {w} {w'} {w''} {entry} {entries} first _ rest) settled = replay-settled rest (step-settled entry.answers first (begun-settled w settled))
+  replay-settled (and_then {w} {w'} {w''} {entry} {entries} first _ rest) settled = replay-settled rest (step-settled entry.answers.items first (begun-settled entry.moment w settled))

@@ -19,8 +19,11 @@ use Rattle.ioc_process.specs.declared.reply.Reply.TheVariants.{Plain, Outcome as
 use Rattle.ioc_process.specs.World.{World, at, common_at, put}
 use Rattle.ioc_process.specs.Rules.{Requested, while_active, while_idle}
 use Rattle.ioc_process.specs.Processing.{Done}
-use Rattle.ioc_process.specs.Step.{Event, Get, Process, Put, Stepped, number_of, refused, told, outcome_reply, after_put, put_with, processes, stepped_there, stepped}
-use Rattle.ioc_process.specs.StepRules.{Step, no_such_record, no_such_field, shows_field, processes_record, refuses_value, stores_alone, stores_while_active, stores_and_processes, Entry, Replay, at_the_end, and_then}
+use Rattle.ioc_process.specs.declared.event.Event.{Event}
+use Rattle.ioc_process.specs.declared.event.Event.TheVariants.{Get, Process, Put}
+use Rattle.ioc_process.specs.Step.{Stepped, number_of, refused, told, outcome_reply, after_put, put_with, processes, stepped_there, stepped}
+use Rattle.ioc_process.specs.StepRules.{Step, no_such_record, no_such_field, shows_field, processes_record, refuses_value, stores_alone, stores_while_active, stores_and_processes, Replay, at_the_end, and_then}
+use Rattle.ioc_process.specs.declared.event.Entry.{Entry}
 use Rattle.ioc_process.proofs.Worlds.{at-put_same}
 use Rattle.ioc_process.proofs.RulesAlone.{request-is}
 use Rattle.ioc_process.proofs.RulesAllowed.{request-allowed}
@@ -143,5 +146,5 @@ module _ {R : Type 0} (k : RecordRules R) (lawful : IsLawful k) where
   pub replay-is : {w w' w'' : World R} {entries : List Entry} → Replay k w entries w' → Replay k w entries w'' → w' ≡ w''
   replay-is at_the_end at_the_end = refl
   replay-is (and_then {w} {w'} {w''} {entry} {entries} first _ rest) (and_then second _ others) =
-      let same = sym (step-is k lawful entry.answers first) ∙ step-is k lawful entry.answers second in
+      let same = sym (step-is k lawful entry.answers.items first) ∙ step-is k lawful entry.answers.items second in
       replay-is (subst (λ (v : World R). Replay k v entries w'') (ap (λ (x : Stepped R). x.world) same) rest) others

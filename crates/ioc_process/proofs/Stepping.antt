@@ -26,7 +26,9 @@ use Rattle.ioc_process.specs.declared.reply.Reply.TheVariants.{Outcome as Outcom
 use Rattle.ioc_process.specs.World.{World, Has, at, put, SameLinks, Keeps}
 use Rattle.ioc_process.specs.Processing.{request}
 use Rattle.ioc_process.specs.Runs.{Leaves}
-use Rattle.ioc_process.specs.Step.{Event, Process, Put, refused, told, outcome_reply, after_put, put_with, stepped_there, number_of, stepped}
+use Rattle.ioc_process.specs.declared.event.Event.{Event}
+use Rattle.ioc_process.specs.declared.event.Event.TheVariants.{Process, Put}
+use Rattle.ioc_process.specs.Step.{refused, told, outcome_reply, after_put, put_with, stepped_there, number_of, stepped}
 use Rattle.ioc_process.specs.Events.{Tells}
 
 module _ {R : Type 0} (k : RecordRules R) where

@@ -27,8 +27,9 @@ fn requests_of_two_records_that_follow_each_other(rt: HostRuntime) -> Result<(),
     let text = b"record(longin,\"a\"){field(FLNK,\"b\")} record(longin,\"b\"){field(FLNK,\"a\")}";
     let Database { names: _names, map } = load(rt.alloc(), text, &Macros::new())?;
     let mut map = map;
+    let mut frames = map.frames(rt.alloc())?;
     let mut tally = Tally::default();
-    let reply = run_request(&mut map, RecordNo::new(0), &mut tally);
+    let reply = run_request(&mut map, &mut frames, RecordNo::new(0), &mut tally);
     assert!(rt; reply == Reply::Outcome(Outcome::Processed));
     assert_eq!(rt; tally.begun, 3);
     assert_eq!(rt; tally.processed, 2);
@@ -45,8 +46,9 @@ fn requests_of_a_record_that_reads_itself(rt: HostRuntime) -> Result<(), Fail> {
     let text = b"record(longin,\"q\"){field(INP,\"q PP MS\")}";
     let Database { names: _names, map } = load(rt.alloc(), text, &Macros::new())?;
     let mut map = map;
+    let mut frames = map.frames(rt.alloc())?;
     let mut tally = Tally::default();
-    let _reply = run_request(&mut map, RecordNo::new(0), &mut tally);
+    let _reply = run_request(&mut map, &mut frames, RecordNo::new(0), &mut tally);
     assert_eq!(rt; tally.begun, 2);
     assert_eq!(rt; tally.processed, 1);
     assert_eq!(rt; tally.active, 1);

@@ -1,5 +1,5 @@
 use Rattle.std.proofs.Common.{sym, ◌∙◌}
-use Rattle.ioc_process.specs.Step.{Put}
+use Rattle.ioc_process.specs.declared.event.Event.TheVariants.{Put}
 use Rattle.ioc_process.proofs.Worlds.{has-put}
 use Rattle.ioc_process.proofs.Keeping.{keeps_on, closed_on}
 use Rattle.ioc_process.proofs.Stepping.{tells-refused, tells-put_refused, step-put, keeps-put_field}

@@ -1,5 +1,5 @@
 use Rattle.std.proofs.Common.{sym, ◌∙◌}
-use Rattle.ioc_process.specs.Step.{Process}
+use Rattle.ioc_process.specs.declared.event.Event.TheVariants.{Process}
 use Rattle.ioc_process.proofs.Stepping.{tells-refused, step-process}
 use Rattle.ioc_process.proofs.events.run_request.Goals as goal
 

@@ -1,0 +1,27 @@
+//! What can happen to a database, and what is kept of it.
+use crate::reply::Reply;
+use ioc_device::Answer;
+use ioc_fields::FieldNo;
+use ioc_names::RecordNo;
+use ioc_values::Input;
+
+/// An event of a database, with what its caller gives.
+#[derive(Clone, Copy, PartialEq, Eq)]
+pub enum Event {
+    /// The text of a field is asked for.
+    Get(RecordNo, FieldNo),
+    /// A record is requested.
+    Process(RecordNo),
+    /// A value is put into a field.
+    Put(RecordNo, FieldNo, Input),
+}
+
+/// An event that was done: when, what devices answered in it, and the reply.
+#[derive(Drop)]
+pub struct Entry {
+    /// Nanoseconds since 1970-01-01 00:00 UTC.
+    pub moment: u64,
+    pub event: Event,
+    pub answers: Vec<Answer>,
+    pub reply: Reply,
+}
