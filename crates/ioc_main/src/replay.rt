@@ -2,7 +2,8 @@
 ghost use Rattle.std.specs.Prelude.{◌≡◌, ◌∷◌, ◌++◌, List, ℕ};
 ghost use Rattle.ioc_names.specs.NameTable.{number_of};
 ghost use Rattle.ioc_types.specs.Record.{record_rules};
-ghost use Rattle.ioc_process.specs.World.{IsClosed, begun};
+ghost use Rattle.ioc_process.specs.World.{begun};
+ghost use Rattle.ioc_process.specs.Rules.{IsSettled};
 ghost use Rattle.ioc_ledger.specs.Requests.{counted};
 ghost use Rattle.ioc_process.specs.OneMap.{world_of};
 ghost use Rattle.ioc_main.specs.Replay.{channel, processed, got, were_put, answered};
@@ -12,6 +13,7 @@ ghost use Rattle.ioc_main.specs.Seen.{seen};
 use crate::command::Command;
 use crate::reply_line::reply_line;
 use crate::session::{LineReply, Session};
+use crate::settled::event_leaves_settled;
 use ioc_fields::{FieldNo, field};
 use ioc_ledger::Tally;
 use ioc_names::{Names, RecordNo};
@@ -20,19 +22,20 @@ use ioc_record::RecordKind;
 use ioc_types::Record;
 use ioc_values::{Input, IocError};
 
-/// A loaded database, to which a script is done.
+/// A loaded database, to which a script is done. Between lines no link leaves it, and a record is active exactly where its
+/// completion is pending.
 #[derive(Drop)]
 pub struct Replay {
     names: Names,
     map: OneMap<Record>,
     tally: Tally,
-    ghost closed: { IsClosed record_rules (world_of map) },
+    ghost settled: { IsSettled record_rules (world_of map) },
 }
 
 impl Replay {
     /// A database of these names and records.
     pub fn new(names: Names, map: OneMap<Record>) -> Self
-        requires { IsClosed record_rules (world_of map) }
+        requires { IsSettled record_rules (world_of map) }
         ensures names { result.names ≡ names }
         ensures world { world_of result.map ≡ begun (world_of map) }
     {
@@ -75,7 +78,10 @@ impl Replay {
     {
         self.map.begin();
         match self.names.find(record_name) {
-            Some(number) => run_request(&mut self.map, number, &mut self.tally),
+            Some(number) => {
+                event_leaves_settled();
+                run_request(&mut self.map, number, &mut self.tally)
+            }
             None => Reply::Refused(IocError::NoRecord),
         }
     }
@@ -103,13 +109,11 @@ impl Replay {
         let channel = self.channel(record_name, field_name);
         self.map.begin();
         match channel {
-            Ok((number, field)) => run_put(
-                &mut self.map,
-                number,
-                field,
-                Input::from_text(text),
-                &mut self.tally,
-            ),
+            Ok((number, field)) => {
+                event_leaves_settled();
+                let given = Input::from_text(text);
+                run_put(&mut self.map, number, field, given, &mut self.tally)
+            }
             Err(refused) => Reply::Refused(refused),
         }
     }
