@@ -24,18 +24,10 @@ use Rattle.ioc_fields.specs.declared.field_no.FieldNo.{FieldNo}
 use Rattle.ioc_record.specs.declared.link_field.LinkField.{LinkField}
 use Rattle.ioc_record.specs.Links.{named_by_all}
 use Rattle.ioc_record.specs.RecordRules.{RecordRules, targets}
-use Rattle.ioc_process.specs.World.{World, IsClosed, SameLinks, Keeps, Has, at, begun}
+use Rattle.ioc_process.specs.World.{World, IsClosed, Has, at, begun}
+use Rattle.ioc_process.specs.Rules.{IsQuiet, IsSettled}
 use Rattle.ioc_process.specs.Runs.{Begins}
 use Rattle.ioc_main.specs.Replay.{faults, got}
-
--- the same links name the same records
-links_lead : {R : Type 0} {k : RecordRules R} {r r' : R} → SameLinks k r r' → targets k r' ≡ targets k r
-links_lead {R} {k} {r} {r'} same = ap (λ (l : FieldNo → Option LinkField). named_by_all l (k.link_fields r')) same.links ∙ ap (named_by_all (k.link r)) same.fields
-
-pub closed_kept : {R : Type 0} (k : RecordRules R) (w v : World R) → IsClosed k w → Keeps k w v → IsClosed k v
-closed_kept k w v is keeps = record {
-  closed = λ n target named. keeps.has target (is.closed n target (subst (λ (ts : List ℕ). Contains ts target) (links_lead (keeps.links n)) named));
-}
 
 at_begun : {R : Type 0} (k : RecordRules R) (w : World R) (n : ℕ) → at k (begun w) n ≡ at k w n
 unfolding at begun
@@ -45,13 +37,19 @@ has_begun : {R : Type 0} (w : World R) (n : ℕ) → Has w n → Has (begun w) n
 unfolding begun
 has_begun w n has = has
 
-pub closed_begun : {R : Type 0} (k : RecordRules R) (w : World R) → IsClosed k w → IsClosed k (begun w)
+closed_begun : {R : Type 0} (k : RecordRules R) (w : World R) → IsClosed k w → IsClosed k (begun w)
 closed_begun {R} k w is = record {
   closed = λ n target named. has_begun w target (is.closed n target (subst (λ (r : R). Contains (targets k r) target) (at_begun k w n) named));
 }
 
-pub closed_same : {R : Type 0} (k : RecordRules R) (w v : World R) → v ≡ begun w → IsClosed k w → IsClosed k v
-closed_same {R} k w v e is = subst (λ (x : World R). IsClosed k x) (sym e) (closed_begun k w is)
+quiet_begun : {R : Type 0} (k : RecordRules R) (w : World R) → IsQuiet k w → IsQuiet k (begun w)
+unfolding at begun
+quiet_begun k w is = record { quiet = λ n has. is.quiet n has }
+
+-- an event begins with what was left
+pub settled_same : {R : Type 0} (k : RecordRules R) (w v : World R) → v ≡ begun w → IsSettled k w → IsSettled k v
+settled_same {R} k w v e is =
+    subst (λ (x : World R). IsSettled k x) (sym e) (record { closed = closed_begun k w is.closed; quiet = quiet_begun k w is.quiet })
 
 -- an event begins with as many records
 pub room_same : {R : Type 0} (w v : World R) (room : ℕ) → v ≡ begun w → len w.records ≤ room → len v.records ≤ room

@@ -11,6 +11,7 @@ mod replay;
 mod reply_line;
 mod runs;
 mod session;
+mod settled;
 mod writing;
 
 pub use arguments::Arguments;
@@ -21,3 +22,4 @@ pub use lines::run_script;
 pub use replay::Replay;
 pub use runs::run;
 pub use session::{LineReply, Session};
+pub use settled::event_leaves_settled;

@@ -4,7 +4,8 @@ ghost use Rattle.std.specs.FinMap.{len};
 ghost use Rattle.std.specs.Vec.{vec_capacity};
 ghost use Rattle.ioc_names.specs.NameTable.{number_of};
 ghost use Rattle.ioc_types.specs.Record.{record_rules};
-ghost use Rattle.ioc_process.specs.World.{IsClosed, begun};
+ghost use Rattle.ioc_process.specs.World.{begun};
+ghost use Rattle.ioc_process.specs.Rules.{IsSettled};
 ghost use Rattle.ioc_ledger.specs.Requests.{counted};
 ghost use Rattle.ioc_process.specs.OneMap.{world_of};
 ghost use Rattle.ioc_main.specs.Replay.{channel, processed, got, were_put, answered};
@@ -14,6 +15,7 @@ ghost use Rattle.ioc_main.specs.Seen.{seen};
 use crate::command::Command;
 use crate::reply_line::reply_line;
 use crate::session::{LineReply, Session};
+use crate::settled::event_leaves_settled;
 use ioc_fields::{FieldNo, field};
 use ioc_ledger::Tally;
 use ioc_names::{Names, RecordNo};
@@ -23,7 +25,8 @@ use ioc_types::Record;
 use ioc_values::{Input, IocError};
 use std::alloc::{AllocError, Global};
 
-/// A loaded database, to which a script is done.
+/// A loaded database, to which a script is done. Between lines no link leaves it, and a record is active exactly where its
+/// completion is pending.
 #[derive(Drop)]
 pub struct Replay {
     names: Names,
@@ -31,7 +34,7 @@ pub struct Replay {
     // Open frames of the line under way, with room for all records from the load on.
     frames: Vec<Frame>,
     tally: Tally,
-    ghost closed: { IsClosed record_rules (world_of map) },
+    ghost settled: { IsSettled record_rules (world_of map) },
     ghost empty: { frames.items ≡ [] },
     ghost room: { len (world_of map).records ≤ vec_capacity frames },
 }
@@ -39,7 +42,7 @@ pub struct Replay {
 impl Replay {
     /// A database of these names and records. The frames take their room here, so that no line wants memory.
     pub fn new(alloc: Global, names: Names, map: OneMap<Record>) -> Result<Self, AllocError>
-        requires { IsClosed record_rules (world_of map) }
+        requires { IsSettled record_rules (world_of map) }
         ensures names { IfOk result (λ r. r.names ≡ names) }
         ensures world { IfOk result (λ r. world_of r.map ≡ begun (world_of map)) }
     {
@@ -84,7 +87,10 @@ impl Replay {
     {
         self.map.begin();
         match self.names.find(record_name) {
-            Some(number) => run_request(&mut self.map, &mut self.frames, number, &mut self.tally),
+            Some(number) => {
+                event_leaves_settled();
+                run_request(&mut self.map, &mut self.frames, number, &mut self.tally)
+            }
             None => Reply::Refused(IocError::NoRecord),
         }
     }
@@ -112,14 +118,18 @@ impl Replay {
         let channel = self.channel(record_name, field_name);
         self.map.begin();
         match channel {
-            Ok((number, field)) => run_put(
-                &mut self.map,
-                &mut self.frames,
-                number,
-                field,
-                Input::from_text(text),
-                &mut self.tally,
-            ),
+            Ok((number, field)) => {
+                event_leaves_settled();
+                let given = Input::from_text(text);
+                run_put(
+                    &mut self.map,
+                    &mut self.frames,
+                    number,
+                    field,
+                    given,
+                    &mut self.tally,
+                )
+            }
             Err(refused) => Reply::Refused(refused),
         }
     }

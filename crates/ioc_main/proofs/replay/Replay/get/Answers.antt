@@ -2,12 +2,12 @@ use Rattle.std.proofs.Common.{sym, ◌∙◌, refl}
 use Rattle.ioc_types.specs.Record.{record_rules}
 use Rattle.ioc_process.specs.OneMap.{world_of}
 use Rattle.ioc_main.specs.Replay.{channel}
-use Rattle.ioc_main.proofs.Closing.{closed_same, room_same, got_keeps, got_asks_none}
+use Rattle.ioc_main.proofs.Closing.{settled_same, room_same, got_keeps, got_asks_none}
 use Rattle.ioc_main.proofs.replay.Replay.get.Goals as goal
 
 pub invariant_of-self : goal.invariant_of-self
 invariant_of-self c = record {
-  closed = closed_same record_rules (world_of c.args.self.now.map) _ c.begin.ensures c.args.self.now.closed;
+  settled = settled_same record_rules (world_of c.args.self.now.map) _ c.begin.ensures c.args.self.now.settled;
   empty = c.args.self.now.empty;
   room = room_same (world_of c.args.self.now.map) _ _ c.begin.ensures c.args.self.now.room;
 }

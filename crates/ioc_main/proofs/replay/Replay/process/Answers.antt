@@ -1,30 +1,33 @@
-use Rattle.std.proofs.Common.{sym}
+use Rattle.std.proofs.Common.{sym, subst}
 use Rattle.ioc_types.specs.Record.{record_rules}
 use Rattle.ioc_process.specs.OneMap.{world_of}
-use Rattle.ioc_main.proofs.Closing.{closed_same, closed_kept, room_same, faults_begin}
+use Rattle.ioc_process.specs.Rules.{IsSettled}
+use Rattle.ioc_main.proofs.Closing.{settled_same, room_same, faults_begin}
 use Rattle.ioc_main.proofs.replay.Replay.process.Goals as goal
 
 pub run_request-requires : goal.run_request-requires
 run_request-requires c = record {
-  closed = closed_same record_rules (world_of c.args.self.now.map) _ c.begin.ensures c.args.self.now.closed;
+  closed = (settled_same record_rules (world_of c.args.self.now.map) (world_of c.begin.new.self) c.begin.ensures c.args.self.now.settled).closed;
   empty = c.args.self.now.empty;
-  room = room_same (world_of c.args.self.now.map) _ _ c.begin.ensures c.args.self.now.room;
+  room = room_same (world_of c.args.self.now.map) (world_of c.begin.new.self) _ c.begin.ensures c.args.self.now.room;
 }
 
 pub invariant_of-self : goal.invariant_of-self
 invariant_of-self c =
-    let room = room_same (world_of c.args.self.now.map) _ _ c.begin.ensures c.args.self.now.room in
+    let told = c.run_request.ensures.step _ (faults_begin c.run_request.new.store) in
+    let before : IsSettled record_rules (world_of c.begin.new.self) = settled_same record_rules (world_of c.args.self.now.map) (world_of c.begin.new.self) c.begin.ensures c.args.self.now.settled in
+    let room = room_same (world_of c.args.self.now.map) (world_of c.begin.new.self) _ c.begin.ensures c.args.self.now.room in
     record {
-      closed = closed_kept record_rules (world_of c.begin.new.self) _ (closed_same record_rules (world_of c.args.self.now.map) _ c.begin.ensures c.args.self.now.closed) c.run_request.ensures.keeps;
+      settled = subst (IsSettled record_rules) (sym told.world) (c.event_leaves_settled.ensures (world_of c.begin.new.self) _ before);
       empty = c.run_request.ensures.empty;
       room = rw (c.run_request.ensures.keeps.count, c.run_request.ensures.room) room;
     }
 
 pub invariant_of-self-in-None : goal.invariant_of-self-in-None
 invariant_of-self-in-None c = record {
-  closed = closed_same record_rules (world_of c.args.self.now.map) _ c.begin.ensures c.args.self.now.closed;
+  settled = settled_same record_rules (world_of c.args.self.now.map) (world_of c.begin.new.self) c.begin.ensures c.args.self.now.settled;
   empty = c.args.self.now.empty;
-  room = room_same (world_of c.args.self.now.map) _ _ c.begin.ensures c.args.self.now.room;
+  room = room_same (world_of c.args.self.now.map) (world_of c.begin.new.self) _ c.begin.ensures c.args.self.now.room;
 }
 
 pub returns-in-Some-clause-world : goal.returns-in-Some-clause-world

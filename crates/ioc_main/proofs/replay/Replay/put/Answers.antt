@@ -1,43 +1,46 @@
-use Rattle.std.proofs.Common.{sym}
+use Rattle.std.proofs.Common.{sym, subst}
 use Rattle.ioc_types.specs.Record.{record_rules}
 use Rattle.ioc_process.specs.OneMap.{world_of}
-use Rattle.ioc_main.proofs.Closing.{closed_same, closed_kept, room_same, faults_begin}
+use Rattle.ioc_process.specs.Rules.{IsSettled}
+use Rattle.ioc_main.proofs.Closing.{settled_same, room_same, faults_begin}
 use Rattle.ioc_main.proofs.replay.Replay.put.Goals as goal
 
 pub run_put-requires : goal.run_put-requires
 run_put-requires c = record {
-  closed = closed_same record_rules (world_of c.args.self.now.map) _ c.begin.ensures c.args.self.now.closed;
+  closed = (settled_same record_rules (world_of c.args.self.now.map) (world_of c.begin.new.self) c.begin.ensures c.args.self.now.settled).closed;
   empty = c.args.self.now.empty;
-  room = room_same (world_of c.args.self.now.map) _ _ c.begin.ensures c.args.self.now.room;
+  room = room_same (world_of c.args.self.now.map) (world_of c.begin.new.self) _ c.begin.ensures c.args.self.now.room;
 }
 
 pub invariant_of-self : goal.invariant_of-self
 invariant_of-self c =
-    let room = room_same (world_of c.args.self.now.map) _ _ c.begin.ensures c.args.self.now.room in
+    let told = c.run_put.ensures.step _ (faults_begin c.run_put.new.store) in
+    let before : IsSettled record_rules (world_of c.begin.new.self) = settled_same record_rules (world_of c.args.self.now.map) (world_of c.begin.new.self) c.begin.ensures c.args.self.now.settled in
+    let room = room_same (world_of c.args.self.now.map) (world_of c.begin.new.self) _ c.begin.ensures c.args.self.now.room in
     record {
-      closed = closed_kept record_rules (world_of c.begin.new.self) _ (closed_same record_rules (world_of c.args.self.now.map) _ c.begin.ensures c.args.self.now.closed) c.run_put.ensures.keeps;
+      settled = subst (IsSettled record_rules) (sym told.world) (c.event_leaves_settled.ensures (world_of c.begin.new.self) _ before);
       empty = c.run_put.ensures.empty;
       room = rw (c.run_put.ensures.keeps.count, c.run_put.ensures.room) room;
     }
 
 pub invariant_of-self-in-Err-1 : goal.invariant_of-self-in-Err-1
 invariant_of-self-in-Err-1 c = record {
-  closed = closed_same record_rules (world_of c.args.self.now.map) _ c.begin.ensures c.args.self.now.closed;
+  settled = settled_same record_rules (world_of c.args.self.now.map) (world_of c.begin.new.self) c.begin.ensures c.args.self.now.settled;
   empty = c.args.self.now.empty;
-  room = room_same (world_of c.args.self.now.map) _ _ c.begin.ensures c.args.self.now.room;
+  room = room_same (world_of c.args.self.now.map) (world_of c.begin.new.self) _ c.begin.ensures c.args.self.now.room;
 }
 
 pub returns-in-Ok-clause-world : goal.returns-in-Ok-clause-world
 returns-in-Ok-clause-world c =
     let told = c.run_put.ensures.step _ (faults_begin c.run_put.new.store) in
-    rw (sym c.in-Ok.ensures, sym c.begin.ensures, sym c.from_text.ensures) told.world
+    rw (sym c.in-Ok.ensures, sym c.begin.ensures, sym c.from_text-given.ensures) told.world
 
 pub returns-in-Ok-clause-reply : goal.returns-in-Ok-clause-reply
 returns-in-Ok-clause-reply c =
     let told = c.run_put.ensures.step _ (faults_begin c.run_put.new.store) in
-    rw (sym c.in-Ok.ensures, sym c.begin.ensures, sym c.from_text.ensures) told.reply
+    rw (sym c.in-Ok.ensures, sym c.begin.ensures, sym c.from_text-given.ensures) told.reply
 
 pub returns-in-Ok-clause-tally : goal.returns-in-Ok-clause-tally
 returns-in-Ok-clause-tally c =
     let told = c.run_put.ensures.step _ (faults_begin c.run_put.new.store) in
-    rw (sym c.in-Ok.ensures, sym c.begin.ensures, sym c.from_text.ensures) told.tally
+    rw (sym c.in-Ok.ensures, sym c.begin.ensures, sym c.from_text-given.ensures) told.tally

@@ -1,0 +1,18 @@
+//! What an event leaves of a database.
+ghost use Rattle.ioc_types.specs.Record.{Record, record_rules};
+ghost use Rattle.ioc_process.specs.World.{World};
+ghost use Rattle.ioc_process.specs.Rules.{IsSettled};
+ghost use Rattle.ioc_process.specs.Step.{Event, stepped};
+ghost use Rattle.ioc_main.specs.Replay.{faults};
+
+use ioc_process::rules::{events_leave_settled, rules_are_steps};
+use ioc_types::Record;
+
+/// An event leaves a database of this program so that no link leaves it and a record is active exactly where its completion
+/// is pending, if it was so before.
+pub fn event_leaves_settled()
+    ensures { (w : World Record) (event : Event) → IsSettled record_rules w → IsSettled record_rules (stepped record_rules faults w event).world }
+{
+    events_leave_settled::<Record>();
+    rules_are_steps::<Record>();
+}
