@@ -2,7 +2,8 @@
 ghost use Rattle.ioc_types.specs.Record.{Record, record_rules};
 ghost use Rattle.ioc_process.specs.World.{World};
 ghost use Rattle.ioc_process.specs.Rules.{IsSettled};
-ghost use Rattle.ioc_process.specs.Step.{Event, stepped};
+ghost use Rattle.ioc_process.specs.declared.event.Event.{Event};
+ghost use Rattle.ioc_process.specs.Step.{stepped};
 ghost use Rattle.ioc_main.specs.Replay.{faults};
 
 use ioc_process::rules::{events_leave_settled, rules_are_steps};
