@@ -7,6 +7,3 @@ pub mod limits;
 
 pub use alarms::Alarms;
 pub use limits::{Limits, ReachedLimit};
-
-#[cfg(test)]
-mod tests;

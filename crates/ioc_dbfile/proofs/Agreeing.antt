@@ -1,7 +1,7 @@
 -- A reading of tokens and the same with more tokens behind.
 use Rattle.std.proofs.Common.{◌≡◌, Result, Ok, Err}
 use Rattle.ioc_values.specs.declared.error.BadDbKind.TheVariants as kinds
-use Rattle.ioc_dbfile.specs.declared.fault.DbFault.{DbFault}
+use Rattle.ioc_values.specs.declared.error.DbFault.{DbFault}
 use Rattle.ioc_dbfile.specs.Statements.{◌>>=◌}
 
 -- they give the same, or the first was at the end of its tokens

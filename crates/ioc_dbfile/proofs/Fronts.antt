@@ -3,11 +3,11 @@ use Rattle.std.proofs.Common.{◌≡◌, ℕ, zero, suc, ◌+◌, ◌-◌, Bool,
 use Rattle.std.specs.List.{onto_first}
 use Rattle.std.proofs.lemmas.Bool.{cases_Bool}
 use Rattle.ioc_values.specs.declared.error.BadDbKind.TheVariants as kinds
-use Rattle.ioc_dbfile.specs.declared.fault.DbFault.{DbFault}
+use Rattle.ioc_values.specs.declared.error.DbFault.{DbFault}
 use Rattle.ioc_dbtext.specs.declared.texts.End.{End}
 use Rattle.ioc_dbtext.specs.declared.texts.End.TheVariants.{Whole, BadMacro}
 use Rattle.ioc_dbtext.specs.Bytes.{behind_gap}
-use Rattle.ioc_dbtext.specs.Lines.{lines_of, first_line, behind_line, line_text}
+use Rattle.ioc_dbtext.specs.Lines.{lines_of, line_text}
 use Rattle.ioc_dbtext.specs.Lexing.{Lexeme, Cut, is_fault, token_at}
 use Rattle.ioc_dbtokens.specs.Tokens.{chain, tokens_in, tokens_before, tokens_of}
 use Rattle.ioc_dbtext.specs.Texts.{Expansion, onto_texts, last_text, expansion, most_bytes}
@@ -15,7 +15,7 @@ use Rattle.ioc_dbfile.specs.Rules.{Rules}
 use Rattle.ioc_dbfile.specs.Statements.{filled}
 use Rattle.ioc_dbfile.specs.Loading.{filled_by}
 use Rattle.ioc_dbfile.specs.Laws.{ends_line}
-use Rattle.ioc_dbtext.proofs.LineLemmas.{splits_off}
+use Rattle.ioc_dbtext.proofs.LineLemmas.{first_line, behind_line, splits_off}
 use Rattle.ioc_dbfile.proofs.Local.{filled_local}
 
 onto_append : (b : ℕ) (ls front : List (List ℕ)) (first : List ℕ) (others : List (List ℕ)) → front ≡ first ∷ others → onto_first b (front ++ ls) ≡ onto_first b front ++ ls

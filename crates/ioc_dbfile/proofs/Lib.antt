@@ -8,6 +8,7 @@ pub mod Spelled
 pub mod Reading
 pub mod Mapped
 pub mod Closing
+pub mod Idling
 pub mod Shrinking
 pub mod Saying
 pub mod OnLines

@@ -4,7 +4,7 @@ use Rattle.ioc_values.specs.declared.error.BadDbKind.TheVariants as kinds
 use Rattle.ioc_fields.specs.declared.record_type.RecordType.{RecordType}
 use Rattle.ioc_fields.specs.declared.field_no.FieldNo.{FieldNo}
 use Rattle.ioc_dbtext.specs.declared.token.TokenKind.TheVariants.{Sign, Word, Quoted}
-use Rattle.ioc_dbfile.specs.declared.fault.DbFault.{DbFault}
+use Rattle.ioc_values.specs.declared.error.DbFault.{DbFault}
 use Rattle.ioc_dbtext.specs.Bytes.{escapes, is_word_byte}
 use Rattle.ioc_dbtext.specs.Lines.{lines_of, line_text}
 use Rattle.ioc_dbtext.specs.Lexing.{Lexeme, is_sign}

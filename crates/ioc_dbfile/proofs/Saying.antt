@@ -4,7 +4,7 @@ use Rattle.ioc_values.specs.declared.error.BadDbKind.TheVariants as kinds
 use Rattle.ioc_fields.specs.declared.record_type.RecordType.{RecordType}
 use Rattle.ioc_fields.specs.declared.field_no.FieldNo.{FieldNo}
 use Rattle.ioc_dbtext.specs.declared.token.TokenKind.TheVariants.{Sign, Word, Quoted}
-use Rattle.ioc_dbfile.specs.declared.fault.DbFault.{DbFault}
+use Rattle.ioc_values.specs.declared.error.DbFault.{DbFault}
 use Rattle.ioc_dbtext.specs.Lexing.{Lexeme}
 use Rattle.ioc_dbfile.specs.Rules.{Rules}
 use Rattle.ioc_dbfile.specs.Statements.{at, next_at, expect, value_at, field_at, set_at, setting_at, entry_at, repeated, body_at, type_at, name_at, record_at, statement_at, filled}

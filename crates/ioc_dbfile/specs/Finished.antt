@@ -14,7 +14,7 @@ use Rattle.ioc_record.specs.declared.link_field.Lead.{Lead}
 use Rattle.ioc_record.specs.declared.link_field.Lead.TheVariants.{Nowhere, Field}
 use Rattle.ioc_fields.specs.Table.{is_link}
 use Rattle.ioc_record.specs.RecordRules.{RecordRules}
-use Rattle.ioc_dbfile.specs.declared.fault.DbFault.{DbFault}
+use Rattle.ioc_values.specs.declared.error.DbFault.{DbFault}
 use Rattle.ioc_dbfile.specs.Statements.{◌>>=◌}
 use Rattle.ioc_dbfile.specs.Loader.{Loading, loading}
 use Rattle.ioc_dbfile.specs.Loading.{filled_by}

@@ -1,7 +1,7 @@
 -- Laws of the database grammar, in the user's words.
 use Rattle.std.specs.Prelude.{◌≡◌, ℕ, Bool, true, List, [], ◌∷◌, ◌++◌, Err, ◌==◌, ◌<◌, length, Ok}
 use Rattle.ioc_values.specs.declared.error.BadDbKind.TheVariants as kinds
-use Rattle.ioc_dbfile.specs.declared.fault.DbFault.{DbFault}
+use Rattle.ioc_values.specs.declared.error.DbFault.{DbFault}
 use Rattle.ioc_dbfile.specs.Rules.{Rules}
 use Rattle.ioc_dbtext.specs.Lexing.{Lexeme}
 use Rattle.ioc_dbfile.specs.Statements.{◌>>=◌, statements_at, filled}

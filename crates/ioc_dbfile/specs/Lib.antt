@@ -2,6 +2,7 @@ pub mod Rules
 pub mod Statements
 pub mod Loading
 pub mod Loader
+pub mod Idle
 pub mod Finished
 pub mod SeenDatabase
 pub mod Laws

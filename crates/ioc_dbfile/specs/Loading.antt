@@ -1,6 +1,6 @@
 -- What a database text makes of a database.
 use Rattle.std.specs.Prelude.{ℕ, List, length, Result}
-use Rattle.ioc_dbfile.specs.declared.fault.DbFault.{DbFault}
+use Rattle.ioc_values.specs.declared.error.DbFault.{DbFault}
 use Rattle.ioc_dbtext.specs.Lines.{lines_of}
 use Rattle.ioc_dbtext.specs.Texts.{Expansion, expansion, most_bytes}
 use Rattle.ioc_dbtokens.specs.Tokens.{tokens_of}

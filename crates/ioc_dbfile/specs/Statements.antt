@@ -8,9 +8,9 @@ use Rattle.ioc_fields.specs.declared.record_type.RecordType.{RecordType}
 use Rattle.ioc_fields.specs.declared.field_no.FieldNo.{FieldNo}
 use Rattle.ioc_dbtext.specs.declared.token.TokenKind.{TokenKind}
 use Rattle.ioc_dbtext.specs.declared.token.TokenKind.TheVariants.{Sign, Word, Quoted, Fault}
-use Rattle.ioc_dbfile.specs.declared.fault.DbFault.{DbFault}
-use Rattle.ioc_dbfile.specs.declared.fault.LoadError.{LoadError}
-use Rattle.ioc_dbfile.specs.declared.fault.LoadError.TheVariants as errors
+use Rattle.ioc_values.specs.declared.error.DbFault.{DbFault}
+use Rattle.ioc_values.specs.declared.error.IocError.{IocError}
+use Rattle.ioc_values.specs.declared.error.IocError.TheVariants as errors
 use Rattle.ioc_dbtext.specs.Lexing.{Lexeme}
 use Rattle.ioc_dbtokens.specs.Escapes.{unescaped_from}
 use Rattle.ioc_dbfile.specs.Rules.{Rules}
@@ -21,13 +21,14 @@ abbrev pub ◌>>=◌ : {A B : Type 0} → Result A DbFault → (A → Result B D
 (Ok x) >>= f = f x
 (Err e) >>= f = Err e
 
--- an error is the fault that is wanted, or want of memory
-abbrev pub Fails : {Y : Type 0} → LoadError → Result Y DbFault → Type 0
-Fails errors.Memory wanted = Unit {0}
-Fails (errors.Fault f) wanted = wanted ≡ Err f
+-- an error is the fault that is wanted, or want of memory, and nothing else
+abbrev pub Fails : {Y : Type 0} → IocError → Result Y DbFault → Type 0
+Fails (errors.BadDb fault) wanted = wanted ≡ Err fault
+Fails errors.NoMemory wanted = Unit {0}
+Fails _ wanted = ⊥
 
 -- what a function returned, seen by view, is what is wanted, unless memory ran out
-abbrev pub Gives : {X Y : Type 0} → (X → Y) → Result X LoadError → Result Y DbFault → Type 0
+abbrev pub Gives : {X Y : Type 0} → (X → Y) → Result X IocError → Result Y DbFault → Type 0
 Gives view (Ok x) wanted = wanted ≡ Ok (view x)
 Gives view (Err e) wanted = Fails e wanted
 

@@ -2,6 +2,7 @@
 ghost use Rattle.ioc_types.specs.Record.{record_rules};
 ghost use Rattle.ioc_process.specs.OneMap.{world_of};
 ghost use Rattle.ioc_process.specs.World.{IsClosed};
+ghost use Rattle.ioc_process.specs.Rules.{IsQuiet};
 
 use crate::finish::finish_all;
 use ioc_names::Names;
@@ -15,16 +16,19 @@ pub struct Database {
     pub names: Names,
     pub map: OneMap<Record>,
     ghost closed: { IsClosed record_rules (world_of map) },
+    ghost quiet: { IsQuiet record_rules (world_of map) },
 }
 
 impl Database {
     ghost use Rattle.std.specs.Prelude.{◌≡◌, IfOk};
     ghost use Rattle.ioc_dbfile.specs.Finished.{all_finished};
     ghost use Rattle.ioc_dbfile.specs.SeenDatabase.{database_of};
+    ghost use Rattle.ioc_dbfile.specs.Idle.{AllIdle};
 
     /// The database of names and records that a text has made: it is decided where links lead, and
     /// constants are put.
     pub fn new(alloc: Global, names: Names, records: Vec<Record>) -> Result<Self, AllocError>
+        requires { AllIdle record_rules records.items }
         ensures { IfOk result (λ d. database_of d ≡ all_finished record_rules (record { names = names; records = records.items })) }
     {
         let mut records = records;

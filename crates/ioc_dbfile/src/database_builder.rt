@@ -10,8 +10,8 @@ use crate::new_records::push_new;
 use ioc_fields::{FieldNo, RecordType, can_set, field};
 use ioc_links::is_record_name;
 use ioc_names::{Names, RecordNo};
-use ioc_types::Record;
 use ioc_record::{RecordKind, set_field};
+use ioc_types::Record;
 use ioc_values::{BadDbKind, IocError, Name};
 use std::alloc::{AllocError, Global};
 use std::marker::Model;
@@ -29,7 +29,8 @@ pub struct DatabaseBuilder {
 
 impl Model for DatabaseBuilder {
     ghost use Rattle.ioc_dbfile.specs.Loader.{Loading};
-    ghost use Rattle.ioc_types.specs.Record.{Record};
+    ghost use Rattle.ioc_types.specs.Record.{Record, record_rules};
+    ghost use Rattle.ioc_dbfile.specs.Idle.{AllIdle};
     ghost use Rattle.ioc_record.specs.contracts.record.Record as row;
     ghost use Rattle.ioc_types.specs.contracts.record.Body as body;
     ghost use Rattle.ioc_dbfile.specs.Loader.{loading_code};
@@ -39,6 +40,8 @@ impl Model for DatabaseBuilder {
     ghost coded = { loading_code (row.the_row body.the_row).coded };
 
     ghost view = { λ l. record { names = l.names; records = l.records.items } };
+
+    ghost invariant = { λ l. AllIdle record_rules l.records.items };
 }
 
 impl DatabaseBuilder {
@@ -123,10 +126,10 @@ impl Builder for DatabaseBuilder {
         if place >= self.records.len() {
             return Err(BadDbKind::BadValue);
         }
-        match set_field(&mut self.records[place], field, value) {
-            Ok(()) => Ok(()),
-            Err(refusal) => Err(kind_of_refusal(refusal)),
+        if let Err(refusal) = set_field(&mut self.records[place], field, value) {
+            return Err(kind_of_refusal(refusal));
         }
+        Ok(())
     }
 }
 

@@ -3,12 +3,11 @@ ghost use Rattle.std.specs.Prelude.{◌≡◌};
 ghost use Rattle.ioc_dbfile.specs.Statements.{Gives, Fails, field_at, set_at, setting_at, entry_at, body_at};
 
 use crate::builder::Builder;
-use crate::fault::LoadError;
 use crate::words::{expect, fault, is_sign_of, is_word, next_at, text_of, value_at};
 use ioc_dbtokens::Tokens;
 use ioc_fields::FieldNo;
 use ioc_names::RecordNo;
-use ioc_values::BadDbKind;
+use ioc_values::{BadDbKind, IocError};
 use std::alloc::Global;
 
 /// F of `field(F, V)`.
@@ -19,7 +18,7 @@ fn field_at<B: Builder>(
     number: RecordNo,
     builder: &B,
     tokens: &mut Tokens<'_>,
-) -> Result<FieldNo, LoadError>
+) -> Result<FieldNo, IocError>
     ensures { Gives (λ f. (f, tokens.new)) result (field_at B.rules last number builder.now tokens.old) }
 {
     let token = value_at(last, tokens)?;
@@ -39,7 +38,7 @@ fn set_at<B: Builder>(
     field: FieldNo,
     builder: &mut B,
     tokens: &mut Tokens<'_>,
-) -> Result<(), LoadError>
+) -> Result<(), IocError>
     ensures { Gives (λ _. (builder.new, tokens.new)) result (set_at B.rules last number field builder.old tokens.old) }
 {
     let token = value_at(last, tokens)?;
@@ -58,7 +57,7 @@ fn setting_at<B: Builder>(
     number: RecordNo,
     builder: &mut B,
     tokens: &mut Tokens<'_>,
-) -> Result<(), LoadError>
+) -> Result<(), IocError>
     ensures { Gives (λ _. (builder.new, tokens.new)) result (setting_at B.rules last number builder.old tokens.old) }
 {
     expect(b'(', last, tokens)?;
@@ -77,7 +76,7 @@ fn entry_at<B: Builder>(
     number: RecordNo,
     builder: &mut B,
     tokens: &mut Tokens<'_>,
-) -> Result<bool, LoadError>
+) -> Result<bool, IocError>
     ensures { Gives (λ more. (more, builder.new, tokens.new)) result (entry_at B.rules last number builder.old tokens.old) }
 {
     let token = next_at(last, tokens)?;
@@ -99,7 +98,7 @@ pub fn body_at<B: Builder>(
     number: RecordNo,
     builder: &mut B,
     tokens: &mut Tokens<'_>,
-) -> Result<(), LoadError>
+) -> Result<(), IocError>
     ensures { Gives (λ _. (builder.new, tokens.new)) result (body_at B.rules turns last number builder.old tokens.old) }
 {
     for _ in 0..turns {

@@ -7,8 +7,8 @@ ghost use Rattle.ioc_dbfile.specs.Finished.{standing_of, leads_to, linked, linke
 use ioc_fields::{FieldKind, FieldNo, RecordType, field, kind_of};
 use ioc_links::{Link, Target};
 use ioc_names::Names;
+use ioc_record::{FieldAddress, Lead, LinkField, RecordKind};
 use ioc_types::Record;
-use ioc_record::{Lead, LinkField, RecordKind, FieldAddress};
 use std::alloc::{AllocError, Global};
 
 fn is_link(kind: Option<FieldKind>) -> bool

@@ -8,25 +8,25 @@ ghost use Rattle.ioc_types.specs.Record.{record_rules, new_record};
 use crate::builder::Builder;
 use crate::database::Database;
 use crate::database_builder::DatabaseBuilder;
-use crate::fault::LoadError;
 use crate::macros::Macros;
 use crate::statements::fill;
 use ioc_dbtext::expand;
 use ioc_dbtokens::Tokens;
+use ioc_values::IocError;
 use std::alloc::Global;
 
 /// Fills a database by a text. One of more than [`MAX_BYTES`](crate::MAX_BYTES) bytes is refused at that limit.
 ///
 /// # Errors
 ///
-/// [`LoadError::Fault`] with the line and the kind of the first fault in the text, and
-/// [`LoadError::Memory`] where a growth was refused; the database is of no use then.
+/// [`IocError::BadDb`] with the line and the kind of the first fault in the text, and
+/// [`IocError::NoMemory`] where a growth was refused; the database is of no use then.
 pub fn fill_by_text<B: Builder>(
     alloc: Global,
     text: &[u8],
     _macros: &Macros,
     builder: &mut B,
-) -> Result<(), LoadError>
+) -> Result<(), IocError>
     ensures { Gives (λ _. builder.new) result (filled_by B.rules builder.old text.now) }
 {
     let texts = expand(alloc, text)?;
@@ -40,10 +40,10 @@ pub fn fill_by_text<B: Builder>(
 ///
 /// # Errors
 ///
-/// [`LoadError::Fault`] with the line and the kind of the first fault in the text, and
-/// [`LoadError::Memory`] where a growth was refused; nothing is loaded then.
+/// [`IocError::BadDb`] with the line and the kind of the first fault in the text, and
+/// [`IocError::NoMemory`] where a growth was refused; nothing is loaded then.
 #[tactic(auto, unfolding(crate::specs::Finished::loaded_by))]
-pub fn load(alloc: Global, text: &[u8], macros: &Macros) -> Result<Database, LoadError>
+pub fn load(alloc: Global, text: &[u8], macros: &Macros) -> Result<Database, IocError>
     ensures { Gives database_of result (loaded_by record_rules new_record text.now) }
 {
     let mut builder = DatabaseBuilder::new(alloc);

@@ -1,5 +1,5 @@
 //! Records that are made.
-ghost use Rattle.std.specs.Prelude.{◌≡◌, ◌++◌, ◌∷◌, [], OnOk, IfOk, List, ℕ};
+ghost use Rattle.std.specs.Prelude.{◌≡◌, ◌++◌, ◌∷◌, [], OnOk, OnErr, IfOk, List, ℕ};
 ghost use Rattle.ioc_fields.specs.declared.record_type.RecordType.{RecordType};
 
 use ioc_fields::RecordType;
@@ -34,7 +34,8 @@ pub fn push_new<R: NewRecord>(
     record_type: RecordType,
     name: Name,
 ) -> Result<(), AllocError>
-    ensures { OnOk result (records.new.items ≡ records.old.items ++ R.created record_type name ∷ []) }
+    ensures ok { OnOk result (records.new.items ≡ records.old.items ++ R.created record_type name ∷ []) }
+    ensures err { OnErr result (records.new.items ≡ records.old.items) }
 {
     let record = R::create(alloc, record_type, name)?;
     records.push(record)?;

@@ -4,12 +4,11 @@ ghost use Rattle.ioc_dbfile.specs.Statements.{Gives, Fails, type_at, name_at, re
 
 use crate::builder::{BuildError, Builder};
 use crate::entries::body_at;
-use crate::fault::LoadError;
 use crate::words::{expect, fault, is_word, name_line, next_at, refused_word, text_of, value_at};
 use ioc_dbtokens::Tokens;
 use ioc_fields::RecordType;
 use ioc_names::RecordNo;
-use ioc_values::BadDbKind;
+use ioc_values::{BadDbKind, IocError};
 use std::alloc::Global;
 
 /// TYPE.
@@ -19,7 +18,7 @@ fn type_at<B: Builder>(
     last: u64,
     builder: &B,
     tokens: &mut Tokens<'_>,
-) -> Result<RecordType, LoadError>
+) -> Result<RecordType, IocError>
     ensures { Gives (λ t. (t, tokens.new)) result (type_at B.rules last tokens.old) }
 {
     let token = value_at(last, tokens)?;
@@ -39,14 +38,14 @@ fn name_at<B: Builder>(
     record_type: RecordType,
     builder: &mut B,
     tokens: &mut Tokens<'_>,
-) -> Result<RecordNo, LoadError>
+) -> Result<RecordNo, IocError>
     ensures { Gives (λ n. (n, builder.new, tokens.new)) result (name_at B.rules last begun record_type builder.old tokens.old) }
 {
     let token = value_at(last, tokens)?;
     let name = text_of(alloc, false, &token)?;
     match builder.add(record_type, name.as_slice()) {
         Ok(number) => Ok(number),
-        Err(BuildError::Memory) => Err(LoadError::Memory),
+        Err(BuildError::Memory) => Err(IocError::NoMemory),
         Err(BuildError::Refused(kind)) => Err(fault(name_line(begun, token.line, kind), kind)),
     }
 }
@@ -60,7 +59,7 @@ fn record_at<B: Builder>(
     begun: u64,
     builder: &mut B,
     tokens: &mut Tokens<'_>,
-) -> Result<(), LoadError>
+) -> Result<(), IocError>
     ensures { Gives (λ _. (builder.new, tokens.new)) result (record_at B.rules turns last begun builder.old tokens.old) }
 {
     expect(b'(', last, tokens)?;
@@ -80,7 +79,7 @@ fn statement_at<B: Builder>(
     last: u64,
     builder: &mut B,
     tokens: &mut Tokens<'_>,
-) -> Result<bool, LoadError>
+) -> Result<bool, IocError>
     ensures { Gives (λ more. (more, builder.new, tokens.new)) result (statement_at B.rules turns last builder.old tokens.old) }
 {
     if tokens.peek().is_none() {
@@ -101,7 +100,7 @@ fn statements_at<B: Builder>(
     last: u64,
     builder: &mut B,
     tokens: &mut Tokens<'_>,
-) -> Result<(), LoadError>
+) -> Result<(), IocError>
     ensures { Gives (λ _. (builder.new, tokens.new)) result (statements_at B.rules turns last builder.old tokens.old) }
 {
     for _ in 0..turns {
@@ -120,7 +119,7 @@ pub fn fill<B: Builder>(
     last: u64,
     builder: &mut B,
     tokens: &mut Tokens<'_>,
-) -> Result<(), LoadError>
+) -> Result<(), IocError>
     requires { length tokens.old < turns }
     ensures { Gives (λ _. builder.new) result (filled B.rules last builder.old tokens.old) }
 {

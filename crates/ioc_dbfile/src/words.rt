@@ -4,17 +4,16 @@ ghost use Rattle.ioc_values.specs.declared.error.BadDbKind.TheVariants as kinds;
 ghost use Rattle.ioc_dbtext.specs.SeenToken.{seen};
 ghost use Rattle.ioc_dbfile.specs.Statements.{Reads, at, next_at, is_sign_of, expect, is_value, value_at, is_bareword, is_word, text_of, name_line, is_left_out, refused_word};
 
-use crate::fault::{DbFault, LoadError};
 use ioc_dbtext::{Token, TokenKind};
 use ioc_dbtokens::{Tokens, unescaped};
-use ioc_values::BadDbKind;
+use ioc_values::{BadDbKind, DbFault, IocError};
 use std::alloc::{AllocError, Global};
 
 /// A fault of this kind on this line.
-pub fn fault(line: u64, kind: BadDbKind) -> LoadError
-    ensures { result ≡ LoadError.Fault (at line kind) }
+pub fn fault(line: u64, kind: BadDbKind) -> IocError
+    ensures { result ≡ IocError.BadDb (at line kind) }
 {
-    LoadError::Fault(DbFault { line, kind })
+    IocError::BadDb(DbFault { line, kind })
 }
 
 /// The next token of a statement, of a text with this last line.

@@ -1,11 +1,11 @@
 -- The texts of lines, line by line.
-use Rattle.std.proofs.Common.{◌≡◌, ℕ, ◌+◌, ◌-◌, ◌<◌, Bool, true, false, cond, eqb, List, [], ◌∷◌, ◌++◌, length, nat_lt, Some, None, refl, sym, ap, ◌∙◌, append_assoc, append-nil, arith}
-use Rattle.std.proofs.lemmas.Bool.{eqb-true}
+use Rattle.std.proofs.Common.{◌≡◌, ℕ, ◌+◌, ◌-◌, ◌<◌, Bool, true, false, cond, eqb, List, [], ◌∷◌, ◌++◌, length, nat_lt, Some, None, refl, sym, ap, ◌∙◌, append_assoc, append-nil, length-append, arith}
+use Rattle.std.proofs.lemmas.Bool.{eqb-true, eqb-false}
 use Rattle.ioc_dbtext.specs.declared.texts.End.TheVariants.{Whole, BadMacro, TooLong}
-use Rattle.ioc_dbtext.specs.Lines.{lines_of, first_line, behind_line, line_text}
+use Rattle.ioc_dbtext.specs.Lines.{lines_of, line_text}
 use Rattle.ioc_dbtext.specs.Lexing.{begun_within}
 use Rattle.ioc_dbtext.specs.Texts.{parts_of, most_bytes, Expansion, onto_texts, last_text, expansion}
-use Rattle.ioc_dbtext.proofs.LineLemmas.{splits_off, line_whole, line_some}
+use Rattle.ioc_dbtext.proofs.LineLemmas.{line_some}
 
 -- texts before others
 abbrev pub after : List (List ℕ) → Expansion → Expansion
@@ -18,19 +18,18 @@ done front room (b ∷ bs) total e h = let none : length (b ∷ bs) ≡ 0 = eqb-
 pub begins : (ns bs : List ℕ) (lines : List (List ℕ)) → ns ≡ [] → after (parts_of ns bs) (expansion most_bytes lines) ≡ expansion most_bytes lines
 begins ns bs lines e = rw e refl
 
-module _ (rest line behind : List ℕ) (some : eqb (length rest) 0 ≡ false) (line_is : line ≡ first_line rest) (behind_is : behind ≡ behind_line rest) where
-  off_by : (bs : List ℕ) → eqb (length bs) 0 ≡ false → (lines_of bs ≡ first_line bs ∷ lines_of (behind_line bs)) × (0 < length (first_line bs))
-  off_by [] h = absurd cc
-  off_by (b ∷ bs) h = (splits_off b bs, line_some b bs)
+module _ (rest line behind : List ℕ) (some : eqb (length rest) 0 ≡ false) (parted : line ++ behind ≡ rest) (first : 0 < length rest → lines_of rest ≡ line ∷ lines_of behind) where
+  some_bytes : 0 < length rest
+  some_bytes = let no : length rest ≡ 0 → ⊥ = eqb-false (length rest) 0 some in omega (arith, no)
 
   off : lines_of rest ≡ line ∷ lines_of behind
-  off = (off_by rest some).0 ∙ rw (← line_is, ← behind_is) refl
+  off = first some_bytes
 
   pub whole : length line + length behind ≡ length rest
-  whole = rw (line_is, behind_is) (line_whole rest)
+  whole = sym (length-append line behind) ∙ ap length parted
 
   pub some_line : 0 < length line
-  some_line = rw line_is (off_by rest some).1
+  some_line = line_some rest line (lines_of behind) off
 
   module _ (front : List (List ℕ)) (room : ℕ) (total : Expansion) (so_far : after front (expansion room (lines_of rest)) ≡ total) where
     split : after front (expansion room (line ∷ lines_of behind)) ≡ total

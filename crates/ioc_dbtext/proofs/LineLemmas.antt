@@ -1,8 +1,18 @@
 -- The first line of a text, and those behind it.
-use Rattle.std.proofs.Common.{◌≡◌, ℕ, ◌+◌, ◌<◌, Bool, true, false, cond, eqb, List, [], ◌∷◌, length, refl, sym, ap, inl, inr, arith}
+use Rattle.std.proofs.Common.{◌≡◌, ℕ, ◌<◌, Bool, true, false, cond, eqb, List, [], ◌∷◌, length, refl, sym, ap, inl, inr, arith}
 use Rattle.std.specs.List.{onto_first}
 use Rattle.std.proofs.lemmas.Bool.{cases_Bool, eqb-true}
-use Rattle.ioc_dbtext.specs.Lines.{lines_of, first_line, behind_line}
+use Rattle.ioc_dbtext.specs.Lines.{lines_of}
+
+-- the first line, with its line feed
+abbrev pub first_line : List ℕ → List ℕ
+first_line [] = []
+first_line (b ∷ bs) = cond (eqb b 10) (b ∷ []) (b ∷ first_line bs)
+
+-- the text behind the first line
+abbrev pub behind_line : List ℕ → List ℕ
+behind_line [] = []
+behind_line (b ∷ bs) = cond (eqb b 10) bs (behind_line bs)
 
 abbrev SplitsOff : List ℕ → Type 0
 SplitsOff bs = lines_of bs ≡ first_line bs ∷ lines_of (behind_line bs)
@@ -22,19 +32,20 @@ splits_off b [] = elim (cases_Bool (eqb b 10)) [ inl is ↦ at_feed b [] is | in
 splits_off b (c ∷ cs) =
     elim (cases_Bool (eqb b 10)) [ inl is ↦ at_feed b (c ∷ cs) is | inr is ↦ at_other b (c ∷ cs) is (splits_off c cs) ]
 
-line_step : (t : Bool) (b : ℕ) (bs first behind : List ℕ) → length first + length behind ≡ length bs → length (cond t (b ∷ []) (b ∷ first)) + length (cond t bs behind) ≡ length (b ∷ bs)
-line_step true b bs first behind h = omega arith
-line_step false b bs first behind h = omega arith
+-- where there is a byte, there is a first line
+pub line_splits : (bs line behind : List ℕ) → line ≡ first_line bs → behind ≡ behind_line bs → 0 < length bs → lines_of bs ≡ line ∷ lines_of behind
+line_splits [] line behind l r h = absurd (omega arith)
+line_splits (b ∷ bs) line behind l r h = rw (l, r) (splits_off b bs)
 
--- a line and what stands behind it are the whole
-pub line_whole : (bs : List ℕ) → length (first_line bs) + length (behind_line bs) ≡ length bs
-line_whole [] = refl
-line_whole (b ∷ bs) = line_step (eqb b 10) b bs (first_line bs) (behind_line bs) (line_whole bs)
+onto_some : (b : ℕ) (bs line : List ℕ) (ls others : List (List ℕ)) → onto_first b ls ≡ line ∷ others → 0 < length line
+onto_some b bs line [] others e = let k : b ∷ [] ≡ line = cc in rw (← k) (omega arith)
+onto_some b bs line (l ∷ ls) others e = let k : b ∷ l ≡ line = cc in rw (← k) (omega arith)
 
-some_step : (t : Bool) (b : ℕ) (first : List ℕ) → 0 < length (cond t (b ∷ []) (b ∷ first))
-some_step true b first = omega arith
-some_step false b first = omega arith
+some_step : (t : Bool) (b : ℕ) (bs line : List ℕ) (others : List (List ℕ)) → cond t ((10 ∷ []) ∷ lines_of bs) (onto_first b (lines_of bs)) ≡ line ∷ others → 0 < length line
+some_step true b bs line others e = let k : 10 ∷ [] ≡ line = cc in rw (← k) (omega arith)
+some_step false b bs line others e = onto_some b bs line (lines_of bs) others e
 
 -- a line has a byte at least
-pub line_some : (b : ℕ) (bs : List ℕ) → 0 < length (first_line (b ∷ bs))
-line_some b bs = some_step (eqb b 10) b (first_line bs)
+pub line_some : (bs line : List ℕ) (others : List (List ℕ)) → lines_of bs ≡ line ∷ others → 0 < length line
+line_some [] line others e = absurd cc
+line_some (b ∷ bs) line others e = some_step (eqb b 10) b bs line others e

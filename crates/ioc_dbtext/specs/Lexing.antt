@@ -55,12 +55,18 @@ abbrev pub rest_of : Option Cut → List ℕ → List ℕ
 rest_of None bs = bs
 rest_of (Some cut) bs = cut.rest
 
--- what is left behind the tokens that begin before the last so many bytes
+-- what is left of a text behind its tokens that begin before its last `past` bytes; as many turns as it has bytes are
+-- enough, since a token takes a byte at least
 abbrev pub behind_begun : ℕ → ℕ → List ℕ → List ℕ
 behind_begun zero past bs = bs
 behind_begun (suc turns) past bs =
     if nat_lt past (length (behind_gap bs)) then behind_begun turns past (rest_of (token_at 0 (behind_gap bs)) (behind_gap bs)) else bs
 
--- a line's text up to the end of the last token that begins among the first so many bytes
+-- what is read of a line's text, where only its first `room` bytes lie before the limit: its front up to the end of the
+-- last token that begins before the limit. Of `ab cde f` with room for 4 bytes that is `ab cde`: `cde` begins with the
+-- fourth byte and is read to its end, and `f` begins behind the limit
 unfoldable pub begun_within : ℕ → List ℕ → List ℕ
-begun_within room text = take (length text - length (behind_begun (length text) (length text - room) text)) text
+begun_within room text =
+    let past = length text - room in
+    let left = behind_begun (length text) past text in
+    take (length text - length left) text

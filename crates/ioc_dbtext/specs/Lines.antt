@@ -15,16 +15,6 @@ abbrev pub lines_of : List ℕ → List (List ℕ)
 lines_of [] = []
 lines_of (b ∷ bs) = if b == 10 then (10 ∷ []) ∷ lines_of bs else onto_first b (lines_of bs)
 
--- the first line, with its line feed
-abbrev pub first_line : List ℕ → List ℕ
-first_line [] = []
-first_line (b ∷ bs) = if b == 10 then b ∷ [] else b ∷ first_line bs
-
--- the text behind the first line
-abbrev pub behind_line : List ℕ → List ℕ
-behind_line [] = []
-behind_line (b ∷ bs) = if b == 10 then bs else behind_line bs
-
 -- a line without its line feed, and without a carriage return before it
 abbrev pub without_end : List ℕ → List ℕ
 without_end [] = []

@@ -16,6 +16,3 @@ pub use expansion::{MAX_BYTES, expand};
 pub use lexer::{is_fault, token_at};
 pub use texts::{End, Texts};
 pub use token::{Token, TokenKind};
-
-#[cfg(test)]
-mod tests;

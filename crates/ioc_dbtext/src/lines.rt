@@ -1,6 +1,6 @@
 //! The lines of a text, and what is left of one.
-ghost use Rattle.std.specs.Prelude.{◌≡◌, Some, None, option_map};
-ghost use Rattle.ioc_dbtext.specs.Lines.{quoting_after, begins_comment, uncommented, begins_with, opens_macro, has_macro, without_end, line_text, first_line, behind_line};
+ghost use Rattle.std.specs.Prelude.{◌≡◌, ◌<◌, ◌∷◌, ◌++◌, length, option_map};
+ghost use Rattle.ioc_dbtext.specs.Lines.{quoting_after, begins_comment, uncommented, begins_with, opens_macro, has_macro, without_end, line_text, lines_of};
 
 /// Where a byte of a line stands.
 #[derive(Clone, Copy, PartialEq, Eq, Debug)]
@@ -110,8 +110,8 @@ fn without_end(line: &[u8]) -> &[u8]
 
 /// The first line with its line feed, and the text behind it.
 pub fn split_line(text: &[u8]) -> (&[u8], &[u8])
-    ensures line { result.0.now ≡ first_line text.now }
-    ensures behind { result.1.now ≡ behind_line text.now }
+    ensures whole { result.0.now ++ result.1.now ≡ text.now }
+    ensures first { 0 < length text.now → lines_of text.now ≡ result.0.now ∷ lines_of result.1.now }
 {
     let mut count = 0;
     let mut rest = text;

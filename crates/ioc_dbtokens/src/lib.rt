@@ -11,6 +11,3 @@ pub mod tokens;
 
 pub use escapes::unescaped;
 pub use tokens::Tokens;
-
-#[cfg(test)]
-mod tests;

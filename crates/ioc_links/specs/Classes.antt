@@ -1,5 +1,6 @@
 -- Kinds of bytes, and the parts of a text that they cut.
 use Rattle.std.specs.Prelude.{ℕ, Bool, true, List, [], ◌∷◌, nat_le, not, ◌==◌, ◌&&◌, ◌||◌, if◌then◌else◌}
+use Rattle.std.specs.List.{list_all}
 use Rattle.ioc_values.specs.Trim.{is_blank}
 use Rattle.ioc_links.specs.declared.class.Class.{Class}
 use Rattle.ioc_links.specs.declared.class.Class.TheVariants.{Digit, Point, Mark, NameByte, FieldByte, Blank}
@@ -23,8 +24,7 @@ in_class Blank b = is_blank true b
 
 -- each byte is of the class
 abbrev pub all_of : Class → List ℕ → Bool
-all_of class [] = true
-all_of class (b ∷ bs) = in_class class b && all_of class bs
+all_of class bs = list_all (in_class class) bs
 
 -- the bytes before the first of the class
 abbrev pub front_of : Class → List ℕ → List ℕ

@@ -2,6 +2,7 @@
 -- Application Developer's Guide, "Database Links".
 use Rattle.std.specs.Prelude.{◌≡◌, ℕ, ℤ, Bool, true, false, List, [], ◌∷◌, ◌++◌, length, Option, Some, None, codes, not, nat_le, nat_eq, ◌==◌, ◌&&◌, ◌||◌, if◌then◌else◌}
 use Rattle.std.specs.Fmt.{signed_decimal}
+use Rattle.std.specs.List.{list_all}
 use Rattle.std.specs.Option.{option_map_or}
 use Rattle.std.specs.Cmp.Lexicographic.{pointwise}
 use Rattle.ioc_values.specs.Trim.{is_blank, trimmed, skip_front}
@@ -79,8 +80,7 @@ is_word w = pointwise nat_eq w (codes "PP") || (pointwise nat_eq w (codes "NPP")
 
 -- each word may
 abbrev pub all_words : List (List ℕ) → Bool
-all_words [] = true
-all_words (w ∷ ws) = is_word w && all_words ws
+all_words ws = list_all is_word ws
 
 -- NMS wins over MSI, MSI over MSS, and MSS over MS
 unfoldable pub mode_of : List (List ℕ) → Mode

@@ -1,7 +1,7 @@
 -- The words of a text, parted by spaces and tabs.
 use Rattle.std.specs.Borrow.{Bor}
-use Rattle.std.specs.Prelude.{◌≡◌, ◌<◌, length, Option, Some, None, ℕ, Bool, true, false, List, [], ◌∷◌, ◌||◌, not, nat_eq, if◌then◌else◌}
-use Rattle.std.specs.List.{onto_first}
+use Rattle.std.specs.Prelude.{◌≡◌, ◌<◌, length, Option, Some, None, ℕ, Bool, true, false, List, [], ◌∷◌, not, nat_eq, if◌then◌else◌}
+use Rattle.std.specs.List.{list_any, onto_first}
 use Rattle.std.specs.Cmp.Lexicographic.{pointwise}
 use Rattle.ioc_values.specs.Trim.{is_blank}
 
@@ -17,8 +17,7 @@ words (b ∷ bs) = if is_blank true b then words bs else (if in_word bs then ont
 
 -- the word is among them
 abbrev pub has : List ℕ → List (List ℕ) → Bool
-has word [] = false
-has word (w ∷ ws) = pointwise nat_eq w word || has word ws
+has word ws = list_any (λ w. pointwise nat_eq w word) ws
 
 -- what a call for the next word answers: none, or the word and what stands behind it
 abbrev pub IsNextWord : List ℕ → Option (Bor (List ℕ) × Bor (List ℕ)) → Type 0

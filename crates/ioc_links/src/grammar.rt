@@ -5,7 +5,7 @@ ghost use Rattle.ioc_links.specs.Grammar.{without_sign, is_some_of, is_mantissa,
 
 use crate::class::{Class, all_of, split_at};
 use crate::link::Target;
-use ioc_values::Short;
+use ioc_values::{MAX_FIELD_NAME_BYTES, MAX_NAME_BYTES, Short};
 
 /// The text behind a sign, if it begins with one.
 fn without_sign(text: &[u8]) -> &[u8]
@@ -65,14 +65,14 @@ pub(crate) fn is_float(text: &[u8]) -> bool
 pub fn is_record_name(name: &[u8]) -> bool
     ensures { result ≡ is_record_name name.now }
 {
-    name.len() <= 60 && is_some_of(Class::NameByte, name)
+    name.len() <= MAX_NAME_BYTES && is_some_of(Class::NameByte, name)
 }
 
 /// Whether the text can name a field: 1 to 8 capital letters or digits.
 fn is_field_name(field: &[u8]) -> bool
     ensures { result ≡ is_field_name field.now }
 {
-    field.len() <= 8 && is_some_of(Class::FieldByte, field)
+    field.len() <= MAX_FIELD_NAME_BYTES && is_some_of(Class::FieldByte, field)
 }
 
 /// The field of the record, where both can be named so.

@@ -11,9 +11,6 @@ pub mod printing;
 mod words;
 
 pub use grammar::is_record_name;
-pub use link::{Flags, Link, LinkKind, Mode, Target};
+pub use link::{Flags, Link, LinkKind, MAX_DEVICE_BYTES, MAX_LINK_BYTES, Mode, Target};
 pub use parsing::parse;
 pub use printing::{print, printed_is_read};
-
-#[cfg(test)]
-mod tests;

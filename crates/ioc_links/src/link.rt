@@ -1,6 +1,12 @@
 //! Links as they are written.
 use ioc_values::{FieldName, Name, Short};
 
+/// The most bytes of a link's text.
+pub const MAX_LINK_BYTES: usize = 120;
+
+/// The most bytes of a device link's text, which stands behind an `@`.
+pub const MAX_DEVICE_BYTES: usize = MAX_LINK_BYTES - 1;
+
 /// How a link hands on the alarm severity of the record that it names.
 #[derive(Clone, Copy, PartialEq, Eq, Debug)]
 pub enum Mode {
@@ -35,7 +41,7 @@ pub enum Link {
     Empty,
     Constant(i64),
     /// The text behind the `@`.
-    Device(Short<119>),
+    Device(Short<MAX_DEVICE_BYTES>),
     Database(Target, Flags),
 }
 

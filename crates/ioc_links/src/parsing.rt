@@ -5,7 +5,7 @@ ghost use Rattle.ioc_links.specs.Words.{words};
 ghost use Rattle.ioc_links.specs.Grammar.{device_of, database_of, by_first, solid_link, link_of};
 
 use crate::grammar::{is_float, named};
-use crate::link::{Link, LinkKind};
+use crate::link::{Link, LinkKind, MAX_LINK_BYTES};
 use crate::words::{flags_of, next_word};
 use ioc_values::number::{is_number, signed};
 use ioc_values::trim::{skip_front, trim};
@@ -72,7 +72,7 @@ fn solid_link(kind: LinkKind, text: &[u8]) -> Option<Link>
 pub fn parse(kind: LinkKind, text: &[u8]) -> Result<Link, IocError>
     ensures { result ≡ ok_or (link_of kind text.now) IocError.BadLink }
 {
-    if text.len() > 120 {
+    if text.len() > MAX_LINK_BYTES {
         return Err(IocError::BadLink);
     }
     solid_link(kind, trim(text, true)).ok_or(IocError::BadLink)

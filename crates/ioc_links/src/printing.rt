@@ -3,7 +3,7 @@
 ghost use Rattle.std.specs.Prelude.{◌≡◌};
 ghost use Rattle.ioc_links.specs.Grammar.{mode_word, printed_database, printed, LinksAgain};
 
-use crate::link::{Flags, Link, Mode, Target};
+use crate::link::{Flags, Link, MAX_LINK_BYTES, Mode, Target};
 use ioc_values::Short;
 use itoa::Buffer;
 
@@ -20,7 +20,7 @@ fn mode_word(mode: Mode) -> &'static [u8]
 }
 
 /// `NAME.FIELD`, then PP or NPP, then the mode, parted by one space.
-fn print_database(target: &Target, flags: Flags) -> Short<120>
+fn print_database(target: &Target, flags: Flags) -> Short<MAX_LINK_BYTES>
     ensures { result ≡ printed_database target.now flags }
 {
     let mut text = Short::new();
@@ -38,7 +38,7 @@ fn print_database(target: &Target, flags: Flags) -> Short<120>
 }
 
 /// The one spelling of a link: nothing, a constant in decimal, `@` and the text, or `NAME.FIELD` with both words.
-pub fn print(link: &Link) -> Short<120>
+pub fn print(link: &Link) -> Short<MAX_LINK_BYTES>
     ensures { result ≡ printed link.now }
 {
     let mut text = Short::new();

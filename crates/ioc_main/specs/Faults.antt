@@ -1,26 +1,69 @@
--- Faults of a run.
-use Rattle.std.specs.Prelude.{ℕ}
-use Rattle.ioc_dbfile.specs.declared.fault.LoadError.{LoadError}
-use Rattle.ioc_dbfile.specs.declared.fault.LoadError.TheVariants as load
+-- Faults of a run, and how the program ends.
+use Rattle.std.specs.Prelude.{ℕ, List, [], ◌∷◌, ◌++◌, codes, Bool, true, false, if◌then◌else◌, Option, Some, None, Result, Ok, Err}
+use Rattle.std.specs.declared.io.Error.{Error}
+use Rattle.std.specs.declared.io.ErrorKind.{ErrorKind}
+use Rattle.std.specs.declared.io.ErrorKind.TheVariants.{OutOfMemory}
+use Rattle.ioc_values.specs.declared.error.IocError.{IocError}
+use Rattle.ioc_values.specs.declared.error.IocError.TheVariants as refusal
+use Rattle.ioc_values.specs.Words.{fault_text as db_fault_text}
 use Rattle.ioc_main.specs.declared.fault.ScriptFault.{ScriptFault}
 use Rattle.ioc_main.specs.declared.fault.ScriptFault.TheVariants as script
 use Rattle.ioc_main.specs.declared.fault.RunFault.{RunFault}
 use Rattle.ioc_main.specs.declared.fault.RunFault.TheVariants.{BadDb, Usage, Read, Write, Memory}
+use Rattle.ioc_main.specs.declared.ending.Ending.{Ending}
+use Rattle.ioc_main.specs.declared.ending.Stream.TheVariants as stream
 
 -- the exit status of the program that a fault ends
 unfoldable pub status_of : RunFault → ℕ
-status_of (BadDb line kind) = 1
+status_of (BadDb fault) = 1
 status_of Usage = 2
 status_of Read = 3
 status_of Write = 3
 status_of Memory = 4
 
+-- what a fault is called
+unfoldable pub fault_text : RunFault → List ℕ
+fault_text (BadDb fault) = db_fault_text fault
+fault_text Usage = codes "usage: ioc-replay DB SCRIPT"
+fault_text Read = codes "the input cannot be read"
+fault_text Write = codes "the replies cannot be written"
+fault_text Memory = codes "out of memory"
+
 -- why a load stopped, as a fault of the run
-abbrev pub fault_of : LoadError → RunFault
-fault_of load.Memory = Memory
-fault_of (load.Fault fault) = BadDb fault.line fault.kind
+abbrev pub fault_of : IocError → RunFault
+fault_of (refusal.BadDb fault) = BadDb fault
+fault_of _ = Memory
 
 -- why a script stopped, as a fault of the run
 abbrev pub run_fault_of : ScriptFault → RunFault
 run_fault_of script.Read = Read
 run_fault_of script.Write = Write
+
+-- a growth was refused
+abbrev pub is_out_of_memory : ErrorKind → Bool
+is_out_of_memory OutOfMemory = true
+is_out_of_memory _ = false
+
+-- why a file could not be read
+abbrev pub read_fault_of : ErrorKind → RunFault
+read_fault_of kind = if is_out_of_memory kind then Memory else Read
+
+-- a run, and then the flush of what it wrote: the fault that came first
+abbrev pub whole_run : Result (Unit {0}) RunFault → Result (Unit {0}) Error → Result (Unit {0}) RunFault
+whole_run (Err fault) flushed = Err fault
+whole_run (Ok _) (Err e) = Err Write
+whole_run (Ok _) (Ok _) = Ok tt
+
+-- how the program ends: a fault has its status, and is told on standard error
+unfoldable pub ending_of : Result (Unit {0}) RunFault → Ending
+ending_of (Ok _) = record { status = 0; stream = stream.Error; fault = None }
+ending_of (Err fault) = record { status = status_of fault; stream = stream.Error; fault = Some fault }
+
+-- the line of a fault
+abbrev pub fault_line : Option RunFault → List ℕ
+fault_line None = []
+fault_line (Some fault) = fault_text fault ++ 10 ∷ []
+
+-- what is told at the end
+unfoldable pub ending_text : Ending → List ℕ
+ending_text ending = fault_line ending.fault

@@ -2,9 +2,8 @@ pub mod Script
 pub mod Coming
 pub mod Written
 pub mod Seen
-pub mod Records
-pub mod RecordsLaws
 pub mod Replay
 pub mod ReplayLaws
 pub mod Faults
+pub mod Arguments
 pub mod Transcript

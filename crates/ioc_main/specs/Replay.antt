@@ -12,6 +12,7 @@ use Rattle.ioc_device.specs.declared.Answer.{Answer}
 use Rattle.ioc_device.specs.declared.Answer.TheVariants.{Fault}
 use Rattle.ioc_ledger.specs.declared.outcome.Outcome.{Outcome}
 use Rattle.ioc_ledger.specs.declared.outcome.Outcome.TheVariants.{Processed, Disabled, Active, Reprocess}
+use Rattle.ioc_ledger.specs.Requests.{Requests, None as No-requests}
 use Rattle.ioc_record.specs.RecordRules.{RecordRules}
 use Rattle.ioc_process.specs.declared.reply.Reply.{Reply}
 use Rattle.ioc_process.specs.declared.reply.Reply.TheVariants.{Plain, Outcome as Outcome-reply, Shown, Refused}
@@ -37,14 +38,15 @@ reply_words (Refused e) = refusal_words e
 unfoldable pub faults : List Answer
 faults = replicate 256 Fault
 
--- what a line leaves, and what is printed for it
+-- what a line leaves, what is printed for it, and which requests were made
 pub record Answered (R : Type 0) : Type 0 where
   pub world : World R
   pub said : List ℕ
+  pub requests : Requests
 
 -- the line of a reply
 abbrev pub replied : {R : Type 0} → Stepped R → Answered R
-replied event = record { world = event.world; said = reply_words event.reply ++ 10 ∷ [] }
+replied event = record { world = event.world; said = reply_words event.reply ++ 10 ∷ []; requests = event.requests }
 
 module _ {R : Type 0} (k : RecordRules R) (names : NameTable) where
   -- the field of this name of the record of this name
@@ -78,8 +80,8 @@ module _ {R : Type 0} (k : RecordRules R) (names : NameTable) where
 
   -- what a line asks for is done
   unfoldable pub answered : World R → Command → Answered R
-  answered w Silent = record { world = w; said = [] }
-  answered w Bad = record { world = w; said = codes "bad\n" }
+  answered w Silent = record { world = w; said = []; requests = No-requests }
+  answered w Bad = record { world = w; said = codes "bad\n"; requests = No-requests }
   answered w (Process name) = replied (processed w (number_of names name))
   answered w (Put name field text) = replied (were_put w text (channel w name field))
   answered w (Get name field) = replied (got w (channel w name field))

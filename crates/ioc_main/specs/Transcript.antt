@@ -5,7 +5,7 @@ use Rattle.ioc_types.specs.Record.{record_rules, new_record}
 use Rattle.ioc_types.specs.Record.{Record}
 use Rattle.ioc_process.specs.OneMap.{numbered}
 use Rattle.ioc_process.specs.World.{World}
-use Rattle.ioc_dbfile.specs.declared.fault.DbFault.{DbFault}
+use Rattle.ioc_values.specs.declared.error.DbFault.{DbFault}
 use Rattle.ioc_dbfile.specs.Loader.{Loading}
 use Rattle.ioc_dbfile.specs.Finished.{loaded_by}
 use Rattle.ioc_main.specs.declared.fault.RunFault.{RunFault}
@@ -41,7 +41,7 @@ IsDatabase text = (database : Loading Record) × (loaded text ≡ Ok database)
 -- a refused text is told by its first fault, and nothing is written; else a beginning of the transcript was written, and after a
 -- failed write not all of it
 abbrev pub StopsWith : RunFault → List ℕ → Option (List ℕ) → Option (List ℕ) → Option (List ℕ) → Type 0
-StopsWith (BadDb line kind) text script old new = (loaded text ≡ Err (record { line = line; kind = kind })) × Keeps old new
+StopsWith (BadDb fault) text script old new = (loaded text ≡ Err fault) × Keeps old new
 StopsWith Usage text script old new = ⊥
 StopsWith Memory text script old new = Keeps old new
 StopsWith Read text script old new = IsDatabase text × IfSome script (λ script. WritesFront old (transcript_of text script) new)

@@ -1,27 +1,23 @@
 //! Why a run stopped.
 ghost use Rattle.std.specs.Prelude.{◌≡◌};
-ghost use Rattle.ioc_main.specs.Faults.{status_of};
+ghost use Rattle.std.specs.IoError.{error_kind};
+ghost use Rattle.ioc_main.specs.Faults.{status_of, is_out_of_memory};
 
-use ioc_values::BadDbKind;
-use thiserror::Error;
+use ioc_values::{DbFault, IocError};
+use std::{fmt, io};
 
 /// Why a run stopped before the end of its script, or never began.
-#[derive(Clone, Copy, Debug, PartialEq, Eq, Drop, Error)]
+#[derive(Clone, Copy, Debug, PartialEq, Eq)]
 pub enum RunFault {
-    /// The database text was refused: the line, from 1 on, and why.
-    #[error("E13 BadDb line {}: {}", .0, .1.words())]
-    BadDb(u64, BadDbKind),
+    /// The database text was refused.
+    BadDb(DbFault),
     /// The program was not given the two files.
-    #[error("usage: ioc-replay DB SCRIPT")]
     Usage,
     /// The database or the script could not be read.
-    #[error("the input cannot be read")]
     Read,
     /// A reply could not be written.
-    #[error("the replies cannot be written")]
     Write,
     /// A growth was refused.
-    #[error("out of memory")]
     Memory,
 }
 
@@ -48,6 +44,55 @@ impl From<WriteFault> for ScriptFault {
     }
 }
 
+impl From<ScriptFault> for RunFault {
+    ghost use Rattle.ioc_main.specs.Faults.{run_fault_of};
+
+    ghost from_gives = { λ e fault. fault ≡ run_fault_of e };
+
+    fn from(e: ScriptFault) -> RunFault {
+        match e {
+            ScriptFault::Read => RunFault::Read,
+            ScriptFault::Write => RunFault::Write,
+        }
+    }
+}
+
+/// What a load answers: a refused text, or else that memory was refused.
+impl From<IocError> for RunFault {
+    ghost use Rattle.ioc_main.specs.Faults.{fault_of};
+
+    ghost from_gives = { λ e fault. fault ≡ fault_of e };
+
+    fn from(e: IocError) -> RunFault {
+        match e {
+            IocError::BadDb(fault) => RunFault::BadDb(fault),
+            _ => RunFault::Memory,
+        }
+    }
+}
+
+/// What opening or reading a file answers.
+impl From<io::Error> for RunFault {
+    ghost use Rattle.ioc_main.specs.Faults.{read_fault_of};
+
+    ghost from_gives = { λ e fault. fault ≡ read_fault_of (error_kind e) };
+
+    fn from(e: io::Error) -> RunFault {
+        if is_out_of_memory(&e) {
+            RunFault::Memory
+        } else {
+            RunFault::Read
+        }
+    }
+}
+
+/// Whether a growth was refused: nothing else is told as want of memory.
+pub fn is_out_of_memory(error: &io::Error) -> bool
+    ensures { result ≡ is_out_of_memory (error_kind error.now) }
+{
+    matches!(error.kind(), io::ErrorKind::OutOfMemory)
+}
+
 #[tactic(auto, unfolding(crate::specs::Faults::status_of))]
 impl RunFault {
     /// The exit status of the program, 1 to 4.
@@ -55,10 +100,30 @@ impl RunFault {
         ensures { result ≡ status_of self }
     {
         match self {
-            RunFault::BadDb(_, _) => 1,
+            RunFault::BadDb(_) => 1,
             RunFault::Usage => 2,
             RunFault::Read | RunFault::Write => 3,
             RunFault::Memory => 4,
         }
     }
 }
+
+#[tactic(auto, unfolding(crate::specs::Faults::fault_text))]
+impl fmt::Display for RunFault {
+    ghost use Rattle.std.specs.Prelude.{Some};
+    ghost use Rattle.ioc_main.specs.Faults.{fault_text};
+
+    ghost output = { λ fault. Some (fault_text fault) };
+
+    fn fmt<W: fmt::Write>(&self, f: &mut fmt::Formatter<W>) -> fmt::Result {
+        match self {
+            RunFault::BadDb(fault) => fault.fmt(f),
+            RunFault::Usage => f.write_str("usage: ioc-replay DB SCRIPT"),
+            RunFault::Read => f.write_str("the input cannot be read"),
+            RunFault::Write => f.write_str("the replies cannot be written"),
+            RunFault::Memory => f.write_str("out of memory"),
+        }
+    }
+}
+
+impl std::error::Error for RunFault {}

@@ -1,15 +1,15 @@
 //! A loaded database, to which a script is done.
-ghost use Rattle.std.specs.Prelude.{◌≡◌};
+ghost use Rattle.std.specs.Prelude.{◌≡◌, ◌∷◌, ◌++◌, List, ℕ};
 ghost use Rattle.ioc_names.specs.NameTable.{number_of};
 ghost use Rattle.ioc_types.specs.Record.{record_rules};
 ghost use Rattle.ioc_process.specs.World.{IsClosed, begun};
-ghost use Rattle.ioc_process.specs.OneMap.{world_of as world_on};
-ghost use Rattle.ioc_main.specs.Records.{world_of};
+ghost use Rattle.ioc_ledger.specs.Requests.{counted};
+ghost use Rattle.ioc_process.specs.OneMap.{world_of};
 ghost use Rattle.ioc_main.specs.Replay.{channel, processed, got, were_put, answered};
+ghost use Rattle.ioc_main.specs.Script.{command_of};
 ghost use Rattle.ioc_main.specs.Seen.{seen};
 
 use crate::command::Command;
-use crate::records::ReplayRecords;
 use crate::reply_line::reply_line;
 use crate::session::{LineReply, Session};
 use ioc_fields::{FieldNo, field};
@@ -24,21 +24,23 @@ use ioc_values::{Input, IocError};
 #[derive(Drop)]
 pub struct Replay {
     names: Names,
-    records: ReplayRecords,
+    map: OneMap<Record>,
     tally: Tally,
-    ghost closed: { IsClosed record_rules (world_of records) },
+    ghost closed: { IsClosed record_rules (world_of map) },
 }
 
 impl Replay {
     /// A database of these names and records.
     pub fn new(names: Names, map: OneMap<Record>) -> Self
-        requires { IsClosed record_rules (world_on map) }
+        requires { IsClosed record_rules (world_of map) }
         ensures names { result.names ≡ names }
-        ensures world { world_of result.records ≡ begun (world_on map) }
+        ensures world { world_of result.map ≡ begun (world_of map) }
     {
+        let mut map = map;
+        map.begin();
         Replay {
             names,
-            records: ReplayRecords::new(map),
+            map,
             tally: Tally::default(),
         }
     }
@@ -50,15 +52,15 @@ impl Replay {
         record_name: &[u8],
         field_name: &[u8],
     ) -> Result<(RecordNo, FieldNo), IocError>
-        ensures { result ≡ channel record_rules self.now.names (world_of self.now.records) record_name.now field_name.now }
+        ensures { result ≡ channel record_rules self.now.names (world_of self.now.map) record_name.now field_name.now }
     {
         let Some(number) = self.names.find(record_name) else {
             return Err(IocError::NoRecord);
         };
-        if !self.records.has(number) {
+        if !self.map.has(number) {
             return Err(IocError::NoRecord);
         }
-        let record_type = self.records.record(number).record_type();
+        let record_type = self.map.record(number).record_type();
         match field(record_type, field_name) {
             Some(found) => Ok((number, found)),
             None => Err(IocError::NoField),
@@ -67,39 +69,42 @@ impl Replay {
 
     fn process(&mut self, record_name: &[u8]) -> Reply
         ensures names { self.new.names ≡ self.old.names }
-        ensures world { world_of self.new.records ≡ (processed record_rules self.old.names (world_of self.old.records) (number_of self.old.names record_name.now)).world }
-        ensures reply { result ≡ (processed record_rules self.old.names (world_of self.old.records) (number_of self.old.names record_name.now)).reply }
+        ensures world { world_of self.new.map ≡ (processed record_rules self.old.names (world_of self.old.map) (number_of self.old.names record_name.now)).world }
+        ensures reply { result ≡ (processed record_rules self.old.names (world_of self.old.map) (number_of self.old.names record_name.now)).reply }
+        ensures tally { self.new.tally ≡ counted self.old.tally (processed record_rules self.old.names (world_of self.old.map) (number_of self.old.names record_name.now)).requests }
     {
-        self.records.begin();
+        self.map.begin();
         match self.names.find(record_name) {
-            Some(number) => run_request(&mut self.records, number, &mut self.tally),
+            Some(number) => run_request(&mut self.map, number, &mut self.tally),
             None => Reply::Refused(IocError::NoRecord),
         }
     }
 
     fn get(&mut self, record_name: &[u8], field_name: &[u8]) -> Reply
         ensures names { self.new.names ≡ self.old.names }
-        ensures world { world_of self.new.records ≡ (got record_rules self.old.names (world_of self.old.records) (channel record_rules self.old.names (world_of self.old.records) record_name.now field_name.now)).world }
-        ensures reply { result ≡ (got record_rules self.old.names (world_of self.old.records) (channel record_rules self.old.names (world_of self.old.records) record_name.now field_name.now)).reply }
+        ensures world { world_of self.new.map ≡ (got record_rules self.old.names (world_of self.old.map) (channel record_rules self.old.names (world_of self.old.map) record_name.now field_name.now)).world }
+        ensures reply { result ≡ (got record_rules self.old.names (world_of self.old.map) (channel record_rules self.old.names (world_of self.old.map) record_name.now field_name.now)).reply }
+        ensures tally { self.new.tally ≡ counted self.old.tally (got record_rules self.old.names (world_of self.old.map) (channel record_rules self.old.names (world_of self.old.map) record_name.now field_name.now)).requests }
     {
         let channel = self.channel(record_name, field_name);
-        self.records.begin();
+        self.map.begin();
         match channel {
-            Ok((number, field)) => run_get(&self.records, number, field),
+            Ok((number, field)) => run_get(&self.map, number, field),
             Err(refused) => Reply::Refused(refused),
         }
     }
 
     fn put(&mut self, record_name: &[u8], field_name: &[u8], text: &[u8]) -> Reply
         ensures names { self.new.names ≡ self.old.names }
-        ensures world { world_of self.new.records ≡ (were_put record_rules self.old.names (world_of self.old.records) text.now (channel record_rules self.old.names (world_of self.old.records) record_name.now field_name.now)).world }
-        ensures reply { result ≡ (were_put record_rules self.old.names (world_of self.old.records) text.now (channel record_rules self.old.names (world_of self.old.records) record_name.now field_name.now)).reply }
+        ensures world { world_of self.new.map ≡ (were_put record_rules self.old.names (world_of self.old.map) text.now (channel record_rules self.old.names (world_of self.old.map) record_name.now field_name.now)).world }
+        ensures reply { result ≡ (were_put record_rules self.old.names (world_of self.old.map) text.now (channel record_rules self.old.names (world_of self.old.map) record_name.now field_name.now)).reply }
+        ensures tally { self.new.tally ≡ counted self.old.tally (were_put record_rules self.old.names (world_of self.old.map) text.now (channel record_rules self.old.names (world_of self.old.map) record_name.now field_name.now)).requests }
     {
         let channel = self.channel(record_name, field_name);
-        self.records.begin();
+        self.map.begin();
         match channel {
             Ok((number, field)) => run_put(
-                &mut self.records,
+                &mut self.map,
                 number,
                 field,
                 Input::from_text(text),
@@ -113,8 +118,9 @@ impl Replay {
     #[tactic(auto, unfolding(crate::specs::Replay::answered))]
     fn carry_out(&mut self, command: Command<'_>) -> LineReply
         ensures names { self.new.names ≡ self.old.names }
-        ensures world { world_of self.new.records ≡ (answered record_rules self.old.names (world_of self.old.records) (seen command.entry)).world }
-        ensures said { result ≡ (answered record_rules self.old.names (world_of self.old.records) (seen command.entry)).said }
+        ensures world { world_of self.new.map ≡ (answered record_rules self.old.names (world_of self.old.map) (seen command.entry)).world }
+        ensures said { result ≡ (answered record_rules self.old.names (world_of self.old.map) (seen command.entry)).said }
+        ensures tally { self.new.tally ≡ counted self.old.tally (answered record_rules self.old.names (world_of self.old.map) (seen command.entry)).requests }
     {
         match command {
             Command::Silent => LineReply::new(),
@@ -135,7 +141,11 @@ impl Session for Replay {
 
     ghost long_lines = { long-lines };
 
-    fn answer(&mut self, line: &[u8]) -> LineReply {
+    /// Answers a line. Each request that it makes is counted, and nothing else.
+    fn answer(&mut self, line: &[u8]) -> LineReply
+        ensures transcript { (lines : List (List ℕ)) → printed self.old (line.now ∷ lines) ≡ result ++ printed self.new lines }
+        ensures tally { self.new.tally ≡ counted self.old.tally (answered record_rules self.old.names (world_of self.old.map) (command_of line.now)).requests }
+    {
         self.carry_out(Command::from_line(line))
     }
 }

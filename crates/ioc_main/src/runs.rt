@@ -3,45 +3,19 @@ ghost use Rattle.std.specs.Prelude.{◌≡◌, OnOk, IfErr, IfSome};
 ghost use Rattle.std.specs.Io.KnownBytes.{Appends};
 ghost use Rattle.ioc_main.specs.Transcript.{transcript_of, IsDatabase, StopsWith};
 
-use crate::fault::{RunFault, ScriptFault};
+use crate::fault::RunFault;
 use crate::lines::run_script;
 use crate::replay::Replay;
-use ioc_dbfile::{Database, LoadError, Macros, load};
+use ioc_dbfile::{Database, Macros, load};
 use std::alloc::Global;
 use std::io::{Read, Write};
-
-impl From<LoadError> for RunFault {
-    ghost use Rattle.ioc_main.specs.Faults.{fault_of};
-
-    ghost from_gives = { λ e fault. fault ≡ fault_of e };
-
-    fn from(e: LoadError) -> RunFault {
-        match e {
-            LoadError::Memory => RunFault::Memory,
-            LoadError::Fault(fault) => RunFault::BadDb(fault.line, fault.kind),
-        }
-    }
-}
-
-impl From<ScriptFault> for RunFault {
-    ghost use Rattle.ioc_main.specs.Faults.{run_fault_of};
-
-    ghost from_gives = { λ e fault. fault ≡ run_fault_of e };
-
-    fn from(e: ScriptFault) -> RunFault {
-        match e {
-            ScriptFault::Read => RunFault::Read,
-            ScriptFault::Write => RunFault::Write,
-        }
-    }
-}
 
 /// Loads a database text, and answers a script until its end: each line is answered as it is read, and no line is kept
 /// past its 1,025th byte.
 ///
 /// # Errors
 ///
-/// [`RunFault::BadDb`] with the line and the kind of the first fault of the database text; nothing is written then.
+/// [`RunFault::BadDb`] with the first fault of the database text; nothing is written then.
 /// [`RunFault::Memory`] where a growth was refused; nothing is written then. [`RunFault::Read`] where a read of the script
 /// failed and [`RunFault::Write`] where a write did, be it that the writer took no byte; then what was written is a
 /// beginning of the transcript.

@@ -22,6 +22,3 @@ pub use scan::Scan;
 pub use selm::Selm;
 pub use severity::Severity;
 pub use status::Status;
-
-#[cfg(test)]
-mod tests;

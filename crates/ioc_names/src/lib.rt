@@ -9,6 +9,3 @@ pub mod record_no;
 
 pub use names::Names;
 pub use record_no::RecordNo;
-
-#[cfg(test)]
-mod tests;

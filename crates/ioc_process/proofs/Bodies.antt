@@ -11,7 +11,7 @@ use Rattle.ioc_record.specs.Links.{use_of}
 use Rattle.ioc_record.specs.Steps.{shown, unblocked, blocked}
 use Rattle.ioc_record.specs.RecordRules.{RecordRules}
 use Rattle.ioc_record.specs.Laws.{IsLawful}
-use Rattle.ioc_process.specs.World.{World, at, common_at, put, changed, IsClosed, Keeps}
+use Rattle.ioc_process.specs.World.{World, Has, at, common_at, put, changed, IsClosed, Keeps}
 use Rattle.ioc_ledger.specs.Requests.{Requests, None, Request, followed_by, counted, counted_one}
 use Rattle.ioc_process.specs.Processing.{Done, Reading, completed_if, request, requested, turned_away, processed, input, completed, body}
 use Rattle.ioc_process.specs.Runs.{IsStanding, Leaves, LeavesRead}
@@ -36,8 +36,8 @@ module _ {R : Type 0} (k : RecordRules R) (lawful : IsLawful k) where
   abbrev pub ready : World R → ℕ → Got → World R
   ready w s got = changed k (put w s (k.taken (at k w s) got)) s shown
 
-  pub keeps-ready : (w : World R) (s : ℕ) (got : Got) → Keeps k w (ready w s got)
-  keeps-ready w s got = keeps_on k (keeps-taken k lawful w s got) (keeps-changed k lawful _ s shown shown-forward)
+  pub keeps-ready : (w : World R) (s : ℕ) → Has w s → (got : Got) → Keeps k w (ready w s got)
+  keeps-ready w s there got = let first = keeps-taken k lawful w s there got in keeps_on k first (keeps-changed k lawful _ s (first.has s there) shown shown-forward)
 
   pub forward_stands : (w : World R) (s : ℕ) → IsClosed k w → IsStanding w (use_of (common_at k w s).forward_link)
   forward_stands w s is = λ t e. is.closed s t.number (lawful.forward_named (at k w s) t e)

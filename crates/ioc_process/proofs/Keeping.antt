@@ -1,114 +1,142 @@
 -- What requests leave alone: which records there are, and what their links name.
-use Rattle.std.proofs.Common.{◌≡◌, ◌≢◌, ℕ, Bool, true, false, eqb, List, refl, sym, ap, ◌∙◌, arith}
+use Rattle.std.proofs.Common.{◌≡◌, ◌≢◌, ℕ, Bool, true, false, cond, eqb, List, refl, ap, subst, ◌∙◌, arith}
 use Rattle.std.proofs.lemmas.Grind.{common_steps}
-use Rattle.std.specs.Prelude.{Result}
+use Rattle.std.specs.Prelude.{Result, Ok, Err, Contains, unwrap_or, slice_get}
 use Rattle.ioc_values.specs.declared.value.Value.{Value}
 use Rattle.ioc_values.specs.declared.error.IocError.{IocError}
 use Rattle.ioc_record.specs.declared.common.Common.{Common}
 use Rattle.ioc_record.specs.declared.link_field.LinkUse.{LinkUse}
+use Rattle.ioc_record.specs.declared.link_field.LinkUse.TheVariants.{Standing}
 use Rattle.ioc_record.specs.declared.link_field.StandingLink.{StandingLink}
 use Rattle.ioc_record.specs.declared.body.Got.{Got}
 use Rattle.ioc_record.specs.declared.body.Want.{Want}
+use Rattle.ioc_record.specs.declared.body.Want.TheVariants.{ReadLink}
 use Rattle.ioc_device.specs.declared.Answer.{Answer}
+use Rattle.ioc_device.specs.declared.Answer.TheVariants.{Done as Done-answer, Fault as Fault-answer, Later}
 use Rattle.ioc_record.specs.Steps.{with_active}
 use Rattle.ioc_record.specs.RecordRules.{RecordRules, targets}
 use Rattle.ioc_record.specs.Laws.{IsLawful}
-use Rattle.ioc_process.specs.World.{World, at, put, changed, Keeps, IsClosed, used_one}
-use Rattle.ioc_process.specs.Processing.{caused, followed, inherits, value_came, prepared, read_record, faulted, read_link, received, read_device, input, request}
-use Rattle.ioc_process.proofs.StepFrames.{targets-set, targets-taken}
-use Rattle.ioc_process.proofs.Worlds.{at-put_same, at-put_other, has-put}
-use Rattle.ioc_process.proofs.Alongside.{Guards, Goes, inherits-goes, value_came-goes, received-goes, read_device-goes, caused-goes, followed-goes, prepared-goes, read_record-goes, read_link-goes, input-goes, request-goes}
+use Rattle.ioc_process.specs.World.{World, Has, at, put, changed, SameLinks, Keeps, IsClosed, used_one}
+use Rattle.ioc_process.specs.Processing.{caused, followed, inherits, value_came, prepared, read_record, faulted, read_link, device_gave, received, read_device, can_ask, input, request}
+use Rattle.ioc_process.proofs.StepFrames.{targets_same, links-set, links-taken}
+use Rattle.ioc_process.proofs.Worlds.{at-put_same, at-put_other, has-put, has-put_back}
+use Rattle.ioc_process.proofs.Alongside.{Guards, Goes, inherits-goes, value_came-goes, caused-goes, followed-goes, prepared-goes, read_record-goes, read_link-goes, input-goes, request-goes}
+
+-- the same record has the same links, and so has one after another
+pub same_links : {R : Type 0} (k : RecordRules R) (r : R) → SameLinks k r r
+same_links k r = record { fields = refl; links = refl }
+
+pub links_on : {R : Type 0} (k : RecordRules R) {r s t : R} → SameLinks k r s → SameLinks k s t → SameLinks k r t
+links_on k one two = record { fields = two.fields ∙ one.fields; links = two.links ∙ one.links }
 
 module _ {R : Type 0} (k : RecordRules R) where
   pub keeps_all : (w : World R) → Keeps k w w
-  keeps_all w = record { has = λ _ h. h; targets = λ _. refl }
+  keeps_all w = record { has = λ _ h. h; only = λ _ h. h; links = λ n. same_links k (at k w n) }
 
   pub keeps_on : {w mid after : World R} → Keeps k w mid → Keeps k mid after → Keeps k w after
-  keeps_on one two = record { has = λ n h. two.has n (one.has n h); targets = λ n. two.targets n ∙ one.targets n }
+  keeps_on one two = record { has = λ n h. two.has n (one.has n h); only = λ n h. one.only n (two.only n h); links = λ n. links_on k (one.links n) (two.links n) }
 
-  pub closed_on : {w after : World R} → Keeps k w after → IsClosed k w → IsClosed k after
-  closed_on keeps is = record { closed = λ n target h. keeps.has target (is.closed n target (rw keeps.targets at h)) }
-
-  pub keeps-put : (w : World R) (s : ℕ) (r : R) → targets k r ≡ targets k (at k w s) → Keeps k w (put w s r)
-  keeps-put w s r same = record {
-    has = λ m h. has-put k w s m r h;
-    targets = λ m. elim (eqb m s) as (λ b. eqb m s ≡ b → targets k (at k (put w s r) m) ≡ targets k (at k w m)) [
-      | true ↦ λ is. let e : m ≡ s = grind (arith, common_steps) in rw (e, at-put_same k w s r) same
-      | false ↦ λ is. let apart : m ≢ s = grind (arith, common_steps) in ap (targets k) (at-put_other k w s m r apart)
+  -- a record with the links that it had at the start
+  pub put_kept : (w0 w : World R) (n : ℕ) → Has w0 n → (r : R) → Keeps k w0 w → SameLinks k (at k w0 n) r → Keeps k w0 (put w n r)
+  put_kept w0 w n may r keeps good = record {
+    has = λ m h. has-put k w n m r (keeps.has m h);
+    only = λ m h. keeps.only m (has-put_back k w n m r (keeps.has n may) h);
+    links = λ m. elim (eqb m n) as (λ b. eqb m n ≡ b → SameLinks k (at k w0 m) (at k (put w n r) m)) [
+      | true ↦ λ is. let e : m ≡ n = grind (arith, common_steps) in rw (e, at-put_same k w n r) good
+      | false ↦ λ is. let apart : m ≢ n = grind (arith, common_steps) in rw (at-put_other k w n m r apart) (keeps.links m)
     ] refl;
   }
 
+  pub keeps-put : (w : World R) (s : ℕ) → Has w s → (r : R) → SameLinks k (at k w s) r → Keeps k w (put w s r)
+  keeps-put w s there r same = put_kept w w s there r (keeps_all w) same
+
 module _ {R : Type 0} (k : RecordRules R) (lawful : IsLawful k) where
-  pub keeps-changed : (w : World R) (s : ℕ) (f : Common → Common) → ((c : Common) → (f c).forward_link ≡ c.forward_link) → Keeps k w (changed k w s f)
+  pub closed_on : {w after : World R} → Keeps k w after → IsClosed k w → IsClosed k after
+  closed_on keeps is = record { closed = λ n target h. keeps.has target (is.closed n target (subst (λ (l : List ℕ). Contains l target) (targets_same k lawful (keeps.links n)) h)) }
+
+  pub keeps-changed : (w : World R) (s : ℕ) → Has w s → (f : Common → Common) → ((c : Common) → (f c).forward_link ≡ c.forward_link) → Keeps k w (changed k w s f)
   unfolding changed
-  keeps-changed w s f same = keeps-put k w s _ (targets-set k lawful (at k w s) _ (same _))
+  keeps-changed w s there f same = keeps-put k w s there _ (links-set k lawful (at k w s) _ (same _))
 
-  pub keeps-taken : (w : World R) (s : ℕ) (got : Got) → Keeps k w (put w s (k.taken (at k w s) got))
-  keeps-taken w s got = keeps-put k w s _ (targets-taken k lawful _ got)
+  pub keeps-taken : (w : World R) (s : ℕ) → Has w s → (got : Got) → Keeps k w (put w s (k.taken (at k w s) got))
+  keeps-taken w s there got = keeps-put k w s there _ (links-taken k lawful _ got)
 
-  pub keeps-active : (w : World R) (s : ℕ) (b : Bool) → Keeps k w (changed k w s (with_active b))
-  keeps-active w s b = keeps-changed w s _ (λ _. refl)
+  pub keeps-active : (w : World R) (s : ℕ) → Has w s → (b : Bool) → Keeps k w (changed k w s (with_active b))
+  keeps-active w s there b = keeps-changed w s there _ (λ _. refl)
 
-  module _ (w0 : World R) where
+  pub faulted-keeps : (w : World R) (s : ℕ) → Has w s → Keeps k w (faulted k w s)
+  unfolding faulted
+  faulted-keeps w s there = keeps-changed w s there _ (λ c. refl)
+
+  device_gave-keeps : (w : World R) (s : ℕ) → Has w s → (value : Result Value IocError) → Keeps k w (device_gave k w s value).world
+  unfolding device_gave
+  device_gave-keeps w s there (Ok v) = keeps_all k w
+  device_gave-keeps w s there (Err e) = keeps-changed w s there _ (λ c. refl)
+
+  pub received-keeps : (w : World R) (s : ℕ) → Has w s → (answer : Answer) → Keeps k w (received k w s answer).world
+  unfolding received
+  received-keeps w s there (Done-answer v) = device_gave-keeps w s there _
+  received-keeps w s there Fault-answer = keeps-changed w s there _ (λ c. refl)
+  received-keeps w s there Later = keeps-changed w s there _ (λ c. refl)
+
+  used-keeps : (w : World R) → Keeps k w (used_one w)
+  unfolding at used_one
+  used-keeps w = record { has = λ _ h. h; only = λ _ h. h; links = λ n. record { fields = refl; links = refl } }
+
+  pub read_device-keeps : (answers : List Answer) (w : World R) (s : ℕ) → Has w s → Keeps k w (read_device k answers w s).world
+  unfolding read_device
+  read_device-keeps answers w s there =
+      let next = unwrap_or (slice_get answers w.used) Fault-answer in
+      elim (can_ask k w s) as (λ b. Keeps k w (cond b (received k (used_one w) s next) (received k w s Fault-answer)).world) [
+        | true ↦ keeps_on k (used-keeps w) (received-keeps (used_one w) s ((used-keeps w).has s there) next)
+        | false ↦ received-keeps w s there Fault-answer
+      ]
+
+  -- from a world that no link leaves
+  module _ (w0 : World R) (closed : IsClosed k w0) where
     abbrev KeptFrom : World R → World R → Type 0
     KeptFrom w v = (w ≡ v) × Keeps k w0 w
 
     abbrev Linked : ℕ → R → Type 0
-    Linked n r = targets k r ≡ targets k (at k w0 n)
+    Linked n r = Has w0 n × SameLinks k (at k w0 n) r
 
-    kept : Guards k (λ _. Unit {0}) Linked KeptFrom
+    kept : Guards k (λ n. Has w0 n) Linked KeptFrom
     unfolding at used_one
     kept = record {
       same = λ inv n _. ap (λ (w : World R). at k w n) inv.0;
-      good = λ inv n _. inv.1.targets n;
+      good = λ inv n may. (may, inv.1.links n);
       used = λ inv. ap (λ (w : World R). w.used) inv.0;
-      link = λ _ _ _. tt;
-      common = λ good c same. targets-set k lawful _ c same ∙ good;
-      taken = λ good got. targets-taken k lawful _ got ∙ good;
-      put = λ inv n _ r good. (ap (λ (w : World R). put w n r) inv.0, keeps_on k inv.1 (keeps-put k _ n r (good ∙ sym (inv.1.targets n))));
-      use_one = λ inv. (ap used_one inv.0, record { has = inv.1.has; targets = inv.1.targets });
+      link = λ {n} {r} good target links. closed.closed n target (subst (λ (l : List ℕ). Contains l target) (targets_same k lawful good.1) links);
+      common = λ good c same. (good.0, links_on k good.1 (links-set k lawful _ c same));
+      taken = λ good got. (good.0, links_on k good.1 (links-taken k lawful _ got));
+      put = λ inv n may r good. (ap (λ (w : World R). put w n r) inv.0, put_kept k w0 _ n may r inv.1 good.1);
+      use_one = λ inv. (ap used_one inv.0, keeps_on k inv.1 (used-keeps _));
     }
 
     start : KeptFrom w0 w0
     start = (refl, keeps_all k w0)
 
-  pub inherits-keeps : (w : World R) (s : ℕ) (t : StandingLink) → Keeps k w (inherits k w s t)
-  inherits-keeps w s t = (inherits-goes k lawful _ _ _ (kept w) (start w) s tt t tt).1
+    pub inherits-keeps : (s : ℕ) → Has w0 s → (t : StandingLink) → Has w0 t.number → Keeps k w0 (inherits k w0 s t)
+    inherits-keeps s may t there = (inherits-goes k lawful _ _ _ kept start s may t there).1
 
-  pub faulted-keeps : (w : World R) (s : ℕ) → Keeps k w (faulted k w s)
-  unfolding faulted
-  faulted-keeps w s = keeps-changed w s _ (λ c. refl)
+    pub value_came-keeps : (s : ℕ) → Has w0 s → (t : StandingLink) → Has w0 t.number → (value : Result Value IocError) → Keeps k w0 (value_came k w0 s t value).world
+    value_came-keeps s may t there value = (value_came-goes k lawful _ _ _ kept start s may t there value).inv.1
 
-  pub value_came-keeps : (w : World R) (s : ℕ) (t : StandingLink) (value : Result Value IocError) → Keeps k w (value_came k w s t value).world
-  value_came-keeps w s t value = (value_came-goes k lawful _ _ _ (kept w) (start w) s tt t tt value).inv.1
+    pub request-keeps : (answers : List Answer) (s : ℕ) → Has w0 s → Keeps k w0 (request k answers w0 s).world
+    request-keeps answers s may = (request-goes k lawful _ _ _ kept answers start s may).inv.1
 
-  pub received-keeps : (w : World R) (s : ℕ) (answer : Answer) → Keeps k w (received k w s answer).world
-  received-keeps w s answer = (received-goes k lawful _ _ _ (kept w) (start w) s tt answer).inv.1
+    module _ (answers : List Answer) (s : ℕ) (may : Has w0 s) where
+      asks : (v u : World R) → KeptFrom v u → (t : ℕ) → Has w0 t → Goes KeptFrom (request k answers v t) (request k answers u t)
+      asks v u = request-goes k lawful _ _ _ kept answers
 
-  pub read_device-keeps : (answers : List Answer) (w : World R) (s : ℕ) → Keeps k w (read_device k answers w s).world
-  read_device-keeps answers w s = (read_device-goes k lawful _ _ _ (kept w) answers (start w) s tt).inv.1
+      pub keeps-caused : (t : ℕ) → Has w0 t → Keeps k w0 (caused k (request k answers) w0 s t).world
+      keeps-caused t there = (caused-goes k lawful _ _ _ kept _ _ asks start s may t there).inv.1
 
-  pub request-keeps : (answers : List Answer) (w : World R) (s : ℕ) → Keeps k w (request k answers w s).world
-  request-keeps answers w s = (request-goes k lawful _ _ _ (kept w) answers (start w) s tt).inv.1
+      pub keeps-followed : (link : LinkUse) → ((t : StandingLink) → link ≡ Standing t → Has w0 t.number) → Keeps k w0 (followed k (request k answers) w0 s link).world
+      keeps-followed link there = (followed-goes k lawful _ _ _ kept _ _ asks start s may link there).inv.1
 
-  module _ (answers : List Answer) (w : World R) (s : ℕ) where
-    asks : (v u : World R) → KeptFrom w v u → (t : ℕ) → Unit {0} → Goes (KeptFrom w) (request k answers v t) (request k answers u t)
-    asks v u = request-goes k lawful _ _ _ (kept w) answers
+      pub keeps-prepared : (t : StandingLink) → Has w0 t.number → Keeps k w0 (prepared k (request k answers) w0 s t).world
+      keeps-prepared t there = (prepared-goes k lawful _ _ _ kept _ _ asks start s may t there).inv.1
 
-    pub keeps-caused : (t : ℕ) → Keeps k w (caused k (request k answers) w s t).world
-    keeps-caused t = (caused-goes k lawful _ _ _ (kept w) _ _ asks (start w) s tt t tt).inv.1
-
-    pub keeps-followed : (link : LinkUse) → Keeps k w (followed k (request k answers) w s link).world
-    keeps-followed link = (followed-goes k lawful _ _ _ (kept w) _ _ asks (start w) s tt link (λ _ _. tt)).inv.1
-
-    pub keeps-prepared : (t : StandingLink) → Keeps k w (prepared k (request k answers) w s t).world
-    keeps-prepared t = (prepared-goes k lawful _ _ _ (kept w) _ _ asks (start w) s tt t tt).inv.1
-
-    pub keeps-read_record : (t : StandingLink) → Keeps k w (read_record k (request k answers) w s t).world
-    keeps-read_record t = (read_record-goes k lawful _ _ _ (kept w) _ _ asks (start w) s tt t tt).inv.1
-
-    pub keeps-read_link : (link : LinkUse) → Keeps k w (read_link k (request k answers) w s link).world
-    keeps-read_link link = (read_link-goes k lawful _ _ _ (kept w) _ _ asks (start w) s tt link (λ _ _. tt)).inv.1
-
-    pub keeps-input : (want : Want) → Keeps k w (input k answers (request k answers) w s want).world
-    keeps-input want = (input-goes k lawful _ _ _ (kept w) _ _ asks answers (start w) s tt want (λ _ _. tt)).inv.1
+      pub keeps-read_record : (t : StandingLink) → Has w0 t.number → Keeps k w0 (read_record k (request k answers) w0 s t).world
+      keeps-read_record t there = (read_record-goes k lawful _ _ _ kept _ _ asks start s may t there).inv.1

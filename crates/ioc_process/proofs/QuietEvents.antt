@@ -15,11 +15,11 @@ use Rattle.ioc_process.specs.Rules.{Requested, IsQuiet, IsSettled}
 use Rattle.ioc_process.specs.Processing.{Done}
 use Rattle.ioc_process.specs.Step.{Event}
 use Rattle.ioc_process.specs.StepRules.{Step, no_such_record, no_such_field, shows_field, processes_record, refuses_value, stores_alone, stores_while_active, stores_and_processes, Entry, Replay, at_the_end, and_then}
-use Rattle.ioc_process.proofs.Worlds.{at-put_same, at-put_other, has-put}
+use Rattle.ioc_process.proofs.Worlds.{at-put_same, at-put_other, has-put, has-put_back}
 use Rattle.ioc_process.proofs.Keeping.{closed_on, request-keeps}
 use Rattle.ioc_process.proofs.Stepping.{keeps-put_field, put_active, put_pending}
 use Rattle.ioc_process.proofs.RulesAlone.{request-is}
-use Rattle.ioc_process.proofs.Quieting.{has-put_back, request-quiet}
+use Rattle.ioc_process.proofs.Quieting.{request-quiet}
 
 module _ {R : Type 0} (k : RecordRules R) (lawful : IsLawful k) where
   quiet-put : (w : World R) (s : ℕ) (r : R) → Has w s → (k.common r).active ≡ (common_at k w s).active → (k.common r).pending ≡ (common_at k w s).pending
@@ -27,13 +27,13 @@ module _ {R : Type 0} (k : RecordRules R) (lawful : IsLawful k) where
   quiet-put w s r there active pending quiet = record {
     quiet = λ n has. elim (eqb n s) as (λ b. eqb n s ≡ b → IsTrue (common_at k (put w s r) n).active ↔ IsSome (common_at k (put w s r) n).pending) [
       | true ↦ λ is. let e : n ≡ s = grind (arith, common_steps) in rw (common_at, e, at-put_same k w s r, active, pending) (quiet.quiet s there)
-      | false ↦ λ is. let apart : n ≢ s = grind (arith, common_steps) in rw (common_at, at-put_other k w s n r apart) (quiet.quiet n (has-put_back w s n r there has))
+      | false ↦ λ is. let apart : n ≢ s = grind (arith, common_steps) in rw (common_at, at-put_other k w s n r apart) (quiet.quiet n (has-put_back k w s n r there has))
     ] refl;
   }
 
   put-settled : (w : World R) (s : ℕ) (field : FieldNo) (given : Input) (r : R) → Has w s → put_field k (at k w s) field given ≡ Ok r → IsSettled k w → IsSettled k (put w s r)
   put-settled w s field given r there is settled = record {
-    closed = closed_on k (keeps-put_field k lawful w s field given r is) settled.closed;
+    closed = closed_on k lawful (keeps-put_field k lawful w s field given r there is) settled.closed;
     quiet = quiet-put w s r there (put_active k lawful _ r field given is) (put_pending k lawful _ r field given is) settled.quiet;
   }
 
@@ -41,7 +41,7 @@ module _ {R : Type 0} (k : RecordRules R) (lawful : IsLawful k) where
   request-settled answers {w} {w'} {s} there r settled =
       let is = ap (λ (d : Done R). d.world) (request-is k lawful answers r) in
       subst (IsSettled k) is (record {
-        closed = closed_on k (request-keeps k lawful answers w s) settled.closed;
+        closed = closed_on k lawful (request-keeps k lawful w settled.closed answers s there) settled.closed;
         quiet = request-quiet k lawful answers w s there settled.closed settled.quiet;
       })
 

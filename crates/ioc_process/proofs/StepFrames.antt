@@ -14,6 +14,7 @@ use Rattle.ioc_record.specs.Links.{named_by_all}
 use Rattle.ioc_record.specs.Steps.{raised, inherited, blocked, is_scan, shown}
 use Rattle.ioc_record.specs.RecordRules.{RecordRules, targets}
 use Rattle.ioc_record.specs.Laws.{IsLawful}
+use Rattle.ioc_process.specs.World.{SameLinks}
 
 -- the fields that these steps leave alone
 pub record SameFrame (before after : Common) : Type 0 where
@@ -46,14 +47,20 @@ shown-forward c = refl
 
 module _ {R : Type 0} (k : RecordRules R) (lawful : IsLawful k) where
   -- the same links name the same records
-  pub targets_same : (r r' : R) → k.link_fields r' ≡ k.link_fields r → k.link r' ≡ k.link r → targets k r' ≡ targets k r
-  targets_same r r' fields links = ap (λ (l : FieldNo → Option LinkField). named_by_all l (k.link_fields r')) links ∙ ap (named_by_all (k.link r)) fields
+  pub targets_same : {r r' : R} → SameLinks k r r' → targets k r' ≡ targets k r
+  targets_same {r} {r'} same = ap (λ (l : FieldNo → Option LinkField). named_by_all l (k.link_fields r')) same.links ∙ ap (named_by_all (k.link r)) same.fields
+
+  pub links-set : (r : R) (c : Common) → c.forward_link ≡ (k.common r).forward_link → SameLinks k r (k.with_common r c)
+  links-set r c same = record { fields = lawful.link_fields_set r c; links = lawful.links_set r c same }
+
+  pub links-taken : (r : R) (got : Got) → SameLinks k r (k.taken r got)
+  links-taken r got = record { fields = lawful.taken_link_fields r got; links = lawful.taken_links r got }
+
+  pub links-stored : (r : R) (f : FieldNo) (v : Value) → SameLinks k r (k.stored r f v)
+  links-stored r f v = record { fields = lawful.stored_link_fields r f v; links = lawful.stored_links r f v }
 
   pub targets-set : (r : R) (c : Common) → c.forward_link ≡ (k.common r).forward_link → targets k (k.with_common r c) ≡ targets k r
-  targets-set r c same = targets_same r (k.with_common r c) (lawful.link_fields_set r c) (lawful.links_set r c same)
+  targets-set r c same = targets_same (links-set r c same)
 
   pub targets-taken : (r : R) (got : Got) → targets k (k.taken r got) ≡ targets k r
-  targets-taken r got = targets_same r (k.taken r got) (lawful.taken_link_fields r got) (lawful.taken_links r got)
-
-  pub targets-stored : (r : R) (f : FieldNo) (v : Value) → targets k (k.stored r f v) ≡ targets k r
-  targets-stored r f v = targets_same r (k.stored r f v) (lawful.stored_link_fields r f v) (lawful.stored_links r f v)
+  targets-taken r got = targets_same (links-taken r got)

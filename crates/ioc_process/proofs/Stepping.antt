@@ -20,10 +20,10 @@ use Rattle.ioc_fields.specs.declared.row.Row.{Row}
 use Rattle.ioc_fields.specs.Table.{row_of}
 use Rattle.ioc_values.specs.declared.value.Value.{Value}
 use Rattle.ioc_values.specs.Conversion.{converted_input}
-use Rattle.ioc_process.proofs.StepFrames.{targets-stored}
+use Rattle.ioc_process.proofs.StepFrames.{targets_same, links-stored}
 use Rattle.ioc_process.proofs.Keeping.{keeps-put}
 use Rattle.ioc_process.specs.declared.reply.Reply.TheVariants.{Outcome as Outcome-reply, Refused}
-use Rattle.ioc_process.specs.World.{World, Has, at, put, Keeps}
+use Rattle.ioc_process.specs.World.{World, Has, at, put, SameLinks, Keeps}
 use Rattle.ioc_process.specs.Processing.{request}
 use Rattle.ioc_process.specs.Runs.{Leaves}
 use Rattle.ioc_process.specs.Step.{Event, Process, Put, refused, told, outcome_reply, after_put, put_with, stepped_there, number_of, stepped}
@@ -102,8 +102,11 @@ module _ {R : Type 0} (k : RecordRules R) (lawful : IsLawful k) where
   put_stores r r' field given is = stores_by r r' field given (row_of (k.record_type r) field) is
 
   -- a put changes no link, no active mark and nothing that is pending
+  put_links : (r r' : R) (field : FieldNo) (given : Input) → put_field k r field given ≡ Ok r' → SameLinks k r r'
+  put_links r r' field given is = let s = put_stores r r' field given is in subst (λ (x : R). SameLinks k r x) s.1 (links-stored k lawful r field s.0)
+
   pub put_targets : (r r' : R) (field : FieldNo) (given : Input) → put_field k r field given ≡ Ok r' → targets k r' ≡ targets k r
-  put_targets r r' field given is = let s = put_stores r r' field given is in subst (λ (x : R). targets k x ≡ targets k r) s.1 (targets-stored k lawful r field s.0)
+  put_targets r r' field given is = targets_same k lawful (put_links r r' field given is)
 
   pub put_active : (r r' : R) (field : FieldNo) (given : Input) → put_field k r field given ≡ Ok r' → (k.common r').active ≡ (k.common r).active
   put_active r r' field given is = let s = put_stores r r' field given is in subst (λ (x : R). (k.common x).active ≡ (k.common r).active) s.1 (lawful.stored_active r field s.0)
@@ -111,8 +114,8 @@ module _ {R : Type 0} (k : RecordRules R) (lawful : IsLawful k) where
   pub put_pending : (r r' : R) (field : FieldNo) (given : Input) → put_field k r field given ≡ Ok r' → (k.common r').pending ≡ (k.common r).pending
   put_pending r r' field given is = let s = put_stores r r' field given is in subst (λ (x : R). (k.common x).pending ≡ (k.common r).pending) s.1 (lawful.stored_pending r field s.0)
 
-  pub keeps-put_field : (w : World R) (s : ℕ) (field : FieldNo) (given : Input) (r : R) → put_field k (at k w s) field given ≡ Ok r → Keeps k w (put w s r)
-  keeps-put_field w s field given r is = keeps-put k w s r (put_targets (at k w s) r field given is)
+  pub keeps-put_field : (w : World R) (s : ℕ) (field : FieldNo) (given : Input) (r : R) → Has w s → put_field k (at k w s) field given ≡ Ok r → Keeps k w (put w s r)
+  keeps-put_field w s field given r there is = keeps-put k w s there r (put_links (at k w s) r field given is)
 
 pub on_ok : {X E : Type 0} (r : Result X E) (P : Type 0) → P → OnOk r P
 on_ok (Ok x) P p = p

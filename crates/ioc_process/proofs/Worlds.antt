@@ -1,5 +1,5 @@
 -- What a change of one record does to a world.
-use Rattle.std.proofs.Common.{◌≡◌, ◌≢◌, ℕ, ◌+◌, Bool, true, false, cond, Option, Some, None, unwrap_or, refl, sym, ap, ◌∙◌, arith}
+use Rattle.std.proofs.Common.{◌≡◌, ◌≢◌, ℕ, ◌+◌, Bool, true, false, cond, eqb, Option, Some, None, unwrap_or, refl, sym, ap, subst, ◌∙◌, arith}
 use Rattle.std.specs.FinMap.{gets}
 use Rattle.std.proofs.lemmas.Grind.{common_steps}
 use Rattle.ioc_record.specs.declared.common.Common.{Common}
@@ -25,6 +25,14 @@ module _ {R : Type 0} (k : RecordRules R) where
   pub has-put : (w : World R) (n m : ℕ) (r : R) → Has w m → Has (put w n r) m
   unfolding put
   has-put w n m r has = grind (gets, arith, common_steps)
+
+  pub has-put_back : (w : World R) (n m : ℕ) (r : R) → Has w n → Has (put w n r) m → Has w m
+  unfolding put
+  has-put_back w n m r there has =
+      elim (eqb m n) as (λ b. eqb m n ≡ b → Has w m) [
+        | true ↦ λ e. let same : n ≡ m = grind (arith, common_steps) in subst (λ (q : ℕ). Has w q) same there
+        | false ↦ λ e. let apart : m ≢ n = grind (arith, common_steps) in grind (gets, arith, common_steps)
+      ] refl
 
   -- the idle records, and one more where this one is active
   abbrev pub room : World R → ℕ → ℕ

@@ -1,10 +1,10 @@
 //! Whole loads of database texts.
 use crate::steps::has_text;
-use ioc_dbfile::{Database, LoadError, Macros, load};
+use ioc_dbfile::{Database, Macros, load};
 use ioc_fields::{CommonField, FieldNo, OwnField, Slot};
 use ioc_names::RecordNo;
 use ioc_record::{FieldAddress, Lead, RecordKind, text_of};
-use ioc_values::BadDbKind;
+use ioc_values::{BadDbKind, IocError};
 use std::alloc::Global;
 use std::test::Fail;
 
@@ -18,8 +18,8 @@ const FLNK: FieldNo = FieldNo::Common(CommonField::Flnk);
 fn outcome(alloc: Global, text: &[u8]) -> Option<Result<usize, (u64, BadDbKind)>> {
     match load(alloc, text, &Macros::new()) {
         Ok(database) => Some(Ok(database.map.records.len())),
-        Err(LoadError::Fault(fault)) => Some(Err((fault.line, fault.kind))),
-        Err(LoadError::Memory) => None,
+        Err(IocError::BadDb(fault)) => Some(Err((fault.line, fault.kind))),
+        Err(_) => None,
     }
 }
 

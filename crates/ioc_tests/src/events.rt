@@ -1,11 +1,17 @@
 //! Requests of loaded databases, with their counts.
 use ioc_dbfile::{Database, Macros, load};
-use ioc_fields::FieldNo;
+use ioc_fields::{CommonField, FieldNo};
 use ioc_ledger::{Outcome, Tally};
 use ioc_names::RecordNo;
 use ioc_process::{OneMap, Reply, run_get, run_request};
 use ioc_types::Record;
 use std::test::Fail;
+
+const PACT: FieldNo = FieldNo::Common(CommonField::Pact);
+
+const LCNT: FieldNo = FieldNo::Common(CommonField::Lcnt);
+
+const STAT: FieldNo = FieldNo::Common(CommonField::Stat);
 
 // Is this the text of the field of the record of this number?
 fn shows(map: &OneMap<Record>, number: usize, field: FieldNo, wanted: &[u8]) -> bool {
@@ -27,9 +33,9 @@ fn requests_of_two_records_that_follow_each_other(rt: HostRuntime) -> Result<(),
     assert_eq!(rt; tally.begun, 3);
     assert_eq!(rt; tally.processed, 2);
     assert_eq!(rt; tally.active, 1);
-    assert!(rt; shows(&map, 0, FieldNo::Pact, b"0"));
-    assert!(rt; shows(&map, 1, FieldNo::Pact, b"0"));
-    assert!(rt; shows(&map, 0, FieldNo::Lcnt, b"1"));
+    assert!(rt; shows(&map, 0, PACT, b"0"));
+    assert!(rt; shows(&map, 1, PACT, b"0"));
+    assert!(rt; shows(&map, 0, LCNT, b"1"));
     Ok(())
 }
 
@@ -44,7 +50,7 @@ fn requests_of_a_record_that_reads_itself(rt: HostRuntime) -> Result<(), Fail> {
     assert_eq!(rt; tally.begun, 2);
     assert_eq!(rt; tally.processed, 1);
     assert_eq!(rt; tally.active, 1);
-    assert!(rt; shows(&map, 0, FieldNo::Stat, b"NO_ALARM"));
-    assert!(rt; shows(&map, 0, FieldNo::Lcnt, b"1"));
+    assert!(rt; shows(&map, 0, STAT, b"NO_ALARM"));
+    assert!(rt; shows(&map, 0, LCNT, b"1"));
     Ok(())
 }

@@ -1,7 +1,7 @@
 //! Databases with a script, and what is printed for each.
 use crate::runs::{printed, prints};
 use ioc_main::RunFault;
-use ioc_values::BadDbKind;
+use ioc_values::{BadDbKind, DbFault};
 use std::test::Fail;
 
 #[test]
@@ -47,11 +47,11 @@ fn a_text_that_is_not_closed(rt: HostRuntime) -> Result<(), Fail> {
         b"get a.VAL\nhello\n",
     )?;
     assert!(rt; out.is_empty());
-    assert!(rt; ended == Err(RunFault::BadDb(2, BadDbKind::Unclosed)));
-    let fault = RunFault::BadDb(2, BadDbKind::Unclosed);
-    let text = format!(in rt.alloc(); "{fault}")?;
-    assert!(rt; text.as_str() == "E13 BadDb line 2: text not closed");
-    assert!(rt; fault.status() == 1);
+    let fault = DbFault {
+        line: 2,
+        kind: BadDbKind::Unclosed,
+    };
+    assert!(rt; ended == Err(RunFault::BadDb(fault)));
     Ok(())
 }
 

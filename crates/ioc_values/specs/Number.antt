@@ -1,13 +1,13 @@
 -- The number that a text writes: an optional sign, then decimal digits, or 0x and hexadecimal digits.
-use Rattle.std.specs.Prelude.{ℕ, Bool, true, false, ◌^◌, List, [], ◌∷◌, ℤ, pos, negsuc, neg_ℤ, Option, Some, None, option_map, ◌==◌, nat_lt, ◌&&◌, if◌then◌else◌}
+use Rattle.std.specs.Prelude.{ℕ, Bool, false, ◌^◌, List, [], ◌∷◌, ℤ, pos, negsuc, neg_ℤ, Option, Some, None, option_map, ◌==◌, nat_lt, ◌&&◌, if◌then◌else◌}
 use Rattle.std.specs.Char.{digit_value}
+use Rattle.std.specs.List.{list_all}
 use Rattle.std.specs.Str.Parse.{digits_value}
 use Rattle.ioc_values.specs.Trim.{is_blank, trimmed}
 
 -- each byte is a digit
 abbrev pub all_digits : ℕ → List ℕ → Bool
-all_digits radix [] = true
-all_digits radix (c ∷ cs) = nat_lt (digit_value c) radix && all_digits radix cs
+all_digits radix cs = list_all (λ c. nat_lt (digit_value c) radix) cs
 
 -- the number that one digit or more write
 abbrev pub numeral : ℕ → List ℕ → Option ℕ

@@ -2,6 +2,7 @@
 use Rattle.std.specs.Prelude.{ℕ, List, ◌++◌, codes, decimal}
 use Rattle.ioc_values.specs.declared.error.IocError.{IocError}
 use Rattle.ioc_values.specs.declared.error.IocError.TheVariants as refusal
+use Rattle.ioc_values.specs.declared.error.DbFault.{DbFault}
 use Rattle.ioc_values.specs.declared.error.BadDbKind.{BadDbKind}
 use Rattle.ioc_values.specs.declared.error.BadDbKind.TheVariants.{Syntax, Unclosed, OpenBody, BadType, BadField, NoMod, BadName, BadValue, BadLink, Duplicate, NoRecord, Macro, LeftOut, TooMany}
 
@@ -36,9 +37,13 @@ refusal_words refusal.QueueFull = codes "E9 QueueFull"
 refusal_words refusal.NoMemory = codes "E10 NoMemory"
 refusal_words refusal.JournalFull = codes "E11 JournalFull"
 refusal_words refusal.Stopped = codes "E12 Stopped"
-refusal_words (refusal.BadDb line kind) = codes "E13 BadDb"
+refusal_words (refusal.BadDb fault) = codes "E13 BadDb"
 
--- what a program prints of a refusal: of a database text also the line, and why
+-- what a program prints of a refused database text: the line too, and why
+unfoldable pub fault_text : DbFault → List ℕ
+fault_text fault = codes "E13 BadDb line " ++ decimal fault.line ++ codes ": " ++ kind_words fault.kind
+
+-- what a program prints of a refusal
 unfoldable pub refusal_text : IocError → List ℕ
-refusal_text (refusal.BadDb line kind) = codes "E13 BadDb line " ++ decimal line ++ codes ": " ++ kind_words kind
+refusal_text (refusal.BadDb fault) = fault_text fault
 refusal_text refused = refusal_words refused

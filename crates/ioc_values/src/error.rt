@@ -2,7 +2,9 @@
 
 ghost use Rattle.std.specs.Prelude.{◌≡◌};
 ghost use Rattle.ioc_values.specs.Words.{refusal_words, kind_words};
+ghost use Rattle.ioc_values.specs.declared.error.IocError.TheVariants.{NoMemory, BadDb};
 
+use std::alloc::{AllocError, AllocFailed};
 use std::fmt;
 
 /// Why a call was refused. The number of each is the one that the programs print.
@@ -32,8 +34,15 @@ pub enum IocError {
     JournalFull,
     /// The engine was closed.
     Stopped,
-    /// The database text was refused: the line, from 1 on, and why.
-    BadDb(u64, BadDbKind),
+    /// The database text was refused.
+    BadDb(DbFault),
+}
+
+/// Why a database text was refused, and on which line, counted from 1 on.
+#[derive(Clone, Copy, PartialEq, Eq, Debug)]
+pub struct DbFault {
+    pub line: u64,
+    pub kind: BadDbKind,
 }
 
 /// Why a database text was refused.
@@ -80,7 +89,7 @@ impl IocError {
             IocError::NoMemory => "E10 NoMemory",
             IocError::JournalFull => "E11 JournalFull",
             IocError::Stopped => "E12 Stopped",
-            IocError::BadDb(_, _) => "E13 BadDb",
+            IocError::BadDb(_) => "E13 BadDb",
         }
     }
 }
@@ -110,6 +119,18 @@ impl BadDbKind {
     }
 }
 
+#[tactic(auto, unfolding(crate::specs::Words::fault_text))]
+impl fmt::Display for DbFault {
+    ghost use Rattle.std.specs.Prelude.{Some};
+    ghost use Rattle.ioc_values.specs.Words.{fault_text};
+
+    ghost output = { λ fault. Some (fault_text fault) };
+
+    fn fmt<W: fmt::Write>(&self, f: &mut fmt::Formatter<W>) -> fmt::Result {
+        write!(f, "E13 BadDb line {}: {}", self.line, self.kind.words())
+    }
+}
+
 #[tactic(auto, unfolding(crate::specs::Words::refusal_text))]
 impl fmt::Display for IocError {
     ghost use Rattle.std.specs.Prelude.{Some};
@@ -119,10 +140,36 @@ impl fmt::Display for IocError {
 
     fn fmt<W: fmt::Write>(&self, f: &mut fmt::Formatter<W>) -> fmt::Result {
         match self {
-            IocError::BadDb(line, kind) => write!(f, "E13 BadDb line {}: {}", line, kind.words()),
+            IocError::BadDb(fault) => fault.fmt(f),
             _ => f.write_str(self.words()),
         }
     }
 }
 
+impl std::error::Error for DbFault {}
+
 impl std::error::Error for IocError {}
+
+impl From<DbFault> for IocError {
+    ghost from_gives = { λ fault e. e ≡ BadDb fault };
+
+    fn from(fault: DbFault) -> IocError {
+        IocError::BadDb(fault)
+    }
+}
+
+impl From<AllocError> for IocError {
+    ghost from_gives = { λ _ e. e ≡ NoMemory };
+
+    fn from(_e: AllocError) -> IocError {
+        IocError::NoMemory
+    }
+}
+
+impl<T: Drop> From<AllocFailed<T>> for IocError {
+    ghost from_gives = { λ _ e. e ≡ NoMemory };
+
+    fn from(_e: AllocFailed<T>) -> IocError {
+        IocError::NoMemory
+    }
+}

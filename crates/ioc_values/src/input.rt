@@ -5,7 +5,7 @@ ghost use Rattle.ioc_values.specs.Conversion.{sort_of, converted_text, converted
 use crate::conversion::convert;
 use crate::error::IocError;
 use crate::kind::Kind;
-use crate::short::Text;
+use crate::short::{MAX_TEXT_BYTES, Text};
 use crate::value::Value;
 
 /// A value as a caller gives it: a text of more than 39 bytes fits a text field alone, which takes its first 39 bytes.
@@ -22,7 +22,7 @@ impl Input {
     pub fn from_text(text: &[u8]) -> Self
         ensures { result ≡ input_of text.now }
     {
-        if text.len() <= 39 {
+        if text.len() <= MAX_TEXT_BYTES {
             Input::Value(Value::Text(Text::cut(text)))
         } else {
             Input::LongText(Text::cut(text))

@@ -11,11 +11,10 @@ pub mod trim;
 pub mod value;
 
 pub use conversion::{convert, of_number};
-pub use error::{BadDbKind, IocError};
+pub use error::{BadDbKind, DbFault, IocError};
 pub use input::{Input, convert_input, convert_text};
 pub use kind::{Kind, Range};
-pub use short::{FieldName, Name, Short, Text};
+pub use short::{
+    FieldName, MAX_FIELD_NAME_BYTES, MAX_NAME_BYTES, MAX_TEXT_BYTES, Name, Short, Text,
+};
 pub use value::{Finished, Value};
-
-#[cfg(test)]
-mod tests;

@@ -107,11 +107,20 @@ impl<const CAP: usize> Short<CAP> {
     }
 }
 
-/// A text value: at most 39 bytes, as a DBF_STRING field holds.
-pub type Text = Short<39>;
+/// The most bytes of a text value, as a DBF_STRING field holds.
+pub const MAX_TEXT_BYTES: usize = 39;
 
-/// A record name: at most 60 bytes.
-pub type Name = Short<60>;
+/// The most bytes of a record's name.
+pub const MAX_NAME_BYTES: usize = 60;
 
-/// The name of a field: at most 8 bytes.
-pub type FieldName = Short<8>;
+/// The most bytes of a field's name.
+pub const MAX_FIELD_NAME_BYTES: usize = 8;
+
+/// A text value.
+pub type Text = Short<MAX_TEXT_BYTES>;
+
+/// A record name.
+pub type Name = Short<MAX_NAME_BYTES>;
+
+/// The name of a field.
+pub type FieldName = Short<MAX_FIELD_NAME_BYTES>;

@@ -11,22 +11,22 @@ loop-rest-init c =
 
 pub returns-in_default : goal.returns-in_default
 returns-in_default c =
-    stops c.loop-rest.rest.now _ _ (sym c.is_empty.ensures ∙ c.loop-rest-test.true) c.split_line.ensures.line c.split_line.ensures.behind (parts_of c.loop-rest.lengths.items c.loop-rest.bytes.items) c.loop-rest.room _ c.loop-rest.invariant.0 (sym c.in_default.ensures)
+    stops c.loop-rest.rest.now _ _ (sym c.is_empty.ensures ∙ c.loop-rest-test.true) c.split_line.ensures.whole c.split_line.ensures.first (parts_of c.loop-rest.lengths.items c.loop-rest.bytes.items) c.loop-rest.room _ c.loop-rest.invariant.0 (sym c.in_default.ensures)
 
 pub returns-then-room-line : goal.returns-then-room-line
 returns-then-room-line c =
     let some = sym c.is_empty.ensures ∙ c.loop-rest-test.true in
-    let parts = passes c.loop-rest.rest.now _ _ some c.split_line.ensures.line c.split_line.ensures.behind (parts_of c.loop-rest.lengths.items c.loop-rest.bytes.items) c.loop-rest.room _ c.loop-rest.invariant.0 _ (sym c.in-Some.ensures) (lt-ltb _ _ c.if-room-line.true) in
+    let parts = passes c.loop-rest.rest.now _ _ some c.split_line.ensures.whole c.split_line.ensures.first (parts_of c.loop-rest.lengths.items c.loop-rest.bytes.items) c.loop-rest.room _ c.loop-rest.invariant.0 _ (sym c.in-Some.ensures) (lt-ltb _ _ c.if-room-line.true) in
     rw (c.in_ok-add_text.ensures.parts, c.begun_within.ensures) parts
 
 pub loop-rest-smaller : goal.loop-rest-smaller
 loop-rest-smaller c =
     let some = sym c.is_empty.ensures ∙ c.loop-rest-test.true in
-    omega (arith, whole c.loop-rest.rest.now _ _ some c.split_line.ensures.line c.split_line.ensures.behind, some_line c.loop-rest.rest.now _ _ some c.split_line.ensures.line c.split_line.ensures.behind)
+    omega (arith, whole c.loop-rest.rest.now _ _ some c.split_line.ensures.whole c.split_line.ensures.first, some_line c.loop-rest.rest.now _ _ some c.split_line.ensures.whole c.split_line.ensures.first)
 
 pub loop-rest-preserved : goal.loop-rest-preserved
 loop-rest-preserved c =
     let some = sym c.is_empty.ensures ∙ c.loop-rest-test.true in
-    let one = some_line c.loop-rest.rest.now _ _ some c.split_line.ensures.line c.split_line.ensures.behind in
-    let parts = goes_on c.loop-rest.rest.now _ _ some c.split_line.ensures.line c.split_line.ensures.behind (parts_of c.loop-rest.lengths.items c.loop-rest.bytes.items) c.loop-rest.room _ c.loop-rest.invariant.0 _ (sym c.in-Some.ensures) (le-ltb _ _ c.if-room-line.false) in
+    let one = some_line c.loop-rest.rest.now _ _ some c.split_line.ensures.whole c.split_line.ensures.first in
+    let parts = goes_on c.loop-rest.rest.now _ _ some c.split_line.ensures.whole c.split_line.ensures.first (parts_of c.loop-rest.lengths.items c.loop-rest.bytes.items) c.loop-rest.room _ c.loop-rest.invariant.0 _ (sym c.in-Some.ensures) (le-ltb _ _ c.if-room-line.false) in
     (rw c.in_ok-add_text-2.ensures.parts parts, c.in_ok-add_text-2.ensures.fits, omega (arith, one, c.in_ok-add_text-2.ensures.count, c.loop-rest.invariant.2))

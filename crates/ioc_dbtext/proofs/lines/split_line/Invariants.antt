@@ -1,5 +1,5 @@
 use Rattle.std.proofs.Common.{◌≡◌, ◌≤◌, ◌++◌, length, take, drop}
-use Rattle.ioc_dbtext.specs.Lines.{first_line, behind_line}
+use Rattle.ioc_dbtext.proofs.LineLemmas.{first_line, behind_line}
 use Rattle.ioc_dbtext.proofs.lines.split_line.Given as goal
 
 abbrev pub invariant-loop-rest : goal.invariant-loop-rest

@@ -16,7 +16,7 @@ process_after_put-requires-clause-there g c =
 pub process_after_put-requires-clause-closed : goal.process_after_put-requires-clause-closed
 process_after_put-requires-clause-closed g c =
     let k = g.S.Record.RecordKind.rules in
-    rw c.in-Ok.ensures.stored (closed_on k (keeps-put_field k g.met.S.Record.RecordKind.lawful (g.S.Store.world c.args.store.now) c.args.number c.args.field c.args.given _ c.in-Ok.ensures.ok) c.requires.closed)
+    rw c.in-Ok.ensures.stored (closed_on k g.met.S.Record.RecordKind.lawful (keeps-put_field k g.met.S.Record.RecordKind.lawful (g.S.Store.world c.args.store.now) c.args.number c.args.field c.args.given _ (sym c.has.ensures ∙ c.if-not-has.false) c.in-Ok.ensures.ok) c.requires.closed)
 
 pub returns-in-Ok-clause-step : goal.returns-in-Ok-clause-step
 returns-in-Ok-clause-step g c = λ answers begins.
@@ -28,7 +28,7 @@ returns-in-Ok-clause-step g c = λ answers begins.
 pub returns-in-Ok-clause-keeps : goal.returns-in-Ok-clause-keeps
 returns-in-Ok-clause-keeps g c =
     let k = g.S.Record.RecordKind.rules in
-    keeps_on k (keeps-put_field k g.met.S.Record.RecordKind.lawful (g.S.Store.world c.args.store.now) c.args.number c.args.field c.args.given _ c.in-Ok.ensures.ok)
+    keeps_on k (keeps-put_field k g.met.S.Record.RecordKind.lawful (g.S.Store.world c.args.store.now) c.args.number c.args.field c.args.given _ (sym c.has.ensures ∙ c.if-not-has.false) c.in-Ok.ensures.ok)
     (rw c.in-Ok.ensures.stored at c.process_after_put.ensures.keeps)
 
 pub returns-in-Err-clause-step : goal.returns-in-Err-clause-step

@@ -18,7 +18,7 @@ returns-then-can_ask-clause-read g c = λ answers begins.
 pub returns-then-can_ask-clause-keeps : goal.returns-then-can_ask-clause-keeps
 returns-then-can_ask-clause-keeps g c =
     by_world g.S.Record.RecordKind.rules _ _ _ (Keeps _ _) (λ a b. (returns-then-can_ask-clause-read g c a b).world)
-    (λ a. read_device-keeps _ g.met.S.Record.RecordKind.lawful a _ _)
+    (λ a. read_device-keeps _ g.met.S.Record.RecordKind.lawful a _ _ c.requires)
 
 pub returns-then-can_ask-clause-stays : goal.returns-then-can_ask-clause-stays
 returns-then-can_ask-clause-stays g c =
@@ -31,7 +31,7 @@ returns-else-can_ask-clause-read g c = λ answers begins.
 pub returns-else-can_ask-clause-keeps : goal.returns-else-can_ask-clause-keeps
 returns-else-can_ask-clause-keeps g c =
     by_world g.S.Record.RecordKind.rules _ _ _ (Keeps _ _) (λ a b. (returns-else-can_ask-clause-read g c a b).world)
-    (λ a. read_device-keeps _ g.met.S.Record.RecordKind.lawful a _ _)
+    (λ a. read_device-keeps _ g.met.S.Record.RecordKind.lawful a _ _ c.requires)
 
 pub returns-else-can_ask-clause-stays : goal.returns-else-can_ask-clause-stays
 returns-else-can_ask-clause-stays g c =

@@ -17,13 +17,13 @@ cause-request_record-requires g t c =
     let k = g.S.Record.RecordKind.rules in
     let lawful = g.met.S.Record.RecordKind.lawful in
     let w = g.S.Store.world c.args.store.now in
-    let keeps = keeps-active k lawful w c.args.source true in
+    let keeps = keeps-active k lawful w c.args.source c.requires.source_there true in
     λ κs h. rw c.set_active.ensures.world
-    (omega (arith, room-active k lawful w c.args.source, c.decreases), (h.0, (h.1, (keeps.has _ c.requires.target_there, closed_on k keeps c.requires.closed))))
+    (omega (arith, room-active k lawful w c.args.source, c.decreases), (h.0, (h.1, (keeps.has _ c.requires.target_there, closed_on k lawful keeps c.requires.closed))))
 
 pub cause-set_active-requires-2 : goal.cause-set_active-requires-2
 cause-set_active-requires-2 g t c =
-    let keeps = keeps-active _ g.met.S.Record.RecordKind.lawful (g.S.Store.world c.args.store.now) c.args.source true in
+    let keeps = keeps-active _ g.met.S.Record.RecordKind.lawful (g.S.Store.world c.args.store.now) c.args.source c.requires.source_there true in
     c.request_record.ensures.keeps.has _ (rw c.set_active.ensures.world (keeps.has _ c.requires.source_there))
 
 pub cause-returns-clause-caused : goal.cause-returns-clause-caused
@@ -37,7 +37,7 @@ cause-returns-clause-caused g t c = λ answers begins.
 
 pub cause-returns-clause-keeps : goal.cause-returns-clause-keeps
 cause-returns-clause-keeps g t c =
-    by_world g.S.Record.RecordKind.rules _ _ _ (Keeps _ _) (λ a b. (cause-returns-clause-caused g t c a b).world) (λ a. keeps-caused _ g.met.S.Record.RecordKind.lawful a _ _ _)
+    by_world g.S.Record.RecordKind.rules _ _ _ (Keeps _ _) (λ a b. (cause-returns-clause-caused g t c a b).world) (λ a. keeps-caused _ g.met.S.Record.RecordKind.lawful _ c.requires.closed a _ c.requires.source_there _ c.requires.target_there)
 
 pub cause-returns-clause-stays : goal.cause-returns-clause-stays
 cause-returns-clause-stays g t c =
@@ -45,7 +45,7 @@ cause-returns-clause-stays g t c =
 
 pub follow_input-returns-in-Absent-clause-keeps : goal.follow_input-returns-in-Absent-clause-keeps
 follow_input-returns-in-Absent-clause-keeps g t c =
-    rw c.fault_link-in-Absent.ensures.world (faulted-keeps _ g.met.S.Record.RecordKind.lawful _ _)
+    rw c.fault_link-in-Absent.ensures.world (faulted-keeps _ g.met.S.Record.RecordKind.lawful _ _ c.requires.there)
 
 pub follow_input-returns-in-Absent-clause-stays : goal.follow_input-returns-in-Absent-clause-stays
 follow_input-returns-in-Absent-clause-stays g t c =
@@ -63,25 +63,25 @@ run_input-returns-in-ReadDevice-clause-input g t c = λ answers begins.
 
 pub complete-show-requires : goal.complete-show-requires
 complete-show-requires g t c =
-    rw c.take.ensures.world ((keeps-taken g.S.Record.RecordKind.rules g.met.S.Record.RecordKind.lawful (g.S.Store.world c.args.store.now) c.args.number c.args.got).has _ c.requires.there)
+    rw c.take.ensures.world ((keeps-taken g.S.Record.RecordKind.rules g.met.S.Record.RecordKind.lawful (g.S.Store.world c.args.store.now) c.args.number c.requires.there c.args.got).has _ c.requires.there)
 
 pub complete-common-requires : goal.complete-common-requires
 complete-common-requires g t c =
-    rw (c.show.ensures.world, c.take.ensures.world) ((keeps-ready g.S.Record.RecordKind.rules g.met.S.Record.RecordKind.lawful (g.S.Store.world c.args.store.now) c.args.number c.args.got).has _ c.requires.there)
+    rw (c.show.ensures.world, c.take.ensures.world) ((keeps-ready g.S.Record.RecordKind.rules g.met.S.Record.RecordKind.lawful (g.S.Store.world c.args.store.now) c.args.number c.requires.there c.args.got).has _ c.requires.there)
 
 pub complete-follow-requires : goal.complete-follow-requires
 complete-follow-requires g t c =
     let k = g.S.Record.RecordKind.rules in
     let lawful = g.met.S.Record.RecordKind.lawful in
     let w = g.S.Store.world c.args.store.now in
-    let keeps = keeps-ready k lawful w c.args.number c.args.got in
-    let closed = closed_on k keeps c.requires.closed in
+    let keeps = keeps-ready k lawful w c.args.number c.requires.there c.args.got in
+    let closed = closed_on k lawful keeps c.requires.closed in
     λ κs h. rw (c.in_use-forward.ensures, c.common.ensures, c.show.ensures.world, c.take.ensures.world)
     (omega (arith, room-ready k lawful w c.args.number c.args.got, c.decreases), (h.0, (h.1, (keeps.has _ c.requires.there, (closed, forward_stands k lawful _ _ closed)))))
 
 pub complete-set_active-requires : goal.complete-set_active-requires
 complete-set_active-requires g t c =
-    c.follow.ensures.keeps.has _ (rw (c.show.ensures.world, c.take.ensures.world) ((keeps-ready g.S.Record.RecordKind.rules g.met.S.Record.RecordKind.lawful (g.S.Store.world c.args.store.now) c.args.number c.args.got).has _ c.requires.there))
+    c.follow.ensures.keeps.has _ (rw (c.show.ensures.world, c.take.ensures.world) ((keeps-ready g.S.Record.RecordKind.rules g.met.S.Record.RecordKind.lawful (g.S.Store.world c.args.store.now) c.args.number c.requires.there c.args.got).has _ c.requires.there))
 
 pub complete-returns-clause-completed : goal.complete-returns-clause-completed
 unfolding completed
@@ -101,7 +101,7 @@ read_target-returns-clause-read g t c = λ answers begins.
 
 pub read_target-returns-clause-keeps : goal.read_target-returns-clause-keeps
 read_target-returns-clause-keeps g t c =
-    by_world g.S.Record.RecordKind.rules _ _ _ (Keeps _ _) (λ a b. (read_target-returns-clause-read g t c a b).world) (λ a. keeps-read_record _ g.met.S.Record.RecordKind.lawful a _ _ _)
+    by_world g.S.Record.RecordKind.rules _ _ _ (Keeps _ _) (λ a b. (read_target-returns-clause-read g t c a b).world) (λ a. keeps-read_record _ g.met.S.Record.RecordKind.lawful _ c.requires.closed a _ c.requires.there _ c.requires.standing)
 
 pub read_target-returns-clause-stays : goal.read_target-returns-clause-stays
 read_target-returns-clause-stays g t c =
@@ -135,7 +135,7 @@ run_body-complete-requires g t c =
     let first = c.in-Some.ensures in
     let stays = first.stays refl in
     let inactive = ap {A = Bool} {B = ℕ} (λ b. cond b 1 0) (stays.active ∙ c.requires.is_idle) in
-    λ κs h. (omega (arith, c.decreases, stays.fewer, inactive), (h.0, (h.1, (first.keeps.has _ c.requires.there, closed_on _ first.keeps c.requires.closed))))
+    λ κs h. (omega (arith, c.decreases, stays.fewer, inactive), (h.0, (h.1, (first.keeps.has _ c.requires.there, closed_on _ g.met.S.Record.RecordKind.lawful first.keeps c.requires.closed))))
 
 pub run_body-returns-in-Some-clause-body : goal.run_body-returns-in-Some-clause-body
 run_body-returns-in-Some-clause-body g t c = λ answers begins.
@@ -152,10 +152,10 @@ request_record-run_body-requires g t c =
     let k = g.S.Record.RecordKind.rules in
     let lawful = g.met.S.Record.RecordKind.lawful in
     let w = g.S.Store.world c.args.store.now in
-    let keeps = keeps-changed k lawful w c.args.number unblocked (λ _. refl) in
+    let keeps = keeps-changed k lawful w c.args.number c.requires.there unblocked (λ _. refl) in
     let stays = stays-changed k lawful w c.args.number unblocked refl in
     λ κs h. rw c.unblock.ensures.world
-    (omega (arith, c.decreases, stays.fewer), (h.0, (h.1, (keeps.has _ c.requires.there, (closed_on k keeps c.requires.closed, stays.active ∙ ap (λ (it : Common). it.active) (sym c.common.ensures) ∙ c.if-common.false)))))
+    (omega (arith, c.decreases, stays.fewer), (h.0, (h.1, (keeps.has _ c.requires.there, (closed_on k lawful keeps c.requires.closed, stays.active ∙ ap (λ (it : Common). it.active) (sym c.common.ensures) ∙ c.if-common.false)))))
 
 pub request_record-returns-then-common-clause-request : goal.request_record-returns-then-common-clause-request
 request_record-returns-then-common-clause-request g t c = λ answers begins.
@@ -168,7 +168,7 @@ request_record-returns-then-common-clause-outcome g t c = λ answers begins.
 
 pub request_record-returns-then-common-clause-keeps : goal.request_record-returns-then-common-clause-keeps
 request_record-returns-then-common-clause-keeps g t c =
-    by_world g.S.Record.RecordKind.rules _ _ _ (Keeps _ _) (λ a b. (request_record-returns-then-common-clause-request g t c a b).world) (λ a. request-keeps _ g.met.S.Record.RecordKind.lawful a _ _)
+    by_world g.S.Record.RecordKind.rules _ _ _ (Keeps _ _) (λ a b. (request_record-returns-then-common-clause-request g t c a b).world) (λ a. request-keeps _ g.met.S.Record.RecordKind.lawful _ c.requires.closed a _ c.requires.there)
 
 pub request_record-returns-then-common-clause-fewer : goal.request_record-returns-then-common-clause-fewer
 request_record-returns-then-common-clause-fewer g t c =
@@ -186,7 +186,7 @@ request_record-returns-else-common-clause-outcome g t c = λ answers begins.
 
 pub request_record-returns-else-common-clause-keeps : goal.request_record-returns-else-common-clause-keeps
 request_record-returns-else-common-clause-keeps g t c =
-    by_world g.S.Record.RecordKind.rules _ _ _ (Keeps _ _) (λ a b. (request_record-returns-else-common-clause-request g t c a b).world) (λ a. request-keeps _ g.met.S.Record.RecordKind.lawful a _ _)
+    by_world g.S.Record.RecordKind.rules _ _ _ (Keeps _ _) (λ a b. (request_record-returns-else-common-clause-request g t c a b).world) (λ a. request-keeps _ g.met.S.Record.RecordKind.lawful _ c.requires.closed a _ c.requires.there)
 
 pub request_record-returns-else-common-clause-fewer : goal.request_record-returns-else-common-clause-fewer
 request_record-returns-else-common-clause-fewer g t c =
@@ -194,7 +194,7 @@ request_record-returns-else-common-clause-fewer g t c =
 
 pub follow_input-returns-in-OwnDevice-clause-keeps : goal.follow_input-returns-in-OwnDevice-clause-keeps
 follow_input-returns-in-OwnDevice-clause-keeps g t c =
-    rw c.fault_link.ensures.world (faulted-keeps _ g.met.S.Record.RecordKind.lawful _ _)
+    rw c.fault_link.ensures.world (faulted-keeps _ g.met.S.Record.RecordKind.lawful _ _ c.requires.there)
 
 pub follow_input-returns-in-OwnDevice-clause-stays : goal.follow_input-returns-in-OwnDevice-clause-stays
 follow_input-returns-in-OwnDevice-clause-stays g t c =

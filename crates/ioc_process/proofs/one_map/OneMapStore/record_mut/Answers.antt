@@ -1,7 +1,6 @@
 use Rattle.std.proofs.Common.{arith, ◌∙◌, ap, sym, Some, refl}
 use Rattle.std.proofs.lemmas.Option.{slice_get-get_or}
-use Rattle.ioc_process.specs.OneMap.{with_record}
-use Rattle.ioc_process.specs.OneMapLaws.{has_within, at-numbered}
+use Rattle.ioc_process.specs.OneMapLaws.{has_within, at-numbered, set-there}
 use Rattle.ioc_process.proofs.one_map.OneMapStore.record_mut.Goals as goal
 
 pub index_mut-requires : goal.index_mut-requires
@@ -12,7 +11,7 @@ pub returns : goal.returns
 returns g c =
     let s = c.args.self.now in
     let within = has_within s.records.items c.args.number c.requires in (
-      (refl, λ r. ap (λ n. with_record s n r) c.index-place.ensures),
+      (refl, λ r. set-there s c.index-place.result c.args.number r _ c.index-place.ensures),
       record {
         lends = tt;
         value = at-numbered g.K.RecordKind.rules s c.args.number c.index_mut.result.now

@@ -1,0 +1,141 @@
+-- A loaded database is quiet: new records are idle, and neither a field that is set nor the end of a load changes that.
+use Rattle.std.proofs.Common.{◌≡◌, ℕ, zero, suc, Bool, true, false, cond, List, [], ◌∷◌, ◌++◌, map, Option, Some, None, Result, Ok, Err, IsTrue, refl, sym, subst, ◌∙◌}
+use Rattle.std.specs.Prelude.{slice_get, slice_set, is_some, unwrap_or}
+use Rattle.ioc_values.specs.declared.value.Value.{Value}
+use Rattle.ioc_values.specs.declared.error.IocError.{IocError}
+use Rattle.ioc_names.specs.NameTable.{NameTable}
+use Rattle.ioc_links.specs.declared.link.Link.{Link}
+use Rattle.ioc_links.specs.Grammar.{link_of}
+use Rattle.ioc_fields.specs.declared.record_type.RecordType.{RecordType}
+use Rattle.ioc_fields.specs.declared.field_no.FieldNo.{FieldNo}
+use Rattle.ioc_fields.specs.declared.field_kind.FieldKind.{FieldKind}
+use Rattle.ioc_fields.specs.declared.field_kind.FieldKind.TheVariants as kind
+use Rattle.ioc_fields.specs.declared.row.Row.{Row}
+use Rattle.ioc_fields.specs.Kinds.{link_kind_of}
+use Rattle.ioc_fields.specs.Table.{row_of}
+use Rattle.ioc_record.specs.declared.link_field.LinkField.{LinkField}
+use Rattle.ioc_record.specs.declared.link_field.Lead.TheVariants.{Nowhere}
+use Rattle.ioc_record.specs.Steps.{new_common}
+use Rattle.ioc_record.specs.Values.{field_sort, stored_if}
+use Rattle.ioc_record.specs.Loading.{constant_fits, set_value, link_set_to, set_by_kind, set_by, set_field}
+use Rattle.ioc_record.specs.Laws.{IsLawful}
+use Rattle.ioc_record.specs.RecordRules.{RecordRules}
+use Rattle.ioc_types.specs.Record.{Record, record_rules, new_record}
+use Rattle.ioc_types.specs.RecordLaws.{record_lawful}
+use Rattle.ioc_process.specs.declared.one_map.OneMap.{OneMap}
+use Rattle.ioc_process.specs.OneMap.{world_of}
+use Rattle.ioc_process.specs.OneMapLaws.{get-numbered}
+use Rattle.ioc_process.specs.World.{at, common_at}
+use Rattle.ioc_process.specs.Rules.{IsQuiet}
+use Rattle.ioc_dbfile.specs.Finished.{with_standing, leads_to, linked, linked_all, finished}
+use Rattle.ioc_dbfile.specs.Loader.{Loading, set_at}
+use Rattle.ioc_dbfile.specs.Idle.{IsIdle, AllIdle}
+
+module _ {R : Type 0} (k : RecordRules R) where
+  pub all-append : (rs : List R) (r : R) → AllIdle k rs → IsIdle k r → AllIdle k (rs ++ r ∷ [])
+  all-append [] r idle new = (new, tt)
+  all-append (q ∷ qs) r idle new = (idle.0, all-append qs r idle.1 new)
+
+  pub all-set : (rs : List R) (n : ℕ) (r : R) → AllIdle k rs → IsIdle k r → AllIdle k (slice_set rs n r)
+  all-set [] n r idle set = tt
+  all-set (q ∷ qs) zero r idle set = (set, idle.1)
+  all-set (q ∷ qs) (suc n) r idle set = (idle.0, all-set qs n r idle.1 set)
+
+  pub idle-at : (rs : List R) (n : ℕ) (r : R) → AllIdle k rs → slice_get rs n ≡ Some r → IsIdle k r
+  idle-at [] n r idle is = cc
+  idle-at (q ∷ qs) zero r idle is = let same : q ≡ r = cc in subst (IsIdle k) same idle.0
+  idle-at (q ∷ qs) (suc n) r idle is = idle-at qs n r idle.1 is
+
+  idle-there : (rs : List R) (n : ℕ) → AllIdle k rs → IsTrue (is_some (slice_get rs n)) → IsIdle k (unwrap_or (slice_get rs n) k.missing)
+  idle-there [] n idle has = cc
+  idle-there (q ∷ qs) zero idle has = idle.0
+  idle-there (q ∷ qs) (suc n) idle has = idle-there qs n idle.1 has
+
+  -- what was made of a record, where something was, is idle
+  abbrev IdleIfMade : Result R IocError → Type 0
+  IdleIfMade (Ok r) = IsIdle k r
+  IdleIfMade (Err e) = Unit {0}
+
+  module _ (lawful : IsLawful k) where
+    link-idle : (r : R) (f : FieldNo) (l : LinkField) → IsIdle k r → IsIdle k (k.with_link r f l)
+    link-idle r f l idle = record { active = lawful.link_set_active r f l ∙ idle.active; pending = lawful.link_set_pending r f l ∙ idle.pending }
+
+    stored-idle : (r : R) (f : FieldNo) (o : Result Value IocError) → IsIdle k r → IdleIfMade (stored_if k r f o)
+    stored-idle r f (Ok v) idle = record { active = lawful.stored_active r f v ∙ idle.active; pending = lawful.stored_pending r f v ∙ idle.pending }
+    stored-idle r f (Err e) idle = tt
+
+    fits-idle : (r : R) (f : FieldNo) (link : Link) (fits : Bool) (e : IocError) → IsIdle k r → IdleIfMade (cond fits (Ok (k.with_link r f (record { link = link; lead = Nowhere }))) (Err e))
+    fits-idle r f link true e idle = link-idle r f _ idle
+    fits-idle r f link false e idle = tt
+
+    link_set-idle : (r : R) (f : FieldNo) (o : Option Link) → IsIdle k r → IdleIfMade (link_set_to k r f o)
+    link_set-idle r f None idle = tt
+    link_set-idle r f (Some link) idle = fits-idle r f link (constant_fits (k.constant_kind r f) link) _ idle
+
+    kind-idle : (r : R) (f : FieldNo) (text : List ℕ) (kind : FieldKind) → IsIdle k r → IdleIfMade (set_by_kind k r f text kind)
+    unfolding set_by_kind
+    kind-idle r f text (kind.Link role) idle = link_set-idle r f (link_of (link_kind_of role) text) idle
+    kind-idle r f text other idle = stored-idle r f (set_value (field_sort (k.states r) other) text) idle
+
+    can-idle : (can : Bool) (o : Result R IocError) (e : IocError) → IdleIfMade o → IdleIfMade (cond can o (Err e))
+    can-idle true o e made = made
+    can-idle false o e made = tt
+
+    row-idle : (r : R) (f : FieldNo) (text : List ℕ) (row : Option Row) → IsIdle k r → IdleIfMade (set_by k r f text row)
+    row-idle r f text None idle = tt
+    row-idle r f text (Some row) idle = can-idle row.can_set (set_by_kind k r f text row.kind) _ (kind-idle r f text row.kind idle)
+
+    set-idle : (r : R) (f : FieldNo) (text : List ℕ) → IsIdle k r → IdleIfMade (set_field k r f text)
+    unfolding set_field
+    set-idle r f text idle = row-idle r f text (row_of (k.record_type r) f) idle
+
+    -- a field that is set leaves a record idle
+    pub set_field-idle : (r r' : R) (f : FieldNo) (text : List ℕ) → set_field k r f text ≡ Ok r' → IsIdle k r → IsIdle k r'
+    set_field-idle r r' f text is idle = subst IdleIfMade is (set-idle r f text idle)
+
+    module _ (names : NameTable) (types : List RecordType) where
+      standing-idle : (r : R) (f : FieldNo) (o : Option LinkField) → IsIdle k r → IsIdle k (with_standing k names types r f o)
+      standing-idle r f None idle = idle
+      standing-idle r f (Some l) idle = link-idle r f _ idle
+
+      linked-idle : (r : R) (f : FieldNo) → IsIdle k r → IsIdle k (linked k names types f r)
+      unfolding linked
+      linked-idle r f idle = standing-idle r f (k.link r f) idle
+
+      all_linked-idle : (fields : List FieldNo) (r : R) → IsIdle k r → IsIdle k (linked_all k names types fields r)
+      all_linked-idle [] r idle = idle
+      all_linked-idle (f ∷ fs) r idle = all_linked-idle fs (linked k names types f r) (linked-idle r f idle)
+
+      loaded-idle : (r : R) → IsIdle k r → IsIdle k (k.loaded r)
+      loaded-idle r idle = record { active = lawful.loaded_active r ∙ idle.active; pending = lawful.loaded_pending r ∙ idle.pending }
+
+      finished-idle : (r : R) → IsIdle k r → IsIdle k (finished k names types r)
+      unfolding finished
+      finished-idle r idle = loaded-idle _ (all_linked-idle (k.link_fields r) r idle)
+
+      all-finished : (rs : List R) → AllIdle k rs → AllIdle k (map (finished k names types) rs)
+      all-finished [] idle = tt
+      all-finished (r ∷ rs) idle = (finished-idle r idle.0, all-finished rs idle.1)
+
+-- a record that was set, among the others
+pub set-made : (names : NameTable) (items : List Record) (n : ℕ) (f : FieldNo) (text : List ℕ) (old new : Record) → slice_get items n ≡ Some old → set_field record_rules old f text ≡ Ok new
+    → set_at record_rules new_record n f text (record { names = names; records = items }) ≡ Ok (record { names = names; records = slice_set items n new })
+unfolding set_at
+set-made names items n f text old new is made = rw (is, made) refl
+
+-- a new record is idle
+pub new-idle : (type : RecordType) (name : List ℕ) → IsIdle record_rules (new_record type name)
+unfolding new_common
+new-idle type name = record { active = refl; pending = refl }
+
+-- a map of records at the end of a load is quiet
+pub finished_quiet : (names : NameTable) (rs items : List Record) (m : OneMap Record) → m.records.items ≡ items → items ≡ map (finished record_rules names (map record_rules.record_type rs)) rs
+    → AllIdle record_rules rs → IsQuiet record_rules (world_of m)
+unfolding at
+finished_quiet names rs items m e all idle = record {
+  quiet = λ n has.
+      let made : AllIdle record_rules m.records.items = subst (AllIdle record_rules) (sym (e ∙ all)) (all-finished record_rules record_lawful names (map record_rules.record_type rs) rs idle) in
+      let here = idle-there record_rules m.records.items n made (rw get-numbered at has) in
+      let same : at record_rules (world_of m) n ≡ unwrap_or (slice_get m.records.items n) record_rules.missing = rw get-numbered refl in
+      rw (common_at, same, here.active, here.pending) (λ h. h, λ h. h);
+}

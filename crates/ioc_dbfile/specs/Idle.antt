@@ -1,0 +1,14 @@
+-- Records that nothing is under way in.
+use Rattle.std.specs.Prelude.{◌≡◌, List, [], ◌∷◌, false, None}
+use Rattle.ioc_record.specs.RecordRules.{RecordRules}
+
+module _ {R : Type 0} (k : RecordRules R) where
+  -- a record that is not active, and awaits no completion
+  pub record IsIdle (r : R) : Type 0 where
+    pub active : (k.common r).active ≡ false
+    pub pending : (k.common r).pending ≡ None
+
+  -- each of these records is so
+  abbrev pub AllIdle : List R → Type 0
+  AllIdle [] = Unit {0}
+  AllIdle (r ∷ rs) = IsIdle r × AllIdle rs

@@ -1,0 +1,63 @@
+//! How the program ends.
+ghost use Rattle.std.specs.Prelude.{◌≡◌};
+ghost use Rattle.ioc_main.specs.Faults.{whole_run, ending_of, ending_text};
+
+use crate::fault::RunFault;
+use std::{fmt, io};
+
+/// A stream of the program.
+#[derive(Clone, Copy, Debug, PartialEq, Eq)]
+pub enum Stream {
+    Output,
+    Error,
+}
+
+/// How the program ends: with what exit status, and what it says of it where. Its text is printed as it stands, line feed
+/// included.
+#[derive(Clone, Copy, Debug, PartialEq, Eq)]
+pub struct Ending {
+    pub status: u8,
+    pub stream: Stream,
+    pub fault: Option<RunFault>,
+}
+
+impl Ending {
+    /// How the program ends whose run came to this.
+    #[tactic(auto, unfolding(crate::specs::Faults::ending_of))]
+    pub fn of(ended: Result<(), RunFault>) -> Self
+        ensures { result ≡ ending_of ended }
+    {
+        let (status, fault) = match ended {
+            Ok(()) => (0, None),
+            Err(fault) => (fault.status(), Some(fault)),
+        };
+        Ending {
+            status,
+            stream: Stream::Error,
+            fault,
+        }
+    }
+}
+
+#[tactic(auto, unfolding(crate::specs::Faults::ending_text))]
+impl fmt::Display for Ending {
+    ghost use Rattle.std.specs.Prelude.{Some};
+
+    ghost output = { λ ending. Some (ending_text ending) };
+
+    fn fmt<W: fmt::Write>(&self, f: &mut fmt::Formatter<W>) -> fmt::Result {
+        match self.fault {
+            Some(fault) => write!(f, "{fault}\n"),
+            None => Ok(()),
+        }
+    }
+}
+
+/// What a run came to whose replies were then flushed: the replies before a fault are written all the same, and the fault
+/// is told that came first.
+pub fn whole_run(ran: Result<(), RunFault>, flushed: io::Result<()>) -> Result<(), RunFault>
+    ensures { result ≡ whole_run ran flushed }
+{
+    ran?;
+    flushed.map_err(|_| RunFault::Write)
+}

@@ -1,0 +1,33 @@
+//! What fields and inputs hold, as conversions take it.
+ghost use Rattle.std.specs.Prelude.{◌≡◌};
+ghost use Rattle.ioc_values.specs.Conversion.{sort_of};
+ghost use Rattle.ioc_record.specs.Values.{field_sort, input_sort};
+
+use crate::body::InputKind;
+use ioc_fields::FieldKind;
+use ioc_menus::choices;
+use ioc_values::{Kind, Text};
+
+/// What a field of the kind holds, with the texts of the record's states. A link is no value; its text is a text.
+#[tactic(auto, unfolding(crate::specs::Values::field_sort, ioc_values::specs::Conversion::sort_of))]
+pub fn held_by(kind: FieldKind, states: &[Text]) -> Kind<'_>
+    ensures { sort_of result ≡ field_sort states.now kind }
+{
+    match kind {
+        FieldKind::Number(range) => Kind::Number(range),
+        FieldKind::Text | FieldKind::Link(_) => Kind::Text,
+        FieldKind::Menu(menu) => Kind::Menu(choices(menu)),
+        FieldKind::State => Kind::State(states),
+    }
+}
+
+/// What an input holds.
+#[tactic(auto, unfolding(ioc_values::specs::Conversion::sort_of))]
+pub fn taken_by(kind: InputKind) -> Kind<'static>
+    ensures { sort_of result ≡ input_sort kind }
+{
+    match kind {
+        InputKind::Number(range) => Kind::Number(range),
+        InputKind::Text => Kind::Text,
+    }
+}
