@@ -1,0 +1,138 @@
+//! A fanout record by itself.
+use crate::steps::Step::{Begin, Has, Load, Put, PutRefused, Set, SetRefused, Stands, Take};
+use crate::steps::{Came, Does, Step, Wants, follow};
+use ioc_fields::{FieldNo, OwnField, Slot};
+use ioc_links::Mode;
+use ioc_record::{Common, InputKind, Record, RecordBody, RecordKind};
+use ioc_values::{IocError, Name, Range, Value};
+use rec_flow::{Fanout, KeptFanout};
+use std::test::Fail;
+
+fn new() -> Record<Fanout> {
+    Record {
+        common: Common::new(Name::cut(b"all")),
+        body: Fanout::new(),
+    }
+}
+
+// UDF becomes 0, and no alarm of an undefined value is raised.
+static NEW: [Step<'static>; 14] = [
+    Load,
+    Has("VAL", "0"),
+    Has("SELM", "All"),
+    Has("SELN", "1"),
+    Has("SELL", ""),
+    Has("OFFS", "0"),
+    Has("SHFT", "-1"),
+    Has("LNK0", ""),
+    Has("LNKF", ""),
+    Has("STAT", "UDF"),
+    Begin(Wants::Unused),
+    Take(Came::Nothing, Does::Follow(0xffff)),
+    Has("UDF", "0"),
+    Has("NSTA", "NO_ALARM"),
+];
+
+// SELM, SELN, OFFS, SHFT; the links that are followed; the alarm.
+static CHOICES: [(&str, &str, &str, &str, u16, &str); 19] = [
+    ("All", "99", "99", "99", 0xffff, "NO_ALARM"),
+    ("Specified", "0", "0", "0", 1, "NO_ALARM"),
+    ("Specified", "3", "2", "99", 0x20, "NO_ALARM"),
+    ("Specified", "15", "0", "-1", 0x8000, "NO_ALARM"),
+    ("Specified", "16", "-1", "-1", 0x8000, "NO_ALARM"),
+    ("Specified", "16", "0", "-1", 0, "SOFT"),
+    ("Specified", "0", "-1", "-1", 0, "SOFT"),
+    ("Specified", "65535", "-32768", "-1", 0, "SOFT"),
+    ("Mask", "5", "99", "0", 5, "NO_ALARM"),
+    ("Mask", "5", "0", "-1", 10, "NO_ALARM"),
+    ("Mask", "5", "0", "2", 1, "NO_ALARM"),
+    ("Mask", "65535", "0", "15", 1, "NO_ALARM"),
+    ("Mask", "65535", "0", "0", 0xffff, "NO_ALARM"),
+    ("Mask", "3", "0", "-15", 0x8000, "NO_ALARM"),
+    ("Mask", "0x8001", "0", "-4", 0x10, "NO_ALARM"),
+    ("Mask", "0", "0", "0", 0, "NO_ALARM"),
+    ("Mask", "1", "0", "16", 0, "SOFT"),
+    ("Mask", "1", "0", "-16", 0, "SOFT"),
+    ("Mask", "1", "0", "32767", 0, "SOFT"),
+];
+
+#[test]
+fn links_chosen(rt: HostRuntime) {
+    follow(&rt, &mut new(), &NEW);
+    for (select, number, offset, shift, links, alarm) in &CHOICES {
+        let steps = [
+            Set("SELM", *select),
+            Set("SELN", *number),
+            Set("OFFS", *offset),
+            Set("SHFT", *shift),
+            Load,
+            Take(Came::Nothing, Does::Follow(*links)),
+            Has("NSTA", *alarm),
+        ];
+        follow(&rt, &mut new(), &steps);
+    }
+}
+
+// What SELL gives goes into SELN; after a fault SELN stays, and the choice goes on.
+static NUMBER: [Step<'static>; 10] = [
+    Set("SELM", "Specified"),
+    Set("SELL", "n PP MSS"),
+    Load,
+    Begin(Wants::Absent),
+    Stands(FieldNo::Own(OwnField::Sell)),
+    Begin(Wants::Link(true, Mode::Mss)),
+    Take(Came::UShort(4), Does::Follow(0x10)),
+    Has("SELN", "4"),
+    Take(Came::Fault, Does::Follow(0x10)),
+    Has("SELN", "4"),
+];
+
+static CONSTANTS: [Step<'static>; 7] = [
+    Set("SELN", "2"),
+    Set("SELL", "3"),
+    Load,
+    Has("SELN", "3"),
+    Has("UDF", "1"),
+    SetRefused("SELL", "65536", IocError::BadValue),
+    SetRefused("SELL", "@card", IocError::BadLink),
+];
+
+#[test]
+fn number_by_a_link(rt: HostRuntime) {
+    let mut item = new();
+    follow(&rt, &mut item, &NUMBER);
+    assert!(rt; item.input_kind() == InputKind::Number(Range::UShort));
+    follow(&rt, &mut new(), &CONSTANTS);
+}
+
+static LINKS: [Step<'static>; 16] = [
+    Set("LNK0", "a"),
+    Set("LNK1", "65536"),
+    Set("LNKA", "b PP"),
+    Set("LNKF", "c.SCAN"),
+    SetRefused("LNK2", "@card", IocError::BadLink),
+    Stands(FieldNo::Own(OwnField::Lnk(Slot::N10))),
+    Has("LNK0", "a.VAL NPP NMS"),
+    Has("LNK1", "65536"),
+    Has("LNK9", ""),
+    Has("LNKA", "b.VAL PP NMS"),
+    Has("LNKB", ""),
+    Has("LNKF", "c.SCAN NPP NMS"),
+    PutRefused("LNK0", "a", IocError::NoMod),
+    PutRefused("OFFS", "32768", IocError::BadValue),
+    Put("VAL", "-5"),
+    Has("UDF", "0"),
+];
+
+#[test]
+fn links_and_puts(rt: HostRuntime) {
+    follow(&rt, &mut new(), &LINKS);
+}
+
+#[test]
+fn on_the_heap(rt: HostRuntime) -> Result<(), Fail> {
+    let mut kept = KeptFanout::new(rt.alloc(), Fanout::new())?;
+    kept.get_mut().number = 7;
+    assert!(rt; kept.get().get(OwnField::Seln) == Some(Value::UShort(7)));
+    Ok(())
+}

@@ -1,0 +1,20 @@
+//! Tests of fields, records, record types and loads: in a crate of their own, so that none of these is proved twice.
+//! What is tested stands in tables of constants, since a short function is proved sooner than a long one.
+#![tactic(auto)]
+
+#[cfg(test)]
+mod bo;
+#[cfg(test)]
+mod fanout;
+#[cfg(test)]
+mod fields;
+#[cfg(test)]
+mod loads;
+#[cfg(test)]
+mod longin;
+#[cfg(test)]
+mod multi;
+#[cfg(test)]
+mod records;
+#[cfg(test)]
+mod steps;
