@@ -70,9 +70,19 @@ fn endings(rt: HostRuntime) -> Result<(), Fail> {
         1,
         "E13 BadDb line 2: text not closed\n",
     )?;
-    ends(&rt, Err(RunFault::Usage), 2, "usage: ioc-replay DB SCRIPT\n")?;
+    ends(
+        &rt,
+        Err(RunFault::Usage),
+        2,
+        "usage: ioc-replay DB SCRIPT\n",
+    )?;
     ends(&rt, Err(RunFault::Read), 3, "the input cannot be read\n")?;
-    ends(&rt, Err(RunFault::Write), 3, "the replies cannot be written\n")?;
+    ends(
+        &rt,
+        Err(RunFault::Write),
+        3,
+        "the replies cannot be written\n",
+    )?;
     ends(&rt, Err(RunFault::Memory), 4, "out of memory\n")
 }
 
