@@ -1,7 +1,9 @@
 //! Conversions at the ends of every range, and the printed refusals.
 use ioc_values::number::{is_number, number, signed};
 use ioc_values::trim::trim;
-use ioc_values::{BadDbKind, DbFault, IocError, Kind, Range, Short, Text, Value, convert, convert_text};
+use ioc_values::{
+    BadDbKind, DbFault, IocError, Kind, Range, Short, Text, Value, convert, convert_text,
+};
 use std::test::Fail;
 
 const BAD: Result<Value, IocError> = Err(IocError::BadValue);

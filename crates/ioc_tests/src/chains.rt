@@ -9,10 +9,16 @@ const RECORDS: usize = 100_000;
 fn chain(alloc: Global, field: &str, words: &str, last: &str) -> Result<String, Fail> {
     let mut text = String::new(alloc);
     for number in 1..RECORDS {
-        let line = format!(in alloc; "record(longin,r{}){{field({field},\"r{number}{words}\")}}\n", number - 1)?;
+        let line = format!(in alloc;
+            "record(longin,r{}){{field({field},\"r{number}{words}\")}}\n",
+            number - 1
+        )?;
         text.push_str(line.as_str())?;
     }
-    let line = format!(in alloc; "record(longin,r{}){{field({field},\"{last}\")}}\n", RECORDS - 1)?;
+    let line = format!(in alloc;
+        "record(longin,r{}){{field({field},\"{last}\")}}\n",
+        RECORDS - 1
+    )?;
     text.push_str(line.as_str())?;
     Ok(text)
 }
