@@ -1,4 +1,4 @@
-//! Tests of fields, records, record types and loads: in a crate of their own, so that none of these is proved twice.
+//! Tests of fields, records and record types: in a crate of their own, so that none of these is proved twice.
 //! What is tested stands in tables of constants, since a short function is proved sooner than a long one.
 #![tactic(auto)]
 
@@ -8,8 +8,6 @@ mod bo;
 mod fanout;
 #[cfg(test)]
 mod fields;
-#[cfg(test)]
-mod loads;
 #[cfg(test)]
 mod longin;
 #[cfg(test)]

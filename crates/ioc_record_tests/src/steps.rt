@@ -78,8 +78,8 @@ fn put<K: RecordKind>(item: &mut K, name: &str, text: &str) -> Result<(), IocErr
     put_field(item, field, Input::from_text(text.as_bytes()))
 }
 
-/// Is this the text of the field?
-pub fn has_text<K: RecordKind>(item: &K, name: &str, wanted: &str) -> bool {
+// Is this the text of the field?
+fn has_text<K: RecordKind>(item: &K, name: &str, wanted: &str) -> bool {
     match field(item.record_type(), name.as_bytes()) {
         Some(field) => text_of(item, field).as_slice() == wanted.as_bytes(),
         None => false,

@@ -10,6 +10,8 @@ mod events;
 #[cfg(test)]
 mod lines;
 #[cfg(test)]
+mod loads;
+#[cfg(test)]
 mod rows;
 #[cfg(test)]
 mod runs;

@@ -1,7 +1,6 @@
 //! Whole loads of database texts.
-use crate::steps::has_text;
 use ioc_dbfile::{Database, Macros, load};
-use ioc_fields::{CommonField, FieldNo, OwnField, Slot};
+use ioc_fields::{CommonField, FieldNo, OwnField, Slot, field};
 use ioc_names::RecordNo;
 use ioc_record::{FieldAddress, Lead, RecordKind, text_of};
 use ioc_values::{BadDbKind, IocError};
@@ -25,8 +24,11 @@ fn outcome(alloc: Global, text: &[u8]) -> Option<Result<usize, (u64, BadDbKind)>
 
 // Is this the text of the field of the record of a number?
 fn shows(database: &Database, number: usize, name: &str, wanted: &str) -> bool {
-    match database.map.records.get(number) {
-        Some(item) => has_text(item, name, wanted),
+    let Some(item) = database.map.records.get(number) else {
+        return false;
+    };
+    match field(item.record_type(), name.as_bytes()) {
+        Some(field) => text_of(item, field).as_slice() == wanted.as_bytes(),
         None => false,
     }
 }
