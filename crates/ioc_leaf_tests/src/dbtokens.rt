@@ -2,64 +2,106 @@
 use ioc_dbtext::{TokenKind, expand};
 use ioc_dbtokens::{Tokens, unescaped};
 use ioc_values::BadDbKind;
+use std::alloc::{AllocError, Global};
+use std::process::Abort;
 use std::test::Fail;
 
-#[test]
-fn tokens_and_their_lines(rt: HostRuntime) -> Result<(), Fail> {
-    let text: &[u8] = b"\n a.b-1(\"x\\\"y\"\t,*)\n\n{\"\"} # c\n\"open\nrest";
-    let table: [(u64, TokenKind, &[u8]); 10] = [
-        (2, TokenKind::Word, b"a.b-1"),
-        (2, TokenKind::Sign(b'('), b""),
-        (2, TokenKind::Quoted, b"x\\\"y"),
-        (2, TokenKind::Sign(b','), b""),
-        (2, TokenKind::Sign(b'*'), b""),
-        (2, TokenKind::Sign(b')'), b""),
-        (4, TokenKind::Sign(b'{'), b""),
-        (4, TokenKind::Quoted, b""),
-        (4, TokenKind::Sign(b'}'), b""),
-        (5, TokenKind::Fault(BadDbKind::Unclosed), b""),
-    ];
+// A token: its line, what it is and its text.
+type Wanted = (u64, TokenKind, &'static [u8]);
+
+// Is the next token this one, and seen before it is taken?
+fn is_next(tokens: &mut Tokens<'_>, wanted: &Wanted) -> bool {
+    let (Some(front), Some(token)) = (tokens.peek(), tokens.next()) else {
+        return false;
+    };
+    let (line, kind, said) = *wanted;
+    front.line == token.line
+        && front.kind == token.kind
+        && token.line == line
+        && token.kind == kind
+        && token.text == said
+}
+
+// The tokens of the text are these.
+fn are_tokens(rt: &(impl AllocGlobal + Abort), text: &[u8], table: &[Wanted]) -> Result<(), Fail> {
     let texts = expand(rt.alloc(), text)?;
     let mut tokens = Tokens::new(&texts);
-    for (line, kind, said) in &table {
-        let front = tokens.peek().ok_or("a token")?;
-        let token = tokens.next().ok_or("a token")?;
-        assert!(rt; front.line == token.line && front.kind == token.kind);
-        assert!(rt; token.line == *line && token.kind == *kind, "{line}");
-        assert!(rt; token.text == *said, "{line}");
+    for wanted in table {
+        assert!(rt; is_next(&mut tokens, wanted), "{}", wanted.0);
     }
     assert!(rt; tokens.peek().is_none() && tokens.next().is_none());
     Ok(())
 }
 
+const TEXT: &[u8] = b"\n a.b-1(\"x\\\"y\"\t,*)\n\n{\"\"} # c\n\"open\nrest";
+
+static TOKENS: [Wanted; 10] = [
+    (2, TokenKind::Word, b"a.b-1"),
+    (2, TokenKind::Sign(b'('), b""),
+    (2, TokenKind::Quoted, b"x\\\"y"),
+    (2, TokenKind::Sign(b','), b""),
+    (2, TokenKind::Sign(b'*'), b""),
+    (2, TokenKind::Sign(b')'), b""),
+    (4, TokenKind::Sign(b'{'), b""),
+    (4, TokenKind::Quoted, b""),
+    (4, TokenKind::Sign(b'}'), b""),
+    (5, TokenKind::Fault(BadDbKind::Unclosed), b""),
+];
+
+#[test]
+fn tokens_and_their_lines(rt: HostRuntime) -> Result<(), Fail> {
+    are_tokens(&rt, TEXT, &TOKENS)
+}
+
+// Texts whose only token is a fault.
+static FAULTS: [(&[u8], &[Wanted]); 3] = [
+    (
+        b"\n\n ? a",
+        &[(3, TokenKind::Fault(BadDbKind::Syntax), b"")],
+    ),
+    (
+        b"\"a\\\"",
+        &[(1, TokenKind::Fault(BadDbKind::Unclosed), b"")],
+    ),
+    (
+        b"\n# $(A)\n$(A)",
+        &[(3, TokenKind::Fault(BadDbKind::Macro), b"")],
+    ),
+];
+
 #[test]
 fn last_tokens(rt: HostRuntime) -> Result<(), Fail> {
-    let table: [(&[u8], u64, BadDbKind); 3] = [
-        (b"\n\n ? a", 3, BadDbKind::Syntax),
-        (b"\"a\\\"", 1, BadDbKind::Unclosed),
-        (b"\n# $(A)\n$(A)", 3, BadDbKind::Macro),
-    ];
-    for (text, line, kind) in &table {
-        let texts = expand(rt.alloc(), text)?;
-        let mut tokens = Tokens::new(&texts);
-        let token = tokens.next().ok_or("a token")?;
-        assert!(rt; token.line == *line && token.kind == TokenKind::Fault(*kind));
-        assert!(rt; tokens.next().is_none());
+    for (text, wanted) in &FAULTS {
+        are_tokens(&rt, text, wanted)?;
     }
     Ok(())
 }
 
+// Whether they stand in a value, bytes between quotes, and what they are there.
+static ESCAPES: [(bool, &[u8], &[u8]); 8] = [
+    (true, b"a b", b"a b"),
+    (false, b"a b", b"a b"),
+    (true, b"\\\"\\\\", b"\"\\"),
+    (false, b"\\\"\\\\", b"\"\\"),
+    (true, b"\\n\\t\\q", b"\n\t\\q"),
+    (false, b"\\n\\t\\q", b"\\n\\t\\q"),
+    (true, b"a\\", b"a\\"),
+    (false, b"a\\", b"a\\"),
+];
+
+fn is_unescaped(
+    alloc: Global,
+    in_value: bool,
+    bytes: &[u8],
+    wanted: &[u8],
+) -> Result<bool, AllocError> {
+    Ok(unescaped(alloc, in_value, bytes)?.as_slice() == wanted)
+}
+
 #[test]
 fn escapes_of_values_and_names(rt: HostRuntime) -> Result<(), Fail> {
-    let table: [(&[u8], &[u8], &[u8]); 4] = [
-        (b"a b", b"a b", b"a b"),
-        (b"\\\"\\\\", b"\"\\", b"\"\\"),
-        (b"\\n\\t\\q", b"\n\t\\q", b"\\n\\t\\q"),
-        (b"a\\", b"a\\", b"a\\"),
-    ];
-    for (bytes, in_value, in_name) in &table {
-        assert!(rt; unescaped(rt.alloc(), true, bytes)?.as_slice() == *in_value);
-        assert!(rt; unescaped(rt.alloc(), false, bytes)?.as_slice() == *in_name);
+    for (in_value, bytes, wanted) in &ESCAPES {
+        assert!(rt; is_unescaped(rt.alloc(), *in_value, bytes, wanted)?);
     }
     Ok(())
 }

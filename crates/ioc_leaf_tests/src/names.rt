@@ -1,46 +1,109 @@
 //! Names of records, and their numbers.
 use ioc_names::*;
 use ioc_values::Name;
+use std::alloc::AllocError;
+use std::process::Abort;
 use std::test::Fail;
+
+/// A step of a test, with what must come of it.
+#[derive(Clone, Copy)]
+enum Step<'a> {
+    /// There are so many records.
+    Counts(usize),
+    /// No record has the name.
+    Misses(&'a [u8]),
+    /// The record of this number has the name.
+    Finds(&'a [u8], usize),
+    /// A new record has the name, and this number.
+    Adds(&'a [u8], usize),
+    /// The record of this number has this second name.
+    Aliases(&'a [u8], usize),
+}
+
+// Adds a record, where its name is free and a number is left.
+fn add(names: &mut Names, name: Name) -> Result<Option<RecordNo>, AllocError> {
+    if names.len() == usize::MAX || names.find(name.as_slice()).is_some() {
+        return Ok(None);
+    }
+    Ok(Some(names.add(name)?))
+}
+
+// Gives a record a second name, where that is free and there is the record.
+fn alias(names: &mut Names, number: RecordNo, name: Name) -> Result<bool, AllocError> {
+    if names.len() <= number.index() || names.find(name.as_slice()).is_some() {
+        return Ok(false);
+    }
+    names.alias(number, name)?;
+    Ok(true)
+}
+
+// Does what the step says, and tells whether that came of it which must.
+fn holds(names: &mut Names, step: &Step<'_>) -> Result<bool, AllocError> {
+    Ok(match step {
+        Step::Counts(count) => names.len() == *count && names.is_empty() == (*count == 0),
+        Step::Misses(name) => names.find(name).is_none(),
+        Step::Finds(name, number) => names.find(name) == Some(RecordNo::new(*number)),
+        Step::Adds(name, number) => add(names, Name::cut(name))? == Some(RecordNo::new(*number)),
+        Step::Aliases(name, number) => alias(names, RecordNo::new(*number), Name::cut(name))?,
+    })
+}
+
+// Goes through steps, from no records on.
+fn follow(rt: &(impl AllocGlobal + Abort), steps: &[Step<'_>]) -> Result<(), Fail> {
+    let mut names = Names::new(rt.alloc());
+    let mut number = 0u64;
+    for step in steps {
+        assert!(rt; holds(&mut names, step)?, "step {number}, counted from 0");
+        number = number.saturating_add(1);
+    }
+    Ok(())
+}
+
+static RECORDS: [Step<'static>; 12] = [
+    Step::Counts(0),
+    Step::Misses(b"a"),
+    Step::Adds(b"a", 0),
+    Step::Counts(1),
+    Step::Misses(b"b"),
+    Step::Adds(b"b", 1),
+    Step::Counts(2),
+    Step::Finds(b"a", 0),
+    Step::Finds(b"b", 1),
+    Step::Misses(b"ab"),
+    Step::Misses(b""),
+    Step::Misses(b"A"),
+];
 
 #[test]
 fn records_are_numbered_in_load_order(rt: HostRuntime) -> Result<(), Fail> {
-    let mut names = Names::new(rt.alloc());
-    assert!(rt; names.is_empty());
-    assert!(rt; names.find(b"a").is_none());
-    assert_eq!(rt; names.add(Name::cut(b"a"))?, RecordNo::new(0));
-    assert_eq!(rt; names.len(), 1);
-    assert!(rt; names.find(b"b").is_none());
-    assert_eq!(rt; names.add(Name::cut(b"b"))?, RecordNo::new(1));
-    assert_eq!(rt; names.len(), 2);
-    assert_eq!(rt; names.find(b"a"), Some(RecordNo::new(0)));
-    assert_eq!(rt; names.find(b"b"), Some(RecordNo::new(1)));
-    assert!(rt;
-        names.find(b"ab").is_none() && names.find(b"").is_none() && names.find(b"A").is_none()
-    );
-    Ok(())
+    follow(&rt, &RECORDS)
 }
+
+static ALIAS: [Step<'static>; 7] = [
+    Step::Adds(b"a", 0),
+    Step::Counts(1),
+    Step::Misses(b"z"),
+    Step::Aliases(b"z", 0),
+    Step::Counts(1),
+    Step::Finds(b"z", 0),
+    Step::Finds(b"a", 0),
+];
 
 #[test]
 fn alias_has_its_records_number(rt: HostRuntime) -> Result<(), Fail> {
-    let mut names = Names::new(rt.alloc());
-    let number = names.add(Name::cut(b"a"))?;
-    assert_eq!(rt; names.len(), 1);
-    assert!(rt; number.index() == 0 && names.find(b"z").is_none());
-    names.alias(number, Name::cut(b"z"))?;
-    assert_eq!(rt; names.len(), 1);
-    assert_eq!(rt; names.find(b"z"), Some(number));
-    assert_eq!(rt; names.find(b"a"), Some(number));
-    Ok(())
+    follow(&rt, &ALIAS)
 }
+
+static LONG: [u8; 61] = [120; 61];
 
 #[test]
 fn long_names_are_not_found(rt: HostRuntime) -> Result<(), Fail> {
-    let mut names = Names::new(rt.alloc());
-    let long = [120u8; 61];
-    assert!(rt; names.find(&long[..60]).is_none());
-    let number = names.add(Name::cut(&long))?;
-    assert_eq!(rt; names.find(&long[..60]), Some(number));
-    assert!(rt; names.find(&long).is_none());
-    Ok(())
+    let cut = &LONG[..60];
+    let steps = [
+        Step::Misses(cut),
+        Step::Adds(&LONG, 0),
+        Step::Finds(cut, 0),
+        Step::Misses(&LONG),
+    ];
+    follow(&rt, &steps)
 }
