@@ -20,12 +20,6 @@ fn alarms(new_status: Status, new_severity: Severity) -> Alarms {
     }
 }
 
-// Alarms raised in turn, where the first is the one that stands.
-static RAISED: [(Status, Severity); 2] = [
-    (Status::Soft, Severity::Minor),
-    (Status::Calc, Severity::Minor),
-];
-
 static SETTLED: Alarms = Alarms {
     status: Status::Soft,
     severity: Severity::Minor,
@@ -36,11 +30,16 @@ static SETTLED: Alarms = Alarms {
 #[test]
 fn raised_where_graver(rt: HostRuntime) {
     let mut a = QUIET;
-    for (status, severity) in &RAISED {
-        a.raise(*status, *severity);
-        assert!(rt; a == alarms(Status::Soft, Severity::Minor));
-    }
-    assert!(rt; a.takes_effect(Severity::Major) && !a.takes_effect(Severity::Minor));
+    a.raise(Status::Soft, Severity::Minor);
+    let first = a;
+    a.raise(Status::Calc, Severity::Minor);
+    let wanted = alarms(Status::Soft, Severity::Minor);
+    let is_graver = [
+        a.takes_effect(Severity::Major),
+        a.takes_effect(Severity::Minor),
+    ];
+    assert!(rt; [first, a] == [wanted; 2]);
+    assert!(rt; is_graver == [true, false]);
     a.settle();
     assert!(rt; a == SETTLED);
 }
@@ -129,16 +128,15 @@ fn inherited_by_mode(rt: HostRuntime) {
     }
 }
 
-// A value, with the status that it raises and the LALM behind it.
-type Reached = (i64, Status, i64);
+// A value and the LALM before it, with the status that it raises and the LALM behind it.
+type Reached = (i64, i64, Status, i64);
 
-// Goes through values, each in a quiet record, from this LALM on.
-fn walk(rt: &impl Abort, limits: &Limits, first: i64, table: &[Reached]) {
-    let mut last = first;
-    for (value, status, wanted) in table {
+// Each value raises what it must in a quiet record.
+fn are_reached(rt: &impl Abort, limits: &Limits, table: &[Reached]) {
+    for (value, last, status, wanted) in table {
         let mut a = QUIET;
-        last = a.limits(*value, last, limits);
-        assert!(rt; a.new_status == *status && last == *wanted, "at {value}");
+        let found = a.limits(*value, *last, limits);
+        assert!(rt; a.new_status == *status && found == *wanted, "at {value}");
     }
 }
 
@@ -155,14 +153,14 @@ static HIGH_LIMIT: Limits = Limits {
 };
 
 static BELOW: [Reached; 3] = [
-    (10, Status::High, 10),
-    (9, Status::High, 10),
-    (7, Status::NoAlarm, 7),
+    (10, 0, Status::High, 10),
+    (9, 10, Status::High, 10),
+    (7, 10, Status::NoAlarm, 7),
 ];
 
 #[test]
 fn high_alarm_ends_below_hysteresis(rt: HostRuntime) {
-    walk(&rt, &HIGH_LIMIT, 0, &BELOW);
+    are_reached(&rt, &HIGH_LIMIT, &BELOW);
 }
 
 static LOW_LIMIT: Limits = Limits {
@@ -178,8 +176,8 @@ static LOW_LIMIT: Limits = Limits {
 };
 
 static FAR_BELOW: [Reached; 2] = [
-    (-2_000_000_000, Status::High, -2_000_000_000),
-    (-2_147_483_648, Status::High, -2_000_000_000),
+    (-2_000_000_000, 0, Status::High, -2_000_000_000),
+    (-2_147_483_648, -2_000_000_000, Status::High, -2_000_000_000),
 ];
 
 static LEAST_LIMIT: Limits = Limits {
@@ -194,12 +192,12 @@ static LEAST_LIMIT: Limits = Limits {
     hysteresis: i64::MAX,
 };
 
-static LEAST: [Reached; 1] = [(i64::MIN, Status::High, i64::MIN)];
+static LEAST: [Reached; 1] = [(i64::MIN, i64::MIN, Status::High, i64::MIN)];
 
 #[test]
 fn hysteresis_does_not_wrap(rt: HostRuntime) {
-    walk(&rt, &LOW_LIMIT, 0, &FAR_BELOW);
-    walk(&rt, &LEAST_LIMIT, i64::MIN, &LEAST);
+    are_reached(&rt, &LOW_LIMIT, &FAR_BELOW);
+    are_reached(&rt, &LEAST_LIMIT, &LEAST);
 }
 
 static FOUR_LIMITS: Limits = Limits {
@@ -214,22 +212,18 @@ static FOUR_LIMITS: Limits = Limits {
     hysteresis: 0,
 };
 
-static FIRST_REACHED: [(i64, Status); 6] = [
-    (25, Status::Hihi),
-    (20, Status::Hihi),
-    (15, Status::High),
-    (0, Status::NoAlarm),
-    (-10, Status::Low),
-    (-20, Status::Lolo),
+static FIRST_REACHED: [Reached; 6] = [
+    (25, 0, Status::Hihi, 20),
+    (20, 0, Status::Hihi, 20),
+    (15, 0, Status::High, 10),
+    (0, 0, Status::NoAlarm, 0),
+    (-10, 0, Status::Low, -10),
+    (-20, 0, Status::Lolo, -20),
 ];
 
 #[test]
 fn first_limit_is_raised(rt: HostRuntime) {
-    for (value, status) in &FIRST_REACHED {
-        let mut a = QUIET;
-        let _last = a.limits(*value, 0, &FOUR_LIMITS);
-        assert!(rt; a.new_status == *status, "at {value}");
-    }
+    are_reached(&rt, &FOUR_LIMITS, &FIRST_REACHED);
 }
 
 #[test]

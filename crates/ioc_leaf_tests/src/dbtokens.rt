@@ -33,28 +33,22 @@ fn are_tokens(rt: &(impl AllocGlobal + Abort), text: &[u8], table: &[Wanted]) ->
     Ok(())
 }
 
-const TEXT: &[u8] = b"\n a.b-1(\"x\\\"y\"\t,*)\n\n{\"\"} # c\n\"open\nrest";
-
-static TOKENS: [Wanted; 10] = [
-    (2, TokenKind::Word, b"a.b-1"),
-    (2, TokenKind::Sign(b'('), b""),
-    (2, TokenKind::Quoted, b"x\\\"y"),
-    (2, TokenKind::Sign(b','), b""),
-    (2, TokenKind::Sign(b'*'), b""),
-    (2, TokenKind::Sign(b')'), b""),
-    (4, TokenKind::Sign(b'{'), b""),
-    (4, TokenKind::Quoted, b""),
-    (4, TokenKind::Sign(b'}'), b""),
-    (5, TokenKind::Fault(BadDbKind::Unclosed), b""),
-];
-
-#[test]
-fn tokens_and_their_lines(rt: HostRuntime) -> Result<(), Fail> {
-    are_tokens(&rt, TEXT, &TOKENS)
-}
-
-// Texts whose only token is a fault.
-static FAULTS: [(&[u8], &[Wanted]); 3] = [
+static TEXTS: [(&[u8], &[Wanted]); 4] = [
+    (
+        b"\n a.b-1(\"x\\\"y\"\t,*)\n\n{\"\"} # c\n\"open\nrest",
+        &[
+            (2, TokenKind::Word, b"a.b-1"),
+            (2, TokenKind::Sign(b'('), b""),
+            (2, TokenKind::Quoted, b"x\\\"y"),
+            (2, TokenKind::Sign(b','), b""),
+            (2, TokenKind::Sign(b'*'), b""),
+            (2, TokenKind::Sign(b')'), b""),
+            (4, TokenKind::Sign(b'{'), b""),
+            (4, TokenKind::Quoted, b""),
+            (4, TokenKind::Sign(b'}'), b""),
+            (5, TokenKind::Fault(BadDbKind::Unclosed), b""),
+        ],
+    ),
     (
         b"\n\n ? a",
         &[(3, TokenKind::Fault(BadDbKind::Syntax), b"")],
@@ -69,9 +63,10 @@ static FAULTS: [(&[u8], &[Wanted]); 3] = [
     ),
 ];
 
+// A fault is the last token.
 #[test]
-fn last_tokens(rt: HostRuntime) -> Result<(), Fail> {
-    for (text, wanted) in &FAULTS {
+fn tokens_and_their_lines(rt: HostRuntime) -> Result<(), Fail> {
+    for (text, wanted) in &TEXTS {
         are_tokens(&rt, text, wanted)?;
     }
     Ok(())

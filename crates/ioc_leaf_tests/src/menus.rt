@@ -53,10 +53,6 @@ fn numbers_of_choices(rt: HostRuntime) {
         Selm::Mask.number(),
     ];
     assert!(rt; numbers == [3, 17, 9, 0, 1, 0, 1, 2]);
-}
-
-#[test]
-fn choices_of_numbers(rt: HostRuntime) {
     let held = [
         Severity::from_number(1) == Some(Severity::Minor),
         Status::from_number(22) == None,

@@ -48,61 +48,141 @@ fn made(wanted: Option<Given>) -> Result<Value, IocError> {
     }
 }
 
-// A text, and what it makes in a field of numbers, where it isn't refused.
-type Read = (&'static str, Range, Option<Given>);
+/// A field.
+#[derive(Clone, Copy)]
+enum Field {
+    Number(Range),
+    Text,
+    Menu,
+    State,
+}
 
-fn are_read(rt: &impl Abort, table: &[Read]) {
-    for (bytes, range, wanted) in table {
-        let found = convert(text(bytes.as_bytes()), Kind::Number(*range));
-        assert!(rt; found == made(*wanted), "{bytes}");
+fn kind(field: Field, states: &[Text]) -> Kind<'_> {
+    match field {
+        Field::Number(range) => Kind::Number(range),
+        Field::Text => Kind::Text,
+        Field::Menu => Kind::Menu(&STOP_GO),
+        Field::State => Kind::State(states),
     }
 }
 
-static ENDS: [Read; 17] = [
-    ("2147483647", Range::Long, Some(Given::Long(2147483647))),
-    ("-2147483648", Range::Long, Some(Given::Long(-2147483648))),
-    ("2147483648", Range::Long, None),
-    ("-2147483649", Range::Long, None),
-    ("4294967295", Range::ULong, Some(Given::ULong(4294967295))),
-    ("4294967296", Range::ULong, None),
-    ("-1", Range::ULong, None),
-    ("32767", Range::Short, Some(Given::Short(32767))),
-    ("-32768", Range::Short, Some(Given::Short(-32768))),
-    ("32768", Range::Short, None),
-    ("-32769", Range::Short, None),
-    ("65535", Range::UShort, Some(Given::UShort(65535))),
-    ("65536", Range::UShort, None),
-    ("255", Range::UChar, Some(Given::UChar(255))),
-    ("256", Range::UChar, None),
-    ("65535", Range::Enum, Some(Given::Enum(65535))),
-    ("65536", Range::Enum, None),
+// A value, and what it makes in a field, where that doesn't refuse it.
+type Converted = (Given, Field, Option<Given>);
+
+fn are_converted(rt: &impl Abort, states: &[Text], table: &[Converted]) {
+    let mut row = 0u64;
+    for (given, field, wanted) in table {
+        let found = convert(value(*given), kind(*field, states));
+        assert!(rt; found == made(*wanted), "row {row}, counted from 0");
+        row = row.saturating_add(1);
+    }
+}
+
+static ENDS: [Converted; 17] = [
+    (
+        Given::Text("2147483647"),
+        Field::Number(Range::Long),
+        Some(Given::Long(2147483647)),
+    ),
+    (
+        Given::Text("-2147483648"),
+        Field::Number(Range::Long),
+        Some(Given::Long(-2147483648)),
+    ),
+    (Given::Text("2147483648"), Field::Number(Range::Long), None),
+    (Given::Text("-2147483649"), Field::Number(Range::Long), None),
+    (
+        Given::Text("4294967295"),
+        Field::Number(Range::ULong),
+        Some(Given::ULong(4294967295)),
+    ),
+    (Given::Text("4294967296"), Field::Number(Range::ULong), None),
+    (Given::Text("-1"), Field::Number(Range::ULong), None),
+    (
+        Given::Text("32767"),
+        Field::Number(Range::Short),
+        Some(Given::Short(32767)),
+    ),
+    (
+        Given::Text("-32768"),
+        Field::Number(Range::Short),
+        Some(Given::Short(-32768)),
+    ),
+    (Given::Text("32768"), Field::Number(Range::Short), None),
+    (Given::Text("-32769"), Field::Number(Range::Short), None),
+    (
+        Given::Text("65535"),
+        Field::Number(Range::UShort),
+        Some(Given::UShort(65535)),
+    ),
+    (Given::Text("65536"), Field::Number(Range::UShort), None),
+    (
+        Given::Text("255"),
+        Field::Number(Range::UChar),
+        Some(Given::UChar(255)),
+    ),
+    (Given::Text("256"), Field::Number(Range::UChar), None),
+    (
+        Given::Text("65535"),
+        Field::Number(Range::Enum),
+        Some(Given::Enum(65535)),
+    ),
+    (Given::Text("65536"), Field::Number(Range::Enum), None),
 ];
 
 #[test]
 fn texts_at_the_ends_of_every_range(rt: HostRuntime) {
-    are_read(&rt, &ENDS);
+    are_converted(&rt, &[], &ENDS);
 }
 
-static SPELLINGS: [Read; 14] = [
-    ("+5", Range::Long, Some(Given::Long(5))),
-    ("-0x10", Range::Long, Some(Given::Long(-16))),
-    (" 7 ", Range::Long, Some(Given::Long(7))),
-    ("0xfF", Range::UChar, Some(Given::UChar(255))),
-    ("007", Range::UChar, Some(Given::UChar(7))),
-    ("-0", Range::ULong, Some(Given::ULong(0))),
-    ("1x", Range::Long, None),
-    ("", Range::Long, None),
-    ("0x", Range::Long, None),
-    ("0X1", Range::Long, None),
-    ("+-1", Range::Long, None),
-    ("1 2", Range::Long, None),
-    ("\t7", Range::Long, None),
-    ("9223372036854775808", Range::Long, None),
+static SPELLINGS: [Converted; 14] = [
+    (
+        Given::Text("+5"),
+        Field::Number(Range::Long),
+        Some(Given::Long(5)),
+    ),
+    (
+        Given::Text("-0x10"),
+        Field::Number(Range::Long),
+        Some(Given::Long(-16)),
+    ),
+    (
+        Given::Text(" 7 "),
+        Field::Number(Range::Long),
+        Some(Given::Long(7)),
+    ),
+    (
+        Given::Text("0xfF"),
+        Field::Number(Range::UChar),
+        Some(Given::UChar(255)),
+    ),
+    (
+        Given::Text("007"),
+        Field::Number(Range::UChar),
+        Some(Given::UChar(7)),
+    ),
+    (
+        Given::Text("-0"),
+        Field::Number(Range::ULong),
+        Some(Given::ULong(0)),
+    ),
+    (Given::Text("1x"), Field::Number(Range::Long), None),
+    (Given::Text(""), Field::Number(Range::Long), None),
+    (Given::Text("0x"), Field::Number(Range::Long), None),
+    (Given::Text("0X1"), Field::Number(Range::Long), None),
+    (Given::Text("+-1"), Field::Number(Range::Long), None),
+    (Given::Text("1 2"), Field::Number(Range::Long), None),
+    (Given::Text("\t7"), Field::Number(Range::Long), None),
+    (
+        Given::Text("9223372036854775808"),
+        Field::Number(Range::Long),
+        None,
+    ),
 ];
 
 #[test]
 fn spellings_of_numbers(rt: HostRuntime) {
-    are_read(&rt, &SPELLINGS);
+    are_converted(&rt, &[], &SPELLINGS);
     let held = [
         number(b" -9223372036854775808 ") == Some(i64::MIN),
         signed(b"9223372036854775808").is_none(),
@@ -114,83 +194,61 @@ fn spellings_of_numbers(rt: HostRuntime) {
     assert!(rt; held == [true; 6], "{held:?}");
 }
 
-// A value, and what it makes in a field, where it isn't refused.
-type Converted = (Given, Option<Given>);
-
-fn are_converted(rt: &impl Abort, kind: Kind<'_>, table: &[Converted]) {
-    let mut row = 0u64;
-    for (given, wanted) in table {
-        let found = convert(value(*given), kind);
-        assert!(rt; found == made(*wanted), "row {row}, counted from 0");
-        row = row.saturating_add(1);
-    }
-}
-
-static NUMBER_TO_ULONG: [Converted; 2] = [
-    (Given::Long(-1), None),
-    (Given::ULong(4294967295), Some(Given::ULong(4294967295))),
-];
-
-static NUMBER_TO_TEXT: [Converted; 2] = [
-    (Given::Long(-2147483648), Some(Given::Text("-2147483648"))),
-    (Given::UChar(0), Some(Given::Text("0"))),
-];
-
-static NUMBER_TO_MENU: [Converted; 2] = [
-    (Given::Short(1), Some(Given::Enum(1))),
-    (Given::UShort(2), None),
-];
-
-static NUMBER_TO_STATE: [Converted; 2] = [
-    (Given::Enum(65535), Some(Given::Enum(65535))),
-    (Given::Long(65536), None),
+static NUMBERS: [Converted; 8] = [
+    (Given::Long(-1), Field::Number(Range::ULong), None),
+    (
+        Given::ULong(4294967295),
+        Field::Number(Range::ULong),
+        Some(Given::ULong(4294967295)),
+    ),
+    (
+        Given::Long(-2147483648),
+        Field::Text,
+        Some(Given::Text("-2147483648")),
+    ),
+    (Given::UChar(0), Field::Text, Some(Given::Text("0"))),
+    (Given::Short(1), Field::Menu, Some(Given::Enum(1))),
+    (Given::UShort(2), Field::Menu, None),
+    (Given::Enum(65535), Field::State, Some(Given::Enum(65535))),
+    (Given::Long(65536), Field::State, None),
 ];
 
 #[test]
 fn numbers_into_fields(rt: HostRuntime) {
-    are_converted(&rt, Kind::Number(Range::ULong), &NUMBER_TO_ULONG);
-    are_converted(&rt, Kind::Text, &NUMBER_TO_TEXT);
-    are_converted(&rt, Kind::Menu(&STOP_GO), &NUMBER_TO_MENU);
     let states = [Text::cut(b"off"), Text::new()];
-    are_converted(&rt, Kind::State(&states), &NUMBER_TO_STATE);
+    are_converted(&rt, &states, &NUMBERS);
     let numbers = [Value::Long(-7).number(), text(b"7").number()];
     assert!(rt; numbers == [Some(-7), None]);
 }
 
-static TEXT_TO_TEXT: [Converted; 1] = [(Given::Text(" a "), Some(Given::Text(" a ")))];
-
-static TEXT_TO_MENU: [Converted; 4] = [
-    (Given::Text("GO"), Some(Given::Enum(1))),
-    (Given::Text(" 1"), Some(Given::Enum(1))),
-    (Given::Text("go"), None),
-    (Given::Text("2"), None),
-];
-
-static TEXT_TO_STATE: [Converted; 4] = [
-    (Given::Text("off"), Some(Given::Enum(0))),
-    (Given::Text("0"), Some(Given::Enum(1))),
-    (Given::Text("1"), Some(Given::Enum(1))),
-    (Given::Text("2"), None),
+static TEXTS: [Converted; 9] = [
+    (Given::Text(" a "), Field::Text, Some(Given::Text(" a "))),
+    (Given::Text("GO"), Field::Menu, Some(Given::Enum(1))),
+    (Given::Text(" 1"), Field::Menu, Some(Given::Enum(1))),
+    (Given::Text("go"), Field::Menu, None),
+    (Given::Text("2"), Field::Menu, None),
+    (Given::Text("off"), Field::State, Some(Given::Enum(0))),
+    (Given::Text("0"), Field::State, Some(Given::Enum(1))),
+    (Given::Text("1"), Field::State, Some(Given::Enum(1))),
+    (Given::Text("2"), Field::State, None),
 ];
 
 #[test]
 fn texts_into_fields(rt: HostRuntime) {
-    are_converted(&rt, Kind::Text, &TEXT_TO_TEXT);
-    are_converted(&rt, Kind::Menu(&STOP_GO), &TEXT_TO_MENU);
     let states = [Text::cut(b"off"), Text::cut(b"0")];
-    are_converted(&rt, Kind::State(&states), &TEXT_TO_STATE);
+    are_converted(&rt, &states, &TEXTS);
 }
 
-static TEXT_TO_UNNAMED: [Converted; 3] = [
-    (Given::Text(""), None),
-    (Given::Text("15"), Some(Given::Enum(15))),
-    (Given::Text("16"), None),
+static UNNAMED: [Converted; 3] = [
+    (Given::Text(""), Field::State, None),
+    (Given::Text("15"), Field::State, Some(Given::Enum(15))),
+    (Given::Text("16"), Field::State, None),
 ];
 
 #[test]
 fn texts_into_unnamed_states(rt: HostRuntime) {
     let states = [Text::new(); 16];
-    are_converted(&rt, Kind::State(&states), &TEXT_TO_UNNAMED);
+    are_converted(&rt, &states, &UNNAMED);
 }
 
 static ZEROS: [u8; 40] = [b'0'; 40];
