@@ -1,8 +1,7 @@
 //! Lines and their texts, on examples of the database grammar.
 use ioc_dbtext::lines::line_text;
 use ioc_dbtext::{End, expand};
-use std::alloc::{AllocError, Global};
-use std::test::Fail;
+use std::alloc::Global;
 
 static LINES: [(&[u8], Option<&[u8]>); 12] = [
     (b"", Some(b"")),
@@ -67,19 +66,20 @@ static EXPANSIONS: [Expansion; 5] = [
     },
 ];
 
-fn is_expanded(alloc: Global, wanted: &Expansion) -> Result<bool, AllocError> {
-    let texts = expand(alloc, wanted.text)?;
-    Ok(
-        texts.bytes.as_slice() == wanted.bytes
-            && texts.lengths.as_slice() == wanted.lengths
-            && texts.end == wanted.end,
-    )
+fn is_expanded(alloc: Global, wanted: &Expansion) -> bool {
+    match expand(alloc, wanted.text) {
+        Ok(texts) => {
+            texts.bytes.as_slice() == wanted.bytes
+                && texts.lengths.as_slice() == wanted.lengths
+                && texts.end == wanted.end
+        }
+        Err(_) => false,
+    }
 }
 
 #[test]
-fn texts_of_a_text(rt: HostRuntime) -> Result<(), Fail> {
+fn texts_of_a_text(rt: HostRuntime) {
     for wanted in &EXPANSIONS {
-        assert!(rt; is_expanded(rt.alloc(), wanted)?);
+        assert!(rt; is_expanded(rt.alloc(), wanted), "{:?}", wanted.text);
     }
-    Ok(())
 }

@@ -68,5 +68,5 @@ fn long_texts_and_devices(rt: HostRuntime) {
         !is_record_name(b"a.b"),
         is_record_name(b"!{@}~"),
     ];
-    assert!(rt; held == [true; 8], "{held:?}");
+    assert!(rt; held == [true; 8]);
 }

@@ -63,5 +63,5 @@ fn numbers_of_choices(rt: HostRuntime) {
         Ivoa::from_number(2) == Some(Ivoa::SetOutputToIvov),
         Selm::from_number(1) == Some(Selm::Specified),
     ];
-    assert!(rt; held == [true; 8], "{held:?}");
+    assert!(rt; held == [true; 8]);
 }

@@ -1,9 +1,7 @@
 //! Names of records, and their numbers.
 use ioc_names::*;
 use ioc_values::Name;
-use std::alloc::AllocError;
 use std::process::Abort;
-use std::test::Fail;
 
 /// A step of a test, with what must come of it.
 #[derive(Clone, Copy)]
@@ -21,42 +19,40 @@ enum Step<'a> {
 }
 
 // Adds a record, where its name is free and a number is left.
-fn add(names: &mut Names, name: Name) -> Result<Option<RecordNo>, AllocError> {
+fn add(names: &mut Names, name: Name) -> Option<RecordNo> {
     if names.len() == usize::MAX || names.find(name.as_slice()).is_some() {
-        return Ok(None);
+        return None;
     }
-    Ok(Some(names.add(name)?))
+    names.add(name).ok()
 }
 
 // Gives a record a second name, where that is free and there is the record.
-fn alias(names: &mut Names, number: RecordNo, name: Name) -> Result<bool, AllocError> {
+fn alias(names: &mut Names, number: RecordNo, name: Name) -> bool {
     if names.len() <= number.index() || names.find(name.as_slice()).is_some() {
-        return Ok(false);
+        return false;
     }
-    names.alias(number, name)?;
-    Ok(true)
+    names.alias(number, name).is_ok()
 }
 
 // Does what the step says, and tells whether that came of it which must.
-fn holds(names: &mut Names, step: &Step<'_>) -> Result<bool, AllocError> {
-    Ok(match step {
+fn holds(names: &mut Names, step: &Step<'_>) -> bool {
+    match step {
         Step::Counts(count) => names.len() == *count && names.is_empty() == (*count == 0),
         Step::Misses(name) => names.find(name).is_none(),
         Step::Finds(name, number) => names.find(name) == Some(RecordNo::new(*number)),
-        Step::Adds(name, number) => add(names, Name::cut(name))? == Some(RecordNo::new(*number)),
-        Step::Aliases(name, number) => alias(names, RecordNo::new(*number), Name::cut(name))?,
-    })
+        Step::Adds(name, number) => add(names, Name::cut(name)) == Some(RecordNo::new(*number)),
+        Step::Aliases(name, number) => alias(names, RecordNo::new(*number), Name::cut(name)),
+    }
 }
 
 // Goes through steps, from no records on.
-fn follow(rt: &(impl AllocGlobal + Abort), steps: &[Step<'_>]) -> Result<(), Fail> {
+fn follow(rt: &(impl AllocGlobal + Abort), steps: &[Step<'_>]) {
     let mut names = Names::new(rt.alloc());
     let mut number = 0u64;
     for step in steps {
-        assert!(rt; holds(&mut names, step)?, "step {number}, counted from 0");
+        assert!(rt; holds(&mut names, step), "step {number}, counted from 0");
         number = number.saturating_add(1);
     }
-    Ok(())
 }
 
 static RECORDS: [Step<'static>; 12] = [
@@ -75,8 +71,8 @@ static RECORDS: [Step<'static>; 12] = [
 ];
 
 #[test]
-fn records_are_numbered_in_load_order(rt: HostRuntime) -> Result<(), Fail> {
-    follow(&rt, &RECORDS)
+fn records_are_numbered_in_load_order(rt: HostRuntime) {
+    follow(&rt, &RECORDS);
 }
 
 static ALIAS: [Step<'static>; 7] = [
@@ -90,14 +86,14 @@ static ALIAS: [Step<'static>; 7] = [
 ];
 
 #[test]
-fn alias_has_its_records_number(rt: HostRuntime) -> Result<(), Fail> {
-    follow(&rt, &ALIAS)
+fn alias_has_its_records_number(rt: HostRuntime) {
+    follow(&rt, &ALIAS);
 }
 
 static LONG: [u8; 61] = [120; 61];
 
 #[test]
-fn long_names_are_not_found(rt: HostRuntime) -> Result<(), Fail> {
+fn long_names_are_not_found(rt: HostRuntime) {
     let cut = &LONG[..60];
     let steps = [
         Step::Misses(cut),
@@ -105,5 +101,5 @@ fn long_names_are_not_found(rt: HostRuntime) -> Result<(), Fail> {
         Step::Finds(cut, 0),
         Step::Misses(&LONG),
     ];
-    follow(&rt, &steps)
+    follow(&rt, &steps);
 }
