@@ -1,5 +1,5 @@
 -- The alarms of limits. Record Reference Manual, "Alarm Parameters" of longin and longout.
-use Rattle.std.specs.Prelude.{ℤ, ◌+ℤ◌, ◌-ℤ◌, ◌≤ℤ◌, int_le, Bool, ◌&&◌, ◌||◌, if◌then◌else◌, Option, Some, None, List, [], ◌∷◌}
+use Rattle.std.specs.Prelude.{ℤ, ◌+ℤ◌, ◌-ℤ◌, int_le, Bool, ◌&&◌, ◌||◌, if◌then◌else◌, Option, Some, None, List, [], ◌∷◌}
 use Rattle.std.specs.Ordering.{int_eq}
 use Rattle.ioc_menus.specs.declared.status.Status.TheVariants.{Hihi, Lolo, High, Low}
 use Rattle.ioc_alarms.specs.declared.alarms.Alarms.{Alarms}
@@ -17,41 +17,35 @@ unfoldable pub is_low : ℤ → ℤ → ℤ → ℤ → Bool
 is_low limit hysteresis value last = int_le value limit || (int_eq last limit && int_le value (limit +ℤ hysteresis))
 
 -- the first whose test holds
-abbrev pub first_that_holds : List (Bool × ReachedLimit) → Option ReachedLimit
+abbrev pub first_that_holds : {N : Type 0} → List (Bool × ReachedLimit N) → Option (ReachedLimit N)
 first_that_holds [] = None
 first_that_holds (c ∷ cs) = if c.0 then Some c.1 else first_that_holds cs
 
+-- a limit's test, at a value and LALM; `whole` is the whole number of a value
+abbrev pub high_holds : {N : Type 0} → (N → ℤ) → Limits N → N → N → N → Bool
+high_holds whole l value last limit = is_high (whole limit) (whole l.hysteresis) (whole value) (whole last)
+
+abbrev pub low_holds : {N : Type 0} → (N → ℤ) → Limits N → N → N → N → Bool
+low_holds whole l value last limit = is_low (whole limit) (whole l.hysteresis) (whole value) (whole last)
+
 -- the limits in the order in which they are tested, each with its test
-abbrev pub limit_tests : ℤ → ℤ → Limits → List (Bool × ReachedLimit)
-limit_tests value last l =
-    (is_alarm l.hihi_severity && is_high l.hihi l.hysteresis value last, record { status = Hihi; severity = l.hihi_severity; limit = l.hihi })
-    ∷ (is_alarm l.lolo_severity && is_low l.lolo l.hysteresis value last, record { status = Lolo; severity = l.lolo_severity; limit = l.lolo })
-    ∷ (is_alarm l.high_severity && is_high l.high l.hysteresis value last, record { status = High; severity = l.high_severity; limit = l.high })
-    ∷ (is_alarm l.low_severity && is_low l.low l.hysteresis value last, record { status = Low; severity = l.low_severity; limit = l.low })
+abbrev pub limit_tests : {N : Type 0} → (N → ℤ) → N → N → Limits N → List (Bool × ReachedLimit N)
+limit_tests whole value last l =
+    (is_alarm l.hihi_severity && high_holds whole l value last l.hihi, record { status = Hihi; severity = l.hihi_severity; limit = l.hihi })
+    ∷ (is_alarm l.lolo_severity && low_holds whole l value last l.lolo, record { status = Lolo; severity = l.lolo_severity; limit = l.lolo })
+    ∷ (is_alarm l.high_severity && high_holds whole l value last l.high, record { status = High; severity = l.high_severity; limit = l.high })
+    ∷ (is_alarm l.low_severity && low_holds whole l value last l.low, record { status = Low; severity = l.low_severity; limit = l.low })
     ∷ []
 
 -- the limit that is reached, if one is
-unfoldable pub first_reached : ℤ → ℤ → Limits → Option ReachedLimit
-first_reached value last l = first_that_holds (limit_tests value last l)
+unfoldable pub first_reached : {N : Type 0} → (N → ℤ) → N → N → Limits N → Option (ReachedLimit N)
+first_reached whole value last l = first_that_holds (limit_tests whole value last l)
 
 -- with the alarm of a limit that is reached raised: LALM becomes the limit where the alarm took effect, else it stays. Where no limit is reached LALM becomes the value
-abbrev pub limited_by : ℤ → ℤ → Option ReachedLimit → Alarms → Alarms × ℤ
+abbrev pub limited_by : {N : Type 0} → N → N → Option (ReachedLimit N) → Alarms → Alarms × N
 limited_by value last None a = (a, value)
 limited_by value last (Some r) a = (raised r.status r.severity a, if takes_effect r.severity a then r.limit else last)
 
 -- the alarms and LALM once the limits are tested, at a value and LALM
-unfoldable pub limited : ℤ → ℤ → Limits → Alarms → Alarms × ℤ
-limited value last l a = limited_by value last (first_reached value last l) a
-
--- between two numbers
-abbrev pub IsBetween : ℤ → ℤ → ℤ → Type 0
-IsBetween lowest highest n = (lowest ≤ℤ n) × (n ≤ℤ highest)
-
--- the value, LALM and the four limits are between two numbers
-pub record AreBetween (lowest highest value last : ℤ) (l : Limits) : Type 0 where
-  pub of_value : IsBetween lowest highest value
-  pub of_last : IsBetween lowest highest last
-  pub of_hihi : IsBetween lowest highest l.hihi
-  pub of_lolo : IsBetween lowest highest l.lolo
-  pub of_high : IsBetween lowest highest l.high
-  pub of_low : IsBetween lowest highest l.low
+unfoldable pub limited : {N : Type 0} → (N → ℤ) → N → N → Limits N → Alarms → Alarms × N
+limited whole value last l a = limited_by value last (first_reached whole value last l) a

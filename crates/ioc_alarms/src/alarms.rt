@@ -1,7 +1,7 @@
 //! The alarm fields of a record, and the steps on them.
-ghost use Rattle.std.specs.Prelude.{◌≡◌, ℤ};
+ghost use Rattle.std.specs.Prelude.{◌≡◌};
 
-use crate::limits::Limits;
+use crate::limits::{Limits, WholeNumber};
 use ioc_links::Mode;
 use ioc_menus::{Severity, Status};
 
@@ -17,7 +17,7 @@ pub struct Alarms {
 #[tactic(auto, unfolding(crate::specs::Alarms::raised, crate::specs::Alarms::settled, crate::specs::Alarms::inherited, crate::specs::Limits::limited))]
 impl Alarms {
     ghost use Rattle.ioc_alarms.specs.Alarms.{takes_effect, raised, settled, inherited};
-    ghost use Rattle.ioc_alarms.specs.Limits.{limited, AreBetween, IsBetween};
+    ghost use Rattle.ioc_alarms.specs.Limits.{limited};
 
     /// Would an alarm of this severity take effect if it were raised?
     pub fn takes_effect(&self, severity: Severity) -> bool
@@ -67,10 +67,9 @@ impl Alarms {
     /// Raises the alarm of the first limit that a value has reached, in the order HIHI, LOLO, HIGH,
     /// LOW, and gives the new LALM: the limit where the alarm took effect, else LALM as it was; the
     /// value where no limit is reached. Record Reference Manual, "Alarm Parameters" of longin.
-    pub fn limits(&mut self, value: i64, last_alarmed: i64, limits: &Limits) -> i64
-        ensures alarms { self.new ≡ (limited value last_alarmed limits.now self.old).0 }
-        ensures last_alarmed { result ≡ (limited value last_alarmed limits.now self.old).1 }
-        ensures range { (lowest highest : ℤ) → AreBetween lowest highest value last_alarmed limits.now → IsBetween lowest highest result }
+    pub fn limits<N: WholeNumber>(&mut self, value: N, last_alarmed: N, limits: &Limits<N>) -> N
+        ensures alarms { self.new ≡ (limited N.whole value last_alarmed limits.now self.old).0 }
+        ensures last_alarmed { result ≡ (limited N.whole value last_alarmed limits.now self.old).1 }
     {
         let Some(reached) = limits.first_reached(value, last_alarmed) else {
             return value;

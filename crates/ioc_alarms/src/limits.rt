@@ -1,21 +1,46 @@
 //! The limits of a value.
-ghost use Rattle.std.specs.Prelude.{◌≡◌, ◌-ℤ◌, ◌+ℤ◌, int_le};
+ghost use Rattle.std.specs.Prelude.{◌≡◌, ℤ, ◌-ℤ◌, ◌+ℤ◌, int_le};
 ghost use Rattle.ioc_alarms.specs.Severities.{is_alarm};
 
 use ioc_menus::{Severity, Status};
 
+/// A number of a record's value and limits: its whole number is of 64 bits at most.
+pub trait WholeNumber: Copy {
+    ghost whole: { Self → ℤ };
+
+    /// The number, in 64 bits.
+    fn wide(self) -> i64
+        ensures { result ≡ whole self };
+}
+
+impl WholeNumber for i32 {
+    ghost whole = { λ z. z };
+
+    fn wide(self) -> i64 {
+        i64::from(self)
+    }
+}
+
+impl WholeNumber for i64 {
+    ghost whole = { λ z. z };
+
+    fn wide(self) -> i64 {
+        self
+    }
+}
+
 /// The limits of a value, the severity of each one's alarm, and how far a value must come back
 /// from a limit until its alarm ends. A limit whose severity is NO_ALARM isn't tested.
 #[derive(Clone, Copy, PartialEq, Eq, Debug)]
-pub struct Limits {
+pub struct Limits<N> {
     /// HIHI.
-    pub hihi: i64,
+    pub hihi: N,
     /// LOLO.
-    pub lolo: i64,
+    pub lolo: N,
     /// HIGH.
-    pub high: i64,
+    pub high: N,
     /// LOW.
-    pub low: i64,
+    pub low: N,
     /// HHSV.
     pub hihi_severity: Severity,
     /// LLSV.
@@ -25,39 +50,43 @@ pub struct Limits {
     /// LSV.
     pub low_severity: Severity,
     /// HYST. A negative one is taken as it stands.
-    pub hysteresis: i64,
+    pub hysteresis: N,
 }
 
 /// A limit that a value has reached, and the alarm that it raises.
 #[derive(Clone, Copy, PartialEq, Eq, Debug)]
-pub struct ReachedLimit {
+pub struct ReachedLimit<N> {
     pub status: Status,
     pub severity: Severity,
-    pub limit: i64,
+    pub limit: N,
 }
 
 #[tactic(auto, unfolding(crate::specs::Limits::is_high, crate::specs::Limits::is_low))]
-impl Limits {
+impl<N: WholeNumber> Limits<N> {
     ghost use Rattle.ioc_alarms.specs.Limits.{is_high, is_low, first_reached};
 
     // Does a high limit hold?
-    fn is_high(&self, limit: i64, value: i64, last_alarmed: i64) -> bool
-        ensures { result ≡ is_high limit self.now.hysteresis value last_alarmed }
+    fn is_high(&self, limit: N, value: N, last_alarmed: N) -> bool
+        ensures { result ≡ is_high (N.whole limit) (N.whole self.now.hysteresis) (N.whole value) (N.whole last_alarmed) }
     {
-        value >= limit || (last_alarmed == limit && is_from_below(limit, self.hysteresis, value))
+        let (limit, value) = (limit.wide(), value.wide());
+        let is_last = last_alarmed.wide() == limit;
+        value >= limit || (is_last && is_from_below(limit, self.hysteresis.wide(), value))
     }
 
     // Does a low limit hold?
-    fn is_low(&self, limit: i64, value: i64, last_alarmed: i64) -> bool
-        ensures { result ≡ is_low limit self.now.hysteresis value last_alarmed }
+    fn is_low(&self, limit: N, value: N, last_alarmed: N) -> bool
+        ensures { result ≡ is_low (N.whole limit) (N.whole self.now.hysteresis) (N.whole value) (N.whole last_alarmed) }
     {
-        value <= limit || (last_alarmed == limit && is_to_above(limit, self.hysteresis, value))
+        let (limit, value) = (limit.wide(), value.wide());
+        let is_last = last_alarmed.wide() == limit;
+        value <= limit || (is_last && is_to_above(limit, self.hysteresis.wide(), value))
     }
 
     /// The first limit that holds, in the order HIHI, LOLO, HIGH, LOW.
     #[tactic(auto, unfolding(crate::specs::Limits::first_reached))]
-    pub fn first_reached(&self, value: i64, last_alarmed: i64) -> Option<ReachedLimit>
-        ensures { result ≡ first_reached value last_alarmed self.now }
+    pub fn first_reached(&self, value: N, last_alarmed: N) -> Option<ReachedLimit<N>>
+        ensures { result ≡ first_reached N.whole value last_alarmed self.now }
     {
         if is_alarm(self.hihi_severity) && self.is_high(self.hihi, value, last_alarmed) {
             return Some(ReachedLimit {

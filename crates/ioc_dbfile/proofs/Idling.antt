@@ -27,8 +27,8 @@ use Rattle.ioc_process.specs.OneMap.{world_of}
 use Rattle.ioc_process.specs.OneMapLaws.{get-numbered}
 use Rattle.ioc_process.specs.World.{at, common_at}
 use Rattle.ioc_process.specs.Rules.{IsQuiet}
-use Rattle.ioc_dbfile.specs.Finished.{with_standing, leads_to, linked, linked_all, finished}
-use Rattle.ioc_dbfile.specs.Loader.{Loading, set_at}
+use Rattle.ioc_dbfile.specs.Finished.{with_standing, linked, linked_all, finished}
+use Rattle.ioc_dbfile.specs.Loader.{set_at}
 use Rattle.ioc_dbfile.specs.Idle.{IsIdle, AllIdle}
 
 module _ {R : Type 0} (k : RecordRules R) where

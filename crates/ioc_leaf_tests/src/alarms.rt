@@ -132,7 +132,7 @@ fn inherited_by_mode(rt: HostRuntime) {
 type Reached = (i64, i64, Status, i64);
 
 // Each value raises what it must in a quiet record.
-fn are_reached(rt: &impl Abort, limits: &Limits, table: &[Reached]) {
+fn are_reached(rt: &impl Abort, limits: &Limits<i64>, table: &[Reached]) {
     for (value, last, status, wanted) in table {
         let mut a = QUIET;
         let found = a.limits(*value, *last, limits);
@@ -140,7 +140,7 @@ fn are_reached(rt: &impl Abort, limits: &Limits, table: &[Reached]) {
     }
 }
 
-static HIGH_LIMIT: Limits = Limits {
+static HIGH_LIMIT: Limits<i64> = Limits {
     hihi: 0,
     lolo: 0,
     high: 10,
@@ -163,7 +163,7 @@ fn high_alarm_ends_below_hysteresis(rt: HostRuntime) {
     are_reached(&rt, &HIGH_LIMIT, &BELOW);
 }
 
-static LOW_LIMIT: Limits = Limits {
+static LOW_LIMIT: Limits<i64> = Limits {
     hihi: 0,
     lolo: 0,
     high: -2_000_000_000,
@@ -180,7 +180,7 @@ static FAR_BELOW: [Reached; 2] = [
     (-2_147_483_648, -2_000_000_000, Status::High, -2_000_000_000),
 ];
 
-static LEAST_LIMIT: Limits = Limits {
+static LEAST_LIMIT: Limits<i64> = Limits {
     hihi: 0,
     lolo: 0,
     high: i64::MIN,
@@ -200,7 +200,7 @@ fn hysteresis_does_not_wrap(rt: HostRuntime) {
     are_reached(&rt, &LEAST_LIMIT, &LEAST);
 }
 
-static FOUR_LIMITS: Limits = Limits {
+static FOUR_LIMITS: Limits<i64> = Limits {
     hihi: 20,
     lolo: -20,
     high: 10,

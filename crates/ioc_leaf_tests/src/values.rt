@@ -24,6 +24,7 @@ enum Given {
     UShort(u16),
     UChar(u8),
     Enum(u16),
+    Int64(i64),
     Text(&'static str),
 }
 
@@ -35,6 +36,7 @@ fn value(given: Given) -> Value {
         Given::UShort(number) => Value::UShort(number),
         Given::UChar(number) => Value::UChar(number),
         Given::Enum(number) => Value::Enum(number),
+        Given::Int64(number) => Value::Int64(number),
         Given::Text(bytes) => text(bytes.as_bytes()),
     }
 }
@@ -77,7 +79,7 @@ fn are_converted(rt: &impl Abort, states: &[Text], table: &[Converted]) {
     }
 }
 
-static ENDS: [Converted; 17] = [
+static ENDS: [Converted; 30] = [
     (
         Given::Text("2147483647"),
         Field::Number(Range::Long),
@@ -127,6 +129,51 @@ static ENDS: [Converted; 17] = [
         Some(Given::Enum(65535)),
     ),
     (Given::Text("65536"), Field::Number(Range::Enum), None),
+    (
+        Given::Text("9223372036854775807"),
+        Field::Number(Range::Int64),
+        Some(Given::Int64(9223372036854775807)),
+    ),
+    (
+        Given::Text("-9223372036854775808"),
+        Field::Number(Range::Int64),
+        Some(Given::Int64(-9223372036854775808)),
+    ),
+    (
+        Given::Text("9223372036854775808"),
+        Field::Number(Range::Int64),
+        None,
+    ),
+    (
+        Given::Text("-9223372036854775809"),
+        Field::Number(Range::Int64),
+        None,
+    ),
+    (
+        Given::Long(-5),
+        Field::Number(Range::Int64),
+        Some(Given::Int64(-5)),
+    ),
+    (
+        Given::Int64(2147483647),
+        Field::Number(Range::Long),
+        Some(Given::Long(2147483647)),
+    ),
+    (Given::Int64(2147483648), Field::Number(Range::Long), None),
+    (Given::Int64(-7), Field::Text, Some(Given::Text("-7"))),
+    (
+        Given::Text("0"),
+        Field::Number(Range::Zero),
+        Some(Given::Short(0)),
+    ),
+    (Given::Long(1), Field::Number(Range::Zero), None),
+    (Given::Text("-2"), Field::Number(Range::Zero), None),
+    (
+        Given::Text("32"),
+        Field::Number(Range::Bits),
+        Some(Given::UShort(32)),
+    ),
+    (Given::Text("33"), Field::Number(Range::Bits), None),
 ];
 
 #[test]

@@ -7,7 +7,7 @@ use Rattle.ioc_types.specs.Record.{record_rules}
 use Rattle.ioc_types.specs.Record.{Record}
 use Rattle.ioc_process.specs.OneMap.{world_of}
 use Rattle.ioc_process.specs.declared.one_map.OneMap.{OneMap}
-use Rattle.ioc_process.specs.World.{World, begun}
+use Rattle.ioc_process.specs.World.{World, begun, begun_at}
 use Rattle.ioc_dbfile.specs.Loader.{Loading}
 use Rattle.ioc_main.specs.declared.fault.ScriptFault.{ScriptFault}
 use Rattle.ioc_main.specs.declared.fault.ScriptFault.TheVariants as script
@@ -17,12 +17,12 @@ use Rattle.ioc_main.specs.Replay.{transcript}
 use Rattle.ioc_main.specs.Written.{WritesFront, WritesPart, StopsScript}
 use Rattle.ioc_main.specs.Transcript.{loaded, first_world, transcript_by, transcript_of, IsDatabase, StopsWith}
 
-first_is : (map : OneMap Record) → first_world map.records.items ≡ begun (world_of map)
-unfolding begun
+first_is : (map : OneMap Record) → first_world map.records.items ≡ begun_at 0 (world_of map)
+unfolding begun begun_at
 first_is map = refl
 
 module _ (text : List ℕ) (database : Loading Record) (map : OneMap Record) (names : NameTable) (world : World Record)
-    (reads : loaded text ≡ Ok database) (records : database.records ≡ map.records.items) (named : names ≡ database.names) (is : world ≡ begun (world_of map)) where
+    (reads : loaded text ≡ Ok database) (records : database.records ≡ map.records.items) (named : names ≡ database.names) (is : world ≡ begun_at 0 (world_of map)) where
   begins : (given : List ℕ) → transcript_of text given ≡ transcript record_rules names world (lines_of given)
   unfolding transcript_of
   begins given =

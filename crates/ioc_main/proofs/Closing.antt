@@ -1,6 +1,6 @@
 -- Links stay closed, and the answers of devices are faults.
 use Rattle.std.proofs.Common.{◌≡◌, ℕ, ◌+◌, ◌-◌, ◌≤◌, Bool, true, false, List, length, replicate, is_some, Result, Ok, Err, subst, ap, sym, refl, ◌∙◌, arith}
-use Rattle.std.specs.Prelude.{Contains, Option, if◌then◌else◌}
+use Rattle.std.specs.Prelude.{Contains, if◌then◌else◌}
 use Rattle.std.specs.FinMap.{contains_key, len}
 use Rattle.ioc_values.specs.declared.error.IocError.TheVariants.{NoRecord, NoField}
 use Rattle.ioc_values.specs.declared.error.IocError.{IocError}
@@ -21,10 +21,8 @@ use Rattle.ioc_process.specs.declared.one_map.OneMap.{OneMap}
 use Rattle.ioc_process.specs.Given.{answers_of}
 use Rattle.ioc_process.specs.OneMapLaws.{all_faults-are}
 use Rattle.ioc_fields.specs.declared.field_no.FieldNo.{FieldNo}
-use Rattle.ioc_record.specs.declared.link_field.LinkField.{LinkField}
-use Rattle.ioc_record.specs.Links.{named_by_all}
 use Rattle.ioc_record.specs.RecordRules.{RecordRules, targets}
-use Rattle.ioc_process.specs.World.{World, IsClosed, Has, at, begun}
+use Rattle.ioc_process.specs.World.{World, IsClosed, Has, at, begun, begun_at}
 use Rattle.ioc_process.specs.Rules.{IsQuiet, IsSettled}
 use Rattle.ioc_process.specs.Runs.{Begins}
 use Rattle.ioc_main.specs.Replay.{faults, got}
@@ -51,6 +49,19 @@ pub settled_same : {R : Type 0} (k : RecordRules R) (w v : World R) → v ≡ be
 settled_same {R} k w v e is =
     subst (λ (x : World R). IsSettled k x) (sym e) (record { closed = closed_begun k w is.closed; quiet = quiet_begun k w is.quiet })
 
+-- and so at whatever moment
+pub settled_at : {R : Type 0} (k : RecordRules R) (moment : ℕ) (w v : World R) → v ≡ begun_at moment w → IsSettled k w → IsSettled k v
+unfolding at begun begun_at
+settled_at {R} k moment w v e is =
+    subst (λ (x : World R). IsSettled k x) (sym e) (record {
+      closed = record { closed = λ n target named. is.closed.closed n target named };
+      quiet = record { quiet = λ n has. is.quiet.quiet n has };
+    })
+
+pub room_at : {R : Type 0} (moment : ℕ) (w v : World R) (room : ℕ) → v ≡ begun_at moment w → len w.records ≤ room → len v.records ≤ room
+unfolding begun begun_at
+room_at moment w v room e few = rw e few
+
 -- an event begins with as many records
 pub room_same : {R : Type 0} (w v : World R) (room : ℕ) → v ≡ begun w → len w.records ≤ room → len v.records ≤ room
 unfolding begun
@@ -67,9 +78,9 @@ all_faults_begin n few = record {
 few_given : (given : Given) → length (answers_of given) ≤ 256
 few_given given = omega (arith, given.in_range, length-take given.count given.answers)
 
-pub faults_begin : {R : Type 0} (map : OneMap R) → Begins (answers_of map.given) faults
+pub faults_begin : {R : Type 0} (map : OneMap R) → Begins (answers_of map.event.given) faults
 faults_begin map =
-    subst (λ (answers : List Answer). Begins answers faults) (sym (all_faults-are (answers_of map.given) map.faulted)) (all_faults_begin (length (answers_of map.given)) (few_given map.given))
+    subst (λ (answers : List Answer). Begins answers faults) (sym (all_faults-are (answers_of map.event.given) map.faulted)) (all_faults_begin (length (answers_of map.event.given)) (few_given map.event.given))
 
 -- a get changes nothing
 shown_keeps : {R : Type 0} (w : World R) (b : Bool) (shown : Reply) → (if b then record { world = w; reply = shown; requests = None } else refused w NoField).world ≡ w

@@ -16,11 +16,11 @@ use Rattle.ioc_ledger.specs.Requests.{Requests, None as No-requests}
 use Rattle.ioc_record.specs.RecordRules.{RecordRules}
 use Rattle.ioc_process.specs.declared.reply.Reply.{Reply}
 use Rattle.ioc_process.specs.declared.reply.Reply.TheVariants.{Plain, Outcome as Outcome-reply, Shown, Refused}
-use Rattle.ioc_process.specs.World.{World, at, begun}
+use Rattle.ioc_process.specs.World.{World, at, begun, begun_at}
 use Rattle.ioc_process.specs.declared.event.Event.{Event}
 use Rattle.ioc_process.specs.declared.event.Event.TheVariants.{Get as Get-event, Process as Process-event, Put as Put-event}
 use Rattle.ioc_process.specs.Step.{Stepped, stepped, refused}
-use Rattle.ioc_main.specs.Script.{Command, Silent, Bad, Process, Put, Get, command_of}
+use Rattle.ioc_main.specs.Script.{Command, Silent, Bad, Process, Put, Get, At, command_of}
 
 -- what the outcome of a request is called
 unfoldable pub outcome_words : Outcome → List ℕ
@@ -87,6 +87,7 @@ module _ {R : Type 0} (k : RecordRules R) (names : NameTable) where
   answered w (Process name) = replied (processed w (number_of names name))
   answered w (Put name field text) = replied (were_put w text (channel w name field))
   answered w (Get name field) = replied (got w (channel w name field))
+  answered w (At moment) = record { world = begun_at moment w; said = codes "ok\n"; requests = No-requests }
 
   -- what is printed for these lines
   abbrev pub transcript : World R → List (List ℕ) → List ℕ

@@ -1,8 +1,9 @@
--- The lines of a script, and what each asks for: `process REC`, `put REC.F TEXT`, `get REC.F`. This project's own, after the
+-- The lines of a script, and what each asks for: `process REC`, `put REC.F TEXT`, `get REC.F`, `at N`. This project's own, after the
 -- commands dbtr, dbpf and dbgf of an IOC's shell: Application Developer's Guide, "IOC Test Facilities".
-use Rattle.std.specs.Prelude.{ℕ, List, [], ◌∷◌, take, length, codes, nat_lt, nat_eq, ◌==◌, if◌then◌else◌, Option, Some, None}
+use Rattle.std.specs.Prelude.{ℕ, ◌^◌, List, [], ◌∷◌, take, length, codes, nat_lt, nat_eq, ◌==◌, if◌then◌else◌, Option, Some, None}
 use Rattle.std.specs.List.{onto_first}
 use Rattle.std.specs.Cmp.Lexicographic.{pointwise}
+use Rattle.ioc_values.specs.Number.{numeral, below}
 
 -- the lines, without the line feeds that end them
 abbrev pub lines_of : List ℕ → List (List ℕ)
@@ -30,6 +31,8 @@ pub data Command : Type 0 where
   Process : (name : List ℕ) → Command
   Put : (name : List ℕ) → (field : List ℕ) → (text : List ℕ) → Command
   Get : (name : List ℕ) → (field : List ℕ) → Command
+  -- the lines that follow are done at this moment
+  At : (moment : ℕ) → Command
 
 -- one word, and nothing behind it
 abbrev pub process_of : List ℕ → Option (List ℕ) → Command
@@ -55,12 +58,22 @@ put_of word text = put_at (before 46 word) (behind 46 word) text
 abbrev pub get_of : List ℕ → Option (List ℕ) → Command
 get_of word more = get_at (before 46 word) (behind 46 word) more
 
+-- one number of decimal digits alone, below 2^64
+abbrev pub at_moment : Option ℕ → Command
+at_moment None = Bad
+at_moment (Some moment) = At moment
+
+abbrev pub at_of : List ℕ → Option (List ℕ) → Command
+at_of word (Some words) = Bad
+at_of word None = at_moment (below (2 ^ 64) (numeral 10 word))
+
 -- a first word, and the words behind it
 abbrev pub by_verb : List ℕ → List ℕ → Command
 by_verb verb words =
     if pointwise nat_eq verb (codes "process") then process_of (before 32 words) (behind 32 words)
     else (if pointwise nat_eq verb (codes "put") then put_of (before 32 words) (behind 32 words)
-    else (if pointwise nat_eq verb (codes "get") then get_of (before 32 words) (behind 32 words) else Bad))
+    else (if pointwise nat_eq verb (codes "get") then get_of (before 32 words) (behind 32 words)
+    else (if pointwise nat_eq verb (codes "at") then at_of (before 32 words) (behind 32 words) else Bad)))
 
 abbrev pub with_words : List ℕ → Option (List ℕ) → Command
 with_words verb None = Bad

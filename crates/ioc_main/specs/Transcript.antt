@@ -20,7 +20,7 @@ loaded text = loaded_by record_rules new_record text
 
 -- a loaded database at the beginning
 abbrev pub first_world : List Record → World Record
-first_world records = record { records = numbered records; moment = 0; used = 0; outbox = []; dropped = 0; ended = [] }
+first_world records = record { records = numbered records; moment = 0; used = 0; outbox = []; dropped = 0 }
 
 abbrev pub transcript_on : Loading Record → List ℕ → List ℕ
 transcript_on database script = transcript record_rules database.names (first_world database.records) (lines_of script)

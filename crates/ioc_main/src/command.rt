@@ -1,9 +1,10 @@
 //! What a line of a script asks for.
 ghost use Rattle.std.specs.Prelude.{◌≡◌, option_map};
-ghost use Rattle.ioc_main.specs.Script.{command_of, worded, by_verb, process_of, put_of, get_of};
+ghost use Rattle.ioc_main.specs.Script.{command_of, worded, by_verb, process_of, put_of, get_of, at_of};
 ghost use Rattle.ioc_main.specs.Seen.{seen, bytes};
 
 use crate::parts::cut_at;
+use ioc_values::number::decimal;
 
 /// What a line of a script asks for.
 #[derive(Clone, Copy)]
@@ -17,6 +18,8 @@ pub enum Command<'a> {
     Put(&'a [u8], &'a [u8], &'a [u8]),
     /// A record, and a field of it.
     Get(&'a [u8], &'a [u8]),
+    /// The lines that follow are done at this moment, in nanoseconds since 1970-01-01 00:00 UTC.
+    At(u64),
 }
 
 #[tactic(auto, unfolding(crate::specs::Script::command_of))]
@@ -57,6 +60,8 @@ fn by_verb<'a>(verb: &'a [u8], words: &'a [u8]) -> Command<'a>
         put(word, text)
     } else if verb == b"get".as_slice() {
         get(word, text)
+    } else if verb == b"at".as_slice() {
+        at(word, text)
     } else {
         Command::Bad
     }
@@ -89,5 +94,14 @@ fn get<'a>(word: &'a [u8], more: Option<&'a [u8]>) -> Command<'a>
     match (field, more) {
         (None, _) | (Some(_), Some(_)) => Command::Bad,
         (Some(field), None) => Command::Get(record, field),
+    }
+}
+
+fn at<'a>(word: &'a [u8], more: Option<&'a [u8]>) -> Command<'a>
+    ensures { seen result ≡ at_of word.now (option_map bytes more.entry) }
+{
+    match (decimal(word), more) {
+        (Some(moment), None) => Command::At(moment),
+        (None, _) | (Some(_), Some(_)) => Command::Bad,
     }
 }

@@ -68,7 +68,7 @@ impl From<AllocError> for RunFault {
     }
 }
 
-/// What a load answers: a refused text, or else that memory was refused.
+/// What a load answers: a refused text, or else that memory was refused. It has no other answer, and no other is told apart.
 impl From<IocError> for RunFault {
     ghost use Rattle.ioc_main.specs.Faults.{fault_of};
 
@@ -77,7 +77,18 @@ impl From<IocError> for RunFault {
     fn from(e: IocError) -> RunFault {
         match e {
             IocError::BadDb(fault) => RunFault::BadDb(fault),
-            _ => RunFault::Memory,
+            IocError::NoMemory
+            | IocError::NoRecord
+            | IocError::NoField
+            | IocError::NoMod
+            | IocError::PutDisabled
+            | IocError::BadValue
+            | IocError::BadLink
+            | IocError::NotifyPending
+            | IocError::Stale
+            | IocError::QueueFull
+            | IocError::JournalFull
+            | IocError::Stopped => RunFault::Memory,
         }
     }
 }

@@ -4,7 +4,7 @@ ghost use Rattle.std.specs.FinMap.{len};
 ghost use Rattle.std.specs.Vec.{vec_capacity};
 ghost use Rattle.ioc_names.specs.NameTable.{number_of};
 ghost use Rattle.ioc_types.specs.Record.{record_rules};
-ghost use Rattle.ioc_process.specs.World.{begun};
+ghost use Rattle.ioc_process.specs.World.{begun_at};
 ghost use Rattle.ioc_process.specs.Rules.{IsSettled};
 ghost use Rattle.ioc_ledger.specs.Requests.{counted};
 ghost use Rattle.ioc_process.specs.OneMap.{world_of};
@@ -44,11 +44,11 @@ impl Replay {
     pub fn new(alloc: Global, names: Names, map: OneMap<Record>) -> Result<Self, AllocError>
         requires { IsSettled record_rules (world_of map) }
         ensures names { IfOk result (λ r. r.names ≡ names) }
-        ensures world { IfOk result (λ r. world_of r.map ≡ begun (world_of map)) }
+        ensures world { IfOk result (λ r. world_of r.map ≡ begun_at 0 (world_of map)) }
     {
         let frames = map.frames(alloc)?;
         let mut map = map;
-        map.begin();
+        map.begin_at(0);
         Ok(Replay {
             names,
             map,
@@ -134,6 +134,15 @@ impl Replay {
         }
     }
 
+    // The lines that follow are done at this moment.
+    fn set_moment(&mut self, moment: u64)
+        ensures names { self.new.names ≡ self.old.names }
+        ensures world { world_of self.new.map ≡ begun_at moment (world_of self.old.map) }
+        ensures tally { self.new.tally ≡ self.old.tally }
+    {
+        self.map.begin_at(moment);
+    }
+
     // Does what a line asks for.
     #[tactic(auto, unfolding(crate::specs::Replay::answered))]
     fn carry_out(&mut self, command: Command<'_>) -> LineReply
@@ -148,6 +157,10 @@ impl Replay {
             Command::Process(record) => reply_line(self.process(record)),
             Command::Put(record, field, text) => reply_line(self.put(record, field, text)),
             Command::Get(record, field) => reply_line(self.get(record, field)),
+            Command::At(moment) => {
+                self.set_moment(moment);
+                LineReply::cut(b"ok\n")
+            }
         }
     }
 }

@@ -1,6 +1,6 @@
 -- Two worlds side by side, in which the same requests are made: what holds of both goes on to hold.
-use Rattle.std.proofs.Common.{◌≡◌, ℕ, zero, suc, ◌+◌, Bool, true, false, cond, eqb, List, Option, Some, None as Nothing_, refl, ap, subst, ◌∙◌, arith}
-use Rattle.std.specs.Prelude.{slice_get, unwrap_or, Result, Ok, Err, Contains, nat_lt, ◌&&◌, ◌-◌, ◌^◌}
+use Rattle.std.proofs.Common.{◌≡◌, ℕ, zero, suc, ◌+◌, Bool, true, false, cond, eqb, List, [], ◌∷◌, Option, Some, None as Nothing_, refl, ap, subst, ◌∙◌, arith}
+use Rattle.std.specs.Prelude.{slice_get, unwrap_or, Result, Ok, Err, Contains, nat_lt, ◌&&◌, ◌||◌, ◌-◌, ◌^◌}
 use Rattle.ioc_record.specs.declared.common.Common.{Common}
 use Rattle.ioc_record.specs.declared.link_field.LinkUse.{LinkUse}
 use Rattle.ioc_record.specs.declared.link_field.LinkUse.TheVariants.{Unused, OwnDevice, Absent, Standing}
@@ -8,20 +8,32 @@ use Rattle.ioc_record.specs.declared.link_field.StandingLink.{StandingLink}
 use Rattle.ioc_record.specs.declared.body.Got.{Got}
 use Rattle.ioc_record.specs.declared.body.Want.{Want}
 use Rattle.ioc_record.specs.declared.body.Want.TheVariants.{NoInput, ReadLink, ReadDevice}
+use Rattle.ioc_record.specs.declared.body.Output.{Output}
+use Rattle.ioc_record.specs.declared.body.Output.TheVariants.{NoOutput, WriteLink, WriteDevice, FollowLinks, PostEvent}
+use Rattle.ioc_fields.specs.declared.field_no.FieldNo.{FieldNo}
+use Rattle.ioc_fields.specs.declared.field_no.FieldNo.TheVariants.{Own}
+use Rattle.ioc_fields.specs.declared.field_no.OwnField.TheVariants.{Lnk}
+use Rattle.ioc_fields.specs.declared.field_no.Slot.{Slot}
+use Rattle.ioc_values.specs.declared.input.Input.{Input}
+use Rattle.ioc_values.specs.declared.input.Input.TheVariants.{Value as InputValue}
 use Rattle.ioc_device.specs.declared.Answer.{Answer}
 use Rattle.ioc_device.specs.declared.Answer.TheVariants.{Done as Done-answer, Fault as Fault-answer, Later}
 use Rattle.ioc_ledger.specs.declared.outcome.Outcome.TheVariants.{Processed}
 use Rattle.ioc_values.specs.declared.value.Value.{Value}
 use Rattle.ioc_values.specs.declared.error.IocError.{IocError}
 use Rattle.ioc_record.specs.Links.{use_of}
-use Rattle.ioc_record.specs.Values.{read_as, converted_to}
-use Rattle.ioc_record.specs.Steps.{inherited, blocked, unblocked, with_active, shown}
+use Rattle.ioc_record.specs.Values.{read_as, converted_to, put_untested, converted_for}
+use Rattle.ioc_record.specs.Steps.{inherited, blocked, unblocked, with_active, shown, is_passive}
 use Rattle.ioc_record.specs.RecordRules.{RecordRules, targets}
 use Rattle.ioc_record.specs.Laws.{IsLawful}
-use Rattle.ioc_process.specs.World.{World, at, common_at, put, changed, idle, used_one}
+use Rattle.ioc_process.specs.declared.outbox.OutboxItem.{OutboxItem}
+use Rattle.ioc_process.specs.declared.outbox.OutboxItem.TheVariants.{Post}
+use Rattle.ioc_process.specs.World.{World, at, common_at, put, changed, idle, used_one, sent}
+use Rattle.ioc_process.specs.Links.{link_at, use_of_field, chosen_links, is_proc, requests_first, requests_after, handed_on}
 use Rattle.ioc_ledger.specs.Requests.{Requests, None, Request, followed_by}
-use Rattle.ioc_process.specs.Processing.{Done, Came, Reading, caused, followed, inherits, value_came, prepared, read_record, faulted, read_link, completed, completed_if, device_gave, received, read_device, can_ask, input, body, turned_away, processed, requested, nested, request}
-use Rattle.ioc_process.proofs.StepFrames.{blocked-frame, shown-forward}
+use Rattle.ioc_process.specs.Processing.{Done, Came, Reading, Written, PutOut, caused, followed, inherits, value_came, stored_at, wrote, after_writing, write_link, followed_each, finished, finished_if, after_output, acknowledged, write_device, put_out, prepared, read_record, faulted, read_link, completed, completed_if, device_gave, received, read_device, can_ask, input, body, turned_away, processed, requested, nested, request}
+use Rattle.ioc_process.proofs.StepFrames.{OwnLinks, blocked-frame, stored_with}
+use Rattle.ioc_process.proofs.Named.{link_named}
 use Rattle.ioc_process.proofs.Depth.{request-nested}
 
 -- What is asked of an invariant of two worlds: these records are the same and good in both, a good record's links name some of them,
@@ -30,11 +42,14 @@ pub record Guards {R : Type 0} (k : RecordRules R) (May : ℕ → Type 0) (Good 
   pub same : {w v : World R} → Inv w v → (n : ℕ) → May n → at k w n ≡ at k v n
   pub good : {w v : World R} → Inv w v → (n : ℕ) → May n → Good n (at k w n)
   pub used : {w v : World R} → Inv w v → w.used ≡ v.used
+  pub moment : {w v : World R} → Inv w v → w.moment ≡ v.moment
   pub link : {n : ℕ} {r : R} → Good n r → (target : ℕ) → Contains (targets k r) target → May target
-  pub common : {n : ℕ} {r : R} → Good n r → (c : Common) → c.forward_link ≡ (k.common r).forward_link → Good n (k.with_common r c)
+  pub common : {n : ℕ} {r : R} → Good n r → (c : Common) → OwnLinks (k.common r) c → Good n (k.with_common r c)
   pub taken : {n : ℕ} {r : R} → Good n r → (got : Got) → Good n (k.taken r got)
+  pub stored : {n : ℕ} {r : R} → Good n r → (f : FieldNo) (v : Value) → Good n (k.stored r f v)
   pub put : {w v : World R} → Inv w v → (n : ℕ) → May n → (r : R) → Good n r → Inv (put w n r) (put v n r)
   pub use_one : {w v : World R} → Inv w v → Inv (used_one w) (used_one v)
+  pub send : {w v : World R} → Inv w v → (item : OutboxItem) → Inv (sent item w) (sent item v)
 
 pub record Goes {R : Type 0} (Inv : World R → World R → Type 0) (done other : Done R) : Type 0 where
   pub inv : Inv done.world other.world
@@ -49,8 +64,17 @@ pub record GoesCame {R : Type 0} (Inv : World R → World R → Type 0) (read ot
   pub inv : Inv read.world other.world
   pub came : read.came ≡ other.came
 
+pub record GoesWritten {R : Type 0} (Inv : World R → World R → Type 0) (done other : Written R) : Type 0 where
+  pub inv : Inv done.world other.world
+  pub stored : done.stored ≡ other.stored
+
+pub record GoesOut {R : Type 0} (Inv : World R → World R → Type 0) (out other : PutOut R) : Type 0 where
+  pub inv : Inv out.world other.world
+  pub requests : out.requests ≡ other.requests
+  pub goes_on : out.goes_on ≡ other.goes_on
+
 module _ {R : Type 0} (k : RecordRules R) (lawful : IsLawful k) (May : ℕ → Type 0) (Good : ℕ → R → Type 0) (Inv : World R → World R → Type 0) (g : Guards k May Good Inv) where
-  pub changed-goes : {w v : World R} → Inv w v → (s : ℕ) → May s → (f : Common → Common) → ((c : Common) → (f c).forward_link ≡ c.forward_link)
+  pub changed-goes : {w v : World R} → Inv w v → (s : ℕ) → May s → (f : Common → Common) → ((c : Common) → OwnLinks c (f c))
       → Inv (changed k w s f) (changed k v s f)
   unfolding changed
   changed-goes {w} {v} inv s may f same =
@@ -71,17 +95,17 @@ module _ {R : Type 0} (k : RecordRules R) (lawful : IsLawful k) (May : ℕ → T
         | false ↦ subst (λ (r : R). Inv (changed k w s (inherited t.mode (common_at k w t.number).condition.alarms.status (common_at k w t.number).condition.alarms.severity))
             (changed k v s (inherited t.mode (k.common r).condition.alarms.status (k.common r).condition.alarms.severity)))
             (g.same inv t.number there)
-            (changed-goes inv s may _ (λ c. refl))
+            (changed-goes inv s may _ (λ c. (refl, refl)))
       ]
 
   device_gave-goes : {w v : World R} → Inv w v → (s : ℕ) → May s → (value : Result Value IocError) → GoesRead Inv (device_gave k w s value) (device_gave k v s value)
   unfolding device_gave
   device_gave-goes inv s may (Ok x) = record { inv = inv; requests = refl; came = refl }
-  device_gave-goes inv s may (Err e) = record { inv = changed-goes inv s may _ (λ c. refl); requests = refl; came = refl }
+  device_gave-goes inv s may (Err e) = record { inv = changed-goes inv s may _ (λ c. (refl, refl)); requests = refl; came = refl }
 
   faulted-goes : {w v : World R} → Inv w v → (s : ℕ) → May s → Inv (faulted k w s) (faulted k v s)
   unfolding faulted
-  faulted-goes inv s may = changed-goes inv s may _ (λ c. refl)
+  faulted-goes inv s may = changed-goes inv s may _ (λ c. (refl, refl))
 
   pub value_came-goes : {w v : World R} → Inv w v → (s : ℕ) → May s → (t : StandingLink) → May t.number → (value : Result Value IocError)
       → GoesCame Inv (value_came k w s t value) (value_came k v s t value)
@@ -93,8 +117,8 @@ module _ {R : Type 0} (k : RecordRules R) (lawful : IsLawful k) (May : ℕ → T
   unfolding received
   received-goes {w} {v} inv s may (Done-answer x) =
       subst (λ (r : R). GoesRead Inv (device_gave k w s (converted_to (k.input_kind (at k w s)) x)) (device_gave k v s (converted_to (k.input_kind r) x))) (g.same inv s may) (device_gave-goes inv s may _)
-  received-goes inv s may Fault-answer = record { inv = changed-goes inv s may _ (λ c. refl); requests = refl; came = refl }
-  received-goes inv s may Later = record { inv = changed-goes inv s may _ (λ _. refl); requests = refl; came = refl }
+  received-goes inv s may Fault-answer = record { inv = changed-goes inv s may _ (λ c. (refl, refl)); requests = refl; came = refl }
+  received-goes inv s may Later = record { inv = changed-goes inv s may _ (λ _. (refl, refl)); requests = refl; came = refl }
 
   can-same : {w v : World R} → Inv w v → (s : ℕ) → May s → can_ask k w s ≡ can_ask k v s
   can-same {w} {v} inv s may =
@@ -114,22 +138,84 @@ module _ {R : Type 0} (k : RecordRules R) (lawful : IsLawful k) (May : ℕ → T
         | false ↦ received-goes inv s may Fault-answer
       ])
 
+  first-same : {w v : World R} → Inv w v → (t : StandingLink) → May t.number → requests_first k w t ≡ requests_first k v t
+  first-same inv t there = ap (λ (r : R). t.process_passive && is_passive (k.common r)) (g.same inv t.number there)
+
+  after-same : {w v : World R} → Inv w v → (t : StandingLink) → May t.number → requests_after k w t ≡ requests_after k v t
+  after-same inv t there = ap (λ (b : Bool). is_proc t.field || b) (first-same inv t there)
+
+  pub handed-goes : {w v : World R} → Inv w v → (s : ℕ) → May s → (t : StandingLink) → May t.number → Inv (handed_on k w s t) (handed_on k v s t)
+  unfolding handed_on
+  handed-goes {w} {v} inv s may t there =
+      subst (λ (r : R). Inv (handed_on k w s t) (changed k v t.number (inherited t.mode (k.common r).condition.alarms.new_status (k.common r).condition.alarms.new_severity)))
+      (g.same inv s may) (changed-goes inv t.number there _ (λ c. (refl, refl)))
+
+  stored-goes : {w v : World R} → Inv w v → (t : StandingLink) → May t.number → (result : Result R IocError) → ((r : R) → result ≡ Ok r → Good t.number r)
+      → GoesWritten Inv (stored_at k w t result) (stored_at k v t result)
+  unfolding stored_at
+  stored-goes inv t there (Ok r) good = record { inv = g.put inv t.number there r (good r refl); stored = refl }
+  stored-goes inv t there (Err e) good = record { inv = inv; stored = refl }
+
+  untested-good : {w v : World R} → Inv w v → (t : StandingLink) → May t.number → (given : Input) (r : R) → put_untested k (at k w t.number) t.field given ≡ Ok r → Good t.number r
+  unfolding put_untested
+  untested-good {w} inv t there given r is =
+      let with = stored_with k (at k w t.number) r t.field (converted_for k (at k w t.number) t.field given) is in
+      subst (Good t.number) with.1 (g.stored (g.good inv t.number there) t.field with.0)
+
+  pub wrote-goes : {w v : World R} → Inv w v → (s : ℕ) → May s → (t : StandingLink) → May t.number → (x : Value) → GoesWritten Inv (wrote k w s t x) (wrote k v s t x)
+  unfolding wrote
+  wrote-goes {w} {v} inv s may t there x =
+      let tried = λ (r : R). put_untested k r t.field (InputValue x) in
+      let first = subst (λ (r : R). GoesWritten Inv (stored_at k w t (tried (at k w t.number))) (stored_at k v t (tried r))) (g.same inv t.number there)
+      (stored-goes inv t there (tried (at k w t.number)) (untested-good inv t there (InputValue x))) in
+      record { inv = handed-goes first.inv s may t there; stored = first.stored }
+
+  acknowledged-goes : {w v : World R} → Inv w v → (s : ℕ) → May s → (answer : Answer) → GoesOut Inv (acknowledged k w s answer) (acknowledged k v s answer)
+  unfolding acknowledged
+  acknowledged-goes inv s may (Done-answer x) = record { inv = inv; requests = refl; goes_on = refl }
+  acknowledged-goes inv s may Fault-answer = record { inv = changed-goes inv s may _ (λ c. (refl, refl)); requests = refl; goes_on = refl }
+  acknowledged-goes inv s may Later = record { inv = changed-goes inv s may _ (λ _. (refl, refl)); requests = refl; goes_on = refl }
+
+  pub write_device-goes : (answers : List Answer) {w v : World R} → Inv w v → (s : ℕ) → May s → GoesOut Inv (write_device k answers w s) (write_device k answers v s)
+  unfolding write_device
+  write_device-goes answers {w} {v} inv s may =
+      let next = λ (n : ℕ). unwrap_or (slice_get answers n) Fault-answer in
+      subst (λ (b : Bool). GoesOut Inv (write_device k answers w s) (cond b (acknowledged k (used_one v) s (next v.used)) (acknowledged k v s Fault-answer)))
+      (can-same inv s may)
+      (elim (can_ask k w s) as (λ b. GoesOut Inv
+      (cond b (acknowledged k (used_one w) s (next w.used)) (acknowledged k w s Fault-answer))
+      (cond b (acknowledged k (used_one v) s (next v.used)) (acknowledged k v s Fault-answer))) [
+        | true ↦ subst (λ (n : ℕ). GoesOut Inv (acknowledged k (used_one w) s (next w.used)) (acknowledged k (used_one v) s (next n))) (g.used inv) (acknowledged-goes (g.use_one inv) s may _)
+        | false ↦ acknowledged-goes inv s may Fault-answer
+      ])
+
+  shown-goes : {w v : World R} → Inv w v → (s : ℕ) → May s → Inv (changed k w s (shown w.moment)) (changed k v s (shown v.moment))
+  shown-goes {w} {v} inv s may = subst (λ (n : ℕ). Inv (changed k w s (shown w.moment)) (changed k v s (shown n))) (g.moment inv) (changed-goes inv s may (shown w.moment) (λ c. (refl, refl)))
+
   module _ (ask other : World R → ℕ → Done R) (asks : (w v : World R) → Inv w v → (s : ℕ) → May s → Goes Inv (ask w s) (other v s)) where
     pub caused-goes : {w v : World R} → Inv w v → (s : ℕ) → May s → (t : ℕ) → May t → Goes Inv (caused k ask w s t) (caused k other v s t)
     unfolding caused
     caused-goes {w} {v} inv s may t there =
-        let first = asks _ _ (changed-goes inv s may (with_active true) (λ _. refl)) t there in
+        let first = asks _ _ (changed-goes inv s may (with_active true) (λ _. (refl, refl))) t there in
         record {
           inv = subst (λ (r : R). Inv (changed k (ask (changed k w s (with_active true)) t).world s (with_active (common_at k w s).active))
               (changed k (other (changed k v s (with_active true)) t).world s (with_active (k.common r).active)))
-              (g.same inv s may) (changed-goes first.inv s may _ (λ _. refl));
+              (g.same inv s may) (changed-goes first.inv s may _ (λ _. (refl, refl)));
           requests = first.requests;
         }
 
     pub followed-goes : {w v : World R} → Inv w v → (s : ℕ) → May s → (link : LinkUse) → ((t : StandingLink) → link ≡ Standing t → May t.number)
         → Goes Inv (followed k ask w s link) (followed k other v s link)
     unfolding followed
-    followed-goes inv s may (Standing t) there = caused-goes inv s may t.number (there t refl)
+    followed-goes {w} {v} inv s may (Standing t) there =
+        subst (λ (b : Bool). Goes Inv (followed k ask w s (Standing t)) (cond {A = Done R} b (caused k other v s t.number) (record { world = v; requests = None })))
+        (ap (λ (r : R). is_passive (k.common r)) (g.same inv t.number (there t refl)))
+        (elim (is_passive (common_at k w t.number)) as (λ b. Goes Inv
+        (cond {A = Done R} b (caused k ask w s t.number) (record { world = w; requests = None }))
+        (cond {A = Done R} b (caused k other v s t.number) (record { world = v; requests = None }))) [
+          | true ↦ caused-goes inv s may t.number (there t refl)
+          | false ↦ record { inv = inv; requests = refl }
+        ])
     followed-goes inv s may Unused there = record { inv = inv; requests = refl }
     followed-goes inv s may OwnDevice there = record { inv = inv; requests = refl }
     followed-goes inv s may Absent there = record { inv = inv; requests = refl }
@@ -137,12 +223,14 @@ module _ {R : Type 0} (k : RecordRules R) (lawful : IsLawful k) (May : ℕ → T
     pub prepared-goes : {w v : World R} → Inv w v → (s : ℕ) → May s → (t : StandingLink) → May t.number → Goes Inv (prepared k ask w s t) (prepared k other v s t)
     unfolding prepared
     prepared-goes {w} {v} inv s may t there =
-        elim t.process_passive as (λ b. Goes Inv
+        subst (λ (b : Bool). Goes Inv (prepared k ask w s t) (cond {A = Done R} b (caused k other v s t.number) (record { world = v; requests = None })))
+        (first-same inv t there)
+        (elim (requests_first k w t) as (λ b. Goes Inv
         (cond {A = Done R} b (caused k ask w s t.number) (record { world = w; requests = None }))
         (cond {A = Done R} b (caused k other v s t.number) (record { world = v; requests = None }))) [
           | true ↦ caused-goes inv s may t.number there
           | false ↦ record { inv = inv; requests = refl }
-        ]
+        ])
 
     pub read_record-goes : {w v : World R} → Inv w v → (s : ℕ) → May s → (t : StandingLink) → May t.number → GoesRead Inv (read_record k ask w s t) (read_record k other v s t)
     unfolding read_record
@@ -164,32 +252,108 @@ module _ {R : Type 0} (k : RecordRules R) (lawful : IsLawful k) (May : ℕ → T
     read_link-goes inv s may OwnDevice there = record { inv = faulted-goes inv s may; requests = refl; came = refl }
     read_link-goes inv s may Absent there = record { inv = faulted-goes inv s may; requests = refl; came = refl }
 
-    pub completed-goes : {w v : World R} → Inv w v → (s : ℕ) → May s → (got : Got) → Goes Inv (completed k ask w s got) (completed k other v s got)
-    unfolding completed
-    completed-goes {w} {v} inv s may got =
-        let ready = changed k (put w s (k.taken (at k w s) got)) s shown in
-        let there = changed-goes (taken-goes inv s may got) s may shown (λ c. shown-forward c) in
+    calls-goes : {w v : World R} → Inv w v → (s : ℕ) → May s → (t : StandingLink) → May t.number → (b : Bool) →
+        Goes Inv (cond {A = Done R} b (caused k ask w s t.number) (record { world = w; requests = None })) (cond {A = Done R} b (caused k other v s t.number) (record { world = v; requests = None }))
+    calls-goes inv s may t there true = caused-goes inv s may t.number there
+    calls-goes inv s may t there false = record { inv = inv; requests = refl }
+
+    pub after_writing-goes : (done done' : Written R) → GoesWritten Inv done done' → (s : ℕ) → May s → (t : StandingLink) → May t.number
+        → Goes Inv (after_writing k ask done s t) (after_writing k other done' s t)
+    unfolding after_writing
+    after_writing-goes done done' go s may t there =
+        let calls : (World R → ℕ → Done R) → World R → Bool → Done R = λ f w b. cond {A = Done R} b (caused k f w s t.number) (record { world = w; requests = None }) in
+        let vain : World R → Done R = λ w. record { world = faulted k w s; requests = None } in
+        subst (λ (b : Bool). Goes Inv (after_writing k ask done s t) (cond {A = Done R} b (calls other done'.world (requests_after k done'.world t)) (vain done'.world))) go.stored
+        (subst (λ (b : Bool). Goes Inv (after_writing k ask done s t) (cond {A = Done R} done.stored (calls other done'.world b) (vain done'.world))) (after-same go.inv t there)
+        (elim done.stored as (λ b. Goes Inv
+        (cond {A = Done R} b (calls ask done.world (requests_after k done.world t)) (vain done.world))
+        (cond {A = Done R} b (calls other done'.world (requests_after k done.world t)) (vain done'.world))) [
+          | true ↦ calls-goes go.inv s may t there (requests_after k done.world t)
+          | false ↦ record { inv = faulted-goes go.inv s may; requests = refl }
+        ]))
+
+    pub write_link-goes : {w v : World R} → Inv w v → (s : ℕ) → May s → (link : LinkUse) → ((t : StandingLink) → link ≡ Standing t → May t.number) → (x : Value)
+        → Goes Inv (write_link k ask w s link x) (write_link k other v s link x)
+    unfolding write_link
+    write_link-goes inv s may (Standing t) there x = after_writing-goes _ _ (wrote-goes inv s may t (there t refl) x) s may t (there t refl)
+    write_link-goes inv s may Unused there x = record { inv = inv; requests = refl }
+    write_link-goes inv s may OwnDevice there x = record { inv = faulted-goes inv s may; requests = refl }
+    write_link-goes inv s may Absent there x = record { inv = faulted-goes inv s may; requests = refl }
+
+    link_at-there : {w v : World R} → Inv w v → (s : ℕ) → May s → (slot : Slot) (t : StandingLink) → link_at k w s slot ≡ Standing t → May t.number
+    link_at-there {w} inv s may slot t is = g.link (g.good inv s may) t.number (link_named k lawful (at k w s) (Own (Lnk slot)) t is)
+
+    pub followed_each-goes : (slots : List Slot) {w v : World R} → Inv w v → (s : ℕ) → May s → Goes Inv (followed_each k ask w s slots) (followed_each k other v s slots)
+    unfolding followed_each
+    followed_each-goes [] inv s may = record { inv = inv; requests = refl }
+    followed_each-goes (slot ∷ slots) {w} {v} inv s may =
+        let first = subst (λ (link : LinkUse). Goes Inv (followed k ask w s (link_at k w s slot)) (followed k other v s link)) (ap (λ (r : R). use_of_field (k.link r (Own (Lnk slot)))) (g.same inv s may))
+        (followed-goes inv s may (link_at k w s slot) (link_at-there inv s may slot)) in
+        let rest = followed_each-goes slots first.inv s may in
+        record {
+          inv = rest.inv;
+          requests = ap (λ (x : Requests). followed_by x (followed_each k ask (followed k ask w s (link_at k w s slot)).world s slots).requests) first.requests
+              ∙ ap (followed_by (followed k other v s (link_at k v s slot)).requests) rest.requests;
+        }
+
+    pub finished-goes : {w v : World R} → Inv w v → (s : ℕ) → May s → Goes Inv (finished k ask w s) (finished k other v s)
+    unfolding finished
+    finished-goes {w} {v} inv s may =
+        let ready = changed k w s (shown w.moment) in
+        let ready' = changed k v s (shown v.moment) in
+        let there = shown-goes inv s may in
         let rest = followed-goes there s may (use_of (common_at k ready s).forward_link) (λ t is. g.link (g.good there s may) t.number (lawful.forward_named (at k ready s) t is)) in
-        let ready' = changed k (put v s (k.taken (at k v s) got)) s shown in
-        subst (λ (link : LinkUse). Goes Inv (completed k ask w s got)
+        subst (λ (link : LinkUse). Goes Inv (finished k ask w s)
         (record { world = changed k (followed k other ready' s link).world s (with_active false); requests = (followed k other ready' s link).requests }))
         (ap (λ (r : R). use_of (k.common r).forward_link) (g.same there s may))
-        (record { inv = changed-goes rest.inv s may (with_active false) (λ _. refl); requests = rest.requests })
+        (record { inv = changed-goes rest.inv s may (with_active false) (λ _. (refl, refl)); requests = rest.requests })
 
-    pub completed_if-goes : {w v : World R} → Inv w v → (s : ℕ) → May s → (came : Option Got) → Goes Inv (completed_if k ask w s came) (completed_if k other v s came)
-    completed_if-goes inv s may Nothing_ = record { inv = inv; requests = refl }
-    completed_if-goes inv s may (Some got) = completed-goes inv s may got
+    finished_if-goes : {w v : World R} → Inv w v → (s : ℕ) → May s → (b : Bool) → Goes Inv (finished_if k ask w s b) (finished_if k other v s b)
+    finished_if-goes inv s may true = finished-goes inv s may
+    finished_if-goes inv s may false = record { inv = inv; requests = refl }
 
-    -- what is done with what came, after a reading
-    rest-goes : (reading reading' : Reading R) → GoesRead Inv reading reading' → (s : ℕ) → May s →
-        Goes {R = R} Inv
-        (record { world = (completed_if k ask reading.world s reading.came).world; requests = followed_by reading.requests (completed_if k ask reading.world s reading.came).requests })
-        (record { world = (completed_if k other reading'.world s reading'.came).world; requests = followed_by reading'.requests (completed_if k other reading'.world s reading'.came).requests })
-    rest-goes reading reading' go s may =
-        let rest = subst (λ (came : Option Got). Goes Inv (completed_if k ask reading.world s reading.came) (completed_if k other reading'.world s came)) go.came (completed_if-goes go.inv s may reading.came) in
-        record { inv = rest.inv; requests = ap (λ (x : Requests). followed_by x (completed_if k ask reading.world s reading.came).requests) go.requests ∙ ap (followed_by reading'.requests) rest.requests }
+    pub after_output-goes : (out out' : PutOut R) → GoesOut Inv out out' → (s : ℕ) → May s → Goes Inv (after_output k ask s out) (after_output k other s out')
+    unfolding after_output
+    after_output-goes out out' go s may =
+        let rest = subst (λ (b : Bool). Goes Inv (finished_if k ask out.world s out.goes_on) (finished_if k other out'.world s b)) go.goes_on (finished_if-goes go.inv s may out.goes_on) in
+        record { inv = rest.inv; requests = ap (λ (x : Requests). followed_by x (finished_if k ask out.world s out.goes_on).requests) go.requests ∙ ap (followed_by out'.requests) rest.requests }
 
     module _ (answers : List Answer) where
+      pub put_out-goes : {w v : World R} → Inv w v → (s : ℕ) → May s → (output : Output) → ((t : StandingLink) (x : Value) → output ≡ WriteLink (Standing t) x → May t.number)
+          → GoesOut Inv (put_out k answers ask w s output) (put_out k answers other v s output)
+      unfolding put_out
+      put_out-goes inv s may NoOutput there = record { inv = inv; requests = refl; goes_on = refl }
+      put_out-goes inv s may (WriteLink link x) there =
+          let done = write_link-goes inv s may link (λ t is. there t x (ap (λ (l : LinkUse). WriteLink l x) is)) x in
+          record { inv = done.inv; requests = done.requests; goes_on = refl }
+      put_out-goes inv s may (WriteDevice x) there = write_device-goes answers inv s may
+      put_out-goes inv s may (FollowLinks links) there =
+          let done = followed_each-goes (chosen_links links) inv s may in
+          record { inv = done.inv; requests = done.requests; goes_on = refl }
+      put_out-goes inv s may (PostEvent name) there = record { inv = g.send inv (Post name); requests = refl; goes_on = refl }
+
+      pub completed-goes : {w v : World R} → Inv w v → (s : ℕ) → May s → (got : Got) → Goes Inv (completed k answers ask w s got) (completed k answers other v s got)
+      unfolding completed
+      completed-goes {w} {v} inv s may got =
+          let there = taken-goes inv s may got in
+          let taken' = put v s (k.taken (at k v s) got) in
+          subst (λ (output : Output). Goes Inv (completed k answers ask w s got) (after_output k other s (put_out k answers other taken' s output)))
+          (ap (λ (r : R). k.output r got) (g.same inv s may))
+          (after_output-goes _ _ (put_out-goes there s may (k.output (at k w s) got) (λ t x is. g.link (g.good inv s may) t.number (lawful.output_named (at k w s) got t x is))) s may)
+
+      pub completed_if-goes : {w v : World R} → Inv w v → (s : ℕ) → May s → (came : Option Got) → Goes Inv (completed_if k answers ask w s came) (completed_if k answers other v s came)
+      completed_if-goes inv s may Nothing_ = record { inv = inv; requests = refl }
+      completed_if-goes inv s may (Some got) = completed-goes inv s may got
+
+      -- what is done with what came, after a reading
+      rest-goes : (reading reading' : Reading R) → GoesRead Inv reading reading' → (s : ℕ) → May s →
+          Goes {R = R} Inv
+          (record { world = (completed_if k answers ask reading.world s reading.came).world; requests = followed_by reading.requests (completed_if k answers ask reading.world s reading.came).requests })
+          (record { world = (completed_if k answers other reading'.world s reading'.came).world; requests = followed_by reading'.requests (completed_if k answers other reading'.world s reading'.came).requests })
+      rest-goes reading reading' go s may =
+          let rest = subst (λ (came : Option Got). Goes Inv (completed_if k answers ask reading.world s reading.came) (completed_if k answers other reading'.world s came)) go.came (completed_if-goes go.inv s may reading.came) in
+          record { inv = rest.inv; requests = ap (λ (x : Requests). followed_by x (completed_if k answers ask reading.world s reading.came).requests) go.requests ∙ ap (followed_by reading'.requests) rest.requests }
+
       pub input-goes : {w v : World R} → Inv w v → (s : ℕ) → May s → (want : Want) → ((t : StandingLink) → want ≡ ReadLink (Standing t) → May t.number)
           → GoesRead Inv (input k answers ask w s want) (input k answers other v s want)
       unfolding input
@@ -211,9 +375,9 @@ module _ {R : Type 0} (k : RecordRules R) (lawful : IsLawful k) (May : ℕ → T
           (elim (common_at k w s).active as (λ b. Goes Inv
           (cond {A = Done R} b (turned_away k answers ask w s) (processed k answers ask w s))
           (cond {A = Done R} b (turned_away k answers other v s) (processed k answers other v s))) [
-            | true ↦ record { inv = changed-goes inv s may blocked (λ c. (blocked-frame c).forward); requests = refl }
+            | true ↦ record { inv = changed-goes inv s may blocked (λ c. (blocked-frame c).links); requests = refl }
             | false ↦
-                let rest = body-goes (changed-goes inv s may unblocked (λ _. refl)) s may in
+                let rest = body-goes (changed-goes inv s may unblocked (λ _. (refl, refl))) s may in
                 record { inv = rest.inv; requests = ap (λ (x : Requests). Request Processed x None) rest.requests }
           ])
 

@@ -1,5 +1,5 @@
 -- The answers of an event as they are given, and what reading a device does.
-use Rattle.std.proofs.Common.{◌≡◌, ℕ, ◌-◌, ◌^◌, ◌<◌, true, false, cond, List, [], ◌∷◌, ◌++◌, length, Option, Some, None as Nothing_, IsSome, refl, sym, ap, subst, ◌∙◌, arith, append_assoc}
+use Rattle.std.proofs.Common.{◌≡◌, ℕ, ◌-◌, ◌^◌, ◌<◌, Bool, true, false, cond, List, [], ◌∷◌, ◌++◌, length, Option, Some, None as Nothing_, IsSome, IsTrue, refl, sym, ap, subst, ◌∙◌, arith, append_assoc}
 use Rattle.std.specs.Prelude.{slice_get, unwrap_or, Result, Ok, Err}
 use Rattle.ioc_values.specs.declared.value.Value.{Value}
 use Rattle.ioc_values.specs.declared.error.IocError.{IocError}
@@ -9,10 +9,10 @@ use Rattle.ioc_device.specs.declared.Answer.TheVariants.{Done, Later, Fault as F
 use Rattle.ioc_record.specs.declared.body.Got.{Got}
 use Rattle.ioc_record.specs.RecordRules.{RecordRules}
 use Rattle.ioc_process.specs.World.{World, at, common_at, Stays, used_one}
-use Rattle.ioc_process.specs.Processing.{Reading, device_gave, received, read_device, can_ask}
+use Rattle.ioc_process.specs.Processing.{Reading, PutOut, device_gave, received, read_device, acknowledged, write_device, can_ask}
 use Rattle.ioc_ledger.specs.Requests.{None}
-use Rattle.ioc_process.specs.Runs.{Begins, HasRead}
-use Rattle.ioc_process.proofs.Depth.{Reads}
+use Rattle.ioc_process.specs.Runs.{Begins, HasRead, HasPutOut}
+use Rattle.ioc_process.proofs.Depth.{Reads, Outs}
 
 pub begins_all : (xs : List Answer) → Begins xs xs
 begins_all xs = record { others = []; is = search common_steps }
@@ -81,3 +81,35 @@ module _ {R : Type 0} (k : RecordRules R) where
       let r = reads given in
       let got = got_some result some in
       rw here.world (record { fewer = r.fewer; active = r.active got.0 (sym here.came ∙ got.1) })
+
+  pub write_device-asked : (answers : List Answer) (w : World R) (s : ℕ) (answer : Answer) → can_ask k w s ≡ true → slice_get answers w.used ≡ Some answer →
+      write_device k answers w s ≡ acknowledged k (used_one w) s answer
+  unfolding write_device
+  write_device-asked answers w s answer can is = rw (can, is) refl
+
+  pub write_device-not_asked : (answers : List Answer) (w : World R) (s : ℕ) → can_ask k w s ≡ false → write_device k answers w s ≡ acknowledged k w s Fault-answer
+  unfolding write_device
+  write_device-not_asked answers w s can = rw can refl
+
+  acknowledged-requests : (w : World R) (s : ℕ) (answer : Answer) → (acknowledged k w s answer).requests ≡ None
+  unfolding acknowledged
+  acknowledged-requests w s (Done v) = refl
+  acknowledged-requests w s Fault-answer = refl
+  acknowledged-requests w s Later = refl
+
+  pub write_device-requests : (answers : List Answer) (w : World R) (s : ℕ) → (write_device k answers w s).requests ≡ None
+  unfolding write_device
+  write_device-requests answers w s =
+      elim (can_ask k w s) as (λ b. (cond b (acknowledged k (used_one w) s (unwrap_or (slice_get answers w.used) Fault-answer)) (acknowledged k w s Fault-answer)).requests ≡ None) [
+        | true ↦ acknowledged-requests _ s _
+        | false ↦ acknowledged-requests w s _
+      ]
+
+  -- the record of an output after which its body goes on is as active as it was
+  pub stays_if_out : (given : List Answer) (w after : World R) (s : ℕ) (result : Bool) (out : List Answer → PutOut R) →
+      ((answers : List Answer) → Begins given answers → HasPutOut after result (out answers)) → ((answers : List Answer) → Outs k w s (out answers)) →
+      IsTrue result → Stays k w s after
+  stays_if_out given w after s result out is outs on =
+      let here = is given (begins_all given) in
+      let o = outs given in
+      rw here.world (record { fewer = o.fewer; active = o.active (sym here.goes_on ∙ on) })

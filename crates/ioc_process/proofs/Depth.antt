@@ -1,5 +1,5 @@
 -- Requests nest no deeper than there are idle records, so `request` is the one function that its own rule makes.
-use Rattle.std.proofs.Common.{◌≡◌, ℕ, zero, suc, ◌+◌, ◌<◌, ◌≤◌, Bool, true, false, cond, eqb, List, Option, Some, None as Nothing_, refl, ap, ◌∙◌, arith}
+use Rattle.std.proofs.Common.{◌≡◌, ◌≢◌, ℕ, zero, suc, ◌+◌, ◌<◌, ◌≤◌, Bool, true, false, cond, eqb, List, [], ◌∷◌, length, Option, Some, None as Nothing_, refl, sym, ap, ◌∙◌, arith}
 use Rattle.ioc_record.specs.declared.common.Common.{Common}
 use Rattle.ioc_record.specs.declared.link_field.LinkUse.{LinkUse}
 use Rattle.ioc_record.specs.declared.link_field.LinkUse.TheVariants.{Unused, OwnDevice, Absent, Standing}
@@ -7,20 +7,31 @@ use Rattle.ioc_record.specs.declared.link_field.StandingLink.{StandingLink}
 use Rattle.ioc_record.specs.declared.body.Got.{Got}
 use Rattle.ioc_record.specs.declared.body.Want.{Want}
 use Rattle.ioc_record.specs.declared.body.Want.TheVariants.{NoInput, ReadLink}
+use Rattle.ioc_record.specs.declared.body.Output.{Output}
+use Rattle.ioc_record.specs.declared.body.Output.TheVariants.{NoOutput, WriteLink, WriteDevice, FollowLinks, PostEvent}
+use Rattle.ioc_fields.specs.declared.field_no.Slot.{Slot}
+use Rattle.ioc_values.specs.declared.input.Input.{Input}
+use Rattle.ioc_values.specs.declared.input.Input.TheVariants.{Value as InputValue}
+use Rattle.ioc_record.specs.Values.{put_untested, converted_for}
 use Rattle.ioc_device.specs.declared.Answer.{Answer}
 use Rattle.ioc_device.specs.declared.Answer.TheVariants.{Done as Done-answer, Fault as Fault-answer, Later}
 use Rattle.ioc_values.specs.declared.value.Value.{Value}
 use Rattle.ioc_values.specs.declared.error.IocError.{IocError}
 use Rattle.ioc_record.specs.Links.{use_of}
-use Rattle.ioc_record.specs.Steps.{inherited, blocked, unblocked, with_active, shown, waiting}
+use Rattle.std.proofs.lemmas.Grind.{common_steps}
+use Rattle.ioc_record.specs.Steps.{inherited, blocked, unblocked, with_active, shown, waiting, is_passive}
 use Rattle.ioc_record.specs.RecordRules.{RecordRules}
 use Rattle.ioc_record.specs.Laws.{IsLawful}
-use Rattle.ioc_process.specs.World.{World, at, common_at, put, used_one, changed, idle, Stays}
-use Rattle.ioc_ledger.specs.Requests.{None}
-use Rattle.ioc_process.specs.Processing.{Done, Reading, caused, followed, inherits, value_came, prepared, read_record, faulted, read_link, completed, completed_if, device_gave, received, read_device, can_ask, input, body, turned_away, processed, requested, nested, request}
-use Rattle.std.specs.Prelude.{slice_get, unwrap_or, Result, Ok, Err}
-use Rattle.ioc_process.proofs.StepFrames.{blocked-frame}
-use Rattle.ioc_process.proofs.Worlds.{room, one_of_two, common_at-changed, idle-changed, idle-kept, idle-put, at-put_same}
+use Rattle.ioc_process.specs.declared.outbox.OutboxItem.{OutboxItem}
+use Rattle.ioc_process.specs.declared.outbox.OutboxItem.TheVariants.{Post}
+use Rattle.ioc_process.specs.World.{World, Has, at, common_at, put, used_one, sent, changed, idle, Stays}
+use Rattle.ioc_process.specs.Links.{link_at, chosen_links, requests_first, requests_after, handed_on}
+use Rattle.ioc_ledger.specs.Requests.{None, more}
+use Rattle.ioc_process.specs.Processing.{Done, Reading, Written, PutOut, caused, followed, inherits, value_came, stored_at, wrote, after_writing, write_link, followed_each, finished, finished_if, after_output, acknowledged, write_device, put_out, prepared, read_record, faulted, read_link, completed, completed_if, device_gave, received, read_device, can_ask, input, body, turned_away, processed, requested, nested, request}
+use Rattle.std.specs.Prelude.{slice_get, unwrap_or, nat_lt, ◌++◌, Result, Ok, Err}
+use Rattle.ioc_fields.specs.declared.field_no.FieldNo.{FieldNo}
+use Rattle.ioc_process.proofs.StepFrames.{blocked-frame, stored_with}
+use Rattle.ioc_process.proofs.Worlds.{room, common_at-changed, idle-changed, idle-kept, idle-put, at-put_same, at-put_other, has-put}
 
 abbrev one_if : Bool → ℕ
 one_if b = cond b 1 0
@@ -43,13 +54,18 @@ module _ {R : Type 0} (k : RecordRules R) where
     pub fewer : idle k reading.world ≤ idle k w
     pub active : (got : Got) → reading.came ≡ Some got → (common_at k reading.world s).active ≡ (common_at k w s).active
 
+  -- the same after an output, unless its device answers later
+  pub record Outs (w : World R) (s : ℕ) (out : PutOut R) : Type 0 where
+    pub fewer : idle k out.world ≤ idle k w
+    pub active : out.goes_on ≡ true → (common_at k out.world s).active ≡ (common_at k w s).active
+
   pub stays_here : (w : World R) (s : ℕ) → Stays k w s w
   stays_here w s = record { fewer = omega arith; active = refl }
 
   pub stays_on : {w mid after : World R} {s : ℕ} → Stays k w s mid → Stays k mid s after → Stays k w s after
   stays_on one two = let a = one.fewer in let b = two.fewer in record { fewer = omega arith; active = two.active ∙ one.active }
 
-  room_on : (bound : ℕ) (w mid : World R) (s : ℕ) → Room bound w s → Stays k w s mid → Room bound mid s
+  pub room_on : (bound : ℕ) (w mid : World R) (s : ℕ) → Room bound w s → Stays k w s mid → Room bound mid s
   room_on bound w mid s room one = omega (arith, room, one.fewer, ap one_if_not one.active)
 
 module _ {R : Type 0} (k : RecordRules R) (lawful : IsLawful k) where
@@ -79,43 +95,54 @@ module _ {R : Type 0} (k : RecordRules R) (lawful : IsLawful k) where
   value_came-stays w s t (Ok v) = inherits-stays w s t
   value_came-stays w s t (Err e) = faulted-stays w s
 
-  module _ (w : World R) (s : ℕ) (got : Got) (inactive : (common_at k w s).active ≡ false) where
-    taken_world : World R
-    taken_world = put w s (k.taken (at k w s) got)
+  -- a value that is stored, or not, takes no record away
+  pub written_has : (w : World R) (t : StandingLink) (result : Result R IocError) (n : ℕ) → Has w n → Has (stored_at k w t result).world n
+  unfolding stored_at
+  written_has w t (Ok r) n has = has-put k w t.number n r has
+  written_has w t (Err e) n has = has
 
-    ready_world : World R
-    ready_world = changed k taken_world s shown
+  -- a record that is put, as active as it was
+  pub stays-put : (w : World R) (s n : ℕ) (r : R) → (k.common r).active ≡ (common_at k w n).active → Stays k w s (put w n r)
+  stays-put w s n r same = record {
+    fewer = omega (arith, idle-put k lawful w n r, ap one_if_not same);
+    active = elim (eqb s n) as (λ b. eqb s n ≡ b → (common_at k (put w n r) s).active ≡ (common_at k w s).active) [
+      | true ↦ λ is. let e : s ≡ n = grind (arith, common_steps) in ap (λ (x : R). (k.common x).active) (ap (at k (put w n r)) e ∙ at-put_same k w n r) ∙ same ∙ ap (λ (m : ℕ). (common_at k w m).active) (sym e)
+      | false ↦ λ is. let apart : s ≢ n = grind (arith, common_steps) in ap (λ (x : R). (k.common x).active) (at-put_other k w n s r apart)
+    ] refl;
+  }
 
-    taken_idle : idle k taken_world ≡ idle k w
-    unfolding taken_world
-    taken_idle = omega (arith, idle-put k lawful w s (k.taken (at k w s) got), ap one_if_not (lawful.taken_active (at k w s) got))
+  stays-other : (w : World R) (s n : ℕ) (f : Common → Common) → (f (common_at k w n)).active ≡ (common_at k w n).active → Stays k w s (changed k w n f)
+  unfolding changed
+  stays-other w s n f same = stays-put w s n _ (ap (λ (c : Common). c.active) (lawful.common_set _ _) ∙ same)
 
-    taken_inactive : (common_at k taken_world s).active ≡ false
-    unfolding taken_world
-    taken_inactive = ap (λ (r : R). (k.common r).active) (at-put_same k w s _) ∙ lawful.taken_active _ got ∙ inactive
+  pub handed-stays : (w : World R) (s n : ℕ) (t : StandingLink) → Stays k w n (handed_on k w s t)
+  unfolding handed_on
+  handed-stays w s n t = stays-other w n t.number _ refl
 
-    ready_idle : idle k ready_world + 1 ≡ idle k w
-    unfolding ready_world
-    ready_idle = omega (arith, idle-changed k lawful taken_world s shown, ap one_if_not taken_inactive, taken_idle)
+  stored-stays : (w : World R) (s : ℕ) (t : StandingLink) (result : Result R IocError) → ((r : R) → result ≡ Ok r → (k.common r).active ≡ (common_at k w t.number).active)
+      → Stays k w s (stored_at k w t result).world
+  unfolding stored_at
+  stored-stays w s t (Ok r) same = stays-put w s t.number r (same r refl)
+  stored-stays w s t (Err e) same = stays_here k w s
 
-    ready_active : (common_at k ready_world s).active ≡ true
-    unfolding ready_world
-    ready_active = ap (λ (c : Common). c.active) (common_at-changed k lawful taken_world s shown)
+  pub untested-active : (r : R) (f : FieldNo) (given : Input) (r' : R) → put_untested k r f given ≡ Ok r' → (k.common r').active ≡ (k.common r).active
+  unfolding put_untested
+  untested-active r f given r' is =
+      let with = stored_with k r r' f (converted_for k r f given) is in
+      ap (λ (x : R). (k.common x).active) (sym with.1) ∙ lawful.stored_active r f with.0
 
-  pub room-ready : (w : World R) (s : ℕ) (got : Got) → room k (changed k (put w s (k.taken (at k w s) got)) s shown) s ≡ room k w s
-  room-ready w s got =
-      let taken = put w s (k.taken (at k w s) got) in
-      let same : (common_at k taken s).active ≡ (common_at k w s).active = ap (λ (r : R). (k.common r).active) (at-put_same k w s _) ∙ lawful.taken_active _ got in
-      let now : (common_at k (changed k taken s shown) s).active ≡ true = ap (λ (c : Common). c.active) (common_at-changed k lawful taken s shown) in
-      omega (
-        arith,
-        idle-put k lawful w s (k.taken (at k w s) got),
-        ap one_if_not (lawful.taken_active (at k w s) got),
-        idle-changed k lawful taken s shown,
-        ap one_if_not same,
-        ap one_if now,
-        one_of_two (common_at k w s).active,
-      )
+  pub wrote-stays : (w : World R) (s : ℕ) (t : StandingLink) (v : Value) → Stays k w s (wrote k w s t v).world
+  unfolding wrote
+  wrote-stays w s t v = stays_on k (stored-stays w s t _ (untested-active (at k w t.number) t.field (InputValue v))) (handed-stays _ s s t)
+
+  pub taken-stays : (w : World R) (s : ℕ) (got : Got) → Stays k w s (put w s (k.taken (at k w s) got))
+  taken-stays w s got = stays-put w s s _ (lawful.taken_active _ got)
+
+  pub room-shown : (w : World R) (s : ℕ) → idle k (changed k w s (shown w.moment)) + one_if_not (common_at k w s).active ≡ idle k w
+  room-shown w s = omega (arith, idle-changed k lawful w s (shown w.moment))
+
+  pub shown-active : (w : World R) (s : ℕ) → (common_at k (changed k w s (shown w.moment)) s).active ≡ true
+  shown-active w s = ap (λ (c : Common). c.active) (common_at-changed k lawful w s (shown w.moment))
 
   module _ (bound : ℕ) (ask other : World R → ℕ → Done R) (asks : Asks k bound ask other) where
     pub caused-stays : (w : World R) (s t : ℕ) → Room k bound w s → Stays k w s (caused k ask w s t).world
@@ -135,14 +162,18 @@ module _ {R : Type 0} (k : RecordRules R) (lawful : IsLawful k) where
 
     pub followed-stays : (w : World R) (s : ℕ) (link : LinkUse) → Room k bound w s → Stays k w s (followed k ask w s link).world
     unfolding followed
-    followed-stays w s (Standing t) room = caused-stays w s t.number room
+    followed-stays w s (Standing t) room =
+        elim (is_passive (common_at k w t.number)) as (λ b. Stays k w s (cond {A = Done R} b (caused k ask w s t.number) (record { world = w; requests = None })).world) [
+          | true ↦ caused-stays w s t.number room
+          | false ↦ stays_here k w s
+        ]
     followed-stays w s Unused room = stays_here k w s
     followed-stays w s OwnDevice room = stays_here k w s
     followed-stays w s Absent room = stays_here k w s
 
     followed-same : (w : World R) (s : ℕ) (link : LinkUse) → Room k bound w s → followed k ask w s link ≡ followed k other w s link
     unfolding followed
-    followed-same w s (Standing t) room = caused-same w s t.number room
+    followed-same w s (Standing t) room = rw (caused-same w s t.number room) refl
     followed-same w s Unused room = refl
     followed-same w s OwnDevice room = refl
     followed-same w s Absent room = refl
@@ -150,7 +181,7 @@ module _ {R : Type 0} (k : RecordRules R) (lawful : IsLawful k) where
     prepared-stays : (w : World R) (s : ℕ) (t : StandingLink) → Room k bound w s → Stays k w s (prepared k ask w s t).world
     unfolding prepared
     prepared-stays w s t room =
-        elim t.process_passive as (λ b. Stays k w s (cond {A = Done R} b (caused k ask w s t.number) (record { world = w; requests = None })).world) [
+        elim (requests_first k w t) as (λ b. Stays k w s (cond {A = Done R} b (caused k ask w s t.number) (record { world = w; requests = None })).world) [
           | true ↦ caused-stays w s t.number room
           | false ↦ stays_here k w s
         ]
@@ -181,20 +212,92 @@ module _ {R : Type 0} (k : RecordRules R) (lawful : IsLawful k) where
     read_link-same w s OwnDevice room = refl
     read_link-same w s Absent room = refl
 
-    module _ (w : World R) (s : ℕ) (got : Got) (inactive : (common_at k w s).active ≡ false) (small : idle k w ≤ bound) where
-      ready_room : Room k bound (ready_world w s got inactive) s
-      ready_room = omega (arith, ready_idle w s got inactive, ap one_if_not (ready_active w s got inactive), small)
+    calls-stays : (w : World R) (s : ℕ) (t : StandingLink) (b : Bool) → Room k bound w s → Stays k w s (cond {A = Done R} b (caused k ask w s t.number) (record { world = w; requests = None })).world
+    calls-stays w s t true room = caused-stays w s t.number room
+    calls-stays w s t false room = stays_here k w s
 
-      pub completed-fewer : idle k (completed k ask w s got).world ≤ idle k w
-      unfolding completed taken_world ready_world
-      completed-fewer =
-          let ready = ready_world w s got inactive in
-          let link = (use_of (common_at k ready s).forward_link) in
-          omega (arith, idle-changed k lawful (followed k ask ready s link).world s (with_active false), (followed-stays ready s link ready_room).fewer, ready_idle w s got inactive)
+    after_writing-stays : (done : Written R) (s : ℕ) (t : StandingLink) → Room k bound done.world s → Stays k done.world s (after_writing k ask done s t).world
+    unfolding after_writing
+    after_writing-stays done s t room =
+        elim done.stored as (λ b. Stays k done.world s (cond {A = Done R} b
+        (cond {A = Done R} (requests_after k done.world t) (caused k ask done.world s t.number) (record { world = done.world; requests = None }))
+        (record { world = faulted k done.world s; requests = None })).world) [
+          | true ↦ calls-stays done.world s t (requests_after k done.world t) room
+          | false ↦ faulted-stays done.world s
+        ]
 
-      completed-same : completed k ask w s got ≡ completed k other w s got
-      unfolding completed taken_world ready_world
-      completed-same = rw (followed-same (ready_world w s got inactive) s _ ready_room) refl
+    after_writing-same : (done : Written R) (s : ℕ) (t : StandingLink) → Room k bound done.world s → after_writing k ask done s t ≡ after_writing k other done s t
+    unfolding after_writing
+    after_writing-same done s t room = rw (caused-same done.world s t.number room) refl
+
+    pub write_link-stays : (w : World R) (s : ℕ) (link : LinkUse) (v : Value) → Room k bound w s → Stays k w s (write_link k ask w s link v).world
+    unfolding write_link
+    write_link-stays w s (Standing t) v room = let first = wrote-stays w s t v in stays_on k first (after_writing-stays _ s t (room_on k bound w _ s room first))
+    write_link-stays w s Unused v room = stays_here k w s
+    write_link-stays w s OwnDevice v room = faulted-stays w s
+    write_link-stays w s Absent v room = faulted-stays w s
+
+    write_link-same : (w : World R) (s : ℕ) (link : LinkUse) (v : Value) → Room k bound w s → write_link k ask w s link v ≡ write_link k other w s link v
+    unfolding write_link
+    write_link-same w s (Standing t) v room = after_writing-same _ s t (room_on k bound w _ s room (wrote-stays w s t v))
+    write_link-same w s Unused v room = refl
+    write_link-same w s OwnDevice v room = refl
+    write_link-same w s Absent v room = refl
+
+    pub followed_each-stays : (slots : List Slot) (w : World R) (s : ℕ) → Room k bound w s → Stays k w s (followed_each k ask w s slots).world
+    unfolding followed_each
+    followed_each-stays [] w s room = stays_here k w s
+    followed_each-stays (slot ∷ slots) w s room =
+        let first = followed-stays w s (link_at k w s slot) room in
+        stays_on k first (followed_each-stays slots _ s (room_on k bound w _ s room first))
+
+    followed_each-same : (slots : List Slot) (w : World R) (s : ℕ) → Room k bound w s → followed_each k ask w s slots ≡ followed_each k other w s slots
+    unfolding followed_each
+    followed_each-same [] w s room = refl
+    followed_each-same (slot ∷ slots) w s room =
+        let first = followed-stays w s (link_at k w s slot) room in
+        rw (← followed-same w s (link_at k w s slot) room, followed_each-same slots _ s (room_on k bound w _ s room first)) refl
+
+    module _ (w : World R) (s : ℕ) (inactive : (common_at k w s).active ≡ false) (small : idle k w ≤ bound) where
+      ready_world : World R
+      ready_world = changed k w s (shown w.moment)
+
+      ready_idle : idle k ready_world + 1 ≡ idle k w
+      unfolding ready_world
+      ready_idle = omega (arith, room-shown w s, ap one_if_not inactive)
+
+      ready_room : Room k bound ready_world s
+      unfolding ready_world
+      ready_room = omega (arith, ready_idle, ap one_if_not (shown-active w s), small)
+
+      pub finished-fewer : idle k (finished k ask w s).world ≤ idle k w
+      unfolding finished ready_world
+      finished-fewer =
+          let link = (use_of (common_at k ready_world s).forward_link) in
+          omega (arith, idle-changed k lawful (followed k ask ready_world s link).world s (with_active false), (followed-stays ready_world s link ready_room).fewer, ready_idle)
+
+      finished-same : finished k ask w s ≡ finished k other w s
+      unfolding finished ready_world
+      finished-same = rw (followed-same ready_world s _ ready_room) refl
+
+    -- the rest of a body after its output
+    pub after_output-fewer : (w : World R) (s : ℕ) (out : PutOut R) → (common_at k w s).active ≡ false → idle k w ≤ bound → Outs k w s out → idle k (after_output k ask s out).world ≤ idle k w
+    unfolding after_output
+    after_output-fewer w s out inactive small o =
+        elim out.goes_on as (λ b. out.goes_on ≡ b → idle k (finished_if k ask out.world s b).world ≤ idle k w) [
+          | true ↦ λ is. omega (arith, finished-fewer out.world s (o.active is ∙ inactive) (omega (arith, o.fewer, small)), o.fewer)
+          | false ↦ λ _. o.fewer
+        ] refl
+
+    after_output-same : (w : World R) (s : ℕ) (out : PutOut R) → (common_at k w s).active ≡ false → idle k w ≤ bound → Outs k w s out → after_output k ask s out ≡ after_output k other s out
+    unfolding after_output
+    after_output-same w s out inactive small o =
+        let rest : finished_if k ask out.world s out.goes_on ≡ finished_if k other out.world s out.goes_on =
+        elim out.goes_on as (λ b. out.goes_on ≡ b → finished_if k ask out.world s b ≡ finished_if k other out.world s b) [
+          | true ↦ λ is. finished-same out.world s (o.active is ∙ inactive) (omega (arith, o.fewer, small))
+          | false ↦ λ _. refl
+        ] refl in
+        rw rest refl
 
   reads : (w : World R) (s : ℕ) (reading : Reading R) → Stays k w s reading.world → Reads k w s reading
   reads w s reading stays = record { fewer = stays.fewer; active = λ _ _. stays.active }
@@ -222,6 +325,35 @@ module _ {R : Type 0} (k : RecordRules R) (lawful : IsLawful k) where
         | false ↦ received-reads w s Fault-answer
       ]
 
+  outs : (w : World R) (s : ℕ) (out : PutOut R) → Stays k w s out.world → Outs k w s out
+  outs w s out stays = record { fewer = stays.fewer; active = λ _. stays.active }
+
+  pub sent-stays : (item : OutboxItem) (w : World R) (s : ℕ) → Stays k w s (sent item w)
+  unfolding idle at sent
+  sent-stays item w s =
+      elim (nat_lt (length w.outbox) 256) as (λ b. Stays k w s (cond b (record w { outbox = w.outbox ++ item ∷ [] }) (record w { dropped = more w.dropped }))) [
+        | true ↦ record { fewer = omega arith; active = refl }
+        | false ↦ record { fewer = omega arith; active = refl }
+      ]
+
+  acknowledged-outs : (w : World R) (s : ℕ) (answer : Answer) → Outs k w s (acknowledged k w s answer)
+  unfolding acknowledged
+  acknowledged-outs w s (Done-answer v) = outs w s _ (stays_here k w s)
+  acknowledged-outs w s Fault-answer = outs w s _ (stays-changed w s _ refl)
+  acknowledged-outs w s Later = record { fewer = omega (arith, idle-changed k lawful w s waiting); active = λ is. cc }
+
+  used_outs : (w : World R) (s : ℕ) (out : PutOut R) → Outs k (used_one w) s out → Outs k w s out
+  unfolding idle at used_one
+  used_outs w s out o = record { fewer = o.fewer; active = o.active }
+
+  pub write_device-outs : (answers : List Answer) (w : World R) (s : ℕ) → Outs k w s (write_device k answers w s)
+  unfolding write_device
+  write_device-outs answers w s =
+      elim (can_ask k w s) as (λ b. Outs k w s (cond b (acknowledged k (used_one w) s (unwrap_or (slice_get answers w.used) Fault-answer)) (acknowledged k w s Fault-answer))) [
+        | true ↦ let o = acknowledged-outs (used_one w) s (unwrap_or (slice_get answers w.used) Fault-answer) in used_outs w s _ o
+        | false ↦ acknowledged-outs w s Fault-answer
+      ]
+
   module _ (answers : List Answer) (bound : ℕ) (ask other : World R → ℕ → Done R) (asks : Asks k bound ask other) where
     pub input-reads : (w : World R) (s : ℕ) (want : Want) → Room k bound w s → Reads k w s (input k answers ask w s want)
     unfolding input
@@ -235,26 +367,68 @@ module _ {R : Type 0} (k : RecordRules R) (lawful : IsLawful k) where
     input-same w s (ReadLink link) room = read_link-same bound ask other asks w s link room
     input-same w s Device room = refl
 
-    module _ (w : World R) (s : ℕ) (inactive : (common_at k w s).active ≡ false) (room : idle k w ≤ bound) where
-      completed_if-fewer : (came : Option Got) → idle k (completed_if k ask w s came).world ≤ idle k w
-      completed_if-fewer Nothing_ = omega arith
-      completed_if-fewer (Some got) = completed-fewer bound ask other asks w s got inactive room
+    pub put_out-outs : (w : World R) (s : ℕ) (output : Output) → Room k bound w s → Outs k w s (put_out k answers ask w s output)
+    unfolding put_out
+    put_out-outs w s NoOutput room = outs w s _ (stays_here k w s)
+    put_out-outs w s (WriteLink link v) room = outs w s _ (write_link-stays bound ask other asks w s link v room)
+    put_out-outs w s (WriteDevice v) room = write_device-outs answers w s
+    put_out-outs w s (FollowLinks links) room = outs w s _ (followed_each-stays bound ask other asks (chosen_links links) w s room)
+    put_out-outs w s (PostEvent name) room = outs w s _ (sent-stays (Post name) w s)
 
-      completed_if-same : (came : Option Got) → completed_if k ask w s came ≡ completed_if k other w s came
+    put_out-same : (w : World R) (s : ℕ) (output : Output) → Room k bound w s → put_out k answers ask w s output ≡ put_out k answers other w s output
+    unfolding put_out
+    put_out-same w s NoOutput room = refl
+    put_out-same w s (WriteLink link v) room = ap (λ (d : Done R). record { world = d.world; requests = d.requests; goes_on = true }) (write_link-same bound ask other asks w s link v room)
+    put_out-same w s (WriteDevice v) room = refl
+    put_out-same w s (FollowLinks links) room = ap (λ (d : Done R). record { world = d.world; requests = d.requests; goes_on = true }) (followed_each-same bound ask other asks (chosen_links links) w s room)
+    put_out-same w s (PostEvent name) room = refl
+
+    module _ (w : World R) (s : ℕ) (got : Got) (inactive : (common_at k w s).active ≡ false) (small : idle k w ≤ bound) where
+      taken_world : World R
+      taken_world = put w s (k.taken (at k w s) got)
+
+      taken_small : idle k taken_world ≤ bound
+      unfolding taken_world
+      taken_small = omega (arith, (taken-stays w s got).fewer, small)
+
+      taken_inactive : (common_at k taken_world s).active ≡ false
+      unfolding taken_world
+      taken_inactive = (taken-stays w s got).active ∙ inactive
+
+      taken_room : Room k bound taken_world s
+      taken_room = omega (arith, taken_small, ap one_if_not taken_inactive)
+
+      pub completed-fewer : idle k (completed k answers ask w s got).world ≤ idle k w
+      unfolding completed taken_world
+      completed-fewer =
+          omega (arith, (taken-stays w s got).fewer, after_output-fewer bound ask other asks taken_world s _ taken_inactive taken_small (put_out-outs taken_world s (k.output (at k w s) got) taken_room))
+
+      completed-same : completed k answers ask w s got ≡ completed k answers other w s got
+      unfolding completed taken_world
+      completed-same =
+          after_output-same bound ask other asks taken_world s _ taken_inactive taken_small (put_out-outs taken_world s (k.output (at k w s) got) taken_room)
+          ∙ ap (after_output k other s) (put_out-same taken_world s (k.output (at k w s) got) taken_room)
+
+    module _ (w : World R) (s : ℕ) (inactive : (common_at k w s).active ≡ false) (room : idle k w ≤ bound) where
+      completed_if-fewer : (came : Option Got) → idle k (completed_if k answers ask w s came).world ≤ idle k w
+      completed_if-fewer Nothing_ = omega arith
+      completed_if-fewer (Some got) = completed-fewer w s got inactive room
+
+      completed_if-same : (came : Option Got) → completed_if k answers ask w s came ≡ completed_if k answers other w s came
       completed_if-same Nothing_ = refl
-      completed_if-same (Some got) = completed-same bound ask other asks w s got inactive room
+      completed_if-same (Some got) = completed-same w s got inactive room
 
     -- the rest of a body after its input
     after_reading : (w : World R) (s : ℕ) (reading : Reading R) → (common_at k w s).active ≡ false → idle k w ≤ bound → Reads k w s reading →
-        (idle k (completed_if k ask reading.world s reading.came).world ≤ idle k w)
-        × (completed_if k ask reading.world s reading.came ≡ completed_if k other reading.world s reading.came)
+        (idle k (completed_if k answers ask reading.world s reading.came).world ≤ idle k w)
+        × (completed_if k answers ask reading.world s reading.came ≡ completed_if k answers other reading.world s reading.came)
     after_reading w s reading inactive room r =
-        elim reading.came as (λ came. reading.came ≡ came → (idle k (completed_if k ask reading.world s came).world ≤ idle k w) × (completed_if k ask reading.world s came ≡ completed_if k other reading.world s came)) [
+        elim reading.came as (λ came. reading.came ≡ came → (idle k (completed_if k answers ask reading.world s came).world ≤ idle k w) × (completed_if k answers ask reading.world s came ≡ completed_if k answers other reading.world s came)) [
           | Nothing_ ↦ λ _. (r.fewer, refl)
           | Some got ↦ λ is.
               let still = r.active got is ∙ inactive in
               let small : idle k reading.world ≤ bound = omega (arith, r.fewer, room) in
-              (omega (arith, completed-fewer bound ask other asks reading.world s got still small, r.fewer), completed-same bound ask other asks reading.world s got still small)
+              (omega (arith, completed-fewer reading.world s got still small, r.fewer), completed-same reading.world s got still small)
         ] refl
 
     pub body-fewer : (w : World R) (s : ℕ) → (common_at k w s).active ≡ false → idle k w ≤ bound → idle k (body k answers ask w s).world ≤ idle k w
@@ -340,3 +514,9 @@ module _ {R : Type 0} (k : RecordRules R) (lawful : IsLawful k) where
 
       pub reads-input : (want : Want) → Reads k w s (input k answers (request k answers) w s want)
       reads-input want = input-reads answers _ _ _ (request-asks (idle k w + 1)) w s want free
+
+      pub stays-followed : (link : LinkUse) → Stays k w s (followed k (request k answers) w s link).world
+      stays-followed link = followed-stays _ _ _ (request-asks (idle k w + 1)) w s link free
+
+      pub outs-put_out : (output : Output) → Outs k w s (put_out k answers (request k answers) w s output)
+      outs-put_out output = put_out-outs answers _ _ _ (request-asks (idle k w + 1)) w s output free

@@ -1,12 +1,10 @@
 -- What requests leave alone: which records there are, and what their links name.
-use Rattle.std.proofs.Common.{◌≡◌, ◌≢◌, ℕ, Bool, true, false, cond, eqb, List, refl, ap, subst, ◌∙◌, arith}
+use Rattle.std.proofs.Common.{◌≡◌, ◌≢◌, ℕ, Bool, true, false, cond, eqb, List, [], ◌∷◌, length, refl, ap, subst, ◌∙◌, arith}
 use Rattle.std.proofs.lemmas.Grind.{common_steps}
-use Rattle.std.specs.Prelude.{Result, Ok, Err, Contains, unwrap_or, slice_get}
+use Rattle.std.specs.Prelude.{Result, Ok, Err, Contains, unwrap_or, slice_get, nat_lt, ◌++◌}
 use Rattle.ioc_values.specs.declared.value.Value.{Value}
 use Rattle.ioc_values.specs.declared.error.IocError.{IocError}
 use Rattle.ioc_record.specs.declared.common.Common.{Common}
-use Rattle.ioc_record.specs.declared.link_field.LinkUse.{LinkUse}
-use Rattle.ioc_record.specs.declared.link_field.LinkUse.TheVariants.{Standing}
 use Rattle.ioc_record.specs.declared.link_field.StandingLink.{StandingLink}
 use Rattle.ioc_record.specs.declared.body.Got.{Got}
 use Rattle.ioc_device.specs.declared.Answer.{Answer}
@@ -14,11 +12,15 @@ use Rattle.ioc_device.specs.declared.Answer.TheVariants.{Done as Done-answer, Fa
 use Rattle.ioc_record.specs.Steps.{with_active}
 use Rattle.ioc_record.specs.RecordRules.{RecordRules}
 use Rattle.ioc_record.specs.Laws.{IsLawful}
-use Rattle.ioc_process.specs.World.{World, Has, at, put, changed, SameLinks, Keeps, IsClosed, used_one}
-use Rattle.ioc_process.specs.Processing.{caused, followed, inherits, value_came, prepared, read_record, faulted, device_gave, received, read_device, can_ask, request}
-use Rattle.ioc_process.proofs.StepFrames.{targets_same, links-set, links-taken}
+use Rattle.ioc_ledger.specs.Requests.{more}
+use Rattle.ioc_process.specs.declared.outbox.OutboxItem.{OutboxItem}
+use Rattle.ioc_process.specs.World.{World, Has, at, put, changed, SameLinks, Keeps, IsClosed, used_one, sent}
+use Rattle.ioc_process.specs.Processing.{inherits, value_came, wrote, faulted, device_gave, received, read_device, acknowledged, write_device, can_ask, request}
+use Rattle.ioc_process.proofs.StepFrames.{OwnLinks, targets_same, links-set, links-taken, links-stored}
 use Rattle.ioc_process.proofs.Worlds.{at-put_same, at-put_other, has-put, has-put_back, len-put}
-use Rattle.ioc_process.proofs.Alongside.{Guards, Goes, inherits-goes, value_came-goes, caused-goes, followed-goes, prepared-goes, read_record-goes, request-goes}
+use Rattle.ioc_process.specs.Links.{handed_on}
+use Rattle.ioc_process.proofs.Depth.{written_has}
+use Rattle.ioc_process.proofs.Alongside.{Guards, inherits-goes, value_came-goes, wrote-goes, request-goes}
 
 -- the same record has the same links, and so has one after another
 pub same_links : {R : Type 0} (k : RecordRules R) (r : R) → SameLinks k r r
@@ -53,7 +55,7 @@ module _ {R : Type 0} (k : RecordRules R) (lawful : IsLawful k) where
   pub closed_on : {w after : World R} → Keeps k w after → IsClosed k w → IsClosed k after
   closed_on keeps is = record { closed = λ n target h. keeps.has target (is.closed n target (subst (λ (l : List ℕ). Contains l target) (targets_same k lawful (keeps.links n)) h)) }
 
-  pub keeps-changed : (w : World R) (s : ℕ) → Has w s → (f : Common → Common) → ((c : Common) → (f c).forward_link ≡ c.forward_link) → Keeps k w (changed k w s f)
+  pub keeps-changed : (w : World R) (s : ℕ) → Has w s → (f : Common → Common) → ((c : Common) → OwnLinks c (f c)) → Keeps k w (changed k w s f)
   unfolding changed
   keeps-changed w s there f same = keeps-put k w s there _ (links-set k lawful (at k w s) _ (same _))
 
@@ -61,26 +63,49 @@ module _ {R : Type 0} (k : RecordRules R) (lawful : IsLawful k) where
   keeps-taken w s there got = keeps-put k w s there _ (links-taken k lawful _ got)
 
   pub keeps-active : (w : World R) (s : ℕ) → Has w s → (b : Bool) → Keeps k w (changed k w s (with_active b))
-  keeps-active w s there b = keeps-changed w s there _ (λ _. refl)
+  keeps-active w s there b = keeps-changed w s there _ (λ _. (refl, refl))
 
   pub faulted-keeps : (w : World R) (s : ℕ) → Has w s → Keeps k w (faulted k w s)
   unfolding faulted
-  faulted-keeps w s there = keeps-changed w s there _ (λ c. refl)
+  faulted-keeps w s there = keeps-changed w s there _ (λ c. (refl, refl))
 
   device_gave-keeps : (w : World R) (s : ℕ) → Has w s → (value : Result Value IocError) → Keeps k w (device_gave k w s value).world
   unfolding device_gave
   device_gave-keeps w s there (Ok v) = keeps_all k w
-  device_gave-keeps w s there (Err e) = keeps-changed w s there _ (λ c. refl)
+  device_gave-keeps w s there (Err e) = keeps-changed w s there _ (λ c. (refl, refl))
 
   pub received-keeps : (w : World R) (s : ℕ) → Has w s → (answer : Answer) → Keeps k w (received k w s answer).world
   unfolding received
   received-keeps w s there (Done-answer v) = device_gave-keeps w s there _
-  received-keeps w s there Fault-answer = keeps-changed w s there _ (λ c. refl)
-  received-keeps w s there Later = keeps-changed w s there _ (λ c. refl)
+  received-keeps w s there Fault-answer = keeps-changed w s there _ (λ c. (refl, refl))
+  received-keeps w s there Later = keeps-changed w s there _ (λ c. (refl, refl))
 
   used-keeps : (w : World R) → Keeps k w (used_one w)
   unfolding at used_one
   used-keeps w = record { has = λ _ h. h; only = λ _ h. h; count = refl; links = λ n. record { fields = refl; links = refl } }
+
+  pub sent-keeps : (item : OutboxItem) (w : World R) → Keeps k w (sent item w)
+  unfolding at sent
+  sent-keeps item w =
+      elim (nat_lt (length w.outbox) 256) as (λ b. Keeps k w (cond b (record w { outbox = w.outbox ++ item ∷ [] }) (record w { dropped = more w.dropped }))) [
+        | true ↦ record { has = λ _ h. h; only = λ _ h. h; count = refl; links = λ n. record { fields = refl; links = refl } }
+        | false ↦ record { has = λ _ h. h; only = λ _ h. h; count = refl; links = λ n. record { fields = refl; links = refl } }
+      ]
+
+  acknowledged-keeps : (w : World R) (s : ℕ) → Has w s → (answer : Answer) → Keeps k w (acknowledged k w s answer).world
+  unfolding acknowledged
+  acknowledged-keeps w s there (Done-answer v) = keeps_all k w
+  acknowledged-keeps w s there Fault-answer = keeps-changed w s there _ (λ c. (refl, refl))
+  acknowledged-keeps w s there Later = keeps-changed w s there _ (λ c. (refl, refl))
+
+  pub write_device-keeps : (answers : List Answer) (w : World R) (s : ℕ) → Has w s → Keeps k w (write_device k answers w s).world
+  unfolding write_device
+  write_device-keeps answers w s there =
+      let next = unwrap_or (slice_get answers w.used) Fault-answer in
+      elim (can_ask k w s) as (λ b. Keeps k w (cond b (acknowledged k (used_one w) s next) (acknowledged k w s Fault-answer)).world) [
+        | true ↦ keeps_on k (used-keeps w) (acknowledged-keeps (used_one w) s ((used-keeps w).has s there) next)
+        | false ↦ acknowledged-keeps w s there Fault-answer
+      ]
 
   pub read_device-keeps : (answers : List Answer) (w : World R) (s : ℕ) → Has w s → Keeps k w (read_device k answers w s).world
   unfolding read_device
@@ -90,6 +115,11 @@ module _ {R : Type 0} (k : RecordRules R) (lawful : IsLawful k) where
         | true ↦ keeps_on k (used-keeps w) (received-keeps (used_one w) s ((used-keeps w).has s there) next)
         | false ↦ received-keeps w s there Fault-answer
       ]
+
+  -- a write takes no record away
+  pub wrote-has : (w : World R) (s : ℕ) (t : StandingLink) (v : Value) (n : ℕ) → Has w n → Has (wrote k w s t v).world n
+  unfolding wrote handed_on changed
+  wrote-has w s t v n has = has-put k _ t.number n _ (written_has k lawful w t _ n has)
 
   -- from a world that no link leaves
   module _ (w0 : World R) (closed : IsClosed k w0) where
@@ -105,11 +135,14 @@ module _ {R : Type 0} (k : RecordRules R) (lawful : IsLawful k) where
       same = λ inv n _. ap (λ (w : World R). at k w n) inv.0;
       good = λ inv n may. (may, inv.1.links n);
       used = λ inv. ap (λ (w : World R). w.used) inv.0;
+      moment = λ inv. ap (λ (w : World R). w.moment) inv.0;
       link = λ {n} {r} good target links. closed.closed n target (subst (λ (l : List ℕ). Contains l target) (targets_same k lawful good.1) links);
       common = λ good c same. (good.0, links_on k good.1 (links-set k lawful _ c same));
       taken = λ good got. (good.0, links_on k good.1 (links-taken k lawful _ got));
+      stored = λ good f v. (good.0, links_on k good.1 (links-stored k lawful _ f v));
       put = λ inv n may r good. (ap (λ (w : World R). put w n r) inv.0, put_kept k w0 _ n may r inv.1 good.1);
       use_one = λ inv. (ap used_one inv.0, keeps_on k inv.1 (used-keeps _));
+      send = λ inv item. (ap (sent item) inv.0, keeps_on k inv.1 (sent-keeps item _));
     }
 
     start : KeptFrom w0 w0
@@ -121,21 +154,8 @@ module _ {R : Type 0} (k : RecordRules R) (lawful : IsLawful k) where
     pub value_came-keeps : (s : ℕ) → Has w0 s → (t : StandingLink) → Has w0 t.number → (value : Result Value IocError) → Keeps k w0 (value_came k w0 s t value).world
     value_came-keeps s may t there value = (value_came-goes k lawful _ _ _ kept start s may t there value).inv.1
 
+    pub wrote-keeps : (s : ℕ) → Has w0 s → (t : StandingLink) → Has w0 t.number → (v : Value) → Keeps k w0 (wrote k w0 s t v).world
+    wrote-keeps s may t there v = (wrote-goes k lawful _ _ _ kept start s may t there v).inv.1
+
     pub request-keeps : (answers : List Answer) (s : ℕ) → Has w0 s → Keeps k w0 (request k answers w0 s).world
     request-keeps answers s may = (request-goes k lawful _ _ _ kept answers start s may).inv.1
-
-    module _ (answers : List Answer) (s : ℕ) (may : Has w0 s) where
-      asks : (v u : World R) → KeptFrom v u → (t : ℕ) → Has w0 t → Goes KeptFrom (request k answers v t) (request k answers u t)
-      asks v u = request-goes k lawful _ _ _ kept answers
-
-      pub keeps-caused : (t : ℕ) → Has w0 t → Keeps k w0 (caused k (request k answers) w0 s t).world
-      keeps-caused t there = (caused-goes k lawful _ _ _ kept _ _ asks start s may t there).inv.1
-
-      pub keeps-followed : (link : LinkUse) → ((t : StandingLink) → link ≡ Standing t → Has w0 t.number) → Keeps k w0 (followed k (request k answers) w0 s link).world
-      keeps-followed link there = (followed-goes k lawful _ _ _ kept _ _ asks start s may link there).inv.1
-
-      pub keeps-prepared : (t : StandingLink) → Has w0 t.number → Keeps k w0 (prepared k (request k answers) w0 s t).world
-      keeps-prepared t there = (prepared-goes k lawful _ _ _ kept _ _ asks start s may t there).inv.1
-
-      pub keeps-read_record : (t : StandingLink) → Has w0 t.number → Keeps k w0 (read_record k (request k answers) w0 s t).world
-      keeps-read_record t there = (read_record-goes k lawful _ _ _ kept _ _ asks start s may t there).inv.1

@@ -1,6 +1,7 @@
 mod Weights
 mod Worlds
 mod StepFrames
+mod Named
 mod Depth
 mod Alongside
 mod Keeping
@@ -16,5 +17,8 @@ mod Quieting
 mod QuietEvents
 mod LocalEvents
 mod FrameSteps
+mod Writing
+mod FrameTurns
+mod Turning
 mod FrameWork
 mod FrameLoop

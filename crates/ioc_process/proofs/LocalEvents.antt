@@ -89,7 +89,7 @@ module _ {R : Type 0} (k : RecordRules R) (lawful : IsLawful k) (U : ℕ → Typ
     after-local : (s : ℕ) (field : FieldNo) → U s → AgreeEvent k U w v (after_put k answers w s field) (after_put k answers v s field)
     unfolding after_put
     after-local s field u =
-        subst (λ (r : R). AgreeEvent k U w v (follows s (processes (k.record_type (at k w s)) field) (k.common (at k w s)).active w) (follows s (processes (k.record_type r) field) (k.common r).active v))
+        subst (λ (r : R). AgreeEvent k U w v (follows s (processes k (at k w s) field) (k.common (at k w s)).active w) (follows s (processes k r field) (k.common r).active v))
         (same.records s u) (follows-local s u _ _)
 
   module _ (w v : World R) (shut : Shut k U w) (same : Same k U w v) where

@@ -1,14 +1,16 @@
 -- Requests look at the records that links lead to, and change these alone.
-use Rattle.std.proofs.Common.{◌≡◌, ◌≢◌, ℕ, ◌+◌, true, false, eqb, List, refl, sym, ap, subst, ◌∙◌, arith}
+use Rattle.std.proofs.Common.{◌≡◌, ◌≢◌, ℕ, ◌+◌, Bool, true, false, cond, eqb, List, [], ◌∷◌, length, refl, sym, ap, subst, ◌∙◌, arith}
 use Rattle.std.proofs.lemmas.Grind.{common_steps}
-use Rattle.std.specs.Prelude.{Contains}
+use Rattle.std.specs.Prelude.{Contains, nat_lt, ◌++◌}
+use Rattle.ioc_ledger.specs.Requests.{more}
+use Rattle.ioc_process.specs.declared.outbox.OutboxItem.{OutboxItem}
 use Rattle.ioc_device.specs.declared.Answer.{Answer}
 use Rattle.ioc_record.specs.RecordRules.{RecordRules, targets}
 use Rattle.ioc_record.specs.Laws.{IsLawful}
-use Rattle.ioc_process.specs.World.{World, at, put, used_one}
+use Rattle.ioc_process.specs.World.{World, at, put, used_one, sent}
 use Rattle.ioc_process.specs.Processing.{Done}
 use Rattle.ioc_process.specs.Local.{Shut, Same, Spares, Agree, RequestIsLocal}
-use Rattle.ioc_process.proofs.StepFrames.{targets-set, targets-taken}
+use Rattle.ioc_process.proofs.StepFrames.{targets-set, targets-taken, targets-stored}
 use Rattle.ioc_process.proofs.Worlds.{at-put_same, at-put_other}
 use Rattle.ioc_process.proofs.Alongside.{Guards, Goes, request-goes}
 
@@ -39,17 +41,41 @@ module _ {R : Type 0} (k : RecordRules R) (U : ℕ → Type 0) (w0 v0 : World R)
   abbrev pub Within : ℕ → R → Type 0
   Within n r = (target : ℕ) → Contains (targets k r) target → U target
 
+  sent_both : (w v : World R) (item : OutboxItem) (b : Bool) → Along w v → Along (cond b (record w { outbox = w.outbox ++ item ∷ [] }) (record w { dropped = more w.dropped }))
+      (cond b (record v { outbox = v.outbox ++ item ∷ [] }) (record v { dropped = more v.dropped }))
+  unfolding at
+  sent_both w v item true inv = record {
+    same = record { moment = inv.same.moment; used = inv.same.used; outbox = ap (λ (l : List OutboxItem). l ++ item ∷ []) inv.same.outbox; dropped = inv.same.dropped; records = inv.same.records };
+    shut = record { shut = inv.shut.shut };
+    spares = record { spared = inv.spares.spared };
+    other_spares = record { spared = inv.other_spares.spared };
+  }
+  sent_both w v item false inv = record {
+    same = record { moment = inv.same.moment; used = inv.same.used; outbox = inv.same.outbox; dropped = ap more inv.same.dropped; records = inv.same.records };
+    shut = record { shut = inv.shut.shut };
+    spares = record { spared = inv.spares.spared };
+    other_spares = record { spared = inv.other_spares.spared };
+  }
+
+  sent_along : (w v : World R) → Along w v → (item : OutboxItem) → Along (sent item w) (sent item v)
+  unfolding sent
+  sent_along w v inv item =
+      subst (λ (n : ℕ). Along (sent item w) (cond (nat_lt n 256) (record v { outbox = v.outbox ++ item ∷ [] }) (record v { dropped = more v.dropped })))
+      (ap length inv.same.outbox) (sent_both w v item (nat_lt (length w.outbox) 256) inv)
+
   pub guards : IsLawful k → Guards k U Within Along
   unfolding at put used_one
   guards lawful = record {
     same = λ inv n may. inv.same.records n may;
     good = λ inv n may target. inv.shut.shut n target may;
     used = λ inv. inv.same.used;
+    moment = λ inv. inv.same.moment;
     link = λ good target links. good target links;
     common = λ good c same target links. good target (subst (λ (x : List ℕ). Contains x target) (targets-set k lawful _ c same) links);
     taken = λ good got target links. good target (subst (λ (x : List ℕ). Contains x target) (targets-taken k lawful _ got) links);
+    stored = λ good f x target links. good target (subst (λ (l : List ℕ). Contains l target) (targets-stored k lawful _ f x) links);
     put = λ {w} {v} inv n may r good. record {
-      same = record { moment = inv.same.moment; used = inv.same.used; outbox = inv.same.outbox; dropped = inv.same.dropped; ended = inv.same.ended; records = λ m. both_put w v n r m (inv.same.records m) };
+      same = record { moment = inv.same.moment; used = inv.same.used; outbox = inv.same.outbox; dropped = inv.same.dropped; records = λ m. both_put w v n r m (inv.same.records m) };
       shut = record {
         shut = λ m target. by_put (λ m' x. U m' → Contains (targets k x) target → U target) w n r
             (λ u links. good target links) (λ m' _ u links. inv.shut.shut m' target u links) m;
@@ -58,11 +84,12 @@ module _ {R : Type 0} (k : RecordRules R) (U : ℕ → Type 0) (w0 v0 : World R)
       other_spares = record { spared = λ m. by_put (λ m' x. (U m' → ⊥) → x ≡ at k v0 m') v n r (λ out. absurd (out may)) (λ m' _ out. inv.other_spares.spared m' out) m };
     };
     use_one = λ inv. record {
-      same = record { moment = inv.same.moment; used = ap (λ (n : ℕ). n + 1) inv.same.used; outbox = inv.same.outbox; dropped = inv.same.dropped; ended = inv.same.ended; records = inv.same.records };
+      same = record { moment = inv.same.moment; used = ap (λ (n : ℕ). n + 1) inv.same.used; outbox = inv.same.outbox; dropped = inv.same.dropped; records = inv.same.records };
       shut = record { shut = inv.shut.shut };
       spares = record { spared = inv.spares.spared };
       other_spares = record { spared = inv.other_spares.spared };
     };
+    send = λ {w} {v} inv item. sent_along w v inv item;
   }
 
   pub along : Shut k U w0 → Same k U w0 v0 → Along w0 v0

@@ -1,5 +1,5 @@
 -- The rules allow the result of `request`.
-use Rattle.std.proofs.Common.{◌≡◌, ℕ, zero, suc, ◌+◌, ◌<◌, ◌≤◌, Bool, true, false, cond, eqb, nat_lt, List, Option, Some, None as Nothing_, unwrap_or, refl, ap, subst, ◌∙◌, arith}
+use Rattle.std.proofs.Common.{◌≡◌, ℕ, zero, suc, ◌+◌, ◌<◌, ◌≤◌, Bool, true, false, cond, eqb, nat_lt, List, [], ◌∷◌, Option, Some, None as Nothing_, unwrap_or, refl, ap, subst, ◌∙◌, arith}
 use Rattle.std.specs.Prelude.{slice_get, Result, Ok, Err}
 use Rattle.std.proofs.lemmas.Grind.{common_steps}
 use Rattle.ioc_record.specs.declared.link_field.LinkUse.{LinkUse}
@@ -13,16 +13,21 @@ use Rattle.ioc_device.specs.declared.Answer.TheVariants.{Done as Done-answer, Fa
 use Rattle.ioc_record.specs.declared.common.Common.{Common}
 use Rattle.ioc_values.specs.declared.value.Value.{Value}
 use Rattle.ioc_values.specs.declared.error.IocError.{IocError}
-use Rattle.ioc_record.specs.Values.{read_as, converted_to}
-use Rattle.ioc_record.specs.Steps.{inherited, unblocked, with_active, shown}
+use Rattle.ioc_record.specs.Values.{read_as, converted_to, put_untested}
+use Rattle.ioc_values.specs.declared.input.Input.TheVariants.{Value as InputValue}
+use Rattle.ioc_fields.specs.declared.field_no.Slot.{Slot}
+use Rattle.ioc_record.specs.declared.body.Output.{Output}
+use Rattle.ioc_record.specs.declared.body.Output.TheVariants.{NoOutput, WriteLink, WriteDevice, FollowLinks, PostEvent}
+use Rattle.ioc_record.specs.Steps.{inherited, unblocked, with_active, shown, is_passive}
 use Rattle.ioc_record.specs.RecordRules.{RecordRules}
 use Rattle.ioc_record.specs.Laws.{IsLawful}
 use Rattle.ioc_process.specs.World.{World, at, common_at, put, changed, idle, used_one}
+use Rattle.ioc_process.specs.Links.{link_at, chosen_links, requests_first, requests_after, handed_on}
 use Rattle.ioc_ledger.specs.Requests.{None, followed_by}
-use Rattle.ioc_process.specs.Processing.{Done, Reading, caused, followed, inherits, faulted, value_came, prepared, read_record, read_link, completed, completed_if, device_gave, received, read_device, can_ask, input, body, turned_away, processed, requested, request}
-use Rattle.ioc_process.specs.Rules.{Inherits, from_itself, from_another, Takes, that_converts, that_does_not, Receives, a_value, a_bad_value, a_fault, not_yet, Gives, next, asked_too_often, no_more_numbers, Requested, while_active, while_idle, Causes, meanwhile_active, unused, absent, no_such_device, as_it_stands, after_request, Follows, to_record, nowhere, Gets, no_input, of_link, of_device, Finishes, forward, Runs}
-use Rattle.ioc_process.proofs.Worlds.{common_at-changed, idle-changed, idle-kept}
-use Rattle.ioc_process.proofs.Depth.{Room, room-ready, reads-input, request-rule}
+use Rattle.ioc_process.specs.Processing.{Done, Reading, PutOut, caused, followed, inherits, faulted, value_came, stored_at, wrote, after_writing, write_link, followed_each, finished, finished_if, after_output, acknowledged, write_device, put_out, prepared, read_record, read_link, completed, completed_if, device_gave, received, read_device, can_ask, input, body, turned_away, processed, requested, request}
+use Rattle.ioc_process.specs.Rules.{Inherits, from_itself, from_another, Takes, that_converts, that_does_not, Receives, a_value, a_bad_value, a_fault, not_yet, Puts, that_fits, that_does_not_fit, Acknowledges, written, written_badly, not_written_yet, Gives, next, asked_too_often, no_more_numbers, Requested, while_active, while_idle, Causes, meanwhile_active, unused, absent, no_such_device, as_it_stands, after_request, Writes, to_nothing, to_absent, to_no_device, in_vain, alone, and_requests, Follows, to_record, to_scanned, nowhere, FollowsEach, no_more, one_more, PutsOut, nothing, to_link, to_device, to_links, as_event, Gets, no_input, of_link, of_device, Finishes, forward, Proceeds, at_once, kept_waiting, Runs}
+use Rattle.ioc_process.proofs.Worlds.{common_at-changed, idle-changed, idle-kept, one_of_two}
+use Rattle.ioc_process.proofs.Depth.{Room, room_on, room-shown, shown-active, taken-stays, wrote-stays, stays-followed, outs-put_out, reads-input, request-rule}
 use Rattle.ioc_process.proofs.RulesAlone.{followed_by-none}
 
 module _ {R : Type 0} (k : RecordRules R) where
@@ -55,6 +60,24 @@ module _ {R : Type 0} (k : RecordRules R) where
   received-allowed w s (Done-answer v) = gave-allowed w s v _ refl
   received-allowed w s Fault-answer = a_fault
   received-allowed w s Later = not_yet
+
+  stored-allowed : (w : World R) (t : StandingLink) (v : Value) (result : Result R IocError) → put_untested k (at k w t.number) t.field (InputValue v) ≡ result
+      → Puts k w t v (stored_at k w t result).world (stored_at k w t result).stored
+  unfolding stored_at
+  stored-allowed w t v (Ok r) is = that_fits is
+  stored-allowed w t v (Err e) is = that_does_not_fit is
+
+  acknowledged-allowed : (w : World R) (s : ℕ) (answer : Answer) → Acknowledges k w s answer (acknowledged k w s answer).world (acknowledged k w s answer).goes_on
+  unfolding acknowledged
+  acknowledged-allowed w s (Done-answer v) = written
+  acknowledged-allowed w s Fault-answer = written_badly
+  acknowledged-allowed w s Later = not_written_yet
+
+  acknowledged-none : (w : World R) (s : ℕ) (answer : Answer) → (acknowledged k w s answer).requests ≡ None
+  unfolding acknowledged
+  acknowledged-none w s (Done-answer v) = refl
+  acknowledged-none w s Fault-answer = refl
+  acknowledged-none w s Later = refl
 
   gave-none : (w : World R) (s : ℕ) (value : Result Value IocError) → (device_gave k w s value).requests ≡ None
   unfolding device_gave
@@ -89,6 +112,31 @@ module _ {R : Type 0} (k : RecordRules R) (lawful : IsLawful k) (answers : List 
         ] refl)
       ] refl
 
+  -- the device of s is written, and this comes
+  abbrev Written-so : World R → ℕ → Value → PutOut R → Type 0
+  Written-so w s v out = PutsOut k answers w s (WriteDevice v) out.world out.goes_on out.requests
+
+  written-so : (w mid : World R) (s : ℕ) (v : Value) (answer : Answer) → Gives k answers w s mid answer → Written-so w s v (acknowledged k mid s answer)
+  written-so w mid s v answer g = rw acknowledged-none (to_device g (acknowledged-allowed k mid s answer))
+
+  written-allowed : (w : World R) (s : ℕ) (v : Value) → Written-so w s v (write_device k answers w s)
+  unfolding write_device
+  written-allowed w s v =
+      elim (can_ask k w s) as (λ b. can_ask k w s ≡ b → Written-so w s v (cond b (acknowledged k (used_one w) s (unwrap_or (slice_get answers w.used) Fault-answer)) (acknowledged k w s Fault-answer))) [
+        | true ↦ λ is. written-so w (used_one w) s v _ (next (grind (arith, common_steps)) (grind (arith, common_steps)))
+        | false ↦ λ is. written-so w w s v _ (elim (nat_lt w.used 256) as (λ b. nat_lt w.used 256 ≡ b → Gives k answers w s w Fault-answer) [
+          | true ↦ λ few. no_more_numbers (grind (arith, common_steps))
+          | false ↦ λ many. asked_too_often (grind (arith, common_steps))
+        ] refl)
+      ] refl
+
+  -- s and all idle records are so many at most
+  abbrev Space : ℕ → World R → ℕ → Type 0
+  Space bound w s = idle k w + cond (common_at k w s).active 1 0 ≤ bound
+
+  space_room : (bound : ℕ) (w : World R) (s : ℕ) → Space bound w s → Room k bound w s
+  space_room bound w s space = omega (arith, space, one_of_two (common_at k w s).active)
+
   module _ (bound : ℕ) (asks : (w : World R) (s : ℕ) → idle k w < bound → Requested k answers w s (ask w s).world (ask w s).requests) where
     caused-allowed : (w : World R) (s t : ℕ) → Room k bound w s → Causes k answers w s t (caused k ask w s t).world (caused k ask w s t).requests
     unfolding caused
@@ -96,7 +144,13 @@ module _ {R : Type 0} (k : RecordRules R) (lawful : IsLawful k) (answers : List 
 
     followed-allowed : (w : World R) (s : ℕ) (link : LinkUse) → Room k bound w s → Follows k answers w s link (followed k ask w s link).world (followed k ask w s link).requests
     unfolding followed
-    followed-allowed w s (Standing t) room = to_record (caused-allowed w s t.number room)
+    followed-allowed w s (Standing t) room =
+        elim (is_passive (common_at k w t.number)) as (λ b. is_passive (common_at k w t.number) ≡ b →
+        let done = cond {A = Done R} b (caused k ask w s t.number) (record { world = w; requests = None }) in
+        Follows k answers w s (Standing t) done.world done.requests) [
+          | true ↦ λ passive. to_record passive (caused-allowed w s t.number room)
+          | false ↦ λ scanned. to_scanned scanned
+        ] refl
     followed-allowed w s Unused room = nowhere (λ t is. cc)
     followed-allowed w s OwnDevice room = nowhere (λ t is. cc)
     followed-allowed w s Absent room = nowhere (λ t is. cc)
@@ -105,7 +159,7 @@ module _ {R : Type 0} (k : RecordRules R) (lawful : IsLawful k) (answers : List 
         → Gets k answers w s (ReadLink (Standing t)) (read_record k ask w s t).world (read_record k ask w s t).came (read_record k ask w s t).requests
     unfolding read_record prepared
     read_record-allowed w s t room =
-        elim t.process_passive as (λ b. t.process_passive ≡ b →
+        elim (requests_first k w t) as (λ b. requests_first k w t ≡ b →
         let done = cond {A = Done R} b (caused k ask w s t.number) (record { world = w; requests = None }) in
         let read = value_came k done.world s t (read_as k (at k done.world t.number) t.field (k.input_kind (at k done.world s))) in
         Gets k answers w s (ReadLink (Standing t)) read.world (Some read.came) done.requests) [
@@ -128,14 +182,65 @@ module _ {R : Type 0} (k : RecordRules R) (lawful : IsLawful k) (answers : List 
     input-allowed w s (ReadLink link) room = read_link-allowed w s link room
     input-allowed w s ReadDevice room = device-allowed w s
 
-    completed-allowed : (w : World R) (s : ℕ) (got : Got) → idle k w + cond (common_at k w s).active 1 0 ≤ bound
-        → Finishes k answers w s got (completed k ask w s got).world (completed k ask w s got).requests
-    unfolding completed
-    completed-allowed w s got room =
+    followed_each-allowed : (slots : List Slot) (w : World R) (s : ℕ) → Room k bound w s → FollowsEach k answers w s slots (followed_each k ask w s slots).world (followed_each k ask w s slots).requests
+    unfolding followed_each
+    followed_each-allowed [] w s room = no_more
+    followed_each-allowed (slot ∷ slots) w s room =
+        one_more (followed-allowed w s (link_at k w s slot) room)
+        (followed_each-allowed slots _ s (room_on k bound w _ s room (stays-followed k lawful answers w s (link_at k w s slot))))
+
+    after_writing-allowed : (w v : World R) (s : ℕ) (t : StandingLink) (x : Value) (stored : Bool) → Puts k w t x v stored → Room k bound (handed_on k v s t) s
+        → let done = after_writing k ask (record { world = handed_on k v s t; stored = stored }) s t in Writes k answers w s (Standing t) x done.world done.requests
+    unfolding after_writing faulted
+    after_writing-allowed w v s t x false p room = in_vain p
+    after_writing-allowed w v s t x true p room =
+        let mid = handed_on k v s t in
+        elim (requests_after k mid t) as (λ b. requests_after k mid t ≡ b →
+        let done = cond {A = Done R} b (caused k ask mid s t.number) (record { world = mid; requests = None }) in
+        Writes k answers w s (Standing t) x done.world done.requests) [
+          | true ↦ λ some. and_requests p some (caused-allowed mid s t.number room)
+          | false ↦ λ none. alone p none
+        ] refl
+
+    write_link-allowed : (w : World R) (s : ℕ) (link : LinkUse) (x : Value) → Room k bound w s → Writes k answers w s link x (write_link k ask w s link x).world (write_link k ask w s link x).requests
+    unfolding write_link faulted wrote
+    write_link-allowed w s (Standing t) x room =
+        after_writing-allowed w _ s t x _ (stored-allowed k w t x (put_untested k (at k w t.number) t.field (InputValue x)) refl) (room_on k bound w _ s room (wrote-stays k lawful w s t x))
+    write_link-allowed w s Unused x room = to_nothing
+    write_link-allowed w s OwnDevice x room = to_no_device
+    write_link-allowed w s Absent x room = to_absent
+
+    put_out-allowed : (w : World R) (s : ℕ) (output : Output) → Room k bound w s
+        → PutsOut k answers w s output (put_out k answers ask w s output).world (put_out k answers ask w s output).goes_on (put_out k answers ask w s output).requests
+    unfolding put_out
+    put_out-allowed w s NoOutput room = nothing
+    put_out-allowed w s (WriteLink link x) room = to_link (write_link-allowed w s link x room)
+    put_out-allowed w s (WriteDevice x) room = written-allowed w s x
+    put_out-allowed w s (FollowLinks links) room = to_links (followed_each-allowed (chosen_links links) w s room)
+    put_out-allowed w s (PostEvent name) room = as_event
+
+    finished-allowed : (w : World R) (s : ℕ) → Space bound w s → Finishes k answers w s (finished k ask w s).world (finished k ask w s).requests
+    unfolding finished
+    finished-allowed w s space =
+        forward refl (followed-allowed (changed k w s (shown w.moment)) s _
+        (omega (arith, space, room-shown k lawful w s, one_of_two (common_at k w s).active, ap {A = Bool} {B = ℕ} (λ b. cond b 0 1) (shown-active k lawful w s))))
+
+    completed-allowed : (w : World R) (s : ℕ) (got : Got) → Space bound w s → Proceeds k answers w s got (completed k answers ask w s got).world (completed k answers ask w s got).requests
+    unfolding completed after_output
+    completed-allowed w s got space =
         let taken = put w s (k.taken (at k w s) got) in
-        let now : (common_at k (changed k taken s shown) s).active ≡ true = ap (λ (c : Common). c.active) (common_at-changed k lawful taken s shown) in
-        forward refl refl (followed-allowed (changed k taken s shown) s _
-        (omega (arith, room, room-ready k lawful w s got, ap {A = Bool} {B = ℕ} (λ b. cond b 1 0) now, ap {A = Bool} {B = ℕ} (λ b. cond b 0 1) now)))
+        let output = k.output (at k w s) got in
+        let out = put_out k answers ask taken s output in
+        let first = taken-stays k lawful w s got in
+        let small : Space bound taken s = omega (arith, space, first.fewer, ap {A = Bool} {B = ℕ} (λ b. cond b 1 0) first.active) in
+        let puts = put_out-allowed taken s output (space_room bound taken s small) in
+        let leaves = outs-put_out k lawful answers taken s output in
+        let puts-as : (b : Bool) → out.goes_on ≡ b → PutsOut k answers taken s output out.world b out.requests =
+        λ b is. subst (λ (c : Bool). PutsOut k answers taken s output out.world c out.requests) is puts in
+        elim out.goes_on as (λ b. out.goes_on ≡ b → Proceeds k answers w s got (finished_if k ask out.world s b).world (followed_by out.requests (finished_if k ask out.world s b).requests)) [
+          | true ↦ λ is. at_once refl (puts-as true is) (finished-allowed out.world s (omega (arith, small, leaves.fewer, ap {A = Bool} {B = ℕ} (λ b. cond b 1 0) (leaves.active is))))
+          | false ↦ λ is. rw followed_by-none (kept_waiting refl (puts-as false is))
+        ] refl
 
     body-allowed : (w : World R) (s : ℕ) → (common_at k w s).active ≡ false → idle k w ≤ bound → Runs k answers w s (body k answers ask w s).world (body k answers ask w s).requests
     unfolding body
@@ -146,7 +251,7 @@ module _ {R : Type 0} (k : RecordRules R) (lawful : IsLawful k) (answers : List 
         let leaves = reads-input k lawful answers w s want in
         let gets-as : (came : Option Got) → reading.came ≡ came → Gets k answers w s want reading.world came reading.requests =
         λ came is. subst (λ (c : Option Got). Gets k answers w s want reading.world c reading.requests) is gets in
-        elim reading.came as (λ came. reading.came ≡ came → Runs k answers w s (completed_if k ask reading.world s came).world (followed_by reading.requests (completed_if k ask reading.world s came).requests)) [
+        elim reading.came as (λ came. reading.came ≡ came → Runs k answers w s (completed_if k answers ask reading.world s came).world (followed_by reading.requests (completed_if k answers ask reading.world s came).requests)) [
           | Nothing_ ↦ λ is. rw followed_by-none (Runs.waits (gets-as Nothing_ is))
           | Some got ↦ λ is.
               let still = leaves.active got is ∙ inactive in
@@ -185,13 +290,21 @@ module _ {R : Type 0} (k : RecordRules R) (lawful : IsLawful k) (answers : List 
       → Gets k answers w s want (input k answers ask w s want).world (input k answers ask w s want).came (input k answers ask w s want).requests
   gets-allowed w s want = input-allowed (idle k w + 2) (asks-allowed _) w s want (omega arith)
 
-  pub finish-allowed : (w : World R) (s : ℕ) (got : Got) → Finishes k answers w s got (completed k ask w s got).world (completed k ask w s got).requests
-  finish-allowed w s got =
-      completed-allowed (idle k w + 2) (asks-allowed _) w s got
-      (elim (common_at k w s).active as (λ b. idle k w + cond b 1 0 ≤ idle k w + 2) [
-        | true ↦ omega arith
-        | false ↦ omega arith
-      ])
+  pub puts_out-allowed : (w : World R) (s : ℕ) (output : Output)
+      → PutsOut k answers w s output (put_out k answers ask w s output).world (put_out k answers ask w s output).goes_on (put_out k answers ask w s output).requests
+  puts_out-allowed w s output = put_out-allowed (idle k w + 2) (asks-allowed _) w s output (omega arith)
+
+  enough : (w : World R) (s : ℕ) → Space (idle k w + 2) w s
+  enough w s = elim (common_at k w s).active as (λ b. idle k w + cond b 1 0 ≤ idle k w + 2) [
+    | true ↦ omega arith
+    | false ↦ omega arith
+  ]
+
+  pub finish-allowed : (w : World R) (s : ℕ) → Finishes k answers w s (finished k ask w s).world (finished k ask w s).requests
+  finish-allowed w s = finished-allowed (idle k w + 2) (asks-allowed _) w s (enough w s)
+
+  pub proceed-allowed : (w : World R) (s : ℕ) (got : Got) → Proceeds k answers w s got (completed k answers ask w s got).world (completed k answers ask w s got).requests
+  proceed-allowed w s got = completed-allowed (idle k w + 2) (asks-allowed _) w s got (enough w s)
 
   pub run-allowed : (w : World R) (s : ℕ) → (common_at k w s).active ≡ false → Runs k answers w s (body k answers ask w s).world (body k answers ask w s).requests
   run-allowed w s inactive = body-allowed (idle k w + 2) (asks-allowed _) w s inactive (omega arith)

@@ -1,5 +1,5 @@
 -- The rules allow no other result than that of `request`.
-use Rattle.std.proofs.Common.{◌≡◌, ◌≢◌, ℕ, true, false, eqb, List, Option, Some, None as Nothing_, refl, ap, ◌∙◌, arith}
+use Rattle.std.proofs.Common.{◌≡◌, ◌≢◌, ℕ, Bool, true, false, eqb, List, ◌∷◌, Option, Some, None as Nothing_, refl, ap, ◌∙◌, arith}
 use Rattle.std.proofs.lemmas.Grind.{common_steps}
 use Rattle.ioc_record.specs.declared.link_field.LinkUse.{LinkUse}
 use Rattle.ioc_record.specs.declared.link_field.LinkUse.TheVariants.{Unused, OwnDevice, Absent, Standing}
@@ -11,13 +11,17 @@ use Rattle.ioc_ledger.specs.declared.outcome.Outcome.TheVariants.{Processed}
 use Rattle.ioc_device.specs.declared.Answer.{Answer}
 use Rattle.ioc_record.specs.Links.{use_of}
 use Rattle.ioc_record.specs.Values.{read_as}
-use Rattle.ioc_record.specs.Steps.{unblocked, with_active, shown}
+use Rattle.ioc_values.specs.declared.value.Value.{Value}
+use Rattle.ioc_fields.specs.declared.field_no.Slot.{Slot}
+use Rattle.ioc_record.specs.declared.body.Output.{Output}
+use Rattle.ioc_record.specs.Steps.{unblocked, with_active, shown, is_passive}
+use Rattle.ioc_process.specs.Links.{link_at, requests_first, requests_after, handed_on}
 use Rattle.ioc_record.specs.RecordRules.{RecordRules}
 use Rattle.ioc_record.specs.Laws.{IsLawful}
 use Rattle.ioc_process.specs.World.{World, at, common_at, put, changed}
 use Rattle.ioc_ledger.specs.Requests.{Requests, None, Request, followed_by}
-use Rattle.ioc_process.specs.Processing.{Done, Came, Reading, caused, followed, inherits, faulted, value_came, prepared, read_record, read_link, completed, completed_if, device_gave, received, read_device, can_ask, input, body, turned_away, processed, requested, request}
-use Rattle.ioc_process.specs.Rules.{Inherits, from_itself, from_another, Takes, that_converts, that_does_not, Receives, a_value, a_bad_value, a_fault, not_yet, Gives, next, asked_too_often, no_more_numbers, Requested, while_active, while_idle, Causes, meanwhile_active, Reads, unused, absent, no_such_device, as_it_stands, after_request, Follows, to_record, nowhere, Gets, no_input, of_link, of_device, Finishes, forward, Runs}
+use Rattle.ioc_process.specs.Processing.{Done, Came, Reading, Written, PutOut, caused, followed, inherits, faulted, value_came, stored_at, wrote, after_writing, write_link, followed_each, finished, after_output, acknowledged, write_device, put_out, prepared, read_record, read_link, completed, completed_if, device_gave, received, read_device, can_ask, input, body, turned_away, processed, requested, request}
+use Rattle.ioc_process.specs.Rules.{Inherits, from_itself, from_another, Takes, that_converts, that_does_not, Receives, a_value, a_bad_value, a_fault, not_yet, Puts, that_fits, that_does_not_fit, Acknowledges, written, written_badly, not_written_yet, Gives, next, asked_too_often, no_more_numbers, Requested, while_active, while_idle, Causes, meanwhile_active, Reads, unused, absent, no_such_device, as_it_stands, after_request, Writes, to_nothing, to_absent, to_no_device, in_vain, alone, and_requests, Follows, to_record, to_scanned, nowhere, FollowsEach, no_more, one_more, PutsOut, nothing, to_link, to_device, to_links, as_event, Gets, no_input, of_link, of_device, Finishes, forward, Proceeds, at_once, kept_waiting, Runs}
 use Rattle.ioc_process.proofs.Depth.{request-rule}
 
 pub followed_by-none : (requests : Requests) → followed_by requests None ≡ requests
@@ -51,6 +55,18 @@ module _ {R : Type 0} (k : RecordRules R) where
   received-is a_fault = refl
   received-is not_yet = refl
 
+  puts-is : (s : ℕ) {w : World R} {t : StandingLink} {v : Value} {w' : World R} {stored : Bool} → Puts k w t v w' stored → wrote k w s t v ≡ record { world = handed_on k w' s t; stored = stored }
+  unfolding wrote stored_at
+  puts-is s (that_fits {w} {t} {v} {r} is) = ap (λ tried. record { world = handed_on k (stored_at k w t tried).world s t; stored = (stored_at k w t tried).stored }) is
+  puts-is s (that_does_not_fit {w} {t} {v} {e} is) = ap (λ tried. record { world = handed_on k (stored_at k w t tried).world s t; stored = (stored_at k w t tried).stored }) is
+
+  acknowledged-is : {w : World R} {s : ℕ} {answer : Answer} {w' : World R} {goes_on : Bool} → Acknowledges k w s answer w' goes_on
+      → acknowledged k w s answer ≡ record { world = w'; requests = None; goes_on = goes_on }
+  unfolding acknowledged
+  acknowledged-is written = refl
+  acknowledged-is written_badly = refl
+  acknowledged-is not_written_yet = refl
+
 module _ {R : Type 0} (k : RecordRules R) (lawful : IsLawful k) (answers : List Answer) where
   read_device-is : {w : World R} {s : ℕ} {w' : World R} {answer : Answer} → Gives k answers w s w' answer → read_device k answers w s ≡ received k w' s answer
   unfolding read_device
@@ -61,6 +77,18 @@ module _ {R : Type 0} (k : RecordRules R) (lawful : IsLawful k) (answers : List 
       let is : can_ask k w s ≡ false = grind (arith, common_steps) in
       rw is refl
   read_device-is (no_more_numbers {w} {s} many) =
+      let is : can_ask k w s ≡ false = grind (arith, common_steps) in
+      rw is refl
+
+  write_device-is : {w : World R} {s : ℕ} {w' : World R} {answer : Answer} → Gives k answers w s w' answer → write_device k answers w s ≡ acknowledged k w' s answer
+  unfolding write_device
+  write_device-is (next {w} {s} few small) =
+      let is : can_ask k w s ≡ true = grind (arith, common_steps) in
+      rw is refl
+  write_device-is (asked_too_often {w} {s} many) =
+      let is : can_ask k w s ≡ false = grind (arith, common_steps) in
+      rw is refl
+  write_device-is (no_more_numbers {w} {s} many) =
       let is : can_ask k w s ≡ false = grind (arith, common_steps) in
       rw is refl
 
@@ -93,11 +121,11 @@ module _ {R : Type 0} (k : RecordRules R) (lawful : IsLawful k) (answers : List 
       ap (λ (d : Done R). record { world = (read d).world; requests = d.requests; came = Some (read d).came }) is
       ∙ ap (λ (c : Came R). record { world = c.world; requests = done.requests; came = Some c.came }) came
 
-  prepared-plain : (w : World R) (s : ℕ) (t : StandingLink) → t.process_passive ≡ false → prepared k ask w s t ≡ record { world = w; requests = None }
+  prepared-plain : (w : World R) (s : ℕ) (t : StandingLink) → requests_first k w t ≡ false → prepared k ask w s t ≡ record { world = w; requests = None }
   unfolding prepared
   prepared-plain w s t is = rw is refl
 
-  prepared-request : (w : World R) (s : ℕ) (t : StandingLink) → t.process_passive ≡ true → prepared k ask w s t ≡ caused k ask w s t.number
+  prepared-request : (w : World R) (s : ℕ) (t : StandingLink) → requests_first k w t ≡ true → prepared k ask w s t ≡ caused k ask w s t.number
   unfolding prepared
   prepared-request w s t is = rw is refl
 
@@ -108,19 +136,62 @@ module _ {R : Type 0} (k : RecordRules R) (lawful : IsLawful k) (answers : List 
   followed-nowhere w s Absent none = refl
   followed-nowhere w s (Standing t) none = absurd (none t refl)
 
-  completed-step : (w : World R) (s : ℕ) (got : Got) (taken ready : World R) (done : Done R) → taken ≡ put w s (k.taken (at k w s) got) → ready ≡ changed k taken s shown
-      → followed k ask ready s (use_of (common_at k ready s).forward_link) ≡ done
-      → completed k ask w s got ≡ record { world = changed k done.world s (with_active false); requests = done.requests }
+  followed-passive : (w : World R) (s : ℕ) (t : StandingLink) → is_passive (common_at k w t.number) ≡ true → followed k ask w s (Standing t) ≡ caused k ask w s t.number
+  unfolding followed
+  followed-passive w s t is = rw is refl
+
+  followed-scanned : (w : World R) (s : ℕ) (t : StandingLink) → is_passive (common_at k w t.number) ≡ false → followed k ask w s (Standing t) ≡ record { world = w; requests = None }
+  unfolding followed
+  followed-scanned w s t is = rw is refl
+
+  each-step : (w : World R) (s : ℕ) (slot : Slot) (slots : List Slot) (first rest : Done R) → followed k ask w s (link_at k w s slot) ≡ first → followed_each k ask first.world s slots ≡ rest
+      → followed_each k ask w s (slot ∷ slots) ≡ record { world = rest.world; requests = followed_by first.requests rest.requests }
+  unfolding followed_each
+  each-step w s slot slots first rest is more = rw (is, more) refl
+
+  -- what follows a write
+  vain-step : (w : World R) (s : ℕ) (t : StandingLink) → after_writing k ask (record { world = w; stored = false }) s t ≡ record { world = faulted k w s; requests = None }
+  unfolding after_writing
+  vain-step w s t = refl
+
+  alone-step : (w : World R) (s : ℕ) (t : StandingLink) → requests_after k w t ≡ false → after_writing k ask (record { world = w; stored = true }) s t ≡ record { world = w; requests = None }
+  unfolding after_writing
+  alone-step w s t is = rw is refl
+
+  requests-step : (w : World R) (s : ℕ) (t : StandingLink) → requests_after k w t ≡ true → after_writing k ask (record { world = w; stored = true }) s t ≡ caused k ask w s t.number
+  unfolding after_writing
+  requests-step w s t is = rw is refl
+
+  write-step : (w : World R) (s : ℕ) (t : StandingLink) (v : Value) (done : Written R) (left : Done R) → wrote k w s t v ≡ done → after_writing k ask done s t ≡ left → write_link k ask w s (Standing t) v ≡ left
+  unfolding write_link
+  write-step w s t v done left is rest = ap (λ (d : Written R). after_writing k ask d s t) is ∙ rest
+
+  finished-step : (w : World R) (s : ℕ) (ready : World R) (done : Done R) → ready ≡ changed k w s (shown w.moment) → followed k ask ready s (use_of (common_at k ready s).forward_link) ≡ done
+      → finished k ask w s ≡ record { world = changed k done.world s (with_active false); requests = done.requests }
+  unfolding finished
+  finished-step w s ready done r is = rw (← r, is) refl
+
+  at_once-step : (s : ℕ) (w : World R) (first : Requests) (rest : Done R) → finished k ask w s ≡ rest
+      → after_output k ask s (record { world = w; requests = first; goes_on = true }) ≡ record { world = rest.world; requests = followed_by first rest.requests }
+  unfolding after_output
+  at_once-step s w first rest is = rw is refl
+
+  later-step : (s : ℕ) (w : World R) (first : Requests) → after_output k ask s (record { world = w; requests = first; goes_on = false }) ≡ record { world = w; requests = first }
+  unfolding after_output
+  later-step s w first = rw followed_by-none refl
+
+  completed-step : (w : World R) (s : ℕ) (got : Got) (taken : World R) (out : PutOut R) (left : Done R) → taken ≡ put w s (k.taken (at k w s) got)
+      → put_out k answers ask taken s (k.output (at k w s) got) ≡ out → after_output k ask s out ≡ left → completed k answers ask w s got ≡ left
   unfolding completed
-  completed-step w s got taken ready done t r is = rw (← t, ← r, is) refl
+  completed-step w s got taken out left t is rest = rw (← t, is) rest
 
   body-step : (w : World R) (s : ℕ) (reading : Reading R) → input k answers ask w s (k.begin (at k w s)) ≡ reading
-      → body k answers ask w s ≡ record { world = (completed_if k ask reading.world s reading.came).world; requests = followed_by reading.requests (completed_if k ask reading.world s reading.came).requests }
+      → body k answers ask w s ≡ record { world = (completed_if k answers ask reading.world s reading.came).world; requests = followed_by reading.requests (completed_if k answers ask reading.world s reading.came).requests }
   unfolding body
-  body-step w s reading is = ap (λ (r : Reading R). record { world = (completed_if k ask r.world s r.came).world; requests = followed_by r.requests (completed_if k ask r.world s r.came).requests }) is
+  body-step w s reading is = ap (λ (r : Reading R). record { world = (completed_if k answers ask r.world s r.came).world; requests = followed_by r.requests (completed_if k answers ask r.world s r.came).requests }) is
 
   body-end : (w mid : World R) (s : ℕ) (got : Got) (first : Requests) (done : Done R) → input k answers ask w s (k.begin (at k w s)) ≡ record { world = mid; requests = first; came = Some got }
-      → completed k ask mid s got ≡ done → body k answers ask w s ≡ record { world = done.world; requests = followed_by first done.requests }
+      → completed k answers ask mid s got ≡ done → body k answers ask w s ≡ record { world = done.world; requests = followed_by first done.requests }
   body-end w mid s got first done is rest = body-step w s _ is ∙ rw rest refl
 
   body-waits : (w mid : World R) (s : ℕ) (first : Requests) → input k answers ask w s (k.begin (at k w s)) ≡ record { world = mid; requests = first; came = Nothing_ }
@@ -128,7 +199,7 @@ module _ {R : Type 0} (k : RecordRules R) (lawful : IsLawful k) (answers : List 
   body-waits w mid s first is = body-step w s _ is ∙ rw followed_by-none refl
 
   mutual
-    unfolding read_link followed input faulted
+    unfolding read_link followed input faulted write_link put_out followed_each
 
     pub request-is : {w : World R} {s : ℕ} {w' : World R} {requests : Requests} → Requested k answers w s w' requests → request k answers w s ≡ record { world = w'; requests = requests }
     request-is (while_active {w} {s} active) = request-active w s active
@@ -147,8 +218,30 @@ module _ {R : Type 0} (k : RecordRules R) (lawful : IsLawful k) (answers : List 
         read-step w s t (record { world = w'; requests = requests }) w'' got (prepared-request w s t pp ∙ caused-is c) (takes-is k takes)
 
     pub followed-is : {w : World R} {s : ℕ} {link : LinkUse} {w' : World R} {requests : Requests} → Follows k answers w s link w' requests → followed k ask w s link ≡ record { world = w'; requests = requests }
-    followed-is (to_record c) = caused-is c
+    followed-is (to_record {w} {w'} {s} {t} passive c) = followed-passive w s t passive ∙ caused-is c
+    followed-is (to_scanned {w} {s} {t} scanned) = followed-scanned w s t scanned
     followed-is (nowhere {w} {s} {link} none) = followed-nowhere w s link none
+
+    pub write_link-is : {w : World R} {s : ℕ} {link : LinkUse} {v : Value} {w' : World R} {requests : Requests} → Writes k answers w s link v w' requests → write_link k ask w s link v ≡ record { world = w'; requests = requests }
+    write_link-is to_nothing = refl
+    write_link-is to_absent = refl
+    write_link-is to_no_device = refl
+    write_link-is (in_vain {w} {w'} {s} {t} {v} p) = write-step w s t v _ _ (puts-is k s p) (vain-step (handed_on k w' s t) s t)
+    write_link-is (alone {w} {w'} {s} {t} {v} p none) = write-step w s t v _ _ (puts-is k s p) (alone-step (handed_on k w' s t) s t none)
+    write_link-is (and_requests {w} {w'} {w''} {s} {t} {v} p some c) = write-step w s t v _ _ (puts-is k s p) (requests-step (handed_on k w' s t) s t some ∙ caused-is c)
+
+    pub followed_each-is : {w : World R} {s : ℕ} {slots : List Slot} {w' : World R} {requests : Requests} → FollowsEach k answers w s slots w' requests → followed_each k ask w s slots ≡ record { world = w'; requests = requests }
+    followed_each-is no_more = refl
+    followed_each-is (one_more {w} {w'} {w''} {s} {slot} {slots} {first} {rest} f more) =
+        each-step w s slot slots (record { world = w'; requests = first }) (record { world = w''; requests = rest }) (followed-is f) (followed_each-is more)
+
+    pub put_out-is : {w : World R} {s : ℕ} {output : Output} {w' : World R} {goes_on : Bool} {requests : Requests} → PutsOut k answers w s output w' goes_on requests
+        → put_out k answers ask w s output ≡ record { world = w'; requests = requests; goes_on = goes_on }
+    put_out-is nothing = refl
+    put_out-is (to_link x) = ap (λ (d : Done R). record { world = d.world; requests = d.requests; goes_on = true }) (write_link-is x)
+    put_out-is (to_device g a) = write_device-is g ∙ acknowledged-is k a
+    put_out-is (to_links f) = ap (λ (d : Done R). record { world = d.world; requests = d.requests; goes_on = true }) (followed_each-is f)
+    put_out-is as_event = refl
 
     pub input-is : {w : World R} {s : ℕ} {want : Want} {w' : World R} {came : Option Got} {requests : Requests} → Gets k answers w s want w' came requests
         → input k answers ask w s want ≡ record { world = w'; requests = requests; came = came }
@@ -156,8 +249,12 @@ module _ {R : Type 0} (k : RecordRules R) (lawful : IsLawful k) (answers : List 
     input-is (of_link r) = read_link-is r
     input-is (of_device g r) = read_device-is g ∙ received-is k r
 
-    pub completed-is : {w : World R} {s : ℕ} {got : Got} {w' : World R} {requests : Requests} → Finishes k answers w s got w' requests → completed k ask w s got ≡ record { world = w'; requests = requests }
-    completed-is (forward {w} {taken} {ready} {w'} {s} {got} t r f) = completed-step w s got taken ready _ t r (followed-is f)
+    pub finished-is : {w : World R} {s : ℕ} {w' : World R} {requests : Requests} → Finishes k answers w s w' requests → finished k ask w s ≡ record { world = w'; requests = requests }
+    finished-is (forward {w} {ready} {w'} {s} r f) = finished-step w s ready _ r (followed-is f)
+
+    pub completed-is : {w : World R} {s : ℕ} {got : Got} {w' : World R} {requests : Requests} → Proceeds k answers w s got w' requests → completed k answers ask w s got ≡ record { world = w'; requests = requests }
+    completed-is (at_once {w} {taken} {w'} {w''} {s} {got} {first} t p f) = completed-step w s got taken _ _ t (put_out-is p) (at_once-step s w' first _ (finished-is f))
+    completed-is (kept_waiting {w} {taken} {w'} {s} {got} {first} t p) = completed-step w s got taken _ _ t (put_out-is p) (later-step s w' first)
 
     pub body-is : {w : World R} {s : ℕ} {w' : World R} {requests : Requests} → Runs k answers w s w' requests → body k answers ask w s ≡ record { world = w'; requests = requests }
     body-is (Runs.to_end {w} {w'} {w''} {s} {got} {first} g f) = body-end w w' s got first _ (input-is g) (completed-is f)

@@ -1,8 +1,16 @@
 -- A law of requests, by induction on the rules: what they leave of active marks and pending numbers.
-use Rattle.std.proofs.Common.{◌≡◌, ◌≢◌, ℕ, true, false, eqb, List, Option, Some, None as Nothing_, IsSome, refl, sym, ap, subst, ◌∙◌, arith}
+use Rattle.std.proofs.Common.{◌≡◌, ◌≢◌, ℕ, Bool, true, false, cond, eqb, nat_lt, ◌++◌, List, [], ◌∷◌, length, Option, Some, None as Nothing_, IsSome, refl, sym, ap, subst, ◌∙◌, arith}
 use Rattle.std.proofs.lemmas.Grind.{common_steps}
 use Rattle.ioc_device.specs.declared.Answer.{Answer}
-use Rattle.ioc_ledger.specs.Requests.{Requests}
+use Rattle.ioc_ledger.specs.Requests.{Requests, more}
+use Rattle.ioc_fields.specs.declared.field_no.Slot.{Slot}
+use Rattle.ioc_values.specs.declared.value.Value.{Value}
+use Rattle.ioc_values.specs.declared.input.Input.TheVariants.{Value as InputValue}
+use Rattle.ioc_record.specs.Values.{put_untested, converted_for}
+use Rattle.ioc_record.specs.declared.body.Output.{Output}
+use Rattle.ioc_process.specs.declared.outbox.OutboxItem.{OutboxItem}
+use Rattle.ioc_process.specs.declared.outbox.OutboxItem.TheVariants.{Post}
+use Rattle.ioc_process.specs.Links.{handed_on}
 use Rattle.ioc_record.specs.declared.common.Common.{Common}
 use Rattle.ioc_record.specs.declared.link_field.LinkUse.{LinkUse}
 use Rattle.ioc_record.specs.declared.link_field.StandingLink.{StandingLink}
@@ -11,9 +19,9 @@ use Rattle.ioc_record.specs.declared.body.Want.{Want}
 use Rattle.ioc_record.specs.Steps.{blocked, unblocked, with_active, shown, waiting}
 use Rattle.ioc_record.specs.RecordRules.{RecordRules}
 use Rattle.ioc_record.specs.Laws.{IsLawful}
-use Rattle.ioc_process.specs.World.{World, at, common_at, put, changed, used_one}
-use Rattle.ioc_process.specs.Rules.{Left, as_it_was, now_waits, LeavesAll, Inherits, from_itself, from_another, Takes, that_converts, that_does_not, Receives, a_value, a_bad_value, a_fault, not_yet, Gives, next, asked_too_often, no_more_numbers, Requested, while_active, while_idle, Causes, meanwhile_active, Reads, unused, absent, no_such_device, as_it_stands, after_request, Follows, to_record, nowhere, Gets, no_input, of_link, of_device, Finishes, forward, Runs}
-use Rattle.ioc_process.proofs.StepFrames.{blocked-frame}
+use Rattle.ioc_process.specs.World.{World, at, common_at, put, changed, used_one, sent}
+use Rattle.ioc_process.specs.Rules.{Left, as_it_was, now_waits, LeavesAll, Inherits, from_itself, from_another, Takes, that_converts, that_does_not, Receives, a_value, a_bad_value, a_fault, not_yet, Puts, that_fits, that_does_not_fit, Acknowledges, written, written_badly, not_written_yet, Gives, next, asked_too_often, no_more_numbers, Requested, while_active, while_idle, Causes, meanwhile_active, Reads, unused, absent, no_such_device, as_it_stands, after_request, Writes, to_nothing, to_absent, to_no_device, in_vain, alone, and_requests, Follows, to_record, to_scanned, nowhere, FollowsEach, no_more, one_more, PutsOut, nothing, to_link, to_device, to_links, as_event, Gets, no_input, of_link, of_device, Finishes, forward, Proceeds, at_once, kept_waiting, Runs}
+use Rattle.ioc_process.proofs.StepFrames.{blocked-frame, stored_with}
 use Rattle.ioc_process.proofs.Worlds.{at-put_same, at-put_other, common_at-changed}
 
 true-not-false : true ≡ false → ⊥
@@ -94,6 +102,37 @@ module _ {R : Type 0} (k : RecordRules R) (lawful : IsLawful k) where
   both-changed : (w : World R) (s : ℕ) (f : Common → Common) → Same (common_at k w s) (f (common_at k w s)) → Both s w (changed k w s f)
   both-changed w s f same = record { others = λ n apart. left_same (changed-but w s f n apart); own = changed-own w s f same }
 
+  -- a record is put, whichever it is, with the marks that it had
+  both-put : (w : World R) (s n : ℕ) (r : R) → Same (common_at k w n) (k.common r) → Both s w (put w n r)
+  unfolding Own
+  both-put w s n r same =
+      let any : (m : ℕ) → Same (common_at k w m) (common_at k (put w n r) m) = λ m. elim (eqb m n) as (λ b. eqb m n ≡ b → Same (common_at k w m) (common_at k (put w n r) m)) [
+        | true ↦ λ e.
+            let is : m ≡ n = grind (arith, common_steps) in
+            let here = ap (λ (x : R). k.common x) (ap (at k (put w n r)) is ∙ at-put_same k w n r) in
+            let there = ap (λ (q : ℕ). common_at k w q) is in
+            record {
+              active = ap (λ (c : Common). c.active) here ∙ same.active ∙ ap (λ (c : Common). c.active) (sym there);
+              pending = ap (λ (c : Common). c.pending) here ∙ same.pending ∙ ap (λ (c : Common). c.pending) (sym there);
+            }
+        | false ↦ λ e. let apart : m ≢ n = grind (arith, common_steps) in put-but w n r m apart
+      ] refl in
+      record { others = λ m _. left_same (any m); own = any s }
+
+  handed-both : (w : World R) (s : ℕ) (t : StandingLink) → Both s w (handed_on k w s t)
+  unfolding handed_on changed
+  handed-both w s t =
+      let set = lawful.common_set (at k w t.number) in
+      both-put w s t.number _ (record { active = ap (λ (c : Common). c.active) (set _); pending = ap (λ (c : Common). c.pending) (set _) })
+
+  puts-both : {w : World R} {t : StandingLink} {v : Value} {w' : World R} {stored : Bool} (s : ℕ) → Puts k w t v w' stored → Both s w w'
+  unfolding put_untested
+  puts-both s (that_fits {w} {t} {v} {r} is) =
+      let with = stored_with k (at k w t.number) r t.field (converted_for k (at k w t.number) t.field (InputValue v)) is in
+      both-put w s t.number r (subst (λ (x : R). Same (common_at k w t.number) (k.common x)) with.1
+      (record { active = lawful.stored_active (at k w t.number) t.field with.0; pending = lawful.stored_pending (at k w t.number) t.field with.0 }))
+  puts-both s (that_does_not_fit {w} _) = both_here w s
+
   inherits-both : {w : World R} {s : ℕ} {t : StandingLink} {w' : World R} → Inherits k w s t w' → Both s w w'
   inherits-both (from_itself {w} {s} _) = both_here w s
   inherits-both (from_another {w} {s} {t} _) = both-changed w s _ (record { active = refl; pending = refl })
@@ -127,6 +166,47 @@ module _ {R : Type 0} (k : RecordRules R) (lawful : IsLawful k) where
         own = (ap (λ (c : Common). c.active) is, subst (λ (o : Option ℕ). IsSome o) (sym (ap (λ (c : Common). c.pending) is)) refl);
       }
 
+  -- s as it was where the body goes on, and waiting where not
+  OwnAs : ℕ → World R → World R → Bool → Type 0
+  OwnAs s w w' false = ((common_at k w' s).active ≡ true) × IsSome (common_at k w' s).pending
+  OwnAs s w w' true = Own s w w'
+
+  record BothAs (s : ℕ) (w w' : World R) (goes_on : Bool) : Type 0 where
+    others : (n : ℕ) → n ≢ s → Left (common_at k w n) (common_at k w' n)
+    own : OwnAs s w w' goes_on
+
+  both_as : {s : ℕ} {w w' : World R} → Both s w w' → BothAs s w w' true
+  unfolding OwnAs
+  both_as both = record { others = both.others; own = both.own }
+
+  acknowledges-both : {w : World R} {s : ℕ} {answer : Answer} {w' : World R} {goes_on : Bool} → Acknowledges k w s answer w' goes_on → BothAs s w w' goes_on
+  unfolding OwnAs
+  acknowledges-both (written {w} {s}) = both_as (both_here w s)
+  acknowledges-both (written_badly {w} {s}) = both_as (both-changed w s _ (record { active = refl; pending = refl }))
+  acknowledges-both (not_written_yet {w} {s}) =
+      let is = common_at-changed k lawful w s waiting in
+      record {
+        others = λ n apart. left_same (changed-but w s waiting n apart);
+        own = (ap (λ (c : Common). c.active) is, subst (λ (o : Option ℕ). IsSome o) (sym (ap (λ (c : Common). c.pending) is)) refl);
+      }
+
+  sent-both : (item : OutboxItem) (w : World R) (s : ℕ) → Both s w (sent item w)
+  unfolding at sent Own
+  sent-both item w s = elim (nat_lt (length w.outbox) 256) as (λ b. Both s w (cond b (record w { outbox = w.outbox ++ item ∷ [] }) (record w { dropped = more w.dropped }))) [
+    | true ↦ record { others = λ n _. as_it_was refl refl; own = record { active = refl; pending = refl } }
+    | false ↦ record { others = λ n _. as_it_was refl refl; own = record { active = refl; pending = refl } }
+  ]
+
+  -- after a step that leaves s as it was
+  as_on : {w w' w'' : World R} {s : ℕ} {goes_on : Bool} → Both s w w' → BothAs s w' w'' goes_on → BothAs s w w'' goes_on
+  unfolding OwnAs Own
+  as_on {goes_on = true} one two = record { others = λ n apart. left_on (one.others n apart) (two.others n apart); own = same_on one.own two.own }
+  as_on {goes_on = false} one two = record { others = λ n apart. left_on (one.others n apart) (two.others n apart); own = two.own }
+
+  taken-both : (w taken : World R) (s : ℕ) (got : Got) → taken ≡ put w s (k.taken (at k w s) got) → Both s w taken
+  unfolding Own
+  taken-both w taken s got t = subst (Both s w) (sym t) (both-put w s s _ (record { active = lawful.taken_active _ got; pending = lawful.taken_pending _ got }))
+
   module _ (answers : List Answer) where
     gives-both : {w : World R} {s : ℕ} {w' : World R} {answer : Answer} → Gives k answers w s w' answer → Both s w w'
     unfolding at used_one Own
@@ -146,7 +226,7 @@ module _ {R : Type 0} (k : RecordRules R) (lawful : IsLawful k) where
       pending : (common_at k w' s).pending ≡ (common_at k w s).pending
 
     mutual
-      unfolding Own OwnIf
+      unfolding Own OwnIf OwnAs
 
       pub requested-leaves : {w : World R} {s : ℕ} {w' : World R} {requests : Requests} → Requested k answers w s w' requests → LeavesAll k w w'
       requested-leaves (while_active {w} {s} _) =
@@ -179,7 +259,8 @@ module _ {R : Type 0} (k : RecordRules R) (lawful : IsLawful k) where
       reads-both (after_request _ c takes) = both_on (causes-both c) (takes-both takes)
 
       follows-both : {w : World R} {s : ℕ} {link : LinkUse} {w' : World R} {requests : Requests} → Follows k answers w s link w' requests → Both s w w'
-      follows-both (to_record c) = causes-both c
+      follows-both (to_record _ c) = causes-both c
+      follows-both (to_scanned {w} {s} _) = both_here w s
       follows-both (nowhere {w} {s} _) = both_here w s
 
       gets-both : {w : World R} {s : ℕ} {want : Want} {w' : World R} {came : Option Got} {requests : Requests} → Gets k answers w s want w' came requests → BothIf s w w' came
@@ -187,29 +268,56 @@ module _ {R : Type 0} (k : RecordRules R) (lawful : IsLawful k) where
       gets-both (of_link r) = both_if (reads-both r)
       gets-both (of_device g r) = after_giving (gives-both g) (receives-both r)
 
-      finishes-ended : {w : World R} {s : ℕ} {got : Got} {w' : World R} {requests : Requests} → Finishes k answers w s got w' requests → Ended s w w'
-      finishes-ended (forward {w} {taken} {ready} {w'} {s} {got} t r f) =
+      writes-both : {w : World R} {s : ℕ} {link : LinkUse} {v : Value} {w' : World R} {requests : Requests} → Writes k answers w s link v w' requests → Both s w w'
+      writes-both (to_nothing {w} {s}) = both_here w s
+      writes-both (to_absent {w} {s}) = both-changed w s _ (record { active = refl; pending = refl })
+      writes-both (to_no_device {w} {s}) = both-changed w s _ (record { active = refl; pending = refl })
+      writes-both (in_vain {w} {w'} {s} {t} p) = both_on (both_on (puts-both s p) (handed-both w' s t)) (both-changed (handed_on k w' s t) s _ (record { active = refl; pending = refl }))
+      writes-both (alone {w} {w'} {s} {t} p _) = both_on (puts-both s p) (handed-both w' s t)
+      writes-both (and_requests {w} {w'} {w''} {s} {t} p _ c) = both_on (both_on (puts-both s p) (handed-both w' s t)) (causes-both c)
+
+      each-both : {w : World R} {s : ℕ} {slots : List Slot} {w' : World R} {requests : Requests} → FollowsEach k answers w s slots w' requests → Both s w w'
+      each-both (no_more {w} {s}) = both_here w s
+      each-both (one_more f rest) = both_on (follows-both f) (each-both rest)
+
+      puts_out-both : {w : World R} {s : ℕ} {output : Output} {w' : World R} {goes_on : Bool} {requests : Requests} → PutsOut k answers w s output w' goes_on requests → BothAs s w w' goes_on
+      puts_out-both (nothing {w} {s}) = both_as (both_here w s)
+      puts_out-both (to_link x) = both_as (writes-both x)
+      puts_out-both (to_device g a) = as_on (gives-both g) (acknowledges-both a)
+      puts_out-both (to_links f) = both_as (each-both f)
+      puts_out-both (as_event {w} {s} {name}) = both_as (sent-both (Post name) w s)
+
+      finishes-ended : {w : World R} {s : ℕ} {w' : World R} {requests : Requests} → Finishes k answers w s w' requests → Ended s w w'
+      finishes-ended (forward {w} {ready} {w'} {s} {requests} r f) =
           let inside = follows-both f in
-          let put_same = ap k.common (at-put_same k w s (k.taken (at k w s) got)) in
-          let taken_pending : (common_at k taken s).pending ≡ (common_at k w s).pending =
-          ap (λ (v : World R). (common_at k v s).pending) t ∙ ap (λ (c : Common). c.pending) put_same ∙ lawful.taken_pending _ got in
-          let ready_pending : (common_at k ready s).pending ≡ (common_at k taken s).pending =
-          ap (λ (v : World R). (common_at k v s).pending) r ∙ ap (λ (c : Common). c.pending) (common_at-changed k lawful taken s shown) in
+          let ready_pending : (common_at k ready s).pending ≡ (common_at k w s).pending =
+          ap (λ (v : World R). (common_at k v s).pending) r ∙ ap (λ (c : Common). c.pending) (common_at-changed k lawful w s (shown w.moment)) in
           let last = common_at-changed k lawful w' s (with_active false) in
           record {
-            others = λ n apart. left_on (left_same (subst (λ (v : World R). Same (common_at k w n) (common_at k v n)) (sym t) (put-but w s _ n apart)))
-                (left_on (left_same (subst (λ (v : World R). Same (common_at k taken n) (common_at k v n)) (sym r) (changed-but taken s shown n apart)))
-                (left_on (inside.others n apart) (left_same (changed-but w' s (with_active false) n apart))));
+            others = λ n apart. left_on (left_same (subst (λ (v : World R). Same (common_at k w n) (common_at k v n)) (sym r) (changed-but w s (shown w.moment) n apart)))
+                (left_on (inside.others n apart) (left_same (changed-but w' s (with_active false) n apart)));
             active = ap (λ (c : Common). c.active) last;
-            pending = ap (λ (c : Common). c.pending) last ∙ inside.own.pending ∙ ready_pending ∙ taken_pending;
+            pending = ap (λ (c : Common). c.pending) last ∙ inside.own.pending ∙ ready_pending;
           }
+
+      -- s idle in the end, or waiting: of a record that was idle
+      proceeds-leave : {w : World R} {s : ℕ} {got : Got} {w' : World R} {requests : Requests} → Proceeds k answers w s got w' requests → (common_at k w s).active ≡ false → LeavesAll k w w'
+      proceeds-leave (at_once {w} {taken} {w'} {w''} {s} {got} t p f) idle =
+          let first = taken-both w taken s got t in
+          let out = puts_out-both p in
+          let rest = finishes-ended f in
+          all_of w w'' s (λ n apart. left_on (first.others n apart) (left_on (out.others n apart) (rest.others n apart)))
+          (as_it_was (rest.active ∙ sym idle) (rest.pending ∙ out.own.pending ∙ first.own.pending))
+      proceeds-leave (kept_waiting {w} {taken} {w'} {s} {got} t p) idle =
+          let first = taken-both w taken s got t in
+          let out = puts_out-both p in
+          all_of w w' s (λ n apart. left_on (first.others n apart) (out.others n apart)) (now_waits idle out.own.0 out.own.1)
 
       runs-leave : {w : World R} {s : ℕ} {w' : World R} {requests : Requests} → Runs k answers w s w' requests → (common_at k w s).active ≡ false → LeavesAll k w w'
       runs-leave (Runs.to_end {w} {w'} {w''} {s} g f) idle =
           let first = gets-both g in
-          let rest = finishes-ended f in
-          all_of w w'' s (λ n apart. left_on (first.others n apart) (rest.others n apart))
-          (as_it_was (rest.active ∙ sym idle) (rest.pending ∙ first.own.pending))
+          let rest = proceeds-leave f (first.own.active ∙ idle) in
+          all_of w w'' s (λ n apart. left_on (first.others n apart) (rest n)) (left_on (left_same first.own) (rest s))
       runs-leave (Runs.waits {w} {w'} {s} g) idle =
           let first = gets-both g in
           all_of w w' s first.others (now_waits idle first.own.0 first.own.1)

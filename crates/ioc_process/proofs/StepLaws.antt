@@ -50,15 +50,15 @@ module _ {R : Type 0} (k : RecordRules R) (lawful : IsLawful k) (answers : List 
   unfolding stepped_there
   put-refused-is w s field given e there is = step-there k answers w (Put s field given) there ∙ ap (put_with k answers w s field) is
 
-  after-is : (w : World R) (s : ℕ) (field : FieldNo) (b active : Bool) → processes (k.record_type (at k w s)) field ≡ b → (common_at k w s).active ≡ active
+  after-is : (w : World R) (s : ℕ) (field : FieldNo) (b active : Bool) → processes k (at k w s) field ≡ b → (common_at k w s).active ≡ active
       → after_put k answers w s field ≡ cond {A = Stepped R} b
       (cond {A = Stepped R} active (record { world = w; reply = Outcome-reply Reprocess; requests = Request Reprocess None None }) (told k answers w s))
       (record { world = w; reply = Plain; requests = None })
   unfolding after_put
   after-is w s field b active is act = rw (is, act) refl
 
-  type-put : (w : World R) (s : ℕ) (r : R) (field : FieldNo) (b : Bool) → processes (k.record_type r) field ≡ b → processes (k.record_type (at k (put w s r) s)) field ≡ b
-  type-put w s r field b is = ap (λ (x : R). processes (k.record_type x) field) (at-put_same k w s r) ∙ is
+  type-put : (w : World R) (s : ℕ) (r : R) (field : FieldNo) (b : Bool) → processes k r field ≡ b → processes k (at k (put w s r) s) field ≡ b
+  type-put w s r field b is = ap (λ (x : R). processes k x field) (at-put_same k w s r) ∙ is
 
   active-put : (w : World R) (s : ℕ) (r : R) (b : Bool) → (k.common r).active ≡ b → (common_at k (put w s r) s).active ≡ b
   active-put w s r b is = ap (λ (x : R). (k.common x).active) (at-put_same k w s r) ∙ is
@@ -110,7 +110,7 @@ module _ {R : Type 0} (k : RecordRules R) (lawful : IsLawful k) (answers : List 
   unfolding Allows told
   after-allowed w s field given r there is =
       let v = put w s r in
-      elim (processes (k.record_type r) field) as (λ b. processes (k.record_type r) field ≡ b → Allows w (Put s field given) (after_put k answers v s field)) [
+      elim (processes k r field) as (λ b. processes k r field ≡ b → Allows w (Put s field given) (after_put k answers v s field)) [
         | true ↦ λ proc. elim (k.common r).active as (λ b. (k.common r).active ≡ b → Allows w (Put s field given) (after_put k answers v s field)) [
           | true ↦ λ active. rw (after-is v s field true true (type-put w s r field true proc) (active-put w s r true active)) (stores_while_active there is proc active)
           | false ↦ λ idle.

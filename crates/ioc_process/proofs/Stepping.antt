@@ -1,12 +1,12 @@
 -- The cases of an event, as the code meets them.
-use Rattle.std.proofs.Common.{◌≡◌, ℕ, Bool, true, false, cond, eqb, List, Option, Some, None as Nothing_, IsTrue, is_some, unwrap_or, refl, ap, subst, ◌∙◌, arith}
+use Rattle.std.proofs.Common.{◌≡◌, ℕ, true, false, cond, eqb, List, Option, Some, None as Nothing_, IsTrue, is_some, unwrap_or, refl, ap, subst, ◌∙◌, arith}
 use Rattle.std.specs.Prelude.{Result, Ok, Err, OnOk, OnErr}
 use Rattle.std.specs.Ordering.{nat_cmp, eq_by_cmp}
 use Rattle.std.specs.Cmp.{nat_cmp_total, unsigned_tied}
 use Rattle.std.specs.FinMap.{FinMap, get, contains_key, same_map, get-insert, nat_cmp-IsAntisymmetric}
 use Rattle.std.proofs.lemmas.Grind.{common_steps}
 use Rattle.ioc_values.specs.declared.error.IocError.{IocError}
-use Rattle.ioc_values.specs.declared.error.IocError.TheVariants.{NoRecord, NoMod}
+use Rattle.ioc_values.specs.declared.error.IocError.TheVariants.{NoRecord}
 use Rattle.ioc_values.specs.declared.input.Input.{Input}
 use Rattle.ioc_fields.specs.declared.field_no.FieldNo.{FieldNo}
 use Rattle.ioc_device.specs.declared.Answer.{Answer}
@@ -14,13 +14,10 @@ use Rattle.ioc_ledger.specs.declared.outcome.Outcome.{Outcome}
 use Rattle.ioc_ledger.specs.declared.tally.Tally.{Tally}
 use Rattle.ioc_ledger.specs.Requests.{first_outcome}
 use Rattle.ioc_record.specs.RecordRules.{RecordRules, targets}
-use Rattle.ioc_record.specs.Values.{put_field, put_by, stored_if, field_sort}
+use Rattle.ioc_record.specs.Values.{put_field, put_tested, put_once_tested, put_untested, converted_for}
 use Rattle.ioc_record.specs.Laws.{IsLawful}
-use Rattle.ioc_fields.specs.declared.row.Row.{Row}
-use Rattle.ioc_fields.specs.Table.{row_of}
 use Rattle.ioc_values.specs.declared.value.Value.{Value}
-use Rattle.ioc_values.specs.Conversion.{converted_input}
-use Rattle.ioc_process.proofs.StepFrames.{targets_same, links-stored}
+use Rattle.ioc_process.proofs.StepFrames.{targets_same, links-stored, stored_with}
 use Rattle.ioc_process.proofs.Keeping.{keeps-put}
 use Rattle.ioc_process.specs.declared.reply.Reply.TheVariants.{Outcome as Outcome-reply, Refused}
 use Rattle.ioc_process.specs.World.{World, Has, at, put, SameLinks, Keeps}
@@ -87,21 +84,14 @@ module _ {R : Type 0} (k : RecordRules R) (lawful : IsLawful k) where
   abbrev Stores : R → FieldNo → R → Type 0
   Stores r field r' = (v : Value) × (k.stored r field v ≡ r')
 
-  stores : (r r' : R) (field : FieldNo) (value : Result Value IocError) → stored_if k r field value ≡ Ok r' → Stores r field r'
-  stores r r' field (Ok v) is = (v, cc)
-  stores r r' field (Err e) is = absurd cc
-
-  stores_allowed : (b : Bool) (r r' : R) (field : FieldNo) (value : Result Value IocError) → cond b (stored_if k r field value) (Err NoMod) ≡ Ok r' → Stores r field r'
-  stores_allowed true r r' field value is = stores r r' field value is
-  stores_allowed false r r' field value is = absurd cc
-
-  stores_by : (r r' : R) (field : FieldNo) (given : Input) (row : Option Row) → put_by k r field given row ≡ Ok r' → Stores r field r'
-  stores_by r r' field given Nothing_ is = absurd cc
-  stores_by r r' field given (Some row) is = stores_allowed row.can_put r r' field (converted_input given (field_sort (k.states r) row.kind)) is
+  put_tested_stores : (r r' : R) (field : FieldNo) (given : Input) (test : Result Unit IocError) → put_once_tested k r field given test ≡ Ok r' → Stores r field r'
+  unfolding put_untested
+  put_tested_stores r r' field given (Ok _) is = stored_with k r r' field (converted_for k r field given) is
+  put_tested_stores r r' field given (Err e) is = absurd cc
 
   put_stores : (r r' : R) (field : FieldNo) (given : Input) → put_field k r field given ≡ Ok r' → Stores r field r'
   unfolding put_field
-  put_stores r r' field given is = stores_by r r' field given (row_of (k.record_type r) field) is
+  put_stores r r' field given is = put_tested_stores r r' field given (put_tested k r field) is
 
   -- a put changes no link, no active mark and nothing that is pending
   put_links : (r r' : R) (field : FieldNo) (given : Input) → put_field k r field given ≡ Ok r' → SameLinks k r r'

@@ -1,5 +1,5 @@
 -- What a change of one record does to a world.
-use Rattle.std.proofs.Common.{◌≡◌, ◌≢◌, ◌≤◌, ℕ, ◌+◌, List, [], ◌∷◌, length, Bool, true, false, cond, eqb, Option, Some, None, unwrap_or, refl, sym, ap, subst, ◌∙◌, arith}
+use Rattle.std.proofs.Common.{◌≡◌, ◌≢◌, ◌≤◌, ℕ, ◌+◌, List, [], ◌∷◌, ◌++◌, length, nat_lt, Bool, true, false, cond, eqb, Option, Some, None, unwrap_or, refl, sym, ap, subst, ◌∙◌, arith}
 use Rattle.std.specs.FinMap.{gets, entries, len, len-entries, len-insert}
 use Rattle.std.specs.Cmp.{nat_cmp_total}
 use Rattle.std.proofs.lemmas.Grind.{common_steps}
@@ -7,7 +7,9 @@ use Rattle.ioc_record.specs.declared.common.Common.{Common}
 use Rattle.ioc_record.specs.Steps.{with_active}
 use Rattle.ioc_record.specs.RecordRules.{RecordRules}
 use Rattle.ioc_record.specs.Laws.{IsLawful}
-use Rattle.ioc_process.specs.World.{World, Has, at, common_at, put, changed, idle, one_if_idle, total}
+use Rattle.ioc_ledger.specs.Requests.{more}
+use Rattle.ioc_process.specs.declared.outbox.OutboxItem.{OutboxItem}
+use Rattle.ioc_process.specs.World.{sent, World, Has, at, common_at, put, changed, idle, one_if_idle, total}
 use Rattle.ioc_process.proofs.Weights.{weight_of, total-insert}
 
 pub one_of_two : (b : Bool) → cond b 1 0 + cond b 0 1 ≡ 1
@@ -84,3 +86,14 @@ module _ {R : Type 0} (k : RecordRules R) (lawful : IsLawful k) where
 
   pub room-active : (w : World R) (n : ℕ) → idle k (changed k w n (with_active true)) + 1 ≡ room k w n
   room-active w n = omega (arith, idle-changed w n (with_active true), one_of_two (common_at k w n).active)
+
+-- what an item sent changes: the outbox, or the count of what was dropped
+pub sent_by : {R : Type 0} (item : OutboxItem) (w : World R)
+    → record w { outbox = cond (nat_lt (length w.outbox) 256) (w.outbox ++ item ∷ []) w.outbox; dropped = cond (nat_lt (length w.outbox) 256) w.dropped (more w.dropped) } ≡ sent item w
+unfolding sent
+sent_by item w =
+    elim (nat_lt (length w.outbox) 256) as (λ b. record w { outbox = cond b (w.outbox ++ item ∷ []) w.outbox; dropped = cond b w.dropped (more w.dropped) }
+    ≡ cond b (record w { outbox = w.outbox ++ item ∷ [] }) (record w { dropped = more w.dropped })) [
+      | true ↦ refl
+      | false ↦ refl
+    ]

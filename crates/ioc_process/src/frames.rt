@@ -8,6 +8,10 @@ use ioc_record::StandingLink;
 pub enum Place {
     /// It reads the link.
     Reading(StandingLink),
+    /// It has written the record that its output link names.
+    Writing,
+    /// It follows its links LNK0 to LNKF whose bits are set, from this number on.
+    FollowingEach(u16, usize),
     /// It has followed its forward link.
     Following,
 }
@@ -17,13 +21,4 @@ pub enum Place {
 pub struct Frame {
     pub source: RecordNo,
     pub place: Place,
-}
-
-/// What a record came to when it began or went on.
-#[derive(Clone, Copy, PartialEq, Eq, Debug)]
-pub enum Turn {
-    /// Its request is done, or its device answers later.
-    Ended,
-    /// It requests another record, and goes on at the frame afterwards.
-    Calls(Frame, RecordNo),
 }

@@ -1,33 +1,23 @@
 //! A bo record by itself.
 use crate::steps::Step::{
-    Answer, AnswerFault, Begin, Has, Load, OwnsDevice, Put, PutRefused, Set, SetRefused, Show,
-    Stands, Take,
+    Answer, AnswerFault, Begin, Converts, Has, Lists, Load, OwnsDevice, Put, PutNumber, PutRefused,
+    Raised, ReadAsNumber, ReadAsText, Set, SetRefused, Stands, Take, Test,
 };
-use crate::steps::{Came, Does, Step, Wants, follow};
+use crate::steps::{Came, Does, SHOW, Step, Wants, follow};
 use ioc_fields::{FieldNo, OwnField};
 use ioc_links::Mode;
-use ioc_record::{Common, InputKind, Record, RecordKind, put_field};
-use ioc_values::{Input, IocError, Name, Range, Value};
+use ioc_record::{Common, InputKind, Record};
+use ioc_values::{IocError, Name, Range};
 use rec_binary::Bo;
 
 const OUT: FieldNo = FieldNo::Own(OwnField::Out);
 
 const DOL: FieldNo = FieldNo::Own(OwnField::Dol);
 
-fn new() -> Record<Bo> {
-    Record {
-        common: Common::new(Name::cut(b"valve")),
-        body: Bo::new(),
-    }
-}
-
-fn take(value: u16) -> Step<'static> {
-    Take(Came::UShort(value), Does::Nothing)
-}
-
 const TAKE_NOTHING: Step<'static> = Take(Came::Nothing, Does::Nothing);
 
-static TEXTS: [Step<'static>; 13] = [
+static TESTS: [Step<'static>; 235] = [
+    Test("texts of states"),
     Set("ZNAM", "shut"),
     Set("ONAM", "open"),
     Load,
@@ -41,10 +31,8 @@ static TEXTS: [Step<'static>; 13] = [
     PutRefused("VAL", "2", IocError::BadValue),
     PutRefused("VAL", "Open", IocError::BadValue),
     Has("VAL", "shut"),
-];
-
-// The lowest state with the text is put; an empty text is shown as the number.
-static TEXTS_CHANGED: [Step<'static>; 8] = [
+    PutNumber("VAL", 2),
+    // The lowest state with the text is put; an empty text is shown as the number.
     Has("VAL", "2"),
     Put("ONAM", ""),
     Put("VAL", "1"),
@@ -53,47 +41,56 @@ static TEXTS_CHANGED: [Step<'static>; 8] = [
     Put("VAL", "shut"),
     Put("ZNAM", ""),
     Has("VAL", "0"),
-];
-
-#[test]
-fn texts_of_states(rt: HostRuntime) {
-    let mut item = new();
-    follow(&rt, &mut item, &TEXTS);
-    let two = Input::Value(Value::Long(2));
-    assert_eq!(rt;
-        put_field(&mut item, FieldNo::Own(OwnField::Val), two),
-        Ok(())
-    );
-    follow(&rt, &mut item, &TEXTS_CHANGED);
-}
-
-// MASK, VAL and RVAL: 0 where VAL is 0, else MASK where that isn't 0, else VAL.
-static RAW: [(&str, u16, &str); 6] = [
-    ("0", 1, "1"),
-    ("8", 1, "8"),
-    ("8", 3, "8"),
-    ("0", 3, "3"),
-    ("0xffffffff", 1, "4294967295"),
-    ("8", 0, "0"),
-];
-
-#[test]
-fn raw_values(rt: HostRuntime) {
-    for (mask, value, raw) in &RAW {
-        let steps = [
-            Set("MASK", *mask),
-            Set("RVAL", "77"),
-            Load,
-            take(*value),
-            Has("RVAL", *raw),
-            Has("UDF", "0"),
-            PutRefused("MASK", "1", IocError::NoMod),
-        ];
-        follow(&rt, &mut new(), &steps);
-    }
-}
-
-static LINKS: [Step<'static>; 14] = [
+    // RVAL is 0 where VAL is 0, else MASK where that isn't 0, else VAL.
+    Test("MASK 0, VAL 1"),
+    Set("MASK", "0"),
+    Set("RVAL", "77"),
+    Load,
+    Take(Came::UShort(1), Does::Nothing),
+    Has("RVAL", "1"),
+    Has("UDF", "0"),
+    PutRefused("MASK", "1", IocError::NoMod),
+    Test("MASK 8, VAL 1"),
+    Set("MASK", "8"),
+    Set("RVAL", "77"),
+    Load,
+    Take(Came::UShort(1), Does::Nothing),
+    Has("RVAL", "8"),
+    Has("UDF", "0"),
+    PutRefused("MASK", "1", IocError::NoMod),
+    Test("MASK 8, VAL 3"),
+    Set("MASK", "8"),
+    Set("RVAL", "77"),
+    Load,
+    Take(Came::UShort(3), Does::Nothing),
+    Has("RVAL", "8"),
+    Has("UDF", "0"),
+    PutRefused("MASK", "1", IocError::NoMod),
+    Test("MASK 0, VAL 3"),
+    Set("MASK", "0"),
+    Set("RVAL", "77"),
+    Load,
+    Take(Came::UShort(3), Does::Nothing),
+    Has("RVAL", "3"),
+    Has("UDF", "0"),
+    PutRefused("MASK", "1", IocError::NoMod),
+    Test("MASK 0xffffffff, VAL 1"),
+    Set("MASK", "0xffffffff"),
+    Set("RVAL", "77"),
+    Load,
+    Take(Came::UShort(1), Does::Nothing),
+    Has("RVAL", "4294967295"),
+    Has("UDF", "0"),
+    PutRefused("MASK", "1", IocError::NoMod),
+    Test("MASK 8, VAL 0"),
+    Set("MASK", "8"),
+    Set("RVAL", "77"),
+    Load,
+    Take(Came::UShort(0), Does::Nothing),
+    Has("RVAL", "0"),
+    Has("UDF", "0"),
+    PutRefused("MASK", "1", IocError::NoMod),
+    Test("links written"),
     Set("MASK", "8"),
     Set("OUT", "there"),
     Set("VAL", "1"),
@@ -108,9 +105,7 @@ static LINKS: [Step<'static>; 14] = [
     Set("OUT", "3"),
     TAKE_NOTHING,
     SetRefused("OUT", "there CA", IocError::BadLink),
-];
-
-static DEVICE: [Step<'static>; 12] = [
+    Test("device written"),
     Set("MASK", "8"),
     Set("OUT", "@card"),
     Set("VAL", "1"),
@@ -121,18 +116,9 @@ static DEVICE: [Step<'static>; 12] = [
     Answer(3),
     Has("RVAL", "8"),
     AnswerFault,
-    Has("NSTA", "WRITE"),
-    Has("NSEV", "INVALID"),
-];
-
-#[test]
-fn outputs(rt: HostRuntime) {
-    follow(&rt, &mut new(), &LINKS);
-    follow(&rt, &mut new(), &DEVICE);
-}
-
-// DOL is read in a closed loop alone. After its fault VAL stays, and is converted.
-static DESIRED: [Step<'static>; 14] = [
+    Raised("WRITE", "INVALID"),
+    // DOL is read in a closed loop alone. After its fault VAL stays, and is converted.
+    Test("desired output"),
     Set("DOL", "wish"),
     Load,
     Stands(DOL),
@@ -147,68 +133,76 @@ static DESIRED: [Step<'static>; 14] = [
     Has("RVAL", "1"),
     Set("DOL", ""),
     Begin(Wants::Unused),
-];
-
-#[test]
-fn desired_output(rt: HostRuntime) {
-    let mut item = new();
-    follow(&rt, &mut item, &DESIRED);
-    assert!(rt; item.input_kind() == InputKind::Number(Range::UShort));
-}
-
-static CONSTANTS: [(&str, &str); 4] = [("0", "0"), ("1", "1"), ("7", "1"), ("65535", "1")];
-
-static REFUSED_CONSTANTS: [Step<'static>; 3] = [
+    Converts(InputKind::Number(Range::UShort)),
+    Test("constant 0"),
+    Set("DOL", "0"),
+    Load,
+    Has("VAL", "0"),
+    Has("UDF", "0"),
+    Has("LALM", "0"),
+    Has("STAT", "UDF"),
+    Has("SEVR", "INVALID"),
+    Test("constant 1"),
+    Set("DOL", "1"),
+    Load,
+    Has("VAL", "1"),
+    Has("UDF", "0"),
+    Has("LALM", "1"),
+    Has("STAT", "UDF"),
+    Has("SEVR", "INVALID"),
+    Test("constant 7"),
+    Set("DOL", "7"),
+    Load,
+    Has("VAL", "1"),
+    Has("UDF", "0"),
+    Has("LALM", "1"),
+    Has("STAT", "UDF"),
+    Has("SEVR", "INVALID"),
+    Test("constant 65535"),
+    Set("DOL", "65535"),
+    Load,
+    Has("VAL", "1"),
+    Has("UDF", "0"),
+    Has("LALM", "1"),
+    Has("STAT", "UDF"),
+    Has("SEVR", "INVALID"),
+    Test("constants refused"),
     SetRefused("DOL", "65536", IocError::BadValue),
     SetRefused("DOL", "-1", IocError::BadValue),
     SetRefused("DOL", "@card", IocError::BadLink),
-];
-
-#[test]
-fn constants_at_load(rt: HostRuntime) {
-    for (constant, value) in &CONSTANTS {
-        let steps = [
-            Set("DOL", *constant),
-            Load,
-            Has("VAL", *value),
-            Has("UDF", "0"),
-            Has("LALM", *value),
-            Has("STAT", "UDF"),
-            Has("SEVR", "INVALID"),
-        ];
-        follow(&rt, &mut new(), &steps);
-    }
-    follow(&rt, &mut new(), &REFUSED_CONSTANTS);
-}
-
-// An alarm raised, INVALID: IVOA decides what is driven. IVOA, the output, VAL and RVAL.
-static INVALID: [(&str, Does, &str, &str); 3] = [
-    ("Continue normally", Does::WriteAbsent(0), "0", "0"),
-    ("Don't drive outputs", Does::Nothing, "0", "0"),
-    ("Set output to IVOV", Does::WriteAbsent(3), "3", "8"),
-];
-
-#[test]
-fn invalid_outputs(rt: HostRuntime) {
-    for (action, output, value, raw) in &INVALID {
-        let steps = [
-            Set("IVOA", *action),
-            Set("IVOV", "3"),
-            Set("MASK", "8"),
-            Set("OUT", "x"),
-            Load,
-            Take(Came::Nothing, *output),
-            Has("NSTA", "UDF"),
-            Has("NSEV", "INVALID"),
-            Has("VAL", *value),
-            Has("RVAL", *raw),
-        ];
-        follow(&rt, &mut new(), &steps);
-    }
-}
-
-// A lesser alarm lets the output be driven, whatever IVOA says.
-static LESSER_ALARM: [Step<'static>; 7] = [
+    // An alarm raised, INVALID: IVOA decides what is driven.
+    Test("Continue normally"),
+    Set("IVOA", "Continue normally"),
+    Set("IVOV", "3"),
+    Set("MASK", "8"),
+    Set("OUT", "x"),
+    Load,
+    Take(Came::Nothing, Does::WriteAbsent(0)),
+    Raised("UDF", "INVALID"),
+    Has("VAL", "0"),
+    Has("RVAL", "0"),
+    Test("Don't drive outputs"),
+    Set("IVOA", "Don't drive outputs"),
+    Set("IVOV", "3"),
+    Set("MASK", "8"),
+    Set("OUT", "x"),
+    Load,
+    Take(Came::Nothing, Does::Nothing),
+    Raised("UDF", "INVALID"),
+    Has("VAL", "0"),
+    Has("RVAL", "0"),
+    Test("Set output to IVOV"),
+    Set("IVOA", "Set output to IVOV"),
+    Set("IVOV", "3"),
+    Set("MASK", "8"),
+    Set("OUT", "x"),
+    Load,
+    Take(Came::Nothing, Does::WriteAbsent(3)),
+    Raised("UDF", "INVALID"),
+    Has("VAL", "3"),
+    Has("RVAL", "8"),
+    // A lesser alarm lets the output be driven, whatever IVOA says.
+    Test("lesser alarm"),
     Set("IVOA", "Don't drive outputs"),
     Set("UDFS", "MAJOR"),
     Set("OUT", "x"),
@@ -216,34 +210,22 @@ static LESSER_ALARM: [Step<'static>; 7] = [
     Take(Came::Nothing, Does::WriteAbsent(0)),
     Put("IVOA", "Set output to IVOV"),
     Take(Came::Nothing, Does::WriteAbsent(0)),
-];
-
-// A state has the alarm of ZSV where VAL is 0, else that of OSV.
-static STATES: [Step<'static>; 14] = [
+    // A state has the alarm of ZSV where VAL is 0, else that of OSV.
+    Test("alarms of states"),
     Set("ZSV", "MINOR"),
     Set("OSV", "MAJOR"),
     Set("VAL", "0"),
     Load,
     TAKE_NOTHING,
-    Has("NSTA", "STATE"),
-    Has("NSEV", "MINOR"),
-    Show,
+    Raised("STATE", "MINOR"),
+    SHOW,
     Take(Came::UShort(1), Does::Nothing),
     Has("NSEV", "MAJOR"),
-    Show,
+    SHOW,
     Take(Came::UShort(2), Does::Nothing),
-    Has("NSTA", "STATE"),
-    Has("NSEV", "MAJOR"),
-];
-
-#[test]
-fn alarms_of_states(rt: HostRuntime) {
-    follow(&rt, &mut new(), &LESSER_ALARM);
-    follow(&rt, &mut new(), &STATES);
-}
-
-// Where VAL differs from LALM, COS is raised with COSV, and LALM becomes VAL whatever the effect.
-static CHANGES: [Step<'static>; 24] = [
+    Raised("STATE", "MAJOR"),
+    // Where VAL differs from LALM, COS is raised with COSV, and LALM becomes VAL whatever the effect.
+    Test("changes of state"),
     Set("OSV", "MINOR"),
     Set("COSV", "MAJOR"),
     Set("VAL", "0"),
@@ -251,14 +233,12 @@ static CHANGES: [Step<'static>; 24] = [
     TAKE_NOTHING,
     Has("NSTA", "NO_ALARM"),
     Take(Came::UShort(1), Does::Nothing),
-    Has("NSTA", "COS"),
-    Has("NSEV", "MAJOR"),
+    Raised("COS", "MAJOR"),
     Has("LALM", "1"),
-    Show,
+    SHOW,
     TAKE_NOTHING,
-    Has("NSTA", "STATE"),
-    Has("NSEV", "MINOR"),
-    Show,
+    Raised("STATE", "MINOR"),
+    SHOW,
     Put("COSV", "MINOR"),
     Put("OSV", "MAJOR"),
     Put("ZSV", "MINOR"),
@@ -268,9 +248,25 @@ static CHANGES: [Step<'static>; 24] = [
     Put("UDF", "1"),
     TAKE_NOTHING,
     Has("NSTA", "UDF"),
+    // What readers of numbers and of texts have.
+    Test("fields read"),
+    Set("ONAM", "on"),
+    Set("ZNAM", "12"),
+    Set("VAL", "on"),
+    Load,
+    ReadAsNumber("VAL", 1),
+    ReadAsNumber("ZNAM", 12),
+    ReadAsNumber("UDFS", 3),
+    ReadAsText("VAL", "on"),
+    ReadAsText("UDFS", "INVALID"),
+    Lists(4, 2),
 ];
 
 #[test]
-fn changes_of_state(rt: HostRuntime) {
-    follow(&rt, &mut new(), &CHANGES);
+fn bo(rt: HostRuntime) {
+    let fresh = Record {
+        common: Common::new(Name::cut(b"valve")),
+        body: Bo::new(),
+    };
+    follow(&rt, fresh, &TESTS);
 }

@@ -1,11 +1,13 @@
 //! A fanout record by itself.
-use crate::steps::Step::{Begin, Has, Load, Put, PutRefused, Set, SetRefused, Stands, Take};
+use crate::steps::Step::{
+    Begin, Converts, Has, Load, Put, PutRefused, Set, SetRefused, Stands, Take, Test,
+};
 use crate::steps::{Came, Does, Step, Wants, follow};
 use ioc_fields::{FieldNo, OwnField, Slot};
 use ioc_links::Mode;
-use ioc_record::{Common, InputKind, Record, RecordBody, RecordKind};
+use ioc_record::{Common, InputKind, Kept, Record, RecordBody};
 use ioc_values::{IocError, Name, Range, Value};
-use rec_flow::{Fanout, KeptFanout};
+use rec_flow::Fanout;
 use std::test::Fail;
 
 fn new() -> Record<Fanout> {
@@ -15,8 +17,9 @@ fn new() -> Record<Fanout> {
     }
 }
 
-// UDF becomes 0, and no alarm of an undefined value is raised.
-static NEW: [Step<'static>; 14] = [
+static TESTS: [Step<'static>; 52] = [
+    // UDF becomes 0, and no alarm of an undefined value is raised.
+    Test("new"),
     Load,
     Has("VAL", "0"),
     Has("SELM", "All"),
@@ -31,7 +34,50 @@ static NEW: [Step<'static>; 14] = [
     Take(Came::Nothing, Does::Follow(0xffff)),
     Has("UDF", "0"),
     Has("NSTA", "NO_ALARM"),
+    // What SELL gives goes into SELN; after a fault SELN stays, and the choice goes on.
+    Test("number by a link"),
+    Set("SELM", "Specified"),
+    Set("SELL", "n PP MSS"),
+    Load,
+    Begin(Wants::Absent),
+    Stands(FieldNo::Own(OwnField::Sell)),
+    Begin(Wants::Link(true, Mode::Mss)),
+    Take(Came::UShort(4), Does::Follow(0x10)),
+    Has("SELN", "4"),
+    Take(Came::Fault, Does::Follow(0x10)),
+    Has("SELN", "4"),
+    Converts(InputKind::Number(Range::UShort)),
+    Test("number by a constant"),
+    Set("SELN", "2"),
+    Set("SELL", "3"),
+    Load,
+    Has("SELN", "3"),
+    Has("UDF", "1"),
+    SetRefused("SELL", "65536", IocError::BadValue),
+    SetRefused("SELL", "@card", IocError::BadLink),
+    Test("links and puts"),
+    Set("LNK0", "a"),
+    Set("LNK1", "65536"),
+    Set("LNKA", "b PP"),
+    Set("LNKF", "c.SCAN"),
+    SetRefused("LNK2", "@card", IocError::BadLink),
+    Stands(FieldNo::Own(OwnField::Lnk(Slot::N10))),
+    Has("LNK0", "a.VAL NPP NMS"),
+    Has("LNK1", "65536"),
+    Has("LNK9", ""),
+    Has("LNKA", "b.VAL PP NMS"),
+    Has("LNKB", ""),
+    Has("LNKF", "c.SCAN NPP NMS"),
+    PutRefused("LNK0", "a", IocError::NoMod),
+    PutRefused("OFFS", "32768", IocError::BadValue),
+    Put("VAL", "-5"),
+    Has("UDF", "0"),
 ];
+
+#[test]
+fn fanout(rt: HostRuntime) {
+    follow(&rt, new(), &TESTS);
+}
 
 // SELM, SELN, OFFS, SHFT; the links that are followed; the alarm.
 static CHOICES: [(&str, &str, &str, &str, u16, &str); 19] = [
@@ -58,7 +104,6 @@ static CHOICES: [(&str, &str, &str, &str, u16, &str); 19] = [
 
 #[test]
 fn links_chosen(rt: HostRuntime) {
-    follow(&rt, &mut new(), &NEW);
     for (select, number, offset, shift, links, alarm) in &CHOICES {
         let steps = [
             Set("SELM", *select),
@@ -69,69 +114,13 @@ fn links_chosen(rt: HostRuntime) {
             Take(Came::Nothing, Does::Follow(*links)),
             Has("NSTA", *alarm),
         ];
-        follow(&rt, &mut new(), &steps);
+        follow(&rt, new(), &steps);
     }
-}
-
-// What SELL gives goes into SELN; after a fault SELN stays, and the choice goes on.
-static NUMBER: [Step<'static>; 10] = [
-    Set("SELM", "Specified"),
-    Set("SELL", "n PP MSS"),
-    Load,
-    Begin(Wants::Absent),
-    Stands(FieldNo::Own(OwnField::Sell)),
-    Begin(Wants::Link(true, Mode::Mss)),
-    Take(Came::UShort(4), Does::Follow(0x10)),
-    Has("SELN", "4"),
-    Take(Came::Fault, Does::Follow(0x10)),
-    Has("SELN", "4"),
-];
-
-static CONSTANTS: [Step<'static>; 7] = [
-    Set("SELN", "2"),
-    Set("SELL", "3"),
-    Load,
-    Has("SELN", "3"),
-    Has("UDF", "1"),
-    SetRefused("SELL", "65536", IocError::BadValue),
-    SetRefused("SELL", "@card", IocError::BadLink),
-];
-
-#[test]
-fn number_by_a_link(rt: HostRuntime) {
-    let mut item = new();
-    follow(&rt, &mut item, &NUMBER);
-    assert!(rt; item.input_kind() == InputKind::Number(Range::UShort));
-    follow(&rt, &mut new(), &CONSTANTS);
-}
-
-static LINKS: [Step<'static>; 16] = [
-    Set("LNK0", "a"),
-    Set("LNK1", "65536"),
-    Set("LNKA", "b PP"),
-    Set("LNKF", "c.SCAN"),
-    SetRefused("LNK2", "@card", IocError::BadLink),
-    Stands(FieldNo::Own(OwnField::Lnk(Slot::N10))),
-    Has("LNK0", "a.VAL NPP NMS"),
-    Has("LNK1", "65536"),
-    Has("LNK9", ""),
-    Has("LNKA", "b.VAL PP NMS"),
-    Has("LNKB", ""),
-    Has("LNKF", "c.SCAN NPP NMS"),
-    PutRefused("LNK0", "a", IocError::NoMod),
-    PutRefused("OFFS", "32768", IocError::BadValue),
-    Put("VAL", "-5"),
-    Has("UDF", "0"),
-];
-
-#[test]
-fn links_and_puts(rt: HostRuntime) {
-    follow(&rt, &mut new(), &LINKS);
 }
 
 #[test]
 fn on_the_heap(rt: HostRuntime) -> Result<(), Fail> {
-    let mut kept = KeptFanout::new(rt.alloc(), Fanout::new())?;
+    let mut kept = Kept::<Fanout>::fresh(rt.alloc())?;
     kept.get_mut().number = 7;
     assert!(rt; kept.get().get(OwnField::Seln) == Some(Value::UShort(7)));
     Ok(())

@@ -1,11 +1,16 @@
-//! The tables of fields: names, rows, defaults, links.
+//! The tables of fields: rows, names, defaults, links. All are lists of facts, since a list costs the prover little and a
+//! function much.
+use Fact::{
+    CanPut, CanSet, Default, Field, Index, KeptOnly, Kind, NoDefault, NoField, NoKind, NoType,
+    ProcessPassive, Role, Row, Type,
+};
 use ioc_fields::{
-    CommonField, FieldKind, FieldNo, LinkRole, OwnField, RecordType, Row, Slot, can_put, can_set,
+    CommonField, FieldKind, FieldNo, LinkRole, OwnField, RecordType, Slot, can_put, can_set,
     default_of, field, is_kept_only, is_process_passive, kind_of, link_fields, name_of, row_of,
 };
 use ioc_links::LinkKind;
 use ioc_menus::Menu;
-use ioc_values::{Range, Value};
+use ioc_values::Range;
 use std::process::Abort;
 
 const LONG: FieldKind = FieldKind::Number(Range::Long);
@@ -15,6 +20,10 @@ const ULONG: FieldKind = FieldKind::Number(Range::ULong);
 const SHORT: FieldKind = FieldKind::Number(Range::Short);
 
 const USHORT: FieldKind = FieldKind::Number(Range::UShort);
+
+const INT64: FieldKind = FieldKind::Number(Range::Int64);
+
+const BITS: FieldKind = FieldKind::Number(Range::Bits);
 
 const UCHAR: FieldKind = FieldKind::Number(Range::UChar);
 
@@ -44,227 +53,362 @@ enum Mark {
     Set,
 }
 
-type Line = (&'static str, FieldKind, Mark);
-
-static COMMON: [Line; 12] = [
-    ("NAME", FieldKind::Text, Mark::N),
-    ("DTYP", FieldKind::Text, Mark::Plain),
-    ("UDF", UCHAR, Mark::P),
-    ("UDFS", SEVERITY, Mark::Plain),
-    ("FLNK", FORWARD, Mark::Set),
-    ("PROC", UCHAR, Mark::Plain),
-    ("STAT", STATUS, Mark::N),
-    ("SEVR", SEVERITY, Mark::N),
-    ("NSTA", STATUS, Mark::N),
-    ("NSEV", SEVERITY, Mark::N),
-    ("LCNT", UCHAR, Mark::N),
-    ("PACT", UCHAR, Mark::N),
-];
-
-static LONGIN: [Line; 17] = [
-    ("VAL", LONG, Mark::P),
-    ("INP", INPUT, Mark::Set),
-    ("HIHI", LONG, Mark::P),
-    ("LOLO", LONG, Mark::P),
-    ("HIGH", LONG, Mark::P),
-    ("LOW", LONG, Mark::P),
-    ("HHSV", SEVERITY, Mark::P),
-    ("LLSV", SEVERITY, Mark::P),
-    ("HSV", SEVERITY, Mark::P),
-    ("LSV", SEVERITY, Mark::P),
-    ("HYST", LONG, Mark::Plain),
-    ("LALM", LONG, Mark::N),
-    ("ADEL", LONG, Mark::K),
-    ("MDEL", LONG, Mark::K),
-    ("HOPR", LONG, Mark::K),
-    ("LOPR", LONG, Mark::K),
-    ("EGU", FieldKind::Text, Mark::K),
-];
-
-static BO: [Line; 14] = [
-    ("VAL", FieldKind::State, Mark::P),
-    ("OUT", OUTPUT, Mark::Set),
-    ("DOL", PLAIN_INPUT, Mark::Set),
-    ("OMSL", FieldKind::Menu(Menu::Omsl), Mark::Plain),
-    ("IVOA", FieldKind::Menu(Menu::Ivoa), Mark::Plain),
-    ("IVOV", USHORT, Mark::P),
-    ("RVAL", ULONG, Mark::Plain),
-    ("MASK", ULONG, Mark::Set),
-    ("ZNAM", FieldKind::Text, Mark::P),
-    ("ONAM", FieldKind::Text, Mark::P),
-    ("ZSV", SEVERITY, Mark::P),
-    ("OSV", SEVERITY, Mark::P),
-    ("COSV", SEVERITY, Mark::P),
-    ("LALM", USHORT, Mark::N),
-];
-
-static FANOUT: [Line; 10] = [
-    ("VAL", LONG, Mark::P),
-    ("SELM", FieldKind::Menu(Menu::Selm), Mark::Plain),
-    ("SELN", USHORT, Mark::Plain),
-    ("SELL", PLAIN_INPUT, Mark::Set),
-    ("OFFS", SHORT, Mark::Plain),
-    ("SHFT", SHORT, Mark::Plain),
-    ("LNK0", FORWARD, Mark::Set),
-    ("LNK9", FORWARD, Mark::Set),
-    ("LNKA", FORWARD, Mark::Set),
-    ("LNKF", FORWARD, Mark::Set),
-];
-
-// The row that a line of a table of fields tells.
-fn told(kind: FieldKind, mark: Mark) -> Row {
-    match (kind, mark) {
-        (FieldKind::Link(role), _) => Row::link(role),
-        (_, Mark::Plain) => Row::plain(kind),
-        (_, Mark::P) => Row::passive(kind),
-        (_, Mark::N) => Row::fixed(kind),
-        (_, Mark::K) => Row::kept(kind),
-        (_, Mark::Set) => Row::given(kind),
-    }
-}
-
-// The fields of the type are as the table tells.
-fn are_told(rt: &impl Abort, record_type: RecordType, table: &[Line]) {
-    for (name, kind, mark) in table {
-        let found = match field(record_type, name.as_bytes()) {
-            Some(field) => row_of(record_type, field),
-            None => None,
-        };
-        assert!(rt; found == Some(told(*kind, *mark)), "{name}");
-    }
-}
-
-#[test]
-fn rows_of_fields(rt: HostRuntime) {
-    are_told(&rt, RecordType::Longin, &COMMON);
-    are_told(&rt, RecordType::Longin, &LONGIN);
-    are_told(&rt, RecordType::Bo, &COMMON);
-    are_told(&rt, RecordType::Bo, &BO);
-    are_told(&rt, RecordType::Fanout, &COMMON);
-    are_told(&rt, RecordType::Fanout, &FANOUT);
-}
-
-static TYPES: [(RecordType, &str, bool, usize); 3] = [
-    (RecordType::Longin, "longin", true, 2),
-    (RecordType::Fanout, "fanout", false, 18),
-    (RecordType::Bo, "bo", false, 3),
-];
-
-#[test]
-fn record_types(rt: HostRuntime) {
-    for (record_type, name, reads, links) in &TYPES {
-        assert!(rt; RecordType::from_name(name.as_bytes()) == Some(*record_type));
-        assert!(rt; record_type.name() == *name);
-        assert!(rt; record_type.reads_device() == *reads);
-        assert!(rt; link_fields(*record_type).len() == *links);
-    }
-    assert!(rt; RecordType::from_name(b"longi").is_none());
-    assert!(rt; RecordType::from_name(b"Bo").is_none());
-}
-
-static NAMES: [(RecordType, &str, Option<FieldNo>); 13] = [
-    (
-        RecordType::Bo,
-        "NAME",
-        Some(FieldNo::Common(CommonField::Name)),
-    ),
-    (
-        RecordType::Bo,
-        "UDFS",
-        Some(FieldNo::Common(CommonField::Udfs)),
-    ),
-    (RecordType::Bo, "ZNAM", Some(FieldNo::Own(OwnField::Znam))),
-    (
-        RecordType::Fanout,
-        "LNKA",
-        Some(FieldNo::Own(OwnField::Lnk(Slot::N10))),
-    ),
-    (RecordType::Longin, "UD", None),
-    (RecordType::Longin, "UDFX", None),
-    (RecordType::Longin, "val", None),
-    (RecordType::Longin, "", None),
-    (RecordType::Longin, "ZNAM", None),
-    (RecordType::Longin, "LNK0", None),
-    (RecordType::Fanout, "LNKG", None),
-    (RecordType::Fanout, "LALM", None),
-    (RecordType::Bo, "INP", None),
-];
-
-#[test]
-fn names_of_fields(rt: HostRuntime) {
-    for (record_type, name, wanted) in &NAMES {
-        let found = field(*record_type, name.as_bytes());
-        assert!(rt; found == *wanted, "{name}");
-        if let Some(field) = found {
-            assert!(rt; name_of(field) == *name);
-        }
-    }
-    assert!(rt; Slot::N10.index() == 10);
+// A fact of a record type.
+enum Fact {
+    // Its name, whether it reads devices, and how many fields of links it has.
+    Type(&'static str, bool, usize),
+    // No type has the name.
+    NoType(&'static str),
+    // The row of the field of a name.
+    Row(&'static str, FieldKind, Mark),
+    // The field of a name, and that is the field's name.
+    Field(&'static str, FieldNo),
+    NoField(&'static str),
+    // The number that the field has in a new record; none where it is a link.
+    Default(&'static str, i64),
+    NoDefault(&'static str),
+    Kind(FieldNo, FieldKind),
+    NoKind(FieldNo),
+    ProcessPassive(FieldNo),
+    KeptOnly(FieldNo, bool),
+    CanPut(FieldNo, bool),
+    CanSet(FieldNo),
+    // What links the fields of a role take.
+    Role(LinkRole, LinkKind),
+    Index(Slot, usize),
 }
 
 const VAL: FieldNo = FieldNo::Own(OwnField::Val);
 
 const MASK: FieldNo = FieldNo::Own(OwnField::Mask);
 
-#[test]
-fn flags_of_fields(rt: HostRuntime) {
-    assert!(rt; kind_of(RecordType::Longin, VAL) == Some(LONG));
-    assert!(rt; kind_of(RecordType::Longin, MASK).is_none());
-    assert!(rt; is_process_passive(RecordType::Longin, VAL));
-    assert!(rt; !can_put(RecordType::Bo, MASK) && can_set(RecordType::Bo, MASK));
-    assert!(rt; is_kept_only(RecordType::Longin, FieldNo::Own(OwnField::Egu)));
-    assert!(rt; !is_kept_only(RecordType::Longin, VAL));
-}
-
-static ROLES: [(LinkRole, LinkKind); 4] = [
-    (LinkRole::Input, LinkKind::WithDevice),
-    (LinkRole::Output, LinkKind::WithDevice),
-    (LinkRole::InputWithoutDevice, LinkKind::NoDevice),
-    (LinkRole::Forward, LinkKind::NoDevice),
+static COMMON: [Fact; 36] = [
+    Row("NAME", FieldKind::Text, Mark::N),
+    Row("DESC", FieldKind::Text, Mark::K),
+    Row("ASG", FieldKind::Text, Mark::K),
+    Row("DTYP", FieldKind::Text, Mark::Plain),
+    Row("SCAN", FieldKind::Menu(Menu::Scan), Mark::Plain),
+    Row("PINI", FieldKind::Menu(Menu::Pini), Mark::Plain),
+    Row("PHAS", SHORT, Mark::Plain),
+    Row("EVNT", FieldKind::Text, Mark::Plain),
+    Row("TSE", FieldKind::Number(Range::Zero), Mark::Plain),
+    Row("DISV", SHORT, Mark::Plain),
+    Row("DISA", SHORT, Mark::Plain),
+    Row("SDIS", PLAIN_INPUT, Mark::Set),
+    Row("DISS", SEVERITY, Mark::Plain),
+    Row("PROC", UCHAR, Mark::Plain),
+    Row("DISP", UCHAR, Mark::Plain),
+    Row("PRIO", FieldKind::Menu(Menu::Priority), Mark::Plain),
+    Row("UDF", UCHAR, Mark::P),
+    Row("UDFS", SEVERITY, Mark::Plain),
+    Row("FLNK", FORWARD, Mark::Set),
+    Row("STAT", STATUS, Mark::N),
+    Row("SEVR", SEVERITY, Mark::N),
+    Row("NSTA", STATUS, Mark::N),
+    Row("NSEV", SEVERITY, Mark::N),
+    Row("LCNT", UCHAR, Mark::N),
+    Row("PACT", UCHAR, Mark::N),
+    Row("PUTF", UCHAR, Mark::N),
+    Row("RPRO", UCHAR, Mark::N),
+    Row("TIME", FieldKind::Text, Mark::N),
+    Default("UDF", 1),
+    Default("UDFS", 3),
+    Default("DISV", 1),
+    Default("DISA", 0),
+    Default("TSE", 0),
+    Default("SCAN", 0),
+    NoDefault("SDIS"),
+    NoDefault("FLNK"),
 ];
 
-#[test]
-fn links_of_roles(rt: HostRuntime) {
-    for (role, kind) in &ROLES {
-        assert!(rt; role.link_kind() == *kind);
+static ROLES_AND_TYPES: [Fact; 7] = [
+    Role(LinkRole::Input, LinkKind::WithDevice),
+    Role(LinkRole::Output, LinkKind::WithDevice),
+    Role(LinkRole::InputWithoutDevice, LinkKind::NoDevice),
+    Role(LinkRole::Forward, LinkKind::NoDevice),
+    NoType("longi"),
+    NoType("Bo"),
+    Index(Slot::N10, 10),
+];
+
+static LONGIN: [Fact; 32] = [
+    Type("longin", true, 3),
+    Row("VAL", LONG, Mark::P),
+    Row("INP", INPUT, Mark::Set),
+    Row("HIHI", LONG, Mark::P),
+    Row("LOLO", LONG, Mark::P),
+    Row("HIGH", LONG, Mark::P),
+    Row("LOW", LONG, Mark::P),
+    Row("HHSV", SEVERITY, Mark::P),
+    Row("LLSV", SEVERITY, Mark::P),
+    Row("HSV", SEVERITY, Mark::P),
+    Row("LSV", SEVERITY, Mark::P),
+    Row("HYST", LONG, Mark::Plain),
+    Row("LALM", LONG, Mark::N),
+    Row("ADEL", LONG, Mark::K),
+    Row("MDEL", LONG, Mark::K),
+    Row("HOPR", LONG, Mark::K),
+    Row("LOPR", LONG, Mark::K),
+    Row("EGU", FieldKind::Text, Mark::K),
+    NoField("UD"),
+    NoField("UDFX"),
+    NoField("val"),
+    NoField(""),
+    NoField("ZNAM"),
+    NoField("LNK0"),
+    Default("PROC", 0),
+    Default("VAL", 0),
+    Default("HHSV", 0),
+    Kind(VAL, LONG),
+    NoKind(MASK),
+    ProcessPassive(VAL),
+    KeptOnly(FieldNo::Own(OwnField::Egu), true),
+    KeptOnly(VAL, false),
+];
+
+static BO: [Fact; 24] = [
+    Type("bo", false, 4),
+    Row("VAL", FieldKind::State, Mark::P),
+    Row("OUT", OUTPUT, Mark::Set),
+    Row("DOL", PLAIN_INPUT, Mark::Set),
+    Row("OMSL", FieldKind::Menu(Menu::Omsl), Mark::Plain),
+    Row("IVOA", FieldKind::Menu(Menu::Ivoa), Mark::Plain),
+    Row("IVOV", USHORT, Mark::P),
+    Row("RVAL", ULONG, Mark::Plain),
+    Row("MASK", ULONG, Mark::Set),
+    Row("ZNAM", FieldKind::Text, Mark::P),
+    Row("ONAM", FieldKind::Text, Mark::P),
+    Row("ZSV", SEVERITY, Mark::P),
+    Row("OSV", SEVERITY, Mark::P),
+    Row("COSV", SEVERITY, Mark::P),
+    Row("LALM", USHORT, Mark::N),
+    Field("NAME", FieldNo::Common(CommonField::Name)),
+    Field("UDFS", FieldNo::Common(CommonField::Udfs)),
+    Field("ZNAM", FieldNo::Own(OwnField::Znam)),
+    NoField("INP"),
+    Default("VAL", 0),
+    Default("MASK", 0),
+    Default("IVOV", 0),
+    CanPut(MASK, false),
+    CanSet(MASK),
+];
+
+static FANOUT: [Fact; 19] = [
+    Type("fanout", false, 19),
+    Row("VAL", LONG, Mark::P),
+    Row("SELM", FieldKind::Menu(Menu::Selm), Mark::Plain),
+    Row("SELN", USHORT, Mark::Plain),
+    Row("SELL", PLAIN_INPUT, Mark::Set),
+    Row("OFFS", SHORT, Mark::Plain),
+    Row("SHFT", SHORT, Mark::Plain),
+    Row("LNK0", FORWARD, Mark::Set),
+    Row("LNK9", FORWARD, Mark::Set),
+    Row("LNKA", FORWARD, Mark::Set),
+    Row("LNKF", FORWARD, Mark::Set),
+    Field("LNKA", FieldNo::Own(OwnField::Lnk(Slot::N10))),
+    NoField("LNKG"),
+    NoField("LALM"),
+    Default("SELM", 0),
+    Default("SELN", 1),
+    Default("OFFS", 0),
+    Default("SHFT", -1),
+    NoDefault("LNKF"),
+];
+
+static LONGOUT: [Fact; 12] = [
+    Type("longout", false, 4),
+    Row("VAL", LONG, Mark::P),
+    Row("OUT", OUTPUT, Mark::Set),
+    Row("DOL", PLAIN_INPUT, Mark::Set),
+    Row("OMSL", FieldKind::Menu(Menu::Omsl), Mark::Plain),
+    Row("DRVH", LONG, Mark::P),
+    Row("DRVL", LONG, Mark::P),
+    Row("IVOA", FieldKind::Menu(Menu::Ivoa), Mark::Plain),
+    Row("IVOV", LONG, Mark::P),
+    Row("HYST", LONG, Mark::Plain),
+    Row("EGU", FieldKind::Text, Mark::K),
+    NoField("INP"),
+];
+
+static INT64IN: [Fact; 9] = [
+    Type("int64in", true, 3),
+    Row("VAL", INT64, Mark::P),
+    Row("INP", INPUT, Mark::Set),
+    Row("LOLO", INT64, Mark::P),
+    Row("HYST", INT64, Mark::Plain),
+    Row("LALM", INT64, Mark::N),
+    Row("LOPR", INT64, Mark::K),
+    Default("VAL", 0),
+    NoField("DRVH"),
+];
+
+static INT64OUT: [Fact; 5] = [
+    Type("int64out", false, 4),
+    Row("VAL", INT64, Mark::P),
+    Row("DRVL", INT64, Mark::P),
+    Row("IVOV", INT64, Mark::P),
+    Row("OUT", OUTPUT, Mark::Set),
+];
+
+static BI: [Fact; 8] = [
+    Type("bi", true, 3),
+    Row("VAL", FieldKind::State, Mark::P),
+    Row("INP", INPUT, Mark::Set),
+    Row("RVAL", ULONG, Mark::Plain),
+    Row("MASK", ULONG, Mark::Set),
+    Row("ONAM", FieldKind::Text, Mark::P),
+    NoField("OUT"),
+    NoField("IVOV"),
+];
+
+static MBBI: [Fact; 30] = [
+    Type("mbbi", true, 3),
+    Row("VAL", FieldKind::State, Mark::P),
+    Row("INP", INPUT, Mark::Set),
+    Row("RVAL", ULONG, Mark::Plain),
+    Row("MASK", ULONG, Mark::Set),
+    Row("SHFT", BITS, Mark::Plain),
+    Row("NOBT", BITS, Mark::Plain),
+    Row("ZRVL", ULONG, Mark::P),
+    Row("TEST", FieldKind::Text, Mark::P),
+    Row("FFSV", SEVERITY, Mark::P),
+    Row("UNSV", SEVERITY, Mark::P),
+    Row("COSV", SEVERITY, Mark::P),
+    Row("LALM", USHORT, Mark::N),
+    Field("ONVL", FieldNo::Own(OwnField::StateValue(Slot::N1))),
+    Field("TWST", FieldNo::Own(OwnField::StateText(Slot::N2))),
+    Field("THSV", FieldNo::Own(OwnField::StateSeverity(Slot::N3))),
+    Field("FRVL", FieldNo::Own(OwnField::StateValue(Slot::N4))),
+    Field("FVVL", FieldNo::Own(OwnField::StateValue(Slot::N5))),
+    Field("SXVL", FieldNo::Own(OwnField::StateValue(Slot::N6))),
+    Field("SVVL", FieldNo::Own(OwnField::StateValue(Slot::N7))),
+    Field("EIST", FieldNo::Own(OwnField::StateText(Slot::N8))),
+    Field("NIST", FieldNo::Own(OwnField::StateText(Slot::N9))),
+    Field("TEST", FieldNo::Own(OwnField::StateText(Slot::N10))),
+    Field("ELST", FieldNo::Own(OwnField::StateText(Slot::N11))),
+    Field("TVSV", FieldNo::Own(OwnField::StateSeverity(Slot::N12))),
+    Field("TTSV", FieldNo::Own(OwnField::StateSeverity(Slot::N13))),
+    Field("FTSV", FieldNo::Own(OwnField::StateSeverity(Slot::N14))),
+    Default("SHFT", 0),
+    NoField("SXXX"),
+    NoField("ZNAM"),
+];
+
+static MBBO: [Fact; 6] = [
+    Type("mbbo", false, 4),
+    Row("VAL", FieldKind::State, Mark::P),
+    Row("IVOV", USHORT, Mark::P),
+    Row("SVSV", SEVERITY, Mark::P),
+    Row("OUT", OUTPUT, Mark::Set),
+    NoField("INP"),
+];
+
+static STRINGIN: [Fact; 4] = [
+    Type("stringin", true, 3),
+    Row("VAL", FieldKind::Text, Mark::P),
+    Row("INP", INPUT, Mark::Set),
+    NoField("LALM"),
+];
+
+static STRINGOUT: [Fact; 5] = [
+    Type("stringout", false, 4),
+    Row("VAL", FieldKind::Text, Mark::P),
+    Row("IVOV", FieldKind::Text, Mark::P),
+    Row("DOL", PLAIN_INPUT, Mark::Set),
+    NoField("INP"),
+];
+
+static EVENT: [Fact; 4] = [
+    Type("event", true, 3),
+    Row("VAL", FieldKind::Text, Mark::P),
+    Row("INP", INPUT, Mark::Set),
+    NoField("IVOV"),
+];
+
+// The row that the tables of fields tell of a field.
+fn told(kind: FieldKind, mark: Mark) -> ioc_fields::Row {
+    match (kind, mark) {
+        (FieldKind::Link(role), _) => ioc_fields::Row::link(role),
+        (_, Mark::Plain) => ioc_fields::Row::plain(kind),
+        (_, Mark::P) => ioc_fields::Row::passive(kind),
+        (_, Mark::N) => ioc_fields::Row::fixed(kind),
+        (_, Mark::K) => ioc_fields::Row::kept(kind),
+        (_, Mark::Set) => ioc_fields::Row::given(kind),
     }
 }
 
-static DEFAULTS: [(RecordType, &str, Option<i64>); 14] = [
-    (RecordType::Longin, "UDF", Some(1)),
-    (RecordType::Longin, "UDFS", Some(3)),
-    (RecordType::Longin, "PROC", Some(0)),
-    (RecordType::Longin, "FLNK", None),
-    (RecordType::Longin, "VAL", Some(0)),
-    (RecordType::Longin, "HHSV", Some(0)),
-    (RecordType::Bo, "VAL", Some(0)),
-    (RecordType::Bo, "MASK", Some(0)),
-    (RecordType::Bo, "IVOV", Some(0)),
-    (RecordType::Fanout, "SELM", Some(0)),
-    (RecordType::Fanout, "SELN", Some(1)),
-    (RecordType::Fanout, "OFFS", Some(0)),
-    (RecordType::Fanout, "SHFT", Some(-1)),
-    (RecordType::Fanout, "LNKF", None),
-];
-
-fn number(value: Option<Value>) -> Option<i64> {
-    match value? {
-        Value::Long(number) => Some(i64::from(number)),
-        Value::ULong(number) => Some(i64::from(number)),
-        Value::Short(number) => Some(i64::from(number)),
-        Value::UShort(number) | Value::Enum(number) => Some(i64::from(number)),
-        Value::UChar(number) => Some(i64::from(number)),
-        Value::Text(_) => None,
-    }
+// The number that a field has in a new record.
+fn default_number(record_type: RecordType, name: &str) -> Option<i64> {
+    let field = field(record_type, name.as_bytes())?;
+    default_of(record_type, field)?.number()
 }
 
-#[test]
-fn defaults_of_fields(rt: HostRuntime) {
-    for (record_type, name, value) in &DEFAULTS {
-        let found = match field(*record_type, name.as_bytes()) {
-            Some(field) => number(default_of(*record_type, field)) == *value,
+// A fact of a name.
+fn holds(record_type: RecordType, fact: &Fact) -> bool {
+    match fact {
+        Row(name, kind, mark) => match field(record_type, name.as_bytes()) {
+            Some(field) => row_of(record_type, field) == Some(told(*kind, *mark)),
             None => false,
-        };
-        assert!(rt; found, "{name}");
+        },
+        Field(name, wanted) => {
+            field(record_type, name.as_bytes()) == Some(*wanted) && name_of(*wanted) == *name
+        }
+        NoField(name) => field(record_type, name.as_bytes()).is_none(),
+        Default(name, number) => default_number(record_type, name) == Some(*number),
+        NoDefault(name) => {
+            field(record_type, name.as_bytes()).is_some()
+                && default_number(record_type, name).is_none()
+        }
+        Type(name, reads, links) => {
+            RecordType::from_name(name.as_bytes()) == Some(record_type)
+                && record_type.name() == *name
+                && record_type.reads_device() == *reads
+                && link_fields(record_type).len() == *links
+        }
+        NoType(name) => RecordType::from_name(name.as_bytes()).is_none(),
+        fact => field_holds(record_type, fact),
     }
+}
+
+// A fact of a field, or of what no type changes.
+fn field_holds(record_type: RecordType, fact: &Fact) -> bool {
+    match fact {
+        Kind(field, kind) => kind_of(record_type, *field) == Some(*kind),
+        NoKind(field) => kind_of(record_type, *field).is_none(),
+        ProcessPassive(field) => is_process_passive(record_type, *field),
+        KeptOnly(field, wanted) => is_kept_only(record_type, *field) == *wanted,
+        CanPut(field, wanted) => can_put(record_type, *field) == *wanted,
+        CanSet(field) => can_set(record_type, *field),
+        Role(role, kind) => role.link_kind() == *kind,
+        Index(slot, index) => slot.index() == *index,
+        _ => false,
+    }
+}
+
+// The facts hold for the type.
+fn are_so(rt: &impl Abort, record_type: RecordType, facts: &[Fact]) {
+    let mut number = 0u64;
+    for fact in facts {
+        assert!(rt; holds(record_type, fact), "fact {number}, counted from 0");
+        number = number.saturating_add(1);
+    }
+}
+
+#[test]
+fn fields(rt: HostRuntime) {
+    are_so(&rt, RecordType::Longin, &ROLES_AND_TYPES);
+    are_so(&rt, RecordType::Longin, &COMMON);
+    are_so(&rt, RecordType::Longin, &LONGIN);
+    are_so(&rt, RecordType::Longout, &LONGOUT);
+    are_so(&rt, RecordType::Int64in, &INT64IN);
+    are_so(&rt, RecordType::Int64out, &INT64OUT);
+    are_so(&rt, RecordType::Bi, &BI);
+    are_so(&rt, RecordType::Bo, &BO);
+    are_so(&rt, RecordType::Mbbi, &MBBI);
+    are_so(&rt, RecordType::Mbbo, &MBBO);
+    are_so(&rt, RecordType::Stringin, &STRINGIN);
+    are_so(&rt, RecordType::Stringout, &STRINGOUT);
+    are_so(&rt, RecordType::Fanout, &COMMON);
+    are_so(&rt, RecordType::Fanout, &FANOUT);
+    are_so(&rt, RecordType::Event, &EVENT);
 }

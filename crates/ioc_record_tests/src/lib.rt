@@ -3,16 +3,24 @@
 #![tactic(auto)]
 
 #[cfg(test)]
+mod bi;
+#[cfg(test)]
 mod bo;
 #[cfg(test)]
 mod fanout;
 #[cfg(test)]
 mod fields;
 #[cfg(test)]
+mod int64;
+#[cfg(test)]
 mod longin;
+#[cfg(test)]
+mod longout;
 #[cfg(test)]
 mod multi;
 #[cfg(test)]
 mod records;
 #[cfg(test)]
 mod steps;
+#[cfg(test)]
+mod texts;

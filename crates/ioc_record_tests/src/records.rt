@@ -1,62 +1,16 @@
 //! What records of every type do alike: the steps on common fields, puts, texts of fields.
-use crate::steps::Step::{Has, Load, Put, PutRefused, Set, SetRefused};
-use crate::steps::{Step, follow};
-use ioc_fields::{CommonField, FieldNo, OwnField};
+use crate::steps::Step::{
+    Do, Has, Load, MayPut, Put, PutByLink, PutRefused, Raised, Set, SetRefused, Shows, Test,
+};
+use crate::steps::{Act, BLOCK, SHOW, Step, follow};
 use ioc_links::Mode;
 use ioc_menus::{Severity, Status};
-use ioc_record::{Common, InputKind, LinkField, LinkUse, Record, RecordKind, convert_to, read_as};
+use ioc_record::{Common, InputKind, LinkField, LinkUse, Record, convert_to, disable_kind};
 use ioc_values::{IocError, Name, Range, Text, Value};
-use rec_binary::Bo;
 use rec_numeric::Longin;
-use std::process::Abort;
 
-fn new_longin() -> Record<Longin> {
-    Record {
-        common: Common::new(Name::cut(b"level")),
-        body: Longin::new(),
-    }
-}
-
-// A record asked again and again while it is active raises SCAN at the eleventh time.
-#[test]
-fn eleventh_request_of_an_active_record(rt: HostRuntime) {
-    let mut common = Common::new(Name::cut(b"r"));
-    common.store(CommonField::Udf, Value::UChar(0));
-    common.condition.show_first();
-    common.active = true;
-    for _ in 0..10 {
-        common.block();
-    }
-    assert!(rt; common.get(CommonField::Lcnt) == Some(Value::UChar(10)));
-    assert!(rt; common.condition.alarms.status == Status::Udf);
-    common.block();
-    assert!(rt; common.get(CommonField::Lcnt) == Some(Value::UChar(11)));
-    assert!(rt; common.condition.alarms.status == Status::Scan);
-    assert!(rt; common.condition.alarms.severity == Severity::Invalid);
-    common.block();
-    assert!(rt; common.get(CommonField::Lcnt) == Some(Value::UChar(11)));
-    common.unblock();
-    assert!(rt; common.get(CommonField::Lcnt) == Some(Value::UChar(0)));
-}
-
-#[test]
-fn alarms_and_waiting(rt: HostRuntime) {
-    let mut common = Common::new(Name::cut(b"r"));
-    common.raise(Status::Read, Severity::Minor);
-    common.inherit(Mode::Ms, Status::High, Severity::Major);
-    common.show();
-    assert!(rt; common.condition.alarms.status == Status::Link);
-    assert!(rt; common.condition.alarms.severity == Severity::Major);
-    assert!(rt; common.get(CommonField::Pact) == Some(Value::UChar(1)));
-    assert!(rt; common.last_pending == 0);
-    common.wait();
-    assert!(rt; common.pending == Some(1));
-    common.end_wait();
-    assert!(rt; common.pending == None);
-    assert!(rt; common.get(CommonField::Pact) == Some(Value::UChar(1)));
-}
-
-static NEW: [Step<'static>; 11] = [
+static TESTS: [Step<'static>; 188] = [
+    Test("new"),
     Has("NAME", "level"),
     Has("DTYP", ""),
     Has("UDF", "1"),
@@ -68,9 +22,104 @@ static NEW: [Step<'static>; 11] = [
     Has("LCNT", "0"),
     Has("PACT", "0"),
     Has("EGU", ""),
-];
-
-static PUTS: [Step<'static>; 10] = [
+    Has("DESC", ""),
+    Has("ASG", ""),
+    Has("SCAN", "Passive"),
+    Has("PINI", "NO"),
+    Has("PHAS", "0"),
+    Has("EVNT", ""),
+    Has("TSE", "0"),
+    Has("DISV", "1"),
+    Has("DISA", "0"),
+    Has("SDIS", ""),
+    Has("DISS", "NO_ALARM"),
+    Has("DISP", "0"),
+    Has("PRIO", "LOW"),
+    Has("PUTF", "0"),
+    Has("RPRO", "0"),
+    Has("TIME", "0"),
+    Test("puts to common fields"),
+    Put("DESC", "a level"),
+    Has("DESC", "a level"),
+    Put("ASG", "any"),
+    Has("ASG", "any"),
+    Do(Act::Passive(true)),
+    Put("SCAN", ".1 second"),
+    Has("SCAN", ".1 second"),
+    Do(Act::Passive(false)),
+    Put("SCAN", "0"),
+    Do(Act::Passive(true)),
+    Put("PINI", "YES"),
+    Has("PINI", "YES"),
+    PutRefused("PINI", "RUN", IocError::BadValue),
+    PutRefused("PINI", "2", IocError::BadValue),
+    Put("PHAS", "-32768"),
+    Has("PHAS", "-32768"),
+    Put("EVNT", "shot"),
+    Has("EVNT", "shot"),
+    Put("TSE", "0"),
+    PutRefused("TSE", "1", IocError::BadValue),
+    PutRefused("TSE", "-2", IocError::BadValue),
+    Put("DISV", "0"),
+    Has("DISV", "0"),
+    Put("DISA", "5"),
+    Has("DISA", "5"),
+    Put("DISS", "MINOR"),
+    Has("DISS", "MINOR"),
+    Put("PRIO", "HIGH"),
+    Has("PRIO", "HIGH"),
+    PutRefused("SDIS", "1", IocError::NoMod),
+    PutRefused("TIME", "1", IocError::NoMod),
+    PutRefused("PUTF", "1", IocError::NoMod),
+    PutRefused("RPRO", "1", IocError::NoMod),
+    SetRefused("LCNT", "1", IocError::NoMod),
+    // A client puts no field but DISP while DISP isn't 0, and is told so before its value is looked at; a link puts.
+    Test("puts disabled"),
+    MayPut("VAL", None),
+    Put("DISP", "1"),
+    MayPut("VAL", Some(IocError::PutDisabled)),
+    MayPut("DISP", None),
+    MayPut("PACT", Some(IocError::NoMod)),
+    PutRefused("VAL", "x", IocError::PutDisabled),
+    PutRefused("PACT", "1", IocError::NoMod),
+    PutByLink("VAL", "3"),
+    Has("VAL", "3"),
+    Put("DISP", "0"),
+    Put("VAL", "4"),
+    Test("constant of SDIS"),
+    Set("SDIS", "-7"),
+    SetRefused("SDIS", "32768", IocError::BadValue),
+    SetRefused("SDIS", "@card", IocError::BadLink),
+    Load,
+    Has("SDIS", "-7"),
+    Has("DISA", "-7"),
+    Has("UDF", "1"),
+    // A disabled record shows DISABLE with DISS once; what was raised is dropped then, and kept later.
+    Test("disabled"),
+    Set("DISS", "MAJOR"),
+    Do(Act::MarkPut(true)),
+    Do(Act::MarkReprocess(true)),
+    Has("PUTF", "1"),
+    Has("RPRO", "1"),
+    Do(Act::Raise(Status::Read, Severity::Minor)),
+    Do(Act::Disable),
+    Has("STAT", "DISABLE"),
+    Has("SEVR", "MAJOR"),
+    Raised("NO_ALARM", "NO_ALARM"),
+    Has("PUTF", "0"),
+    Has("RPRO", "0"),
+    Put("DISS", "MINOR"),
+    Do(Act::Raise(Status::Link, Severity::Invalid)),
+    Do(Act::Disable),
+    Has("SEVR", "MAJOR"),
+    Raised("LINK", "INVALID"),
+    Test("moment"),
+    Do(Act::ShowAt(18_446_744_073_709_551_615)),
+    Has("TIME", "18446744073709551615"),
+    Has("PACT", "1"),
+    Do(Act::ShowAt(5)),
+    Has("TIME", "5"),
+    Test("puts"),
     Put("VAL", "0x10"),
     Has("VAL", "16"),
     Has("UDF", "0"),
@@ -81,9 +130,7 @@ static PUTS: [Step<'static>; 10] = [
     Put("UDFS", "2"),
     Has("UDFS", "MAJOR"),
     Put("PROC", "1"),
-];
-
-static REFUSED: [Step<'static>; 14] = [
+    Test("puts refused"),
     PutRefused("ZNAM", "1", IocError::NoField),
     PutRefused("PACT", "x", IocError::NoMod),
     PutRefused("LALM", "1", IocError::NoMod),
@@ -102,17 +149,7 @@ static REFUSED: [Step<'static>; 14] = [
     Has("VAL", "0"),
     Has("UDF", "1"),
     Has("UDFS", "INVALID"),
-];
-
-#[test]
-fn puts(rt: HostRuntime) {
-    follow(&rt, &mut new_longin(), &NEW);
-    follow(&rt, &mut new_longin(), &PUTS);
-    follow(&rt, &mut new_longin(), &REFUSED);
-    assert!(rt; LinkField::empty().in_use() == LinkUse::Unused);
-}
-
-static SET: [Step<'static>; 19] = [
+    Test("fields of a database text"),
     Set("INP", " q  PP MS "),
     Set("FLNK", "r"),
     Set("UDFS", ""),
@@ -132,46 +169,53 @@ static SET: [Step<'static>; 19] = [
     SetRefused("INP", "a CPP", IocError::BadLink),
     SetRefused("INP", "2147483648", IocError::BadValue),
     Set("FLNK", "2147483648"),
+    // A record asked again and again while it is active raises SCAN at the eleventh time.
+    Test("eleventh request of an active record"),
+    Set("UDF", "0"),
+    Load,
+    Do(Act::Activate),
+    BLOCK,
+    BLOCK,
+    BLOCK,
+    BLOCK,
+    BLOCK,
+    BLOCK,
+    BLOCK,
+    BLOCK,
+    BLOCK,
+    BLOCK,
+    Has("LCNT", "10"),
+    Has("STAT", "UDF"),
+    BLOCK,
+    Has("LCNT", "11"),
+    Has("STAT", "SCAN"),
+    Has("SEVR", "INVALID"),
+    BLOCK,
+    Has("LCNT", "11"),
+    Do(Act::Unblock),
+    Has("LCNT", "0"),
+    Test("alarms and waiting"),
+    Do(Act::Raise(Status::Read, Severity::Minor)),
+    Do(Act::Inherit(Mode::Ms, Status::High, Severity::Major)),
+    Shows("LINK", "MAJOR"),
+    Has("PACT", "1"),
+    Do(Act::LastAwaited(0)),
+    Do(Act::Wait),
+    Do(Act::Awaits(Some(1))),
+    Do(Act::EndWait),
+    Do(Act::Awaits(None)),
+    Has("PACT", "1"),
 ];
 
 #[test]
-fn fields_of_a_database_text(rt: HostRuntime) {
-    follow(&rt, &mut new_longin(), &SET);
-}
-
-static STATES: [Step<'static>; 4] = [Set("ONAM", "on"), Set("ZNAM", "12"), Set("VAL", "on"), Load];
-
-const VAL: FieldNo = FieldNo::Own(OwnField::Val);
-
-const UDFS: FieldNo = FieldNo::Common(CommonField::Udfs);
-
-// What a reader of a number has.
-static NUMBERS: [(FieldNo, i32); 3] = [(VAL, 1), (FieldNo::Own(OwnField::Znam), 12), (UDFS, 3)];
-
-// What a reader of a text has.
-static TEXTS: [(FieldNo, &str); 2] = [(VAL, "on"), (UDFS, "INVALID")];
-
-fn are_read<K: RecordKind>(rt: &impl Abort, item: &K) {
-    for (field, wanted) in &NUMBERS {
-        assert!(rt;
-            read_as(item, *field, InputKind::Number(Range::Long)) == Ok(Value::Long(*wanted))
-        );
-    }
-    for (field, wanted) in &TEXTS {
-        let text = Ok(Value::Text(Text::cut(wanted.as_bytes())));
-        assert!(rt; read_as(item, *field, InputKind::Text) == text);
-    }
-}
-
-#[test]
-fn fields_read(rt: HostRuntime) {
-    let mut item = Record {
-        common: Common::new(Name::cut(b"switch")),
-        body: Bo::new(),
+fn every_record(rt: HostRuntime) {
+    let fresh = Record {
+        common: Common::new(Name::cut(b"level")),
+        body: Longin::new(),
     };
-    follow(&rt, &mut item, &STATES);
-    are_read(&rt, &item);
-    assert!(rt; item.link_fields().len() == 3 && item.states().len() == 2);
+    follow(&rt, fresh, &TESTS);
+    assert!(rt; LinkField::empty().in_use() == LinkUse::Unused);
+    assert!(rt; disable_kind() == InputKind::Number(Range::Short));
 }
 
 #[test]

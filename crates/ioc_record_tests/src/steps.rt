@@ -1,12 +1,14 @@
-//! Steps of one record, each with what must come of it.
+//! Tests of one record as lists of steps, each with what must come of it. One list holds all tests of a type, since
+//! a list costs the prover little and a function much.
 use ioc_fields::{FieldNo, OwnField, field};
 use ioc_links::Mode;
+use ioc_menus::{Severity, Status};
 use ioc_names::RecordNo;
 use ioc_record::{
-    FieldAddress, Got, Lead, LinkUse, Output, RecordKind, StandingLink, Want, put_field, set_field,
-    text_of,
+    Common, FieldAddress, Got, InputKind, Lead, LinkUse, Output, RecordKind, StandingLink, Want,
+    put_field, put_untested, read_as, set_field, test_put, text_of,
 };
-use ioc_values::{Finished, Input, IocError, Value};
+use ioc_values::{Finished, Input, IocError, Range, Text, Value};
 use std::process::Abort;
 
 /// What comes to a body.
@@ -16,6 +18,10 @@ pub enum Came {
     Fault,
     Long(i32),
     UShort(u16),
+    ULong(u32),
+    Int64(i64),
+    /// A text of the test's.
+    Text(&'static str),
 }
 
 /// What a body wants: a link read is one that leads to VAL of the record of number 1, with PP or not, and of this mode.
@@ -34,15 +40,54 @@ pub enum Does {
     Nothing,
     WriteAbsent(u16),
     WriteAbsentRaw(u32),
+    WriteAbsentLong(i32),
+    WriteAbsentInt64(i64),
     Write(u16),
     WriteRaw(u32),
     WriteDevice(u32),
+    WriteDeviceLong(i32),
     Follow(u16),
+    WriteText(&'static str),
+    WriteDeviceText(&'static str),
+    /// The event of this name is posted.
+    Post(&'static str),
+}
+
+/// A step on the fields that every record has.
+#[derive(Clone, Copy)]
+pub enum Act {
+    Raise(Status, Severity),
+    Inherit(Mode, Status, Severity),
+    /// The alarms are shown.
+    Show,
+    /// The record is active, and not by a step of its own.
+    Activate,
+    /// The alarms are shown at this moment.
+    ShowAt(u64),
+    /// A request finds the record disabled.
+    Disable,
+    /// PUTF and RPRO are set.
+    MarkPut(bool),
+    MarkReprocess(bool),
+    /// The record is passive, or not.
+    Passive(bool),
+    /// A request finds the record active.
+    Block,
+    /// A request finds the record idle.
+    Unblock,
+    Wait,
+    EndWait,
+    /// The completion that the record awaits has this number.
+    Awaits(Option<u64>),
+    /// The last completion had this number.
+    LastAwaited(u64),
 }
 
 /// A step of a test, with what must come of it.
 #[derive(Clone, Copy)]
 pub enum Step<'a> {
+    /// The test of this name begins, with a new record.
+    Test(&'a str),
     /// A database text sets a field.
     Set(&'a str, &'a str),
     SetRefused(&'a str, &'a str, IocError),
@@ -51,6 +96,12 @@ pub enum Step<'a> {
     /// A script puts a field.
     Put(&'a str, &'a str),
     PutRefused(&'a str, &'a str, IocError),
+    /// A link puts a text, whatever DISP is.
+    PutByLink(&'a str, &'a str),
+    /// A client may put the field, or is told this.
+    MayPut(&'a str, Option<IocError>),
+    /// A record puts a number.
+    PutNumber(&'a str, i32),
     /// The link of the field leads to VAL of the record of number 1.
     Stands(FieldNo),
     /// The link of the field leads to the record's own device.
@@ -62,28 +113,54 @@ pub enum Step<'a> {
     /// The body's device has answered a number at last, or a fault.
     Answer(u32),
     AnswerFault,
-    /// The alarms are shown.
-    Show,
+    Do(Act),
     /// The field has this text.
     Has(&'a str, &'a str),
+    /// The alarms are shown, and have this status and severity.
+    Shows(&'a str, &'a str),
+    /// An alarm of this status and severity is raised.
+    Raised(&'a str, &'a str),
+    /// A reader of a number has this from the field, and one of a text has that.
+    ReadAsNumber(&'a str, i32),
+    ReadAsText(&'a str, &'a str),
+    /// What the body wants is converted to this.
+    Converts(InputKind),
+    /// The type has so many link fields, and so many states.
+    Lists(usize, usize),
+}
+
+/// The alarms are shown.
+pub const SHOW: Step<'static> = Step::Do(Act::Show);
+
+/// A request finds the record active.
+pub const BLOCK: Step<'static> = Step::Do(Act::Block);
+
+// The field of a name.
+fn at<K: RecordKind>(item: &K, name: &str) -> Result<FieldNo, IocError> {
+    field(item.record_type(), name.as_bytes()).ok_or(IocError::NoField)
 }
 
 fn set<K: RecordKind>(item: &mut K, name: &str, text: &str) -> Result<(), IocError> {
-    let field = field(item.record_type(), name.as_bytes()).ok_or(IocError::NoField)?;
+    let field = at(item, name)?;
     set_field(item, field, text.as_bytes())
 }
 
-fn put<K: RecordKind>(item: &mut K, name: &str, text: &str) -> Result<(), IocError> {
-    let field = field(item.record_type(), name.as_bytes()).ok_or(IocError::NoField)?;
-    put_field(item, field, Input::from_text(text.as_bytes()))
+fn put<K: RecordKind>(item: &mut K, name: &str, input: Input) -> Result<(), IocError> {
+    let field = at(item, name)?;
+    put_field(item, field, input)
 }
 
 // Is this the text of the field?
 fn has_text<K: RecordKind>(item: &K, name: &str, wanted: &str) -> bool {
-    match field(item.record_type(), name.as_bytes()) {
-        Some(field) => text_of(item, field).as_slice() == wanted.as_bytes(),
-        None => false,
+    match at(item, name) {
+        Ok(field) => text_of(item, field).as_slice() == wanted.as_bytes(),
+        Err(_) => false,
     }
+}
+
+fn read<K: RecordKind>(item: &K, name: &str, kind: InputKind) -> Result<Value, IocError> {
+    let field = at(item, name)?;
+    read_as(item, field, kind)
 }
 
 // The link of the field leads there.
@@ -117,12 +194,19 @@ fn standing(process_passive: bool, mode: Mode) -> LinkUse {
     })
 }
 
+fn text_value(text: &str) -> Value {
+    Value::Text(Text::cut(text.as_bytes()))
+}
+
 fn got(came: Came) -> Got {
     match came {
         Came::Nothing => Got::Nothing,
         Came::Fault => Got::Fault,
         Came::Long(number) => Got::Value(Value::Long(number)),
         Came::UShort(number) => Got::Value(Value::UShort(number)),
+        Came::ULong(number) => Got::Value(Value::ULong(number)),
+        Came::Int64(number) => Got::Value(Value::Int64(number)),
+        Came::Text(text) => Got::Value(text_value(text)),
     }
 }
 
@@ -141,26 +225,107 @@ fn output(does: Does) -> Output {
         Does::Nothing => Output::NoOutput,
         Does::WriteAbsent(number) => Output::WriteLink(LinkUse::Absent, Value::UShort(number)),
         Does::WriteAbsentRaw(number) => Output::WriteLink(LinkUse::Absent, Value::ULong(number)),
+        Does::WriteAbsentLong(number) => Output::WriteLink(LinkUse::Absent, Value::Long(number)),
+        Does::WriteAbsentInt64(number) => Output::WriteLink(LinkUse::Absent, Value::Int64(number)),
         Does::Write(number) => Output::WriteLink(standing(false, Mode::Nms), Value::UShort(number)),
         Does::WriteRaw(number) => {
             Output::WriteLink(standing(false, Mode::Nms), Value::ULong(number))
         }
         Does::WriteDevice(number) => Output::WriteDevice(Value::ULong(number)),
+        Does::WriteDeviceLong(number) => Output::WriteDevice(Value::Long(number)),
         Does::Follow(links) => Output::FollowLinks(links),
+        Does::WriteText(text) => Output::WriteLink(standing(false, Mode::Nms), text_value(text)),
+        Does::WriteDeviceText(text) => Output::WriteDevice(text_value(text)),
+        Does::Post(name) => Output::PostEvent(Text::cut(name.as_bytes())),
     }
 }
 
 // Does what the step says, and tells whether that came of it which must.
+fn is_done(common: &mut Common, act: Act) -> bool {
+    match act {
+        Act::Raise(status, severity) => common.raise(status, severity),
+        Act::Inherit(mode, status, severity) => common.inherit(mode, status, severity),
+        Act::Show => common.show(0),
+        Act::ShowAt(moment) => common.show(moment),
+        Act::Disable => common.disable(),
+        Act::MarkPut(by_put) => common.mark_put(by_put),
+        Act::MarkReprocess(reprocess) => common.mark_reprocess(reprocess),
+        Act::Passive(wanted) => return common.is_passive() == wanted,
+        Act::Activate => common.active = true,
+        Act::Block => common.block(),
+        Act::Unblock => common.unblock(),
+        Act::Wait if common.last_pending < u64::MAX => common.wait(),
+        Act::Wait => return false,
+        Act::EndWait => common.end_wait(),
+        Act::Awaits(number) => return common.pending == number,
+        Act::LastAwaited(number) => return common.last_pending == number,
+    }
+    true
+}
+
+// Was it refused for this?
+fn is_refused(done: Result<(), IocError>, fault: IocError) -> bool {
+    match done {
+        Ok(()) => false,
+        Err(found) => found == fault,
+    }
+}
+
+// May a client put the field, or is it told this?
+fn may_put<K: RecordKind>(item: &K, name: &str, fault: Option<IocError>) -> bool {
+    match (at(item, name), fault) {
+        (Ok(field), Some(fault)) => is_refused(test_put(item, field), fault),
+        (Ok(field), None) => test_put(item, field).is_ok(),
+        (Err(_), _) => false,
+    }
+}
+
+// Was this read?
+fn is_read(found: Result<Value, IocError>, wanted: Value) -> bool {
+    match found {
+        Ok(value) => value == wanted,
+        Err(_) => false,
+    }
+}
+
+// A step on fields, or on what every record has.
 fn holds<K: RecordKind>(item: &mut K, step: &Step<'_>) -> bool {
     match step {
-        Step::Set(name, text) => set(item, name, text) == Ok(()),
-        Step::SetRefused(name, text, fault) => set(item, name, text) == Err(*fault),
+        Step::Test(_) => true,
+        Step::Set(name, text) => set(item, name, text).is_ok(),
+        Step::SetRefused(name, text, fault) => is_refused(set(item, name, text), *fault),
+        Step::Put(name, text) => put(item, name, Input::from_text(text.as_bytes())).is_ok(),
+        Step::PutRefused(name, text, fault) => {
+            is_refused(put(item, name, Input::from_text(text.as_bytes())), *fault)
+        }
+        Step::PutByLink(name, text) => match at(item, name) {
+            Ok(field) => put_untested(item, field, Input::from_text(text.as_bytes())).is_ok(),
+            Err(_) => false,
+        },
+        Step::MayPut(name, fault) => may_put(item, name, *fault),
+        Step::PutNumber(name, number) => {
+            put(item, name, Input::Value(Value::Long(*number))).is_ok()
+        }
+        Step::Do(act) => is_done(item.common_mut(), *act),
+        Step::Has(name, wanted) => has_text(item, name, wanted),
+        Step::Shows(status, severity) => {
+            item.common_mut().show(0);
+            has_text(item, "STAT", status) && has_text(item, "SEVR", severity)
+        }
+        Step::Raised(status, severity) => {
+            has_text(item, "NSTA", status) && has_text(item, "NSEV", severity)
+        }
+        step => type_holds(item, step),
+    }
+}
+
+// A step of the record's type.
+fn type_holds<K: RecordKind>(item: &mut K, step: &Step<'_>) -> bool {
+    match step {
         Step::Load => {
             item.load();
             true
         }
-        Step::Put(name, text) => put(item, name, text) == Ok(()),
-        Step::PutRefused(name, text, fault) => put(item, name, text) == Err(*fault),
         Step::Stands(field) => lead_on(item, *field, there()),
         Step::OwnsDevice(field) => lead_on(item, *field, Lead::OwnDevice),
         Step::Begin(wants) => item.begin() == want(*wants),
@@ -169,19 +334,34 @@ fn holds<K: RecordKind>(item: &mut K, step: &Step<'_>) -> bool {
             item.finish(Finished::Done(Value::ULong(*number))) == Output::NoOutput
         }
         Step::AnswerFault => item.finish(Finished::Fault) == Output::NoOutput,
-        Step::Show => {
-            item.common_mut().show();
-            true
+        Step::ReadAsNumber(name, number) => {
+            let kind = InputKind::Number(Range::Long);
+            is_read(read(item, name, kind), Value::Long(*number))
         }
-        Step::Has(name, wanted) => has_text(item, name, wanted),
+        Step::ReadAsText(name, text) => {
+            let wanted = Value::Text(Text::cut(text.as_bytes()));
+            is_read(read(item, name, InputKind::Text), wanted)
+        }
+        Step::Converts(kind) => item.input_kind() == *kind,
+        Step::Lists(links, states) => {
+            item.link_fields().len() == *links && item.states().len() == *states
+        }
+        _ => false,
     }
 }
 
-/// Goes through steps.
-pub fn follow<K: RecordKind>(rt: &impl Abort, item: &mut K, steps: &[Step<'_>]) {
+/// Goes through the tests of a list of steps, each with a fresh record.
+pub fn follow<K: RecordKind + Copy>(rt: &impl Abort, fresh: K, steps: &[Step<'_>]) {
+    let mut item = fresh;
+    let mut name = "";
     let mut number = 0u64;
     for step in steps {
-        assert!(rt; holds(item, step), "step {number}, counted from 0");
+        if let Step::Test(test) = step {
+            item = fresh;
+            name = *test;
+            number = 0;
+        }
+        assert!(rt; holds(&mut item, step), "{name}, step {number}");
         number = number.saturating_add(1);
     }
 }

@@ -17,3 +17,5 @@ mod rows;
 mod runs;
 #[cfg(test)]
 mod streams;
+#[cfg(test)]
+mod types;

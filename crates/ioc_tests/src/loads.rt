@@ -1,11 +1,11 @@
 //! Whole loads of database texts.
+use Fact::{Counts, Leads, LeadsNowhere, Named, Shows, Unnamed};
 use ioc_dbfile::{Database, Macros, load};
 use ioc_fields::{CommonField, FieldNo, OwnField, Slot, field};
 use ioc_names::RecordNo;
 use ioc_record::{FieldAddress, Lead, RecordKind, text_of};
 use ioc_values::{BadDbKind, IocError};
 use std::alloc::Global;
-use std::test::Fail;
 
 const VAL: FieldNo = FieldNo::Own(OwnField::Val);
 
@@ -13,22 +13,107 @@ const INP: FieldNo = FieldNo::Own(OwnField::Inp);
 
 const FLNK: FieldNo = FieldNo::Common(CommonField::Flnk);
 
-// How many records a text makes, or the line and the kind of its fault.
-fn outcome(alloc: Global, text: &[u8]) -> Option<Result<usize, (u64, BadDbKind)>> {
-    match load(alloc, text, &Macros::new()) {
-        Ok(database) => Some(Ok(database.map.records.len())),
-        Err(IocError::BadDb(fault)) => Some(Err((fault.line, fault.kind))),
-        Err(_) => None,
-    }
+// A fact of a loaded database.
+enum Fact {
+    // There are so many records.
+    Counts(usize),
+    // The record of this name has that number.
+    Named(&'static [u8], usize),
+    Unnamed(&'static [u8]),
+    // The text of the field of the record of a number.
+    Shows(usize, &'static str, &'static [u8]),
+    // The link of the field of a record leads to that field of a record.
+    Leads(usize, FieldNo, usize, FieldNo),
+    LeadsNowhere(usize, FieldNo),
 }
 
+static LOADS: [(&[u8], &[Fact]); 11] = [
+    (
+        b"record(longin,\"c\"){field(INP,\"5\")}\nrecord(longin,d){field(VAL,-7) field(VAL,\" +0x10 \")}\nrecord(longin,e){field(UDFS,MINOR)}\nrecord(bo,f){field(DOL,9)field(ONAM,on)}\nrecord(fanout,g){field(SELL,3)}",
+        &[
+            Shows(0, "VAL", b"5"),
+            Shows(0, "UDF", b"0"),
+            Shows(0, "STAT", b"UDF"),
+            Shows(0, "SEVR", b"INVALID"),
+            Shows(1, "VAL", b"16"),
+            Shows(1, "UDF", b"0"),
+            Shows(1, "STAT", b"UDF"),
+            Shows(1, "SEVR", b"NO_ALARM"),
+            Shows(2, "VAL", b"0"),
+            Shows(2, "UDF", b"1"),
+            Shows(2, "SEVR", b"MINOR"),
+            Shows(3, "VAL", b"on"),
+            Shows(3, "UDF", b"0"),
+            Shows(3, "LALM", b"1"),
+            Shows(4, "UDF", b"1"),
+            Shows(4, "SELN", b"3"),
+            Counts(5),
+            Named(b"d", 1),
+            Unnamed(b"h"),
+        ],
+    ),
+    // A link leads nowhere where there is no such record or field, where the field is a link, and to a device.
+    (
+        b"record(longin,a){field(INP,\"b.UDF PP\") field(FLNK,c)}\nrecord(bo,b){field(OUT,a)field(DOL,\"a.NOPE\")field(FLNK,\"c.OUT\")}\nrecord(longin,c){field(INP,nowhere)field(FLNK,\"b.OUT\")}\nrecord(fanout,d){field(LNK3,\"b.ZNAM\")field(SELL,a)}\nrecord(longin,e){field(INP,\"@card\")}",
+        &[
+            Leads(0, INP, 1, FieldNo::Common(CommonField::Udf)),
+            Leads(0, FLNK, 2, VAL),
+            Leads(1, FieldNo::Own(OwnField::Out), 0, VAL),
+            LeadsNowhere(1, FieldNo::Own(OwnField::Dol)),
+            LeadsNowhere(1, FLNK),
+            LeadsNowhere(2, INP),
+            LeadsNowhere(2, FLNK),
+            Leads(
+                3,
+                FieldNo::Own(OwnField::Lnk(Slot::N3)),
+                1,
+                FieldNo::Own(OwnField::Znam),
+            ),
+            Leads(3, FieldNo::Own(OwnField::Sell), 0, VAL),
+            LeadsNowhere(4, INP),
+        ],
+    ),
+    // The value of the last field, as its text shows it.
+    (
+        b"record(longin,a){field(EGU,1)field(EGU,2)}",
+        &[Shows(0, "EGU", b"2")],
+    ),
+    (
+        b"record(longin,a) {\r\n field(EGU,\"7\")\r\n}\r\n",
+        &[Shows(0, "EGU", b"7")],
+    ),
+    (
+        b"record(longin,\"a\"){field(EGU,\"x # y\") # z\n}",
+        &[Shows(0, "EGU", b"x # y")],
+    ),
+    (
+        b"record(longin,a){field(EGU,\"\xff$\")}",
+        &[Shows(0, "EGU", b"\xff$")],
+    ),
+    (
+        b"record(longin,a){field(EGU,\"\\\"\\\\\\'\\n\\q\")}",
+        &[Shows(0, "EGU", b"\"\\'\n\\q")],
+    ),
+    (
+        b"record(longin,a){field(EGU,\"\\a\\b\\t\\v\\f\\r\")}",
+        &[Shows(0, "EGU", b"\x07\x08\x09\x0b\x0c\x0d")],
+    ),
+    (b"record(longin,a){}", &[Shows(0, "EGU", b"")]),
+    // A name knows the escapes of a quote and a backslash alone; it has 60 bytes at most.
+    (b"record(longin,\"a\\\\\\n\"){}", &[Named(b"a\\\\n", 0)]),
+    (
+        b"record(longin,a12345678901234567890123456789012345678901234567890123456789){field(VAL,\"\")}",
+        &[Shows(0, "VAL", b"0"), Shows(0, "UDF", b"0")],
+    ),
+];
+
 // Is this the text of the field of the record of a number?
-fn shows(database: &Database, number: usize, name: &str, wanted: &str) -> bool {
+fn shows(database: &Database, number: usize, name: &str, wanted: &[u8]) -> bool {
     let Some(item) = database.map.records.get(number) else {
         return false;
     };
     match field(item.record_type(), name.as_bytes()) {
-        Some(field) => text_of(item, field).as_slice() == wanted.as_bytes(),
+        Some(field) => text_of(item, field).as_slice() == wanted,
         None => false,
     }
 }
@@ -39,88 +124,63 @@ fn lead_of(database: &Database, number: usize, field: FieldNo) -> Option<Lead> {
     Some(link.lead)
 }
 
-// Does the link of a field lead to this field of a record, or nowhere?
-fn leads_to(
-    database: &Database,
-    number: usize,
-    field: FieldNo,
-    end: Option<(usize, FieldNo)>,
-) -> bool {
-    let lead = match end {
-        Some((number, field)) => Lead::Field(FieldAddress {
-            number: RecordNo::new(number),
-            field,
-        }),
-        None => Lead::Nowhere,
-    };
-    lead_of(database, number, field) == Some(lead)
+fn holds(database: &Database, fact: &Fact) -> bool {
+    match fact {
+        Counts(count) => database.map.records.len() == *count,
+        Named(name, number) => database.names.find(name) == Some(RecordNo::new(*number)),
+        Unnamed(name) => database.names.find(name).is_none(),
+        Shows(number, name, wanted) => shows(database, *number, name, wanted),
+        Leads(number, field, end, end_field) => {
+            let address = FieldAddress {
+                number: RecordNo::new(*end),
+                field: *end_field,
+            };
+            lead_of(database, *number, *field) == Some(Lead::Field(address))
+        }
+        LeadsNowhere(number, field) => lead_of(database, *number, *field) == Some(Lead::Nowhere),
+    }
 }
 
-const RECORDS: &[u8] =
-    b"record(longin,\"c\"){field(INP,\"5\")}\nrecord(longin,d){field(VAL,-7) field(VAL,\" +0x10 \")}\nrecord(longin,e){field(UDFS,MINOR)}\nrecord(bo,f){field(DOL,9)field(ONAM,on)}\nrecord(fanout,g){field(SELL,3)}";
-
-static SHOWN: [(usize, &str, &str); 16] = [
-    (0, "VAL", "5"),
-    (0, "UDF", "0"),
-    (0, "STAT", "UDF"),
-    (0, "SEVR", "INVALID"),
-    (1, "VAL", "16"),
-    (1, "UDF", "0"),
-    (1, "STAT", "UDF"),
-    (1, "SEVR", "NO_ALARM"),
-    (2, "VAL", "0"),
-    (2, "UDF", "1"),
-    (2, "SEVR", "MINOR"),
-    (3, "VAL", "on"),
-    (3, "UDF", "0"),
-    (3, "LALM", "1"),
-    (4, "UDF", "1"),
-    (4, "SELN", "3"),
-];
-
-#[test]
-fn values_of_records(rt: HostRuntime) -> Result<(), Fail> {
-    let database = load(rt.alloc(), RECORDS, &Macros::new())?;
-    for (number, name, wanted) in &SHOWN {
-        assert!(rt; shows(&database, *number, name, wanted), "{number} {name}");
+fn all_hold(database: &Database, facts: &[Fact]) -> bool {
+    for fact in facts {
+        if !holds(database, fact) {
+            return false;
+        }
     }
-    assert!(rt; database.map.records.len() == 5);
-    assert!(rt; database.names.find(b"d") == Some(RecordNo::new(1)));
-    assert!(rt; database.names.find(b"h").is_none());
-    Ok(())
+    true
 }
 
-const LINKED: &[u8] =
-    b"record(longin,a){field(INP,\"b.UDF PP\") field(FLNK,c)}\nrecord(bo,b){field(OUT,a)field(DOL,\"a.NOPE\")field(FLNK,\"c.OUT\")}\nrecord(longin,c){field(INP,nowhere)field(FLNK,\"b.OUT\")}\nrecord(fanout,d){field(LNK3,\"b.ZNAM\")field(SELL,a)}\nrecord(longin,e){field(INP,\"@card\")}";
-
-// A link leads nowhere where there is no such record or field, where the field is a link, and to a device.
-static LEADS: [(usize, FieldNo, Option<(usize, FieldNo)>); 10] = [
-    (0, INP, Some((1, FieldNo::Common(CommonField::Udf)))),
-    (0, FLNK, Some((2, VAL))),
-    (1, FieldNo::Own(OwnField::Out), Some((0, VAL))),
-    (1, FieldNo::Own(OwnField::Dol), None),
-    (1, FLNK, None),
-    (2, INP, None),
-    (2, FLNK, None),
-    (
-        3,
-        FieldNo::Own(OwnField::Lnk(Slot::N3)),
-        Some((1, FieldNo::Own(OwnField::Znam))),
-    ),
-    (3, FieldNo::Own(OwnField::Sell), Some((0, VAL))),
-    (4, INP, None),
-];
+// Is the text loaded, and do all the facts hold then?
+fn is_loaded(alloc: Global, text: &[u8], facts: &[Fact]) -> bool {
+    match load(alloc, text, &Macros::new()) {
+        Ok(database) => all_hold(&database, facts),
+        Err(_) => false,
+    }
+}
 
 #[test]
-fn links_forwards_and_backwards(rt: HostRuntime) -> Result<(), Fail> {
-    let database = load(rt.alloc(), LINKED, &Macros::new())?;
-    for (number, field, end) in &LEADS {
-        assert!(rt;
-            leads_to(&database, *number, *field, *end),
-            "{number} {field:?}"
-        );
+fn loaded_texts(rt: HostRuntime) {
+    for (text, facts) in &LOADS {
+        assert!(rt; is_loaded(rt.alloc(), text, facts), "{text:?}");
     }
-    Ok(())
+}
+
+// What a text makes: a database of so many records, or a fault of this line and kind.
+#[derive(Clone, Copy)]
+enum Made {
+    Records(usize),
+    Fault(u64, BadDbKind),
+}
+
+// Does the text make this?
+fn makes(alloc: Global, text: &[u8], wanted: Made) -> bool {
+    match (load(alloc, text, &Macros::new()), wanted) {
+        (Ok(database), Made::Records(count)) => database.map.records.len() == count,
+        (Err(IocError::BadDb(fault)), Made::Fault(line, kind)) => {
+            fault.line == line && fault.kind == kind
+        }
+        _ => false,
+    }
 }
 
 // Texts that are refused, with the line and the kind of the first fault.
@@ -210,7 +270,7 @@ static REFUSED: [(&[u8], u64, BadDbKind); 39] = [
 fn refused_texts(rt: HostRuntime) {
     for (text, line, kind) in &REFUSED {
         assert!(rt;
-            outcome(rt.alloc(), text) == Some(Err((*line, *kind))),
+            makes(rt.alloc(), text, Made::Fault(*line, *kind)),
             "line {line}, {kind:?}"
         );
     }
@@ -219,72 +279,38 @@ fn refused_texts(rt: HostRuntime) {
 static TEXT: [u8; 42] = *b"record(longin, \"a\") {\n  field(VAL, \"1\")\n}\n";
 
 // What the first n bytes give.
-fn wanted(n: usize) -> Result<usize, (u64, BadDbKind)> {
+fn cut_makes(n: usize) -> Made {
     match n {
-        0 => Ok(0),
-        1..=5 => Err((1, BadDbKind::Syntax)),
-        6 | 7 | 13..=15 | 18..=22 => Err((1, BadDbKind::OpenBody)),
-        8..=12 => Err((1, BadDbKind::BadType)),
-        16 | 17 => Err((1, BadDbKind::Unclosed)),
-        25..=28 => Err((2, BadDbKind::Syntax)),
-        31 | 32 => Err((2, BadDbKind::BadField)),
-        36 | 37 => Err((2, BadDbKind::Unclosed)),
-        41 | 42 => Ok(1),
-        _ => Err((2, BadDbKind::OpenBody)),
+        0 => Made::Records(0),
+        1..=5 => Made::Fault(1, BadDbKind::Syntax),
+        6 | 7 | 13..=15 | 18..=22 => Made::Fault(1, BadDbKind::OpenBody),
+        8..=12 => Made::Fault(1, BadDbKind::BadType),
+        16 | 17 => Made::Fault(1, BadDbKind::Unclosed),
+        25..=28 => Made::Fault(2, BadDbKind::Syntax),
+        31 | 32 => Made::Fault(2, BadDbKind::BadField),
+        36 | 37 => Made::Fault(2, BadDbKind::Unclosed),
+        41 | 42 => Made::Records(1),
+        _ => Made::Fault(2, BadDbKind::OpenBody),
     }
 }
 
 #[test]
 fn cut_texts(rt: HostRuntime) {
     for n in 0..=42 {
-        assert!(rt;
-            outcome(rt.alloc(), &TEXT[..n]) == Some(wanted(n)),
-            "at {n}"
-        );
+        assert!(rt; makes(rt.alloc(), &TEXT[..n], cut_makes(n)), "at {n}");
     }
 }
 
-// The value of the last field, as its text shows it.
-static SPELLED: [(&[u8], &[u8]); 7] = [
-    (b"record(longin,a){field(EGU,1)field(EGU,2)}", b"2"),
-    (b"record(longin,a) {\r\n field(EGU,\"7\")\r\n}\r\n", b"7"),
-    (
-        b"record(longin,\"a\"){field(EGU,\"x # y\") # z\n}",
-        b"x # y",
-    ),
-    (b"record(longin,a){field(EGU,\"\xff$\")}", b"\xff$"),
-    (
-        b"record(longin,a){field(EGU,\"\\\"\\\\\\'\\n\\q\")}",
-        b"\"\\'\n\\q",
-    ),
-    (
-        b"record(longin,a){field(EGU,\"\\a\\b\\t\\v\\f\\r\")}",
-        b"\x07\x08\x09\x0b\x0c\x0d",
-    ),
-    (b"record(longin,a){}", b""),
+const LIMIT: usize = 16_777_216;
+
+// So many blanks fewer than the limit, then a text, and what it makes.
+static LONGEST: [(usize, &[u8], Made); 5] = [
+    (0, b"", Made::Records(0)),
+    (0, b"?", Made::Fault(1, BadDbKind::TooMany)),
+    (2, b"\n\n\n", Made::Fault(3, BadDbKind::TooMany)),
+    (1, b"? $(A)", Made::Fault(1, BadDbKind::Macro)),
+    (1, b"#\n\n\n", Made::Fault(1, BadDbKind::TooMany)),
 ];
-
-#[test]
-fn values_spelled(rt: HostRuntime) -> Result<(), Fail> {
-    for (text, value) in &SPELLED {
-        let database = load(rt.alloc(), text, &Macros::new())?;
-        let item = database.map.records.first().ok_or("no record")?;
-        assert!(rt; text_of(item, FieldNo::Own(OwnField::Egu)).as_slice() == *value);
-    }
-    Ok(())
-}
-
-// A name knows the escapes of a quote and a backslash alone; it has 60 bytes at most.
-#[test]
-fn names_spelled(rt: HostRuntime) -> Result<(), Fail> {
-    let database = load(rt.alloc(), b"record(longin,\"a\\\\\\n\"){}", &Macros::new())?;
-    assert!(rt; database.names.find(b"a\\\\n") == Some(RecordNo::new(0)));
-    let text =
-        b"record(longin,a12345678901234567890123456789012345678901234567890123456789){field(VAL,\"\")}";
-    let database = load(rt.alloc(), text, &Macros::new())?;
-    assert!(rt; shows(&database, 0, "VAL", "0") && shows(&database, 0, "UDF", "0"));
-    Ok(())
-}
 
 // `length` blanks, then a text.
 fn behind_blanks(
@@ -297,22 +323,19 @@ fn behind_blanks(
     Ok(bytes)
 }
 
+fn makes_behind_blanks(alloc: Global, fewer: usize, text: &[u8], wanted: Made) -> bool {
+    match behind_blanks(alloc, LIMIT.saturating_sub(fewer), text) {
+        Ok(bytes) => makes(alloc, bytes.as_slice(), wanted),
+        Err(_) => false,
+    }
+}
+
 #[test]
-fn longest_text(rt: HostRuntime) -> Result<(), Fail> {
-    let limit = 16_777_216;
-    let table: [(usize, &[u8], Result<usize, (u64, BadDbKind)>); 5] = [
-        (limit, b"", Ok(0)),
-        (limit, b"?", Err((1, BadDbKind::TooMany))),
-        (limit - 2, b"\n\n\n", Err((3, BadDbKind::TooMany))),
-        (limit - 1, b"? $(A)", Err((1, BadDbKind::Macro))),
-        (limit - 1, b"#\n\n\n", Err((1, BadDbKind::TooMany))),
-    ];
-    for (length, text, result) in &table {
-        let bytes = behind_blanks(rt.alloc(), *length, text)?;
+fn longest_text(rt: HostRuntime) {
+    for (fewer, text, wanted) in &LONGEST {
         assert!(rt;
-            outcome(rt.alloc(), bytes.as_slice()) == Some(*result),
-            "at {length}"
+            makes_behind_blanks(rt.alloc(), *fewer, text, *wanted),
+            "{fewer} blanks fewer, then {text:?}"
         );
     }
-    Ok(())
 }

@@ -1,76 +1,81 @@
 //! Databases with a script, and what is printed for each.
-use crate::runs::{printed, prints};
+use crate::runs::{prints, silent_run};
 use ioc_main::RunFault;
 use ioc_values::{BadDbKind, DbFault};
-use std::test::Fail;
 
-#[test]
-fn empty_database_and_script(rt: HostRuntime) -> Result<(), Fail> {
-    prints(&rt, b"", b"", b"")
-}
-
-#[test]
-fn constant_input(rt: HostRuntime) -> Result<(), Fail> {
-    prints(
-        &rt,
+// What a program is about, its database and its script, and what it prints.
+static PROGRAMS: [(&str, &[u8], &[u8], &[u8]); 10] = [
+    ("empty database and script", b"", b"", b""),
+    (
+        "constant input",
         b"record(longin,\"c\"){field(INP,\"5\")}",
         b"get c.VAL\nget c.UDF\nprocess c\nget c.STAT\n",
         b"= 5\n= 0\nok processed\n= NO_ALARM\n",
-    )
-}
-
-#[test]
-fn two_records_that_follow_each_other(rt: HostRuntime) -> Result<(), Fail> {
-    prints(
-        &rt,
+    ),
+    (
+        "two records that follow each other",
         b"record(longin,\"a\"){field(FLNK,\"b\")} record(longin,\"b\"){field(FLNK,\"a\")}",
         b"process a\nget a.PACT\nget b.PACT\nget a.LCNT\n",
         b"ok processed\n= 0\n= 0\n= 1\n",
-    )
-}
-
-#[test]
-fn a_record_that_reads_itself(rt: HostRuntime) -> Result<(), Fail> {
-    prints(
-        &rt,
+    ),
+    (
+        "a record that reads itself",
         b"record(longin,\"q\"){field(INP,\"q PP MS\")}",
         b"process q\nget q.STAT\nget q.LCNT\nget q.INP\n",
         b"ok processed\n= NO_ALARM\n= 1\n= q.VAL PP MS\n",
-    )
-}
-
-#[test]
-fn a_text_that_is_not_closed(rt: HostRuntime) -> Result<(), Fail> {
-    let (out, ended) = printed(
-        &rt,
-        b"record(longin,\"a\") {\n field(VAL, \"1",
-        b"get a.VAL\nhello\n",
-    )?;
-    assert!(rt; out.is_empty());
-    let fault = DbFault {
-        line: 2,
-        kind: BadDbKind::Unclosed,
-    };
-    assert!(rt; ended == Err(RunFault::BadDb(fault)));
-    Ok(())
-}
-
-#[test]
-fn a_record_reads_one_that_it_processes(rt: HostRuntime) -> Result<(), Fail> {
-    prints(
-        &rt,
+    ),
+    (
+        "a record reads one that it processes",
         b"record(longin,\"a\"){field(INP,\"b PP\")} record(longin,\"b\"){field(INP,\"7\") field(FLNK,\"c\")} record(longin,\"c\"){field(INP,\"b\")}",
         b"process a\nget a.VAL\nget c.VAL\n",
         b"ok processed\n= 7\n= 7\n",
-    )
-}
+    ),
+    (
+        "refusals",
+        b"record(longin,\"a\"){}",
+        b"get z.VAL\nget a.XYZ\nput a.PACT 1\nput a.DISP 1\nput a.VAL 1\nput a.DISP 0\nput a.VAL 1x\nput a.VAL 2147483648\nhello\n",
+        b"E1 NoRecord\nE2 NoField\nE3 NoMod\nok\nE4 PutDisabled\nok\nE5 BadValue\nE5 BadValue\nbad\n",
+    ),
+    (
+        "bad lines",
+        b"record(longin,\"a\"){field(VAL,\"3\")}",
+        b"hello\nprocess\nprocess \nprocess a b\nput\nput a 1\nput  a.VAL 1\nget a\nget a.VAL 1\n get a.VAL\nprocess a\r\n",
+        b"bad\nbad\nbad\nbad\nbad\nbad\nbad\nbad\nbad\nbad\nE1 NoRecord\n",
+    ),
+    (
+        "a field with a second dot",
+        b"record(longin,\"a\"){field(VAL,\"3\")}",
+        b"get a.VAL.x\nget a.\nget .VAL\n",
+        b"E2 NoField\nE2 NoField\nE1 NoRecord\n",
+    ),
+    (
+        "a text may be missing",
+        b"record(longin,\"a\"){field(VAL,\"3\")}",
+        b"put a.UDFS\nput a.UDFS \nput a.UDFS  \nput a.XYZ\n",
+        b"E5 BadValue\nE5 BadValue\nE5 BadValue\nE2 NoField\n",
+    ),
+    (
+        "a moment is decimal digits alone, below 2^64",
+        b"record(longin,\"a\"){}",
+        b"get a.TIME\nat 18446744073709551615\nprocess a\nget a.TIME\nat 18446744073709551616\nat\nat \nat -1\nat +1\nat 0x1\nat  1\nat 1 \nat 1 2\nprocess a\nget a.TIME\nat 00000000000000000000000000000000000000000007\nget a.TIME\nprocess a\nget a.TIME\n",
+        b"= 0\nok\nok processed\n= 18446744073709551615\nbad\nbad\nbad\nbad\nbad\nbad\nbad\nbad\nbad\nok processed\n= 18446744073709551615\nok\n= 18446744073709551615\nok processed\n= 7\n",
+    ),
+];
 
 #[test]
-fn refusals(rt: HostRuntime) -> Result<(), Fail> {
-    prints(
-        &rt,
-        b"record(longin,\"a\"){}",
-        b"get z.VAL\nget a.XYZ\nput a.PACT 1\nput a.VAL 1x\nput a.VAL 2147483648\n",
-        b"E1 NoRecord\nE2 NoField\nE3 NoMod\nE5 BadValue\nE5 BadValue\n",
-    )
+fn programs(rt: HostRuntime) {
+    for (name, db, script, wanted) in &PROGRAMS {
+        assert!(rt; prints(rt.alloc(), db, script, wanted), "{name}");
+    }
+}
+
+static NOT_CLOSED: RunFault = RunFault::BadDb(DbFault {
+    line: 2,
+    kind: BadDbKind::Unclosed,
+});
+
+#[test]
+fn a_text_that_is_not_closed(rt: HostRuntime) {
+    let db = b"record(longin,\"a\") {\n field(VAL, \"1";
+    assert!(rt; silent_run(rt.alloc(), db, b"get a.VAL\nhello\n") == Some(Err(NOT_CLOSED)));
 }

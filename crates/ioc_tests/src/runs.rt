@@ -1,29 +1,18 @@
 //! A run over memory, and what it must print.
 use ioc_dbfile::macros::Macros;
 use ioc_main::{RunFault, run};
-use std::process::Abort;
-use std::test::Fail;
+use std::alloc::Global;
 
-/// What a run over a database text and a script printed, and how it ended.
-pub fn printed(
-    rt: &impl AllocGlobal,
-    db: &[u8],
-    script: &[u8],
-) -> Result<(Vec<u8>, Result<(), RunFault>), Fail> {
-    let mut out = Vec::new(rt.alloc());
-    let ended = run(rt.alloc(), db, &Macros::new(), script, &mut out);
-    Ok((out, ended))
+/// Does the run end at the end of its script, and print this?
+pub fn prints(alloc: Global, db: &[u8], script: &[u8], wanted: &[u8]) -> bool {
+    let mut out = Vec::new(alloc);
+    let ended = run(alloc, db, &Macros::new(), script, &mut out);
+    ended.is_ok() && out.as_slice() == wanted
 }
 
-/// The run ends at the end of its script, and prints this.
-pub fn prints(
-    rt: &(impl AllocGlobal + Abort),
-    db: &[u8],
-    script: &[u8],
-    wanted: &[u8],
-) -> Result<(), Fail> {
-    let (out, ended) = printed(rt, db, script)?;
-    assert!(rt; ended.is_ok());
-    assert!(rt; out.as_slice() == wanted);
-    Ok(())
+/// What a run came to that printed nothing.
+pub fn silent_run(alloc: Global, db: &[u8], script: &[u8]) -> Option<Result<(), RunFault>> {
+    let mut out = Vec::new(alloc);
+    let ended = run(alloc, db, &Macros::new(), script, &mut out);
+    if out.is_empty() { Some(ended) } else { None }
 }

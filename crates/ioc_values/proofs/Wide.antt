@@ -3,7 +3,7 @@ use Rattle.std.proofs.Common.{◌≡◌, ℕ, ◌^◌, ◌≤◌, min, Option, S
 use Rattle.std.specs.Option.{option_and_then}
 use Rattle.std.proofs.lemmas.Bool.Decides.{nat_tests}
 use Rattle.ioc_values.specs.declared.kind.Range.{Range}
-use Rattle.ioc_values.specs.declared.kind.Range.TheVariants.{Long, ULong, Short, UShort, UChar, Enum}
+use Rattle.ioc_values.specs.declared.kind.Range.TheVariants.{Long, ULong, Short, UShort, UChar, Enum, Int64, Zero, Bits}
 use Rattle.ioc_values.specs.declared.value.Value.{Value}
 use Rattle.ioc_values.specs.Number.{within_i64}
 use Rattle.ioc_values.specs.Conversion.{signed_value, unsigned_value, value_in, numbered}
@@ -25,6 +25,9 @@ value_kept Short z = signed_kept (2 ^ 15) _ z (omega arith)
 value_kept UShort z = unsigned_kept (2 ^ 16) _ z (omega arith)
 value_kept UChar z = unsigned_kept (2 ^ 8) _ z (omega arith)
 value_kept Enum z = unsigned_kept (2 ^ 16) _ z (omega arith)
+value_kept Int64 z = signed_kept (2 ^ 63) _ z (omega arith)
+value_kept Zero z = unsigned_kept 1 _ z (omega arith)
+value_kept Bits z = unsigned_kept 33 _ z (omega arith)
 
 pub value_of_wide : (range : Range) (o : Option ℤ) → option_and_then (value_in range) o ≡ option_and_then (value_in range) (within_i64 o)
 value_of_wide range None = refl

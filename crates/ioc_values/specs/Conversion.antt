@@ -11,9 +11,9 @@ use Rattle.ioc_values.specs.declared.input.Input.TheVariants.{Value as InputValu
 use Rattle.ioc_values.specs.declared.kind.Kind.{Kind}
 use Rattle.ioc_values.specs.declared.kind.Kind.TheVariants.{Number as NumberField, Text as TextField, Menu as MenuField, State as StateField}
 use Rattle.ioc_values.specs.declared.kind.Range.{Range}
-use Rattle.ioc_values.specs.declared.kind.Range.TheVariants.{Long as LongRange, ULong as ULongRange, Short as ShortRange, UShort as UShortRange, UChar as UCharRange, Enum as EnumRange}
+use Rattle.ioc_values.specs.declared.kind.Range.TheVariants.{Long as LongRange, ULong as ULongRange, Short as ShortRange, UShort as UShortRange, UChar as UCharRange, Enum as EnumRange, Int64 as Int64Range, Zero as ZeroRange, Bits as BitsRange}
 use Rattle.ioc_values.specs.declared.value.Value.{Value}
-use Rattle.ioc_values.specs.declared.value.Value.TheVariants.{Long, ULong, Short, UShort, UChar, Enum, Text}
+use Rattle.ioc_values.specs.declared.value.Value.TheVariants.{Long, ULong, Short, UShort, UChar, Enum, Int64, Text}
 use Rattle.ioc_values.specs.Number.{is_within, number_of}
 
 -- the number that a value is; a text is none
@@ -24,6 +24,7 @@ number_of_value (Short z) = Some z
 number_of_value (UShort n) = Some (pos n)
 number_of_value (UChar n) = Some (pos n)
 number_of_value (Enum n) = Some (pos n)
+number_of_value (Int64 z) = Some z
 number_of_value (Text text) = None
 
 -- a number from -limit to limit - 1
@@ -43,6 +44,9 @@ value_in ShortRange z = signed_value (2 ^ 15) Short z
 value_in UShortRange z = unsigned_value (2 ^ 16) UShort z
 value_in UCharRange z = unsigned_value (2 ^ 8) UChar z
 value_in EnumRange z = unsigned_value (2 ^ 16) Enum z
+value_in Int64Range z = signed_value (2 ^ 63) Int64 z
+value_in ZeroRange z = unsigned_value 1 (λ n. Short (pos n)) z
+value_in BitsRange z = unsigned_value 33 UShort z
 
 -- the choice or state of that number, of so many; none has a number past 65535
 unfoldable pub numbered : ℕ → ℤ → Option Value
@@ -102,6 +106,7 @@ converted (Short z) sort = ok_or (of_number sort z) BadValue
 converted (UShort n) sort = ok_or (of_number sort (pos n)) BadValue
 converted (UChar n) sort = ok_or (of_number sort (pos n)) BadValue
 converted (Enum n) sort = ok_or (of_number sort (pos n)) BadValue
+converted (Int64 z) sort = ok_or (of_number sort z) BadValue
 converted (Text text) sort = ok_or (of_text sort text) BadValue
 
 -- a value that a script or a database spells: where it has more than 39 bytes, the first 39, known to be cut

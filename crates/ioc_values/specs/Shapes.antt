@@ -1,5 +1,5 @@
 -- What a field makes of a value is a value of its sort.
-use Rattle.std.specs.Prelude.{◌≡◌, ℕ, ◌^◌, ◌<◌, min, Bool, true, false, cond, List, length, position, ℤ, pos, negsuc, Option, Some, None, Ok, Err, nat_lt, nat_eq}
+use Rattle.std.specs.Prelude.{◌≡◌, ℕ, zero, suc, ◌^◌, ◌<◌, min, Bool, true, false, cond, List, length, position, ℤ, pos, negsuc, Option, Some, None, Ok, Err, nat_lt, nat_eq}
 use Rattle.std.specs.Option.{ok_or, option_and_then}
 use Rattle.std.specs.Fmt.{signed_decimal}
 use Rattle.std.proofs.Common.{refl, arith}
@@ -9,9 +9,9 @@ use Rattle.ioc_values.specs.declared.error.IocError.TheVariants.{BadValue}
 use Rattle.ioc_values.specs.declared.input.Input.{Input}
 use Rattle.ioc_values.specs.declared.input.Input.TheVariants.{Value as InputValue, LongText}
 use Rattle.ioc_values.specs.declared.kind.Range.{Range}
-use Rattle.ioc_values.specs.declared.kind.Range.TheVariants.{Long as LongRange, ULong as ULongRange, Short as ShortRange, UShort as UShortRange, UChar as UCharRange, Enum as EnumRange}
+use Rattle.ioc_values.specs.declared.kind.Range.TheVariants.{Long as LongRange, ULong as ULongRange, Short as ShortRange, UShort as UShortRange, UChar as UCharRange, Enum as EnumRange, Int64 as Int64Range, Zero as ZeroRange, Bits as BitsRange}
 use Rattle.ioc_values.specs.declared.value.Value.{Value}
-use Rattle.ioc_values.specs.declared.value.Value.TheVariants.{Long, ULong, Short, UShort, UChar, Enum, Text}
+use Rattle.ioc_values.specs.declared.value.Value.TheVariants.{Long, ULong, Short, UShort, UChar, Enum, Int64, Text}
 use Rattle.ioc_values.specs.Number.{number_of}
 use Rattle.ioc_values.specs.Conversion.{FieldSort, Numbers, Texts, Choices, States, signed_value, unsigned_value, value_in, numbered, found_or_numbered, same_text, state_of, is_text, of_number, of_text, converted, converted_input}
 
@@ -23,6 +23,9 @@ IsInRange ShortRange v = (z : ℤ) × (v ≡ Short z)
 IsInRange UShortRange v = (n : ℕ) × (v ≡ UShort n)
 IsInRange UCharRange v = (n : ℕ) × (v ≡ UChar n)
 IsInRange EnumRange v = (n : ℕ) × (v ≡ Enum n)
+IsInRange Int64Range v = (z : ℤ) × (v ≡ Int64 z)
+IsInRange ZeroRange v = v ≡ Short (pos 0)
+IsInRange BitsRange v = (n : ℕ) × (v ≡ UShort n)
 
 -- a value of the variant that a field of the sort holds; of choices, the number of one
 abbrev pub IsValueOf : FieldSort → Value → Type 0
@@ -43,6 +46,10 @@ signed_is : (limit : ℕ) (made : ℤ → Value) (z : ℤ) (v : Value) → signe
 signed_is limit made (pos n) v is = let s = some_if (nat_lt n limit) (made (pos n)) v is in (pos n, s.1)
 signed_is limit made (negsuc n) v is = let s = some_if (nat_lt n limit) (made (negsuc n)) v is in (negsuc n, s.1)
 
+zero_alone : (n : ℕ) (v : Value) → v ≡ Short (pos n) → n < 1 → v ≡ Short (pos 0)
+zero_alone zero v is below = is
+zero_alone (suc n) v is below = absurd (omega (arith, below))
+
 range_is : (range : Range) (z : ℤ) (v : Value) → value_in range z ≡ Some v → IsInRange range v
 unfolding value_in
 range_is LongRange z v is = signed_is (2 ^ 31) Long z v is
@@ -51,6 +58,9 @@ range_is ShortRange z v is = signed_is (2 ^ 15) Short z v is
 range_is UShortRange z v is = let u = unsigned_is (2 ^ 16) UShort z v is in (u.0, u.1)
 range_is UCharRange z v is = let u = unsigned_is (2 ^ 8) UChar z v is in (u.0, u.1)
 range_is EnumRange z v is = let u = unsigned_is (2 ^ 16) Enum z v is in (u.0, u.1)
+range_is Int64Range z v is = signed_is (2 ^ 63) Int64 z v is
+range_is ZeroRange z v is = let u = unsigned_is 1 (λ n. Short (pos n)) z v is in zero_alone u.0 v u.1 u.2
+range_is BitsRange z v is = let u = unsigned_is 33 UShort z v is in (u.0, u.1)
 
 numbered_is : (count : ℕ) (z : ℤ) (v : Value) → numbered count z ≡ Some v → (n : ℕ) × (v ≡ Enum n) × (n < count)
 unfolding numbered
@@ -101,6 +111,7 @@ converted_is (Short z) sort v is = number_is sort z v (ok_is (of_number sort z) 
 converted_is (UShort n) sort v is = number_is sort (pos n) v (ok_is (of_number sort (pos n)) v is)
 converted_is (UChar n) sort v is = number_is sort (pos n) v (ok_is (of_number sort (pos n)) v is)
 converted_is (Enum n) sort v is = number_is sort (pos n) v (ok_is (of_number sort (pos n)) v is)
+converted_is (Int64 z) sort v is = number_is sort z v (ok_is (of_number sort z) v is)
 converted_is (Text t) sort v is = text_is sort t v (ok_is (of_text sort t) v is)
 
 long_is : (b : Bool) (text : List ℕ) (sort : FieldSort) (v : Value) → cond b (converted (Text text) sort) (Err BadValue) ≡ Ok v → IsValueOf sort v

@@ -28,6 +28,12 @@ fn value_in(range: Range, number: i64) -> Option<Value>
         Range::UShort => u16::try_from(number).ok().map(Value::UShort),
         Range::UChar => u8::try_from(number).ok().map(Value::UChar),
         Range::Enum => u16::try_from(number).ok().map(Value::Enum),
+        Range::Int64 => Some(Value::Int64(number)),
+        Range::Zero => (number == 0).then_some(Value::Short(0)),
+        Range::Bits => u16::try_from(number)
+            .ok()
+            .filter(|count| *count <= 32)
+            .map(Value::UShort),
     }
 }
 
@@ -143,6 +149,7 @@ pub fn convert(value: Value, kind: Kind<'_>) -> Result<Value, IocError>
         Value::UShort(number) => of_number(kind, i64::from(number)),
         Value::UChar(number) => of_number(kind, i64::from(number)),
         Value::Enum(number) => of_number(kind, i64::from(number)),
+        Value::Int64(number) => of_number(kind, number),
         Value::Text(text) => of_text(kind, text),
     };
     made.ok_or(IocError::BadValue)

@@ -19,6 +19,12 @@ pub enum Range {
     UChar,
     /// 0 to 65535.
     Enum,
+    /// -9223372036854775808 to 9223372036854775807.
+    Int64,
+    /// 0 alone, a number of 16 bits.
+    Zero,
+    /// 0 to 32: a count of bits.
+    Bits,
 }
 
 /// What a field can hold, with the texts of its choices lent.

@@ -29,6 +29,13 @@ fn numeral(digits: &[u8], radix: u32) -> Option<u64>
     Some(n)
 }
 
+/// The number that decimal digits alone write. `None` where they write none, or one of 2^64 or more.
+pub fn decimal(digits: &[u8]) -> Option<u64>
+    ensures { result ≡ below (2 ^ 64) (numeral 10 digits.now) }
+{
+    numeral(digits, 10)
+}
+
 /// What decimal digits, or `0x` and hexadecimal digits, write, where it is below 2^64.
 #[tactic(auto, unfolding(crate::specs::Number::magnitude))]
 fn magnitude(digits: &[u8]) -> Option<u64>

@@ -19,6 +19,8 @@ pub enum Value {
     UChar(u8),
     /// The number of a choice or of a state.
     Enum(u16),
+    /// -9223372036854775808 to 9223372036854775807.
+    Int64(i64),
     /// 0 to 39 bytes.
     Text(Text),
 }
@@ -35,6 +37,7 @@ impl Value {
             Value::UShort(number) => Some(i64::from(number)),
             Value::UChar(number) => Some(i64::from(number)),
             Value::Enum(number) => Some(i64::from(number)),
+            Value::Int64(number) => Some(number),
             Value::Text(_) => None,
         }
     }

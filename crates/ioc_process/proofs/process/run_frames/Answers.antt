@@ -1,72 +1,65 @@
-use Rattle.std.proofs.Common.{◌≡◌, ◌∷◌, reverse, length, refl, ap, ◌∙◌, arith}
+use Rattle.std.proofs.Common.{◌≡◌, ◌∷◌, reverse, length, ap, ◌∙◌, arith}
 use Rattle.std.proofs.lemmas.List.{length-reverse}
-use Rattle.ioc_process.proofs.FrameWork.{work-called}
-use Rattle.ioc_process.proofs.FrameLoop.{reverse_push, goes-called, goes-went_on, frame-keeps, all-keep, empty_of_length, leaves-ended}
+use Rattle.ioc_process.specs.Frames.{turn_of}
+use Rattle.ioc_process.proofs.FrameWork.{work-called, work-went_on}
+use Rattle.ioc_process.proofs.FrameTurns.{reverse_push, length_opened, called_stands, all_stand, all_opened}
+use Rattle.ioc_process.proofs.FrameLoop.{goes-called, goes-went_on, all-keep}
 use Rattle.ioc_process.proofs.Answering.{begins_on}
 use Rattle.ioc_process.proofs.Keeping.{closed_on}
 use Rattle.ioc_process.proofs.process.run_frames.Goals as goal
 
-pub loop-turn-init : goal.loop-turn-init
-loop-turn-init g c = record {
-  goes = λ answers begins. rw c.requires.empty (c.begin_request-turn.ensures.turn answers begins);
-  given = c.begin_request-turn.ensures.given;
-  closed = closed_on _ g.met.S.Record.RecordKind.lawful c.begin_request-turn.ensures.keeps c.requires.closed;
-  stands = rw c.requires.empty tt;
-  turn_stands = c.begin_request-turn.ensures.stands;
-  few = omega (arith, ap length c.requires.empty, c.args.frames.now.ok.0, c.begin_request-turn.ensures.fewer);
-  room = refl;
-}
-
-pub loop-turn-smaller-in-Calls : goal.loop-turn-smaller-in-Calls
-loop-turn-smaller-in-Calls g c =
-    let few = rw c.in-Calls.is at c.loop-turn.invariant.few in
-    let frames = reverse c.loop-turn.frames.items in
-    rw (c.push_reserved.ensures.items, reverse_push, c.in-Calls.is)
-    (work-called _ frames c.in-Calls.frame c.in-Calls.target c.begin_request-turn-in-Calls.result
-    (omega (arith, few, length-reverse c.loop-turn.frames.items, c.loop-turn.frames.ok.0, c.begin_request-turn-in-Calls.ensures.fewer)) c.begin_request-turn-in-Calls.ensures.left)
-
-pub loop-turn-preserved-in-Calls : goal.loop-turn-preserved-in-Calls
-loop-turn-preserved-in-Calls g c =
+pub loop-called-preserved-in-Some : goal.loop-called-preserved-in-Some
+loop-called-preserved-in-Some g c =
     let k = g.S.Record.RecordKind.rules in
     let lawful = g.met.S.Record.RecordKind.lawful in
-    let i = c.loop-turn.invariant in
-    let called = c.begin_request-turn-in-Calls.ensures in
-    let stands = rw c.in-Calls.is at i.turn_stands in
-    let frames = c.push_reserved.ensures.items in
+    let i = c.loop-called.invariant in
+    let turn = turn_of c.begin_request-called.new.frames.items c.begin_request-called.result in
+    let came = c.begin_request-called.ensures in
     record {
-      goes = λ answers begins. rw (frames, reverse_push)
-          (goes-called k lawful answers _ _ _ _ (g.S.Store.world c.loop-turn.store) _ c.in-Calls.frame (reverse c.loop-turn.frames.items) c.begin_request-turn-in-Calls.result c.in-Calls.target (rw c.in-Calls.is at (i.goes answers (begins_on called.given begins))) (called.turn answers begins));
-      given = begins_on i.given called.given;
-      closed = closed_on _ lawful called.keeps i.closed;
-      stands = rw (frames, reverse_push) (frame-keeps k _ _ c.in-Calls.frame called.keeps stands.0, all-keep k _ _ (reverse c.loop-turn.frames.items) called.keeps i.stands);
-      turn_stands = called.stands;
-      few = omega (arith, rw c.in-Calls.is at i.few, c.push_reserved.ensures.len, called.fewer);
-      room = c.push_reserved.ensures.capacity ∙ i.room;
+      goes = λ answers begins. rw (← came.opens.called, all_opened c.loop-called.frames.items c.begin_request-called.new.frames.items turn came.opens.frames)
+          (goes-called k lawful answers _ _ _ _ (g.S.Store.world c.loop-called.store) _ (reverse c.loop-called.frames.items) turn c.in-Some.target (rw c.in-Some.is at (i.goes answers (begins_on came.given begins))) (came.turn answers begins));
+      given = begins_on i.given came.given;
+      closed = closed_on _ lawful came.turns.keeps i.closed;
+      stands = rw (all_opened c.loop-called.frames.items c.begin_request-called.new.frames.items turn came.opens.frames) (all_stand _ _ turn came.turns.stands (all-keep k _ _ _ came.turns.keeps i.stands));
+      there = rw (← came.opens.called) (called_stands _ turn came.turns.stands);
+      few = omega (arith, i.few, came.turns.fewer, ap length came.opens.frames, length_opened c.loop-called.frames.items turn, c.loop-called.frames.ok.0, c.begin_request-called.new.frames.ok.0);
+      room = came.room ∙ i.room;
     }
 
-pub go_on-turn-requires-clause-stands : goal.go_on-turn-requires-clause-stands
-go_on-turn-requires-clause-stands g c =
-    (rw (c.in-Some.ensures.items, reverse_push) at c.loop-turn.invariant.stands).0
+pub loop-called-smaller-in-Some : goal.loop-called-smaller-in-Some
+loop-called-smaller-in-Some g c =
+    let i = c.loop-called.invariant in
+    let came = c.begin_request-called.ensures in
+    let turn = turn_of c.begin_request-called.new.frames.items c.begin_request-called.result in
+    rw (← came.opens.called, all_opened c.loop-called.frames.items c.begin_request-called.new.frames.items turn came.opens.frames, c.in-Some.is)
+    (work-called _ (reverse c.loop-called.frames.items) c.in-Some.target turn
+    (omega (arith, i.few, came.turns.fewer, length-reverse c.loop-called.frames.items, c.loop-called.frames.ok.0)) came.turns.left)
 
-pub loop-turn-preserved : goal.loop-turn-preserved
-loop-turn-preserved g c =
+pub loop-called-preserved : goal.loop-called-preserved
+loop-called-preserved g c =
     let k = g.S.Record.RecordKind.rules in
     let lawful = g.met.S.Record.RecordKind.lawful in
-    let i = c.loop-turn.invariant in
-    let turn = c.go_on-turn.ensures in
-    let taken : reverse c.loop-turn.frames.items ≡ c.in-Some.frame ∷ reverse c.pop.new.self.items = ap reverse c.in-Some.ensures.items ∙ reverse_push c.pop.new.self.items c.in-Some.frame in
+    let i = c.loop-called.invariant in
+    let came = c.go_on.ensures in
+    let below = c.pop.new.self.items in
+    let turn = turn_of c.go_on.new.frames.items c.go_on.result in
+    let taken : reverse c.loop-called.frames.items ≡ c.in-Some-pop.frame ∷ reverse below = ap reverse c.in-Some-pop.ensures.items ∙ reverse_push below c.in-Some-pop.frame in
     record {
-      goes = λ answers begins.
-          goes-went_on k lawful answers _ _ c.loop-turn.tally _ (g.S.Store.world c.loop-turn.store) _ c.in-Some.frame (reverse c.pop.new.self.items) c.go_on-turn.result (rw (c.in-Ended.is, taken) at (i.goes answers (rw turn.given at begins))) (turn.turn answers);
-      given = rw turn.given i.given;
-      closed = closed_on _ lawful turn.keeps i.closed;
-      stands = all-keep k _ _ (reverse c.pop.new.self.items) turn.keeps (rw taken at i.stands).1;
-      turn_stands = turn.stands;
-      few = omega (arith, rw c.in-Ended.is at i.few, c.in-Some.ensures.len, turn.fewer);
-      room = c.pop.ensures.capacity ∙ i.room;
+      goes = λ answers begins. rw (← came.opens.called, all_opened below c.go_on.new.frames.items turn came.opens.frames)
+          (goes-went_on k lawful answers c.args.tally.now c.loop-called.tally c.loop-called.tally _ (g.S.Store.world c.loop-called.store) _ (reverse below) turn c.in-Some-pop.frame (rw (c.in-None.is, taken) at (i.goes answers (begins_on came.given begins))) (came.turn answers begins));
+      given = begins_on i.given came.given;
+      closed = closed_on _ lawful came.turns.keeps i.closed;
+      stands = rw (all_opened below c.go_on.new.frames.items turn came.opens.frames) (all_stand _ _ turn came.turns.stands (all-keep k _ _ (reverse below) came.turns.keeps (rw taken at i.stands).1));
+      there = rw (← came.opens.called) (called_stands _ turn came.turns.stands);
+      few = omega (arith, i.few, came.turns.fewer, ap length came.opens.frames, length_opened below turn, c.in-Some-pop.ensures.len, c.go_on.new.frames.ok.0, c.pop.new.self.ok.0);
+      room = came.room ∙ c.pop.ensures.capacity ∙ i.room;
     }
 
-pub returns-in-None-clause-request : goal.returns-in-None-clause-request
-returns-in-None-clause-request g c = λ answers begins.
-    let none = empty_of_length c.loop-turn.frames.items (omega (arith, c.loop-turn.frames.ok.0, c.in-None.ensures.cases.0)) in
-    leaves-ended g.S.Record.RecordKind.rules answers _ _ _ _ (rw (c.in-Ended.is, none) at (c.loop-turn.invariant.goes answers begins))
+pub loop-called-smaller : goal.loop-called-smaller
+loop-called-smaller g c =
+    let came = c.go_on.ensures in
+    let below = c.pop.new.self.items in
+    let turn = turn_of c.go_on.new.frames.items c.go_on.result in
+    let taken : reverse c.loop-called.frames.items ≡ c.in-Some-pop.frame ∷ reverse below = ap reverse c.in-Some-pop.ensures.items ∙ reverse_push below c.in-Some-pop.frame in
+    rw (← came.opens.called, all_opened below c.go_on.new.frames.items turn came.opens.frames, c.in-None.is, taken)
+    (work-went_on _ (reverse below) c.in-Some-pop.frame turn came.turns.left)

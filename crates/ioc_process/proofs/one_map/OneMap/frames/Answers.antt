@@ -1,4 +1,4 @@
-use Rattle.std.proofs.Common.{◌≤◌, arith}
+use Rattle.std.proofs.Common.{arith}
 use Rattle.ioc_process.specs.OneMapLaws.{len-numbered}
 use Rattle.ioc_process.proofs.one_map.OneMap.frames.Goals as goal
 

@@ -1,0 +1,233 @@
+//! The rows of the fields that types have of their own, by the groups of types that share them.
+ghost use Rattle.std.specs.Prelude.{◌≡◌};
+ghost use Rattle.ioc_fields.specs.Table.{numeric_row, numeric_input_row, numeric_output_row, output_row, two_state_row, bi_row, bo_row, multi_state_row, mbbi_row, mbbo_row, text_row, text_input_row, stringout_row, fanout_row, own_row};
+
+use crate::field_kind::{FieldKind, LinkRole};
+use crate::field_no::OwnField;
+use crate::record_type::RecordType;
+use crate::row::Row;
+use ioc_menus::Menu;
+use ioc_values::Range;
+
+// The row of a field that longin, longout, int64in and int64out have, of their numbers.
+#[tactic(auto, unfolding(crate::specs::Table::numeric_row))]
+fn numeric_row(range: Range, field: OwnField) -> Option<Row>
+    ensures { result ≡ numeric_row range field }
+{
+    Some(match field {
+        OwnField::Val | OwnField::Hihi | OwnField::Lolo | OwnField::High | OwnField::Low => {
+            Row::passive(FieldKind::Number(range))
+        }
+        OwnField::Hhsv | OwnField::Llsv | OwnField::Hsv | OwnField::Lsv => {
+            Row::passive(FieldKind::Menu(Menu::Severity))
+        }
+        OwnField::Hyst => Row::plain(FieldKind::Number(range)),
+        OwnField::Lalm => Row::fixed(FieldKind::Number(range)),
+        OwnField::Adel | OwnField::Mdel | OwnField::Hopr | OwnField::Lopr => {
+            Row::kept(FieldKind::Number(range))
+        }
+        OwnField::Egu => Row::kept(FieldKind::Text),
+        _ => return None,
+    })
+}
+
+// The row of a field of longin's or int64in's own.
+#[tactic(auto, unfolding(crate::specs::Table::numeric_input_row))]
+fn numeric_input_row(range: Range, field: OwnField) -> Option<Row>
+    ensures { result ≡ numeric_input_row range field }
+{
+    match field {
+        OwnField::Inp => Some(Row::link(LinkRole::Input)),
+        _ => numeric_row(range, field),
+    }
+}
+
+// The row of a field that the output types have: where they write, and when.
+#[tactic(auto, unfolding(crate::specs::Table::output_row))]
+fn output_row(field: OwnField) -> Option<Row>
+    ensures { result ≡ output_row field }
+{
+    Some(match field {
+        OwnField::Out => Row::link(LinkRole::Output),
+        OwnField::Dol => Row::link(LinkRole::InputWithoutDevice),
+        OwnField::Omsl => Row::plain(FieldKind::Menu(Menu::Omsl)),
+        OwnField::Ivoa => Row::plain(FieldKind::Menu(Menu::Ivoa)),
+        _ => return None,
+    })
+}
+
+// The row of a field of longout's or int64out's own.
+#[tactic(auto, unfolding(crate::specs::Table::numeric_output_row))]
+fn numeric_output_row(range: Range, field: OwnField) -> Option<Row>
+    ensures { result ≡ numeric_output_row range field }
+{
+    match field {
+        OwnField::Drvh | OwnField::Drvl | OwnField::Ivov => {
+            Some(Row::passive(FieldKind::Number(range)))
+        }
+        _ => match output_row(field) {
+            Some(row) => Some(row),
+            None => numeric_row(range, field),
+        },
+    }
+}
+
+// The row of a field that bi and bo have.
+#[tactic(auto, unfolding(crate::specs::Table::two_state_row))]
+fn two_state_row(field: OwnField) -> Option<Row>
+    ensures { result ≡ two_state_row field }
+{
+    Some(match field {
+        OwnField::Val => Row::passive(FieldKind::State),
+        OwnField::Rval => Row::plain(FieldKind::Number(Range::ULong)),
+        OwnField::Mask => Row::given(FieldKind::Number(Range::ULong)),
+        OwnField::Znam | OwnField::Onam => Row::passive(FieldKind::Text),
+        OwnField::Zsv | OwnField::Osv | OwnField::Cosv => {
+            Row::passive(FieldKind::Menu(Menu::Severity))
+        }
+        OwnField::Lalm => Row::fixed(FieldKind::Number(Range::UShort)),
+        _ => return None,
+    })
+}
+
+// The row of a field of bi's own.
+#[tactic(auto, unfolding(crate::specs::Table::bi_row))]
+fn bi_row(field: OwnField) -> Option<Row>
+    ensures { result ≡ bi_row field }
+{
+    match field {
+        OwnField::Inp => Some(Row::link(LinkRole::Input)),
+        _ => two_state_row(field),
+    }
+}
+
+// The row of a field of bo's own.
+#[tactic(auto, unfolding(crate::specs::Table::bo_row))]
+fn bo_row(field: OwnField) -> Option<Row>
+    ensures { result ≡ bo_row field }
+{
+    match field {
+        OwnField::Ivov => Some(Row::passive(FieldKind::Number(Range::UShort))),
+        _ => match output_row(field) {
+            Some(row) => Some(row),
+            None => two_state_row(field),
+        },
+    }
+}
+
+// The row of a field that mbbi and mbbo have.
+#[tactic(auto, unfolding(crate::specs::Table::multi_state_row))]
+fn multi_state_row(field: OwnField) -> Option<Row>
+    ensures { result ≡ multi_state_row field }
+{
+    Some(match field {
+        OwnField::Val => Row::passive(FieldKind::State),
+        OwnField::Rval => Row::plain(FieldKind::Number(Range::ULong)),
+        OwnField::Mask => Row::given(FieldKind::Number(Range::ULong)),
+        OwnField::Shft | OwnField::Nobt => Row::plain(FieldKind::Number(Range::Bits)),
+        OwnField::StateValue(_) => Row::passive(FieldKind::Number(Range::ULong)),
+        OwnField::StateText(_) => Row::passive(FieldKind::Text),
+        OwnField::StateSeverity(_) | OwnField::Unsv | OwnField::Cosv => {
+            Row::passive(FieldKind::Menu(Menu::Severity))
+        }
+        OwnField::Lalm => Row::fixed(FieldKind::Number(Range::UShort)),
+        _ => return None,
+    })
+}
+
+// The row of a field of mbbi's own.
+#[tactic(auto, unfolding(crate::specs::Table::mbbi_row))]
+fn mbbi_row(field: OwnField) -> Option<Row>
+    ensures { result ≡ mbbi_row field }
+{
+    match field {
+        OwnField::Inp => Some(Row::link(LinkRole::Input)),
+        _ => multi_state_row(field),
+    }
+}
+
+// The row of a field of mbbo's own.
+#[tactic(auto, unfolding(crate::specs::Table::mbbo_row))]
+fn mbbo_row(field: OwnField) -> Option<Row>
+    ensures { result ≡ mbbo_row field }
+{
+    match field {
+        OwnField::Ivov => Some(Row::passive(FieldKind::Number(Range::UShort))),
+        _ => match output_row(field) {
+            Some(row) => Some(row),
+            None => multi_state_row(field),
+        },
+    }
+}
+
+// The row of the field that stringin, stringout and event have.
+#[tactic(auto, unfolding(crate::specs::Table::text_row))]
+fn text_row(field: OwnField) -> Option<Row>
+    ensures { result ≡ text_row field }
+{
+    match field {
+        OwnField::Val => Some(Row::passive(FieldKind::Text)),
+        _ => None,
+    }
+}
+
+// The row of a field of stringin's or event's own.
+#[tactic(auto, unfolding(crate::specs::Table::text_input_row))]
+fn text_input_row(field: OwnField) -> Option<Row>
+    ensures { result ≡ text_input_row field }
+{
+    match field {
+        OwnField::Inp => Some(Row::link(LinkRole::Input)),
+        _ => text_row(field),
+    }
+}
+
+// The row of a field of stringout's own.
+#[tactic(auto, unfolding(crate::specs::Table::stringout_row))]
+fn stringout_row(field: OwnField) -> Option<Row>
+    ensures { result ≡ stringout_row field }
+{
+    match field {
+        OwnField::Ivov => Some(Row::passive(FieldKind::Text)),
+        _ => match output_row(field) {
+            Some(row) => Some(row),
+            None => text_row(field),
+        },
+    }
+}
+
+// The row of a field of fanout's own.
+#[tactic(auto, unfolding(crate::specs::Table::fanout_row))]
+fn fanout_row(field: OwnField) -> Option<Row>
+    ensures { result ≡ fanout_row field }
+{
+    Some(match field {
+        OwnField::Val => Row::passive(FieldKind::Number(Range::Long)),
+        OwnField::Selm => Row::plain(FieldKind::Menu(Menu::Selm)),
+        OwnField::Seln => Row::plain(FieldKind::Number(Range::UShort)),
+        OwnField::Sell => Row::link(LinkRole::InputWithoutDevice),
+        OwnField::Offs | OwnField::Shft => Row::plain(FieldKind::Number(Range::Short)),
+        OwnField::Lnk(_) => Row::link(LinkRole::Forward),
+        _ => return None,
+    })
+}
+
+// The row of a field, where the type has it of its own.
+#[tactic(auto, unfolding(crate::specs::Table::own_row))]
+pub fn own_row(record_type: RecordType, field: OwnField) -> Option<Row>
+    ensures { result ≡ own_row record_type field }
+{
+    match record_type {
+        RecordType::Longin => numeric_input_row(Range::Long, field),
+        RecordType::Longout => numeric_output_row(Range::Long, field),
+        RecordType::Int64in => numeric_input_row(Range::Int64, field),
+        RecordType::Int64out => numeric_output_row(Range::Int64, field),
+        RecordType::Bi => bi_row(field),
+        RecordType::Bo => bo_row(field),
+        RecordType::Mbbi => mbbi_row(field),
+        RecordType::Mbbo => mbbo_row(field),
+        RecordType::Stringin | RecordType::Event => text_input_row(field),
+        RecordType::Stringout => stringout_row(field),
+        RecordType::Fanout => fanout_row(field),
+    }
+}

@@ -1,0 +1,7 @@
+use Rattle.std.proofs.Common.{refl}
+use Rattle.ioc_process.specs.World.{begun, begun_at}
+use Rattle.ioc_process.proofs.one_map.OneMap.new.Goals as goal
+
+pub returns-clause-fresh : goal.returns-clause-fresh
+unfolding begun_at begun
+returns-clause-fresh g c = rw (c.new.ensures.moment, c.new.ensures.given, c.new.ensures.items, c.new.ensures.dropped) refl

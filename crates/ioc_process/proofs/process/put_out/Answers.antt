@@ -1,0 +1,109 @@
+use Rattle.std.proofs.Common.{true, ap, sym, ◌∙◌, refl, arith}
+use Rattle.ioc_ledger.specs.Requests.{None}
+use Rattle.ioc_process.specs.declared.outbox.OutboxItem.TheVariants.{Post}
+use Rattle.ioc_process.specs.Processing.{request, finished, write_device, put_out}
+use Rattle.ioc_process.specs.Frames.{then_finished, after_turn, Ended}
+use Rattle.ioc_process.proofs.Answering.{begins_all, write_device-requests}
+use Rattle.ioc_process.proofs.Depth.{sent-stays, write_device-outs}
+use Rattle.ioc_process.proofs.Keeping.{sent-keeps, closed_on}
+use Rattle.ioc_process.proofs.FrameSteps.{then_finished-none, output-on, output-waits, remaining-all}
+use Rattle.ioc_process.proofs.Turning.{turns_on, turns_ended}
+use Rattle.ioc_process.proofs.process.put_out.Goals as goal
+
+pub finish-requires-then-write_device-clause-closed : goal.finish-requires-then-write_device-clause-closed
+finish-requires-then-write_device-clause-closed g c = closed_on _ g.met.S.Record.RecordKind.lawful c.write_device.ensures.keeps c.requires.closed
+
+pub finish-requires-in-PostEvent-clause-there : goal.finish-requires-in-PostEvent-clause-there
+finish-requires-in-PostEvent-clause-there g c =
+    let k = g.S.Record.RecordKind.rules in
+    let lawful = g.met.S.Record.RecordKind.lawful in
+    let w = g.S.Store.world c.args.store.now in
+    rw c.send.ensures.world ((sent-keeps k lawful (Post c.in-PostEvent.name) w).has _ c.requires.there)
+
+pub finish-requires-in-PostEvent-clause-closed : goal.finish-requires-in-PostEvent-clause-closed
+finish-requires-in-PostEvent-clause-closed g c =
+    let k = g.S.Record.RecordKind.rules in
+    let lawful = g.met.S.Record.RecordKind.lawful in
+    let w = g.S.Store.world c.args.store.now in
+    rw c.send.ensures.world (closed_on k lawful (sent-keeps k lawful (Post c.in-PostEvent.name) w) c.requires.closed)
+
+pub finish-requires-in-PostEvent-clause-is_idle : goal.finish-requires-in-PostEvent-clause-is_idle
+finish-requires-in-PostEvent-clause-is_idle g c =
+    let k = g.S.Record.RecordKind.rules in
+    let lawful = g.met.S.Record.RecordKind.lawful in
+    let w = g.S.Store.world c.args.store.now in
+    rw c.send.ensures.world ((sent-stays k lawful (Post c.in-PostEvent.name) w c.args.number).active ∙ c.requires.is_idle)
+
+pub returns-in-NoOutput-clause-turn : goal.returns-in-NoOutput-clause-turn
+unfolding put_out
+returns-in-NoOutput-clause-turn g c = λ answers begins.
+    let k = g.S.Record.RecordKind.rules in
+    let lawful = g.met.S.Record.RecordKind.lawful in
+    let w = g.S.Store.world c.args.store.now in
+    rw c.in-NoOutput.is (output-on k lawful answers c.args.number (record { world = w; requests = None; goes_on = true }) refl
+    ∙ then_finished-none k lawful answers w c.args.number ∙ c.finish.ensures.turn answers)
+
+pub returns-in-WriteLink-clause-turn : goal.returns-in-WriteLink-clause-turn
+unfolding put_out
+returns-in-WriteLink-clause-turn g c = λ answers begins.
+    let k = g.S.Record.RecordKind.rules in
+    let lawful = g.met.S.Record.RecordKind.lawful in
+    let w = g.S.Store.world c.args.store.now in
+    rw c.in-WriteLink.is (output-on k lawful answers c.args.number _ refl ∙ c.write_link.ensures.turn answers)
+
+pub returns-then-write_device-clause-turn : goal.returns-then-write_device-clause-turn
+unfolding put_out
+returns-then-write_device-clause-turn g c = λ answers begins.
+    let k = g.S.Record.RecordKind.rules in
+    let lawful = g.met.S.Record.RecordKind.lawful in
+    let w = g.S.Store.world c.args.store.now in
+    let out = c.write_device.ensures.out answers (rw c.finish-then-write_device.ensures.given at begins) in
+    rw c.in-WriteDevice.is (output-on k lawful answers c.args.number (write_device k answers w c.args.number) (sym out.goes_on ∙ c.if-write_device.true)
+    ∙ ap (λ r. then_finished k answers c.args.number (record { world = (write_device k answers w c.args.number).world; requests = r })) (write_device-requests k answers w c.args.number)
+    ∙ then_finished-none k lawful answers (write_device k answers w c.args.number).world c.args.number
+    ∙ ap (λ v. finished k (request k answers) v c.args.number) (sym out.world)
+    ∙ c.finish-then-write_device.ensures.turn answers)
+
+pub returns-else-write_device-clause-turn : goal.returns-else-write_device-clause-turn
+unfolding put_out
+returns-else-write_device-clause-turn g c = λ answers begins.
+    let k = g.S.Record.RecordKind.rules in
+    let lawful = g.met.S.Record.RecordKind.lawful in
+    let w = g.S.Store.world c.args.store.now in
+    let out = c.write_device.ensures.out answers begins in
+    rw c.in-WriteDevice.is (output-waits k lawful answers c.args.number (write_device k answers w c.args.number) (sym out.goes_on ∙ c.if-write_device.false) (write_device-requests k answers w c.args.number)
+    ∙ ap (λ v. after_turn k answers v Ended) (sym out.world))
+
+pub returns-else-write_device-clause-turns : goal.returns-else-write_device-clause-turns
+returns-else-write_device-clause-turns g c =
+    let k = g.S.Record.RecordKind.rules in
+    let lawful = g.met.S.Record.RecordKind.lawful in
+    let w = g.S.Store.world c.args.store.now in
+    let given = g.S.Store.given c.write_device.new.store in
+    let out = c.write_device.ensures.out given (begins_all given) in
+    turns_ended k c.write_device.ensures.keeps (rw out.world (omega (arith, (write_device-outs k lawful given w c.args.number).fewer)))
+
+pub returns-in-FollowLinks-clause-turn : goal.returns-in-FollowLinks-clause-turn
+unfolding put_out
+returns-in-FollowLinks-clause-turn g c = λ answers begins.
+    let k = g.S.Record.RecordKind.rules in
+    let lawful = g.met.S.Record.RecordKind.lawful in
+    let w = g.S.Store.world c.args.store.now in
+    rw (c.in-FollowLinks.is, ← remaining-all k lawful) (output-on k lawful answers c.args.number _ refl ∙ c.follow_each.ensures.turn answers)
+
+pub returns-in-PostEvent-clause-turn : goal.returns-in-PostEvent-clause-turn
+unfolding put_out
+returns-in-PostEvent-clause-turn g c = λ answers begins.
+    let k = g.S.Record.RecordKind.rules in
+    let lawful = g.met.S.Record.RecordKind.lawful in
+    let w = g.S.Store.world c.args.store.now in
+    rw c.in-PostEvent.is (output-on k lawful answers c.args.number _ refl ∙ then_finished-none k lawful answers _ c.args.number
+    ∙ (rw c.send.ensures.world at (c.finish-in-PostEvent.ensures.turn answers)))
+
+pub returns-in-PostEvent-clause-turns : goal.returns-in-PostEvent-clause-turns
+returns-in-PostEvent-clause-turns g c =
+    let k = g.S.Record.RecordKind.rules in
+    let lawful = g.met.S.Record.RecordKind.lawful in
+    let w = g.S.Store.world c.args.store.now in
+    turns_on k (sent-keeps k lawful (Post c.in-PostEvent.name) w) (omega (arith, (sent-stays k lawful (Post c.in-PostEvent.name) w c.args.number).fewer)) (omega arith)
+    (rw c.send.ensures.world at c.finish-in-PostEvent.ensures.turns)

@@ -1,0 +1,189 @@
+//! What a body puts out: a value through a link or to a device, and the links that it follows.
+ghost use Rattle.std.specs.Prelude.{◌≡◌, ◌<◌, ◌-◌, ◌^◌, List, IsTrue, OnOk, OnErr, IfErr, Ok, Err};
+ghost use Rattle.ioc_record.specs.Values.{put_untested};
+ghost use Rattle.ioc_values.specs.declared.input.Input.TheVariants.{Value as InputValue};
+ghost use Rattle.ioc_device.specs.declared.Answer.{Answer};
+ghost use Rattle.ioc_process.specs.World.{Has, at, put, common_at, Keeps, Stays};
+ghost use Rattle.ioc_process.specs.Runs.{Begins, ForAnswers, HasWritten, HasPutOut, IsStanding, how_written};
+ghost use Rattle.ioc_process.specs.Links.{is_chosen, is_proc, link_at, passive_named};
+ghost use Rattle.ioc_process.specs.Processing.{stored_at, wrote, acknowledged, write_device};
+
+use crate::inputs::can_ask;
+use crate::steps::{common, inherit, passes_on, passive, raise, wait};
+use crate::store::Store;
+use ioc_device::Answer;
+use ioc_fields::{CommonField, FieldNo, OwnField, Slot};
+use ioc_menus::{Severity, Status};
+use ioc_names::RecordNo;
+use ioc_record::{LinkUse, RecordKind, StandingLink, put_untested};
+use ioc_values::{Input, IocError, Value};
+
+/// Is the field PROC? A put to it processes the record.
+pub fn is_proc(field: FieldNo) -> bool
+    ensures { result ≡ is_proc field }
+{
+    match field {
+        FieldNo::Common(CommonField::Proc) => true,
+        _ => false,
+    }
+}
+
+/// Is the link of this number chosen?
+pub fn is_chosen(links: u16, slot: Slot) -> bool
+    ensures { result ≡ is_chosen links slot }
+{
+    links >> slot.index() & 1 == 1
+}
+
+/// What the link of this number comes to.
+pub fn link_at<S: Store>(store: &S, number: RecordNo, slot: Slot) -> LinkUse
+    requires { Has (S.world store.now) number }
+    ensures { result ≡ link_at S.Record.rules (S.world store.now) number slot }
+{
+    match store.record(number).link(FieldNo::Own(OwnField::Lnk(slot))) {
+        Some(field) => field.in_use(),
+        None => LinkUse::Unused,
+    }
+}
+
+/// The record that a link names, where that is passive.
+pub fn passive_target<S: Store>(store: &S, link: LinkUse) -> Option<RecordNo>
+    requires { IsStanding (S.world store.now) link }
+    ensures { result ≡ passive_named S.Record.rules (S.world store.now) link }
+{
+    if let LinkUse::Standing(target) = link {
+        if passive(store, target.number) {
+            return Some(target.number);
+        }
+    }
+    None
+}
+
+// Puts a value into a field of a record that is there, without a look at DISP.
+fn put_through<S: Store>(
+    store: &mut S,
+    number: RecordNo,
+    field: FieldNo,
+    given: Input,
+) -> Result<(), IocError>
+    requires { Has (S.world store.old) number }
+    ensures ok { OnOk result (put_untested S.Record.rules (at S.Record.rules (S.world store.old) number) field given ≡ Ok (at S.Record.rules (S.world store.new) number)) }
+    ensures stored { OnOk result (S.world store.new ≡ put (S.world store.old) number (at S.Record.rules (S.world store.new) number)) }
+    ensures err { IfErr result (λ e. put_untested S.Record.rules (at S.Record.rules (S.world store.old) number) field given ≡ Err e) }
+    ensures same { OnErr result (S.world store.new ≡ S.world store.old) }
+    ensures given { S.given store.new ≡ S.given store.old }
+{
+    let record = store.record_mut(number);
+    put_untested(record, field, given)
+}
+
+// Puts a value into the field that a link names; no, where it doesn't fit.
+#[tactic(auto, unfolding(crate::specs::Processing::stored_at))]
+fn place_value<S: Store>(store: &mut S, target: StandingLink, value: Value) -> bool
+    requires { Has (S.world store.old) target.number }
+    ensures stored { HasWritten (S.world store.new) result
+        (stored_at S.Record.rules (S.world store.old) target (put_untested S.Record.rules (at S.Record.rules (S.world store.old) target.number) target.field (InputValue value))) }
+    ensures given { S.given store.new ≡ S.given store.old }
+{
+    let StandingLink { number, field, .. } = target;
+    match put_through(store, number, field, Input::Value(value)) {
+        Ok(()) => true,
+        Err(_) => false,
+    }
+}
+
+// Puts a value into a field, and hands on the alarm that another record raises; no, where the value doesn't fit.
+#[tactic(auto, unfolding(crate::specs::Processing::wrote, crate::specs::Links::handed_on))]
+fn store_value<S: Store>(
+    store: &mut S,
+    number: RecordNo,
+    target: StandingLink,
+    value: Value,
+) -> bool
+    requires there { Has (S.world store.old) number }
+    requires standing { Has (S.world store.old) target.number }
+    ensures wrote { HasWritten (S.world store.new) result (wrote S.Record.rules (S.world store.old) number target value) }
+    ensures given { S.given store.new ≡ S.given store.old }
+{
+    let written = target.number;
+    let mode = target.mode;
+    let stored = place_value(store, target, value);
+    let from = common(store, number).condition.alarms;
+    inherit(store, written, mode, from.new_status, from.new_severity);
+    stored
+}
+
+/// What became of a value that was written.
+#[derive(Clone, Copy, PartialEq, Eq, Debug)]
+pub enum Written {
+    /// It didn't fit.
+    InVain,
+    Alone,
+    /// The record that was written is to be requested.
+    AndRequests,
+}
+
+/// A record writes a value through a link, and hands on the alarm that it raises.
+#[tactic(auto, unfolding(crate::specs::Runs::how_written))]
+pub fn write_value<S: Store>(
+    store: &mut S,
+    number: RecordNo,
+    target: StandingLink,
+    value: Value,
+) -> Written
+    requires there { Has (S.world store.old) number }
+    requires standing { Has (S.world store.old) target.number }
+    ensures world { S.world store.new ≡ (wrote S.Record.rules (S.world store.old) number target value).world }
+    ensures written { result ≡ how_written S.Record.rules (wrote S.Record.rules (S.world store.old) number target value) target }
+    ensures given { S.given store.new ≡ S.given store.old }
+{
+    let written = target.number;
+    let field = target.field;
+    let process_passive = target.process_passive;
+    if !store_value(store, number, target, value) {
+        return Written::InVain;
+    }
+    if is_proc(field) || passes_on(store, process_passive, written) {
+        Written::AndRequests
+    } else {
+        Written::Alone
+    }
+}
+
+// What a device answered that was written: does the body go on now?
+#[tactic(auto, unfolding(crate::specs::Processing::acknowledged))]
+fn acknowledge<S: Store>(store: &mut S, number: RecordNo, answer: Answer) -> bool
+    requires there { Has (S.world store.old) number }
+    requires more { answer ≡ Answer.Later → (common_at S.Record.rules (S.world store.old) number).last_pending < 2 ^ 64 - 1 }
+    ensures out { HasPutOut (S.world store.new) result (acknowledged S.Record.rules (S.world store.old) number answer) }
+    ensures given { S.given store.new ≡ S.given store.old }
+{
+    match answer {
+        Answer::Done(_) => true,
+        Answer::Fault => {
+            raise(store, number, Status::Write, Severity::Invalid);
+            true
+        }
+        Answer::Later => {
+            wait(store, number);
+            false
+        }
+    }
+}
+
+/// A record writes its device; no, where that answers later.
+pub fn write_device<S: Store>(store: &mut S, number: RecordNo) -> bool
+    requires { Has (S.world store.old) number }
+    ensures out { ForAnswers (S.given store.new) (λ answers.
+        HasPutOut (S.world store.new) result (write_device S.Record.rules answers (S.world store.old) number)) }
+    ensures keeps { Keeps S.Record.rules (S.world store.old) (S.world store.new) }
+    ensures stays { IsTrue result → Stays S.Record.rules (S.world store.old) number (S.world store.new) }
+    ensures given { Begins (S.given store.old) (S.given store.new) }
+{
+    if can_ask(store, number) {
+        let answer = store.ask(number);
+        acknowledge(store, number, answer)
+    } else {
+        acknowledge(store, number, Answer::Fault)
+    }
+}

@@ -1,0 +1,138 @@
+-- The type bi. Record Reference Manual, "Binary Input Record".
+use Rattle.std.specs.Prelude.{ℕ, ℤ, ◌==◌, nat_lt, bit_and, if◌then◌else◌, ◌&&◌, Option, Some, None, unwrap_or}
+use Rattle.ioc_values.specs.declared.value.Value.{Value}
+use Rattle.ioc_values.specs.declared.kind.Range.TheVariants as range
+use Rattle.ioc_values.specs.Conversion.{Numbers, of_number}
+use Rattle.ioc_links.specs.declared.link.Link.{Link}
+use Rattle.ioc_links.specs.declared.link.Link.TheVariants.{Constant}
+use Rattle.ioc_fields.specs.declared.field_no.OwnField.{OwnField}
+use Rattle.ioc_fields.specs.declared.field_no.OwnField.TheVariants.{Val, Inp}
+use Rattle.ioc_fields.specs.declared.record_type.RecordType.TheVariants as type
+use Rattle.ioc_record.specs.declared.body.Got.{Got}
+use Rattle.ioc_record.specs.declared.body.Got.TheVariants as got
+use Rattle.ioc_record.specs.declared.body.InputKind.{InputKind}
+use Rattle.ioc_record.specs.declared.body.InputKind.TheVariants as input
+use Rattle.ioc_record.specs.declared.body.Output.TheVariants.{NoOutput}
+use Rattle.ioc_record.specs.Parts.{ulong_in, ushort_in}
+use Rattle.ioc_record.specs.Raw.{is_raw}
+use Rattle.ioc_record.specs.Source.{new_source, source_link, source_with_link, source_begin}
+use Rattle.ioc_record.specs.BodyRules.{BodyRules, Held}
+use Rattle.rec_binary.specs.declared.bi.Bi.{Bi}
+use Rattle.rec_binary.specs.declared.two_state.TwoState.{TwoState}
+use Rattle.rec_binary.specs.TwoState.{new_two_state, two_state_get, two_state_stored, tested}
+
+-- ---- fields
+
+unfoldable pub new_bi : Bi
+new_bi = record { states = new_two_state; source = new_source }
+
+abbrev pub states_stored : Held Bi → OwnField → Value → Held Bi
+states_stored h field v = record h { body = record h.body { states = two_state_stored h.body.states field v } }
+
+-- VAL clears UDF
+unfoldable pub bi_stored : Held Bi → OwnField → Value → Held Bi
+bi_stored h Val v = let stored = states_stored h Val v in record stored { condition = record h.condition { undefined = 0 } }
+bi_stored h field v = states_stored h field v
+
+-- ---- the body
+
+-- the value is RVAL's where raw, else VAL's
+unfoldable pub bi_kind : Held Bi → InputKind
+bi_kind h = if is_raw h.body.source.input.link h.condition then input.Number range.ULong else input.Number range.UShort
+
+-- the bits of MASK alone, where MASK isn't 0
+abbrev pub masked : ℕ → ℕ → ℕ
+masked mask raw = if mask == 0 then raw else bit_and raw mask
+
+-- RVAL takes a value's masked bits, VAL is 0 where these are and else 1, and UDF is cleared
+unfoldable pub raw_taken : Held Bi → ℕ → Held Bi
+raw_taken h raw =
+    let bits = masked h.body.states.mask raw in
+    record {
+      body = record h.body { states = record h.body.states { raw = bits; value = if bits == 0 then 0 else 1 } };
+      condition = record h.condition { undefined = 0 };
+    }
+
+-- raw: where nothing came, RVAL as it stands is the value; after a fault all stays
+abbrev pub raw_came : Held Bi → Got → Held Bi
+raw_came h (got.Value v) = raw_taken h (unwrap_or (ulong_in v) h.body.states.raw)
+raw_came h got.Nothing = raw_taken h h.body.states.raw
+raw_came h got.Fault = h
+
+-- VAL takes a value, and UDF is cleared
+abbrev pub value_taken : Held Bi → Value → Held Bi
+value_taken h v = record {
+  body = record h.body { states = record h.body.states { value = unwrap_or (ushort_in v) h.body.states.value } };
+  condition = record h.condition { undefined = 0 };
+}
+
+-- not raw: where nothing came, and after a fault, all stays
+abbrev pub value_came : Held Bi → Got → Held Bi
+value_came h (got.Value v) = value_taken h v
+value_came h _ = h
+
+abbrev pub came : Held Bi → Got → Held Bi
+came h got = if is_raw h.body.source.input.link h.condition then raw_came h got else value_came h got
+
+-- a defined value above 1 is no state, and has no alarm
+abbrev pub states_tested : Held TwoState → Held TwoState
+states_tested h = if h.condition.undefined == 0 && nat_lt 1 h.body.value then h else tested h
+
+-- with the alarms of the states
+unfoldable pub bi_tested : Held Bi → Held Bi
+bi_tested h =
+    let t = states_tested (record { body = h.body.states; condition = h.condition }) in
+    record { body = record h.body { states = t.body }; condition = t.condition }
+
+unfoldable pub bi_taken : Held Bi → Got → Held Bi
+bi_taken h got = bi_tested (came h got)
+
+-- ---- the load
+
+-- a constant of INP must convert to RVAL
+abbrev pub bi_constant_kind : OwnField → Option InputKind
+bi_constant_kind Inp = Some (input.Number range.ULong)
+bi_constant_kind _ = None
+
+abbrev pub raw_if : Held Bi → Option Value → Held Bi
+raw_if h None = h
+raw_if h (Some v) = record h { body = record h.body { states = record h.body.states { raw = unwrap_or (ulong_in v) h.body.states.raw } } }
+
+abbrev pub value_if : Held Bi → Option Value → Held Bi
+value_if h None = h
+value_if h (Some v) = value_taken h v
+
+-- a constant of INP goes into RVAL where raw, and UDF stays; else into VAL, which clears UDF, where it is at most 65535, else nowhere
+abbrev pub constant_put : Held Bi → ℤ → Held Bi
+constant_put h z =
+    if is_raw h.body.source.input.link h.condition then raw_if h (of_number (Numbers range.ULong) z)
+    else value_if h (of_number (Numbers range.UShort) z)
+
+abbrev pub link_put : Held Bi → Link → Held Bi
+link_put h (Constant z) = constant_put h z
+link_put h _ = h
+
+-- LALM becomes VAL
+unfoldable pub bi_loaded : Held Bi → Held Bi
+bi_loaded h =
+    let c = link_put h h.body.source.input.link in
+    record c { body = record c.body { states = record c.body.states { last_alarmed = c.body.states.value } } }
+
+-- ---- all of it
+
+abbrev pub bi : BodyRules Bi
+bi = record {
+  missing = new_bi;
+  record_type = λ b. type.Bi;
+  link = λ b. source_link b.source.input;
+  with_link = λ b field link. record b { source = source_with_link b.source field link };
+  states = λ b. b.states.names;
+  get = λ b. two_state_get b.states;
+  stored = bi_stored;
+  begin = λ b. source_begin b.source.input;
+  input_kind = bi_kind;
+  taken = bi_taken;
+  output = λ h got. NoOutput;
+  constant_kind = λ h. bi_constant_kind;
+  loaded = bi_loaded;
+}

@@ -1,0 +1,76 @@
+-- What the numbers of numeric records keep to: the field tables have the types, each with its numbers.
+use Rattle.std.proofs.Common.{◌≡◌, false, Option, Some, refl}
+use Rattle.std.specs.Option.{option_and_then, option_map}
+use Rattle.ioc_values.specs.declared.value.Value.{Value}
+use Rattle.ioc_values.specs.Shapes.{IsInRange}
+use Rattle.ioc_fields.specs.declared.field_kind.FieldKind.TheVariants.{Number}
+use Rattle.ioc_fields.specs.declared.field_no.OwnField.{OwnField}
+use Rattle.ioc_fields.specs.declared.field_no.OwnField.TheVariants.{Val}
+use Rattle.ioc_fields.specs.declared.record_type.RecordType.TheVariants.{Longin, Longout, Int64in, Int64out}
+use Rattle.ioc_fields.specs.declared.row.Row.{Row}
+use Rattle.ioc_fields.specs.Table.{row_of, own_row, numeric_input_row, numeric_output_row}
+use Rattle.ioc_fields.specs.Types.{reads_device}
+use Rattle.ioc_fields.specs.Defaults.{zero_of, own_default}
+use Rattle.rec_numeric.specs.Number.{NumberRules, long_number, int64_number}
+
+-- the default of a field with this row
+abbrev pub default_by : Option Row → Option Value
+default_by row = option_and_then zero_of (option_map (λ (r : Row). r.kind) row)
+
+pub record IsLawfulNumber {N : Type 0} (k : NumberRules N) : Type 0 where
+  -- a value in the range is that of a number, and is read as this number
+  pub of_range : (v : Value) → IsInRange k.range v → (n : N) × (v ≡ k.value n)
+  pub back : (n : N) → k.in_value (k.value n) ≡ Some n
+  pub zero_is : zero_of (Number k.range) ≡ Some (k.value k.zero)
+  -- the two types, by the field tables
+  pub input_row : (f : OwnField) → own_row k.input_type f ≡ numeric_input_row k.range f
+  pub output_row : (f : OwnField) → own_row k.output_type f ≡ numeric_output_row k.range f
+  pub input_default : (f : OwnField) → own_default k.input_type f ≡ default_by (numeric_input_row k.range f)
+  pub output_default : (f : OwnField) → own_default k.output_type f ≡ default_by (numeric_output_row k.range f)
+  pub writes : reads_device k.output_type ≡ false
+
+long_input_default : (f : OwnField) → own_default Longin f ≡ default_by (numeric_input_row long_number.range f)
+unfolding own_default row_of own_row
+long_input_default Val = refl
+long_input_default _ = refl
+
+long_output_default : (f : OwnField) → own_default Longout f ≡ default_by (numeric_output_row long_number.range f)
+unfolding own_default row_of own_row
+long_output_default Val = refl
+long_output_default _ = refl
+
+pub long_lawful : IsLawfulNumber long_number
+unfolding zero_of own_row reads_device
+long_lawful = record {
+  of_range = λ v is. is;
+  back = λ n. refl;
+  zero_is = refl;
+  input_row = λ f. refl;
+  output_row = λ f. refl;
+  input_default = long_input_default;
+  output_default = long_output_default;
+  writes = refl;
+}
+
+int64_input_default : (f : OwnField) → own_default Int64in f ≡ default_by (numeric_input_row int64_number.range f)
+unfolding own_default row_of own_row
+int64_input_default Val = refl
+int64_input_default _ = refl
+
+int64_output_default : (f : OwnField) → own_default Int64out f ≡ default_by (numeric_output_row int64_number.range f)
+unfolding own_default row_of own_row
+int64_output_default Val = refl
+int64_output_default _ = refl
+
+pub int64_lawful : IsLawfulNumber int64_number
+unfolding zero_of own_row reads_device
+int64_lawful = record {
+  of_range = λ v is. is;
+  back = λ n. refl;
+  zero_is = refl;
+  input_row = λ f. refl;
+  output_row = λ f. refl;
+  input_default = int64_input_default;
+  output_default = int64_output_default;
+  writes = refl;
+}

@@ -1,0 +1,146 @@
+-- The types longout and int64out. Record Reference Manual, "Long Output Record" and "64bit Integer Output Record".
+use Rattle.std.specs.Prelude.{ℤ, int_lt, if◌then◌else◌, [], Option, Some, None, unwrap_or}
+use Rattle.ioc_values.specs.declared.value.Value.{Value}
+use Rattle.ioc_values.specs.Conversion.{Numbers, of_number}
+use Rattle.ioc_links.specs.declared.link.Link.{Link}
+use Rattle.ioc_links.specs.declared.link.Link.TheVariants.{Constant}
+use Rattle.ioc_fields.specs.declared.field_no.OwnField.{OwnField}
+use Rattle.ioc_fields.specs.declared.field_no.OwnField.TheVariants.{Val, Dol, Omsl, Drvh, Drvl, Ivoa, Ivov}
+use Rattle.ioc_record.specs.declared.body.Got.{Got}
+use Rattle.ioc_record.specs.declared.body.Got.TheVariants as got
+use Rattle.ioc_record.specs.declared.body.InputKind.{InputKind}
+use Rattle.ioc_record.specs.declared.body.InputKind.TheVariants as input
+use Rattle.ioc_record.specs.declared.body.Output.{Output}
+use Rattle.ioc_record.specs.declared.body.Output.TheVariants.{NoOutput}
+use Rattle.ioc_record.specs.Drive.{new_drive, drive_link, drive_with_link, drive_get, drive_stored, drive_begin, sets, drives, written}
+use Rattle.ioc_record.specs.BodyRules.{BodyRules, Held}
+use Rattle.rec_numeric.specs.Number.{NumberRules, long_number, int64_number}
+use Rattle.rec_numeric.specs.Numeric.{new_numeric, numeric_get, numeric_stored, tested}
+use Rattle.rec_numeric.specs.declared.output.NumericOutput.{NumericOutput}
+
+-- ---- fields
+
+unfoldable pub new_output : {N : Type 0} → NumberRules N → NumericOutput N
+new_output k = record { numbers = new_numeric k; drive = new_drive; drive_high = k.zero; drive_low = k.zero; invalid_value = k.zero }
+
+unfoldable pub output_get : {N : Type 0} → NumberRules N → NumericOutput N → OwnField → Option Value
+output_get k b Drvh = Some (k.value b.drive_high)
+output_get k b Drvl = Some (k.value b.drive_low)
+output_get k b Ivov = Some (k.value b.invalid_value)
+output_get k b Omsl = drive_get b.drive Omsl
+output_get k b Ivoa = drive_get b.drive Ivoa
+output_get k b field = numeric_get k b.numbers field
+
+abbrev pub numbers_stored : {N : Type 0} → NumberRules N → Held (NumericOutput N) → OwnField → Value → Held (NumericOutput N)
+numbers_stored k h field v = record h { body = record h.body { numbers = numeric_stored k h.body.numbers field v } }
+
+-- with a converted value stored in a field: VAL clears UDF
+unfoldable pub output_stored : {N : Type 0} → NumberRules N → Held (NumericOutput N) → OwnField → Value → Held (NumericOutput N)
+output_stored k h Val v = let stored = numbers_stored k h Val v in record stored { condition = record h.condition { undefined = 0 } }
+output_stored k h Drvh v = record h { body = record h.body { drive_high = unwrap_or (k.in_value v) h.body.drive_high } }
+output_stored k h Drvl v = record h { body = record h.body { drive_low = unwrap_or (k.in_value v) h.body.drive_low } }
+output_stored k h Ivov v = record h { body = record h.body { invalid_value = unwrap_or (k.in_value v) h.body.invalid_value } }
+output_stored k h Omsl v = record h { body = record h.body { drive = drive_stored h.body.drive Omsl v } }
+output_stored k h Ivoa v = record h { body = record h.body { drive = drive_stored h.body.drive Ivoa v } }
+output_stored k h field v = numbers_stored k h field v
+
+-- ---- the body
+
+-- with another VAL
+abbrev pub with_value : {N : Type 0} → NumericOutput N → N → NumericOutput N
+with_value b value = record b { numbers = record b.numbers { value = value } }
+
+-- a value, or the limit that it is beyond
+unfoldable pub within : {N : Type 0} → (N → ℤ) → N → N → N → N
+within whole value low high = if int_lt (whole value) (whole low) then low else if int_lt (whole high) (whole value) then high else value
+
+-- VAL within the drive limits, which are limits where DRVH is above DRVL
+unfoldable pub limited_value : {N : Type 0} → (N → ℤ) → NumericOutput N → N
+limited_value whole b =
+    if int_lt (whole b.drive_low) (whole b.drive_high) then within whole b.numbers.value b.drive_low b.drive_high else b.numbers.value
+
+abbrev pub limited : {N : Type 0} → (N → ℤ) → Held (NumericOutput N) → Held (NumericOutput N)
+limited whole h = record h { body = with_value h.body (limited_value whole h.body) }
+
+-- a value goes into VAL and clears UDF
+abbrev pub given : {N : Type 0} → NumberRules N → Held (NumericOutput N) → Value → Held (NumericOutput N)
+given k h v = record { body = with_value h.body (unwrap_or (k.in_value v) h.body.numbers.value); condition = record h.condition { undefined = 0 } }
+
+-- a value that came goes into VAL, which is kept within the drive limits, also where nothing came; after a fault all stays
+abbrev pub came : {N : Type 0} → NumberRules N → (N → ℤ) → Held (NumericOutput N) → Got → Held (NumericOutput N)
+came k whole h (got.Value v) = limited whole (given k h v)
+came k whole h got.Nothing = limited whole h
+came k whole h got.Fault = h
+
+-- with the alarms of the number
+abbrev pub alarmed : {N : Type 0} → (N → ℤ) → Held (NumericOutput N) → Held (NumericOutput N)
+alarmed whole h =
+    let t = tested whole (record { body = h.body.numbers; condition = h.condition }) in
+    record { body = record h.body { numbers = t.body }; condition = t.condition }
+
+unfoldable pub worked : {N : Type 0} → NumberRules N → (N → ℤ) → Held (NumericOutput N) → Got → Held (NumericOutput N)
+worked k whole h got = alarmed whole (came k whole h got)
+
+-- with IVOV driven, as it stands, where IVOA says so
+unfoldable pub settled : {N : Type 0} → Held (NumericOutput N) → Held (NumericOutput N)
+settled h = if sets h.body.drive.on_invalid h.condition then record h { body = with_value h.body h.body.invalid_value } else h
+
+unfoldable pub output_taken : {N : Type 0} → NumberRules N → (N → ℤ) → Held (NumericOutput N) → Got → Held (NumericOutput N)
+output_taken k whole h got = settled (worked k whole h got)
+
+-- VAL is driven, unless IVOA says that nothing is
+abbrev pub driven : {N : Type 0} → NumberRules N → Held (NumericOutput N) → Output
+driven k h = if drives h.body.drive.on_invalid h.condition then written h.body.drive.output (k.value h.body.numbers.value) else NoOutput
+
+unfoldable pub output_driven : {N : Type 0} → NumberRules N → (N → ℤ) → Held (NumericOutput N) → Got → Output
+output_driven k whole h got = driven k (output_taken k whole h got)
+
+-- ---- the load
+
+-- a constant of DOL must convert to VAL
+abbrev pub output_constant_kind : {N : Type 0} → NumberRules N → OwnField → Option InputKind
+output_constant_kind k Dol = Some (input.Number k.range)
+output_constant_kind k _ = None
+
+-- with VAL set to a value, if there is one
+abbrev pub stored_if : {N : Type 0} → NumberRules N → Held (NumericOutput N) → Option Value → Held (NumericOutput N)
+stored_if k h None = h
+stored_if k h (Some v) = output_stored k h Val v
+
+-- a constant of DOL is put
+abbrev pub constant_put : {N : Type 0} → NumberRules N → Held (NumericOutput N) → Link → Held (NumericOutput N)
+constant_put k h (Constant z) = stored_if k h (of_number (Numbers k.range) z)
+constant_put k h _ = h
+
+-- then LALM becomes VAL
+abbrev pub last_alarmed : {N : Type 0} → Held (NumericOutput N) → Held (NumericOutput N)
+last_alarmed h = record h { body = record h.body { numbers = record h.body.numbers { last_alarmed = h.body.numbers.value } } }
+
+unfoldable pub output_loaded : {N : Type 0} → NumberRules N → Held (NumericOutput N) → Held (NumericOutput N)
+output_loaded k h = last_alarmed (constant_put k h h.body.drive.desired.link)
+
+-- ---- all of it
+
+abbrev pub numeric_output : {N : Type 0} → NumberRules N → (N → ℤ) → BodyRules (NumericOutput N)
+numeric_output k whole = record {
+  missing = new_output k;
+  record_type = λ b. k.output_type;
+  link = λ b. drive_link b.drive.output b.drive.desired;
+  with_link = λ b field link. record b { drive = drive_with_link b.drive field link };
+  states = λ b. [];
+  get = output_get k;
+  stored = output_stored k;
+  begin = λ b. drive_begin b.drive.mode b.drive.desired;
+  input_kind = λ h. input.Number k.range;
+  taken = output_taken k whole;
+  output = output_driven k whole;
+  constant_kind = λ h. output_constant_kind k;
+  loaded = output_loaded k;
+}
+
+-- the two types: each number is the whole number that it is
+abbrev pub longout : BodyRules (NumericOutput ℤ)
+longout = numeric_output long_number (λ z. z)
+
+abbrev pub int64out : BodyRules (NumericOutput ℤ)
+int64out = numeric_output int64_number (λ z. z)

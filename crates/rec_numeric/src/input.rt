@@ -1,0 +1,122 @@
+//! The types longin and int64in.
+ghost use Rattle.std.specs.Prelude.{◌≡◌};
+ghost use Rattle.ioc_record.specs.BodyLaws.{IsNewBody};
+ghost use Rattle.rec_numeric.specs.Input.{numeric_input, new_input};
+
+use crate::number::Number;
+use crate::numeric::Numeric;
+use ioc_fields::{OwnField, RecordType};
+use ioc_links::Link;
+use ioc_record::{Condition, Fresh, Got, InputKind, LinkField, Output, RecordBody, Source, Want};
+use ioc_values::{Kind, Text, Value, of_number};
+
+/// The own fields of a numeric input. Record Reference Manual, "Long Input Record" and "64bit Integer Input Record".
+#[derive(Clone, Copy, Drop)]
+pub struct NumericInput<N> {
+    /// VAL, the limits with their severities, HYST, LALM, and those kept without effect.
+    pub numbers: Numeric<N>,
+    /// INP.
+    pub source: Source,
+}
+
+/// Those of a longin: its numbers have 32 bits.
+pub type Longin = NumericInput<i32>;
+
+/// Those of an int64in: its numbers have 64 bits.
+pub type Int64in = NumericInput<i64>;
+
+impl<N: Number> NumericInput<N> {
+    /// Those of a new record: all 0 or empty.
+    #[tactic(auto, unfolding(crate::specs::Input::new_input))]
+    pub fn new() -> Self
+        ensures value { result ≡ new_input N.number }
+        ensures defaults { IsNewBody (numeric_input N.number N.whole) result }
+    {
+        NumericInput {
+            numbers: Numeric::new(),
+            source: Source::new(),
+        }
+    }
+}
+
+impl<N: Number> Fresh for NumericInput<N> {
+    ghost use Rattle.rec_numeric.specs.Input.{new_input};
+
+    ghost new_one = { new_input N.number };
+
+    fn fresh() -> Self {
+        NumericInput::new()
+    }
+}
+
+impl<N: Number> RecordBody for NumericInput<N> {
+    ghost use Rattle.rec_numeric.specs.InputLaws.{input_lawful};
+
+    ghost rules = { numeric_input N.number N.whole };
+
+    ghost lawful = { input_lawful N.number N.whole N.lawful };
+
+    fn record_type(&self) -> RecordType {
+        N::input_type()
+    }
+
+    fn link(&self, field: OwnField) -> Option<&LinkField> {
+        self.source.link(field)
+    }
+
+    fn set_link(&mut self, field: OwnField, link: LinkField) {
+        self.source.set_link(field, link);
+    }
+
+    fn states(&self) -> &[Text] {
+        &[]
+    }
+
+    fn get(&self, field: OwnField) -> Option<Value> {
+        self.numbers.get(field)
+    }
+
+    #[tactic(auto, unfolding(crate::specs::Input::input_stored))]
+    fn store(&mut self, condition: &mut Condition, field: OwnField, value: Value) {
+        self.numbers.store(field, value);
+        if let OwnField::Val = field {
+            condition.undefined = 0;
+        }
+    }
+
+    #[inline(never)]
+    fn begin(&self) -> Want {
+        self.source.begin()
+    }
+
+    fn input_kind(&self, _condition: &Condition) -> InputKind {
+        InputKind::Number(N::range())
+    }
+
+    #[tactic(auto, unfolding(crate::specs::Input::input_taken))]
+    #[inline(never)]
+    fn take(&mut self, condition: &mut Condition, got: Got) -> Output {
+        if let Got::Value(value) = got {
+            self.store(condition, OwnField::Val, value);
+        }
+        self.numbers.test(condition);
+        Output::NoOutput
+    }
+
+    fn constant_kind(&self, _condition: &Condition, field: OwnField) -> Option<InputKind> {
+        match field {
+            OwnField::Inp => Some(InputKind::Number(N::range())),
+            _ => None,
+        }
+    }
+
+    #[tactic(auto, unfolding(crate::specs::Input::input_loaded, ioc_values::specs::Conversion::sort_of))]
+    fn load(&mut self, condition: &mut Condition) {
+        if let Link::Constant(constant) = self.source.input.link {
+            if let Some(value) = of_number(Kind::Number(N::range()), constant) {
+                self.store(condition, OwnField::Val, value);
+            }
+        }
+        self.numbers.last_alarmed = self.numbers.value;
+    }
+}

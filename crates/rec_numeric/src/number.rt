@@ -1,0 +1,102 @@
+//! The numbers that numeric records hold: of 32 bits, and of 64.
+ghost use Rattle.std.specs.Prelude.{◌≡◌};
+ghost use Rattle.rec_numeric.specs.Number.{NumberRules};
+ghost use Rattle.rec_numeric.specs.NumberLaws.{IsLawfulNumber};
+
+use ioc_alarms::WholeNumber;
+use ioc_fields::RecordType;
+use ioc_record::{int64_in, long_in};
+use ioc_values::{Range, Value};
+
+/// A number that a numeric record holds, and the record types that hold it.
+pub trait Number: WholeNumber {
+    ghost number: { NumberRules Self };
+
+    fn zero() -> Self
+        ensures { result ≡ number.zero };
+
+    /// The number that a value of its kind is; none where the value is of another kind.
+    fn in_value(value: Value) -> Option<Self>
+        ensures { result ≡ number.in_value value };
+
+    fn value(self) -> Value
+        ensures { result ≡ number.value self };
+
+    fn range() -> Range
+        ensures { result ≡ number.range };
+
+    /// The type that reads such numbers, and the one that writes them.
+    fn input_type() -> RecordType
+        ensures { result ≡ number.input_type };
+
+    fn output_type() -> RecordType
+        ensures { result ≡ number.output_type };
+
+    ghost lawful: { IsLawfulNumber number };
+}
+
+impl Number for i32 {
+    ghost use Rattle.rec_numeric.specs.Number.{long_number};
+    ghost use Rattle.rec_numeric.specs.NumberLaws.{long_lawful};
+
+    ghost number = { long_number };
+
+    ghost lawful = { long_lawful };
+
+    fn zero() -> Self {
+        0
+    }
+
+    fn in_value(value: Value) -> Option<Self> {
+        long_in(value)
+    }
+
+    fn value(self) -> Value {
+        Value::Long(self)
+    }
+
+    fn range() -> Range {
+        Range::Long
+    }
+
+    fn input_type() -> RecordType {
+        RecordType::Longin
+    }
+
+    fn output_type() -> RecordType {
+        RecordType::Longout
+    }
+}
+
+impl Number for i64 {
+    ghost use Rattle.rec_numeric.specs.Number.{int64_number};
+    ghost use Rattle.rec_numeric.specs.NumberLaws.{int64_lawful};
+
+    ghost number = { int64_number };
+
+    ghost lawful = { int64_lawful };
+
+    fn zero() -> Self {
+        0
+    }
+
+    fn in_value(value: Value) -> Option<Self> {
+        int64_in(value)
+    }
+
+    fn value(self) -> Value {
+        Value::Int64(self)
+    }
+
+    fn range() -> Range {
+        Range::Int64
+    }
+
+    fn input_type() -> RecordType {
+        RecordType::Int64in
+    }
+
+    fn output_type() -> RecordType {
+        RecordType::Int64out
+    }
+}

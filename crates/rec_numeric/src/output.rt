@@ -1,0 +1,192 @@
+//! The types longout and int64out.
+ghost use Rattle.std.specs.Prelude.{◌≡◌};
+ghost use Rattle.ioc_record.specs.BodyRules.{Held};
+ghost use Rattle.ioc_record.specs.BodyLaws.{IsNewBody};
+ghost use Rattle.rec_numeric.specs.Output.{numeric_output, new_output, within, limited_value, worked};
+
+use crate::number::Number;
+use crate::numeric::Numeric;
+use ioc_fields::{OwnField, RecordType};
+use ioc_links::Link;
+use ioc_record::{Condition, Drive, Fresh, Got, InputKind, LinkField, Output, RecordBody, Want};
+use ioc_values::{Kind, Text, Value, of_number};
+
+/// The own fields of a numeric output. Record Reference Manual, "Long Output Record" and "64bit Integer Output Record".
+#[derive(Clone, Copy, Drop)]
+pub struct NumericOutput<N> {
+    /// VAL, the limits with their severities, HYST, LALM, and those kept without effect.
+    pub numbers: Numeric<N>,
+    /// OUT, DOL, OMSL and IVOA.
+    pub drive: Drive,
+    /// DRVH and DRVL.
+    pub drive_high: N,
+    pub drive_low: N,
+    /// IVOV.
+    pub invalid_value: N,
+}
+
+/// Those of a longout: its numbers have 32 bits.
+pub type Longout = NumericOutput<i32>;
+
+/// Those of an int64out: its numbers have 64 bits.
+pub type Int64out = NumericOutput<i64>;
+
+// A value, or the limit that it is beyond.
+#[tactic(auto, unfolding(crate::specs::Output::within))]
+fn within<N: Number>(value: N, low: N, high: N) -> N
+    ensures { result ≡ within N.whole value low high }
+{
+    if value.wide() < low.wide() {
+        low
+    } else if high.wide() < value.wide() {
+        high
+    } else {
+        value
+    }
+}
+
+impl<N: Number> NumericOutput<N> {
+    /// Those of a new record: all 0 or empty.
+    #[tactic(auto, unfolding(crate::specs::Output::new_output))]
+    pub fn new() -> Self
+        ensures value { result ≡ new_output N.number }
+        ensures defaults { IsNewBody (numeric_output N.number N.whole) result }
+    {
+        NumericOutput {
+            numbers: Numeric::new(),
+            drive: Drive::new(),
+            drive_high: N::zero(),
+            drive_low: N::zero(),
+            invalid_value: N::zero(),
+        }
+    }
+
+    // VAL within the drive limits, which are limits where DRVH is above DRVL.
+    #[tactic(auto, unfolding(crate::specs::Output::limited_value))]
+    fn limited_value(&self) -> N
+        ensures { result ≡ limited_value N.whole self.now }
+    {
+        if self.drive_low.wide() < self.drive_high.wide() {
+            within(self.numbers.value, self.drive_low, self.drive_high)
+        } else {
+            self.numbers.value
+        }
+    }
+
+    // Takes what came, keeps it within the drive limits, and raises alarms.
+    #[tactic(auto, unfolding(crate::specs::Output::worked))]
+    fn work(&mut self, condition: &mut Condition, got: Got)
+        ensures { record { body = self.new; condition = condition.new } ≡ worked N.number N.whole (record { body = self.old; condition = condition.old }) got }
+    {
+        match got {
+            Got::Value(value) => {
+                self.numbers.value = N::in_value(value).unwrap_or(self.numbers.value);
+                condition.undefined = 0;
+                self.numbers.value = self.limited_value();
+            }
+            Got::Nothing => self.numbers.value = self.limited_value(),
+            Got::Fault => {}
+        }
+        self.numbers.test(condition);
+    }
+}
+
+impl<N: Number> Fresh for NumericOutput<N> {
+    ghost use Rattle.rec_numeric.specs.Output.{new_output};
+
+    ghost new_one = { new_output N.number };
+
+    fn fresh() -> Self {
+        NumericOutput::new()
+    }
+}
+
+impl<N: Number> RecordBody for NumericOutput<N> {
+    ghost use Rattle.rec_numeric.specs.OutputLaws.{output_lawful};
+
+    ghost rules = { numeric_output N.number N.whole };
+
+    ghost lawful = { output_lawful N.number N.whole N.lawful };
+
+    fn record_type(&self) -> RecordType {
+        N::output_type()
+    }
+
+    fn link(&self, field: OwnField) -> Option<&LinkField> {
+        self.drive.link(field)
+    }
+
+    fn set_link(&mut self, field: OwnField, link: LinkField) {
+        self.drive.set_link(field, link);
+    }
+
+    fn states(&self) -> &[Text] {
+        &[]
+    }
+
+    #[tactic(auto, unfolding(crate::specs::Output::output_get))]
+    fn get(&self, field: OwnField) -> Option<Value> {
+        match field {
+            OwnField::Drvh => Some(self.drive_high.value()),
+            OwnField::Drvl => Some(self.drive_low.value()),
+            OwnField::Ivov => Some(self.invalid_value.value()),
+            OwnField::Omsl | OwnField::Ivoa => self.drive.get(field),
+            _ => self.numbers.get(field),
+        }
+    }
+
+    #[tactic(auto, unfolding(crate::specs::Output::output_stored))]
+    fn store(&mut self, condition: &mut Condition, field: OwnField, value: Value) {
+        match field {
+            OwnField::Val => {
+                self.numbers.store(field, value);
+                condition.undefined = 0;
+            }
+            OwnField::Drvh => self.drive_high = N::in_value(value).unwrap_or(self.drive_high),
+            OwnField::Drvl => self.drive_low = N::in_value(value).unwrap_or(self.drive_low),
+            OwnField::Ivov => self.invalid_value = N::in_value(value).unwrap_or(self.invalid_value),
+            OwnField::Omsl | OwnField::Ivoa => self.drive.store(field, value),
+            _ => self.numbers.store(field, value),
+        }
+    }
+
+    #[inline(never)]
+    fn begin(&self) -> Want {
+        self.drive.begin()
+    }
+
+    fn input_kind(&self, _condition: &Condition) -> InputKind {
+        InputKind::Number(N::range())
+    }
+
+    #[tactic(auto, unfolding(crate::specs::Output::output_taken, crate::specs::Output::output_driven, crate::specs::Output::settled))]
+    #[inline(never)]
+    fn take(&mut self, condition: &mut Condition, got: Got) -> Output {
+        self.work(condition, got);
+        if self.drive.sets(condition) {
+            self.numbers.value = self.invalid_value;
+        }
+        if self.drive.drives(condition) {
+            self.drive.write(self.numbers.value.value())
+        } else {
+            Output::NoOutput
+        }
+    }
+
+    fn constant_kind(&self, _condition: &Condition, field: OwnField) -> Option<InputKind> {
+        match field {
+            OwnField::Dol => Some(InputKind::Number(N::range())),
+            _ => None,
+        }
+    }
+
+    #[tactic(auto, unfolding(crate::specs::Output::output_loaded, crate::specs::Output::output_stored, ioc_values::specs::Conversion::sort_of))]
+    fn load(&mut self, condition: &mut Condition) {
+        if let Link::Constant(constant) = self.drive.desired.link {
+            if let Some(value) = of_number(Kind::Number(N::range()), constant) {
+                self.store(condition, OwnField::Val, value);
+            }
+        }
+        self.numbers.last_alarmed = self.numbers.value;
+    }
+}

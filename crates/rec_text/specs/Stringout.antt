@@ -1,0 +1,102 @@
+-- The type stringout. Record Reference Manual, "String Output Record".
+use Rattle.std.specs.Prelude.{[], if◌then◌else◌, Option, Some, None, unwrap_or}
+use Rattle.ioc_values.specs.declared.value.Value.{Value}
+use Rattle.ioc_values.specs.declared.value.Value.TheVariants as value
+use Rattle.ioc_values.specs.Conversion.{Texts, of_number}
+use Rattle.ioc_links.specs.declared.link.Link.{Link}
+use Rattle.ioc_links.specs.declared.link.Link.TheVariants.{Constant}
+use Rattle.ioc_fields.specs.declared.field_no.OwnField.{OwnField}
+use Rattle.ioc_fields.specs.declared.field_no.OwnField.TheVariants.{Val, Dol, Ivov}
+use Rattle.ioc_fields.specs.declared.record_type.RecordType.TheVariants as type
+use Rattle.ioc_record.specs.declared.body.Got.{Got}
+use Rattle.ioc_record.specs.declared.body.Got.TheVariants as got
+use Rattle.ioc_record.specs.declared.body.InputKind.{InputKind}
+use Rattle.ioc_record.specs.declared.body.InputKind.TheVariants as input
+use Rattle.ioc_record.specs.declared.body.Output.{Output}
+use Rattle.ioc_record.specs.declared.body.Output.TheVariants.{NoOutput}
+use Rattle.ioc_record.specs.Condition.{undefined_tested}
+use Rattle.ioc_record.specs.Parts.{text_in}
+use Rattle.ioc_record.specs.Drive.{new_drive, drive_link, drive_with_link, drive_get, drive_stored, drive_begin, sets, drives, written}
+use Rattle.ioc_record.specs.BodyRules.{BodyRules, Held}
+use Rattle.rec_text.specs.declared.stringout.Stringout.{Stringout}
+
+-- ---- fields
+
+unfoldable pub new_stringout : Stringout
+new_stringout = record { value = []; drive = new_drive; invalid_value = [] }
+
+unfoldable pub stringout_get : Stringout → OwnField → Option Value
+stringout_get b Val = Some (value.Text b.value)
+stringout_get b Ivov = Some (value.Text b.invalid_value)
+stringout_get b field = drive_get b.drive field
+
+-- with VAL set to a text, which clears UDF
+abbrev pub value_set : Held Stringout → Value → Held Stringout
+value_set h v = record { body = record h.body { value = unwrap_or (text_in v) h.body.value }; condition = record h.condition { undefined = 0 } }
+
+unfoldable pub stringout_stored : Held Stringout → OwnField → Value → Held Stringout
+stringout_stored h Val v = value_set h v
+stringout_stored h Ivov v = record h { body = record h.body { invalid_value = unwrap_or (text_in v) h.body.invalid_value } }
+stringout_stored h field v = record h { body = record h.body { drive = drive_stored h.body.drive field v } }
+
+-- ---- the body
+
+-- a text that came goes into VAL and clears UDF
+abbrev pub came : Held Stringout → Got → Held Stringout
+came h (got.Value v) = value_set h v
+came h _ = h
+
+-- then the alarm of an undefined value is tested
+unfoldable pub worked : Held Stringout → Got → Held Stringout
+worked h got = let c = came h got in record c { condition = undefined_tested c.condition }
+
+-- with IVOV driven, where IVOA says so
+unfoldable pub settled : Held Stringout → Held Stringout
+settled h = if sets h.body.drive.on_invalid h.condition then record h { body = record h.body { value = h.body.invalid_value } } else h
+
+unfoldable pub stringout_taken : Held Stringout → Got → Held Stringout
+stringout_taken h got = settled (worked h got)
+
+abbrev pub driven : Held Stringout → Output
+driven h = if drives h.body.drive.on_invalid h.condition then written h.body.drive.output (value.Text h.body.value) else NoOutput
+
+unfoldable pub stringout_output : Held Stringout → Got → Output
+stringout_output h got = driven (stringout_taken h got)
+
+-- ---- the load
+
+-- a constant of DOL must convert to VAL
+abbrev pub stringout_constant_kind : OwnField → Option InputKind
+stringout_constant_kind Dol = Some input.Text
+stringout_constant_kind _ = None
+
+abbrev pub value_if : Held Stringout → Option Value → Held Stringout
+value_if h None = h
+value_if h (Some v) = value_set h v
+
+-- a constant of DOL is put as its decimal text
+abbrev pub constant_put : Held Stringout → Link → Held Stringout
+constant_put h (Constant z) = value_if h (of_number Texts z)
+constant_put h _ = h
+
+unfoldable pub stringout_loaded : Held Stringout → Held Stringout
+stringout_loaded h = constant_put h h.body.drive.desired.link
+
+-- ---- all of it
+
+abbrev pub stringout : BodyRules Stringout
+stringout = record {
+  missing = new_stringout;
+  record_type = λ b. type.Stringout;
+  link = λ b. drive_link b.drive.output b.drive.desired;
+  with_link = λ b field link. record b { drive = drive_with_link b.drive field link };
+  states = λ b. [];
+  get = stringout_get;
+  stored = stringout_stored;
+  begin = λ b. drive_begin b.drive.mode b.drive.desired;
+  input_kind = λ h. input.Text;
+  taken = stringout_taken;
+  output = stringout_output;
+  constant_kind = λ h. stringout_constant_kind;
+  loaded = stringout_loaded;
+}

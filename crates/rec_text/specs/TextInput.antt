@@ -1,0 +1,70 @@
+-- The fields of the types that read a text. Record Reference Manual, "String Input Record" and "Event Record".
+use Rattle.std.proofs.Common.{◌≡◌, [], Option, Some, None, refl}
+use Rattle.std.specs.Prelude.{unwrap_or}
+use Rattle.ioc_values.specs.declared.value.Value.{Value}
+use Rattle.ioc_values.specs.declared.value.Value.TheVariants as value
+use Rattle.ioc_values.specs.Conversion.{Texts, of_number}
+use Rattle.ioc_links.specs.declared.link.Link.{Link}
+use Rattle.ioc_links.specs.declared.link.Link.TheVariants.{Constant}
+use Rattle.ioc_fields.specs.declared.field_no.OwnField.{OwnField}
+use Rattle.ioc_fields.specs.declared.field_no.OwnField.TheVariants.{Val, Inp}
+use Rattle.ioc_record.specs.declared.body.Got.{Got}
+use Rattle.ioc_record.specs.declared.body.Got.TheVariants as got
+use Rattle.ioc_record.specs.declared.body.InputKind.{InputKind}
+use Rattle.ioc_record.specs.declared.body.InputKind.TheVariants as input
+use Rattle.ioc_record.specs.Parts.{text_in}
+use Rattle.ioc_record.specs.Source.{new_source}
+use Rattle.ioc_record.specs.BodyRules.{Held}
+use Rattle.rec_text.specs.declared.text_input.TextInput.{TextInput}
+
+-- those of a new record: empty
+unfoldable pub new_text_input : TextInput
+new_text_input = record { value = []; source = new_source }
+
+unfoldable pub text_input_get : TextInput → OwnField → Option Value
+text_input_get b Val = Some (value.Text b.value)
+text_input_get b _ = None
+
+-- VAL clears UDF
+unfoldable pub text_input_stored : Held TextInput → OwnField → Value → Held TextInput
+text_input_stored h Val v = record { body = record h.body { value = unwrap_or (text_in v) h.body.value }; condition = record h.condition { undefined = 0 } }
+text_input_stored h _ v = h
+
+-- a text that came goes into VAL and clears UDF; where nothing came, and after a fault, they stay
+abbrev pub came : Held TextInput → Got → Held TextInput
+came h (got.Value v) = text_input_stored h Val v
+came h _ = h
+
+-- a constant of INP must convert to VAL
+abbrev pub text_constant_kind : OwnField → Option InputKind
+text_constant_kind Inp = Some input.Text
+text_constant_kind _ = None
+
+-- with VAL set to a value, if there is one
+abbrev pub stored_if : Held TextInput → Option Value → Held TextInput
+stored_if h None = h
+stored_if h (Some v) = text_input_stored h Val v
+
+-- a constant of INP is put as its decimal text
+abbrev pub constant_put : Held TextInput → Link → Held TextInput
+constant_put h (Constant z) = stored_if h (of_number Texts z)
+constant_put h _ = h
+
+-- ---- laws: INP stays
+
+pub stored-source : (h : Held TextInput) (f : OwnField) (v : Value) → (text_input_stored h f v).body.source ≡ h.body.source
+unfolding text_input_stored
+stored-source h Val v = refl
+stored-source h _ v = refl
+
+pub came-source : (h : Held TextInput) (got : Got) → (came h got).body.source ≡ h.body.source
+came-source h (got.Value v) = stored-source h Val v
+came-source h _ = refl
+
+stored_if-source : (h : Held TextInput) (o : Option Value) → (stored_if h o).body.source ≡ h.body.source
+stored_if-source h None = refl
+stored_if-source h (Some v) = stored-source h Val v
+
+pub put-source : (h : Held TextInput) (l : Link) → (constant_put h l).body.source ≡ h.body.source
+put-source h (Constant z) = stored_if-source h (of_number Texts z)
+put-source h _ = refl

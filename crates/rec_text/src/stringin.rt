@@ -1,0 +1,90 @@
+//! The type stringin.
+ghost use Rattle.std.specs.Prelude.{◌≡◌};
+ghost use Rattle.ioc_record.specs.BodyLaws.{IsNewBody};
+ghost use Rattle.rec_text.specs.Stringin.{stringin, new_stringin};
+
+use crate::text_input::TextInput;
+use ioc_fields::{OwnField, RecordType};
+use ioc_record::{Condition, Got, InputKind, LinkField, Output, RecordBody, Want};
+use ioc_values::{Text, Value};
+
+/// The own fields of a stringin. Record Reference Manual, "String Input Record".
+#[derive(Clone, Copy, Drop)]
+pub struct Stringin {
+    /// VAL and INP.
+    pub text: TextInput,
+}
+
+impl Stringin {
+    /// Those of a new record: empty.
+    #[tactic(auto, unfolding(crate::specs::Stringin::new_stringin))]
+    pub fn new() -> Self
+        ensures value { result ≡ new_stringin }
+        ensures defaults { IsNewBody stringin result }
+    {
+        Stringin {
+            text: TextInput::new(),
+        }
+    }
+}
+
+impl RecordBody for Stringin {
+    ghost use Rattle.rec_text.specs.StringinLaws.{stringin_lawful};
+
+    ghost rules = { stringin };
+
+    ghost lawful = { stringin_lawful };
+
+    fn record_type(&self) -> RecordType {
+        RecordType::Stringin
+    }
+
+    fn link(&self, field: OwnField) -> Option<&LinkField> {
+        self.text.source.link(field)
+    }
+
+    fn set_link(&mut self, field: OwnField, link: LinkField) {
+        self.text.source.set_link(field, link);
+    }
+
+    fn states(&self) -> &[Text] {
+        &[]
+    }
+
+    fn get(&self, field: OwnField) -> Option<Value> {
+        self.text.get(field)
+    }
+
+    fn store(&mut self, condition: &mut Condition, field: OwnField, value: Value) {
+        self.text.store(condition, field, value);
+    }
+
+    #[inline(never)]
+    fn begin(&self) -> Want {
+        self.text.source.begin()
+    }
+
+    fn input_kind(&self, _condition: &Condition) -> InputKind {
+        InputKind::Text
+    }
+
+    #[tactic(auto, unfolding(crate::specs::Stringin::stringin_taken))]
+    #[inline(never)]
+    fn take(&mut self, condition: &mut Condition, got: Got) -> Output {
+        self.text.come(condition, got);
+        condition.test_undefined();
+        Output::NoOutput
+    }
+
+    fn constant_kind(&self, _condition: &Condition, field: OwnField) -> Option<InputKind> {
+        match field {
+            OwnField::Inp => Some(InputKind::Text),
+            _ => None,
+        }
+    }
+
+    #[tactic(auto, unfolding(crate::specs::Stringin::stringin_loaded))]
+    fn load(&mut self, condition: &mut Condition) {
+        self.text.put_constant(condition);
+    }
+}

@@ -1,0 +1,144 @@
+//! The type stringout.
+ghost use Rattle.std.specs.Prelude.{◌≡◌};
+ghost use Rattle.ioc_record.specs.BodyRules.{Held};
+ghost use Rattle.ioc_record.specs.BodyLaws.{IsNewBody};
+ghost use Rattle.rec_text.specs.Stringout.{stringout, new_stringout, worked};
+
+use ioc_fields::{OwnField, RecordType};
+use ioc_links::Link;
+use ioc_record::{
+    Condition, Drive, Fresh, Got, InputKind, LinkField, Output, RecordBody, Want, text_in,
+};
+use ioc_values::{Kind, Text, Value, of_number};
+
+/// The own fields of a stringout. Record Reference Manual, "String Output Record".
+#[derive(Clone, Copy, Drop)]
+pub struct Stringout {
+    /// VAL.
+    pub value: Text,
+    /// OUT, DOL, OMSL and IVOA.
+    pub drive: Drive,
+    /// IVOV.
+    pub invalid_value: Text,
+}
+
+impl Stringout {
+    /// Those of a new record: empty.
+    #[tactic(auto, unfolding(crate::specs::Stringout::new_stringout))]
+    pub fn new() -> Self
+        ensures value { result ≡ new_stringout }
+        ensures defaults { IsNewBody stringout result }
+    {
+        Stringout {
+            value: Text::new(),
+            drive: Drive::new(),
+            invalid_value: Text::new(),
+        }
+    }
+
+    // Takes what came, and raises the alarm of an undefined value.
+    #[tactic(auto, unfolding(crate::specs::Stringout::worked))]
+    fn work(&mut self, condition: &mut Condition, got: Got)
+        ensures { record { body = self.new; condition = condition.new } ≡ worked (record { body = self.old; condition = condition.old }) got }
+    {
+        if let Got::Value(value) = got {
+            self.value = text_in(value).unwrap_or(self.value);
+            condition.undefined = 0;
+        }
+        condition.test_undefined();
+    }
+}
+
+impl Fresh for Stringout {
+    ghost use Rattle.rec_text.specs.Stringout.{new_stringout};
+
+    ghost new_one = { new_stringout };
+
+    fn fresh() -> Self {
+        Stringout::new()
+    }
+}
+
+impl RecordBody for Stringout {
+    ghost use Rattle.rec_text.specs.StringoutLaws.{stringout_lawful};
+
+    ghost rules = { stringout };
+
+    ghost lawful = { stringout_lawful };
+
+    fn record_type(&self) -> RecordType {
+        RecordType::Stringout
+    }
+
+    fn link(&self, field: OwnField) -> Option<&LinkField> {
+        self.drive.link(field)
+    }
+
+    fn set_link(&mut self, field: OwnField, link: LinkField) {
+        self.drive.set_link(field, link);
+    }
+
+    fn states(&self) -> &[Text] {
+        &[]
+    }
+
+    #[tactic(auto, unfolding(crate::specs::Stringout::stringout_get))]
+    fn get(&self, field: OwnField) -> Option<Value> {
+        match field {
+            OwnField::Val => Some(Value::Text(self.value)),
+            OwnField::Ivov => Some(Value::Text(self.invalid_value)),
+            _ => self.drive.get(field),
+        }
+    }
+
+    #[tactic(auto, unfolding(crate::specs::Stringout::stringout_stored))]
+    fn store(&mut self, condition: &mut Condition, field: OwnField, value: Value) {
+        match field {
+            OwnField::Val => {
+                self.value = text_in(value).unwrap_or(self.value);
+                condition.undefined = 0;
+            }
+            OwnField::Ivov => self.invalid_value = text_in(value).unwrap_or(self.invalid_value),
+            _ => self.drive.store(field, value),
+        }
+    }
+
+    #[inline(never)]
+    fn begin(&self) -> Want {
+        self.drive.begin()
+    }
+
+    fn input_kind(&self, _condition: &Condition) -> InputKind {
+        InputKind::Text
+    }
+
+    #[tactic(auto, unfolding(crate::specs::Stringout::stringout_taken, crate::specs::Stringout::stringout_output, crate::specs::Stringout::settled))]
+    #[inline(never)]
+    fn take(&mut self, condition: &mut Condition, got: Got) -> Output {
+        self.work(condition, got);
+        if self.drive.sets(condition) {
+            self.value = self.invalid_value;
+        }
+        if self.drive.drives(condition) {
+            self.drive.write(Value::Text(self.value))
+        } else {
+            Output::NoOutput
+        }
+    }
+
+    fn constant_kind(&self, _condition: &Condition, field: OwnField) -> Option<InputKind> {
+        match field {
+            OwnField::Dol => Some(InputKind::Text),
+            _ => None,
+        }
+    }
+
+    #[tactic(auto, unfolding(crate::specs::Stringout::stringout_loaded, crate::specs::Stringout::stringout_stored, ioc_values::specs::Conversion::sort_of))]
+    fn load(&mut self, condition: &mut Condition) {
+        if let Link::Constant(constant) = self.drive.desired.link {
+            if let Some(value) = of_number(Kind::Text, constant) {
+                self.store(condition, OwnField::Val, value);
+            }
+        }
+    }
+}

@@ -1,0 +1,73 @@
+//! The fields of the types that read a text.
+ghost use Rattle.std.specs.Prelude.{◌≡◌};
+ghost use Rattle.ioc_record.specs.BodyRules.{Held};
+ghost use Rattle.rec_text.specs.TextInput.{new_text_input, text_input_get, text_input_stored, came, constant_put};
+
+use ioc_fields::OwnField;
+use ioc_links::Link;
+use ioc_record::{Condition, Got, Source, text_in};
+use ioc_values::{Kind, Text, Value, of_number};
+
+/// VAL, a text, and INP. Record Reference Manual, "String Input Record" and "Event Record".
+#[derive(Clone, Copy, Drop)]
+pub struct TextInput {
+    /// VAL.
+    pub value: Text,
+    /// INP.
+    pub source: Source,
+}
+
+impl TextInput {
+    /// Those of a new record: empty.
+    #[tactic(auto, unfolding(crate::specs::TextInput::new_text_input))]
+    pub fn new() -> Self
+        ensures { result ≡ new_text_input }
+    {
+        TextInput {
+            value: Text::new(),
+            source: Source::new(),
+        }
+    }
+
+    #[tactic(auto, unfolding(crate::specs::TextInput::text_input_get))]
+    pub fn get(&self, field: OwnField) -> Option<Value>
+        ensures { result ≡ text_input_get self.now field }
+    {
+        match field {
+            OwnField::Val => Some(Value::Text(self.value)),
+            _ => None,
+        }
+    }
+
+    /// Stores a value that was converted for the field; VAL clears UDF.
+    #[tactic(auto, unfolding(crate::specs::TextInput::text_input_stored))]
+    pub fn store(&mut self, condition: &mut Condition, field: OwnField, value: Value)
+        ensures { record { body = self.new; condition = condition.new } ≡ text_input_stored (record { body = self.old; condition = condition.old }) field value }
+    {
+        if let OwnField::Val = field {
+            self.value = text_in(value).unwrap_or(self.value);
+            condition.undefined = 0;
+        }
+    }
+
+    /// A text that came goes into VAL, and clears UDF.
+    pub fn come(&mut self, condition: &mut Condition, got: Got)
+        ensures { record { body = self.new; condition = condition.new } ≡ came (record { body = self.old; condition = condition.old }) got }
+    {
+        if let Got::Value(value) = got {
+            self.store(condition, OwnField::Val, value);
+        }
+    }
+
+    /// A constant of INP goes into VAL as its decimal text.
+    #[tactic(auto, unfolding(ioc_values::specs::Conversion::sort_of))]
+    pub fn put_constant(&mut self, condition: &mut Condition)
+        ensures { record { body = self.new; condition = condition.new } ≡ constant_put (record { body = self.old; condition = condition.old }) self.old.source.input.link }
+    {
+        if let Link::Constant(constant) = self.source.input.link {
+            if let Some(value) = of_number(Kind::Text, constant) {
+                self.store(condition, OwnField::Val, value);
+            }
+        }
+    }
+}
