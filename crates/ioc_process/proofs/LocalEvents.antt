@@ -1,5 +1,5 @@
 -- Events look at the records that links lead to, and change these alone.
-use Rattle.std.proofs.Common.{◌≡◌, ℕ, Bool, true, false, cond, List, Ok, Err, is_some, refl, sym, ap, subst, ◌∙◌}
+use Rattle.std.proofs.Common.{◌≡◌, ℕ, Bool, true, false, cond, List, Ok, Err, is_some, refl, sym, ap, subst, ◌∙◌, arith}
 use Rattle.std.specs.Prelude.{Result, Contains}
 use Rattle.std.specs.FinMap.{contains_key}
 use Rattle.ioc_values.specs.declared.error.IocError.{IocError}
@@ -19,7 +19,7 @@ use Rattle.ioc_process.specs.World.{World, at, put}
 use Rattle.ioc_process.specs.Local.{Shut, Same, AgreeEvent, EventIsLocal}
 use Rattle.ioc_process.specs.declared.event.Event.{Event}
 use Rattle.ioc_process.specs.declared.event.Event.TheVariants.{Get, Process, Put}
-use Rattle.ioc_process.specs.Step.{Stepped, number_of, processes, outcome_reply, refused, told, after_put, put_with, stepped_there, stepped}
+use Rattle.ioc_process.specs.Step.{Stepped, number_of, names, processes, outcome_reply, refused, told, after_put, put_with, stepped_there, stepped}
 use Rattle.ioc_process.proofs.Locality.{Along, guards, along, request-local}
 use Rattle.ioc_process.proofs.Stepping.{step-there, step-missing, put_targets}
 
@@ -117,7 +117,10 @@ module _ {R : Type 0} (k : RecordRules R) (lawful : IsLawful k) (U : ℕ → Typ
     there-local (Put s field given) u = put-local s field given u
 
   pub event-local : EventIsLocal k U answers
-  event-local w v event shut same u both =
+  event-local w v event shut same within alike =
+      let first : Contains (names event) (number_of event) = (0, omega arith, refl) in
+      let u = within (number_of event) first in
+      let both = alike (number_of event) first in
       elim (contains_key w.records (number_of event)) as (λ b. contains_key w.records (number_of event) ≡ b → AgreeEvent k U w v (stepped k answers w event) (stepped k answers v event)) [
         | true ↦ λ is. rw (step-there k answers w event is, step-there k answers v event (sym both ∙ is)) (there-local w v shut same event u)
         | false ↦ λ is. rw (step-missing k answers w event is, step-missing k answers v event (sym both ∙ is)) (unchanged w v shut same _ _)

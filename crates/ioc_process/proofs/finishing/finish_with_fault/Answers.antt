@@ -2,7 +2,7 @@ use Rattle.std.proofs.Common.{◌∙◌, arith}
 use Rattle.ioc_process.proofs.Depth.{faulted-stays}
 use Rattle.ioc_process.proofs.Keeping.{faulted-keeps, closed_on}
 use Rattle.ioc_process.proofs.Turning.{turns_on, faulted_is}
-use Rattle.ioc_process.proofs.process.finish_with_fault.Goals as goal
+use Rattle.ioc_process.proofs.finishing.finish_with_fault.Goals as goal
 
 pub finish-requires-clause-there : goal.finish-requires-clause-there
 finish-requires-clause-there g c =

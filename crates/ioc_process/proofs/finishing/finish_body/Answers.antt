@@ -4,7 +4,7 @@ use Rattle.ioc_process.proofs.Keeping.{keeps-taken, closed_on}
 use Rattle.ioc_process.proofs.Bodies.{output_stands}
 use Rattle.ioc_process.proofs.FrameSteps.{completed-taken}
 use Rattle.ioc_process.proofs.Turning.{turns_on}
-use Rattle.ioc_process.proofs.process.finish_body.Goals as goal
+use Rattle.ioc_process.proofs.finishing.finish_body.Goals as goal
 
 pub put_out-requires-clause-there : goal.put_out-requires-clause-there
 put_out-requires-clause-there g c =

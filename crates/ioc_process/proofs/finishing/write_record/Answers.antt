@@ -8,7 +8,7 @@ use Rattle.ioc_process.proofs.Writing.{written-vain, written-alone, written-requ
 use Rattle.ioc_process.proofs.FrameSteps.{then_finished-none, writing-calls}
 use Rattle.ioc_process.proofs.FrameTurns.{turn_pushed, opens_pushed}
 use Rattle.ioc_process.proofs.Turning.{turns_on, turns_calls}
-use Rattle.ioc_process.proofs.process.write_record.Goals as goal
+use Rattle.ioc_process.proofs.finishing.write_record.Goals as goal
 
 pub finish_with_fault-requires-clause-there : goal.finish_with_fault-requires-clause-there
 finish_with_fault-requires-clause-there g c =

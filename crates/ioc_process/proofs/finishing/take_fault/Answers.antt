@@ -2,7 +2,7 @@ use Rattle.std.proofs.Common.{◌∙◌, arith}
 use Rattle.ioc_process.proofs.Depth.{faulted-stays}
 use Rattle.ioc_process.proofs.Keeping.{faulted-keeps, closed_on}
 use Rattle.ioc_process.proofs.Turning.{turns_on}
-use Rattle.ioc_process.proofs.process.take_fault.Goals as goal
+use Rattle.ioc_process.proofs.finishing.take_fault.Goals as goal
 
 pub finish_body-requires-clause-there : goal.finish_body-requires-clause-there
 finish_body-requires-clause-there g c =

@@ -4,7 +4,7 @@ use Rattle.ioc_process.proofs.Bodies.{forward_stands}
 use Rattle.ioc_process.proofs.FrameSteps.{ready, ready-keeps, ready-called, ready-ended, passive_there, finished-calls, finished-ends}
 use Rattle.ioc_process.proofs.FrameTurns.{turn_pushed, opens_pushed}
 use Rattle.ioc_process.proofs.Turning.{turns_calls, turns_ended}
-use Rattle.ioc_process.proofs.process.finish.Goals as goal
+use Rattle.ioc_process.proofs.finishing.finish.Goals as goal
 
 pub common-requires : goal.common-requires
 common-requires g c =

@@ -8,7 +8,7 @@ use Rattle.ioc_process.proofs.Depth.{sent-stays, write_device-outs}
 use Rattle.ioc_process.proofs.Keeping.{sent-keeps, closed_on}
 use Rattle.ioc_process.proofs.FrameSteps.{then_finished-none, output-on, output-waits, remaining-all}
 use Rattle.ioc_process.proofs.Turning.{turns_on, turns_ended}
-use Rattle.ioc_process.proofs.process.put_out.Goals as goal
+use Rattle.ioc_process.proofs.finishing.put_out.Goals as goal
 
 pub finish-requires-then-write_device-clause-closed : goal.finish-requires-then-write_device-clause-closed
 finish-requires-then-write_device-clause-closed g c = closed_on _ g.met.S.Record.RecordKind.lawful c.write_device.ensures.keeps c.requires.closed

@@ -8,7 +8,7 @@ use Rattle.ioc_process.proofs.Bodies.{slot_stands}
 use Rattle.ioc_process.proofs.FrameSteps.{then_finished-none, remaining-chosen, remaining-other, remaining-none, each-none, each-calls, passive_there, slot_below, none_of}
 use Rattle.ioc_process.proofs.FrameTurns.{turn_pushed, opens_pushed}
 use Rattle.ioc_process.proofs.Turning.{turns_calls}
-use Rattle.ioc_process.proofs.process.follow_each.Goals as goal
+use Rattle.ioc_process.proofs.finishing.follow_each.Goals as goal
 
 pub passive_target-requires : goal.passive_target-requires
 passive_target-requires g c =

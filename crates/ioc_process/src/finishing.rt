@@ -1,0 +1,266 @@
+//! What a body does once it has its input: it takes it, puts out what it has to, and finishes.
+ghost use Rattle.std.specs.Prelude.{◌≡◌, ◌≤◌, ◌<◌, ◌+◌, ◌-◌, ℕ, List, [], Some, false, vec_len};
+ghost use Rattle.std.specs.FinMap.{len};
+ghost use Rattle.std.specs.Vec.{vec_capacity};
+ghost use Rattle.ioc_device.specs.declared.Answer.{Answer};
+ghost use Rattle.ioc_ledger.specs.Requests.{first_outcome};
+ghost use Rattle.ioc_process.specs.World.{Has, common_at, idle, IsClosed, Keeps};
+ghost use Rattle.ioc_process.specs.Runs.{Begins, ForAnswers, Leaves, IsStanding};
+ghost use Rattle.ioc_record.specs.declared.body.Output.TheVariants.{WriteLink};
+ghost use Rattle.ioc_record.specs.declared.link_field.LinkUse.TheVariants.{Standing};
+ghost use Rattle.ioc_process.specs.Processing.{request, completed, body, read_link, read_record, faulted, finished, after_output, put_out, write_link, wrote, after_writing, followed_each};
+ghost use Rattle.ioc_process.specs.Frames.{went_on, then_finished, remaining, after_reading, after_turn, turn_of, Opens, calls_left, most_calls, FrameStands, Turns, Goes};
+
+use crate::frames::{Frame, Place};
+use crate::inputs::fault_link;
+use crate::outbox::OutboxItem;
+use crate::outputs::{Written, is_chosen, link_at, passive_target, write_device, write_value};
+use crate::steps::{common, raise, set_active, show, take};
+use crate::store::Store;
+use ioc_fields::Slot;
+use ioc_menus::{Severity, Status};
+use ioc_names::RecordNo;
+use ioc_record::{Got, LinkUse, Output, RecordKind, StandingLink};
+use ioc_values::Value;
+
+/// A record shows its alarms, and goes on to its forward link: the answer is the record that it requests.
+#[inline(always)]
+pub fn finish<S: Store>(
+    store: &mut S,
+    frames: &mut Vec<Frame>,
+    number: RecordNo,
+) -> Option<RecordNo>
+    requires there { Has (S.world store.old) number }
+    requires closed { IsClosed S.Record.rules (S.world store.old) }
+    requires is_idle { (common_at S.Record.rules (S.world store.old) number).active ≡ false }
+    requires room { vec_len frames.old < vec_capacity frames.old }
+    ensures turn { (answers : List Answer) → finished S.Record.rules (request S.Record.rules answers) (S.world store.old) number
+        ≡ after_turn S.Record.rules answers (S.world store.new) (turn_of frames.new.items result) }
+    ensures given { S.given store.new ≡ S.given store.old }
+    ensures turns { Turns S.Record.rules (S.world store.old) (S.world store.new) 0 1 (turn_of frames.new.items result) }
+    ensures opens { Opens frames.old.items frames.new.items result }
+    ensures room { vec_capacity frames.new ≡ vec_capacity frames.old }
+{
+    show(store, number);
+    let link = common(store, number).forward_link.in_use();
+    match passive_target(store, link) {
+        Some(target) => {
+            set_active(store, number, true);
+            frames.push_reserved(Frame {
+                source: number,
+                place: Place::Following,
+            });
+            Some(target)
+        }
+        None => {
+            set_active(store, number, false);
+            None
+        }
+    }
+}
+
+/// A record raises an alarm for its output link, and finishes.
+pub fn finish_with_fault<S: Store>(
+    store: &mut S,
+    frames: &mut Vec<Frame>,
+    number: RecordNo,
+) -> Option<RecordNo>
+    requires there { Has (S.world store.old) number }
+    requires closed { IsClosed S.Record.rules (S.world store.old) }
+    requires is_idle { (common_at S.Record.rules (S.world store.old) number).active ≡ false }
+    requires room { vec_len frames.old < vec_capacity frames.old }
+    ensures turn { (answers : List Answer) → finished S.Record.rules (request S.Record.rules answers) (faulted S.Record.rules (S.world store.old) number) number
+        ≡ after_turn S.Record.rules answers (S.world store.new) (turn_of frames.new.items result) }
+    ensures given { S.given store.new ≡ S.given store.old }
+    ensures turns { Turns S.Record.rules (S.world store.old) (S.world store.new) 0 1 (turn_of frames.new.items result) }
+    ensures opens { Opens frames.old.items frames.new.items result }
+    ensures room { vec_capacity frames.new ≡ vec_capacity frames.old }
+{
+    raise(store, number, Status::Link, Severity::Invalid);
+    finish(store, frames, number)
+}
+
+/// A record writes another, which may be requested, and finishes.
+pub fn write_record<S: Store>(
+    store: &mut S,
+    frames: &mut Vec<Frame>,
+    number: RecordNo,
+    target: StandingLink,
+    value: Value,
+) -> Option<RecordNo>
+    requires there { Has (S.world store.old) number }
+    requires closed { IsClosed S.Record.rules (S.world store.old) }
+    requires is_idle { (common_at S.Record.rules (S.world store.old) number).active ≡ false }
+    requires room { vec_len frames.old < vec_capacity frames.old }
+    requires standing { Has (S.world store.old) target.number }
+    ensures turn { (answers : List Answer) → then_finished S.Record.rules answers number
+        (after_writing S.Record.rules (request S.Record.rules answers) (wrote S.Record.rules (S.world store.old) number target value) number target) ≡ after_turn S.Record.rules answers (S.world store.new) (turn_of frames.new.items result) }
+    ensures given { S.given store.new ≡ S.given store.old }
+    ensures turns { Turns S.Record.rules (S.world store.old) (S.world store.new) 0 2 (turn_of frames.new.items result) }
+    ensures opens { Opens frames.old.items frames.new.items result }
+    ensures room { vec_capacity frames.new ≡ vec_capacity frames.old }
+{
+    let called = target.number;
+    match write_value(store, number, target, value) {
+        Written::InVain => finish_with_fault(store, frames, number),
+        Written::Alone => finish(store, frames, number),
+        Written::AndRequests => {
+            set_active(store, number, true);
+            frames.push_reserved(Frame {
+                source: number,
+                place: Place::Writing,
+            });
+            Some(called)
+        }
+    }
+}
+
+/// A record writes a value through a link, and finishes.
+#[tactic(auto, unfolding(crate::specs::Processing::write_link, crate::specs::Frames::then_finished))]
+pub fn write_link<S: Store>(
+    store: &mut S,
+    frames: &mut Vec<Frame>,
+    number: RecordNo,
+    link: LinkUse,
+    value: Value,
+) -> Option<RecordNo>
+    requires there { Has (S.world store.old) number }
+    requires closed { IsClosed S.Record.rules (S.world store.old) }
+    requires is_idle { (common_at S.Record.rules (S.world store.old) number).active ≡ false }
+    requires room { vec_len frames.old < vec_capacity frames.old }
+    requires standing { IsStanding (S.world store.old) link }
+    ensures turn { (answers : List Answer) → then_finished S.Record.rules answers number
+        (write_link S.Record.rules (request S.Record.rules answers) (S.world store.old) number link value) ≡ after_turn S.Record.rules answers (S.world store.new) (turn_of frames.new.items result) }
+    ensures given { S.given store.new ≡ S.given store.old }
+    ensures turns { Turns S.Record.rules (S.world store.old) (S.world store.new) 0 2 (turn_of frames.new.items result) }
+    ensures opens { Opens frames.old.items frames.new.items result }
+    ensures room { vec_capacity frames.new ≡ vec_capacity frames.old }
+{
+    match link {
+        LinkUse::Unused => finish(store, frames, number),
+        LinkUse::OwnDevice | LinkUse::Absent => finish_with_fault(store, frames, number),
+        LinkUse::Standing(target) => write_record(store, frames, number, target, value),
+    }
+}
+
+/// A record follows its links whose bits are set, from a number on, and finishes.
+pub fn follow_each<S: Store>(
+    store: &mut S,
+    frames: &mut Vec<Frame>,
+    number: RecordNo,
+    links: u16,
+    first: usize,
+) -> Option<RecordNo>
+    requires there { Has (S.world store.old) number }
+    requires closed { IsClosed S.Record.rules (S.world store.old) }
+    requires is_idle { (common_at S.Record.rules (S.world store.old) number).active ≡ false }
+    requires room { vec_len frames.old < vec_capacity frames.old }
+    ensures turn { (answers : List Answer) → then_finished S.Record.rules answers number
+        (followed_each S.Record.rules (request S.Record.rules answers) (S.world store.old) number (remaining links first)) ≡ after_turn S.Record.rules answers (S.world store.new) (turn_of frames.new.items result) }
+    ensures given { S.given store.new ≡ S.given store.old }
+    ensures turns { Turns S.Record.rules (S.world store.old) (S.world store.new) 0 ((16 - first) + 1) (turn_of frames.new.items result) }
+    ensures opens { Opens frames.old.items frames.new.items result }
+    ensures room { vec_capacity frames.new ≡ vec_capacity frames.old }
+{
+    let mut next = first;
+    while let Some(slot) = Slot::from_index(next) {
+        next += 1;
+        if is_chosen(links, slot) {
+            let link = link_at(store, number, slot);
+            if let Some(target) = passive_target(store, link) {
+                set_active(store, number, true);
+                frames.push_reserved(Frame {
+                    source: number,
+                    place: Place::FollowingEach(links, next),
+                });
+                return Some(target);
+            }
+        }
+    }
+    finish(store, frames, number)
+}
+
+/// A record puts out what it has to, and finishes; its device may keep it waiting.
+#[inline(always)]
+pub fn put_out<S: Store>(
+    store: &mut S,
+    frames: &mut Vec<Frame>,
+    number: RecordNo,
+    output: Output,
+) -> Option<RecordNo>
+    requires there { Has (S.world store.old) number }
+    requires closed { IsClosed S.Record.rules (S.world store.old) }
+    requires is_idle { (common_at S.Record.rules (S.world store.old) number).active ≡ false }
+    requires room { vec_len frames.old < vec_capacity frames.old }
+    requires standing { (t : StandingLink) (v : Value) → output ≡ WriteLink (Standing t) v → Has (S.world store.old) t.number }
+    ensures turn { ForAnswers (S.given store.new) (λ answers.
+        after_output S.Record.rules (request S.Record.rules answers) number (put_out S.Record.rules answers (request S.Record.rules answers) (S.world store.old) number output)
+        ≡ after_turn S.Record.rules answers (S.world store.new) (turn_of frames.new.items result)) }
+    ensures given { Begins (S.given store.old) (S.given store.new) }
+    ensures turns { Turns S.Record.rules (S.world store.old) (S.world store.new) 0 17 (turn_of frames.new.items result) }
+    ensures opens { Opens frames.old.items frames.new.items result }
+    ensures room { vec_capacity frames.new ≡ vec_capacity frames.old }
+{
+    match output {
+        Output::NoOutput => finish(store, frames, number),
+        Output::WriteLink(link, value) => write_link(store, frames, number, link, value),
+        Output::WriteDevice(_) => {
+            if write_device(store, number) {
+                finish(store, frames, number)
+            } else {
+                None
+            }
+        }
+        Output::FollowLinks(links) => follow_each(store, frames, number, links, 0),
+        Output::PostEvent(name) => {
+            store.send(OutboxItem::Post(name));
+            finish(store, frames, number)
+        }
+    }
+}
+
+/// A record takes what came, puts out what it has to, and finishes.
+#[inline(always)]
+pub fn finish_body<S: Store>(
+    store: &mut S,
+    frames: &mut Vec<Frame>,
+    number: RecordNo,
+    got: Got,
+) -> Option<RecordNo>
+    requires there { Has (S.world store.old) number }
+    requires closed { IsClosed S.Record.rules (S.world store.old) }
+    requires is_idle { (common_at S.Record.rules (S.world store.old) number).active ≡ false }
+    requires room { vec_len frames.old < vec_capacity frames.old }
+    ensures turn { ForAnswers (S.given store.new) (λ answers.
+        completed S.Record.rules answers (request S.Record.rules answers) (S.world store.old) number got
+        ≡ after_turn S.Record.rules answers (S.world store.new) (turn_of frames.new.items result)) }
+    ensures given { Begins (S.given store.old) (S.given store.new) }
+    ensures turns { Turns S.Record.rules (S.world store.old) (S.world store.new) 0 17 (turn_of frames.new.items result) }
+    ensures opens { Opens frames.old.items frames.new.items result }
+    ensures room { vec_capacity frames.new ≡ vec_capacity frames.old }
+{
+    let output = take(store, number, got);
+    put_out(store, frames, number, output)
+}
+
+/// A body goes on whose link gave a fault.
+pub fn take_fault<S: Store>(
+    store: &mut S,
+    frames: &mut Vec<Frame>,
+    number: RecordNo,
+) -> Option<RecordNo>
+    requires there { Has (S.world store.old) number }
+    requires closed { IsClosed S.Record.rules (S.world store.old) }
+    requires is_idle { (common_at S.Record.rules (S.world store.old) number).active ≡ false }
+    requires room { vec_len frames.old < vec_capacity frames.old }
+    ensures turn { ForAnswers (S.given store.new) (λ answers.
+        completed S.Record.rules answers (request S.Record.rules answers) (faulted S.Record.rules (S.world store.old) number) number Got.Fault
+        ≡ after_turn S.Record.rules answers (S.world store.new) (turn_of frames.new.items result)) }
+    ensures given { Begins (S.given store.old) (S.given store.new) }
+    ensures turns { Turns S.Record.rules (S.world store.old) (S.world store.new) 0 17 (turn_of frames.new.items result) }
+    ensures opens { Opens frames.old.items frames.new.items result }
+    ensures room { vec_capacity frames.new ≡ vec_capacity frames.old }
+{
+    let got = fault_link(store, number);
+    finish_body(store, frames, number, got)
+}
