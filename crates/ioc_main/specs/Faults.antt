@@ -11,6 +11,7 @@ use Rattle.ioc_main.specs.declared.fault.ScriptFault.TheVariants as script
 use Rattle.ioc_main.specs.declared.fault.RunFault.{RunFault}
 use Rattle.ioc_main.specs.declared.fault.RunFault.TheVariants.{BadDb, Usage, Read, Write, Memory}
 use Rattle.ioc_main.specs.declared.ending.Ending.{Ending}
+use Rattle.ioc_main.specs.declared.ending.Stream.TheVariants as stream
 
 -- the exit status of the program that a fault ends
 unfoldable pub status_of : RunFault → ℕ
@@ -53,10 +54,10 @@ whole_run (Err fault) flushed = Err fault
 whole_run (Ok _) (Err e) = Err Write
 whole_run (Ok _) (Ok _) = Ok tt
 
--- how the program ends: a fault has its status, and is told
+-- how the program ends: a fault has its status, and is told on standard error
 unfoldable pub ending_of : Result (Unit {0}) RunFault → Ending
-ending_of (Ok _) = record { status = 0; fault = None }
-ending_of (Err fault) = record { status = status_of fault; fault = Some fault }
+ending_of (Ok _) = record { status = 0; stream = stream.Error; fault = None }
+ending_of (Err fault) = record { status = status_of fault; stream = stream.Error; fault = Some fault }
 
 -- the line of a fault
 abbrev pub fault_line : Option RunFault → List ℕ

@@ -5,11 +5,19 @@ ghost use Rattle.ioc_main.specs.Faults.{whole_run, ending_of, ending_text};
 use crate::fault::RunFault;
 use std::{fmt, io};
 
-/// How the program ends: with what exit status, and for what fault. Its text goes to standard error as it stands, line
-/// feed included.
+/// A stream of the program.
+#[derive(Clone, Copy, Debug, PartialEq, Eq)]
+pub enum Stream {
+    Output,
+    Error,
+}
+
+/// How the program ends: with what exit status, and what it says of it where. Its text is printed as it stands, line feed
+/// included.
 #[derive(Clone, Copy, Debug, PartialEq, Eq)]
 pub struct Ending {
     pub status: u8,
+    pub stream: Stream,
     pub fault: Option<RunFault>,
 }
 
@@ -23,7 +31,11 @@ impl Ending {
             Ok(()) => (0, None),
             Err(fault) => (fault.status(), Some(fault)),
         };
-        Ending { status, fault }
+        Ending {
+            status,
+            stream: Stream::Error,
+            fault,
+        }
     }
 }
 

@@ -16,7 +16,7 @@ mod writing;
 
 pub use arguments::Arguments;
 pub use command::Command;
-pub use ending::{Ending, whole_run};
+pub use ending::{Ending, Stream, whole_run};
 pub use fault::{RunFault, ScriptFault, WriteFault};
 pub use lines::run_script;
 pub use replay::Replay;

@@ -2,7 +2,7 @@
 #![tactic(auto)]
 
 use ioc_dbfile::macros::Macros;
-use ioc_main::{Arguments, Ending, RunFault, run, whole_run};
+use ioc_main::{Arguments, Ending, RunFault, Stream, run, whole_run};
 use std::env;
 use std::fs::{self, File};
 use std::io::{self, BufWriter, Write};
@@ -20,6 +20,9 @@ fn replay(rt: &HostRuntime) -> Result<(), RunFault> {
 fn main(rt: HostRuntime) -> ExitCode {
     let ending = Ending::of(replay(&rt));
     // A text that can't be written changes no status.
-    let _written = eprint!(rt; "{ending}");
+    let _written = match ending.stream {
+        Stream::Output => print!(rt; "{ending}"),
+        Stream::Error => eprint!(rt; "{ending}"),
+    };
     ExitCode::from(ending.status)
 }

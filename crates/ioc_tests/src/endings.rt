@@ -1,5 +1,5 @@
 //! What the program takes from its arguments, and how it ends.
-use ioc_main::{Arguments, Ending, RunFault, whole_run};
+use ioc_main::{Arguments, Ending, RunFault, Stream, whole_run};
 use ioc_values::{BadDbKind, DbFault};
 use std::alloc::Global;
 use std::io;
@@ -59,7 +59,7 @@ fn words_that_could_not_be_had(rt: HostRuntime) {
     assert!(rt; is_refused(io::ErrorKind::InvalidData, RunFault::Usage));
 }
 
-// What a run came to, with the exit status and what is told.
+// What a run came to, with the exit status and what is told on standard error.
 static ENDINGS: [(Result<(), RunFault>, u8, &str); 6] = [
     (Ok(()), 0, ""),
     (
@@ -78,8 +78,11 @@ static ENDINGS: [(Result<(), RunFault>, u8, &str); 6] = [
 
 fn ends(alloc: Global, ended: Result<(), RunFault>, status: u8, told: &str) -> bool {
     let ending = Ending::of(ended);
-    match ending.to_string(alloc) {
-        Ok(text) => ending.status == status && text.as_str() == told,
+    let text = ending.to_string(alloc);
+    match text {
+        Ok(text) => {
+            ending.status == status && ending.stream == Stream::Error && text.as_str() == told
+        }
         Err(_) => false,
     }
 }
