@@ -1,5 +1,5 @@
 #!/usr/bin/env python3
-"""Runs ioc-replay on texts and scripts made at random and by mutation of good ones.
+"""Runs ioc-replay on texts, macros and scripts made at random and by mutation of good ones.
 
 Each run must end by itself within two seconds with status 0, or with status 1, nothing on standard output and one line
 `E13 BadDb line L: KIND` on standard error. The replies after status 0 are one for each line that is no comment and not empty.
@@ -16,10 +16,13 @@ GOOD_TEXTS = [
     b'record(longin, "a") {\n  field(VAL, "1")\n}\n',
     b'record(longin,"a"){field(INP,"b PP MS") field(UDFS,"MINOR")}\nrecord(longin,b){field(INP,7)field(FLNK,"a")} # end\n',
     b'record(longin,"x:y"){field(FLNK,"x:y") field(VAL,"0x1F") field(INP,"-3")}\r\n',
+    b'record(longin,"$(P)a"){alias("a") info(k,"v")}\nrecord(*,a){field(EGU,"${E=none}")} alias("a","b")\n',
+    b'grecord(longin,a)\nrecord(longin,"$(Q=b)")\nrecord("*","b"){field(VAL,"$(V)") field(VAL,2)}\n',
 ]
+MACROS = [b"P=", b"P=dev:", b"V=7", b"V=$(P)", b'E=" #', b"E=", b"Q=b", b"A" * 50 + b"=1"]
 GOOD_SCRIPT = b"process a\nput a.VAL 3\nget a.VAL\nget a.INP\n# none\n\nput a.UDFS MAJOR\nget a.SEVR\nhello\n"
 PIECES = [b'"', b"\\", b"{", b"}", b"(", b")", b",", b"#", b"$(", b"\n", b"\r", b"\0", b"\x7f", b"\xff", b"record", b"field",
-          b"longin", b"VAL", b"INP", b"a.VAL", b" PP", b" CP MSS", b"@dev", b"9" * 25, b"n" * 62, b" " * 1025, b"alias", b"."]
+          b"longin", b"VAL", b"INP", b"a.VAL", b" PP", b" CP MSS", b"@dev", b"9" * 25, b"n" * 62, b" " * 1025, b"alias(", b"info(", b"grecord(", b"*", b"$(P)", b"${Q=x}", b"$(V", b"=", b"."]
 REFUSAL = re.compile(rb"E13 BadDb line [1-9][0-9]*: [a-z0-9 -]+\n")
 
 
@@ -67,7 +70,8 @@ def main() -> int:
             for name, content in (("db", text), ("script", script)):
                 with open(f"{folder}/{name}", "wb") as file:
                     file.write(content)
-            done = subprocess.run([program, f"{folder}/db", f"{folder}/script"], capture_output=True, timeout=2)
+            macros = [generator.choice(MACROS) for _ in range(generator.randint(0, 4))]
+            done = subprocess.run([program, f"{folder}/db", f"{folder}/script", *macros], capture_output=True, timeout=2)
             if done.returncode == 0:
                 loaded += 1
                 fine = done.stderr == b"" and done.stdout.count(b"\n") == asking_lines(script)
@@ -75,7 +79,7 @@ def main() -> int:
                 refused += 1
                 fine = done.returncode == 1 and done.stdout == b"" and REFUSAL.fullmatch(done.stderr)
             if not fine:
-                print(f"run {run}: status {done.returncode}\ntext {text!r}\nscript {script!r}\n{done.stdout!r}\n{done.stderr!r}")
+                print(f"run {run}, {macros!r}: status {done.returncode}\ntext {text!r}\nscript {script!r}\n{done.stdout!r}\n{done.stderr!r}")
                 return 1
     print(f"{runs} runs, seed {seed}: {loaded} loaded, {refused} refused")
     return 0

@@ -8,10 +8,10 @@ use Rattle.ioc_links.specs.declared.link.Flags.{Flags}
 use Rattle.ioc_fields.specs.declared.record_type.RecordType.{RecordType}
 use Rattle.ioc_fields.specs.declared.field_no.FieldNo.{FieldNo}
 use Rattle.ioc_fields.specs.Names.{field_of}
-use Rattle.ioc_record.specs.declared.link_field.FieldAddress.{FieldAddress}
+use Rattle.ioc_common.specs.declared.link_field.FieldAddress.{FieldAddress}
 use Rattle.ioc_fields.specs.Table.{is_link}
-use Rattle.ioc_record.specs.declared.link_field.LinkField.{LinkField}
-use Rattle.ioc_record.specs.Links.{use_of, use_as, database_use, named_by, named_by_field, named_by_all}
+use Rattle.ioc_common.specs.declared.link_field.LinkField.{LinkField}
+use Rattle.ioc_common.specs.Links.{use_of, use_as, database_use, named_by, named_by_field, named_by_all}
 use Rattle.ioc_record.specs.Laws.{IsLawful}
 use Rattle.ioc_record.specs.RecordRules.{RecordRules, targets}
 use Rattle.ioc_types.specs.RecordLaws.{record_lawful}
@@ -168,7 +168,7 @@ at_below names types (r ∷ rs) zero = finished_below record_rules record_lawful
 at_below names types (r ∷ rs) (suc i) = at_below names types rs i
 
 -- a map of records at the end of a load
-pub finished_closed : (names : NameTable) (rs items : List Record) (m : OneMap Record) → m.records.items ≡ items → items ≡ map (finished record_rules names (map record_rules.record_type rs)) rs → IsClosed record_rules (world_of m)
+pub finished_closed : {D : Type 0} (names : NameTable) (rs items : List Record) (m : OneMap Record D) → m.records.items ≡ items → items ≡ map (finished record_rules names (map record_rules.record_type rs)) rs → IsClosed record_rules (world_of m)
 unfolding at
 finished_closed names rs items m e all = record {
   closed = λ n target named.

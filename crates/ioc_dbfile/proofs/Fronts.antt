@@ -8,6 +8,7 @@ use Rattle.ioc_dbtext.specs.declared.texts.End.{End}
 use Rattle.ioc_dbtext.specs.declared.texts.End.TheVariants.{Whole, BadMacro}
 use Rattle.ioc_dbtext.specs.Bytes.{behind_gap}
 use Rattle.ioc_dbtext.specs.Lines.{lines_of, line_text}
+use Rattle.ioc_dbtext.specs.Macros.{Defined}
 use Rattle.ioc_dbtext.specs.Lexing.{Lexeme, Cut, is_fault, token_at}
 use Rattle.ioc_dbtokens.specs.Tokens.{chain, tokens_in, tokens_before, tokens_of}
 use Rattle.ioc_dbtext.specs.Texts.{Expansion, onto_texts, last_text, expansion, most_bytes}
@@ -47,9 +48,9 @@ line_extends : (t : Bool) (room : ℕ) (o : Option (List ℕ)) (e f : Expansion)
 line_extends true room o e f h = stopped (last_text room o)
 line_extends false room o e f h = onto_extends o e f h
 
-expansion_extends : (room : ℕ) (ls ms : List (List ℕ)) → Extends (expansion room ls) (expansion room (ls ++ ms))
-expansion_extends room [] ms = extended [] (expansion room ms).texts (expansion room ms).end
-expansion_extends room (l ∷ ls) ms = line_extends (nat_lt room (length l)) room (line_text l) _ _ (expansion_extends (room - length l) ls ms)
+expansion_extends : (macros : List Defined) (room : ℕ) (ls ms : List (List ℕ)) → Extends (expansion macros room ls) (expansion macros room (ls ++ ms))
+expansion_extends macros room [] ms = extended [] (expansion macros room ms).texts (expansion macros room ms).end
+expansion_extends macros room (l ∷ ls) ms = line_extends (nat_lt room (length l)) room (line_text macros l) _ _ (expansion_extends macros (room - length l) ls ms)
 
 -- tokens that begin with these
 abbrev IsFront : List Lexeme → List Lexeme → Type 0
@@ -85,12 +86,12 @@ front_of_texts e f (extended texts others end) = tokens_front 1 texts others end
 front_of_texts e f (stopped x) = ([], append_nil (tokens_of x.end 1 x.texts))
 
 -- a fault in some lines is the fault of each text that begins with them
-pub fault_of_lines : {S : Type 0} (rules : Rules S) (s : S) (lines more : List ℕ) (e : DbFault) → ends_line lines ≡ true → filled_by rules s lines ≡ Err e → (e.kind ≡ kinds.OpenBody → ⊥) → filled_by rules s (lines ++ more) ≡ Err e
+pub fault_of_lines : {S : Type 0} (rules : Rules S) (s : S) (macros : List Defined) (lines more : List ℕ) (e : DbFault) → ends_line lines ≡ true → filled_by rules s macros lines ≡ Err e → (e.kind ≡ kinds.OpenBody → ⊥) → filled_by rules s macros (lines ++ more) ≡ Err e
 unfolding filled_by
-fault_of_lines rules s lines more e ends i inside =
-    let first = expansion most_bytes (lines_of lines) in
-    let all = expansion most_bytes (lines_of (lines ++ more)) in
-    let both : all ≡ expansion most_bytes (lines_of lines ++ lines_of more) = ap (expansion most_bytes) (lines_append lines more ends) in
+fault_of_lines rules s macros lines more e ends i inside =
+    let first = expansion macros most_bytes (lines_of lines) in
+    let all = expansion macros most_bytes (lines_of (lines ++ more)) in
+    let both : all ≡ expansion macros most_bytes (lines_of lines ++ lines_of more) = ap (expansion macros most_bytes) (lines_append lines more ends) in
     let front : IsFront (tokens_of first.end 1 first.texts) (tokens_of all.end 1 all.texts) =
-    front_of_texts first all (rw both (expansion_extends most_bytes (lines_of lines) (lines_of more))) in
+    front_of_texts first all (rw both (expansion_extends macros most_bytes (lines_of lines) (lines_of more))) in
     ap (filled rules (length all.texts) s) front.1 ∙ filled_local (length first.texts) (length all.texts) front.0 rules s (tokens_of first.end 1 first.texts) e i inside

@@ -13,9 +13,9 @@ use Rattle.ioc_fields.specs.declared.field_kind.FieldKind.TheVariants as kind
 use Rattle.ioc_fields.specs.declared.row.Row.{Row}
 use Rattle.ioc_fields.specs.Kinds.{link_kind_of}
 use Rattle.ioc_fields.specs.Table.{row_of}
-use Rattle.ioc_record.specs.declared.link_field.LinkField.{LinkField}
-use Rattle.ioc_record.specs.declared.link_field.Lead.TheVariants.{Nowhere}
-use Rattle.ioc_record.specs.Steps.{new_common}
+use Rattle.ioc_common.specs.declared.link_field.LinkField.{LinkField}
+use Rattle.ioc_common.specs.declared.link_field.Lead.TheVariants.{Nowhere}
+use Rattle.ioc_common.specs.Steps.{new_common}
 use Rattle.ioc_record.specs.Values.{field_sort, stored_if}
 use Rattle.ioc_record.specs.Loading.{constant_fits, set_value, link_set_to, set_by_kind, set_by, set_field}
 use Rattle.ioc_record.specs.Laws.{IsLawful}
@@ -129,7 +129,7 @@ unfolding new_common
 new-idle type name = record { active = refl; pending = refl }
 
 -- a map of records at the end of a load is quiet
-pub finished_quiet : (names : NameTable) (rs items : List Record) (m : OneMap Record) → m.records.items ≡ items → items ≡ map (finished record_rules names (map record_rules.record_type rs)) rs
+pub finished_quiet : {D : Type 0} (names : NameTable) (rs items : List Record) (m : OneMap Record D) → m.records.items ≡ items → items ≡ map (finished record_rules names (map record_rules.record_type rs)) rs
     → AllIdle record_rules rs → IsQuiet record_rules (world_of m)
 unfolding at
 finished_quiet names rs items m e all idle = record {

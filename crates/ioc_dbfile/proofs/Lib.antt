@@ -12,3 +12,4 @@ pub mod Idling
 pub mod Shrinking
 pub mod Saying
 pub mod OnLines
+pub mod ByHand

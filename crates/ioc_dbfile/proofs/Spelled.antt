@@ -155,13 +155,13 @@ module _ (gaps : ℕ → List ℕ) (spaces : (i : ℕ) → Each is_space (gaps i
       first_token line (gaps i) (spaces i) more b (bs ++ after) (record { token = lexeme line Word (b ∷ bs); rest = after }) (word_solid b h.0) (word_at line b bs after h (no_word (gaps (i + 1)) rest (spaces (i + 1))) (all_behind (gaps (i + 1)) rest (spaces (i + 1))))
       ∙ ap (λ (ts : List Lexeme). lexeme line Word (b ∷ bs) ∷ ts) (first_token line (gaps (i + 1)) (spaces (i + 1)) more 40 rest (record { token = lexeme line (Sign 40) []; rest = rest }) refl (sign_at line 40 rest refl))
 
-  pub pieces_tokens : (i : ℕ) (ps : List Piece) → Fine ps → tokens_before line (with_gaps gaps i ps) more ≡ lexemes line ps ++ more
-  pieces_tokens i [] h = no_token line (gaps i) (spaces i) more
+  pub pieces_tokens : (i : ℕ) (ps : List Piece) → Fine ps → tokens_before line (with_gaps gaps i ps []) more ≡ lexemes line ps ++ more
+  pieces_tokens i [] h = ap (λ (l : List ℕ). tokens_before line l more) (append_nil (gaps i)) ∙ no_token line (gaps i) (spaces i) more
   pieces_tokens i (Call word ∷ ps) h =
       call_tokens i word _ h.0 h.1 ∙ ap (λ (ts : List Lexeme). lexeme line Word word ∷ lexeme line (Sign 40) [] ∷ ts) (pieces_tokens (i + 2) ps h.2)
   pieces_tokens i (Mark b ∷ ps) h =
-      first_token line (gaps i) (spaces i) more b _ (record { token = lexeme line (Sign b) []; rest = with_gaps gaps (i + 1) ps }) (sign_solid b h.0) (sign_at line b _ h.0)
+      first_token line (gaps i) (spaces i) more b _ (record { token = lexeme line (Sign b) []; rest = with_gaps gaps (i + 1) ps [] }) (sign_solid b h.0) (sign_at line b _ h.0)
       ∙ ap (λ (ts : List Lexeme). lexeme line (Sign b) [] ∷ ts) (pieces_tokens (i + 1) ps h.1)
   pieces_tokens i (Text text ∷ ps) h =
-      first_token line (gaps i) (spaces i) more 34 _ (record { token = lexeme line Quoted (escaped_of text); rest = with_gaps gaps (i + 1) ps }) refl (text_at line text _)
+      first_token line (gaps i) (spaces i) more 34 _ (record { token = lexeme line Quoted (escaped_of text); rest = with_gaps gaps (i + 1) ps [] }) refl (text_at line text _)
       ∙ ap (λ (ts : List Lexeme). lexeme line Quoted (escaped_of text) ∷ ts) (pieces_tokens (i + 1) ps h.1)

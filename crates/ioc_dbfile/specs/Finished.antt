@@ -8,15 +8,16 @@ use Rattle.ioc_links.specs.declared.link.Target.{Target}
 use Rattle.ioc_fields.specs.declared.record_type.RecordType.{RecordType}
 use Rattle.ioc_fields.specs.declared.field_no.FieldNo.{FieldNo}
 use Rattle.ioc_fields.specs.Names.{field_of}
-use Rattle.ioc_record.specs.declared.link_field.LinkField.{LinkField}
-use Rattle.ioc_record.specs.declared.link_field.FieldAddress.{FieldAddress}
-use Rattle.ioc_record.specs.declared.link_field.Lead.{Lead}
-use Rattle.ioc_record.specs.declared.link_field.Lead.TheVariants.{Nowhere, Field}
+use Rattle.ioc_common.specs.declared.link_field.LinkField.{LinkField}
+use Rattle.ioc_common.specs.declared.link_field.FieldAddress.{FieldAddress}
+use Rattle.ioc_common.specs.declared.link_field.Lead.{Lead}
+use Rattle.ioc_common.specs.declared.link_field.Lead.TheVariants.{Nowhere, Field}
 use Rattle.ioc_fields.specs.Table.{is_link}
 use Rattle.ioc_record.specs.RecordRules.{RecordRules}
 use Rattle.ioc_values.specs.declared.error.DbFault.{DbFault}
 use Rattle.ioc_dbfile.specs.Statements.{◌>>=◌}
 use Rattle.ioc_dbfile.specs.Loader.{Loading, loading}
+use Rattle.ioc_dbtext.specs.Macros.{Defined}
 use Rattle.ioc_dbfile.specs.Loading.{filled_by}
 
 -- a field that a link can lead to: one that is there and no link field itself
@@ -71,6 +72,6 @@ module _ {R : Type 0} (k : RecordRules R) where
   abbrev pub all_finished : Loading R → Loading R
   all_finished s = record { names = s.names; records = map (finished s.names (map k.record_type s.records)) s.records }
 
-  -- the database of a text, or its first fault
-  unfoldable pub loaded_by : (RecordType → List ℕ → R) → List ℕ → Result (Loading R) DbFault
-  loaded_by created text = filled_by (loading k created) (record { names = no_names; records = [] }) text >>= λ s. Ok (all_finished s)
+  -- the database of a text by these macros, or its first fault
+  unfoldable pub loaded_by : (RecordType → List ℕ → R) → List Defined → List ℕ → Result (Loading R) DbFault
+  loaded_by created macros text = filled_by (loading k created) (record { names = no_names; records = [] }) macros text >>= λ s. Ok (all_finished s)

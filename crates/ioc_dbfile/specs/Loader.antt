@@ -1,16 +1,19 @@
 -- A database that is being loaded: its names, and its records by number.
 -- EPICS Application Developer's Guide, "Database Definition", "Record Instance Definition".
-use Rattle.std.specs.Prelude.{ℕ, List, [], ◌∷◌, ◌++◌, Option, Some, None, Result, Ok, Err, nat_lt, slice_get, slice_set, refl, if◌then◌else◌}
+use Rattle.std.specs.Prelude.{ℕ, Bool, nat_eq, List, [], ◌∷◌, ◌++◌, Option, Some, None, Result, Ok, Err, nat_lt, slice_get, slice_set, refl, if◌then◌else◌}
+use Rattle.std.specs.Cmp.Lexicographic.{pointwise}
 use Rattle.std.specs.Coded.{Coded, code_by, coded×, coded_list}
 use Rattle.ioc_values.specs.declared.error.BadDbKind.{BadDbKind}
 use Rattle.ioc_values.specs.declared.error.BadDbKind.TheVariants as kinds
 use Rattle.ioc_values.specs.declared.error.IocError.{IocError}
 use Rattle.ioc_values.specs.declared.error.IocError.TheVariants as refusals
-use Rattle.ioc_names.specs.NameTable.{NameTable, table_code, number_of, added}
+use Rattle.ioc_dbfile.specs.declared.builder.BuildError.{BuildError}
+use Rattle.ioc_dbfile.specs.declared.builder.BuildError.TheVariants.{Memory, Refused}
+use Rattle.ioc_names.specs.NameTable.{NameTable, table_code, number_of, added, aliased}
 use Rattle.ioc_links.specs.Grammar.{is_record_name}
 use Rattle.ioc_fields.specs.declared.record_type.RecordType.{RecordType}
 use Rattle.ioc_fields.specs.declared.field_no.FieldNo.{FieldNo}
-use Rattle.ioc_fields.specs.Types.{type_of}
+use Rattle.ioc_fields.specs.Types.{type_name, type_of}
 use Rattle.ioc_fields.specs.Names.{field_of}
 use Rattle.ioc_fields.specs.Table.{can_set}
 use Rattle.ioc_record.specs.RecordRules.{RecordRules}
@@ -31,6 +34,10 @@ loading_code {R} c =
 unfoldable pub most_records : ℕ
 most_records = 131072
 
+-- two record types are one
+unfoldable pub same_type : RecordType → RecordType → Bool
+same_type a b = pointwise nat_eq (type_name a) (type_name b)
+
 -- what is wrong with a database text where a field can't be set
 abbrev pub kind_of_refusal : IocError → BadDbKind
 kind_of_refusal refusals.NoField = kinds.BadField
@@ -38,16 +45,45 @@ kind_of_refusal refusals.NoMod = kinds.NoMod
 kind_of_refusal refusals.BadLink = kinds.BadLink
 kind_of_refusal _ = kinds.BadValue
 
+-- why a database did not take what a field was to be set to: want of memory, or what is wrong with it
+abbrev pub build_error : IocError → BuildError
+build_error refusals.NoMemory = Memory
+build_error refusal = Refused (kind_of_refusal refusal)
+
 module _ {R : Type 0} (k : RecordRules R) (created : RecordType → List ℕ → R) where
-  -- a record of this name, where no other has it
-  abbrev pub add_free : RecordType → List ℕ → Loading R → Option ℕ → Result (ℕ × Loading R) BadDbKind
-  add_free kind name s (Some n) = Err kinds.Duplicate
-  add_free kind name s None =
+  -- what isn't there is refused so
+  abbrev pub or_kind : {A : Type 0} → BadDbKind → Option A → Result A BadDbKind
+  or_kind kind (Some x) = Ok x
+  or_kind kind None = Err kind
+
+  -- the record of this name or alias: a name that is none comes before one that no record has
+  unfoldable pub find_record : List ℕ → Loading R → Result ℕ BadDbKind
+  find_record name s = if is_record_name name then or_kind kinds.NoRecord (number_of s.names name) else Err kinds.BadName
+
+  -- a record that is there gets more fields, where it has this type
+  abbrev pub add_more : RecordType → Loading R → ℕ → Option R → Result (ℕ × Loading R) BadDbKind
+  add_more kind s n None = Err kinds.Duplicate
+  add_more kind s n (Some r) = if same_type kind (k.record_type r) then Ok (n, s) else Err kinds.Duplicate
+
+  -- the record of this name, or a new one where no record has it
+  abbrev pub add_by : RecordType → List ℕ → Loading R → Option ℕ → Result (ℕ × Loading R) BadDbKind
+  add_by kind name s (Some n) = add_more kind s n (slice_get s.records n)
+  add_by kind name s None =
       if nat_lt s.names.count most_records then Ok (s.names.count, record { names = added s.names name; records = s.records ++ created kind name ∷ [] }) else Err kinds.TooMany
 
-  -- a record of this name: a name that is none comes first, then one that is taken, then one too many
+  -- the record of this type and name: a name that is none comes first, then one that a record of another type has, then
+  -- a record too many
   unfoldable pub add_record : RecordType → List ℕ → Loading R → Result (ℕ × Loading R) BadDbKind
-  add_record kind name s = if is_record_name name then add_free kind name s (number_of s.names name) else Err kinds.BadName
+  add_record kind name s = if is_record_name name then add_by kind name s (number_of s.names name) else Err kinds.BadName
+
+  -- a second name that no record has yet
+  abbrev pub alias_by : ℕ → List ℕ → Loading R → Option ℕ → Result (Loading R) BadDbKind
+  alias_by n name s (Some m) = Err kinds.Duplicate
+  alias_by n name s None = if nat_lt n s.names.count then Ok (record { names = aliased s.names n name; records = s.records }) else Err kinds.NoRecord
+
+  -- a second name for the record of this number: a name that is none comes before one that is taken
+  unfoldable pub alias_record : ℕ → List ℕ → Loading R → Result (Loading R) BadDbKind
+  alias_record n name s = if is_record_name name then alias_by n name s (number_of s.names name) else Err kinds.BadName
 
   -- a field that a database text may set
   abbrev pub settable : RecordType → Option FieldNo → Result FieldNo BadDbKind
@@ -79,4 +115,4 @@ module _ {R : Type 0} (k : RecordRules R) (created : RecordType → List ℕ →
 
   -- what statements do to a database that is being loaded
   abbrev pub loading : Rules (Loading R)
-  loading = record { type_of = type_of; add = add_record; field_of = find_field; set = set_at }
+  loading = record { type_of = type_of; find = find_record; add = add_record; alias = alias_record; field_of = find_field; set = set_at }

@@ -10,8 +10,12 @@ use Rattle.ioc_dbfile.specs.declared.builder.BuildError.TheVariants.{Memory, Ref
 pub record Rules (S : Type 0) : Type 0 where
   -- the record type of this name
   pub type_of : List ℕ → Option RecordType
-  -- the number of a new record of this name, and the database with it
+  -- the number of the record that has this name or alias
+  pub find : List ℕ → S → Result ℕ BadDbKind
+  -- the number of the record of this type that has this name or alias, and the database with it: a new one where none has
   pub add : RecordType → List ℕ → S → Result (ℕ × S) BadDbKind
+  -- the database with a second name for the record of this number
+  pub alias : ℕ → List ℕ → S → Result S BadDbKind
   -- the field of this name, where the record of this number has it and it may be set
   pub field_of : ℕ → List ℕ → S → Result FieldNo BadDbKind
   -- the database with a field of a record set to what the text says

@@ -1,6 +1,6 @@
 -- The database that statements make, or the first fault.
 -- EPICS Application Developer's Guide, "Database Definition", "Record Instance Definition".
-use Rattle.std.specs.Prelude.{◌≡◌, ℕ, zero, suc, ◌+◌, length, Bool, true, false, List, [], ◌∷◌, codes, Option, Some, None, Result, Ok, Err, nat_eq, ◌==◌, ◌&&◌, ◌||◌, if◌then◌else◌}
+use Rattle.std.specs.Prelude.{◌≡◌, ℕ, zero, suc, ◌+◌, length, Bool, true, false, List, [], ◌∷◌, codes, Option, Some, None, option_map, Result, Ok, Err, nat_eq, ◌==◌, ◌&&◌, ◌||◌, if◌then◌else◌}
 use Rattle.std.specs.Cmp.Lexicographic.{pointwise}
 use Rattle.ioc_values.specs.declared.error.BadDbKind.{BadDbKind}
 use Rattle.ioc_values.specs.declared.error.BadDbKind.TheVariants as kinds
@@ -109,6 +109,10 @@ unfoldable pub is_left_out : Lexeme → Bool
 is_left_out token =
     is_word (codes "menu") token || (is_word (codes "recordtype") token || (is_word (codes "device") token || (is_word (codes "driver") token || (is_word (codes "include") token || (is_word (codes "path") token || (is_word (codes "addpath") token || (is_word (codes "breaktable") token || (is_word (codes "registrar") token || (is_word (codes "function") token || (is_word (codes "variable") token || is_word (codes "link") token))))))))))
 
+-- a word that begins a record
+unfoldable pub begins_record : Lexeme → Bool
+begins_record token = is_word (codes "record") token || is_word (codes "grecord") token
+
 -- what begins no statement
 abbrev pub refused_word : Lexeme → BadDbKind
 refused_word token = if is_left_out token then kinds.LeftOut else kinds.Syntax
@@ -150,41 +154,92 @@ module _ {S : Type 0} (rules : Rules S) where
     closed ← expect 41 last changed.1
     Ok (changed.0, closed)
 
+  -- (K, V) of info(K, V), which plays no part
+  unfoldable pub info_at : ℕ → S → List Lexeme → Result (S × List Lexeme) DbFault
+  info_at last s tokens = do
+    opened ← expect 40 last tokens
+    key ← value_at last opened
+    comma ← expect 44 last key.1
+    value ← value_at last comma
+    closed ← expect 41 last value.1
+    Ok (s, closed)
+
+  -- A, a second name of the record of this number
+  unfoldable pub second_at : ℕ → ℕ → S → List Lexeme → Result (S × List Lexeme) DbFault
+  second_at last number s tokens = do
+    token ← value_at last tokens
+    changed ← on_line token.0.line (rules.alias number (text_of false token.0) s)
+    Ok (changed, token.1)
+
+  -- (A) of alias(A)
+  unfoldable pub alias_in : ℕ → ℕ → S → List Lexeme → Result (S × List Lexeme) DbFault
+  alias_in last number s tokens = do
+    opened ← expect 40 last tokens
+    changed ← second_at last number s opened
+    closed ← expect 41 last changed.1
+    Ok (changed.0, closed)
+
   -- there may be more behind it
   abbrev pub with_more : S × List Lexeme → Result (Bool × S × List Lexeme) DbFault
   with_more r = Ok (true, r.0, r.1)
 
-  -- `}`, or `field` with what follows it
+  -- `field`, `info` or `alias` with what follows it
+  unfoldable pub entry_of : ℕ → ℕ → S → Lexeme × List Lexeme → Result (S × List Lexeme) DbFault
+  entry_of last number s token =
+      if is_word (codes "field") token.0 then setting_at last number s token.1
+      else (if is_word (codes "info") token.0 then info_at last s token.1
+      else (if is_word (codes "alias") token.0 then alias_in last number s token.1 else Err (at token.0.line kinds.Syntax)))
+
+  -- `}`, or an entry
   abbrev pub entry_by : ℕ → ℕ → S → Lexeme × List Lexeme → Result (Bool × S × List Lexeme) DbFault
-  entry_by last number s token =
-      if is_sign_of 125 token.0.kind then Ok (false, s, token.1)
-      else (if is_word (codes "field") token.0 then (setting_at last number s token.1 >>= with_more) else Err (at token.0.line kinds.Syntax))
+  entry_by last number s token = if is_sign_of 125 token.0.kind then Ok (false, s, token.1) else (entry_of last number s token >>= with_more)
 
   -- one entry of a body
   unfoldable pub entry_at : ℕ → ℕ → S → List Lexeme → Result (Bool × S × List Lexeme) DbFault
   entry_at last number s tokens = next_at last tokens >>= entry_by last number s
 
-  -- field(F, V) .. }
+  -- field(F, V) info(K, V) alias(A) .. }
   abbrev pub body_at : ℕ → ℕ → ℕ → S → List Lexeme → Result (S × List Lexeme) DbFault
   body_at turns last number s tokens = repeated (entry_at last number) (at last kinds.OpenBody) turns s tokens
 
-  -- TYPE
-  unfoldable pub type_at : ℕ → List Lexeme → Result (RecordType × List Lexeme) DbFault
-  type_at last tokens = do
-    token ← value_at last tokens
-    kind ← or_fault (at token.0.line kinds.BadType) (rules.type_of (text_of false token.0))
-    Ok (kind, token.1)
+  -- { .. }, which may be missing
+  unfoldable pub braces_at : ℕ → ℕ → ℕ → S → List Lexeme → Result (S × List Lexeme) DbFault
+  braces_at turns last number s [] = Ok (s, [])
+  braces_at turns last number s (token ∷ rest) = if is_sign_of 123 token.kind then body_at turns last number s rest else Ok (s, token ∷ rest)
 
-  -- a record that was added, or why it could not be
+  -- the type that a text names: none for *, which stands for whatever type the record has
+  unfoldable pub named_type : List ℕ → Option (Option RecordType)
+  named_type text = if pointwise nat_eq text (codes "*") then Some None else option_map Some (rules.type_of text)
+
+  -- TYPE
+  abbrev pub type_by : Lexeme × List Lexeme → Result (Option RecordType × List Lexeme) DbFault
+  type_by token =
+      if is_sign_of 42 token.0.kind then Ok (None, token.1)
+      else (if is_value token.0.kind then (or_fault (at token.0.line kinds.BadType) (named_type (text_of false token.0)) >>= λ kind. Ok (kind, token.1)) else Err (at token.0.line kinds.Syntax))
+
+  unfoldable pub type_at : ℕ → List Lexeme → Result (Option RecordType × List Lexeme) DbFault
+  type_at last tokens = next_at last tokens >>= type_by
+
+  -- a record that is there, in a database that stays
+  abbrev pub in_place : S → Result ℕ BadDbKind → Result (ℕ × S) BadDbKind
+  in_place s (Ok number) = Ok (number, s)
+  in_place s (Err kind) = Err kind
+
+  -- the record of this type and name; one of whatever type must be there
+  abbrev pub opened : Option RecordType → List ℕ → S → Result (ℕ × S) BadDbKind
+  opened None name s = in_place s (rules.find name s)
+  opened (Some kind) name s = rules.add kind name s
+
+  -- a record that was found or added, or why it could not be
   abbrev pub named : ℕ → Lexeme × List Lexeme → Result (ℕ × S) BadDbKind → Result (ℕ × S × List Lexeme) DbFault
   named begun token (Ok added) = Ok (added.0, added.1, token.1)
   named begun token (Err kind) = Err (at (name_line begun token.0.line kind) kind)
 
   -- NAME
-  unfoldable pub name_at : ℕ → ℕ → RecordType → S → List Lexeme → Result (ℕ × S × List Lexeme) DbFault
+  unfoldable pub name_at : ℕ → ℕ → Option RecordType → S → List Lexeme → Result (ℕ × S × List Lexeme) DbFault
   name_at last begun kind s tokens = do
     token ← value_at last tokens
-    named begun token (rules.add kind (text_of false token.0) s)
+    named begun token (opened kind (text_of false token.0) s)
 
   -- (TYPE, NAME) { .. }
   unfoldable pub record_at : ℕ → ℕ → ℕ → S → List Lexeme → Result (S × List Lexeme) DbFault
@@ -194,13 +249,33 @@ module _ {S : Type 0} (rules : Rules S) where
     comma ← expect 44 last kind.1
     name ← name_at last begun kind.0 s comma
     closed ← expect 41 last name.2
-    body ← expect 123 last closed
-    body_at turns last name.0 name.1 body
+    braces_at turns last name.0 name.1 closed
 
-  -- `record` with what follows it
+  -- NAME of alias(NAME, A)
+  unfoldable pub found_at : ℕ → S → List Lexeme → Result (ℕ × List Lexeme) DbFault
+  found_at last s tokens = do
+    token ← value_at last tokens
+    number ← on_line token.0.line (rules.find (text_of false token.0) s)
+    Ok (number, token.1)
+
+  -- (NAME, A)
+  unfoldable pub alias_at : ℕ → S → List Lexeme → Result (S × List Lexeme) DbFault
+  alias_at last s tokens = do
+    opened ← expect 40 last tokens
+    found ← found_at last s opened
+    comma ← expect 44 last found.1
+    changed ← second_at last found.0 s comma
+    closed ← expect 41 last changed.1
+    Ok (changed.0, closed)
+
+  -- `record`, `grecord` or `alias` with what follows it
+  unfoldable pub statement_of : ℕ → ℕ → S → Lexeme × List Lexeme → Result (S × List Lexeme) DbFault
+  statement_of turns last s token =
+      if begins_record token.0 then record_at turns last token.0.line s token.1
+      else (if is_word (codes "alias") token.0 then alias_at last s token.1 else Err (at token.0.line (refused_word token.0)))
+
   abbrev pub statement_by : ℕ → ℕ → S → Lexeme × List Lexeme → Result (Bool × S × List Lexeme) DbFault
-  statement_by turns last s token =
-      if is_word (codes "record") token.0 then (record_at turns last token.0.line s token.1 >>= with_more) else Err (at token.0.line (refused_word token.0))
+  statement_by turns last s token = statement_of turns last s token >>= with_more
 
   -- one statement: none at the text's end
   unfoldable pub statement_at : ℕ → ℕ → S → List Lexeme → Result (Bool × S × List Lexeme) DbFault

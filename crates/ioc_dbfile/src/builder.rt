@@ -41,13 +41,30 @@ pub trait Builder {
     fn type_of(&self, name: &[u8]) -> Option<RecordType>
         ensures { result ≡ rules.type_of name.now };
 
-    /// Adds a record of this name, with no field set, and gives its number.
+    /// The number of the record that has this name or alias.
+    ///
+    /// # Errors
+    ///
+    /// What is wrong with the name: it is none, or no record has it.
+    fn find(&self, name: &[u8]) -> Result<RecordNo, BadDbKind>
+        ensures { Allows (λ n. n) result (rules.find name.now self.now) };
+
+    /// The number of the record of this type that has this name or alias. Where no record has it, one is added with no
+    /// field set.
     ///
     /// # Errors
     ///
     /// [`BuildError::Refused`] where the rules refuse the name, and [`BuildError::Memory`] where a growth was refused.
     fn add(&mut self, record_type: RecordType, name: &[u8]) -> Result<RecordNo, BuildError>
         ensures { Builds (λ n. (n, self.new)) result (rules.add record_type name.now self.old) };
+
+    /// The record of this number gets a second name.
+    ///
+    /// # Errors
+    ///
+    /// [`BuildError::Refused`] where the rules refuse the name, and [`BuildError::Memory`] where a growth was refused.
+    fn alias(&mut self, number: RecordNo, name: &[u8]) -> Result<(), BuildError>
+        ensures { Builds (λ _. self.new) result (rules.alias number name.now self.old) };
 
     /// The field of this name, where the record has it and it may be set.
     ///
@@ -61,7 +78,7 @@ pub trait Builder {
     ///
     /// # Errors
     ///
-    /// What is wrong with the text.
-    fn set(&mut self, number: RecordNo, field: FieldNo, value: &[u8]) -> Result<(), BadDbKind>
-        ensures { Allows (λ _. self.new) result (rules.set number field value.now self.old) };
+    /// [`BuildError::Refused`] with what is wrong with the text, and [`BuildError::Memory`] where a growth was refused.
+    fn set(&mut self, number: RecordNo, field: FieldNo, value: &[u8]) -> Result<(), BuildError>
+        ensures { Builds (λ _. self.new) result (rules.set number field value.now self.old) };
 }

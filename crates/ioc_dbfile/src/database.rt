@@ -6,7 +6,7 @@ ghost use Rattle.ioc_process.specs.Rules.{IsQuiet};
 
 use crate::finish::finish_all;
 use ioc_names::Names;
-use ioc_process::one_map::OneMap;
+use ioc_process::{OneMap, Unwired};
 use ioc_types::Record;
 use std::alloc::{AllocError, Global};
 
@@ -14,7 +14,7 @@ use std::alloc::{AllocError, Global};
 #[derive(Drop)]
 pub struct Database {
     pub names: Names,
-    pub map: OneMap<Record>,
+    pub map: OneMap<Record, Unwired>,
     ghost closed: { IsClosed record_rules (world_of map) },
     ghost quiet: { IsQuiet record_rules (world_of map) },
 }
@@ -33,7 +33,7 @@ impl Database {
     {
         let mut records = records;
         finish_all(alloc, &names, records.as_mut_slice())?;
-        let map = OneMap::new(records);
+        let map = OneMap::new(records, Vec::new(alloc));
         Ok(Database { names, map })
     }
 }

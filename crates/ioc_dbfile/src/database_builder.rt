@@ -1,7 +1,7 @@
 //! The database that statements fill.
 ghost use Rattle.std.specs.Prelude.{◌≡◌, ◌↔◌, [], true, IsSome, IfSome, IfOk};
 ghost use Rattle.ioc_links.specs.Grammar.{is_record_name};
-ghost use Rattle.ioc_dbfile.specs.Loader.{kind_of_refusal};
+ghost use Rattle.ioc_dbfile.specs.Loader.{same_type, kind_of_refusal, build_error};
 ghost use Rattle.ioc_names.specs.NameTable.{no_names};
 
 use crate::builder::{BuildError, Builder};
@@ -69,6 +69,16 @@ impl DatabaseBuilder {
     }
 }
 
+/// Why the database did not take what a field was to be set to.
+fn build_error(refusal: IocError) -> BuildError
+    ensures { result ≡ build_error refusal }
+{
+    match refusal {
+        IocError::NoMemory => BuildError::Memory,
+        _ => BuildError::Refused(kind_of_refusal(refusal)),
+    }
+}
+
 /// What is wrong with a database text where a field can't be set.
 fn kind_of_refusal(refusal: IocError) -> BadDbKind
     ensures { result ≡ kind_of_refusal refusal }
@@ -81,7 +91,7 @@ fn kind_of_refusal(refusal: IocError) -> BadDbKind
     }
 }
 
-#[tactic(auto, unfolding(crate::specs::Loader::add_record, crate::specs::Loader::find_field, crate::specs::Loader::set_at, crate::specs::Loader::most_records))]
+#[tactic(auto, unfolding(crate::specs::Loader::find_record, crate::specs::Loader::add_record, crate::specs::Loader::alias_record, crate::specs::Loader::find_field, crate::specs::Loader::set_at, crate::specs::Loader::most_records))]
 impl Builder for DatabaseBuilder {
     ghost use Rattle.ioc_dbfile.specs.Loader.{loading};
     ghost use Rattle.ioc_types.specs.Record.{record_rules, new_record};
@@ -92,12 +102,28 @@ impl Builder for DatabaseBuilder {
         RecordType::from_name(name)
     }
 
+    fn find(&self, name: &[u8]) -> Result<RecordNo, BadDbKind> {
+        if !is_record_name(name) {
+            return Err(BadDbKind::BadName);
+        }
+        match self.names.find(name) {
+            Some(number) => Ok(number),
+            None => Err(BadDbKind::NoRecord),
+        }
+    }
+
     fn add(&mut self, record_type: RecordType, name: &[u8]) -> Result<RecordNo, BuildError> {
         let Some(short) = valid_name(name) else {
             return Err(BuildError::Refused(BadDbKind::BadName));
         };
-        if self.names.find(name).is_some() {
-            return Err(BuildError::Refused(BadDbKind::Duplicate));
+        if let Some(number) = self.names.find(name) {
+            let Some(record) = self.records.get(number.index()) else {
+                return Err(BuildError::Refused(BadDbKind::Duplicate));
+            };
+            if !same_type(record_type, record.record_type()) {
+                return Err(BuildError::Refused(BadDbKind::Duplicate));
+            }
+            return Ok(number);
         }
         if self.names.len() >= MAX_RECORDS {
             return Err(BuildError::Refused(BadDbKind::TooMany));
@@ -105,6 +131,20 @@ impl Builder for DatabaseBuilder {
         push_new(self.alloc, &mut self.records, record_type, short)?;
         let number = self.names.add(short)?;
         Ok(number)
+    }
+
+    fn alias(&mut self, number: RecordNo, name: &[u8]) -> Result<(), BuildError> {
+        let Some(short) = valid_name(name) else {
+            return Err(BuildError::Refused(BadDbKind::BadName));
+        };
+        if self.names.find(name).is_some() {
+            return Err(BuildError::Refused(BadDbKind::Duplicate));
+        }
+        if number.index() >= self.names.len() {
+            return Err(BuildError::Refused(BadDbKind::NoRecord));
+        }
+        self.names.alias(number, short)?;
+        Ok(())
     }
 
     fn field_of(&self, number: RecordNo, name: &[u8]) -> Result<FieldNo, BadDbKind> {
@@ -121,16 +161,24 @@ impl Builder for DatabaseBuilder {
         Ok(found)
     }
 
-    fn set(&mut self, number: RecordNo, field: FieldNo, value: &[u8]) -> Result<(), BadDbKind> {
+    fn set(&mut self, number: RecordNo, field: FieldNo, value: &[u8]) -> Result<(), BuildError> {
         let place = number.index();
         if place >= self.records.len() {
-            return Err(BadDbKind::BadValue);
+            return Err(BuildError::Refused(BadDbKind::BadValue));
         }
-        if let Err(refusal) = set_field(&mut self.records[place], field, value) {
-            return Err(kind_of_refusal(refusal));
+        if let Err(refusal) = set_field(self.alloc, &mut self.records[place], field, value) {
+            return Err(build_error(refusal));
         }
         Ok(())
     }
+}
+
+/// Whether two record types are one.
+#[tactic(auto, unfolding(crate::specs::Loader::same_type))]
+fn same_type(a: RecordType, b: RecordType) -> bool
+    ensures { result ≡ same_type a b }
+{
+    a.name().as_bytes() == b.name().as_bytes()
 }
 
 /// The name, where it is one.

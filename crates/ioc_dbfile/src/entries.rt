@@ -1,9 +1,11 @@
 //! What stands between the braces of a record.
 ghost use Rattle.std.specs.Prelude.{◌≡◌};
-ghost use Rattle.ioc_dbfile.specs.Statements.{Gives, Fails, field_at, set_at, setting_at, entry_at, body_at};
+ghost use Rattle.ioc_dbfile.specs.Statements.{Gives, Fails, field_at, set_at, setting_at, info_at, second_at, alias_in, entry_of, entry_at, body_at, braces_at};
+ghost use Rattle.ioc_dbtext.specs.SeenToken.{seen};
 
-use crate::builder::Builder;
+use crate::builder::{BuildError, Builder};
 use crate::words::{expect, fault, is_sign_of, is_word, next_at, text_of, value_at};
+use ioc_dbtext::Token;
 use ioc_dbtokens::Tokens;
 use ioc_fields::FieldNo;
 use ioc_names::RecordNo;
@@ -45,7 +47,8 @@ fn set_at<B: Builder>(
     let value = text_of(alloc, true, &token)?;
     match builder.set(number, field, value.as_slice()) {
         Ok(()) => Ok(()),
-        Err(kind) => Err(fault(token.line, kind)),
+        Err(BuildError::Memory) => Err(IocError::NoMemory),
+        Err(BuildError::Refused(kind)) => Err(fault(token.line, kind)),
     }
 }
 
@@ -68,7 +71,81 @@ fn setting_at<B: Builder>(
     Ok(())
 }
 
-/// `field` and what follows it: whether there may be more, which is not so behind the closing brace.
+/// `(K, V)` of `info(K, V)`, which plays no part.
+#[tactic(auto, unfolding(crate::specs::Statements::info_at))]
+fn info_at<B: Builder>(last: u64, _builder: &B, tokens: &mut Tokens<'_>) -> Result<(), IocError>
+    ensures { Gives (λ _. (_builder.now, tokens.new)) result (info_at B.rules last _builder.now tokens.old) }
+{
+    expect(b'(', last, tokens)?;
+    value_at(last, tokens)?;
+    expect(b',', last, tokens)?;
+    value_at(last, tokens)?;
+    expect(b')', last, tokens)?;
+    Ok(())
+}
+
+/// A, a second name of a record.
+#[tactic(auto, unfolding(crate::specs::Statements::second_at))]
+pub fn second_at<B: Builder>(
+    alloc: Global,
+    last: u64,
+    number: RecordNo,
+    builder: &mut B,
+    tokens: &mut Tokens<'_>,
+) -> Result<(), IocError>
+    ensures { Gives (λ _. (builder.new, tokens.new)) result (second_at B.rules last number builder.old tokens.old) }
+{
+    let token = value_at(last, tokens)?;
+    let name = text_of(alloc, false, &token)?;
+    match builder.alias(number, name.as_slice()) {
+        Ok(()) => Ok(()),
+        Err(BuildError::Memory) => Err(IocError::NoMemory),
+        Err(BuildError::Refused(kind)) => Err(fault(token.line, kind)),
+    }
+}
+
+/// `(A)` of `alias(A)`.
+#[tactic(auto, unfolding(crate::specs::Statements::alias_in))]
+fn alias_in<B: Builder>(
+    alloc: Global,
+    last: u64,
+    number: RecordNo,
+    builder: &mut B,
+    tokens: &mut Tokens<'_>,
+) -> Result<(), IocError>
+    ensures { Gives (λ _. (builder.new, tokens.new)) result (alias_in B.rules last number builder.old tokens.old) }
+{
+    expect(b'(', last, tokens)?;
+    second_at(alloc, last, number, builder, tokens)?;
+    expect(b')', last, tokens)?;
+    Ok(())
+}
+
+/// What follows the first word of an entry.
+#[tactic(auto, unfolding(crate::specs::Statements::entry_of))]
+fn entry_of<B: Builder>(
+    alloc: Global,
+    last: u64,
+    number: RecordNo,
+    token: &Token<'_>,
+    builder: &mut B,
+    tokens: &mut Tokens<'_>,
+) -> Result<(), IocError>
+    ensures { Gives (λ _. (builder.new, tokens.new)) result (entry_of B.rules last number builder.old (seen token.now, tokens.old)) }
+{
+    if is_word(b"field", token) {
+        return setting_at(alloc, last, number, builder, tokens);
+    }
+    if is_word(b"info", token) {
+        return info_at(last, &*builder, tokens);
+    }
+    if is_word(b"alias", token) {
+        return alias_in(alloc, last, number, builder, tokens);
+    }
+    Err(fault(token.line, BadDbKind::Syntax))
+}
+
+/// An entry: whether there may be more, which is not so behind the closing brace.
 #[tactic(auto, unfolding(crate::specs::Statements::entry_at))]
 fn entry_at<B: Builder>(
     alloc: Global,
@@ -83,15 +160,12 @@ fn entry_at<B: Builder>(
     if is_sign_of(b'}', token.kind) {
         return Ok(false);
     }
-    if !is_word(b"field", &token) {
-        return Err(fault(token.line, BadDbKind::Syntax));
-    }
-    setting_at(alloc, last, number, builder, tokens)?;
+    entry_of(alloc, last, number, &token, builder, tokens)?;
     Ok(true)
 }
 
-/// What stands between the braces: at most that many fields.
-pub fn body_at<B: Builder>(
+/// What stands between the braces: at most that many entries.
+fn body_at<B: Builder>(
     alloc: Global,
     turns: u64,
     last: u64,
@@ -107,4 +181,26 @@ pub fn body_at<B: Builder>(
         }
     }
     Err(fault(last, BadDbKind::OpenBody))
+}
+
+/// What stands between braces, where they are not missing.
+#[tactic(auto, unfolding(crate::specs::Statements::braces_at))]
+pub fn braces_at<B: Builder>(
+    alloc: Global,
+    turns: u64,
+    last: u64,
+    number: RecordNo,
+    builder: &mut B,
+    tokens: &mut Tokens<'_>,
+) -> Result<(), IocError>
+    ensures { Gives (λ _. (builder.new, tokens.new)) result (braces_at B.rules turns last number builder.old tokens.old) }
+{
+    let Some(token) = tokens.peek() else {
+        return Ok(());
+    };
+    if !is_sign_of(b'{', token.kind) {
+        return Ok(());
+    }
+    tokens.next();
+    body_at(alloc, turns, last, number, builder, tokens)
 }

@@ -4,10 +4,11 @@ ghost use Rattle.ioc_types.specs.Record.{record_rules};
 ghost use Rattle.ioc_fields.specs.Table.{is_link_kind};
 ghost use Rattle.ioc_dbfile.specs.Finished.{standing_of, leads_to, linked, linked_all, finished};
 
+use ioc_common::{FieldAddress, KeptLink, Lead, LinkField};
 use ioc_fields::{FieldKind, FieldNo, RecordType, field, kind_of};
 use ioc_links::{Link, Target};
 use ioc_names::Names;
-use ioc_record::{FieldAddress, Lead, LinkField, RecordKind};
+use ioc_record::RecordKind;
 use ioc_types::Record;
 use std::alloc::{AllocError, Global};
 
@@ -45,36 +46,57 @@ fn leads_to(names: &Names, types: &[RecordType], link: &Link) -> Lead
 
 /// Decides where a link field leads.
 #[tactic(auto, unfolding(crate::specs::Finished::linked))]
-fn link_one(names: &Names, types: &[RecordType], field: FieldNo, item: &mut Record)
-    ensures { item.new ≡ linked record_rules names.now types.now field item.old }
+fn link_one(
+    alloc: Global,
+    names: &Names,
+    types: &[RecordType],
+    field: FieldNo,
+    item: &mut Record,
+) -> Result<(), AllocError>
+    ensures { OnOk result (item.new ≡ linked record_rules names.now types.now field item.old) }
 {
-    let Some(found) = item.link(field).copied() else {
-        return;
+    let Some(found) = item.link(field) else {
+        return Ok(());
     };
-    let link = found.link;
+    let link = found.get().link;
     let lead = leads_to(names, types, &link);
-    item.set_link(field, LinkField { link, lead });
+    let kept = KeptLink::new(alloc, LinkField { link, lead })?;
+    item.set_link(field, kept);
+    Ok(())
 }
 
 /// Decides where these link fields lead.
-fn link_all(names: &Names, types: &[RecordType], fields: &[FieldNo], item: &mut Record)
-    ensures { item.new ≡ linked_all record_rules names.now types.now fields.now item.old }
+fn link_all(
+    alloc: Global,
+    names: &Names,
+    types: &[RecordType],
+    fields: &[FieldNo],
+    item: &mut Record,
+) -> Result<(), AllocError>
+    ensures { OnOk result (item.new ≡ linked_all record_rules names.now types.now fields.now item.old) }
 {
     let mut rest = fields;
     while let [field, others @ ..] = rest {
-        link_one(names, types, *field, item);
+        link_one(alloc, names, types, *field, item)?;
         rest = others;
     }
+    Ok(())
 }
 
 /// Ends the load of a record.
 #[tactic(auto, unfolding(crate::specs::Finished::finished))]
-fn finish_record(names: &Names, types: &[RecordType], item: &mut Record)
-    ensures { item.new ≡ finished record_rules names.now types.now item.old }
+fn finish_record(
+    alloc: Global,
+    names: &Names,
+    types: &[RecordType],
+    item: &mut Record,
+) -> Result<(), AllocError>
+    ensures { OnOk result (item.new ≡ finished record_rules names.now types.now item.old) }
 {
     let fields = item.link_fields();
-    link_all(names, types, fields, item);
+    link_all(alloc, names, types, fields, item)?;
     item.load();
+    Ok(())
 }
 
 /// The types of records.
@@ -96,7 +118,7 @@ pub fn finish_all(alloc: Global, names: &Names, records: &mut [Record]) -> Resul
 {
     let types = types_of(alloc, records)?;
     for item in records.iter_mut() {
-        finish_record(names, types.as_slice(), item);
+        finish_record(alloc, names, types.as_slice(), item)?;
     }
     Ok(())
 }

@@ -1,5 +1,5 @@
 //! Laws of the database grammar. The functions do nothing: each contract is a law.
-ghost use Rattle.ioc_dbfile.specs.Laws.{FirstTokenRefused, FirstFaultGiven, TurnsSuffice};
+ghost use Rattle.ioc_dbfile.specs.Laws.{FirstTokenRefused, FirstFaultGiven, TurnsSuffice, MacrosByHand};
 ghost use Rattle.ioc_dbfile.specs.Spelling.{SpelledIsRead, SpelledOnLinesIsRead};
 
 use crate::builder::Builder;
@@ -12,9 +12,10 @@ pub fn first_fault_is_given<B: Builder>(_builder: &B)
     ensures lines { FirstFaultGiven B.rules }
 {}
 
-/// The spelled form of a list of statements, with any blanks, reads as these statements: where each
-/// record can be added and each field set, in this order, the text makes just that database.
-#[tactic(auto, using(crate::proofs::Reading::spelled_is_read, crate::proofs::OnLines::spelled_on_lines))]
+/// The spelled form of a list of statements, with any blanks and comments, reads as these statements: where each
+/// record can be found or added, each field set and each second name given, in this order, the text makes just that
+/// database.
+#[tactic(auto, using(crate::proofs::OnLines::spelled_is_read, crate::proofs::OnLines::spelled_on_lines))]
 pub fn spelled_is_read<B: Builder>(_builder: &B)
     ensures on_one_line { SpelledIsRead B.rules }
     ensures on_lines { SpelledOnLinesIsRead B.rules }
@@ -25,4 +26,10 @@ pub fn spelled_is_read<B: Builder>(_builder: &B)
 #[tactic(auto, using(crate::proofs::Shrinking::turns_suffice))]
 pub fn turns_suffice<B: Builder>(_builder: &B)
     ensures { TurnsSuffice B.rules }
+{}
+
+/// A text whose macros are replaced by hand makes the same database, or is refused on the same line for the same kind.
+#[tactic(auto, using(crate::proofs::ByHand::macros_by_hand))]
+pub fn macros_are_replaced<B: Builder>(_builder: &B)
+    ensures { MacrosByHand B.rules }
 {}

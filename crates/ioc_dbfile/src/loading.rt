@@ -8,14 +8,13 @@ ghost use Rattle.ioc_types.specs.Record.{record_rules, new_record};
 use crate::builder::Builder;
 use crate::database::Database;
 use crate::database_builder::DatabaseBuilder;
-use crate::macros::Macros;
 use crate::statements::fill;
-use ioc_dbtext::expand;
+use ioc_dbtext::{Macros, expand};
 use ioc_dbtokens::Tokens;
 use ioc_values::IocError;
 use std::alloc::Global;
 
-/// Fills a database by a text. One of more than [`MAX_BYTES`](crate::MAX_BYTES) bytes is refused at that limit.
+/// Fills a database by a text and the macros that it may use. One of more than [`MAX_BYTES`](crate::MAX_BYTES) bytes is refused at that limit.
 ///
 /// # Errors
 ///
@@ -24,19 +23,19 @@ use std::alloc::Global;
 pub fn fill_by_text<B: Builder>(
     alloc: Global,
     text: &[u8],
-    _macros: &Macros,
+    macros: &Macros,
     builder: &mut B,
 ) -> Result<(), IocError>
-    ensures { Gives (λ _. builder.new) result (filled_by B.rules builder.old text.now) }
+    ensures { Gives (λ _. builder.new) result (filled_by B.rules builder.old macros.now text.now) }
 {
-    let texts = expand(alloc, text)?;
+    let texts = expand(alloc, macros, text)?;
     let mut tokens = Tokens::new(&texts);
     let last = texts.lengths.len() as u64;
     let turns = texts.bytes.len() as u64 + 2;
     fill(alloc, turns, last, builder, &mut tokens)
 }
 
-/// The database of a text.
+/// The database of a text by the macros that it may use.
 ///
 /// # Errors
 ///
@@ -44,7 +43,7 @@ pub fn fill_by_text<B: Builder>(
 /// [`IocError::NoMemory`] where a growth was refused; nothing is loaded then.
 #[tactic(auto, unfolding(crate::specs::Finished::loaded_by))]
 pub fn load(alloc: Global, text: &[u8], macros: &Macros) -> Result<Database, IocError>
-    ensures { Gives database_of result (loaded_by record_rules new_record text.now) }
+    ensures { Gives database_of result (loaded_by record_rules new_record macros.now text.now) }
 {
     let mut builder = DatabaseBuilder::new(alloc);
     fill_by_text(alloc, text, macros, &mut builder)?;

@@ -2,10 +2,11 @@
 ghost use Rattle.std.specs.Prelude.{◌≡◌, IfOk};
 ghost use Rattle.ioc_values.specs.declared.error.BadDbKind.TheVariants as kinds;
 ghost use Rattle.ioc_dbtext.specs.SeenToken.{seen};
-ghost use Rattle.ioc_dbfile.specs.Statements.{Reads, at, next_at, is_sign_of, expect, is_value, value_at, is_bareword, is_word, text_of, name_line, is_left_out, refused_word};
+ghost use Rattle.ioc_dbtokens.specs.SeenSaid.{said_bytes};
+ghost use Rattle.ioc_dbfile.specs.Statements.{Reads, at, next_at, is_sign_of, expect, is_value, value_at, is_bareword, is_word, text_of, name_line, begins_record, is_left_out, refused_word};
 
 use ioc_dbtext::{Token, TokenKind};
-use ioc_dbtokens::{Tokens, unescaped};
+use ioc_dbtokens::{Said, Tokens, read_escapes};
 use ioc_values::{BadDbKind, DbFault, IocError};
 use std::alloc::{AllocError, Global};
 
@@ -33,7 +34,7 @@ pub fn next_at<'a>(last: u64, tokens: &mut Tokens<'a>) -> Result<Token<'a>, DbFa
 }
 
 /// A token that does not fit.
-fn misfit(token: &Token<'_>) -> DbFault
+pub fn misfit(token: &Token<'_>) -> DbFault
     ensures { result ≡ at token.now.line kinds.Syntax }
 {
     DbFault {
@@ -65,7 +66,7 @@ pub fn expect(b: u8, last: u64, tokens: &mut Tokens<'_>) -> Result<(), DbFault>
 }
 
 /// Whether it is a bareword or a quoted text.
-fn is_value(kind: TokenKind) -> bool
+pub fn is_value(kind: TokenKind) -> bool
     ensures { result ≡ is_value kind }
 {
     matches!(kind, TokenKind::Word | TokenKind::Quoted)
@@ -99,10 +100,10 @@ pub fn is_word(word: &[u8], token: &Token<'_>) -> bool
 }
 
 /// What a token says: in a field's value, or in a name.
-pub fn text_of(alloc: Global, in_value: bool, token: &Token<'_>) -> Result<Vec<u8>, AllocError>
-    ensures { IfOk result (λ v. v.items ≡ text_of in_value (seen token.now)) }
+pub fn text_of<'a>(alloc: Global, in_value: bool, token: &Token<'a>) -> Result<Said<'a>, AllocError>
+    ensures { IfOk result (λ s. said_bytes s ≡ text_of in_value (seen token.now)) }
 {
-    unescaped(alloc, in_value, token.text)
+    read_escapes(alloc, in_value, token.text)
 }
 
 /// Whether it is a word of a database definition, whose statements are left out.
@@ -122,6 +123,14 @@ fn is_left_out(token: &Token<'_>) -> bool
         || is_word(b"function", token)
         || is_word(b"variable", token)
         || is_word(b"link", token)
+}
+
+/// Whether a record begins with this token.
+#[tactic(auto, unfolding(crate::specs::Statements::begins_record))]
+pub fn begins_record(token: &Token<'_>) -> bool
+    ensures { result ≡ begins_record (seen token.now) }
+{
+    is_word(b"record", token) || is_word(b"grecord", token)
 }
 
 /// Why no statement begins with this token.

@@ -3,6 +3,7 @@ use Rattle.std.proofs.Common.{◌≡◌, ℕ, ◌+◌, ◌-◌, ◌<◌, Bool, t
 use Rattle.std.proofs.lemmas.Bool.{eqb-true, eqb-false}
 use Rattle.ioc_dbtext.specs.declared.texts.End.TheVariants.{Whole, BadMacro, TooLong}
 use Rattle.ioc_dbtext.specs.Lines.{lines_of, line_text}
+use Rattle.ioc_dbtext.specs.Macros.{Defined}
 use Rattle.ioc_dbtext.specs.Lexing.{begun_within}
 use Rattle.ioc_dbtext.specs.Texts.{parts_of, most_bytes, Expansion, onto_texts, last_text, expansion}
 use Rattle.ioc_dbtext.proofs.LineLemmas.{line_some}
@@ -11,12 +12,12 @@ use Rattle.ioc_dbtext.proofs.LineLemmas.{line_some}
 abbrev pub after : List (List ℕ) → Expansion → Expansion
 after front e = record { texts = front ++ e.texts; end = e.end }
 
-pub done : (front : List (List ℕ)) (room : ℕ) (rest : List ℕ) (total : Expansion) → eqb (length rest) 0 ≡ true → after front (expansion room (lines_of rest)) ≡ total → record { texts = front; end = Whole } ≡ total
-done front room [] total e h = ap (λ (ts : List (List ℕ)). let x : Expansion = record { texts = ts; end = Whole } in x) (sym (append-nil front)) ∙ h
-done front room (b ∷ bs) total e h = let none : length (b ∷ bs) ≡ 0 = eqb-true (length (b ∷ bs)) 0 e in absurd (omega arith)
+pub done : (ds : List Defined) (front : List (List ℕ)) (room : ℕ) (rest : List ℕ) (total : Expansion) → eqb (length rest) 0 ≡ true → after front (expansion ds room (lines_of rest)) ≡ total → record { texts = front; end = Whole } ≡ total
+done ds front room [] total e h = ap (λ (ts : List (List ℕ)). let x : Expansion = record { texts = ts; end = Whole } in x) (sym (append-nil front)) ∙ h
+done ds front room (b ∷ bs) total e h = let none : length (b ∷ bs) ≡ 0 = eqb-true (length (b ∷ bs)) 0 e in absurd (omega arith)
 
-pub begins : (ns bs : List ℕ) (lines : List (List ℕ)) → ns ≡ [] → after (parts_of ns bs) (expansion most_bytes lines) ≡ expansion most_bytes lines
-begins ns bs lines e = rw e refl
+pub begins : (ds : List Defined) (ns bs : List ℕ) (lines : List (List ℕ)) → ns ≡ [] → after (parts_of ns bs) (expansion ds most_bytes lines) ≡ expansion ds most_bytes lines
+begins ds ns bs lines e = rw e refl
 
 module _ (rest line behind : List ℕ) (some : eqb (length rest) 0 ≡ false) (parted : line ++ behind ≡ rest) (first : 0 < length rest → lines_of rest ≡ line ∷ lines_of behind) where
   some_bytes : 0 < length rest
@@ -31,29 +32,29 @@ module _ (rest line behind : List ℕ) (some : eqb (length rest) 0 ≡ false) (p
   pub some_line : 0 < length line
   some_line = line_some rest line (lines_of behind) off
 
-  module _ (front : List (List ℕ)) (room : ℕ) (total : Expansion) (so_far : after front (expansion room (lines_of rest)) ≡ total) where
-    split : after front (expansion room (line ∷ lines_of behind)) ≡ total
-    split = ap (λ (ls : List (List ℕ)). after front (expansion room ls)) (sym off) ∙ so_far
+  module _ (ds : List Defined) (front : List (List ℕ)) (room : ℕ) (total : Expansion) (so_far : after front (expansion ds room (lines_of rest)) ≡ total) where
+    split : after front (expansion ds room (line ∷ lines_of behind)) ≡ total
+    split = ap (λ (ls : List (List ℕ)). after front (expansion ds room ls)) (sym off) ∙ so_far
 
     none_step : (t : Bool) (e : Expansion) → cond t (last_text room None) (onto_texts None e) ≡ record { texts = []; end = BadMacro }
     none_step true e = refl
     none_step false e = refl
 
     -- a line without a text
-    pub stops : line_text line ≡ None → record { texts = front; end = BadMacro } ≡ total
+    pub stops : line_text ds line ≡ None → record { texts = front; end = BadMacro } ≡ total
     stops e =
-        let k : expansion room (line ∷ lines_of behind) ≡ record { texts = []; end = BadMacro } = rw e (none_step (nat_lt room (length line)) (expansion (room - length line) (lines_of behind))) in
+        let k : expansion ds room (line ∷ lines_of behind) ≡ record { texts = []; end = BadMacro } = rw e (none_step (nat_lt room (length line)) (expansion ds (room - length line) (lines_of behind))) in
         ap (λ (ts : List (List ℕ)). let x : Expansion = record { texts = ts; end = BadMacro } in x) (sym (append-nil front)) ∙ ap (after front) (sym k) ∙ split
 
     -- the line on which the limit is passed
-    pub passes : (text : List ℕ) → line_text line ≡ Some text → nat_lt room (length line) ≡ true → record { texts = front ++ begun_within room text ∷ []; end = TooLong } ≡ total
+    pub passes : (text : List ℕ) → line_text ds line ≡ Some text → nat_lt room (length line) ≡ true → record { texts = front ++ begun_within room text ∷ []; end = TooLong } ≡ total
     passes text e p =
-        let k : expansion room (line ∷ lines_of behind) ≡ record { texts = begun_within room text ∷ []; end = TooLong } = rw (p, e) refl in
+        let k : expansion ds room (line ∷ lines_of behind) ≡ record { texts = begun_within room text ∷ []; end = TooLong } = rw (p, e) refl in
         ap (after front) (sym k) ∙ split
 
     -- a line, and those behind it
-    pub goes_on : (text : List ℕ) → line_text line ≡ Some text → nat_lt room (length line) ≡ false → after (front ++ text ∷ []) (expansion (room - length line) (lines_of behind)) ≡ total
+    pub goes_on : (text : List ℕ) → line_text ds line ≡ Some text → nat_lt room (length line) ≡ false → after (front ++ text ∷ []) (expansion ds (room - length line) (lines_of behind)) ≡ total
     goes_on text e p =
-        let left = expansion (room - length line) (lines_of behind) in
-        let k : expansion room (line ∷ lines_of behind) ≡ record { texts = text ∷ left.texts; end = left.end } = rw (p, e) refl in
+        let left = expansion ds (room - length line) (lines_of behind) in
+        let k : expansion ds room (line ∷ lines_of behind) ≡ record { texts = text ∷ left.texts; end = left.end } = rw (p, e) refl in
         ap (λ (ts : List (List ℕ)). let x : Expansion = record { texts = ts; end = left.end } in x) (append_assoc front (text ∷ []) left.texts) ∙ ap (after front) (sym k) ∙ split

@@ -1,9 +1,10 @@
 -- The lines of a text, and what is left of one.
 -- EPICS Application Developer's Guide, "Database Definition", "Comments" and "Macro substitution".
-use Rattle.std.specs.Prelude.{ℕ, Bool, false, List, [], ◌∷◌, Option, Some, None, ◌==◌, ◌&&◌, ◌||◌, if◌then◌else◌}
+use Rattle.std.specs.Prelude.{ℕ, ◌-◌, nat_lt, length, slice_index_or, Bool, false, List, [], ◌∷◌, Option, ◌==◌, ◌&&◌, ◌||◌, if◌then◌else◌}
 use Rattle.std.specs.List.{onto_first}
 use Rattle.ioc_dbtext.specs.declared.lines.Quoting.{Quoting}
 use Rattle.ioc_dbtext.specs.declared.lines.Quoting.TheVariants.{Outside, Inside, Escaped}
+use Rattle.ioc_dbtext.specs.Macros.{Defined, replaced}
 
 -- the first byte is this one
 abbrev pub begins_with : ℕ → List ℕ → Bool
@@ -19,6 +20,10 @@ lines_of (b ∷ bs) = if b == 10 then (10 ∷ []) ∷ lines_of bs else onto_firs
 abbrev pub without_end : List ℕ → List ℕ
 without_end [] = []
 without_end (b ∷ bs) = if (b == 10) || ((b == 13) && begins_with 10 bs) then [] else b ∷ without_end bs
+
+-- a byte is the one that stands so many bytes before the last
+abbrev pub stands : ℕ → ℕ → List ℕ → Bool
+stands c before bs = nat_lt before (length bs) && (slice_index_or bs (length bs - before - 1) 0 == c)
 
 -- where the byte behind this one stands
 unfoldable pub quoting_after : Quoting → ℕ → Quoting
@@ -37,15 +42,6 @@ abbrev pub uncommented : Quoting → List ℕ → List ℕ
 uncommented quoting [] = []
 uncommented quoting (b ∷ bs) = if begins_comment quoting b then [] else b ∷ uncommented (quoting_after quoting b) bs
 
--- a bracket of a macro
-abbrev pub opens_macro : List ℕ → Bool
-opens_macro bs = begins_with 40 bs || begins_with 123 bs
-
--- a macro is used
-abbrev pub has_macro : List ℕ → Bool
-has_macro [] = false
-has_macro (b ∷ bs) = if b == 36 then opens_macro bs || has_macro bs else has_macro bs
-
--- the text of a line, where its macros can be replaced: no macro is known yet
-unfoldable pub line_text : List ℕ → Option (List ℕ)
-line_text line = if has_macro (uncommented Outside (without_end line)) then None else Some (uncommented Outside (without_end line))
+-- the text of a line, where its macros can be replaced
+unfoldable pub line_text : List Defined → List ℕ → Option (List ℕ)
+line_text ds line = replaced ds (uncommented Outside (without_end line))

@@ -3,6 +3,7 @@
 use Rattle.std.specs.Prelude.{ℕ, ◌-◌, ◌^◌, List, [], ◌∷◌, length, take, drop, nat_lt, Option, Some, None, if◌then◌else◌}
 use Rattle.ioc_dbtext.specs.declared.texts.End.{End}
 use Rattle.ioc_dbtext.specs.declared.texts.End.TheVariants.{Whole, BadMacro, TooLong}
+use Rattle.ioc_dbtext.specs.Macros.{Defined}
 use Rattle.ioc_dbtext.specs.Lines.{line_text}
 use Rattle.ioc_dbtext.specs.Lexing.{begun_within}
 
@@ -27,10 +28,10 @@ last_text room None = record { texts = []; end = BadMacro }
 last_text room (Some text) = record { texts = begun_within room text ∷ []; end = TooLong }
 
 -- the texts of lines, of which so many bytes may be read
-abbrev pub expansion : ℕ → List (List ℕ) → Expansion
-expansion room [] = record { texts = []; end = Whole }
-expansion room (line ∷ lines) =
-    if nat_lt room (length line) then last_text room (line_text line) else onto_texts (line_text line) (expansion (room - length line) lines)
+abbrev pub expansion : List Defined → ℕ → List (List ℕ) → Expansion
+expansion ds room [] = record { texts = []; end = Whole }
+expansion ds room (line ∷ lines) =
+    if nat_lt room (length line) then last_text room (line_text ds line) else onto_texts (line_text ds line) (expansion ds (room - length line) lines)
 
 -- 16 MiB, the longest text that is read
 unfoldable pub most_bytes : ℕ

@@ -3,18 +3,24 @@ ghost use Rattle.std.specs.Prelude.{◌≡◌, false};
 ghost use Rattle.ioc_dbtext.specs.Bytes.{is_word_byte, word_of, behind_word, closes, escapes, quoted_of, behind_quoted, behind_gap};
 
 /// Whether a byte may stand in a bareword.
+#[inline]
 #[tactic(auto, unfolding(crate::specs::Bytes::is_word_byte))]
 pub fn is_word_byte(b: u8) -> bool
     ensures { result ≡ is_word_byte b }
 {
+    // Most are small letters: one comparison tells these from all others.
+    if b >= b'a' {
+        return b <= b'z';
+    }
     match b {
-        b'0'..=b'9' | b'A'..=b'Z' | b'a'..=b'z' => true,
+        b'0'..=b'9' | b'A'..=b'Z' => true,
         b'_' | b'-' | b'+' | b':' | b'.' | b'[' | b']' | b'<' | b'>' | b';' => true,
         _ => false,
     }
 }
 
 /// The word at the front, and what stands behind it.
+#[inline]
 pub fn split_word(bytes: &[u8]) -> (&[u8], &[u8])
     ensures word { result.0.now ≡ word_of bytes.now }
     ensures behind { result.1.now ≡ behind_word bytes.now }
@@ -48,6 +54,7 @@ pub fn escapes(escaped: bool, b: u8) -> bool
 }
 
 /// The text up to the closing quote or the line's end, and what stands from there on.
+#[inline]
 pub fn split_quoted(bytes: &[u8]) -> (&[u8], &[u8])
     ensures text { result.0.now ≡ quoted_of false bytes.now }
     ensures behind { result.1.now ≡ behind_quoted false bytes.now }
@@ -67,6 +74,7 @@ pub fn split_quoted(bytes: &[u8]) -> (&[u8], &[u8])
 }
 
 /// The bytes behind spaces and tabs.
+#[inline]
 pub fn skip_gap(bytes: &[u8]) -> &[u8]
     ensures { result.now ≡ behind_gap bytes.now }
 {

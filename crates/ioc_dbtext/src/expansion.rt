@@ -8,6 +8,7 @@ ghost use Rattle.ioc_dbtext.specs.SeenTexts.{expansion_of};
 use crate::bytes::skip_gap;
 use crate::lexer::token_at;
 use crate::lines::{line_text, split_line};
+use crate::macros::Macros;
 use crate::texts::{End, Texts};
 use std::alloc::{AllocError, Global};
 
@@ -64,21 +65,23 @@ fn add_text(bytes: &mut Vec<u8>, lengths: &mut Vec<usize>, text: &[u8]) -> Resul
 }
 
 /// The texts of a database text's lines, up to the first that has none or that passes the limit of
-/// [`MAX_BYTES`]. Of that line the text ends behind the last token that begins before the limit.
+/// [`MAX_BYTES`]. Of that line the text, with its macros replaced, ends behind the last token that begins before the limit.
 ///
 /// # Errors
 ///
 /// [`AllocError`] where a growth was refused.
-pub fn expand(alloc: Global, text: &[u8]) -> Result<Texts, AllocError>
-    ensures { IfOk result (λ t. expansion_of t ≡ expansion most_bytes (lines_of text.now)) }
+pub fn expand(alloc: Global, macros: &Macros, text: &[u8]) -> Result<Texts, AllocError>
+    ensures { IfOk result (λ t. expansion_of t ≡ expansion macros.now most_bytes (lines_of text.now)) }
 {
     let mut bytes = Vec::new(alloc);
     let mut lengths = Vec::new(alloc);
+    let mut replacement = Vec::new(alloc);
     let mut room = MAX_BYTES;
     let mut rest = text;
     while !rest.is_empty() {
         let (line, behind) = split_line(rest);
-        let Some(text) = line_text(line) else {
+        let found = line_text(macros, line, &mut replacement)?;
+        let Some(text) = found else {
             let end = End::BadMacro;
             return Ok(Texts {
                 bytes,

@@ -37,6 +37,7 @@ fn quoted_at<'a>(line: u64, bytes: &'a [u8]) -> (Token<'a>, &'a [u8])
 
 /// The token at the front of some bytes of this line that begin with no blank, and what stands behind it: none
 /// where there are no bytes. Behind a fault stands nothing.
+#[inline]
 #[tactic(auto, unfolding(crate::specs::Lexing::token_at))]
 pub fn token_at<'a>(line: u64, bytes: &'a [u8]) -> Option<(Token<'a>, &'a [u8])>
     ensures { CutsSo (token_at line bytes.now) result }

@@ -6,13 +6,19 @@
 
 mod bytes;
 mod expansion;
+pub mod laws;
 mod lexer;
 pub mod lines;
+pub mod macros;
+mod replacement;
+mod search;
 pub mod texts;
 pub mod token;
 
 pub use bytes::{escapes, skip_gap};
 pub use expansion::{MAX_BYTES, expand};
 pub use lexer::{is_fault, token_at};
+pub use macros::Macros;
+pub use search::{lacks, split_at_byte};
 pub use texts::{End, Texts};
 pub use token::{Token, TokenKind};

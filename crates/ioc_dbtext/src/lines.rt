@@ -1,6 +1,13 @@
 //! The lines of a text, and what is left of one.
-ghost use Rattle.std.specs.Prelude.{◌≡◌, ◌<◌, ◌∷◌, ◌++◌, length, option_map};
-ghost use Rattle.ioc_dbtext.specs.Lines.{quoting_after, begins_comment, uncommented, begins_with, opens_macro, has_macro, without_end, line_text, lines_of};
+ghost use Rattle.std.specs.Prelude.{◌≡◌, ◌<◌, ◌≤◌, ◌∷◌, ◌++◌, length, option_map, IfOk};
+ghost use Rattle.ioc_dbtext.specs.Macros.{back_of};
+ghost use Rattle.ioc_dbtext.specs.Lines.{quoting_after, begins_comment, uncommented, stands, without_end, line_text, lines_of};
+
+use crate::macros::Macros;
+use crate::replacement::add_replaced;
+use crate::search::lacks;
+use memchr::memchr;
+use std::alloc::AllocError;
 
 /// Where a byte of a line stands.
 #[derive(Clone, Copy, PartialEq, Eq, Debug)]
@@ -50,6 +57,9 @@ fn begins_comment(quoting: Quoting, b: u8) -> bool
 fn uncommented(line: &[u8]) -> &[u8]
     ensures { result.now ≡ uncommented Quoting.Outside line.now }
 {
+    if lacks(b'#', line) {
+        return line;
+    }
     let mut count = 0;
     let mut quoting = Quoting::Outside;
     let mut rest = line;
@@ -64,75 +74,62 @@ fn uncommented(line: &[u8]) -> &[u8]
     &line[..count]
 }
 
-fn begins_with(c: u8, bytes: &[u8]) -> bool
-    ensures { result ≡ begins_with c bytes.now }
+/// Whether this byte stands so many bytes before the last.
+fn stands(c: u8, before: usize, bytes: &[u8]) -> bool
+    requires { before < 2 }
+    ensures { result ≡ stands c before bytes.now }
 {
-    match bytes {
-        [] => false,
-        [first, ..] => *first == c,
-    }
+    bytes.len() > before && bytes[bytes.len() - before - 1] == c
 }
 
-fn opens_macro(bytes: &[u8]) -> bool
-    ensures { result ≡ opens_macro bytes.now }
-{
-    begins_with(b'(', bytes) || begins_with(b'{', bytes)
-}
-
-fn has_macro(line: &[u8]) -> bool
-    ensures { result ≡ has_macro line.now }
-{
-    let mut rest = line;
-    while let [first, after @ ..] = rest {
-        if *first == b'$' && opens_macro(after) {
-            return true;
-        }
-        rest = after;
-    }
-    false
-}
-
-/// The line without its line feed, and without a carriage return before it.
+/// One line without its line feed, and without a carriage return before it.
 fn without_end(line: &[u8]) -> &[u8]
+    requires { length (back_of 10 line.now) ≤ 1 }
     ensures { result.now ≡ without_end line.now }
 {
-    let mut count = 0;
-    let mut rest = line;
-    while let [first, after @ ..] = rest {
-        if *first == b'\n' || *first == b'\r' && begins_with(b'\n', after) {
-            break;
-        }
-        count += 1;
-        rest = after;
+    if !stands(b'\n', 0, line) {
+        return line;
     }
-    &line[..count]
+    if stands(b'\r', 1, line) {
+        return &line[..line.len() - 2];
+    }
+    &line[..line.len() - 1]
 }
 
 /// The first line with its line feed, and the text behind it.
 pub fn split_line(text: &[u8]) -> (&[u8], &[u8])
     ensures whole { result.0.now ++ result.1.now ≡ text.now }
     ensures first { 0 < length text.now → lines_of text.now ≡ result.0.now ∷ lines_of result.1.now }
+    ensures one { length (back_of 10 result.0.now) ≤ 1 }
 {
-    let mut count = 0;
-    let mut rest = text;
-    while let [first, after @ ..] = rest {
-        count += 1;
-        rest = after;
-        if *first == b'\n' {
-            break;
-        }
+    match memchr(b'\n', text) {
+        Some(place) => text.split_at(place + 1),
+        None => (text, &[]),
     }
-    (&text[..count], rest)
 }
 
-/// What stands in a line, without comment and line end; none where a macro is used.
+/// What stands in one line, without comment and line end and with its macros replaced; none where one of them can't be.
+/// Where a macro is used, it stands in `replacement`.
+///
+/// # Errors
+///
+/// [`AllocError`] where a growth was refused.
 #[tactic(auto, unfolding(crate::specs::Lines::line_text))]
-pub fn line_text(line: &[u8]) -> Option<&[u8]>
-    ensures { option_map (λ t. t.now) result ≡ line_text line.now }
+pub fn line_text<'a>(
+    macros: &Macros,
+    line: &'a [u8],
+    replacement: &'a mut Vec<u8>,
+) -> Result<Option<&'a [u8]>, AllocError>
+    requires { length (back_of 10 line.now) ≤ 1 }
+    ensures { IfOk result (λ text. option_map (λ t. t.now) text ≡ line_text macros.now line.now) }
 {
     let text = uncommented(without_end(line));
-    if has_macro(text) {
-        return None;
+    if lacks(b'$', text) {
+        return Ok(Some(text));
     }
-    Some(text)
+    replacement.clear();
+    if !add_replaced(macros, text, replacement)? {
+        return Ok(None);
+    }
+    Ok(Some(replacement.as_slice()))
 }

@@ -4,7 +4,7 @@ use Rattle.ioc_dbtext.specs.declared.texts.End.{End}
 use Rattle.ioc_dbtext.specs.declared.texts.End.TheVariants.{Whole, BadMacro, TooLong}
 use Rattle.ioc_dbtext.specs.Bytes.{behind_gap}
 use Rattle.ioc_dbtext.specs.Lexing.{Lexeme, Cut, is_fault, token_at}
-use Rattle.ioc_dbtokens.specs.Tokens.{end_of, tokens_of, tokens_at, TakesToken, front_of}
+use Rattle.ioc_dbtokens.specs.Tokens.{end_of, tokens_of, tokens_at, TakesToken, front_of, from_front}
 use Rattle.ioc_dbtext.specs.Texts.{parts_of}
 use Rattle.ioc_dbtokens.proofs.Turns.{tokens_nil, one_left}
 
@@ -44,3 +44,8 @@ pub takes_one : (line : ℕ) (rest : List ℕ) (behind : List (List ℕ)) (end :
     → tokens_at line rest behind end ≡ total → total ≡ cut.token ∷ tokens_at line cut.rest behind end
 takes_one line rest behind end total cut solid e f same =
     sym same ∙ one line rest behind end cut solid e ∙ ap (λ (t : Bool). cut.token ∷ cond t [] (tokens_at line cut.rest behind end)) f
+
+-- tokens of which the first was made
+pub from_taken : (old new : List Lexeme) (o : Option Lexeme) → TakesToken old o new → from_front o new ≡ old
+from_taken old new None h = sym h.0
+from_taken old new (Some token) h = sym h

@@ -1,3 +1,4 @@
 pub mod Turns
 pub mod Advance
 pub mod Counting
+pub mod Plain

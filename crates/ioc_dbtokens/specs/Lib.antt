@@ -2,3 +2,4 @@ pub mod Tokens
 pub mod SeenLines
 pub mod SeenPlace
 pub mod Escapes
+pub mod SeenSaid

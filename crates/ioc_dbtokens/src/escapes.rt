@@ -1,9 +1,10 @@
 //! What the bytes between double quotes stand for.
 ghost use Rattle.std.specs.Prelude.{◌≡◌, ◌++◌, false, OnOk, IfOk};
 ghost use Rattle.ioc_dbtext.specs.Bytes.{escapes};
+ghost use Rattle.ioc_dbtokens.specs.SeenSaid.{said_bytes};
 ghost use Rattle.ioc_dbtokens.specs.Escapes.{control_of, escaped_byte, piece_of, unescaped_from};
 
-use ioc_dbtext::escapes;
+use ioc_dbtext::{escapes, lacks};
 use std::alloc::{AllocError, Global};
 
 /// What a backslash and this byte stand for in a field's value alone.
@@ -50,6 +51,45 @@ fn add_piece(text: &mut Vec<u8>, in_value: bool, escaped: bool, b: u8) -> Result
         text.push(b)?;
     }
     Ok(escapes(escaped, b))
+}
+
+/// What a token says.
+#[derive(Drop)]
+pub enum Said<'a> {
+    /// Just the bytes that are written.
+    Written(&'a [u8]),
+    /// The bytes that escapes stand for, among others.
+    Unescaped(Vec<u8>),
+}
+
+impl<'a> Said<'a> {
+    /// Its bytes.
+    pub fn as_slice(&self) -> &[u8]
+        ensures { result.now ≡ said_bytes self.now }
+    {
+        match self {
+            Said::Written(bytes) => bytes,
+            Said::Unescaped(bytes) => bytes.as_slice(),
+        }
+    }
+}
+
+/// What the bytes of a token stand for, in a field's value or in a name. Memory is taken only where there is a backslash.
+///
+/// # Errors
+///
+/// [`AllocError`] where a growth was refused.
+pub fn read_escapes<'a>(
+    alloc: Global,
+    in_value: bool,
+    bytes: &'a [u8],
+) -> Result<Said<'a>, AllocError>
+    ensures { IfOk result (λ s. said_bytes s ≡ unescaped_from in_value false bytes.now) }
+{
+    if lacks(b'\\', bytes) {
+        return Ok(Said::Written(bytes));
+    }
+    Ok(Said::Unescaped(unescaped(alloc, in_value, bytes)?))
 }
 
 /// What the bytes between double quotes stand for: in a field's value, or in a name, which knows fewer escapes.

@@ -9,5 +9,5 @@ pub mod lines;
 pub mod place;
 pub mod tokens;
 
-pub use escapes::unescaped;
+pub use escapes::{Said, read_escapes, unescaped};
 pub use tokens::Tokens;

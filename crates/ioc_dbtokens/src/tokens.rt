@@ -13,9 +13,10 @@ use ioc_dbtext::{End, Texts, Token, TokenKind, is_fault, skip_gap, token_at};
 use ioc_values::BadDbKind;
 use std::marker::Model;
 
-/// The tokens that are still to come.
+/// The tokens that are still to come: each is made once, when the one before it is taken.
 #[derive(Drop)]
 pub struct Tokens<'a> {
+    front: Option<Token<'a>>,
     place: Place<'a>,
 }
 
@@ -25,9 +26,12 @@ impl<'a> Model for Tokens<'a> {
 
     ghost Value = { List Lexeme };
 
+    ghost use Rattle.std.specs.Prelude.{option_map};
+    ghost use Rattle.ioc_dbtext.specs.SeenToken.{seen};
     ghost use Rattle.ioc_dbtokens.specs.SeenPlace.{tokens_of_place};
+    ghost use Rattle.ioc_dbtokens.specs.Tokens.{from_front};
 
-    ghost view = { λ t. tokens_of_place t.place };
+    ghost view = { λ t. from_front (option_map seen t.front) (tokens_of_place t.place) };
 
     ghost invariant = { λ t. t.place.line + length t.place.behind.lengths.now < 2 ^ 63 };
 }
@@ -43,32 +47,23 @@ fn next_line<'a>(lines: Lines<'a>) -> Option<(&'a [u8], Lines<'a>)>
     Some((line, Lines { bytes, lengths }))
 }
 
-/// The first place from this one on at which no blank stands, and no line end that another line follows.
-fn find<'a>(place: Place<'a>) -> Place<'a>
-    requires { place.line + length place.behind.lengths.now < 2 ^ 63 }
-    ensures same { tokens_of_place result ≡ tokens_of_place place.entry }
-    ensures last { length result.rest.now ≡ 0 → length result.behind.lengths.now ≡ 0 }
-    ensures solid { behind_gap result.rest.now ≡ result.rest.now }
-    ensures room { result.line + length result.behind.lengths.now ≡ place.entry.line + length place.entry.behind.lengths.now }
-    ensures end { result.end ≡ place.entry.end }
+/// Goes on to the first place at which no blank stands, and no line end that another line follows.
+fn find<'a>(place: &mut Place<'a>)
+    requires { place.old.line + length place.old.behind.lengths.now < 2 ^ 63 }
+    ensures same { tokens_of_place place.new ≡ tokens_of_place place.old }
+    ensures last { length place.new.rest.now ≡ 0 → length place.new.behind.lengths.now ≡ 0 }
+    ensures solid { behind_gap place.new.rest.now ≡ place.new.rest.now }
+    ensures room { place.new.line + length place.new.behind.lengths.now ≡ place.old.line + length place.old.behind.lengths.now }
+    ensures end { place.new.end ≡ place.old.end }
 {
-    let mut line = place.line;
-    let mut rest = skip_gap(place.rest);
-    let mut behind = place.behind;
-    let end = place.end;
-    while rest.is_empty() {
-        let Some((first, others)) = next_line(behind) else {
+    place.rest = skip_gap(place.rest);
+    while place.rest.is_empty() {
+        let Some((first, others)) = next_line(place.behind) else {
             break;
         };
-        line += 1;
-        rest = skip_gap(first);
-        behind = others;
-    }
-    Place {
-        line,
-        rest,
-        behind,
-        end,
+        place.line += 1;
+        place.rest = skip_gap(first);
+        place.behind = others;
     }
 }
 
@@ -87,44 +82,38 @@ fn end_token<'a>(end: End, line: u64) -> Option<Token<'a>>
     Some(Token { line, kind, text })
 }
 
-/// The next token from a place on, and the place behind it.
-fn advance<'a>(place: Place<'a>) -> (Option<Token<'a>>, Place<'a>)
-    requires { place.line + length place.behind.lengths.now < 2 ^ 63 }
-    ensures takes { TakesToken (tokens_of_place place.entry) (option_map seen result.0) (tokens_of_place result.1) }
-    ensures room { result.1.line + length result.1.behind.lengths.now ≤ place.entry.line + length place.entry.behind.lengths.now }
+/// The next token from a place on, behind which the place stands then.
+fn advance<'a>(place: &mut Place<'a>) -> Option<Token<'a>>
+    requires { place.old.line + length place.old.behind.lengths.now < 2 ^ 63 }
+    ensures takes { TakesToken (tokens_of_place place.old) (option_map seen result) (tokens_of_place place.new) }
+    ensures room { place.new.line + length place.new.behind.lengths.now ≤ place.old.line + length place.old.behind.lengths.now }
 {
-    let found = find(place);
-    let Some((token, rest)) = token_at(found.line, found.rest) else {
-        return (end_token(found.end, found.line), done(found.line));
+    find(place);
+    let Some((token, rest)) = token_at(place.line, place.rest) else {
+        let token = end_token(place.end, place.line);
+        stop(place);
+        return token;
     };
     if is_fault(token.kind) {
-        return (Some(token), done(found.line));
+        stop(place);
+        return Some(token);
     }
-    let after = Place {
-        line: found.line,
-        rest,
-        behind: found.behind,
-        end: found.end,
-    };
-    (Some(token), after)
+    place.rest = rest;
+    Some(token)
 }
 
-/// A place behind which no token stands.
-fn done<'a>(line: u64) -> Place<'a>
-    ensures tokens { tokens_of_place result ≡ [] }
-    ensures line { result.line ≡ line }
-    ensures behind { length result.behind.lengths.now ≡ 0 }
+/// Leaves no token to come.
+fn stop<'a>(place: &mut Place<'a>)
+    ensures tokens { tokens_of_place place.new ≡ [] }
+    ensures line { place.new.line ≡ place.old.line }
+    ensures behind { length place.new.behind.lengths.now ≡ 0 }
 {
-    let behind = Lines {
+    place.rest = &[];
+    place.behind = Lines {
         bytes: &[],
         lengths: &[],
     };
-    Place {
-        line,
-        rest: &[],
-        behind,
-        end: End::Whole,
-    }
+    place.end = End::Whole;
 }
 
 impl<'a> Tokens<'a> {
@@ -137,29 +126,29 @@ impl<'a> Tokens<'a> {
             bytes: texts.bytes.as_slice(),
             lengths: texts.lengths.as_slice(),
         };
-        let place = Place {
+        let mut place = Place {
             line: 0,
             rest: &[],
             behind,
             end: texts.end,
         };
-        Tokens { place }
+        let front = advance(&mut place);
+        Tokens { front, place }
     }
 
     /// The next token, if there is one. Behind a fault there is none.
     pub fn next(&mut self) -> Option<Token<'a>>
         ensures { TakesToken self.old (option_map seen result) self.new }
     {
-        let (token, place) = advance(self.place);
-        self.place = place;
-        token
+        let token = self.front?;
+        self.front = advance(&mut self.place);
+        Some(token)
     }
 
     /// The next token, which stays.
     pub fn peek(&self) -> Option<Token<'a>>
         ensures { option_map seen result ≡ front_of self.now }
     {
-        let (token, _) = advance(self.place);
-        token
+        self.front
     }
 }

@@ -1,10 +1,8 @@
 //! Lines and their texts, on examples of the database grammar.
-use ioc_dbtext::lines::line_text;
-use ioc_dbtext::{End, expand};
+use ioc_dbtext::{End, Macros, expand};
 use std::alloc::Global;
 
-static LINES: [(&[u8], Option<&[u8]>); 12] = [
-    (b"", Some(b"")),
+static LINES: [(&[u8], Option<&[u8]>); 11] = [
     (b"a b\n", Some(b"a b")),
     (b"a\r\n", Some(b"a")),
     (b"a\r", Some(b"a\r")),
@@ -18,10 +16,22 @@ static LINES: [(&[u8], Option<&[u8]>); 12] = [
     (b"$ (A) $A # $(A)\n", Some(b"$ (A) $A ")),
 ];
 
+fn is_text(alloc: Global, line: &[u8], wanted: Option<&[u8]>) -> bool {
+    let Ok(texts) = expand(alloc, &Macros::new(alloc), line) else {
+        return false;
+    };
+    match wanted {
+        Some(text) => {
+            texts.bytes.as_slice() == text && texts.lengths.len() == 1 && texts.end == End::Whole
+        }
+        None => texts.lengths.len() == 0 && texts.end == End::BadMacro,
+    }
+}
+
 #[test]
 fn texts_of_lines(rt: HostRuntime) {
     for (line, wanted) in &LINES {
-        assert!(rt; line_text(line) == *wanted, "{line:?}");
+        assert!(rt; is_text(rt.alloc(), line, *wanted), "{line:?}");
     }
 }
 
@@ -67,7 +77,7 @@ static EXPANSIONS: [Expansion; 5] = [
 ];
 
 fn is_expanded(alloc: Global, wanted: &Expansion) -> bool {
-    match expand(alloc, wanted.text) {
+    match expand(alloc, &Macros::new(alloc), wanted.text) {
         Ok(texts) => {
             texts.bytes.as_slice() == wanted.bytes
                 && texts.lengths.as_slice() == wanted.lengths

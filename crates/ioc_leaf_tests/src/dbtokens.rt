@@ -1,5 +1,5 @@
 //! Tokens and their lines, on examples of the database grammar.
-use ioc_dbtext::{TokenKind, expand};
+use ioc_dbtext::{Macros, TokenKind, expand};
 use ioc_dbtokens::{Tokens, unescaped};
 use ioc_values::BadDbKind;
 use std::alloc::Global;
@@ -32,7 +32,7 @@ fn are_next(tokens: &mut Tokens<'_>, table: &[Wanted]) -> bool {
 
 // Are these the tokens of the text?
 fn are_tokens(alloc: Global, text: &[u8], table: &[Wanted]) -> bool {
-    match expand(alloc, text) {
+    match expand(alloc, &Macros::new(alloc), text) {
         Ok(texts) => are_next(&mut Tokens::new(&texts), table),
         Err(_) => false,
     }

@@ -14,6 +14,8 @@ static WANTED: Tally = Tally {
     disabled: 1,
     active: 2,
     reprocess: 1,
+    started: 0,
+    completed: 0,
 };
 
 #[test]
@@ -25,4 +27,14 @@ fn one_request_of_each_outcome(rt: HostRuntime) {
         tally.count(*outcome);
     }
     assert!(rt; tally == WANTED);
+}
+
+#[test]
+fn answers_that_come_later_and_completions(rt: HostRuntime) {
+    let mut tally = Tally::default();
+    tally.count_started(2);
+    tally.count_started(0);
+    tally.count_completion();
+    assert!(rt; tally.started == 2 && tally.completed == 1);
+    assert!(rt; tally.begun == 0);
 }

@@ -3,7 +3,8 @@ ghost use Rattle.std.specs.Prelude.{◌≡◌};
 
 use crate::outcome::Outcome;
 
-/// How many requests were begun, and what became of them. A count that reaches 2^64 - 1 is full and stays there.
+/// How many requests were begun, and what became of them; how many answers of devices were to come later, and how many came.
+/// A count that reaches 2^64 - 1 is full and stays there.
 #[derive(Clone, Copy, PartialEq, Eq, Debug, Default)]
 pub struct Tally {
     pub begun: u64,
@@ -11,10 +12,14 @@ pub struct Tally {
     pub disabled: u64,
     pub active: u64,
     pub reprocess: u64,
+    /// Answers that were to come later.
+    pub started: u64,
+    /// Completions, by which they came.
+    pub completed: u64,
 }
 
 impl Tally {
-    ghost use Rattle.ioc_ledger.specs.Requests.{counted_one};
+    ghost use Rattle.ioc_ledger.specs.Requests.{counted_one, counted_started, counted_completion};
 
     /// Counts one request.
     pub fn count(&mut self, outcome: Outcome)
@@ -27,5 +32,21 @@ impl Tally {
             Outcome::Active => self.active = self.active.saturating_add(1),
             Outcome::Reprocess => self.reprocess = self.reprocess.saturating_add(1),
         }
+    }
+
+    /// Counts answers that come later.
+    pub fn count_started(&mut self, count: u64)
+        ensures { self.new ≡ counted_started self.old count }
+    {
+        if count > 0 {
+            self.started = self.started.saturating_add(count);
+        }
+    }
+
+    /// Counts a completion.
+    pub fn count_completion(&mut self)
+        ensures { self.new ≡ counted_completion self.old }
+    {
+        self.completed = self.completed.saturating_add(1);
     }
 }

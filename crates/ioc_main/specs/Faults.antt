@@ -9,14 +9,17 @@ use Rattle.ioc_values.specs.Words.{fault_text as db_fault_text}
 use Rattle.ioc_main.specs.declared.fault.ScriptFault.{ScriptFault}
 use Rattle.ioc_main.specs.declared.fault.ScriptFault.TheVariants as script
 use Rattle.ioc_main.specs.declared.fault.RunFault.{RunFault}
-use Rattle.ioc_main.specs.declared.fault.RunFault.TheVariants.{BadDb, Usage, Read, Write, Memory}
+use Rattle.ioc_main.specs.declared.fault.RunFault.TheVariants.{BadDb, Usage, Help, Version, Read, Write, Memory}
 use Rattle.ioc_main.specs.declared.ending.Ending.{Ending}
+use Rattle.ioc_main.specs.declared.ending.Stream.{Stream}
 use Rattle.ioc_main.specs.declared.ending.Stream.TheVariants as stream
 
 -- the exit status of the program that a fault ends
 unfoldable pub status_of : RunFault → ℕ
 status_of (BadDb fault) = 1
 status_of Usage = 2
+status_of Help = 0
+status_of Version = 0
 status_of Read = 3
 status_of Write = 3
 status_of Memory = 4
@@ -24,7 +27,10 @@ status_of Memory = 4
 -- what a fault is called
 unfoldable pub fault_text : RunFault → List ℕ
 fault_text (BadDb fault) = db_fault_text fault
-fault_text Usage = codes "usage: ioc-replay DB SCRIPT"
+fault_text Usage = codes "usage: ioc-replay DB SCRIPT [NAME=VALUE].."
+fault_text Help =
+    codes "ioc-replay DB SCRIPT [NAME=VALUE]..\n\nLoads the database text DB, in which the macros NAME stand for VALUE, does the script SCRIPT to it, and prints a line for each reply.\n\n  --help     prints this\n  --version  prints the version"
+fault_text Version = codes "ioc-replay 0.1.0"
 fault_text Read = codes "the input cannot be read"
 fault_text Write = codes "the replies cannot be written"
 fault_text Memory = codes "out of memory"
@@ -54,10 +60,16 @@ whole_run (Err fault) flushed = Err fault
 whole_run (Ok _) (Err e) = Err Write
 whole_run (Ok _) (Ok _) = Ok tt
 
--- how the program ends: a fault has its status, and is told on standard error
+-- where a run tells why it stopped: on standard output what was asked for, and a fault on standard error
+unfoldable pub stream_of : RunFault → Stream
+stream_of Help = stream.Output
+stream_of Version = stream.Output
+stream_of _ = stream.Error
+
+-- how the program ends: each reason has its status and its stream
 unfoldable pub ending_of : Result (Unit {0}) RunFault → Ending
 ending_of (Ok _) = record { status = 0; stream = stream.Error; fault = None }
-ending_of (Err fault) = record { status = status_of fault; stream = stream.Error; fault = Some fault }
+ending_of (Err fault) = record { status = status_of fault; stream = stream_of fault; fault = Some fault }
 
 -- the line of a fault
 abbrev pub fault_line : Option RunFault → List ℕ

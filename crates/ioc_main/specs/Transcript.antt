@@ -6,21 +6,22 @@ use Rattle.ioc_types.specs.Record.{Record}
 use Rattle.ioc_process.specs.OneMap.{numbered}
 use Rattle.ioc_process.specs.World.{World}
 use Rattle.ioc_values.specs.declared.error.DbFault.{DbFault}
+use Rattle.ioc_dbtext.specs.Macros.{Defined}
 use Rattle.ioc_dbfile.specs.Loader.{Loading}
 use Rattle.ioc_dbfile.specs.Finished.{loaded_by}
 use Rattle.ioc_main.specs.declared.fault.RunFault.{RunFault}
-use Rattle.ioc_main.specs.declared.fault.RunFault.TheVariants.{BadDb, Usage, Read, Write, Memory}
+use Rattle.ioc_main.specs.declared.fault.RunFault.TheVariants.{BadDb, Read, Write, Memory}
 use Rattle.ioc_main.specs.Script.{lines_of}
 use Rattle.ioc_main.specs.Replay.{transcript}
 use Rattle.ioc_main.specs.Written.{WritesFront, WritesPart}
 
--- the database of a text, or its first fault
-abbrev pub loaded : List ℕ → Result (Loading Record) DbFault
-loaded text = loaded_by record_rules new_record text
+-- the database of a text by these macros, or its first fault
+abbrev pub loaded : List Defined → List ℕ → Result (Loading Record) DbFault
+loaded macros text = loaded_by record_rules new_record macros text
 
 -- a loaded database at the beginning
 abbrev pub first_world : List Record → World Record
-first_world records = record { records = numbered records; moment = 0; used = 0; outbox = []; dropped = 0 }
+first_world records = record { records = numbered records; moment = 0; calls = []; outbox = []; dropped = 0 }
 
 abbrev pub transcript_on : Loading Record → List ℕ → List ℕ
 transcript_on database script = transcript record_rules database.names (first_world database.records) (lines_of script)
@@ -30,19 +31,19 @@ abbrev pub transcript_by : Result (Loading Record) DbFault → List ℕ → List
 transcript_by (Ok database) script = transcript_on database script
 transcript_by (Err fault) script = []
 
--- the transcript of a database text and a script
-unfoldable pub transcript_of : List ℕ → List ℕ → List ℕ
-transcript_of text script = transcript_by (loaded text) script
+-- the transcript of a database text, its macros and a script
+unfoldable pub transcript_of : List Defined → List ℕ → List ℕ → List ℕ
+transcript_of macros text script = transcript_by (loaded macros text) script
 
 -- the text is that of a database
-abbrev pub IsDatabase : List ℕ → Type 0
-IsDatabase text = (database : Loading Record) × (loaded text ≡ Ok database)
+abbrev pub IsDatabase : List Defined → List ℕ → Type 0
+IsDatabase macros text = (database : Loading Record) × (loaded macros text ≡ Ok database)
 
 -- a refused text is told by its first fault, and nothing is written; else a beginning of the transcript was written, and after a
 -- failed write not all of it
-abbrev pub StopsWith : RunFault → List ℕ → Option (List ℕ) → Option (List ℕ) → Option (List ℕ) → Type 0
-StopsWith (BadDb fault) text script old new = (loaded text ≡ Err fault) × Keeps old new
-StopsWith Usage text script old new = ⊥
-StopsWith Memory text script old new = Keeps old new
-StopsWith Read text script old new = IsDatabase text × IfSome script (λ script. WritesFront old (transcript_of text script) new)
-StopsWith Write text script old new = IsDatabase text × IfSome script (λ script. WritesPart old (transcript_of text script) new)
+abbrev pub StopsWith : RunFault → List Defined → List ℕ → Option (List ℕ) → Option (List ℕ) → Option (List ℕ) → Type 0
+StopsWith (BadDb fault) macros text script old new = (loaded macros text ≡ Err fault) × Keeps old new
+StopsWith Memory macros text script old new = Keeps old new
+StopsWith Read macros text script old new = IsDatabase macros text × IfSome script (λ script. WritesFront old (transcript_of macros text script) new)
+StopsWith Write macros text script old new = IsDatabase macros text × IfSome script (λ script. WritesPart old (transcript_of macros text script) new)
+StopsWith _ macros text script old new = ⊥

@@ -1,6 +1,6 @@
 //! How the program ends.
 ghost use Rattle.std.specs.Prelude.{◌≡◌};
-ghost use Rattle.ioc_main.specs.Faults.{whole_run, ending_of, ending_text};
+ghost use Rattle.ioc_main.specs.Faults.{whole_run, stream_of, ending_of, ending_text};
 
 use crate::fault::RunFault;
 use std::{fmt, io};
@@ -21,19 +21,30 @@ pub struct Ending {
     pub fault: Option<RunFault>,
 }
 
+/// Where a run tells why it stopped.
+#[tactic(auto, unfolding(crate::specs::Faults::stream_of))]
+fn stream_of(fault: RunFault) -> Stream
+    ensures { result ≡ stream_of fault }
+{
+    match fault {
+        RunFault::Help | RunFault::Version => Stream::Output,
+        _ => Stream::Error,
+    }
+}
+
 impl Ending {
     /// How the program ends whose run came to this.
     #[tactic(auto, unfolding(crate::specs::Faults::ending_of))]
     pub fn of(ended: Result<(), RunFault>) -> Self
         ensures { result ≡ ending_of ended }
     {
-        let (status, fault) = match ended {
-            Ok(()) => (0, None),
-            Err(fault) => (fault.status(), Some(fault)),
+        let (status, stream, fault) = match ended {
+            Ok(()) => (0, Stream::Error, None),
+            Err(fault) => (fault.status(), stream_of(fault), Some(fault)),
         };
         Ending {
             status,
-            stream: Stream::Error,
+            stream,
             fault,
         }
     }

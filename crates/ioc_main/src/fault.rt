@@ -12,8 +12,12 @@ use std::{fmt, io};
 pub enum RunFault {
     /// The database text was refused.
     BadDb(DbFault),
-    /// The program was not given the two files.
+    /// The program was not given two files and macros.
     Usage,
+    /// The program was asked what it takes.
+    Help,
+    /// The program was asked for its version.
+    Version,
     /// The database or the script could not be read.
     Read,
     /// A reply could not be written.
@@ -117,13 +121,14 @@ pub fn is_out_of_memory(error: &io::Error) -> bool
 
 #[tactic(auto, unfolding(crate::specs::Faults::status_of))]
 impl RunFault {
-    /// The exit status of the program, 1 to 4.
+    /// The exit status of the program, 0 to 4: 0 where it did what it was asked for.
     pub fn status(self) -> u8
         ensures { result ≡ status_of self }
     {
         match self {
             RunFault::BadDb(_) => 1,
             RunFault::Usage => 2,
+            RunFault::Help | RunFault::Version => 0,
             RunFault::Read | RunFault::Write => 3,
             RunFault::Memory => 4,
         }
@@ -140,12 +145,18 @@ impl fmt::Display for RunFault {
     fn fmt<W: fmt::Write>(&self, f: &mut fmt::Formatter<W>) -> fmt::Result {
         match self {
             RunFault::BadDb(fault) => fault.fmt(f),
-            RunFault::Usage => f.write_str("usage: ioc-replay DB SCRIPT"),
+            RunFault::Usage => f.write_str("usage: ioc-replay DB SCRIPT [NAME=VALUE].."),
+            RunFault::Help => f.write_str(HELP),
+            RunFault::Version => f.write_str("ioc-replay 0.1.0"),
             RunFault::Read => f.write_str("the input cannot be read"),
             RunFault::Write => f.write_str("the replies cannot be written"),
             RunFault::Memory => f.write_str("out of memory"),
         }
     }
 }
+
+// What the program takes.
+const HELP: &str =
+    "ioc-replay DB SCRIPT [NAME=VALUE]..\n\nLoads the database text DB, in which the macros NAME stand for VALUE, does the script SCRIPT to it, and prints a line for each reply.\n\n  --help     prints this\n  --version  prints the version";
 
 impl std::error::Error for RunFault {}

@@ -19,7 +19,7 @@ use crate::settled::event_leaves_settled;
 use ioc_fields::{FieldNo, field};
 use ioc_ledger::Tally;
 use ioc_names::{Names, RecordNo};
-use ioc_process::{Frame, OneMap, Reply, Store, run_get, run_put, run_request};
+use ioc_process::{Frame, OneMap, Reply, Store, Unwired, run_get, run_put, run_request};
 use ioc_record::RecordKind;
 use ioc_types::Record;
 use ioc_values::{Input, IocError};
@@ -30,7 +30,7 @@ use std::alloc::{AllocError, Global};
 #[derive(Drop)]
 pub struct Replay {
     names: Names,
-    map: OneMap<Record>,
+    map: OneMap<Record, Unwired>,
     // Open frames of the line under way, with room for all records from the load on.
     frames: Vec<Frame>,
     tally: Tally,
@@ -41,7 +41,11 @@ pub struct Replay {
 
 impl Replay {
     /// A database of these names and records. The frames take their room here, so that no line wants memory.
-    pub fn new(alloc: Global, names: Names, map: OneMap<Record>) -> Result<Self, AllocError>
+    pub fn new(
+        alloc: Global,
+        names: Names,
+        map: OneMap<Record, Unwired>,
+    ) -> Result<Self, AllocError>
         requires { IsSettled record_rules (world_of map) }
         ensures names { IfOk result (λ r. r.names ≡ names) }
         ensures world { IfOk result (λ r. world_of r.map ≡ begun_at 0 (world_of map)) }

@@ -10,7 +10,7 @@ use ioc_dbfile::{Database, Macros, load};
 use std::alloc::Global;
 use std::io::{Read, Write};
 
-/// Loads a database text, and answers a script until its end: each line is answered as it is read, and no line is kept
+/// Loads a database text by the macros that it may use, and answers a script until its end: each line is answered as it is read, and no line is kept
 /// past its 1,025th byte.
 ///
 /// # Errors
@@ -26,9 +26,9 @@ pub fn run<R: Read + Drop, W: Write>(
     script: R,
     out: &mut W,
 ) -> Result<(), RunFault>
-    // What is written is the transcript of the database text and of what the script held.
-    ensures ok { OnOk result (IsDatabase db.now × IfSome (R.remaining script) (λ text. Appends (W.contents out.old) (W.contents out.new) (transcript_of db.now text))) }
-    ensures err { IfErr result (λ fault. StopsWith fault db.now (R.remaining script) (W.contents out.old) (W.contents out.new)) }
+    // What is written is the transcript of the database text with its macros and of what the script held.
+    ensures ok { OnOk result (IsDatabase macros.now db.now × IfSome (R.remaining script) (λ text. Appends (W.contents out.old) (W.contents out.new) (transcript_of macros.now db.now text))) }
+    ensures err { IfErr result (λ fault. StopsWith fault macros.now db.now (R.remaining script) (W.contents out.old) (W.contents out.new)) }
 {
     let Database { names, map } = load(alloc, db, macros)?;
     let mut replay = Replay::new(alloc, names, map)?;

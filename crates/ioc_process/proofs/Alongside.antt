@@ -1,15 +1,15 @@
 -- Two worlds side by side, in which the same requests are made: what holds of both goes on to hold.
-use Rattle.std.proofs.Common.{◌≡◌, ℕ, zero, suc, ◌+◌, Bool, true, false, cond, eqb, List, [], ◌∷◌, Option, Some, None as Nothing_, refl, ap, subst, ◌∙◌, arith}
+use Rattle.std.proofs.Common.{◌≡◌, ℕ, zero, suc, ◌+◌, Bool, true, false, cond, eqb, List, [], ◌∷◌, length, Option, Some, None as Nothing_, refl, ap, subst, ◌∙◌, arith}
 use Rattle.std.specs.Prelude.{slice_get, unwrap_or, Result, Ok, Err, Contains, nat_lt, ◌&&◌, ◌||◌, ◌-◌, ◌^◌}
-use Rattle.ioc_record.specs.declared.common.Common.{Common}
-use Rattle.ioc_record.specs.declared.link_field.LinkUse.{LinkUse}
-use Rattle.ioc_record.specs.declared.link_field.LinkUse.TheVariants.{Unused, OwnDevice, Absent, Standing}
-use Rattle.ioc_record.specs.declared.link_field.StandingLink.{StandingLink}
-use Rattle.ioc_record.specs.declared.body.Got.{Got}
-use Rattle.ioc_record.specs.declared.body.Want.{Want}
-use Rattle.ioc_record.specs.declared.body.Want.TheVariants.{NoInput, ReadLink, ReadDevice}
-use Rattle.ioc_record.specs.declared.body.Output.{Output}
-use Rattle.ioc_record.specs.declared.body.Output.TheVariants.{NoOutput, WriteLink, WriteDevice, FollowLinks, PostEvent}
+use Rattle.ioc_common.specs.declared.common.Common.{Common}
+use Rattle.ioc_common.specs.declared.link_field.LinkUse.{LinkUse}
+use Rattle.ioc_common.specs.declared.link_field.LinkUse.TheVariants.{Unused, OwnDevice, Absent, Standing}
+use Rattle.ioc_common.specs.declared.link_field.StandingLink.{StandingLink}
+use Rattle.ioc_common.specs.declared.body.Got.{Got}
+use Rattle.ioc_common.specs.declared.body.Want.{Want}
+use Rattle.ioc_common.specs.declared.body.Want.TheVariants.{NoInput, ReadLink, ReadDevice}
+use Rattle.ioc_common.specs.declared.body.Output.{Output}
+use Rattle.ioc_common.specs.declared.body.Output.TheVariants.{NoOutput, WriteLink, WriteDevice, FollowLinks, PostEvent}
 use Rattle.ioc_fields.specs.declared.field_no.FieldNo.{FieldNo}
 use Rattle.ioc_fields.specs.declared.field_no.FieldNo.TheVariants.{Own}
 use Rattle.ioc_fields.specs.declared.field_no.OwnField.TheVariants.{Lnk}
@@ -18,37 +18,61 @@ use Rattle.ioc_values.specs.declared.input.Input.{Input}
 use Rattle.ioc_values.specs.declared.input.Input.TheVariants.{Value as InputValue}
 use Rattle.ioc_device.specs.declared.Answer.{Answer}
 use Rattle.ioc_device.specs.declared.Answer.TheVariants.{Done as Done-answer, Fault as Fault-answer, Later}
-use Rattle.ioc_ledger.specs.declared.outcome.Outcome.TheVariants.{Processed}
+use Rattle.ioc_ledger.specs.declared.outcome.Outcome.{Outcome}
+use Rattle.ioc_ledger.specs.declared.outcome.Outcome.TheVariants.{Disabled, Reprocess}
 use Rattle.ioc_values.specs.declared.value.Value.{Value}
 use Rattle.ioc_values.specs.declared.error.IocError.{IocError}
-use Rattle.ioc_record.specs.Links.{use_of}
+use Rattle.ioc_common.specs.Links.{use_of}
 use Rattle.ioc_record.specs.Values.{read_as, converted_to, put_untested, converted_for}
-use Rattle.ioc_record.specs.Steps.{inherited, blocked, unblocked, with_active, shown, is_passive}
+use Rattle.ioc_common.specs.Steps.{inherited, blocked, unblocked, with_active, shown, is_passive, with_put_mark, with_reprocess_mark, disabled, disable_kind}
 use Rattle.ioc_record.specs.RecordRules.{RecordRules, targets}
 use Rattle.ioc_record.specs.Laws.{IsLawful}
 use Rattle.ioc_process.specs.declared.outbox.OutboxItem.{OutboxItem}
-use Rattle.ioc_process.specs.declared.outbox.OutboxItem.TheVariants.{Post}
-use Rattle.ioc_process.specs.World.{World, at, common_at, put, changed, idle, used_one, sent}
+use Rattle.ioc_process.specs.declared.outbox.OutboxItem.TheVariants.{Once, Post}
+use Rattle.ioc_process.specs.World.{World, at, common_at, put, changed, idle, called, sent}
+use Rattle.ioc_process.specs.Marks.{is_put_down, put_down, put_mark_passed, resumed, at_rest, with_disable_input, is_disabled}
+use Rattle.ioc_process.specs.declared.call.Call.{Call}
+use Rattle.ioc_device.specs.declared.Ask.{Ask}
+use Rattle.ioc_device.specs.declared.Ask.TheVariants.{Read as Read-ask, Write as Write-ask}
+use Rattle.ioc_values.specs.declared.value.Finished.{Finished}
+use Rattle.ioc_common.specs.declared.body.InputKind.{InputKind}
+use Rattle.ioc_common.specs.declared.body.Got.TheVariants.{Nothing as Got-nothing, Value as Got-value, Fault as Got-fault}
 use Rattle.ioc_process.specs.Links.{link_at, use_of_field, chosen_links, is_proc, requests_first, requests_after, handed_on}
 use Rattle.ioc_ledger.specs.Requests.{Requests, None, Request, followed_by}
-use Rattle.ioc_process.specs.Processing.{Done, Came, Reading, Written, PutOut, caused, followed, inherits, value_came, stored_at, wrote, after_writing, write_link, followed_each, finished, finished_if, after_output, acknowledged, write_device, put_out, prepared, read_record, faulted, read_link, completed, completed_if, device_gave, received, read_device, can_ask, input, body, turned_away, processed, requested, nested, request}
+use Rattle.ioc_process.specs.Processing.{Done, Ran, Read, Came, Reading, Written, PutOut, as_request, ran_after, processed, asked, rested, disable_came, next_call, judged, begun_idle, ran, went_on_at_last, caused, followed, inherits, value_came, stored_at, wrote, after_writing, write_link, followed_each, finished, finished_if, after_output, acknowledged, write_device, put_out, prepared, read_record, faulted, read_link, completed, completed_if, device_gave, received, read_device, can_ask, input, body, turned_away, requested, nested, request, read_at}
 use Rattle.ioc_process.proofs.StepFrames.{OwnLinks, blocked-frame, stored_with}
 use Rattle.ioc_process.proofs.Named.{link_named}
 use Rattle.ioc_process.proofs.Depth.{request-nested}
+
+both_followed : {a b c d : Requests} → a ≡ b → c ≡ d → followed_by a c ≡ followed_by b d
+both_followed {a} {b} {c} {d} one two = ap (λ (x : Requests). followed_by x c) one ∙ ap (followed_by b) two
+
+-- marks leave the links alone
+pub passed-links : (by_put : Bool) (c : Common) → OwnLinks c (put_mark_passed by_put c)
+unfolding put_mark_passed
+passed-links by_put c = elim c.active as (λ b. OwnLinks c (cond b c (with_put_mark by_put c))) [
+  | true ↦ (refl, refl)
+  | false ↦ (refl, refl)
+]
+
+pub disabled-links : (c : Common) → OwnLinks c (disabled c)
+unfolding disabled
+disabled-links c = (refl, refl)
 
 -- What is asked of an invariant of two worlds: these records are the same and good in both, a good record's links name some of them,
 -- a good record stays good, and the invariant outlasts each step by which a world changes
 pub record Guards {R : Type 0} (k : RecordRules R) (May : ℕ → Type 0) (Good : ℕ → R → Type 0) (Inv : World R → World R → Type 0) : Type 0 where
   pub same : {w v : World R} → Inv w v → (n : ℕ) → May n → at k w n ≡ at k v n
   pub good : {w v : World R} → Inv w v → (n : ℕ) → May n → Good n (at k w n)
-  pub used : {w v : World R} → Inv w v → w.used ≡ v.used
+  pub calls : {w v : World R} → Inv w v → w.calls ≡ v.calls
   pub moment : {w v : World R} → Inv w v → w.moment ≡ v.moment
   pub link : {n : ℕ} {r : R} → Good n r → (target : ℕ) → Contains (targets k r) target → May target
   pub common : {n : ℕ} {r : R} → Good n r → (c : Common) → OwnLinks (k.common r) c → Good n (k.with_common r c)
   pub taken : {n : ℕ} {r : R} → Good n r → (got : Got) → Good n (k.taken r got)
+  pub finished : {n : ℕ} {r : R} → Good n r → (x : Finished) → Good n (k.finished r x)
   pub stored : {n : ℕ} {r : R} → Good n r → (f : FieldNo) (v : Value) → Good n (k.stored r f v)
   pub put : {w v : World R} → Inv w v → (n : ℕ) → May n → (r : R) → Good n r → Inv (put w n r) (put v n r)
-  pub use_one : {w v : World R} → Inv w v → Inv (used_one w) (used_one v)
+  pub call : {w v : World R} → Inv w v → (one : Call) → Inv (called one w) (called one v)
   pub send : {w v : World R} → Inv w v → (item : OutboxItem) → Inv (sent item w) (sent item v)
 
 pub record Goes {R : Type 0} (Inv : World R → World R → Type 0) (done other : Done R) : Type 0 where
@@ -59,6 +83,16 @@ pub record GoesRead {R : Type 0} (Inv : World R → World R → Type 0) (done ot
   pub inv : Inv done.world other.world
   pub requests : done.requests ≡ other.requests
   pub came : done.came ≡ other.came
+
+pub record GoesThrough {R : Type 0} (Inv : World R → World R → Type 0) (read other : Read R) : Type 0 where
+  pub inv : Inv read.world other.world
+  pub requests : read.requests ≡ other.requests
+  pub came : read.came ≡ other.came
+
+pub record GoesRan {R : Type 0} (Inv : World R → World R → Type 0) (ran other : Ran R) : Type 0 where
+  pub inv : Inv ran.world other.world
+  pub requests : ran.requests ≡ other.requests
+  pub outcome : ran.outcome ≡ other.outcome
 
 pub record GoesCame {R : Type 0} (Inv : World R → World R → Type 0) (read other : Came R) : Type 0 where
   pub inv : Inv read.world other.world
@@ -122,21 +156,25 @@ module _ {R : Type 0} (k : RecordRules R) (lawful : IsLawful k) (May : ℕ → T
 
   can-same : {w v : World R} → Inv w v → (s : ℕ) → May s → can_ask k w s ≡ can_ask k v s
   can-same {w} {v} inv s may =
-      ap (λ (n : ℕ). nat_lt n 256 && nat_lt (common_at k w s).last_pending (2 ^ 64 - 1)) (g.used inv)
-      ∙ ap (λ (r : R). nat_lt v.used 256 && nat_lt (k.common r).last_pending (2 ^ 64 - 1)) (g.same inv s may)
+      ap (λ (calls : List Call). nat_lt (length calls) 256 && nat_lt (common_at k w s).last_pending (2 ^ 64 - 1)) (g.calls inv)
+      ∙ ap (λ (r : R). nat_lt (length v.calls) 256 && nat_lt (k.common r).last_pending (2 ^ 64 - 1)) (g.same inv s may)
+
+  next-same : (answers : List Answer) {w v : World R} → Inv w v → (s : ℕ) (ask : Ask) → next_call k answers w s ask ≡ next_call k answers v s ask
+  next-same answers inv s ask = ap (λ (calls : List Call). record { target = s; ask = ask; answer = unwrap_or (slice_get answers (length calls)) Fault-answer }) (g.calls inv)
 
   pub read_device-goes : (answers : List Answer) {w v : World R} → Inv w v → (s : ℕ) → May s → GoesRead Inv (read_device k answers w s) (read_device k answers v s)
   unfolding read_device
   read_device-goes answers {w} {v} inv s may =
-      let next = λ (n : ℕ). unwrap_or (slice_get answers n) Fault-answer in
-      subst (λ (b : Bool). GoesRead Inv (read_device k answers w s) (cond b (received k (used_one v) s (next v.used)) (received k v s Fault-answer)))
+      let call = next_call k answers w s Read-ask in
+      subst (λ (c : Call). GoesRead Inv (read_device k answers w s) (cond (can_ask k v s) (received k (called c v) s c.answer) (received k v s Fault-answer))) (next-same answers inv s Read-ask)
+      (subst (λ (b : Bool). GoesRead Inv (read_device k answers w s) (cond b (received k (called call v) s call.answer) (received k v s Fault-answer)))
       (can-same inv s may)
       (elim (can_ask k w s) as (λ b. GoesRead Inv
-      (cond b (received k (used_one w) s (next w.used)) (received k w s Fault-answer))
-      (cond b (received k (used_one v) s (next v.used)) (received k v s Fault-answer))) [
-        | true ↦ subst (λ (n : ℕ). GoesRead Inv (received k (used_one w) s (next w.used)) (received k (used_one v) s (next n))) (g.used inv) (received-goes (g.use_one inv) s may _)
+      (cond b (received k (called call w) s call.answer) (received k w s Fault-answer))
+      (cond b (received k (called call v) s call.answer) (received k v s Fault-answer))) [
+        | true ↦ received-goes (g.call inv call) s may call.answer
         | false ↦ received-goes inv s may Fault-answer
-      ])
+      ]))
 
   first-same : {w v : World R} → Inv w v → (t : StandingLink) → May t.number → requests_first k w t ≡ requests_first k v t
   first-same inv t there = ap (λ (r : R). t.process_passive && is_passive (k.common r)) (g.same inv t.number there)
@@ -176,30 +214,63 @@ module _ {R : Type 0} (k : RecordRules R) (lawful : IsLawful k) (May : ℕ → T
   acknowledged-goes inv s may Fault-answer = record { inv = changed-goes inv s may _ (λ c. (refl, refl)); requests = refl; goes_on = refl }
   acknowledged-goes inv s may Later = record { inv = changed-goes inv s may _ (λ _. (refl, refl)); requests = refl; goes_on = refl }
 
-  pub write_device-goes : (answers : List Answer) {w v : World R} → Inv w v → (s : ℕ) → May s → GoesOut Inv (write_device k answers w s) (write_device k answers v s)
+  pub write_device-goes : (answers : List Answer) {w v : World R} → Inv w v → (s : ℕ) → May s → (x : Value) → GoesOut Inv (write_device k answers w s x) (write_device k answers v s x)
   unfolding write_device
-  write_device-goes answers {w} {v} inv s may =
-      let next = λ (n : ℕ). unwrap_or (slice_get answers n) Fault-answer in
-      subst (λ (b : Bool). GoesOut Inv (write_device k answers w s) (cond b (acknowledged k (used_one v) s (next v.used)) (acknowledged k v s Fault-answer)))
+  write_device-goes answers {w} {v} inv s may x =
+      let call = next_call k answers w s (Write-ask x) in
+      subst (λ (c : Call). GoesOut Inv (write_device k answers w s x) (cond (can_ask k v s) (acknowledged k (called c v) s c.answer) (acknowledged k v s Fault-answer))) (next-same answers inv s (Write-ask x))
+      (subst (λ (b : Bool). GoesOut Inv (write_device k answers w s x) (cond b (acknowledged k (called call v) s call.answer) (acknowledged k v s Fault-answer)))
       (can-same inv s may)
       (elim (can_ask k w s) as (λ b. GoesOut Inv
-      (cond b (acknowledged k (used_one w) s (next w.used)) (acknowledged k w s Fault-answer))
-      (cond b (acknowledged k (used_one v) s (next v.used)) (acknowledged k v s Fault-answer))) [
-        | true ↦ subst (λ (n : ℕ). GoesOut Inv (acknowledged k (used_one w) s (next w.used)) (acknowledged k (used_one v) s (next n))) (g.used inv) (acknowledged-goes (g.use_one inv) s may _)
+      (cond b (acknowledged k (called call w) s call.answer) (acknowledged k w s Fault-answer))
+      (cond b (acknowledged k (called call v) s call.answer) (acknowledged k v s Fault-answer))) [
+        | true ↦ acknowledged-goes (g.call inv call) s may call.answer
         | false ↦ acknowledged-goes inv s may Fault-answer
+      ]))
+
+  -- what SDIS gave
+  pub disable_came-goes : {w v : World R} → Inv w v → (s : ℕ) → May s → (got : Got) → Inv (disable_came k w s got) (disable_came k v s got)
+  unfolding disable_came with_disable_input
+  disable_came-goes inv s may (Got-value x) = changed-goes inv s may _ (λ c. (refl, refl))
+  disable_came-goes inv s may Got-nothing = inv
+  disable_came-goes inv s may Got-fault = inv
+
+  -- a record comes to rest
+  pub rested-goes : {w v : World R} → Inv w v → (s : ℕ) → May s → Inv (rested k w s) (rested k v s)
+  unfolding rested
+  rested-goes {w} {v} inv s may =
+      let quiet = changed-goes inv s may at_rest (λ c. (refl, refl)) in
+      subst (λ (r : R). Inv (rested k w s) (cond (k.common r).reprocess (sent (Once s) (changed k v s at_rest)) (changed k v s at_rest))) (g.same inv s may)
+      (elim (common_at k w s).reprocess as (λ b. Inv (cond b (sent (Once s) (changed k w s at_rest)) (changed k w s at_rest)) (cond b (sent (Once s) (changed k v s at_rest)) (changed k v s at_rest))) [
+        | true ↦ g.send quiet (Once s)
+        | false ↦ quiet
       ])
 
   shown-goes : {w v : World R} → Inv w v → (s : ℕ) → May s → Inv (changed k w s (shown w.moment)) (changed k v s (shown v.moment))
   shown-goes {w} {v} inv s may = subst (λ (n : ℕ). Inv (changed k w s (shown w.moment)) (changed k v s (shown n))) (g.moment inv) (changed-goes inv s may (shown w.moment) (λ c. (refl, refl)))
 
   module _ (ask other : World R → ℕ → Done R) (asks : (w v : World R) → Inv w v → (s : ℕ) → May s → Goes Inv (ask w s) (other v s)) where
+    pub asked-goes : {w v : World R} → Inv w v → (s : ℕ) → May s → (t : ℕ) → May t → Goes Inv (asked k ask w s t) (asked k other v s t)
+    unfolding asked
+    asked-goes {w} {v} inv s may t there =
+        let by_put = (common_at k w s).by_put in
+        let down : World R → Done R = λ u. record { world = changed k u t put_down; requests = Request Reprocess None None } in
+        let mine : Bool → Bool → Done R = λ p b. cond {A = Done R} b (down w) (ask (changed k w t (put_mark_passed p)) t) in
+        let theirs : Bool → Bool → Done R = λ p b. cond {A = Done R} b (down v) (other (changed k v t (put_mark_passed p)) t) in
+        subst (λ (r : R). Goes Inv (asked k ask w s t) (theirs (k.common r).by_put (is_put_down (k.common r).by_put (common_at k v t)))) (g.same inv s may)
+        (subst (λ (r : R). Goes Inv (asked k ask w s t) (theirs by_put (is_put_down by_put (k.common r)))) (g.same inv t there)
+        (elim (is_put_down by_put (common_at k w t)) as (λ b. Goes Inv (mine by_put b) (theirs by_put b)) [
+          | true ↦ record { inv = changed-goes inv t there put_down (λ c. (blocked-frame (with_reprocess_mark true c)).links); requests = refl }
+          | false ↦ asks _ _ (changed-goes inv t there (put_mark_passed by_put) (passed-links by_put)) t there
+        ]))
+
     pub caused-goes : {w v : World R} → Inv w v → (s : ℕ) → May s → (t : ℕ) → May t → Goes Inv (caused k ask w s t) (caused k other v s t)
     unfolding caused
     caused-goes {w} {v} inv s may t there =
-        let first = asks _ _ (changed-goes inv s may (with_active true) (λ _. (refl, refl))) t there in
+        let first = asked-goes (changed-goes inv s may (with_active true) (λ _. (refl, refl))) s may t there in
         record {
-          inv = subst (λ (r : R). Inv (changed k (ask (changed k w s (with_active true)) t).world s (with_active (common_at k w s).active))
-              (changed k (other (changed k v s (with_active true)) t).world s (with_active (k.common r).active)))
+          inv = subst (λ (r : R). Inv (changed k (asked k ask (changed k w s (with_active true)) s t).world s (with_active (common_at k w s).active))
+              (changed k (asked k other (changed k v s (with_active true)) s t).world s (with_active (k.common r).active)))
               (g.same inv s may) (changed-goes first.inv s may _ (λ _. (refl, refl)));
           requests = first.requests;
         }
@@ -232,25 +303,25 @@ module _ {R : Type 0} (k : RecordRules R) (lawful : IsLawful k) (May : ℕ → T
           | false ↦ record { inv = inv; requests = refl }
         ])
 
-    pub read_record-goes : {w v : World R} → Inv w v → (s : ℕ) → May s → (t : StandingLink) → May t.number → GoesRead Inv (read_record k ask w s t) (read_record k other v s t)
-    unfolding read_record
-    read_record-goes {w} {v} inv s may t there =
+    pub read_record-goes : (kind : R → InputKind) {w v : World R} → Inv w v → (s : ℕ) → May s → (t : StandingLink) → May t.number → GoesThrough Inv (read_record k ask kind w s t) (read_record k other kind v s t)
+    unfolding read_record read_at
+    read_record-goes kind {w} {v} inv s may t there =
         let first = prepared-goes inv s may t there in
         let one = (prepared k ask w s t).world in
         let two = (prepared k other v s t).world in
-        let value = λ (a b : R). read_as k a t.field (k.input_kind b) in
+        let value = λ (a b : R). read_as k a t.field (kind b) in
         let mine = value_came k one s t (value (at k one t.number) (at k one s)) in
         let came = subst (λ (r : R). GoesCame Inv mine (value_came k two s t (value r (at k two s)))) (g.same first.inv t.number there)
         (subst (λ (r : R). GoesCame Inv mine (value_came k two s t (value (at k one t.number) r))) (g.same first.inv s may) (value_came-goes first.inv s may t there _)) in
-        record { inv = came.inv; requests = first.requests; came = ap Some came.came }
+        record { inv = came.inv; requests = first.requests; came = came.came }
 
-    pub read_link-goes : {w v : World R} → Inv w v → (s : ℕ) → May s → (link : LinkUse) → ((t : StandingLink) → link ≡ Standing t → May t.number)
-        → GoesRead Inv (read_link k ask w s link) (read_link k other v s link)
+    pub read_link-goes : (kind : R → InputKind) {w v : World R} → Inv w v → (s : ℕ) → May s → (link : LinkUse) → ((t : StandingLink) → link ≡ Standing t → May t.number)
+        → GoesThrough Inv (read_link k ask kind w s link) (read_link k other kind v s link)
     unfolding read_link
-    read_link-goes inv s may (Standing t) there = read_record-goes inv s may t (there t refl)
-    read_link-goes inv s may Unused there = record { inv = inv; requests = refl; came = refl }
-    read_link-goes inv s may OwnDevice there = record { inv = faulted-goes inv s may; requests = refl; came = refl }
-    read_link-goes inv s may Absent there = record { inv = faulted-goes inv s may; requests = refl; came = refl }
+    read_link-goes kind inv s may (Standing t) there = read_record-goes kind inv s may t (there t refl)
+    read_link-goes kind inv s may Unused there = record { inv = inv; requests = refl; came = refl }
+    read_link-goes kind inv s may OwnDevice there = record { inv = faulted-goes inv s may; requests = refl; came = refl }
+    read_link-goes kind inv s may Absent there = record { inv = faulted-goes inv s may; requests = refl; came = refl }
 
     calls-goes : {w v : World R} → Inv w v → (s : ℕ) → May s → (t : StandingLink) → May t.number → (b : Bool) →
         Goes Inv (cond {A = Done R} b (caused k ask w s t.number) (record { world = w; requests = None })) (cond {A = Done R} b (caused k other v s t.number) (record { world = v; requests = None }))
@@ -304,9 +375,9 @@ module _ {R : Type 0} (k : RecordRules R) (lawful : IsLawful k) (May : ℕ → T
         let there = shown-goes inv s may in
         let rest = followed-goes there s may (use_of (common_at k ready s).forward_link) (λ t is. g.link (g.good there s may) t.number (lawful.forward_named (at k ready s) t is)) in
         subst (λ (link : LinkUse). Goes Inv (finished k ask w s)
-        (record { world = changed k (followed k other ready' s link).world s (with_active false); requests = (followed k other ready' s link).requests }))
+        (record { world = rested k (followed k other ready' s link).world s; requests = (followed k other ready' s link).requests }))
         (ap (λ (r : R). use_of (k.common r).forward_link) (g.same there s may))
-        (record { inv = changed-goes rest.inv s may (with_active false) (λ _. (refl, refl)); requests = rest.requests })
+        (record { inv = rested-goes rest.inv s may; requests = rest.requests })
 
     finished_if-goes : {w v : World R} → Inv w v → (s : ℕ) → May s → (b : Bool) → Goes Inv (finished_if k ask w s b) (finished_if k other v s b)
     finished_if-goes inv s may true = finished-goes inv s may
@@ -326,7 +397,7 @@ module _ {R : Type 0} (k : RecordRules R) (lawful : IsLawful k) (May : ℕ → T
       put_out-goes inv s may (WriteLink link x) there =
           let done = write_link-goes inv s may link (λ t is. there t x (ap (λ (l : LinkUse). WriteLink l x) is)) x in
           record { inv = done.inv; requests = done.requests; goes_on = refl }
-      put_out-goes inv s may (WriteDevice x) there = write_device-goes answers inv s may
+      put_out-goes inv s may (WriteDevice x) there = write_device-goes answers inv s may x
       put_out-goes inv s may (FollowLinks links) there =
           let done = followed_each-goes (chosen_links links) inv s may in
           record { inv = done.inv; requests = done.requests; goes_on = refl }
@@ -358,7 +429,9 @@ module _ {R : Type 0} (k : RecordRules R) (lawful : IsLawful k) (May : ℕ → T
           → GoesRead Inv (input k answers ask w s want) (input k answers other v s want)
       unfolding input
       input-goes inv s may NoInput there = record { inv = inv; requests = refl; came = refl }
-      input-goes inv s may (ReadLink link) there = read_link-goes inv s may link (λ t is. there t (ap ReadLink is))
+      input-goes inv s may (ReadLink link) there =
+          let read = read_link-goes k.input_kind inv s may link (λ t is. there t (ap ReadLink is)) in
+          record { inv = read.inv; requests = read.requests; came = ap Some read.came }
       input-goes inv s may ReadDevice there = read_device-goes answers inv s may
 
       pub body-goes : {w v : World R} → Inv w v → (s : ℕ) → May s → Goes Inv (body k answers ask w s) (body k answers other v s)
@@ -367,28 +440,79 @@ module _ {R : Type 0} (k : RecordRules R) (lawful : IsLawful k) (May : ℕ → T
           rw (← g.same inv s may)
           (rest-goes _ _ (input-goes inv s may (k.begin (at k w s)) (λ t is. g.link (g.good inv s may) t.number (lawful.begin_named (at k w s) t is))) s may)
 
-      pub requested-goes : {w v : World R} → Inv w v → (s : ℕ) → May s → Goes Inv (requested k answers ask w s) (requested k answers other v s)
+      pub judged-goes : {w v : World R} → Inv w v → (s : ℕ) → May s → GoesRan Inv (judged k answers ask w s) (judged k answers other v s)
+      unfolding judged
+      judged-goes {w} {v} inv s may =
+          let off : World R → Ran R = λ u. record { world = changed k u s disabled; requests = None; outcome = Disabled } in
+          subst (λ (r : R). GoesRan Inv (judged k answers ask w s) (cond {A = Ran R} (is_disabled (k.common r)) (off v) (processed (body k answers other v s)))) (g.same inv s may)
+          (elim (is_disabled (common_at k w s)) as (λ b. GoesRan Inv (cond {A = Ran R} b (off w) (processed (body k answers ask w s))) (cond {A = Ran R} b (off v) (processed (body k answers other v s)))) [
+            | true ↦ record { inv = changed-goes inv s may disabled disabled-links; requests = refl; outcome = refl }
+            | false ↦ let rest = body-goes inv s may in record { inv = rest.inv; requests = rest.requests; outcome = refl }
+          ])
+
+      pub begun_idle-goes : {w v : World R} → Inv w v → (s : ℕ) → May s → GoesRan Inv (begun_idle k answers ask w s) (begun_idle k answers other v s)
+      unfolding begun_idle ran_after
+      begun_idle-goes {w} {v} inv s may =
+          let ready = changed k w s unblocked in
+          let ready' = changed k v s unblocked in
+          let link = use_of (common_at k ready s).disable_link in
+          let first = changed-goes inv s may unblocked (λ _. (refl, refl)) in
+          let read = read_link-goes (λ _. disable_kind) first s may link (λ t is. g.link (g.good first s may) t.number (lawful.disable_named (at k ready s) t is)) in
+          let mine = read_link k ask (λ _. disable_kind) ready s link in
+          let theirs = read_link k other (λ _. disable_kind) ready' s link in
+          let disables : Inv (disable_came k mine.world s mine.came) (disable_came k theirs.world s theirs.came) =
+          subst (λ (got : Got). Inv (disable_came k mine.world s mine.came) (disable_came k theirs.world s got)) read.came (disable_came-goes read.inv s may mine.came) in
+          let rest = judged-goes disables s may in
+          subst (λ (r : R). GoesRan Inv (begun_idle k answers ask w s)
+          (let back = read_link k other (λ _. disable_kind) ready' s (use_of (k.common r).disable_link) in ran_after back.requests (judged k answers other (disable_came k back.world s back.came) s)))
+          (g.same first s may)
+          (record { inv = rest.inv; requests = both_followed read.requests rest.requests; outcome = rest.outcome })
+
+      pub requested-goes : {w v : World R} → Inv w v → (s : ℕ) → May s → GoesRan Inv (requested k answers ask w s) (requested k answers other v s)
       unfolding requested
       requested-goes {w} {v} inv s may =
-          subst (λ (b : Bool). Goes Inv (requested k answers ask w s) (cond {A = Done R} b (turned_away k answers other v s) (processed k answers other v s)))
+          subst (λ (b : Bool). GoesRan Inv (requested k answers ask w s) (cond {A = Ran R} b (turned_away k answers other v s) (begun_idle k answers other v s)))
           (ap (λ (r : R). (k.common r).active) (g.same inv s may))
-          (elim (common_at k w s).active as (λ b. Goes Inv
-          (cond {A = Done R} b (turned_away k answers ask w s) (processed k answers ask w s))
-          (cond {A = Done R} b (turned_away k answers other v s) (processed k answers other v s))) [
-            | true ↦ record { inv = changed-goes inv s may blocked (λ c. (blocked-frame c).links); requests = refl }
-            | false ↦
-                let rest = body-goes (changed-goes inv s may unblocked (λ _. (refl, refl))) s may in
-                record { inv = rest.inv; requests = ap (λ (x : Requests). Request Processed x None) rest.requests }
+          (elim (common_at k w s).active as (λ b. GoesRan Inv
+          (cond {A = Ran R} b (turned_away k answers ask w s) (begun_idle k answers ask w s))
+          (cond {A = Ran R} b (turned_away k answers other v s) (begun_idle k answers other v s))) [
+            | true ↦ record { inv = changed-goes inv s may blocked (λ c. (blocked-frame c).links); requests = refl; outcome = refl }
+            | false ↦ begun_idle-goes inv s may
           ])
+
+  pub as_request-goes : (ran other : Ran R) → GoesRan Inv ran other → Goes Inv (as_request ran) (as_request other)
+  as_request-goes ran other go = record {
+    inv = go.inv;
+    requests = ap (λ (x : Requests). Request ran.outcome x None) go.requests ∙ ap (λ (o : Outcome). Request o other.requests None) go.outcome;
+  }
 
   module _ (answers : List Answer) where
     nested-goes : (depth : ℕ) {w v : World R} → Inv w v → (s : ℕ) → May s → Goes Inv (nested k answers depth w s) (nested k answers depth v s)
     unfolding nested
     nested-goes zero inv s may = record { inv = inv; requests = refl }
-    nested-goes (suc depth) inv s may = requested-goes _ _ (λ w v. nested-goes depth) answers inv s may
+    nested-goes (suc depth) inv s may = as_request-goes _ _ (requested-goes _ _ (λ w v. nested-goes depth) answers inv s may)
 
     -- two worlds need not have as many idle records
     pub request-goes : {w v : World R} → Inv w v → (s : ℕ) → May s → Goes Inv (request k answers w s) (request k answers v s)
     request-goes {w} {v} inv s may =
         let depth = suc (idle k w + idle k v) in
         rw (← request-nested k lawful answers depth w s (omega arith), ← request-nested k lawful answers depth v s (omega arith)) (nested-goes depth inv s may)
+
+    pub ran-goes : {w v : World R} → Inv w v → (s : ℕ) → May s → GoesRan Inv (ran k answers w s) (ran k answers v s)
+    unfolding ran
+    ran-goes inv s may = requested-goes _ _ (λ w v. request-goes) answers inv s may
+
+    -- a record whose device answered at last
+    pub at_last-goes : {w v : World R} → Inv w v → (s : ℕ) → May s → (x : Finished) → Goes Inv (went_on_at_last k answers w s x) (went_on_at_last k answers v s x)
+    unfolding went_on_at_last
+    at_last-goes {w} {v} inv s may x =
+        let back = changed-goes inv s may resumed (λ c. (refl, refl)) in
+        let mine = changed k w s resumed in
+        let theirs = changed k v s resumed in
+        let taken : Inv (put mine s (k.finished (at k mine s) x)) (put theirs s (k.finished (at k theirs s) x)) =
+        subst (λ (r : R). Inv (put mine s (k.finished (at k mine s) x)) (put theirs s (k.finished r x))) (g.same back s may) (g.put back s may _ (g.finished (g.good back s may) x)) in
+        let theirs_taken = put theirs s (k.finished (at k theirs s) x) in
+        subst (λ (output : Output). Goes Inv (went_on_at_last k answers w s x) (after_output k (request k answers) s (put_out k answers (request k answers) theirs_taken s output)))
+        (ap (λ (r : R). k.last_output r x) (g.same back s may))
+        (after_output-goes _ _ (λ w v. request-goes) _ _
+        (put_out-goes _ _ (λ w v. request-goes) answers taken s may (k.last_output (at k mine s) x) (λ t y is. g.link (g.good back s may) t.number (lawful.last_output_named (at k mine s) x t y is))) s may)

@@ -1,14 +1,15 @@
 -- Requests nest no deeper than there are idle records, so `request` is the one function that its own rule makes.
 use Rattle.std.proofs.Common.{◌≡◌, ◌≢◌, ℕ, zero, suc, ◌+◌, ◌<◌, ◌≤◌, Bool, true, false, cond, eqb, List, [], ◌∷◌, length, Option, Some, None as Nothing_, refl, sym, ap, ◌∙◌, arith}
-use Rattle.ioc_record.specs.declared.common.Common.{Common}
-use Rattle.ioc_record.specs.declared.link_field.LinkUse.{LinkUse}
-use Rattle.ioc_record.specs.declared.link_field.LinkUse.TheVariants.{Unused, OwnDevice, Absent, Standing}
-use Rattle.ioc_record.specs.declared.link_field.StandingLink.{StandingLink}
-use Rattle.ioc_record.specs.declared.body.Got.{Got}
-use Rattle.ioc_record.specs.declared.body.Want.{Want}
-use Rattle.ioc_record.specs.declared.body.Want.TheVariants.{NoInput, ReadLink}
-use Rattle.ioc_record.specs.declared.body.Output.{Output}
-use Rattle.ioc_record.specs.declared.body.Output.TheVariants.{NoOutput, WriteLink, WriteDevice, FollowLinks, PostEvent}
+use Rattle.ioc_common.specs.declared.common.Common.{Common}
+use Rattle.ioc_common.specs.declared.link_field.LinkUse.{LinkUse}
+use Rattle.ioc_common.specs.declared.link_field.LinkUse.TheVariants.{Unused, OwnDevice, Absent, Standing}
+use Rattle.ioc_common.specs.declared.link_field.StandingLink.{StandingLink}
+use Rattle.ioc_common.specs.declared.body.Got.{Got}
+use Rattle.ioc_common.specs.declared.body.Got.TheVariants.{Nothing as Got-nothing, Value as Got-value, Fault as Got-fault}
+use Rattle.ioc_common.specs.declared.body.Want.{Want}
+use Rattle.ioc_common.specs.declared.body.Want.TheVariants.{NoInput, ReadLink}
+use Rattle.ioc_common.specs.declared.body.Output.{Output}
+use Rattle.ioc_common.specs.declared.body.Output.TheVariants.{NoOutput, WriteLink, WriteDevice, FollowLinks, PostEvent}
 use Rattle.ioc_fields.specs.declared.field_no.Slot.{Slot}
 use Rattle.ioc_values.specs.declared.input.Input.{Input}
 use Rattle.ioc_values.specs.declared.input.Input.TheVariants.{Value as InputValue}
@@ -17,21 +18,38 @@ use Rattle.ioc_device.specs.declared.Answer.{Answer}
 use Rattle.ioc_device.specs.declared.Answer.TheVariants.{Done as Done-answer, Fault as Fault-answer, Later}
 use Rattle.ioc_values.specs.declared.value.Value.{Value}
 use Rattle.ioc_values.specs.declared.error.IocError.{IocError}
-use Rattle.ioc_record.specs.Links.{use_of}
+use Rattle.ioc_common.specs.Links.{use_of}
 use Rattle.std.proofs.lemmas.Grind.{common_steps}
-use Rattle.ioc_record.specs.Steps.{inherited, blocked, unblocked, with_active, shown, waiting, is_passive}
+use Rattle.ioc_common.specs.declared.body.InputKind.{InputKind}
+use Rattle.ioc_common.specs.Steps.{inherited, blocked, unblocked, with_active, shown, waiting, is_passive, with_put_mark, disabled, disable_kind}
+use Rattle.ioc_process.specs.Marks.{is_put_down, put_down, put_mark_passed, at_rest, with_disable_input, is_disabled}
+use Rattle.ioc_process.specs.declared.call.Call.{Call}
+use Rattle.ioc_device.specs.declared.Ask.TheVariants.{Read as Read-ask, Write as Write-ask}
+use Rattle.ioc_ledger.specs.declared.outcome.Outcome.TheVariants.{Disabled, Reprocess}
 use Rattle.ioc_record.specs.RecordRules.{RecordRules}
 use Rattle.ioc_record.specs.Laws.{IsLawful}
 use Rattle.ioc_process.specs.declared.outbox.OutboxItem.{OutboxItem}
-use Rattle.ioc_process.specs.declared.outbox.OutboxItem.TheVariants.{Post}
-use Rattle.ioc_process.specs.World.{World, Has, at, common_at, put, used_one, sent, changed, idle, Stays}
+use Rattle.ioc_process.specs.declared.outbox.OutboxItem.TheVariants.{Once, Post}
+use Rattle.ioc_process.specs.World.{World, Has, at, common_at, put, called, sent, changed, idle, Stays}
 use Rattle.ioc_process.specs.Links.{link_at, chosen_links, requests_first, requests_after, handed_on}
-use Rattle.ioc_ledger.specs.Requests.{None, more}
-use Rattle.ioc_process.specs.Processing.{Done, Reading, Written, PutOut, caused, followed, inherits, value_came, stored_at, wrote, after_writing, write_link, followed_each, finished, finished_if, after_output, acknowledged, write_device, put_out, prepared, read_record, faulted, read_link, completed, completed_if, device_gave, received, read_device, can_ask, input, body, turned_away, processed, requested, nested, request}
-use Rattle.std.specs.Prelude.{slice_get, unwrap_or, nat_lt, ◌++◌, Result, Ok, Err}
+use Rattle.ioc_ledger.specs.Requests.{None, Request, more}
+use Rattle.ioc_process.specs.Processing.{Done, Ran, Read, Reading, Written, PutOut, as_request, ran_after, processed, asked, rested, disable_came, next_call, as_input, judged, begun_idle, ran, caused, followed, inherits, value_came, stored_at, wrote, after_writing, write_link, followed_each, finished, finished_if, after_output, acknowledged, write_device, put_out, prepared, read_record, faulted, read_link, completed, completed_if, device_gave, received, read_device, can_ask, input, body, turned_away, requested, nested, request, read_at}
+use Rattle.std.specs.Prelude.{nat_lt, ◌++◌, Result, Ok, Err}
 use Rattle.ioc_fields.specs.declared.field_no.FieldNo.{FieldNo}
 use Rattle.ioc_process.proofs.StepFrames.{blocked-frame, stored_with}
 use Rattle.ioc_process.proofs.Worlds.{room, common_at-changed, idle-changed, idle-kept, idle-put, at-put_same, at-put_other, has-put}
+
+-- marks leave a record as active as it was
+pub passed-active : (by_put : Bool) (c : Common) → (put_mark_passed by_put c).active ≡ c.active
+unfolding put_mark_passed
+passed-active by_put c = elim c.active as (λ b. (cond b c (with_put_mark by_put c)).active ≡ c.active) [
+  | true ↦ refl
+  | false ↦ refl
+]
+
+pub disabled-active : (c : Common) → (disabled c).active ≡ c.active
+unfolding disabled
+disabled-active c = refl
 
 abbrev one_if : Bool → ℕ
 one_if b = cond b 1 0
@@ -144,21 +162,63 @@ module _ {R : Type 0} (k : RecordRules R) (lawful : IsLawful k) where
   pub shown-active : (w : World R) (s : ℕ) → (common_at k (changed k w s (shown w.moment)) s).active ≡ true
   shown-active w s = ap (λ (c : Common). c.active) (common_at-changed k lawful w s (shown w.moment))
 
+  -- what is sent plays no part in how many records are idle
+  pub sent-idle : (item : OutboxItem) (w : World R) → idle k (sent item w) ≡ idle k w
+  unfolding idle sent
+  sent-idle item w =
+      elim (nat_lt (length w.outbox) 256) as (λ b. idle k (cond b (record w { outbox = w.outbox ++ item ∷ [] }) (record w { dropped = more w.dropped })) ≡ idle k w) [
+        | true ↦ refl
+        | false ↦ refl
+      ]
+
+  -- a record that comes to rest is one more that is idle, unless it was
+  pub rested-idle : (w : World R) (s : ℕ) → idle k (rested k w s) + one_if_not (common_at k w s).active ≡ idle k w + 1
+  unfolding rested
+  rested-idle w s =
+      elim (common_at k w s).reprocess as (λ b. idle k (cond b (sent (Once s) (changed k w s at_rest)) (changed k w s at_rest)) + one_if_not (common_at k w s).active ≡ idle k w + 1) [
+        | true ↦ rw (sent-idle (Once s) (changed k w s at_rest)) (idle-changed k lawful w s at_rest)
+        | false ↦ idle-changed k lawful w s at_rest
+      ]
+
+  pub disable_came-stays : (w : World R) (s : ℕ) (got : Got) → Stays k w s (disable_came k w s got)
+  unfolding disable_came with_disable_input
+  disable_came-stays w s (Got-value v) = stays-changed w s _ refl
+  disable_came-stays w s Got-nothing = stays_here k w s
+  disable_came-stays w s Got-fault = stays_here k w s
+
   module _ (bound : ℕ) (ask other : World R → ℕ → Done R) (asks : Asks k bound ask other) where
+    asked-fewer : (w : World R) (s t : ℕ) → idle k w < bound → idle k (asked k ask w s t).world ≤ idle k w
+    unfolding asked
+    asked-fewer w s t room =
+        let by_put = (common_at k w s).by_put in
+        let marked = changed k w t (put_mark_passed by_put) in
+        let level = idle-kept k lawful w t (put_mark_passed by_put) (passed-active by_put _) in
+        elim (is_put_down by_put (common_at k w t)) as (λ b. idle k (cond {A = Done R} b (record { world = changed k w t put_down; requests = Request Reprocess None None }) (ask marked t)).world ≤ idle k w) [
+          | true ↦ omega (arith, idle-kept k lawful w t put_down (blocked-frame _).active)
+          | false ↦ omega (arith, level, asks.fewer marked t (omega (arith, level, room)))
+        ]
+
+    asked-same : (w : World R) (s t : ℕ) → idle k w < bound → asked k ask w s t ≡ asked k other w s t
+    unfolding asked
+    asked-same w s t room =
+        let by_put = (common_at k w s).by_put in
+        let level = idle-kept k lawful w t (put_mark_passed by_put) (passed-active by_put _) in
+        rw (asks.same (changed k w t (put_mark_passed by_put)) t (omega (arith, level, room))) refl
+
     pub caused-stays : (w : World R) (s t : ℕ) → Room k bound w s → Stays k w s (caused k ask w s t).world
     unfolding caused
     caused-stays w s t room =
         let before = (common_at k w s).active in
         let first = changed k w s (with_active true) in
-        let done = ask first t in
+        let done = asked k ask first s t in
         record {
-          fewer = omega (arith, idle-changed k lawful w s (with_active true), asks.fewer first t (room-active bound w s room), idle-changed k lawful done.world s (with_active before));
+          fewer = omega (arith, idle-changed k lawful w s (with_active true), asked-fewer first s t (room-active bound w s room), idle-changed k lawful done.world s (with_active before));
           active = ap (λ (c : Common). c.active) (common_at-changed k lawful done.world s (with_active before));
         }
 
     caused-same : (w : World R) (s t : ℕ) → Room k bound w s → caused k ask w s t ≡ caused k other w s t
     unfolding caused
-    caused-same w s t room = rw (asks.same _ t (room-active bound w s room)) refl
+    caused-same w s t room = rw (asked-same _ s t (room-active bound w s room)) refl
 
     pub followed-stays : (w : World R) (s : ℕ) (link : LinkUse) → Room k bound w s → Stays k w s (followed k ask w s link).world
     unfolding followed
@@ -190,27 +250,27 @@ module _ {R : Type 0} (k : RecordRules R) (lawful : IsLawful k) where
     unfolding prepared
     prepared-same w s t room = rw (caused-same w s t.number room) refl
 
-    pub read_record-stays : (w : World R) (s : ℕ) (t : StandingLink) → Room k bound w s → Stays k w s (read_record k ask w s t).world
-    unfolding read_record
-    read_record-stays w s t room = stays_on k (prepared-stays w s t room) (value_came-stays _ s t _)
+    pub read_record-stays : (kind : R → InputKind) (w : World R) (s : ℕ) (t : StandingLink) → Room k bound w s → Stays k w s (read_record k ask kind w s t).world
+    unfolding read_record read_at
+    read_record-stays kind w s t room = stays_on k (prepared-stays w s t room) (value_came-stays _ s t _)
 
-    read_record-same : (w : World R) (s : ℕ) (t : StandingLink) → Room k bound w s → read_record k ask w s t ≡ read_record k other w s t
-    unfolding read_record
-    read_record-same w s t room = rw (prepared-same w s t room) refl
+    read_record-same : (kind : R → InputKind) (w : World R) (s : ℕ) (t : StandingLink) → Room k bound w s → read_record k ask kind w s t ≡ read_record k other kind w s t
+    unfolding read_record read_at
+    read_record-same kind w s t room = rw (prepared-same w s t room) refl
 
-    pub read_link-stays : (w : World R) (s : ℕ) (link : LinkUse) → Room k bound w s → Stays k w s (read_link k ask w s link).world
+    pub read_link-stays : (kind : R → InputKind) (w : World R) (s : ℕ) (link : LinkUse) → Room k bound w s → Stays k w s (read_link k ask kind w s link).world
     unfolding read_link
-    read_link-stays w s (Standing t) room = read_record-stays w s t room
-    read_link-stays w s Unused room = stays_here k w s
-    read_link-stays w s OwnDevice room = faulted-stays w s
-    read_link-stays w s Absent room = faulted-stays w s
+    read_link-stays kind w s (Standing t) room = read_record-stays kind w s t room
+    read_link-stays kind w s Unused room = stays_here k w s
+    read_link-stays kind w s OwnDevice room = faulted-stays w s
+    read_link-stays kind w s Absent room = faulted-stays w s
 
-    read_link-same : (w : World R) (s : ℕ) (link : LinkUse) → Room k bound w s → read_link k ask w s link ≡ read_link k other w s link
+    read_link-same : (kind : R → InputKind) (w : World R) (s : ℕ) (link : LinkUse) → Room k bound w s → read_link k ask kind w s link ≡ read_link k other kind w s link
     unfolding read_link
-    read_link-same w s (Standing t) room = read_record-same w s t room
-    read_link-same w s Unused room = refl
-    read_link-same w s OwnDevice room = refl
-    read_link-same w s Absent room = refl
+    read_link-same kind w s (Standing t) room = read_record-same kind w s t room
+    read_link-same kind w s Unused room = refl
+    read_link-same kind w s OwnDevice room = refl
+    read_link-same kind w s Absent room = refl
 
     calls-stays : (w : World R) (s : ℕ) (t : StandingLink) (b : Bool) → Room k bound w s → Stays k w s (cond {A = Done R} b (caused k ask w s t.number) (record { world = w; requests = None })).world
     calls-stays w s t true room = caused-stays w s t.number room
@@ -274,7 +334,7 @@ module _ {R : Type 0} (k : RecordRules R) (lawful : IsLawful k) where
       unfolding finished ready_world
       finished-fewer =
           let link = (use_of (common_at k ready_world s).forward_link) in
-          omega (arith, idle-changed k lawful (followed k ask ready_world s link).world s (with_active false), (followed-stays ready_world s link ready_room).fewer, ready_idle)
+          omega (arith, rested-idle (followed k ask ready_world s link).world s, (followed-stays ready_world s link ready_room).fewer, ready_idle)
 
       finished-same : finished k ask w s ≡ finished k other w s
       unfolding finished ready_world
@@ -313,15 +373,16 @@ module _ {R : Type 0} (k : RecordRules R) (lawful : IsLawful k) where
   received-reads w s Fault-answer = reads w s _ (stays-changed w s _ refl)
   received-reads w s Later = record { fewer = omega (arith, idle-changed k lawful w s waiting); active = λ got is. cc }
 
-  used_reads : (w : World R) (s : ℕ) (reading : Reading R) → Reads k (used_one w) s reading → Reads k w s reading
-  unfolding idle at used_one
-  used_reads w s reading r = record { fewer = r.fewer; active = r.active }
+  called_reads : (call : Call) (w : World R) (s : ℕ) (reading : Reading R) → Reads k (called call w) s reading → Reads k w s reading
+  unfolding idle at called
+  called_reads call w s reading r = record { fewer = r.fewer; active = r.active }
 
   pub read_device-reads : (answers : List Answer) (w : World R) (s : ℕ) → Reads k w s (read_device k answers w s)
   unfolding read_device
   read_device-reads answers w s =
-      elim (can_ask k w s) as (λ b. Reads k w s (cond b (received k (used_one w) s (unwrap_or (slice_get answers w.used) Fault-answer)) (received k w s Fault-answer))) [
-        | true ↦ let r = received-reads (used_one w) s (unwrap_or (slice_get answers w.used) Fault-answer) in used_reads w s _ r
+      let call = next_call k answers w s Read-ask in
+      elim (can_ask k w s) as (λ b. Reads k w s (cond b (received k (called call w) s call.answer) (received k w s Fault-answer))) [
+        | true ↦ called_reads call w s _ (received-reads (called call w) s call.answer)
         | false ↦ received-reads w s Fault-answer
       ]
 
@@ -342,15 +403,16 @@ module _ {R : Type 0} (k : RecordRules R) (lawful : IsLawful k) where
   acknowledged-outs w s Fault-answer = outs w s _ (stays-changed w s _ refl)
   acknowledged-outs w s Later = record { fewer = omega (arith, idle-changed k lawful w s waiting); active = λ is. cc }
 
-  used_outs : (w : World R) (s : ℕ) (out : PutOut R) → Outs k (used_one w) s out → Outs k w s out
-  unfolding idle at used_one
-  used_outs w s out o = record { fewer = o.fewer; active = o.active }
+  called_outs : (call : Call) (w : World R) (s : ℕ) (out : PutOut R) → Outs k (called call w) s out → Outs k w s out
+  unfolding idle at called
+  called_outs call w s out o = record { fewer = o.fewer; active = o.active }
 
-  pub write_device-outs : (answers : List Answer) (w : World R) (s : ℕ) → Outs k w s (write_device k answers w s)
+  pub write_device-outs : (answers : List Answer) (w : World R) (s : ℕ) (v : Value) → Outs k w s (write_device k answers w s v)
   unfolding write_device
-  write_device-outs answers w s =
-      elim (can_ask k w s) as (λ b. Outs k w s (cond b (acknowledged k (used_one w) s (unwrap_or (slice_get answers w.used) Fault-answer)) (acknowledged k w s Fault-answer))) [
-        | true ↦ let o = acknowledged-outs (used_one w) s (unwrap_or (slice_get answers w.used) Fault-answer) in used_outs w s _ o
+  write_device-outs answers w s v =
+      let call = next_call k answers w s (Write-ask v) in
+      elim (can_ask k w s) as (λ b. Outs k w s (cond b (acknowledged k (called call w) s call.answer) (acknowledged k w s Fault-answer))) [
+        | true ↦ called_outs call w s _ (acknowledged-outs (called call w) s call.answer)
         | false ↦ acknowledged-outs w s Fault-answer
       ]
 
@@ -358,20 +420,20 @@ module _ {R : Type 0} (k : RecordRules R) (lawful : IsLawful k) where
     pub input-reads : (w : World R) (s : ℕ) (want : Want) → Room k bound w s → Reads k w s (input k answers ask w s want)
     unfolding input
     input-reads w s NoInput room = reads w s _ (stays_here k w s)
-    input-reads w s (ReadLink link) room = reads w s _ (read_link-stays bound ask other asks w s link room)
+    input-reads w s (ReadLink link) room = reads w s _ (read_link-stays bound ask other asks k.input_kind w s link room)
     input-reads w s Device room = read_device-reads answers w s
 
     input-same : (w : World R) (s : ℕ) (want : Want) → Room k bound w s → input k answers ask w s want ≡ input k answers other w s want
     unfolding input
     input-same w s NoInput room = refl
-    input-same w s (ReadLink link) room = read_link-same bound ask other asks w s link room
+    input-same w s (ReadLink link) room = ap (λ (r : Read R). as_input r) (read_link-same bound ask other asks k.input_kind w s link room)
     input-same w s Device room = refl
 
     pub put_out-outs : (w : World R) (s : ℕ) (output : Output) → Room k bound w s → Outs k w s (put_out k answers ask w s output)
     unfolding put_out
     put_out-outs w s NoOutput room = outs w s _ (stays_here k w s)
     put_out-outs w s (WriteLink link v) room = outs w s _ (write_link-stays bound ask other asks w s link v room)
-    put_out-outs w s (WriteDevice v) room = write_device-outs answers w s
+    put_out-outs w s (WriteDevice v) room = write_device-outs answers w s v
     put_out-outs w s (FollowLinks links) room = outs w s _ (followed_each-stays bound ask other asks (chosen_links links) w s room)
     put_out-outs w s (PostEvent name) room = outs w s _ (sent-stays (Post name) w s)
 
@@ -443,24 +505,66 @@ module _ {R : Type 0} (k : RecordRules R) (lawful : IsLawful k) where
         let rest = (after_reading w s _ inactive room (input-reads w s (k.begin (at k w s)) free)).1 in
         rw (← input-same w s (k.begin (at k w s)) free, rest) refl
 
+    pub judged-fewer : (w : World R) (s : ℕ) → (common_at k w s).active ≡ false → idle k w ≤ bound → idle k (judged k answers ask w s).world ≤ idle k w
+    unfolding judged
+    judged-fewer w s inactive room =
+        elim (is_disabled (common_at k w s)) as (λ b. idle k (cond {A = Ran R} b (record { world = changed k w s disabled; requests = None; outcome = Disabled }) (processed (body k answers ask w s))).world ≤ idle k w) [
+          | true ↦ (stays-changed w s disabled (disabled-active _)).fewer
+          | false ↦ body-fewer w s inactive room
+        ]
+
+    judged-same : (w : World R) (s : ℕ) → (common_at k w s).active ≡ false → idle k w ≤ bound → judged k answers ask w s ≡ judged k answers other w s
+    unfolding judged
+    judged-same w s inactive room = rw (body-same w s inactive room) refl
+
+    -- a request of an idle record: what SDIS gives leaves it idle
+    module _ (w : World R) (s : ℕ) (inactive : (common_at k w s).active ≡ false) (small : idle k w ≤ bound) where
+      begun_world : World R
+      begun_world = changed k w s unblocked
+
+      begun_stays : Stays k w s begun_world
+      unfolding begun_world
+      begun_stays = stays-changed w s unblocked refl
+
+      begun_room : Room k bound begun_world s
+      begun_room = omega (arith, begun_stays.fewer, small, ap one_if_not (begun_stays.active ∙ inactive))
+
+      begun_read : LinkUse → Read R
+      begun_read link = read_link k ask (λ _. disable_kind) begun_world s link
+
+      begun_read-stays : (link : LinkUse) → Stays k w s (disable_came k (begun_read link).world s (begun_read link).came)
+      unfolding begun_read
+      begun_read-stays link = stays_on k begun_stays (stays_on k (read_link-stays bound ask other asks (λ _. disable_kind) begun_world s link begun_room) (disable_came-stays _ s _))
+
+      begun-fewer : idle k (begun_idle k answers ask w s).world ≤ idle k w
+      unfolding begun_idle ran_after begun_world begun_read
+      begun-fewer =
+          let stays = begun_read-stays (use_of (common_at k begun_world s).disable_link) in
+          omega (arith, judged-fewer _ s (stays.active ∙ inactive) (omega (arith, stays.fewer, small)), stays.fewer)
+
+      begun-same : begun_idle k answers ask w s ≡ begun_idle k answers other w s
+      unfolding begun_idle begun_world begun_read
+      begun-same =
+          let link = use_of (common_at k begun_world s).disable_link in
+          let stays = begun_read-stays link in
+          let same = judged-same _ s (stays.active ∙ inactive) (omega (arith, stays.fewer, small)) in
+          ap (ran_after (begun_read link).requests) same
+          ∙ ap (λ (read : Read R). ran_after read.requests (judged k answers other (disable_came k read.world s read.came) s)) (read_link-same bound ask other asks (λ _. disable_kind) begun_world s link begun_room)
+
     pub requested-fewer : (w : World R) (s : ℕ) → idle k w ≤ bound → idle k (requested k answers ask w s).world ≤ idle k w
     unfolding requested
     requested-fewer w s room =
-        elim (common_at k w s).active as (λ b. (common_at k w s).active ≡ b → idle k (cond {A = Done R} b (turned_away k answers ask w s) (processed k answers ask w s)).world ≤ idle k w) [
+        elim (common_at k w s).active as (λ b. (common_at k w s).active ≡ b → idle k (cond {A = Ran R} b (turned_away k answers ask w s) (begun_idle k answers ask w s)).world ≤ idle k w) [
           | true ↦ λ _. (stays-changed w s blocked (blocked-frame _).active).fewer
-          | false ↦ λ inactive.
-              let first = stays-changed w s unblocked refl in
-              omega (arith, body-fewer (changed k w s unblocked) s (first.active ∙ inactive) (omega (arith, first.fewer, room)), first.fewer)
+          | false ↦ λ inactive. begun-fewer w s inactive room
         ] refl
 
     requested-same : (w : World R) (s : ℕ) → idle k w ≤ bound → requested k answers ask w s ≡ requested k answers other w s
     unfolding requested
     requested-same w s room =
-        elim (common_at k w s).active as (λ b. (common_at k w s).active ≡ b → cond b (turned_away k answers ask w s) (processed k answers ask w s) ≡ cond b (turned_away k answers other w s) (processed k answers other w s)) [
+        elim (common_at k w s).active as (λ b. (common_at k w s).active ≡ b → cond b (turned_away k answers ask w s) (begun_idle k answers ask w s) ≡ cond b (turned_away k answers other w s) (begun_idle k answers other w s)) [
           | true ↦ λ _. refl
-          | false ↦ λ inactive.
-              let first = stays-changed w s unblocked refl in
-              rw (body-same (changed k w s unblocked) s (first.active ∙ inactive) (omega (arith, first.fewer, room))) refl
+          | false ↦ λ inactive. begun-same w s inactive room
         ] refl
 
   module _ (answers : List Answer) where
@@ -470,7 +574,7 @@ module _ {R : Type 0} (k : RecordRules R) (lawful : IsLawful k) where
     nested-asks (suc n) zero bound _ small = record { same = λ w s h. absurd (omega arith); fewer = λ w s h. absurd (omega arith) }
     nested-asks (suc n) (suc m) bound fits fits' =
         record {
-          same = λ w s h. requested-same answers (idle k w) _ _ (nested-asks n m (idle k w) (omega arith) (omega arith)) w s (omega arith);
+          same = λ w s h. ap (λ (r : Ran R). as_request r) (requested-same answers (idle k w) _ _ (nested-asks n m (idle k w) (omega arith) (omega arith)) w s (omega arith));
           fewer = λ w s h. requested-fewer answers (idle k w) _ _ (nested-asks n m (idle k w) (omega arith) (omega arith)) w s (omega arith);
         }
 
@@ -483,14 +587,14 @@ module _ {R : Type 0} (k : RecordRules R) (lawful : IsLawful k) where
     request-fewer w s = (nested-asks (suc (idle k w)) (suc (idle k w)) (suc (idle k w)) (omega arith) (omega arith)).fewer w s (omega arith)
 
     -- the rule of a request, where those inside it are requests
-    pub request-rule : (w : World R) (s : ℕ) → request k answers w s ≡ requested k answers (request k answers) w s
-    unfolding request nested
+    pub request-rule : (w : World R) (s : ℕ) → request k answers w s ≡ as_request (ran k answers w s)
+    unfolding request nested ran
     request-rule w s =
         let within : Asks k (idle k w) (nested k answers (idle k w)) (request k answers) = record {
           same = λ v u h. request-nested (idle k w) v u h;
           fewer = λ v u h. (nested-asks (idle k w) (idle k w) (idle k w) (omega arith) (omega arith)).fewer v u h;
         } in
-        requested-same answers (idle k w) _ _ within w s (omega arith)
+        ap (λ (r : Ran R). as_request r) (requested-same answers (idle k w) _ _ within w s (omega arith))
 
     -- requests as the way to request
     pub request-asks : (bound : ℕ) → Asks k bound (request k answers) (request k answers)
@@ -506,11 +610,11 @@ module _ {R : Type 0} (k : RecordRules R) (lawful : IsLawful k) where
       pub stays-prepared : (t : StandingLink) → Stays k w s (prepared k (request k answers) w s t).world
       stays-prepared t = prepared-stays _ _ _ (request-asks (idle k w + 1)) w s t free
 
-      pub stays-read_record : (t : StandingLink) → Stays k w s (read_record k (request k answers) w s t).world
-      stays-read_record t = read_record-stays _ _ _ (request-asks (idle k w + 1)) w s t free
+      pub stays-read_record : (kind : R → InputKind) (t : StandingLink) → Stays k w s (read_record k (request k answers) kind w s t).world
+      stays-read_record kind t = read_record-stays _ _ _ (request-asks (idle k w + 1)) kind w s t free
 
-      pub stays-read_link : (link : LinkUse) → Stays k w s (read_link k (request k answers) w s link).world
-      stays-read_link link = read_link-stays _ _ _ (request-asks (idle k w + 1)) w s link free
+      pub stays-read_link : (kind : R → InputKind) (link : LinkUse) → Stays k w s (read_link k (request k answers) kind w s link).world
+      stays-read_link kind link = read_link-stays _ _ _ (request-asks (idle k w + 1)) kind w s link free
 
       pub reads-input : (want : Want) → Reads k w s (input k answers (request k answers) w s want)
       reads-input want = input-reads answers _ _ _ (request-asks (idle k w + 1)) w s want free

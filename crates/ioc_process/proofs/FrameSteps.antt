@@ -1,38 +1,41 @@
 -- What the turns of frames do, by what requests do.
 use Rattle.std.proofs.Common.{◌≡◌, ℕ, zero, suc, ◌+◌, ◌≤◌, ◌<◌, Bool, true, false, cond, List, [], ◌∷◌, length, Option, Some, None as Nothing_, refl, sym, ap, subst, ◌∙◌, arith}
-use Rattle.std.specs.Prelude.{Result, slice_get, drop}
+use Rattle.std.specs.Prelude.{slice_get, drop}
 use Rattle.ioc_fields.specs.Names.{all_slots}
 use Rattle.ioc_fields.specs.declared.field_no.Slot.{Slot}
-use Rattle.ioc_values.specs.declared.value.Value.{Value}
-use Rattle.ioc_values.specs.declared.error.IocError.{IocError}
+use Rattle.ioc_values.specs.declared.value.Finished.{Finished}
 use Rattle.ioc_device.specs.declared.Answer.{Answer}
 use Rattle.ioc_ledger.specs.declared.tally.Tally.{Tally}
-use Rattle.ioc_ledger.specs.declared.outcome.Outcome.TheVariants.{Processed}
+use Rattle.ioc_ledger.specs.declared.outcome.Outcome.{Outcome}
+use Rattle.ioc_ledger.specs.declared.outcome.Outcome.TheVariants.{Processed, Disabled, Reprocess}
 use Rattle.ioc_ledger.specs.Requests.{Requests, None, Request, followed_by, counted, counted_one}
-use Rattle.ioc_record.specs.declared.common.Common.{Common}
-use Rattle.ioc_record.specs.declared.link_field.LinkUse.{LinkUse}
-use Rattle.ioc_record.specs.declared.link_field.LinkUse.TheVariants.{Unused, OwnDevice, Absent, Standing}
-use Rattle.ioc_record.specs.declared.link_field.StandingLink.{StandingLink}
-use Rattle.ioc_record.specs.declared.body.Got.{Got}
-use Rattle.ioc_record.specs.declared.body.Want.{Want}
-use Rattle.ioc_record.specs.declared.body.Output.{Output}
-use Rattle.ioc_record.specs.Links.{use_of}
-use Rattle.ioc_record.specs.Steps.{with_active, shown, unblocked, is_passive}
+use Rattle.ioc_common.specs.declared.common.Common.{Common}
+use Rattle.ioc_common.specs.declared.link_field.LinkUse.{LinkUse}
+use Rattle.ioc_common.specs.declared.link_field.LinkUse.TheVariants.{Unused, OwnDevice, Absent, Standing}
+use Rattle.ioc_common.specs.declared.link_field.StandingLink.{StandingLink}
+use Rattle.ioc_common.specs.declared.body.Got.{Got}
+use Rattle.ioc_common.specs.declared.body.Want.{Want}
+use Rattle.ioc_common.specs.declared.body.Output.{Output}
+use Rattle.ioc_common.specs.Links.{use_of}
+use Rattle.ioc_common.specs.Steps.{with_active, shown, unblocked, is_passive, disabled, disable_kind}
 use Rattle.ioc_record.specs.Values.{read_as}
 use Rattle.ioc_record.specs.RecordRules.{RecordRules}
 use Rattle.ioc_record.specs.Laws.{IsLawful}
 use Rattle.ioc_process.specs.declared.frames.Frame.{Frame}
-use Rattle.ioc_process.specs.declared.frames.Place.TheVariants.{Following, FollowingEach, Writing, Reading as Reading-place}
+use Rattle.ioc_process.specs.declared.frames.Place.TheVariants.{ReadingDisable, Following, FollowingEach, Writing, Reading as Reading-place}
 use Rattle.ioc_process.specs.Frames.{Ended, Calls}
-use Rattle.ioc_process.specs.World.{World, Has, at, common_at, put, changed, idle, Keeps, IsClosed}
-use Rattle.ioc_process.specs.Processing.{Done, Came, Reading, PutOut, request, completed, completed_if, finished, finished_if, after_output, put_out, followed, followed_each, caused, value_came, body, input, read_record, prepared}
+use Rattle.ioc_process.specs.World.{World, Has, at, common_at, put, changed, sent, idle, Stays, Keeps, IsClosed}
+use Rattle.ioc_process.specs.Marks.{is_put_down, put_down, put_mark_passed, at_rest, is_disabled, resumed}
+use Rattle.ioc_process.specs.declared.outbox.OutboxItem.TheVariants.{Once}
+use Rattle.ioc_common.specs.declared.body.InputKind.{InputKind}
+use Rattle.ioc_common.specs.declared.body.Got.TheVariants.{Fault as Got-fault}
+use Rattle.ioc_process.specs.Processing.{Done, Came, Reading, PutOut, request, completed, completed_if, finished, finished_if, after_output, put_out, followed, followed_each, caused, value_came, body, input, read_record, prepared, Ran, Read, as_request, as_input, ran_after, processed, asked, rested, disable_came, judged, begun_idle, ran, read_link, faulted, read_at}
 use Rattle.ioc_process.specs.Links.{is_chosen, chosen_links, link_at, requests_first, passive_named}
-use Rattle.ioc_process.specs.Frames.{went_on, then_finished, remaining, then_frame, then_frames, after_turn, after_reading, Goes}
-use Rattle.ioc_process.specs.Runs.{Leaves, HasCome, IsStanding}
-use Rattle.ioc_process.proofs.Worlds.{idle-changed, common_at-changed}
-use Rattle.ioc_process.proofs.Depth.{room-shown, shown-active, value_came-stays}
-use Rattle.ioc_process.proofs.Keeping.{keeps_on, closed_on, keeps-changed, keeps-active, value_came-keeps}
-use Rattle.ioc_process.proofs.Bodies.{counted-followed_by, request-processed}
+use Rattle.ioc_process.specs.Frames.{asked_ran, after_disable, went_on, then_finished, remaining, then_frame, then_frames, after_turn, after_reading, Goes}
+use Rattle.ioc_process.specs.Runs.{HasCome, IsStanding}
+use Rattle.ioc_process.proofs.Worlds.{idle-changed, common_at-changed, at-put_same}
+use Rattle.ioc_process.proofs.Depth.{request-rule, rested-idle, room-shown, shown-active, value_came-stays}
+use Rattle.ioc_process.proofs.Keeping.{keeps_on, keeps-changed, sent-keeps, value_came-keeps}
 
 followed_by-assoc : (a b c : Requests) → followed_by (followed_by a b) c ≡ followed_by a (followed_by b c)
 followed_by-assoc None b c = refl
@@ -83,15 +86,36 @@ module _ {R : Type 0} (k : RecordRules R) (lawful : IsLawful k) where
         ap {A = Bool} {B = ℕ} (λ b. cond b 0 1) (shown-active k lawful w s),
       )
 
-  pub ready-ended : (w : World R) (s : ℕ) → (common_at k w s).active ≡ false → idle k (changed k (ready w s) s (with_active false)) ≡ idle k w
+  pub ready-ended : (w : World R) (s : ℕ) → (common_at k w s).active ≡ false → idle k (rested k (ready w s) s) ≡ idle k w
   ready-ended w s inactive =
       omega (
         arith,
-        idle-changed k lawful (ready w s) s (with_active false),
+        rested-idle k lawful (ready w s) s,
         room-shown k lawful w s,
         ap {A = Bool} {B = ℕ} (λ b. cond b 0 1) inactive,
         ap {A = Bool} {B = ℕ} (λ b. cond b 0 1) (shown-active k lawful w s),
       )
+
+  pub rested-keeps : (w : World R) (s : ℕ) → Has w s → Keeps k w (rested k w s)
+  unfolding rested
+  rested-keeps w s there =
+      let first = keeps-changed k lawful w s there at_rest (λ c. (refl, refl)) in
+      elim (common_at k w s).reprocess as (λ b. Keeps k w (cond b (sent (Once s) (changed k w s at_rest)) (changed k w s at_rest))) [
+        | true ↦ keeps_on k first (sent-keeps k lawful (Once s) _)
+        | false ↦ first
+      ]
+
+  -- a request of a record by one that is active, as it is told of the request alone
+  pub asked-ran : (answers : List Answer) (w : World R) (s t : ℕ) → asked k (request k answers) w s t ≡ as_request (asked_ran k answers w s t)
+  unfolding asked asked_ran
+  asked-ran answers w s t =
+      let by_put = (common_at k w s).by_put in
+      elim (is_put_down by_put (common_at k w t)) as (λ b.
+      cond {A = Done R} b (record { world = changed k w t put_down; requests = Request Reprocess None None }) (request k answers (changed k w t (put_mark_passed by_put)) t)
+      ≡ as_request (cond {A = Ran R} b (record { world = changed k w t put_down; requests = None; outcome = Reprocess }) (ran k answers (changed k w t (put_mark_passed by_put)) t))) [
+        | true ↦ refl
+        | false ↦ request-rule k lawful answers _ t
+      ]
 
   -- a link that is followed: a record is requested, or none is
   pub followed-calls : (answers : List Answer) (w : World R) (s : ℕ) (link : LinkUse) (target : ℕ) → passive_named k w link ≡ Some target → followed k (request k answers) w s link ≡ caused k (request k answers) w s target
@@ -131,18 +155,20 @@ module _ {R : Type 0} (k : RecordRules R) (lawful : IsLawful k) where
 
   -- a body that follows its forward link
   pub finished-calls : (answers : List Answer) (w : World R) (s : ℕ) (target : ℕ) → passive_named k (ready w s) (use_of (common_at k (ready w s) s).forward_link) ≡ Some target →
-      finished k (request k answers) w s ≡ after_turn k answers (changed k (ready w s) s (with_active true)) (Calls (record { source = s; place = Following }) target)
-  unfolding finished caused after_turn then_frame went_on
+      processed (finished k (request k answers) w s) ≡ after_turn k answers (changed k (ready w s) s (with_active true)) (Calls (record { source = s; place = Following }) target)
+  unfolding finished caused after_turn then_frame went_on ran_after
   finished-calls answers w s target is =
       let active = shown-active k lawful w s in
-      let next = request k answers (changed k (ready w s) s (with_active true)) target in
-      rw (followed-calls answers (ready w s) s _ target is, active) (λ i. record { world = changed k (changed k next.world s (with_active true)) s (with_active false); requests = sym (followed_by-none next.requests) i })
+      let mid = changed k (ready w s) s (with_active true) in
+      let next = as_request (asked_ran k answers mid s target) in
+      rw (followed-calls answers (ready w s) s _ target is, active, asked-ran answers mid s target)
+      (λ i. record { world = rested k (changed k next.world s (with_active true)) s; requests = sym (followed_by-none next.requests) i; outcome = Processed })
 
   -- a body that has no link to follow
   pub finished-ends : (answers : List Answer) (w : World R) (s : ℕ) → passive_named k (ready w s) (use_of (common_at k (ready w s) s).forward_link) ≡ Nothing_ →
-      finished k (request k answers) w s ≡ after_turn k answers (changed k (ready w s) s (with_active false)) Ended
+      processed (finished k (request k answers) w s) ≡ after_turn k answers (rested k (ready w s) s) (Ended Processed)
   unfolding finished after_turn
-  finished-ends answers w s none = ap (λ (d : Done R). record { world = changed k d.world s (with_active false); requests = d.requests }) (followed-none answers (ready w s) s _ none)
+  finished-ends answers w s none = ap (λ (d : Done R). record { world = rested k d.world s; requests = d.requests; outcome = Processed }) (followed-none answers (ready w s) s _ none)
 
   -- a body that finishes with nothing before it
   pub then_finished-none : (answers : List Answer) (w : World R) (s : ℕ) → then_finished k answers s (record { world = w; requests = None }) ≡ finished k (request k answers) w s
@@ -157,11 +183,11 @@ module _ {R : Type 0} (k : RecordRules R) (lawful : IsLawful k) where
       ap (λ (r : Requests). record { world = last.world; requests = r }) (followed_by-assoc first rest.requests last.requests)
 
   -- a body that has taken what came
-  pub completed-taken : (answers : List Answer) (w : World R) (s : ℕ) (got : Got) (output : Output) {left : Done R} → k.output (at k w s) got ≡ output
-      → after_output k (request k answers) s (put_out k answers (request k answers) (put w s (k.taken (at k w s) got)) s output) ≡ left → completed k answers (request k answers) w s got ≡ left
+  pub completed-taken : (answers : List Answer) (w : World R) (s : ℕ) (got : Got) (output : Output) {left : Ran R} → k.output (at k w s) got ≡ output
+      → processed (after_output k (request k answers) s (put_out k answers (request k answers) (put w s (k.taken (at k w s) got)) s output)) ≡ left → processed (completed k answers (request k answers) w s got) ≡ left
   unfolding completed
   completed-taken answers w s got output is left =
-      ap (λ (o : Output). after_output k (request k answers) s (put_out k answers (request k answers) (put w s (k.taken (at k w s) got)) s o)) is ∙ left
+      ap (λ (o : Output). processed (after_output k (request k answers) s (put_out k answers (request k answers) (put w s (k.taken (at k w s) got)) s o))) is ∙ left
 
   -- an output after which the body goes on now, and one after which it doesn't
   pub output-on : (answers : List Answer) (s : ℕ) (out : PutOut R) → out.goes_on ≡ true → after_output k (request k answers) s out ≡ then_finished k answers s (record { world = out.world; requests = out.requests })
@@ -169,17 +195,17 @@ module _ {R : Type 0} (k : RecordRules R) (lawful : IsLawful k) where
   output-on answers s out is =
       ap (λ (b : Bool). let rest = finished_if k (request k answers) out.world s b in record { world = rest.world; requests = followed_by out.requests rest.requests }) is
 
-  pub output-waits : (answers : List Answer) (s : ℕ) (out : PutOut R) → out.goes_on ≡ false → out.requests ≡ None → after_output k (request k answers) s out ≡ after_turn k answers out.world Ended
+  pub output-waits : (answers : List Answer) (s : ℕ) (out : PutOut R) → out.goes_on ≡ false → out.requests ≡ None → processed (after_output k (request k answers) s out) ≡ after_turn k answers out.world (Ended Processed)
   unfolding after_output after_turn
   output-waits answers s out is none =
-      ap (λ (b : Bool). let rest = finished_if k (request k answers) out.world s b in record { world = rest.world; requests = followed_by out.requests rest.requests }) is
-      ∙ ap (λ (r : Requests). record { world = out.world; requests = followed_by r None }) none
+      ap (λ (b : Bool). let rest = finished_if k (request k answers) out.world s b in processed (record { world = rest.world; requests = followed_by out.requests rest.requests })) is
+      ∙ ap (λ (r : Requests). processed (record { world = out.world; requests = followed_by r None })) none
 
   -- a body that has written and requests the record: it finishes afterwards
   pub writing-calls : (answers : List Answer) (w : World R) (s : ℕ) (target : ℕ) → (common_at k w s).active ≡ false →
-      then_finished k answers s (caused k (request k answers) w s target) ≡ after_turn k answers (changed k w s (with_active true)) (Calls (record { source = s; place = Writing }) target)
-  unfolding then_finished caused after_turn then_frame went_on
-  writing-calls answers w s target inactive = rw inactive refl
+      processed (then_finished k answers s (caused k (request k answers) w s target)) ≡ after_turn k answers (changed k w s (with_active true)) (Calls (record { source = s; place = Writing }) target)
+  unfolding then_finished caused after_turn then_frame went_on ran_after
+  writing-calls answers w s target inactive = rw (inactive, asked-ran answers (changed k w s (with_active true)) s target) refl
 
   -- its links that remain, from a number on
   pub remaining-chosen : (links next : ℕ) (slot : Slot) → slice_get all_slots next ≡ Some slot → is_chosen links slot ≡ true → remaining links next ≡ slot ∷ remaining links (next + 1)
@@ -204,29 +230,39 @@ module _ {R : Type 0} (k : RecordRules R) (lawful : IsLawful k) where
   each-none answers w s slot slots none = rw (followed-none answers w s (link_at k w s slot) none) refl
 
   pub each-calls : (answers : List Answer) (w : World R) (s links next : ℕ) (slot : Slot) (target : ℕ) → (common_at k w s).active ≡ false → passive_named k w (link_at k w s slot) ≡ Some target →
-      then_finished k answers s (followed_each k (request k answers) w s (slot ∷ remaining links next))
+      processed (then_finished k answers s (followed_each k (request k answers) w s (slot ∷ remaining links next)))
       ≡ after_turn k answers (changed k w s (with_active true)) (Calls (record { source = s; place = FollowingEach links next }) target)
-  unfolding followed_each caused after_turn then_frame went_on
+  unfolding followed_each caused after_turn then_frame went_on ran_after
   each-calls answers w s links next slot target inactive is =
-      let done = request k answers (changed k w s (with_active true)) target in
+      let mid = changed k w s (with_active true) in
+      let done = as_request (asked_ran k answers mid s target) in
       let back = changed k done.world s (with_active false) in
       let rest = followed_each k (request k answers) back s (remaining links next) in
-      rw (followed-calls answers w s (link_at k w s slot) target is, inactive) (then_finished-after answers s done.requests rest)
+      rw (followed-calls answers w s (link_at k w s slot) target is, inactive, asked-ran answers mid s target) (ap (λ (d : Done R). processed d) (then_finished-after answers s done.requests rest))
 
-  one_frame : (answers : List Answer) (before counts : Tally) (done left : Done R) (frame : Frame) → Goes before counts done left → Goes before counts (then_frame k answers done frame) (then_frame k answers left frame)
-  unfolding then_frame
-  one_frame answers before counts done left frame goes = record {
+  one_frame : (answers : List Answer) (before counts : Tally) (ran left : Ran R) (frame : Frame) → Goes before counts ran left
+      → Goes before counts (then_frame k answers (as_request ran) frame) (then_frame k answers (as_request left) frame)
+  unfolding then_frame ran_after
+  one_frame answers before counts ran left frame goes = record {
     world = ap (λ (v : World R). (went_on k answers v frame.source frame.place).world) goes.world;
-    tally = counted-followed_by before done.requests _ ∙ ap (λ t. counted t (went_on k answers done.world frame.source frame.place).requests) goes.tally
-        ∙ ap (λ (v : World R). counted (counted counts left.requests) (went_on k answers v frame.source frame.place).requests) goes.world
-        ∙ sym (counted-followed_by counts left.requests _);
+    outcome = ap (λ (v : World R). (went_on k answers v frame.source frame.place).outcome) goes.world;
+    tally = ap (λ (o : Outcome). counted (counted_one (counted before ran.requests) o) (went_on k answers ran.world frame.source frame.place).requests) goes.outcome
+        ∙ ap (λ (t : Tally). counted (counted_one t left.outcome) (went_on k answers ran.world frame.source frame.place).requests) goes.tally
+        ∙ ap (λ (v : World R). counted (counted_one (counted counts left.requests) left.outcome) (went_on k answers v frame.source frame.place).requests) goes.world;
   }
 
   -- frames carry on from what the code has done
-  pub goes-on : (answers : List Answer) (before counts : Tally) (frames : List Frame) (done left : Done R) → Goes before counts done left → Goes before counts (then_frames k answers done frames) (then_frames k answers left frames)
-  goes-on answers before counts [] done left goes = goes
-  goes-on answers before counts (frame ∷ frames) done left goes =
-      goes-on answers before counts frames (then_frame k answers done frame) (then_frame k answers left frame) (one_frame answers before counts done left frame goes)
+  pub goes-on : (answers : List Answer) (before counts : Tally) (frames : List Frame) (ran left : Ran R) → Goes before counts ran left → Goes before counts (then_frames k answers ran frames) (then_frames k answers left frames)
+  goes-on answers before counts [] ran left goes = goes
+  goes-on answers before counts (frame ∷ frames) ran left goes =
+      goes-on answers before counts frames (then_frame k answers (as_request ran) frame) (then_frame k answers (as_request left) frame) (one_frame answers before counts ran left frame goes)
+
+  -- the request that a frame waited for is done, and counted
+  pub goes-popped : (answers : List Answer) (counts new_counts : Tally) (w : World R) (frame : Frame) (outcome : Outcome) → new_counts ≡ counted_one counts outcome
+      → Goes counts new_counts (then_frame k answers (as_request (record { world = w; requests = None; outcome = outcome })) frame) (went_on k answers w frame.source frame.place)
+  unfolding then_frame ran_after
+  goes-popped answers counts new_counts w frame outcome one =
+      record { world = refl; outcome = refl; tally = ap (λ (t : Tally). counted t (went_on k answers w frame.source frame.place).requests) (sym one) }
 
   -- the record of a frame is idle again
   abbrev pub back : World R → ℕ → World R
@@ -239,25 +275,22 @@ module _ {R : Type 0} (k : RecordRules R) (lawful : IsLawful k) where
   back-idle w s = omega (arith, idle-changed k lawful w s (with_active false))
 
   -- and has read, or not
-  abbrev pub got_at : World R → ℕ → StandingLink → Result Value IocError
-  got_at w s t = read_as k (at k w t.number) t.field (k.input_kind (at k w s))
+  pub read_at-stays : (kind : R → InputKind) (w : World R) (s : ℕ) (t : StandingLink) → Stays k w s (read_at k kind w s t).world
+  unfolding read_at
+  read_at-stays kind w s t = value_came-stays k lawful w s t _
 
-  abbrev pub read_at : World R → ℕ → StandingLink → World R
-  read_at w s t = (value_came k (back w s) s t (got_at (back w s) s t)).world
+  pub read_at-keeps : (kind : R → InputKind) (w : World R) (s : ℕ) (t : StandingLink) → IsClosed k w → Has w s → Has w t.number → Keeps k w (read_at k kind w s t).world
+  unfolding read_at
+  read_at-keeps kind w s t closed there stands = value_came-keeps k lawful w closed s there t stands _
 
-  pub read-inactive : (w : World R) (s : ℕ) (t : StandingLink) → (common_at k (read_at w s t) s).active ≡ false
-  read-inactive w s t = (value_came-stays k lawful (back w s) s t _).active ∙ ap (λ (c : Common). c.active) (common_at-changed k lawful w s (with_active false))
-
-  pub read-idle : (w : World R) (s : ℕ) (t : StandingLink) → idle k (read_at w s t) ≤ idle k w + 1
-  read-idle w s t = omega (arith, (value_came-stays k lawful (back w s) s t (got_at (back w s) s t)).fewer, back-idle w s)
-
-  pub read-keeps : (w : World R) (s : ℕ) (t : StandingLink) → IsClosed k w → Has w s → Has w t.number → Keeps k w (read_at w s t)
-  read-keeps w s t closed there stands =
-      let first = keeps-active k lawful w s there false in
-      keeps_on k first (value_came-keeps k lawful (back w s) (closed_on k lawful first closed) s (first.has s there) t (first.has t.number stands) _)
-
-  pub twice-idle : (w : World R) (s : ℕ) → idle k (back (changed k w s (with_active true)) s) ≤ idle k w + 1
-  twice-idle w s = omega (arith, back-idle (changed k w s (with_active true)) s, idle-changed k lawful w s (with_active true))
+  pub twice-rested : (w : World R) (s : ℕ) → idle k (rested k (changed k w s (with_active true)) s) ≤ idle k w + 1
+  twice-rested w s =
+      omega (
+        arith,
+        rested-idle k lawful (changed k w s (with_active true)) s,
+        idle-changed k lawful w s (with_active true),
+        ap {A = Bool} {B = ℕ} (λ b. cond b 0 1) (ap (λ (c : Common). c.active) (common_at-changed k lawful w s (with_active true))),
+      )
 
   -- a body by its input
   pub body-input : (answers : List Answer) (w : World R) (s : ℕ) (want : Want) → k.begin (at k w s) ≡ want →
@@ -274,48 +307,88 @@ module _ {R : Type 0} (k : RecordRules R) (lawful : IsLawful k) where
       ∙ ap (λ r. record { world = (completed k answers (request k answers) reading.world s got).world; requests = followed_by r (completed k answers (request k answers) reading.world s got).requests }) none
 
   pub after_reading-none : (answers : List Answer) (s : ℕ) (reading : Reading R) → reading.came ≡ Nothing_ → reading.requests ≡ None →
-      after_reading k answers s reading ≡ after_turn k answers reading.world Ended
+      processed (after_reading k answers s reading) ≡ after_turn k answers reading.world (Ended Processed)
   unfolding after_reading after_turn
   after_reading-none answers s reading came none =
-      ap (λ (o : Option Got). let rest = completed_if k answers (request k answers) reading.world s o in record { world = rest.world; requests = followed_by reading.requests rest.requests }) came
-      ∙ ap (λ r. record { world = reading.world; requests = followed_by r None }) none
+      ap (λ (o : Option Got). let rest = completed_if k answers (request k answers) reading.world s o in processed (record { world = rest.world; requests = followed_by reading.requests rest.requests })) came
+      ∙ ap (λ r. processed (record { world = reading.world; requests = followed_by r None })) none
 
   -- a link with PP: the record that it names is requested first
   pub after_reading-calls : (answers : List Answer) (w : World R) (s : ℕ) (t : StandingLink) → requests_first k w t ≡ true → (common_at k w s).active ≡ false →
-      after_reading k answers s (read_record k (request k answers) w s t) ≡ after_turn k answers (changed k w s (with_active true)) (Calls (record { source = s; place = Reading-place t }) t.number)
-  unfolding after_reading after_turn then_frame went_on read_record prepared caused
-  after_reading-calls answers w s t passive inactive = rw (passive, inactive) refl
+      processed (after_reading k answers s (as_input (read_record k (request k answers) k.input_kind w s t)))
+      ≡ after_turn k answers (changed k w s (with_active true)) (Calls (record { source = s; place = Reading-place t }) t.number)
+  unfolding after_reading after_turn then_frame went_on read_record prepared caused ran_after read_at
+  after_reading-calls answers w s t passive inactive = rw (passive, inactive, asked-ran answers (changed k w s (with_active true)) s t.number) refl
 
-  after_reading-plain : (answers : List Answer) (w : World R) (s : ℕ) (t : StandingLink) → requests_first k w t ≡ false →
-      after_reading k answers s (read_record k (request k answers) w s t)
-      ≡ completed k answers (request k answers) (value_came k w s t (got_at w s t)).world s (value_came k w s t (got_at w s t)).came
-  unfolding after_reading read_record prepared
+  pub after_reading-plain : (answers : List Answer) (w : World R) (s : ℕ) (t : StandingLink) → requests_first k w t ≡ false →
+      after_reading k answers s (as_input (read_record k (request k answers) k.input_kind w s t))
+      ≡ completed k answers (request k answers) (read_at k k.input_kind w s t).world s (read_at k k.input_kind w s t).came
+  unfolding after_reading read_record prepared read_at
   after_reading-plain answers w s t passive = rw passive refl
 
-  -- a body that goes on with what came
-  completed-came : (answers : List Answer) (mid : World R) (s : ℕ) (got : Got) (read : Came R) (left : Done R) → HasCome mid got read
-      → completed k answers (request k answers) mid s got ≡ left → completed k answers (request k answers) read.world s read.came ≡ left
-  completed-came answers mid s got read left came is =
-      ap (λ (v : World R). completed k answers (request k answers) v s read.came) (sym came.world) ∙ ap (completed k answers (request k answers) mid s) (sym came.came) ∙ is
+  -- a request that reads SDIS
+  pub after_disable-calls : (answers : List Answer) (w : World R) (s : ℕ) (t : StandingLink) → requests_first k w t ≡ true → (common_at k w s).active ≡ false →
+      after_disable k answers s (read_record k (request k answers) (λ _. disable_kind) w s t)
+      ≡ after_turn k answers (changed k w s (with_active true)) (Calls (record { source = s; place = ReadingDisable t }) t.number)
+  unfolding after_disable after_turn then_frame went_on read_record prepared caused read_at
+  after_disable-calls answers w s t passive inactive = rw (passive, inactive, asked-ran answers (changed k w s (with_active true)) s t.number) refl
 
-  pub went_on-came : (answers : List Answer) (w mid : World R) (s : ℕ) (t : StandingLink) (got : Got) (left : Done R) → HasCome mid got (value_came k (back w s) s t (got_at (back w s) s t))
-      → completed k answers (request k answers) mid s got ≡ left → went_on k answers w s (Reading-place t) ≡ left
-  unfolding went_on
-  went_on-came answers w mid s t got left came is = completed-came answers mid s got _ left came is
+  pub after_disable-plain : (answers : List Answer) (w : World R) (s : ℕ) (t : StandingLink) → requests_first k w t ≡ false →
+      after_disable k answers s (read_record k (request k answers) (λ _. disable_kind) w s t)
+      ≡ (let read = read_at k (λ _. disable_kind) w s t in judged k answers (request k answers) (disable_came k read.world s read.came) s)
+  unfolding after_disable read_record prepared read_at ran_after
+  after_disable-plain answers w s t passive = rw passive refl
 
-  pub plain-came : (answers : List Answer) (w mid : World R) (s : ℕ) (t : StandingLink) (got : Got) (left : Done R) → requests_first k w t ≡ false → HasCome mid got (value_came k w s t (got_at w s t))
-      → completed k answers (request k answers) mid s got ≡ left → after_reading k answers s (read_record k (request k answers) w s t) ≡ left
-  plain-came answers w mid s t got left passive came is = after_reading-plain answers w s t passive ∙ completed-came answers mid s got _ left came is
+  pub came_read : (kind : R → InputKind) (w mid : World R) (s : ℕ) (t : StandingLink) (got : Got) (to : InputKind) → to ≡ kind (at k w s)
+      → HasCome mid got (value_came k w s t (read_as k (at k w t.number) t.field to)) → HasCome mid got (read_at k kind w s t)
+  unfolding read_at
+  came_read kind w mid s t got to is came = subst (λ (x : InputKind). HasCome mid got (value_came k w s t (read_as k (at k w t.number) t.field x))) is came
 
-  -- a request that found its record active, and one that found it idle
-  pub goes-turned_away : (answers : List Answer) (before counts : Tally) (w : World R) (done : Done R) → Leaves w before counts done → Goes before counts done (after_turn k answers w Ended)
-  unfolding after_turn
-  goes-turned_away answers before counts w done leaves = record { world = sym leaves.world; tally = sym leaves.tally }
+  -- what came through a link, as the code has it
+  pub came-completed : (answers : List Answer) (mid : World R) (s : ℕ) (got : Got) (read : Came R) (left : Ran R) → HasCome mid got read
+      → processed (completed k answers (request k answers) mid s got) ≡ left → processed (completed k answers (request k answers) read.world s read.came) ≡ left
+  came-completed answers mid s got read left came is =
+      ap (λ (v : World R). processed (completed k answers (request k answers) v s read.came)) (sym came.world) ∙ ap (λ (x : Got). processed (completed k answers (request k answers) mid s x)) (sym came.came) ∙ is
 
-  pub goes-processed : (answers : List Answer) (before first : Tally) (w : World R) (s : ℕ) (left : Done R) → (common_at k w s).active ≡ false → first ≡ counted_one before Processed →
-      body k answers (request k answers) (changed k w s unblocked) s ≡ left → Goes before first (request k answers w s) left
-  goes-processed answers before first w s left inactive one is =
-      rw (request-processed k lawful answers w s inactive) (record {
-        world = ap (λ (d : Done R). d.world) is;
-        tally = ap (λ (d : Done R). counted (counted_one before Processed) d.requests) is ∙ ap (λ t. counted t left.requests) (sym one);
-      })
+  pub came-judged : (answers : List Answer) (mid : World R) (s : ℕ) (got : Got) (read : Came R) (left : Ran R) → HasCome mid got read
+      → judged k answers (request k answers) (disable_came k mid s got) s ≡ left → judged k answers (request k answers) (disable_came k read.world s read.came) s ≡ left
+  came-judged answers mid s got read left came is =
+      ap (λ (v : World R). judged k answers (request k answers) (disable_came k v s read.came) s) (sym came.world) ∙ ap (λ (x : Got). judged k answers (request k answers) (disable_came k mid s x) s) (sym came.came) ∙ is
+
+  -- a request of an idle record, by what SDIS comes to
+  pub begun-reads : (answers : List Answer) (w ready : World R) (s : ℕ) (link : LinkUse) → ready ≡ changed k w s unblocked → link ≡ use_of (common_at k ready s).disable_link
+      → begun_idle k answers (request k answers) w s ≡ after_disable k answers s (read_link k (request k answers) (λ _. disable_kind) ready s link)
+  unfolding begun_idle after_disable
+  begun-reads answers w ready s link r is = rw (← r, ← is) refl
+
+  pub after_disable-unused : (answers : List Answer) (w : World R) (s : ℕ) → after_disable k answers s (read_link k (request k answers) (λ _. disable_kind) w s Unused) ≡ judged k answers (request k answers) w s
+  unfolding after_disable read_link ran_after disable_came
+  after_disable-unused answers w s = refl
+
+  pub after_disable-faulted : (answers : List Answer) (w : World R) (s : ℕ) (link : LinkUse) → read_link k (request k answers) (λ _. disable_kind) w s link ≡ record { world = faulted k w s; requests = None; came = Got-fault }
+      → after_disable k answers s (read_link k (request k answers) (λ _. disable_kind) w s link) ≡ judged k answers (request k answers) (faulted k w s) s
+  unfolding after_disable ran_after disable_came
+  after_disable-faulted answers w s link is = ap (λ (read : Read R). after_disable k answers s read) is
+
+  pub judged-off : (answers : List Answer) (w : World R) (s : ℕ) → is_disabled (common_at k w s) ≡ true → judged k answers (request k answers) w s ≡ after_turn k answers (changed k w s disabled) (Ended Disabled)
+  unfolding judged after_turn
+  judged-off answers w s is = rw is refl
+
+  pub judged-on : (answers : List Answer) (w : World R) (s : ℕ) → is_disabled (common_at k w s) ≡ false → judged k answers (request k answers) w s ≡ processed (body k answers (request k answers) w s)
+  unfolding judged
+  judged-on answers w s is = rw is refl
+
+  pub asked_ran-later : (answers : List Answer) (w : World R) (s t : ℕ) → is_put_down (common_at k w s).by_put (common_at k w t) ≡ true → asked_ran k answers w s t ≡ after_turn k answers (changed k w t put_down) (Ended Reprocess)
+  unfolding asked_ran after_turn
+  asked_ran-later answers w s t is = rw is refl
+
+  pub asked_ran-now : (answers : List Answer) (w : World R) (s t : ℕ) → is_put_down (common_at k w s).by_put (common_at k w t) ≡ false
+      → asked_ran k answers w s t ≡ ran k answers (changed k w t (put_mark_passed (common_at k w s).by_put)) t
+  unfolding asked_ran
+  asked_ran-now answers w s t is = rw is refl
+
+  -- a record whose device answered at last is idle while its body goes on
+  pub resumed-idle : (w : World R) (s : ℕ) (x : Finished) → let back = changed k w s resumed in (common_at k (put back s (k.finished (at k back s) x)) s).active ≡ false
+  resumed-idle w s x =
+      let back = changed k w s resumed in
+      ap (λ (r : R). (k.common r).active) (at-put_same k back s _) ∙ ap (λ (c : Common). c.active) (lawful.finished_common (at k back s) x) ∙ ap (λ (c : Common). c.active) (common_at-changed k lawful w s resumed)

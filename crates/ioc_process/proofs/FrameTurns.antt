@@ -1,32 +1,36 @@
 -- The turn that was taken, by the frames that are open and the record that is requested.
-use Rattle.std.proofs.Common.{◌≡◌, ℕ, ◌+◌, List, [], ◌∷◌, ◌++◌, length, reverse, Option, Some, None as Nothing_, refl, ap, ◌∙◌, arith}
-use Rattle.std.proofs.lemmas.List.{reverse-append, length_push}
+use Rattle.std.proofs.Common.{◌≡◌, ℕ, zero, suc, subst, sym, ◌+◌, List, [], ◌∷◌, ◌++◌, length, reverse, Option, Some, None as Nothing_, refl, ap, ◌∙◌, arith}
+use Rattle.std.proofs.lemmas.List.{reverse-append, reverse-reverse, length_push}
 use Rattle.std.specs.List.{last_or}
+use Rattle.std.specs.Prelude.{slice_get, ◌-◌}
 use Rattle.ioc_device.specs.declared.Answer.{Answer}
 use Rattle.ioc_ledger.specs.Requests.{None}
 use Rattle.ioc_record.specs.RecordRules.{RecordRules}
 use Rattle.ioc_process.specs.declared.frames.Frame.{Frame}
 use Rattle.ioc_process.specs.World.{World, Has}
-use Rattle.ioc_process.specs.Processing.{Done, request}
-use Rattle.ioc_process.specs.Frames.{Turn, Ended, Calls, waits_with, turn_of, called_of, opened, Opens, calls, after_turn, then_frames, AllStand, TurnStands}
+use Rattle.ioc_process.specs.Processing.{Ran}
+use Rattle.ioc_process.specs.declared.frames.Next.{Next}
+use Rattle.ioc_process.specs.declared.frames.Next.TheVariants.{Requests, Ends}
+use Rattle.ioc_ledger.specs.declared.outcome.Outcome.{Outcome}
+use Rattle.ioc_process.specs.Frames.{Turn, Ended, Calls, newest_of, waits_with, turn_of, next_of, opened, Opens, calls, called_by, after_turn, then_frames, FrameStands, AllStand, TurnStands}
 
 -- the open frames after a turn, the newest first
 abbrev pub opened_first : List Frame → Turn → List Frame
-opened_first frames Ended = frames
+opened_first frames (Ended outcome) = frames
 opened_first frames (Calls frame target) = frame ∷ frames
 
 pub reverse_push : (frames : List Frame) (frame : Frame) → reverse (frames ++ frame ∷ []) ≡ frame ∷ reverse frames
 reverse_push frames frame = reverse-append frames (frame ∷ [])
 
 pub reverse_opened : (frames : List Frame) (turn : Turn) → reverse (opened frames turn) ≡ opened_first (reverse frames) turn
-reverse_opened frames Ended = refl
+reverse_opened frames (Ended outcome) = refl
 reverse_opened frames (Calls frame target) = reverse_push frames frame
 
 pub all_opened : (frames after : List Frame) (turn : Turn) → after ≡ opened frames turn → reverse after ≡ opened_first (reverse frames) turn
 all_opened frames after turn is = ap reverse is ∙ reverse_opened frames turn
 
 pub length_opened : (frames : List Frame) (turn : Turn) → length (opened frames turn) ≡ length frames + calls turn
-length_opened frames Ended = omega arith
+length_opened frames (Ended outcome) = omega arith
 length_opened frames (Calls frame target) = length_push frames frame
 
 last_push : (frames : List Frame) (frame : Frame) (other : Option Frame) → last_or other (frames ++ frame ∷ []) ≡ Some frame
@@ -34,37 +38,93 @@ last_push [] frame other = refl
 last_push (first ∷ frames) frame other = last_push frames frame (Some first)
 
 -- the newest frame waits for the record that is requested
-pub turn_pushed : (frames : List Frame) (frame : Frame) (target : ℕ) → turn_of (frames ++ frame ∷ []) (Some target) ≡ Calls frame target
+pub turn_pushed : (frames : List Frame) (frame : Frame) (target : ℕ) → turn_of (frames ++ frame ∷ []) (Requests target) ≡ Calls frame target
 turn_pushed frames frame target = ap (λ (newest : Option Frame). waits_with newest target) (last_push frames frame Nothing_)
 
 -- a frame was opened
-pub opens_pushed : (frames after : List Frame) (frame : Frame) (target : ℕ) → after ≡ frames ++ frame ∷ [] → Opens frames after (Some target)
-opens_pushed frames after frame target is = rw is (record { frames = rw (turn_pushed frames frame target) refl; called = rw (turn_pushed frames frame target) refl })
+pub opens_pushed : (frames after : List Frame) (frame : Frame) (target : ℕ) → after ≡ frames ++ frame ∷ [] → Opens frames after (Requests target)
+opens_pushed frames after frame target is = rw is (record { frames = rw (turn_pushed frames frame target) refl; next = rw (turn_pushed frames frame target) refl })
 
 -- none was
-pub opens_none : (frames after : List Frame) → after ≡ frames → Opens frames after Nothing_
-opens_none frames after is = record { frames = is; called = refl }
+pub opens_none : (frames after : List Frame) (outcome : Outcome) → after ≡ frames → Opens frames after (Ends outcome)
+opens_none frames after outcome is = record { frames = is; next = refl }
 
 -- the record that is requested, if one is
-abbrev pub CalledStands : {R : Type 0} → World R → Option ℕ → Type 0
-CalledStands w Nothing_ = Unit {0}
-CalledStands w (Some target) = Has w target
+abbrev pub NextStands : {R : Type 0} → World R → Next → Type 0
+NextStands w (Ends outcome) = Unit {0}
+NextStands w (Requests target) = Has w target
 
-pub called_stands : {R : Type 0} (w : World R) (turn : Turn) → TurnStands w turn → CalledStands w (called_of turn)
-called_stands w Ended stands = tt
-called_stands w (Calls frame target) stands = stands.1
+pub next_stands : {R : Type 0} (w : World R) (turn : Turn) → TurnStands w turn → NextStands w (next_of turn)
+next_stands w (Ended outcome) stands = tt
+next_stands w (Calls frame target) stands = stands.1
 
 pub all_stand : {R : Type 0} (w : World R) (frames : List Frame) (turn : Turn) → TurnStands w turn → AllStand w frames → AllStand w (opened_first frames turn)
-all_stand w frames Ended stands all = all
+all_stand w frames (Ended outcome) stands all = all
 all_stand w frames (Calls frame target) stands all = (stands.0, all)
 
 module _ {R : Type 0} (k : RecordRules R) (answers : List Answer) where
-  -- what the request of this record leads to, if one is requested
-  abbrev pub now : World R → Option ℕ → Done R
-  now w Nothing_ = record { world = w; requests = None }
-  now w (Some target) = request k answers w target
+  -- what comes next leads to
+  abbrev pub now : World R → List Frame → Next → Ran R
+  now w frames (Ends outcome) = record { world = w; requests = None; outcome = outcome }
+  now w frames (Requests target) = called_by k answers w (newest_of frames) target
 
-  pub turn_now : (w : World R) (frames : List Frame) (turn : Turn) → then_frames k answers (after_turn k answers w turn) frames ≡ then_frames k answers (now w (called_of turn)) (opened_first frames turn)
+  pub turn_now : (w : World R) (frames : List Frame) (turn : Turn)
+      → then_frames k answers (after_turn k answers w turn) frames ≡ then_frames k answers (now w (opened_first frames turn) (next_of turn)) (opened_first frames turn)
   unfolding after_turn
-  turn_now w frames Ended = refl
+  turn_now w frames (Ended outcome) = refl
   turn_now w frames (Calls frame target) = refl
+
+module _ {R : Type 0} (k : RecordRules R) (answers : List Answer) where
+  -- a turn that was taken where no frame was open
+  pub begun_now : (w : World R) (frames : List Frame) (first : Next) → Opens [] frames first
+      → after_turn k answers w (turn_of frames first) ≡ then_frames k answers (now k answers w (reverse frames) first) (reverse frames)
+  begun_now w frames first opens =
+      let turn = turn_of frames first in
+      turn_now k answers w [] turn
+      ∙ ap (λ (next : Next). then_frames k answers (now k answers w (opened_first [] turn) next) (opened_first [] turn)) opens.next
+      ∙ ap (λ (fs : List Frame). then_frames k answers (now k answers w fs first) fs) (sym (all_opened [] frames turn opens.frames))
+
+-- the newest frame, in either order
+reverse-cons : (frame : Frame) (frames : List Frame) → reverse (frame ∷ frames) ≡ reverse frames ++ frame ∷ []
+reverse-cons frame frames = reverse-append (frame ∷ []) frames
+
+newest_push : (frames : List Frame) (next frame : Frame) → newest_of ((frames ++ next ∷ []) ++ frame ∷ []) ≡ newest_of (frames ++ next ∷ [])
+newest_push [] next frame = refl
+newest_push (first ∷ frames) next frame = refl
+
+last_newest : (frames : List Frame) (frame : Frame) → newest_of (reverse frames ++ frame ∷ []) ≡ last_or (Some frame) frames
+last_newest [] frame = refl
+last_newest (next ∷ frames) frame = ap (λ fs. newest_of (fs ++ frame ∷ [])) (reverse-cons next frames) ∙ newest_push (reverse frames) next frame ∙ last_newest frames next
+
+pub newest_reverse : (frames : List Frame) → newest_of (reverse frames) ≡ last_or Nothing_ frames
+newest_reverse [] = refl
+newest_reverse (frame ∷ frames) = ap newest_of (reverse-cons frame frames) ∙ last_newest frames frame
+
+last_from : (frames : List Frame) (first : Frame) (other : Option Frame) (frame : Frame) → slice_get (first ∷ frames) (length frames) ≡ Some frame → last_or other (first ∷ frames) ≡ Some frame
+last_from [] first other frame is = is
+last_from (next ∷ frames) first other frame is = last_from frames next (Some first) frame is
+
+-- the last frame is the newest
+pub last_is : (frames : List Frame) (frame : Frame) → slice_get frames (length frames - 1) ≡ Some frame → last_or Nothing_ frames ≡ Some frame
+last_is [] frame is = cc
+last_is (first ∷ frames) frame is =
+    let e : length (first ∷ frames) - 1 ≡ length frames = omega arith in
+    last_from frames first Nothing_ frame (sym (ap (slice_get (first ∷ frames)) e) ∙ is)
+
+-- each frame stands
+pub one_stands : {R : Type 0} (w : World R) (frames : List Frame) (n : ℕ) (frame : Frame) → AllStand w frames → slice_get frames n ≡ Some frame → FrameStands w frame
+one_stands w [] n frame all is = cc
+one_stands w (first ∷ frames) zero frame all is = let e : first ≡ frame = cc in subst (FrameStands w) e all.0
+one_stands w (first ∷ frames) (suc n) frame all is = one_stands w frames n frame all.1 is
+
+-- frames stand in either order
+all_on : {R : Type 0} (w : World R) (frames : List Frame) (frame : Frame) → AllStand w frames → FrameStands w frame → AllStand w (frames ++ frame ∷ [])
+all_on w [] frame all stands = (stands, tt)
+all_on w (first ∷ frames) frame all stands = (all.0, all_on w frames frame all.1 stands)
+
+all_reversed : {R : Type 0} (w : World R) (frames : List Frame) → AllStand w frames → AllStand w (reverse frames)
+all_reversed w [] all = tt
+all_reversed w (frame ∷ frames) all = subst (AllStand w) (sym (reverse-cons frame frames)) (all_on w (reverse frames) frame (all_reversed w frames all.1) all.0)
+
+pub all_forward : {R : Type 0} (w : World R) (frames : List Frame) → AllStand w (reverse frames) → AllStand w frames
+all_forward w frames all = subst (AllStand w) (reverse-reverse frames) (all_reversed w (reverse frames) all)

@@ -1,15 +1,18 @@
 -- What is left to do by frames, as a number that falls with each turn.
-use Rattle.std.proofs.Common.{◌≡◌, ℕ, zero, suc, ◌+◌, ◌-◌, ◌*◌, ◌<◌, ◌≤◌, List, [], ◌∷◌, Option, Some, None, length, refl, arith}
+use Rattle.std.proofs.Common.{◌≡◌, ℕ, zero, suc, ◌+◌, ◌-◌, ◌*◌, ◌<◌, ◌≤◌, List, [], ◌∷◌, length, refl, arith}
 use Rattle.std.proofs.Math.Nat.{mul-le-mul_right}
 use Rattle.ioc_process.specs.declared.frames.Place.{Place}
 use Rattle.ioc_process.specs.declared.frames.Frame.{Frame}
-use Rattle.ioc_process.specs.Frames.{Turn, Ended, Calls, called_of, calls_left, turn_left, calls, most_calls}
+use Rattle.ioc_process.specs.Frames.{Turn, Ended, Calls, next_of, calls_left, turn_left, calls, most_of_request}
+use Rattle.ioc_process.specs.declared.frames.Next.{Next}
+use Rattle.ioc_process.specs.declared.frames.Next.TheVariants.{Requests, Ends}
+use Rattle.ioc_ledger.specs.declared.outcome.Outcome.{Outcome}
 use Rattle.ioc_process.proofs.FrameTurns.{opened_first}
 
 -- turns that a request may take where so many records are idle
 abbrev pub cost : ℕ → ℕ
 cost zero = 1
-cost (suc i) = 1 + most_calls * (cost i + 1)
+cost (suc i) = 1 + most_of_request * (cost i + 1)
 
 cost-pos : (i : ℕ) → 1 ≤ cost i
 cost-pos zero = omega arith
@@ -24,15 +27,15 @@ frames_work n [] = 0
 frames_work n (frame ∷ frames) = place_work (n - suc (length frames)) frame.place + frames_work n frames
 
 -- with the request that begins, if one does
-abbrev pub called_work : ℕ → ℕ → Option ℕ → ℕ
-called_work n open_frames None = 0
-called_work n open_frames (Some target) = cost (n - open_frames)
+abbrev pub next_work : ℕ → ℕ → Next → ℕ
+next_work n open_frames (Ends outcome) = 0
+next_work n open_frames (Requests target) = cost (n - open_frames)
 
-abbrev pub work : ℕ → List Frame → Option ℕ → ℕ
-work n frames called = frames_work n frames + called_work n (length frames) called
+abbrev pub work : ℕ → List Frame → Next → ℕ
+work n frames next = frames_work n frames + next_work n (length frames) next
 
 -- one more level down
-cost-less : (n open_frames : ℕ) → suc open_frames ≤ n → cost (n - open_frames) ≡ 1 + most_calls * (cost (n - suc open_frames) + 1)
+cost-less : (n open_frames : ℕ) → suc open_frames ≤ n → cost (n - open_frames) ≡ 1 + most_of_request * (cost (n - suc open_frames) + 1)
 cost-less n open_frames h = let e : n - open_frames ≡ suc (n - suc open_frames) = omega arith in rw e refl
 
 -- so many calls cost no more than more of them, with one call under way
@@ -40,14 +43,14 @@ within : (a b c : ℕ) → 1 + a ≤ b → (1 + a * (c + 1)) + c ≤ b * (c + 1)
 within a b c h = let m : (1 + a) * (c + 1) ≤ b * (c + 1) = mul-le-mul_right (c + 1) h in omega (arith, m)
 
 -- a request began, and its record came to a turn
-pub work-called : (n : ℕ) (frames : List Frame) (target : ℕ) (turn : Turn) → length frames + calls turn ≤ n → turn_left turn ≤ most_calls
-    → work n (opened_first frames turn) (called_of turn) < work n frames (Some target)
-work-called n frames target Ended h left = omega (arith, cost-pos (n - length frames))
+pub work-called : (n : ℕ) (frames : List Frame) (target : ℕ) (turn : Turn) → length frames + calls turn ≤ n → turn_left turn ≤ most_of_request
+    → work n (opened_first frames turn) (next_of turn) < work n frames (Requests target)
+work-called n frames target (Ended outcome) h left = omega (arith, cost-pos (n - length frames))
 work-called n frames target (Calls frame u) h left =
-    omega (arith, cost-less n (length frames) (omega arith), within (calls_left frame.place) most_calls (cost (n - suc (length frames))) left)
+    omega (arith, cost-less n (length frames) (omega arith), within (calls_left frame.place) most_of_request (cost (n - suc (length frames))) left)
 
 -- a frame was taken, and its body came to a turn
-pub work-went_on : (n : ℕ) (frames : List Frame) (frame : Frame) (turn : Turn) → turn_left turn ≤ calls_left frame.place
-    → work n (opened_first frames turn) (called_of turn) < work n (frame ∷ frames) None
-work-went_on n frames frame Ended h = omega arith
-work-went_on n frames frame (Calls other u) h = omega (arith, within (calls_left other.place) (calls_left frame.place) (cost (n - suc (length frames))) h)
+pub work-went_on : (n : ℕ) (frames : List Frame) (frame : Frame) (outcome : Outcome) (turn : Turn) → turn_left turn ≤ calls_left frame.place
+    → work n (opened_first frames turn) (next_of turn) < work n (frame ∷ frames) (Ends outcome)
+work-went_on n frames frame outcome (Ended other) h = omega arith
+work-went_on n frames frame outcome (Calls other u) h = omega (arith, within (calls_left other.place) (calls_left frame.place) (cost (n - suc (length frames))) h)

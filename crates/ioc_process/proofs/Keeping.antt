@@ -1,26 +1,31 @@
 -- What requests leave alone: which records there are, and what their links name.
 use Rattle.std.proofs.Common.{◌≡◌, ◌≢◌, ℕ, Bool, true, false, cond, eqb, List, [], ◌∷◌, length, refl, ap, subst, ◌∙◌, arith}
 use Rattle.std.proofs.lemmas.Grind.{common_steps}
-use Rattle.std.specs.Prelude.{Result, Ok, Err, Contains, unwrap_or, slice_get, nat_lt, ◌++◌}
+use Rattle.std.specs.Prelude.{Result, Ok, Err, Contains, nat_lt, ◌++◌}
 use Rattle.ioc_values.specs.declared.value.Value.{Value}
 use Rattle.ioc_values.specs.declared.error.IocError.{IocError}
-use Rattle.ioc_record.specs.declared.common.Common.{Common}
-use Rattle.ioc_record.specs.declared.link_field.StandingLink.{StandingLink}
-use Rattle.ioc_record.specs.declared.body.Got.{Got}
+use Rattle.ioc_common.specs.declared.common.Common.{Common}
+use Rattle.ioc_common.specs.declared.link_field.StandingLink.{StandingLink}
+use Rattle.ioc_common.specs.declared.body.Got.{Got}
+use Rattle.ioc_common.specs.declared.body.Got.TheVariants.{Nothing as Got-nothing, Value as Got-value, Fault as Got-fault}
 use Rattle.ioc_device.specs.declared.Answer.{Answer}
+use Rattle.ioc_device.specs.declared.Ask.TheVariants.{Read as Read-ask, Write as Write-ask}
+use Rattle.ioc_values.specs.declared.value.Finished.{Finished}
+use Rattle.ioc_process.specs.Marks.{with_disable_input, resumed}
+use Rattle.ioc_process.specs.declared.call.Call.{Call}
 use Rattle.ioc_device.specs.declared.Answer.TheVariants.{Done as Done-answer, Fault as Fault-answer, Later}
-use Rattle.ioc_record.specs.Steps.{with_active}
+use Rattle.ioc_common.specs.Steps.{with_active}
 use Rattle.ioc_record.specs.RecordRules.{RecordRules}
 use Rattle.ioc_record.specs.Laws.{IsLawful}
 use Rattle.ioc_ledger.specs.Requests.{more}
 use Rattle.ioc_process.specs.declared.outbox.OutboxItem.{OutboxItem}
-use Rattle.ioc_process.specs.World.{World, Has, at, put, changed, SameLinks, Keeps, IsClosed, used_one, sent}
-use Rattle.ioc_process.specs.Processing.{inherits, value_came, wrote, faulted, device_gave, received, read_device, acknowledged, write_device, can_ask, request}
-use Rattle.ioc_process.proofs.StepFrames.{OwnLinks, targets_same, links-set, links-taken, links-stored}
+use Rattle.ioc_process.specs.World.{World, Has, at, put, changed, SameLinks, Keeps, IsClosed, called, sent}
+use Rattle.ioc_process.specs.Processing.{inherits, value_came, wrote, faulted, device_gave, received, read_device, acknowledged, write_device, next_call, can_ask, request, ran, went_on_at_last, disable_came}
+use Rattle.ioc_process.proofs.StepFrames.{OwnLinks, targets_same, links-set, links-taken, links-finished, links-stored}
 use Rattle.ioc_process.proofs.Worlds.{at-put_same, at-put_other, has-put, has-put_back, len-put}
 use Rattle.ioc_process.specs.Links.{handed_on}
 use Rattle.ioc_process.proofs.Depth.{written_has}
-use Rattle.ioc_process.proofs.Alongside.{Guards, inherits-goes, value_came-goes, wrote-goes, request-goes}
+use Rattle.ioc_process.proofs.Alongside.{Guards, inherits-goes, value_came-goes, wrote-goes, request-goes, ran-goes, at_last-goes}
 
 -- the same record has the same links, and so has one after another
 pub same_links : {R : Type 0} (k : RecordRules R) (r : R) → SameLinks k r r
@@ -69,6 +74,15 @@ module _ {R : Type 0} (k : RecordRules R) (lawful : IsLawful k) where
   unfolding faulted
   faulted-keeps w s there = keeps-changed w s there _ (λ c. (refl, refl))
 
+  pub resumed-keeps : (w : World R) (s : ℕ) → Has w s → Keeps k w (changed k w s resumed)
+  resumed-keeps w s there = keeps-changed w s there resumed (λ c. (refl, refl))
+
+  pub disable_came-keeps : (w : World R) (s : ℕ) → Has w s → (got : Got) → Keeps k w (disable_came k w s got)
+  unfolding disable_came with_disable_input
+  disable_came-keeps w s there (Got-value v) = keeps-changed w s there _ (λ c. (refl, refl))
+  disable_came-keeps w s there Got-nothing = keeps_all k w
+  disable_came-keeps w s there Got-fault = keeps_all k w
+
   device_gave-keeps : (w : World R) (s : ℕ) → Has w s → (value : Result Value IocError) → Keeps k w (device_gave k w s value).world
   unfolding device_gave
   device_gave-keeps w s there (Ok v) = keeps_all k w
@@ -80,9 +94,9 @@ module _ {R : Type 0} (k : RecordRules R) (lawful : IsLawful k) where
   received-keeps w s there Fault-answer = keeps-changed w s there _ (λ c. (refl, refl))
   received-keeps w s there Later = keeps-changed w s there _ (λ c. (refl, refl))
 
-  used-keeps : (w : World R) → Keeps k w (used_one w)
-  unfolding at used_one
-  used-keeps w = record { has = λ _ h. h; only = λ _ h. h; count = refl; links = λ n. record { fields = refl; links = refl } }
+  called-keeps : (call : Call) (w : World R) → Keeps k w (called call w)
+  unfolding at called
+  called-keeps call w = record { has = λ _ h. h; only = λ _ h. h; count = refl; links = λ n. record { fields = refl; links = refl } }
 
   pub sent-keeps : (item : OutboxItem) (w : World R) → Keeps k w (sent item w)
   unfolding at sent
@@ -98,21 +112,21 @@ module _ {R : Type 0} (k : RecordRules R) (lawful : IsLawful k) where
   acknowledged-keeps w s there Fault-answer = keeps-changed w s there _ (λ c. (refl, refl))
   acknowledged-keeps w s there Later = keeps-changed w s there _ (λ c. (refl, refl))
 
-  pub write_device-keeps : (answers : List Answer) (w : World R) (s : ℕ) → Has w s → Keeps k w (write_device k answers w s).world
+  pub write_device-keeps : (answers : List Answer) (w : World R) (s : ℕ) → Has w s → (v : Value) → Keeps k w (write_device k answers w s v).world
   unfolding write_device
-  write_device-keeps answers w s there =
-      let next = unwrap_or (slice_get answers w.used) Fault-answer in
-      elim (can_ask k w s) as (λ b. Keeps k w (cond b (acknowledged k (used_one w) s next) (acknowledged k w s Fault-answer)).world) [
-        | true ↦ keeps_on k (used-keeps w) (acknowledged-keeps (used_one w) s ((used-keeps w).has s there) next)
+  write_device-keeps answers w s there v =
+      let call = next_call k answers w s (Write-ask v) in
+      elim (can_ask k w s) as (λ b. Keeps k w (cond b (acknowledged k (called call w) s call.answer) (acknowledged k w s Fault-answer)).world) [
+        | true ↦ keeps_on k (called-keeps call w) (acknowledged-keeps (called call w) s ((called-keeps call w).has s there) call.answer)
         | false ↦ acknowledged-keeps w s there Fault-answer
       ]
 
   pub read_device-keeps : (answers : List Answer) (w : World R) (s : ℕ) → Has w s → Keeps k w (read_device k answers w s).world
   unfolding read_device
   read_device-keeps answers w s there =
-      let next = unwrap_or (slice_get answers w.used) Fault-answer in
-      elim (can_ask k w s) as (λ b. Keeps k w (cond b (received k (used_one w) s next) (received k w s Fault-answer)).world) [
-        | true ↦ keeps_on k (used-keeps w) (received-keeps (used_one w) s ((used-keeps w).has s there) next)
+      let call = next_call k answers w s Read-ask in
+      elim (can_ask k w s) as (λ b. Keeps k w (cond b (received k (called call w) s call.answer) (received k w s Fault-answer)).world) [
+        | true ↦ keeps_on k (called-keeps call w) (received-keeps (called call w) s ((called-keeps call w).has s there) call.answer)
         | false ↦ received-keeps w s there Fault-answer
       ]
 
@@ -130,18 +144,19 @@ module _ {R : Type 0} (k : RecordRules R) (lawful : IsLawful k) where
     Linked n r = Has w0 n × SameLinks k (at k w0 n) r
 
     kept : Guards k (λ n. Has w0 n) Linked KeptFrom
-    unfolding at used_one
+    unfolding at called
     kept = record {
       same = λ inv n _. ap (λ (w : World R). at k w n) inv.0;
       good = λ inv n may. (may, inv.1.links n);
-      used = λ inv. ap (λ (w : World R). w.used) inv.0;
+      calls = λ inv. ap (λ (w : World R). w.calls) inv.0;
       moment = λ inv. ap (λ (w : World R). w.moment) inv.0;
       link = λ {n} {r} good target links. closed.closed n target (subst (λ (l : List ℕ). Contains l target) (targets_same k lawful good.1) links);
       common = λ good c same. (good.0, links_on k good.1 (links-set k lawful _ c same));
       taken = λ good got. (good.0, links_on k good.1 (links-taken k lawful _ got));
+      finished = λ good x. (good.0, links_on k good.1 (links-finished k lawful _ x));
       stored = λ good f v. (good.0, links_on k good.1 (links-stored k lawful _ f v));
       put = λ inv n may r good. (ap (λ (w : World R). put w n r) inv.0, put_kept k w0 _ n may r inv.1 good.1);
-      use_one = λ inv. (ap used_one inv.0, keeps_on k inv.1 (used-keeps _));
+      call = λ inv one. (ap (called one) inv.0, keeps_on k inv.1 (called-keeps one _));
       send = λ inv item. (ap (sent item) inv.0, keeps_on k inv.1 (sent-keeps item _));
     }
 
@@ -159,3 +174,9 @@ module _ {R : Type 0} (k : RecordRules R) (lawful : IsLawful k) where
 
     pub request-keeps : (answers : List Answer) (s : ℕ) → Has w0 s → Keeps k w0 (request k answers w0 s).world
     request-keeps answers s may = (request-goes k lawful _ _ _ kept answers start s may).inv.1
+
+    pub ran-keeps : (answers : List Answer) (s : ℕ) → Has w0 s → Keeps k w0 (ran k answers w0 s).world
+    ran-keeps answers s may = (ran-goes k lawful _ _ _ kept answers start s may).inv.1
+
+    pub at_last-keeps : (answers : List Answer) (s : ℕ) → Has w0 s → (x : Finished) → Keeps k w0 (went_on_at_last k answers w0 s x).world
+    at_last-keeps answers s may x = (at_last-goes k lawful _ _ _ kept answers start s may x).inv.1

@@ -3,24 +3,31 @@ use Rattle.std.proofs.Common.{◌≡◌, ℕ, Bool, true, false, cond, List, Ok,
 use Rattle.std.specs.Prelude.{Result, Contains}
 use Rattle.std.specs.FinMap.{contains_key}
 use Rattle.ioc_values.specs.declared.error.IocError.{IocError}
-use Rattle.ioc_values.specs.declared.error.IocError.TheVariants.{NoField}
+use Rattle.ioc_values.specs.declared.error.IocError.TheVariants.{NoField, Stale}
 use Rattle.ioc_values.specs.declared.input.Input.{Input}
+use Rattle.ioc_values.specs.declared.value.Finished.{Finished}
+use Rattle.ioc_common.specs.declared.common.Common.{Common}
+use Rattle.ioc_common.specs.Steps.{with_put_mark, with_reprocess_mark}
+use Rattle.ioc_ledger.specs.declared.outcome.Outcome.{Outcome}
 use Rattle.ioc_fields.specs.declared.field_no.FieldNo.{FieldNo}
 use Rattle.ioc_fields.specs.Table.{row_of}
 use Rattle.ioc_device.specs.declared.Answer.{Answer}
 use Rattle.ioc_ledger.specs.declared.outcome.Outcome.TheVariants.{Reprocess}
-use Rattle.ioc_ledger.specs.Requests.{Requests, None, Request, first_outcome}
+use Rattle.ioc_ledger.specs.Requests.{Requests, None, Request}
 use Rattle.ioc_record.specs.RecordRules.{RecordRules, targets}
 use Rattle.ioc_record.specs.Values.{text_of, put_field}
 use Rattle.ioc_record.specs.Laws.{IsLawful}
 use Rattle.ioc_process.specs.declared.reply.Reply.{Reply}
 use Rattle.ioc_process.specs.declared.reply.Reply.TheVariants.{Plain, Outcome as Outcome-reply, Shown}
-use Rattle.ioc_process.specs.World.{World, at, put}
+use Rattle.ioc_process.specs.World.{World, at, common_at, put, changed}
 use Rattle.ioc_process.specs.Local.{Shut, Same, AgreeEvent, EventIsLocal}
 use Rattle.ioc_process.specs.declared.event.Event.{Event}
-use Rattle.ioc_process.specs.declared.event.Event.TheVariants.{Get, Process, Put}
-use Rattle.ioc_process.specs.Step.{Stepped, number_of, names, processes, outcome_reply, refused, told, after_put, put_with, stepped_there, stepped}
-use Rattle.ioc_process.proofs.Locality.{Along, guards, along, request-local}
+use Rattle.ioc_process.specs.declared.event.Event.TheVariants.{Get, Process, Put, Complete}
+use Rattle.ioc_process.specs.Step.{Stepped, number_of, names, processes, awaits, refused, told, after_put, after_completion, put_with, stepped_there, stepped}
+use Rattle.ioc_process.proofs.Locality.{Within, Along, guards, along}
+use Rattle.ioc_process.proofs.Alongside.{changed-goes, ran-goes, at_last-goes}
+use Rattle.ioc_process.proofs.StepFrames.{OwnLinks}
+use Rattle.ioc_process.specs.Processing.{ran}
 use Rattle.ioc_process.proofs.Stepping.{step-there, step-missing, put_targets}
 
 module _ {R : Type 0} (k : RecordRules R) (lawful : IsLawful k) (U : ℕ → Type 0) (answers : List Answer) where
@@ -52,15 +59,32 @@ module _ {R : Type 0} (k : RecordRules R) (lawful : IsLawful k) (U : ℕ → Typ
     told-local : (s : ℕ) → U s → AgreeEvent k U w v (told k answers w s) (told k answers v s)
     unfolding told
     told-local s u =
-        let a = request-local k lawful U answers w v s shut same u in
+        let a = ran-goes k lawful U (Within k U w v) (Along k U w v) (guards k U w v lawful) answers (along k U w v shut same) s u in
         record {
-          same = a.same;
-          reply = ap (λ (made : Requests). outcome_reply (first_outcome made)) a.requests;
-          requests = a.requests;
-          shut = a.shut;
-          spares = a.spares;
-          other_spares = a.other_spares;
+          same = a.inv.same;
+          reply = ap Outcome-reply a.outcome;
+          requests = ap (λ (x : Requests). Request (ran k answers w s).outcome x None) a.requests ∙ ap (λ (o : Outcome). Request o (ran k answers v s).requests None) a.outcome;
+          shut = a.inv.shut;
+          spares = a.inv.spares;
+          other_spares = a.inv.other_spares;
         }
+
+    completion-local : (s : ℕ) (x : Finished) → U s → AgreeEvent k U w v (after_completion k answers w s x) (after_completion k answers v s x)
+    unfolding after_completion
+    completion-local s x u =
+        let a = at_last-goes k lawful U (Within k U w v) (Along k U w v) (guards k U w v lawful) answers (along k U w v shut same) s u x in
+        record {
+          same = a.inv.same;
+          reply = refl;
+          requests = a.requests;
+          shut = a.inv.shut;
+          spares = a.inv.spares;
+          other_spares = a.inv.other_spares;
+        }
+
+    -- a mark of this record
+    marked : (s : ℕ) → U s → (f : Common → Common) → ((c : Common) → OwnLinks c (f c)) → Along k U w v (changed k w s f) (changed k v s f)
+    marked s u f links = changed-goes k lawful U (Within k U w v) (Along k U w v) (guards k U w v lawful) (along k U w v shut same) s u f links
 
     -- a get of this record
     abbrev shows : FieldNo → R → World R → Stepped R
@@ -77,14 +101,21 @@ module _ {R : Type 0} (k : RecordRules R) (lawful : IsLawful k) (U : ℕ → Typ
     unfolding stepped_there
     get-local s field u = subst (λ (r : R). AgreeEvent k U w v (shows field (at k w s) w) (shows field r v)) (same.records s u) (shows-local field (at k w s))
 
+  module _ (w v : World R) (shut : Shut k U w) (same : Same k U w v) where
     -- what follows a put, by whether the field processes the record and whether it is active
     abbrev follows : ℕ → Bool → Bool → World R → Stepped R
-    follows s proc active x = cond proc (cond active (made x (Outcome-reply Reprocess) (Request Reprocess None None)) (told k answers x s)) (made x Plain None)
+    follows s proc active x =
+        cond proc (cond active (made (changed k x s (with_reprocess_mark true)) (Outcome-reply Reprocess) (Request Reprocess None None)) (told k answers (changed k x s (with_put_mark true)) s))
+        (made x Plain None)
 
     follows-local : (s : ℕ) → U s → (proc active : Bool) → AgreeEvent k U w v (follows s proc active w) (follows s proc active v)
-    follows-local s u true true = unchanged _ _
-    follows-local s u true false = told-local s u
-    follows-local s u false active = unchanged _ _
+    follows-local s u true true =
+        let first = marked w v shut same s u (with_reprocess_mark true) (λ c. (refl, refl)) in
+        from-there w v _ _ _ _ first (unchanged _ _ first.shut first.same _ _)
+    follows-local s u true false =
+        let first = marked w v shut same s u (with_put_mark true) (λ c. (refl, refl)) in
+        from-there w v _ _ _ _ first (told-local _ _ first.shut first.same s u)
+    follows-local s u false active = unchanged w v shut same _ _
 
     after-local : (s : ℕ) (field : FieldNo) → U s → AgreeEvent k U w v (after_put k answers w s field) (after_put k answers v s field)
     unfolding after_put
@@ -111,10 +142,24 @@ module _ {R : Type 0} (k : RecordRules R) (lawful : IsLawful k) (U : ℕ → Typ
     unfolding stepped_there
     process-local s u = told-local w v shut same s u
 
+    -- a completion of this record
+    abbrev completes-at : ℕ → Finished → Bool → World R → Stepped R
+    completes-at s x is y = cond is (after_completion k answers y s x) (refused y Stale)
+
+    completes-local : (s : ℕ) (x : Finished) → U s → (is : Bool) → AgreeEvent k U w v (completes-at s x is w) (completes-at s x is v)
+    completes-local s x u true = completion-local w v shut same s x u
+    completes-local s x u false = unchanged w v shut same _ _
+
+    complete-local : (s number : ℕ) (x : Finished) → U s → AgreeEvent k U w v (stepped_there k answers w (Complete s number x)) (stepped_there k answers v (Complete s number x))
+    unfolding stepped_there
+    complete-local s number x u =
+        subst (λ (r : R). AgreeEvent k U w v (completes-at s x (awaits (common_at k w s) number) w) (completes-at s x (awaits (k.common r) number) v)) (same.records s u) (completes-local s x u _)
+
     there-local : (event : Event) → U (number_of event) → AgreeEvent k U w v (stepped_there k answers w event) (stepped_there k answers v event)
     there-local (Get s field) u = get-local w v shut same s field u
     there-local (Process s) u = process-local s u
     there-local (Put s field given) u = put-local s field given u
+    there-local (Complete s number x) u = complete-local s number x u
 
   pub event-local : EventIsLocal k U answers
   event-local w v event shut same within alike =

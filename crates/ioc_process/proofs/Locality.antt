@@ -1,5 +1,5 @@
 -- Requests look at the records that links lead to, and change these alone.
-use Rattle.std.proofs.Common.{◌≡◌, ◌≢◌, ℕ, ◌+◌, Bool, true, false, cond, eqb, List, [], ◌∷◌, length, refl, sym, ap, subst, ◌∙◌, arith}
+use Rattle.std.proofs.Common.{◌≡◌, ◌≢◌, ℕ, Bool, true, false, cond, eqb, List, [], ◌∷◌, length, refl, sym, ap, subst, ◌∙◌, arith}
 use Rattle.std.proofs.lemmas.Grind.{common_steps}
 use Rattle.std.specs.Prelude.{Contains, nat_lt, ◌++◌}
 use Rattle.ioc_ledger.specs.Requests.{more}
@@ -7,10 +7,11 @@ use Rattle.ioc_process.specs.declared.outbox.OutboxItem.{OutboxItem}
 use Rattle.ioc_device.specs.declared.Answer.{Answer}
 use Rattle.ioc_record.specs.RecordRules.{RecordRules, targets}
 use Rattle.ioc_record.specs.Laws.{IsLawful}
-use Rattle.ioc_process.specs.World.{World, at, put, used_one, sent}
+use Rattle.ioc_process.specs.World.{World, at, put, called, sent}
+use Rattle.ioc_process.specs.declared.call.Call.{Call}
 use Rattle.ioc_process.specs.Processing.{Done}
 use Rattle.ioc_process.specs.Local.{Shut, Same, Spares, Agree, RequestIsLocal}
-use Rattle.ioc_process.proofs.StepFrames.{targets-set, targets-taken, targets-stored}
+use Rattle.ioc_process.proofs.StepFrames.{targets-set, targets-taken, targets-finished, targets-stored}
 use Rattle.ioc_process.proofs.Worlds.{at-put_same, at-put_other}
 use Rattle.ioc_process.proofs.Alongside.{Guards, Goes, request-goes}
 
@@ -45,13 +46,13 @@ module _ {R : Type 0} (k : RecordRules R) (U : ℕ → Type 0) (w0 v0 : World R)
       (cond b (record v { outbox = v.outbox ++ item ∷ [] }) (record v { dropped = more v.dropped }))
   unfolding at
   sent_both w v item true inv = record {
-    same = record { moment = inv.same.moment; used = inv.same.used; outbox = ap (λ (l : List OutboxItem). l ++ item ∷ []) inv.same.outbox; dropped = inv.same.dropped; records = inv.same.records };
+    same = record { moment = inv.same.moment; calls = inv.same.calls; outbox = ap (λ (l : List OutboxItem). l ++ item ∷ []) inv.same.outbox; dropped = inv.same.dropped; records = inv.same.records };
     shut = record { shut = inv.shut.shut };
     spares = record { spared = inv.spares.spared };
     other_spares = record { spared = inv.other_spares.spared };
   }
   sent_both w v item false inv = record {
-    same = record { moment = inv.same.moment; used = inv.same.used; outbox = inv.same.outbox; dropped = ap more inv.same.dropped; records = inv.same.records };
+    same = record { moment = inv.same.moment; calls = inv.same.calls; outbox = inv.same.outbox; dropped = ap more inv.same.dropped; records = inv.same.records };
     shut = record { shut = inv.shut.shut };
     spares = record { spared = inv.spares.spared };
     other_spares = record { spared = inv.other_spares.spared };
@@ -64,18 +65,19 @@ module _ {R : Type 0} (k : RecordRules R) (U : ℕ → Type 0) (w0 v0 : World R)
       (ap length inv.same.outbox) (sent_both w v item (nat_lt (length w.outbox) 256) inv)
 
   pub guards : IsLawful k → Guards k U Within Along
-  unfolding at put used_one
+  unfolding at put called
   guards lawful = record {
     same = λ inv n may. inv.same.records n may;
     good = λ inv n may target. inv.shut.shut n target may;
-    used = λ inv. inv.same.used;
+    calls = λ inv. inv.same.calls;
     moment = λ inv. inv.same.moment;
     link = λ good target links. good target links;
     common = λ good c same target links. good target (subst (λ (x : List ℕ). Contains x target) (targets-set k lawful _ c same) links);
     taken = λ good got target links. good target (subst (λ (x : List ℕ). Contains x target) (targets-taken k lawful _ got) links);
+    finished = λ good x target links. good target (subst (λ (l : List ℕ). Contains l target) (targets-finished k lawful _ x) links);
     stored = λ good f x target links. good target (subst (λ (l : List ℕ). Contains l target) (targets-stored k lawful _ f x) links);
     put = λ {w} {v} inv n may r good. record {
-      same = record { moment = inv.same.moment; used = inv.same.used; outbox = inv.same.outbox; dropped = inv.same.dropped; records = λ m. both_put w v n r m (inv.same.records m) };
+      same = record { moment = inv.same.moment; calls = inv.same.calls; outbox = inv.same.outbox; dropped = inv.same.dropped; records = λ m. both_put w v n r m (inv.same.records m) };
       shut = record {
         shut = λ m target. by_put (λ m' x. U m' → Contains (targets k x) target → U target) w n r
             (λ u links. good target links) (λ m' _ u links. inv.shut.shut m' target u links) m;
@@ -83,8 +85,8 @@ module _ {R : Type 0} (k : RecordRules R) (U : ℕ → Type 0) (w0 v0 : World R)
       spares = record { spared = λ m. by_put (λ m' x. (U m' → ⊥) → x ≡ at k w0 m') w n r (λ out. absurd (out may)) (λ m' _ out. inv.spares.spared m' out) m };
       other_spares = record { spared = λ m. by_put (λ m' x. (U m' → ⊥) → x ≡ at k v0 m') v n r (λ out. absurd (out may)) (λ m' _ out. inv.other_spares.spared m' out) m };
     };
-    use_one = λ inv. record {
-      same = record { moment = inv.same.moment; used = ap (λ (n : ℕ). n + 1) inv.same.used; outbox = inv.same.outbox; dropped = inv.same.dropped; records = inv.same.records };
+    call = λ inv one. record {
+      same = record { moment = inv.same.moment; calls = ap (λ (l : List Call). l ++ one ∷ []) inv.same.calls; outbox = inv.same.outbox; dropped = inv.same.dropped; records = inv.same.records };
       shut = record { shut = inv.shut.shut };
       spares = record { spared = inv.spares.spared };
       other_spares = record { spared = inv.other_spares.spared };

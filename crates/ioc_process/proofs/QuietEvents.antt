@@ -1,8 +1,11 @@
 -- Events leave a quiet database quiet.
-use Rattle.std.proofs.Common.{◌≡◌, ◌≢◌, ℕ, true, false, eqb, Ok, List, IsSome, IsTrue, refl, ap, subst, arith}
+use Rattle.std.proofs.Common.{◌≡◌, ◌≢◌, ℕ, true, false, eqb, Ok, List, IsSome, IsTrue, Option, None as Nothing_, Bool, refl, ap, subst, ◌∙◌, arith}
 use Rattle.std.specs.Prelude.{◌↔◌}
 use Rattle.std.proofs.lemmas.Grind.{common_steps}
 use Rattle.ioc_values.specs.declared.input.Input.{Input}
+use Rattle.ioc_values.specs.declared.value.Finished.{Finished}
+use Rattle.ioc_common.specs.declared.common.Common.{Common}
+use Rattle.ioc_common.specs.Steps.{with_put_mark, with_reprocess_mark}
 use Rattle.ioc_fields.specs.declared.field_no.FieldNo.{FieldNo}
 use Rattle.ioc_device.specs.declared.Answer.{Answer}
 use Rattle.ioc_ledger.specs.Requests.{Requests}
@@ -10,17 +13,22 @@ use Rattle.ioc_record.specs.RecordRules.{RecordRules}
 use Rattle.ioc_record.specs.Values.{put_field}
 use Rattle.ioc_record.specs.Laws.{IsLawful}
 use Rattle.ioc_process.specs.declared.reply.Reply.{Reply}
-use Rattle.ioc_process.specs.World.{World, Has, IsClosed, Keeps, at, common_at, put, begun, begun_at}
-use Rattle.ioc_process.specs.Rules.{Requested, IsQuiet, IsSettled}
+use Rattle.ioc_process.specs.World.{World, Has, IsClosed, Keeps, at, common_at, put, changed, begun, begun_at}
+use Rattle.ioc_process.specs.Rules.{Requested, Resumes, IsQuiet, IsSettled}
 use Rattle.ioc_process.specs.Processing.{Done}
 use Rattle.ioc_process.specs.declared.event.Event.{Event}
-use Rattle.ioc_process.specs.StepRules.{Step, no_such_record, no_such_field, shows_field, processes_record, refuses_value, stores_alone, stores_while_active, stores_and_processes, Replay, at_the_end, and_then}
+use Rattle.ioc_process.specs.StepRules.{Step, no_such_record, no_such_field, shows_field, processes_record, refuses_value, stores_alone, stores_while_active, stores_and_processes, not_awaited, completes_at_last, Replay, at_the_end, and_then}
 use Rattle.ioc_process.specs.declared.event.Entry.{Entry}
 use Rattle.ioc_process.proofs.Worlds.{at-put_same, at-put_other, has-put, has-put_back}
-use Rattle.ioc_process.proofs.Keeping.{keeps_all, keeps_on, closed_on, request-keeps}
+use Rattle.ioc_process.proofs.Keeping.{keeps_all, keeps_on, closed_on, keeps-put, keeps-changed, request-keeps, at_last-keeps}
+use Rattle.ioc_process.proofs.StepFrames.{OwnLinks, links-set}
+use Rattle.ioc_process.proofs.RulesLaws.{resumes-others, resumes-own}
 use Rattle.ioc_process.proofs.Stepping.{keeps-put_field, put_active, put_pending}
-use Rattle.ioc_process.proofs.RulesAlone.{request-is}
-use Rattle.ioc_process.proofs.Quieting.{request-quiet}
+use Rattle.ioc_process.proofs.RulesAlone.{request-is, at_last-is}
+use Rattle.ioc_process.proofs.Quieting.{request-quiet, left-quiet}
+
+neither : {active : Bool} {pending : Option ℕ} → active ≡ false → pending ≡ Nothing_ → IsTrue active ↔ IsSome pending
+neither active pending = (λ is. cc, λ is. cc)
 
 module _ {R : Type 0} (k : RecordRules R) (lawful : IsLawful k) where
   quiet-put : (w : World R) (s : ℕ) (r : R) → Has w s → (k.common r).active ≡ (common_at k w s).active → (k.common r).pending ≡ (common_at k w s).pending
@@ -38,6 +46,15 @@ module _ {R : Type 0} (k : RecordRules R) (lawful : IsLawful k) where
     quiet = quiet-put w s r there (put_active k lawful _ r field given is) (put_pending k lawful _ r field given is) settled.quiet;
   }
 
+  -- a mark leaves it settled
+  mark-settled : (w : World R) (s : ℕ) (f : Common → Common) → ((c : Common) → OwnLinks c (f c)) → ((c : Common) → (f c).active ≡ c.active) → ((c : Common) → (f c).pending ≡ c.pending)
+      → Has w s → IsSettled k w → IsSettled k (changed k w s f)
+  unfolding changed
+  mark-settled w s f links active pending there settled = record {
+    closed = closed_on k lawful (keeps-put k w s there _ (links-set k lawful (at k w s) _ (links _))) settled.closed;
+    quiet = quiet-put w s _ there (ap (λ (c : Common). c.active) (lawful.common_set _ _) ∙ active _) (ap (λ (c : Common). c.pending) (lawful.common_set _ _) ∙ pending _) settled.quiet;
+  }
+
   request-settled : (answers : List Answer) {w w' : World R} {s : ℕ} {requests : Requests} → Has w s → Requested k answers w s w' requests → IsSettled k w → IsSettled k w'
   request-settled answers {w} {w'} {s} there r settled =
       let is = ap (λ (d : Done R). d.world) (request-is k lawful answers r) in
@@ -46,6 +63,26 @@ module _ {R : Type 0} (k : RecordRules R) (lawful : IsLawful k) where
         quiet = request-quiet k lawful answers w s there settled.closed settled.quiet;
       })
 
+  -- a record that was put and marked is there
+  marked-has : (w : World R) (s : ℕ) (r : R) → Has w s → Has (changed k (put w s r) s (with_put_mark true)) s
+  unfolding changed
+  marked-has w s r there = has-put k (put w s r) s s _ (has-put k w s s r there)
+
+  -- a record whose device answered at last waits no more, and every other goes on as it was, or waits
+  completion-settled : (answers : List Answer) {w w' : World R} {s : ℕ} {x : Finished} {requests : Requests} → Has w s → Resumes k answers w s x w' requests → IsSettled k w → IsSettled k w'
+  completion-settled answers {w} {w'} {s} {x} there r settled =
+      let keeps : Keeps k w w' = subst (Keeps k w) (ap (λ (d : Done R). d.world) (at_last-is k lawful answers r)) (at_last-keeps k lawful w settled.closed answers s there x) in
+      let own = resumes-own k lawful answers r in
+      record {
+        closed = closed_on k lawful keeps settled.closed;
+        quiet = record {
+          quiet = λ n has. elim (eqb n s) as (λ b. eqb n s ≡ b → IsTrue (common_at k w' n).active ↔ IsSome (common_at k w' n).pending) [
+            | true ↦ λ is. let e : n ≡ s = grind (arith, common_steps) in rw (common_at, e) (neither own.0 own.1)
+            | false ↦ λ is. let apart : n ≢ s = grind (arith, common_steps) in left-quiet (resumes-others k lawful answers r n apart) (settled.quiet.quiet n (keeps.only n has))
+          ] refl;
+        };
+      }
+
   pub step-settled : (answers : List Answer) {w w' : World R} {event : Event} {reply : Reply} {requests : Requests} → Step k answers w event w' reply requests → IsSettled k w → IsSettled k w'
   step-settled answers (no_such_record _) settled = settled
   step-settled answers (no_such_field _ _) settled = settled
@@ -53,9 +90,13 @@ module _ {R : Type 0} (k : RecordRules R) (lawful : IsLawful k) where
   step-settled answers (processes_record there r _) settled = request-settled answers there r settled
   step-settled answers (refuses_value _ _) settled = settled
   step-settled answers (stores_alone {w} {s} {field} {given} {r} there is _) settled = put-settled w s field given r there is settled
-  step-settled answers (stores_while_active {w} {s} {field} {given} {r} there is _ _) settled = put-settled w s field given r there is settled
+  step-settled answers (stores_while_active {w} {s} {field} {given} {r} there is _ _) settled =
+      mark-settled (put w s r) s (with_reprocess_mark true) (λ c. (refl, refl)) (λ c. refl) (λ c. refl) (has-put k w s s r there) (put-settled w s field given r there is settled)
   step-settled answers (stores_and_processes {w} {w'} {s} {field} {given} {r} there is _ _ q _) settled =
-      request-settled answers (has-put k w s s r there) q (put-settled w s field given r there is settled)
+      request-settled answers (marked-has w s r there) q
+      (mark-settled (put w s r) s (with_put_mark true) (λ c. (refl, refl)) (λ c. refl) (λ c. refl) (has-put k w s s r there) (put-settled w s field given r there is settled))
+  step-settled answers (not_awaited _ _) settled = settled
+  step-settled answers (completes_at_last there _ r) settled = completion-settled answers there r settled
 
   -- an event adds no record, takes none away, and changes no link
   request-kept : (answers : List Answer) {w w' : World R} {s : ℕ} {requests : Requests} → Has w s → Requested k answers w s w' requests → IsClosed k w → Keeps k w w'
@@ -68,10 +109,16 @@ module _ {R : Type 0} (k : RecordRules R) (lawful : IsLawful k) where
   step-keeps answers (processes_record there r _) closed = request-kept answers there r closed
   step-keeps answers (refuses_value {w} _ _) closed = keeps_all k w
   step-keeps answers (stores_alone {w} {s} {field} {given} {r} there is _) closed = keeps-put_field k lawful w s field given r there is
-  step-keeps answers (stores_while_active {w} {s} {field} {given} {r} there is _ _) closed = keeps-put_field k lawful w s field given r there is
-  step-keeps answers (stores_and_processes {w} {w'} {s} {field} {given} {r} there is _ _ q _) closed =
+  step-keeps answers (stores_while_active {w} {s} {field} {given} {r} there is _ _) closed =
       let first = keeps-put_field k lawful w s field given r there is in
+      keeps_on k first (keeps-changed k lawful (put w s r) s (first.has s there) (with_reprocess_mark true) (λ c. (refl, refl)))
+  step-keeps answers (stores_and_processes {w} {w'} {s} {field} {given} {r} there is _ _ q _) closed =
+      let put_first = keeps-put_field k lawful w s field given r there is in
+      let first = keeps_on k put_first (keeps-changed k lawful (put w s r) s (put_first.has s there) (with_put_mark true) (λ c. (refl, refl))) in
       keeps_on k first (request-kept answers (first.has s there) q (closed_on k lawful first closed))
+  step-keeps answers (not_awaited {w} _ _) closed = keeps_all k w
+  step-keeps answers (completes_at_last {w} {w'} {s} {number} {x} there _ r) closed =
+      subst (Keeps k w) (ap (λ (d : Done R). d.world) (at_last-is k lawful answers r)) (at_last-keeps k lawful w closed answers s there x)
 
   begun-settled : (moment : ℕ) (w : World R) → IsSettled k w → IsSettled k (begun_at moment w)
   unfolding at begun begun_at

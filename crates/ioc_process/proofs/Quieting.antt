@@ -4,7 +4,7 @@ use Rattle.std.specs.Prelude.{◌↔◌, Contains}
 use Rattle.std.specs.Ordering.{nat_cmp}
 use Rattle.std.specs.FinMap.{FinMap, get, contains_key}
 use Rattle.ioc_device.specs.declared.Answer.{Answer}
-use Rattle.ioc_record.specs.declared.common.Common.{Common}
+use Rattle.ioc_common.specs.declared.common.Common.{Common}
 use Rattle.ioc_record.specs.RecordRules.{RecordRules, targets}
 use Rattle.ioc_record.specs.Laws.{IsLawful}
 use Rattle.ioc_process.specs.World.{World, Has, at, IsClosed}
@@ -14,7 +14,7 @@ use Rattle.ioc_process.proofs.Keeping.{request-keeps}
 use Rattle.ioc_process.proofs.RulesAllowed.{request-allowed}
 use Rattle.ioc_process.proofs.RulesLaws.{requested-leaves}
 
-left-quiet : {a b : Common} → Left a b → (IsTrue a.active ↔ IsSome a.pending) → IsTrue b.active ↔ IsSome b.pending
+pub left-quiet : {a b : Common} → Left a b → (IsTrue a.active ↔ IsSome a.pending) → IsTrue b.active ↔ IsSome b.pending
 left-quiet (as_it_was active pending) quiet = rw (active, pending) quiet
 left-quiet (now_waits idle waits some) quiet = (λ _. some, λ _. waits)
 

@@ -1,33 +1,41 @@
 -- The rules allow the result of `request`.
-use Rattle.std.proofs.Common.{◌≡◌, ℕ, zero, suc, ◌+◌, ◌<◌, ◌≤◌, Bool, true, false, cond, eqb, nat_lt, List, [], ◌∷◌, Option, Some, None as Nothing_, unwrap_or, refl, ap, subst, ◌∙◌, arith}
-use Rattle.std.specs.Prelude.{slice_get, Result, Ok, Err}
+use Rattle.std.proofs.Common.{◌≡◌, ℕ, zero, suc, ◌+◌, ◌<◌, ◌≤◌, Bool, true, false, cond, eqb, nat_lt, List, [], ◌∷◌, Option, Some, None as Nothing_, refl, ap, subst, ◌∙◌, arith}
+use Rattle.std.specs.Prelude.{◌≢◌, length, Result, Ok, Err}
 use Rattle.std.proofs.lemmas.Grind.{common_steps}
-use Rattle.ioc_record.specs.declared.link_field.LinkUse.{LinkUse}
-use Rattle.ioc_record.specs.declared.link_field.LinkUse.TheVariants.{Unused, OwnDevice, Absent, Standing}
-use Rattle.ioc_record.specs.declared.link_field.StandingLink.{StandingLink}
-use Rattle.ioc_record.specs.declared.body.Got.{Got}
-use Rattle.ioc_record.specs.declared.body.Want.{Want}
-use Rattle.ioc_record.specs.declared.body.Want.TheVariants.{NoInput, ReadLink, ReadDevice}
+use Rattle.ioc_common.specs.declared.link_field.LinkUse.{LinkUse}
+use Rattle.ioc_common.specs.declared.link_field.LinkUse.TheVariants.{Unused, OwnDevice, Absent, Standing}
+use Rattle.ioc_common.specs.declared.link_field.StandingLink.{StandingLink}
+use Rattle.ioc_common.specs.declared.body.Got.{Got}
+use Rattle.ioc_common.specs.declared.body.Got.TheVariants.{Nothing as Got-nothing, Value as Got-value, Fault as Got-fault}
+use Rattle.ioc_common.specs.declared.body.InputKind.{InputKind}
+use Rattle.ioc_common.specs.Links.{use_of}
+use Rattle.ioc_device.specs.declared.Ask.{Ask}
+use Rattle.ioc_device.specs.declared.Ask.TheVariants.{Read as Read-ask, Write as Write-ask}
+use Rattle.ioc_values.specs.declared.value.Finished.{Finished}
+use Rattle.ioc_process.specs.declared.outbox.OutboxItem.TheVariants.{Once}
+use Rattle.ioc_process.specs.Marks.{is_put_down, put_down, put_mark_passed, resumed, at_rest, is_disabled}
+use Rattle.ioc_common.specs.declared.body.Want.{Want}
+use Rattle.ioc_common.specs.declared.body.Want.TheVariants.{NoInput, ReadLink, ReadDevice}
 use Rattle.ioc_device.specs.declared.Answer.{Answer}
 use Rattle.ioc_device.specs.declared.Answer.TheVariants.{Done as Done-answer, Fault as Fault-answer, Later}
-use Rattle.ioc_record.specs.declared.common.Common.{Common}
 use Rattle.ioc_values.specs.declared.value.Value.{Value}
 use Rattle.ioc_values.specs.declared.error.IocError.{IocError}
 use Rattle.ioc_record.specs.Values.{read_as, converted_to, put_untested}
 use Rattle.ioc_values.specs.declared.input.Input.TheVariants.{Value as InputValue}
 use Rattle.ioc_fields.specs.declared.field_no.Slot.{Slot}
-use Rattle.ioc_record.specs.declared.body.Output.{Output}
-use Rattle.ioc_record.specs.declared.body.Output.TheVariants.{NoOutput, WriteLink, WriteDevice, FollowLinks, PostEvent}
-use Rattle.ioc_record.specs.Steps.{inherited, unblocked, with_active, shown, is_passive}
+use Rattle.ioc_common.specs.declared.body.Output.{Output}
+use Rattle.ioc_common.specs.declared.body.Output.TheVariants.{NoOutput, WriteLink, WriteDevice, FollowLinks, PostEvent}
+use Rattle.ioc_common.specs.Steps.{inherited, unblocked, with_active, shown, is_passive, disabled, disable_kind}
 use Rattle.ioc_record.specs.RecordRules.{RecordRules}
 use Rattle.ioc_record.specs.Laws.{IsLawful}
-use Rattle.ioc_process.specs.World.{World, at, common_at, put, changed, idle, used_one}
+use Rattle.ioc_process.specs.World.{World, at, common_at, put, changed, idle, called, sent}
 use Rattle.ioc_process.specs.Links.{link_at, chosen_links, requests_first, requests_after, handed_on}
-use Rattle.ioc_ledger.specs.Requests.{None, followed_by}
-use Rattle.ioc_process.specs.Processing.{Done, Reading, PutOut, caused, followed, inherits, faulted, value_came, stored_at, wrote, after_writing, write_link, followed_each, finished, finished_if, after_output, acknowledged, write_device, put_out, prepared, read_record, read_link, completed, completed_if, device_gave, received, read_device, can_ask, input, body, turned_away, processed, requested, request}
-use Rattle.ioc_process.specs.Rules.{Inherits, from_itself, from_another, Takes, that_converts, that_does_not, Receives, a_value, a_bad_value, a_fault, not_yet, Puts, that_fits, that_does_not_fit, Acknowledges, written, written_badly, not_written_yet, Gives, next, asked_too_often, no_more_numbers, Requested, while_active, while_idle, Causes, meanwhile_active, unused, absent, no_such_device, as_it_stands, after_request, Writes, to_nothing, to_absent, to_no_device, in_vain, alone, and_requests, Follows, to_record, to_scanned, nowhere, FollowsEach, no_more, one_more, PutsOut, nothing, to_link, to_device, to_links, as_event, Gets, no_input, of_link, of_device, Finishes, forward, Proceeds, at_once, kept_waiting, Runs}
-use Rattle.ioc_process.proofs.Worlds.{common_at-changed, idle-changed, idle-kept, one_of_two}
-use Rattle.ioc_process.proofs.Depth.{Room, room_on, room-shown, shown-active, taken-stays, wrote-stays, stays-followed, outs-put_out, reads-input, request-rule}
+use Rattle.ioc_ledger.specs.Requests.{None, Request, followed_by}
+use Rattle.ioc_ledger.specs.declared.outcome.Outcome.TheVariants.{Disabled, Reprocess}
+use Rattle.ioc_process.specs.Processing.{Done, Reading, PutOut, caused, followed, inherits, faulted, value_came, stored_at, wrote, after_writing, write_link, followed_each, finished, finished_if, after_output, acknowledged, write_device, put_out, prepared, read_record, read_link, completed, completed_if, device_gave, received, read_device, can_ask, input, body, turned_away, processed, requested, request, Ran, as_request, ran_after, asked, rested, disable_came, next_call, judged, begun_idle, ran, went_on_at_last, read_at}
+use Rattle.ioc_process.specs.Rules.{Inherits, from_itself, from_another, Takes, that_converts, that_does_not, Receives, a_value, a_bad_value, a_fault, not_yet, Puts, that_fits, that_does_not_fit, Acknowledges, written, written_badly, not_written_yet, Gives, next, asked_too_often, no_more_numbers, Requested, while_active, while_idle, Causes, meanwhile_active, unused, absent, no_such_device, as_it_stands, after_request, Writes, to_nothing, to_absent, to_no_device, in_vain, alone, and_requests, Follows, to_record, to_scanned, nowhere, FollowsEach, no_more, one_more, PutsOut, nothing, to_link, to_device, to_links, as_event, Gets, no_input, of_device, Finishes, forward, Proceeds, at_once, kept_waiting, Runs, Disables, by_value, not_given, not_read, Rests, for_good, once_more, while_disabled, Asks, for_later, straight_away, Reads, Resumes, at_last, of_link}
+use Rattle.ioc_process.proofs.Worlds.{idle-changed, idle-kept, one_of_two}
+use Rattle.ioc_process.proofs.Depth.{passed-active, stays-changed, stays_on, stays-read_link, disable_came-stays, Room, room_on, room-shown, shown-active, taken-stays, wrote-stays, stays-followed, outs-put_out, reads-input, request-rule}
 use Rattle.ioc_process.proofs.RulesAlone.{followed_by-none}
 
 module _ {R : Type 0} (k : RecordRules R) where
@@ -39,15 +47,29 @@ module _ {R : Type 0} (k : RecordRules R) where
         | false ↦ λ is. from_another (grind (arith, common_steps))
       ] refl
 
-  taken-allowed : (w : World R) (s : ℕ) (t : StandingLink) (value : Result Value IocError) → read_as k (at k w t.number) t.field (k.input_kind (at k w s)) ≡ value
-      → Takes k w s t (value_came k w s t value).world (value_came k w s t value).came
+  taken-allowed : (kind : R → InputKind) (w : World R) (s : ℕ) (t : StandingLink) (value : Result Value IocError) → read_as k (at k w t.number) t.field (kind (at k w s)) ≡ value
+      → Takes k kind w s t (value_came k w s t value).world (value_came k w s t value).came
   unfolding value_came faulted
-  taken-allowed w s t (Ok v) is = that_converts is (inherits-allowed w s t)
-  taken-allowed w s t (Err e) is = that_does_not is
+  taken-allowed kind w s t (Ok v) is = that_converts is (inherits-allowed w s t)
+  taken-allowed kind w s t (Err e) is = that_does_not is
 
-  takes-allowed : (w : World R) (s : ℕ) (t : StandingLink)
-      → let read = value_came k w s t (read_as k (at k w t.number) t.field (k.input_kind (at k w s))) in Takes k w s t read.world read.came
-  takes-allowed w s t = taken-allowed w s t _ refl
+  takes-allowed : (kind : R → InputKind) (w : World R) (s : ℕ) (t : StandingLink)
+      → let read = value_came k w s t (read_as k (at k w t.number) t.field (kind (at k w s))) in Takes k kind w s t read.world read.came
+  takes-allowed kind w s t = taken-allowed kind w s t _ refl
+
+  disables-allowed : (w : World R) (s : ℕ) (got : Got) → Disables k w s got (disable_came k w s got)
+  unfolding disable_came
+  disables-allowed w s (Got-value v) = by_value
+  disables-allowed w s Got-nothing = not_given
+  disables-allowed w s Got-fault = not_read
+
+  rests-allowed : (w : World R) (s : ℕ) → Rests k w s (rested k w s)
+  unfolding rested
+  rests-allowed w s =
+      elim (common_at k w s).reprocess as (λ b. (common_at k w s).reprocess ≡ b → Rests k w s (cond b (sent (Once s) (changed k w s at_rest)) (changed k w s at_rest))) [
+        | true ↦ λ is. once_more is
+        | false ↦ λ is. for_good is
+      ] refl
 
   gave-allowed : (w : World R) (s : ℕ) (given : Value) (value : Result Value IocError) → converted_to (k.input_kind (at k w s)) given ≡ value
       → Receives k w s (Done-answer given) (device_gave k w s value).world (device_gave k w s value).came
@@ -90,6 +112,10 @@ module _ {R : Type 0} (k : RecordRules R) where
   received-none w s Fault-answer = refl
   received-none w s Later = refl
 
+ran-is : {R : Type 0} (k : RecordRules R) (answers : List Answer) (w : World R) (s : ℕ) → ran k answers w s ≡ requested k answers (request k answers) w s
+unfolding ran
+ran-is k answers w s = refl
+
 module _ {R : Type 0} (k : RecordRules R) (lawful : IsLawful k) (answers : List Answer) where
   abbrev ask : World R → ℕ → Done R
   ask = request k answers
@@ -98,36 +124,39 @@ module _ {R : Type 0} (k : RecordRules R) (lawful : IsLawful k) (answers : List 
   abbrev Answers-so : World R → ℕ → Reading R → Type 0
   Answers-so w s reading = Gets k answers w s ReadDevice reading.world reading.came reading.requests
 
-  answered-so : (w mid : World R) (s : ℕ) (answer : Answer) → Gives k answers w s mid answer → Answers-so w s (received k mid s answer)
+  answered-so : (w mid : World R) (s : ℕ) (answer : Answer) → Gives k answers w s Read-ask mid answer → Answers-so w s (received k mid s answer)
   answered-so w mid s answer g = rw received-none (of_device g (received-allowed k mid s answer))
+
+  not_asked : (w : World R) (s : ℕ) (ask : Ask) → can_ask k w s ≡ false → Gives k answers w s ask w Fault-answer
+  not_asked w s ask is =
+      elim (nat_lt (length w.calls) 256) as (λ b. nat_lt (length w.calls) 256 ≡ b → Gives k answers w s ask w Fault-answer) [
+        | true ↦ λ few. no_more_numbers (grind (arith, common_steps))
+        | false ↦ λ many. asked_too_often (grind (arith, common_steps))
+      ] refl
 
   device-allowed : (w : World R) (s : ℕ) → Answers-so w s (read_device k answers w s)
   unfolding read_device
   device-allowed w s =
-      elim (can_ask k w s) as (λ b. can_ask k w s ≡ b → Answers-so w s (cond b (received k (used_one w) s (unwrap_or (slice_get answers w.used) Fault-answer)) (received k w s Fault-answer))) [
-        | true ↦ λ is. answered-so w (used_one w) s _ (next (grind (arith, common_steps)) (grind (arith, common_steps)))
-        | false ↦ λ is. answered-so w w s _ (elim (nat_lt w.used 256) as (λ b. nat_lt w.used 256 ≡ b → Gives k answers w s w Fault-answer) [
-          | true ↦ λ few. no_more_numbers (grind (arith, common_steps))
-          | false ↦ λ many. asked_too_often (grind (arith, common_steps))
-        ] refl)
+      let call = next_call k answers w s Read-ask in
+      elim (can_ask k w s) as (λ b. can_ask k w s ≡ b → Answers-so w s (cond b (received k (called call w) s call.answer) (received k w s Fault-answer))) [
+        | true ↦ λ is. answered-so w (called call w) s _ (next (grind (arith, common_steps)) (grind (arith, common_steps)) refl)
+        | false ↦ λ is. answered-so w w s _ (not_asked w s Read-ask is)
       ] refl
 
   -- the device of s is written, and this comes
   abbrev Written-so : World R → ℕ → Value → PutOut R → Type 0
   Written-so w s v out = PutsOut k answers w s (WriteDevice v) out.world out.goes_on out.requests
 
-  written-so : (w mid : World R) (s : ℕ) (v : Value) (answer : Answer) → Gives k answers w s mid answer → Written-so w s v (acknowledged k mid s answer)
+  written-so : (w mid : World R) (s : ℕ) (v : Value) (answer : Answer) → Gives k answers w s (Write-ask v) mid answer → Written-so w s v (acknowledged k mid s answer)
   written-so w mid s v answer g = rw acknowledged-none (to_device g (acknowledged-allowed k mid s answer))
 
-  written-allowed : (w : World R) (s : ℕ) (v : Value) → Written-so w s v (write_device k answers w s)
+  written-allowed : (w : World R) (s : ℕ) (v : Value) → Written-so w s v (write_device k answers w s v)
   unfolding write_device
   written-allowed w s v =
-      elim (can_ask k w s) as (λ b. can_ask k w s ≡ b → Written-so w s v (cond b (acknowledged k (used_one w) s (unwrap_or (slice_get answers w.used) Fault-answer)) (acknowledged k w s Fault-answer))) [
-        | true ↦ λ is. written-so w (used_one w) s v _ (next (grind (arith, common_steps)) (grind (arith, common_steps)))
-        | false ↦ λ is. written-so w w s v _ (elim (nat_lt w.used 256) as (λ b. nat_lt w.used 256 ≡ b → Gives k answers w s w Fault-answer) [
-          | true ↦ λ few. no_more_numbers (grind (arith, common_steps))
-          | false ↦ λ many. asked_too_often (grind (arith, common_steps))
-        ] refl)
+      let call = next_call k answers w s (Write-ask v) in
+      elim (can_ask k w s) as (λ b. can_ask k w s ≡ b → Written-so w s v (cond b (acknowledged k (called call w) s call.answer) (acknowledged k w s Fault-answer))) [
+        | true ↦ λ is. written-so w (called call w) s v _ (next (grind (arith, common_steps)) (grind (arith, common_steps)) refl)
+        | false ↦ λ is. written-so w w s v _ (not_asked w s (Write-ask v) is)
       ] refl
 
   -- s and all idle records are so many at most
@@ -138,9 +167,22 @@ module _ {R : Type 0} (k : RecordRules R) (lawful : IsLawful k) (answers : List 
   space_room bound w s space = omega (arith, space, one_of_two (common_at k w s).active)
 
   module _ (bound : ℕ) (asks : (w : World R) (s : ℕ) → idle k w < bound → Requested k answers w s (ask w s).world (ask w s).requests) where
+    asked-allowed : (w : World R) (s t : ℕ) → idle k w < bound → Asks k answers w s t (asked k ask w s t).world (asked k ask w s t).requests
+    unfolding asked
+    asked-allowed w s t few =
+        let by_put = (common_at k w s).by_put in
+        let level = idle-kept k lawful w t (put_mark_passed by_put) (passed-active by_put _) in
+        let now = ask (changed k w t (put_mark_passed by_put)) t in
+        elim (is_put_down by_put (common_at k w t)) as (λ b. is_put_down by_put (common_at k w t) ≡ b →
+        let done = cond {A = Done R} b (record { world = changed k w t put_down; requests = Request Reprocess None None }) now in
+        Asks k answers w s t done.world done.requests) [
+          | true ↦ λ is. for_later is
+          | false ↦ λ is. straight_away is (asks _ t (omega (arith, level, few)))
+        ] refl
+
     caused-allowed : (w : World R) (s t : ℕ) → Room k bound w s → Causes k answers w s t (caused k ask w s t).world (caused k ask w s t).requests
     unfolding caused
-    caused-allowed w s t room = meanwhile_active (asks _ t (omega (arith, room, idle-changed k lawful w s (with_active true))))
+    caused-allowed w s t room = meanwhile_active (asked-allowed (changed k w s (with_active true)) s t (omega (arith, room, idle-changed k lawful w s (with_active true))))
 
     followed-allowed : (w : World R) (s : ℕ) (link : LinkUse) → Room k bound w s → Follows k answers w s link (followed k ask w s link).world (followed k ask w s link).requests
     unfolding followed
@@ -155,31 +197,31 @@ module _ {R : Type 0} (k : RecordRules R) (lawful : IsLawful k) (answers : List 
     followed-allowed w s OwnDevice room = nowhere (λ t is. cc)
     followed-allowed w s Absent room = nowhere (λ t is. cc)
 
-    read_record-allowed : (w : World R) (s : ℕ) (t : StandingLink) → Room k bound w s
-        → Gets k answers w s (ReadLink (Standing t)) (read_record k ask w s t).world (read_record k ask w s t).came (read_record k ask w s t).requests
-    unfolding read_record prepared
-    read_record-allowed w s t room =
+    read_record-allowed : (kind : R → InputKind) (w : World R) (s : ℕ) (t : StandingLink) → Room k bound w s
+        → Reads k answers kind w s (Standing t) (read_record k ask kind w s t).world (read_record k ask kind w s t).came (read_record k ask kind w s t).requests
+    unfolding read_record read_at prepared
+    read_record-allowed kind w s t room =
         elim (requests_first k w t) as (λ b. requests_first k w t ≡ b →
         let done = cond {A = Done R} b (caused k ask w s t.number) (record { world = w; requests = None }) in
-        let read = value_came k done.world s t (read_as k (at k done.world t.number) t.field (k.input_kind (at k done.world s))) in
-        Gets k answers w s (ReadLink (Standing t)) read.world (Some read.came) done.requests) [
-          | true ↦ λ pp. of_link (after_request pp (caused-allowed w s t.number room) (takes-allowed k _ s t))
-          | false ↦ λ plain. of_link (as_it_stands plain (takes-allowed k w s t))
+        let read = value_came k done.world s t (read_as k (at k done.world t.number) t.field (kind (at k done.world s))) in
+        Reads k answers kind w s (Standing t) read.world read.came done.requests) [
+          | true ↦ λ pp. after_request pp (caused-allowed w s t.number room) (takes-allowed k kind _ s t)
+          | false ↦ λ plain. as_it_stands plain (takes-allowed k kind w s t)
         ] refl
 
-    read_link-allowed : (w : World R) (s : ℕ) (link : LinkUse) → Room k bound w s
-        → Gets k answers w s (ReadLink link) (read_link k ask w s link).world (read_link k ask w s link).came (read_link k ask w s link).requests
+    read_link-allowed : (kind : R → InputKind) (w : World R) (s : ℕ) (link : LinkUse) → Room k bound w s
+        → Reads k answers kind w s link (read_link k ask kind w s link).world (read_link k ask kind w s link).came (read_link k ask kind w s link).requests
     unfolding read_link faulted
-    read_link-allowed w s (Standing t) room = read_record-allowed w s t room
-    read_link-allowed w s Unused room = of_link unused
-    read_link-allowed w s OwnDevice room = of_link no_such_device
-    read_link-allowed w s Absent room = of_link absent
+    read_link-allowed kind w s (Standing t) room = read_record-allowed kind w s t room
+    read_link-allowed kind w s Unused room = unused
+    read_link-allowed kind w s OwnDevice room = no_such_device
+    read_link-allowed kind w s Absent room = absent
 
     input-allowed : (w : World R) (s : ℕ) (want : Want) → Room k bound w s
         → Gets k answers w s want (input k answers ask w s want).world (input k answers ask w s want).came (input k answers ask w s want).requests
     unfolding input
     input-allowed w s NoInput room = no_input
-    input-allowed w s (ReadLink link) room = read_link-allowed w s link room
+    input-allowed w s (ReadLink link) room = of_link (read_link-allowed k.input_kind w s link room)
     input-allowed w s ReadDevice room = device-allowed w s
 
     followed_each-allowed : (slots : List Slot) (w : World R) (s : ℕ) → Room k bound w s → FollowsEach k answers w s slots (followed_each k ask w s slots).world (followed_each k ask w s slots).requests
@@ -224,6 +266,7 @@ module _ {R : Type 0} (k : RecordRules R) (lawful : IsLawful k) (answers : List 
     finished-allowed w s space =
         forward refl (followed-allowed (changed k w s (shown w.moment)) s _
         (omega (arith, space, room-shown k lawful w s, one_of_two (common_at k w s).active, ap {A = Bool} {B = ℕ} (λ b. cond b 0 1) (shown-active k lawful w s))))
+        (rests-allowed k _ s)
 
     completed-allowed : (w : World R) (s : ℕ) (got : Got) → Space bound w s → Proceeds k answers w s got (completed k answers ask w s got).world (completed k answers ask w s got).requests
     unfolding completed after_output
@@ -258,20 +301,36 @@ module _ {R : Type 0} (k : RecordRules R) (lawful : IsLawful k) (answers : List 
               Runs.to_end (gets-as (Some got) is) (completed-allowed reading.world s got (omega (arith, leaves.fewer, small, ap {A = Bool} {B = ℕ} (λ b. cond b 1 0) still)))
         ] refl
 
-    requested-allowed : (w : World R) (s : ℕ) → idle k w ≤ bound → Requested k answers w s (requested k answers ask w s).world (requested k answers ask w s).requests
+    -- a request of an idle record
+    begun-allowed : (w : World R) (s : ℕ) → (common_at k w s).active ≡ false → idle k w ≤ bound → let done = as_request (begun_idle k answers ask w s) in Requested k answers w s done.world done.requests
+    unfolding begun_idle judged ran_after
+    begun-allowed w s inactive small =
+        let ready = changed k w s unblocked in
+        let first = stays-changed k lawful w s unblocked refl in
+        let link = use_of (common_at k ready s).disable_link in
+        let read = read_link k ask (λ _. disable_kind) ready s link in
+        let reads = read_link-allowed (λ _. disable_kind) ready s link (omega (arith, small, first.fewer, ap {A = Bool} {B = ℕ} (λ b. cond b 0 1) (first.active ∙ inactive))) in
+        let came = disable_came k read.world s read.came in
+        let stays = stays_on k first (stays_on k (stays-read_link k lawful answers ready s (λ _. disable_kind) link) (disable_came-stays k lawful read.world s read.came)) in
+        elim (is_disabled (common_at k came s)) as (λ b. is_disabled (common_at k came s) ≡ b →
+        let done = cond {A = Ran R} b (record { world = changed k came s disabled; requests = None; outcome = Disabled }) (processed (body k answers ask came s)) in
+        Requested k answers w s done.world (Request done.outcome (followed_by read.requests done.requests) None)) [
+          | true ↦ λ is. rw followed_by-none (while_disabled inactive refl reads (disables-allowed k read.world s read.came) is)
+          | false ↦ λ is. while_idle inactive refl reads (disables-allowed k read.world s read.came) is (body-allowed came s (stays.active ∙ inactive) (omega (arith, stays.fewer, small)))
+        ] refl
+
+    requested-allowed : (w : World R) (s : ℕ) → idle k w ≤ bound → let done = as_request (requested k answers ask w s) in Requested k answers w s done.world done.requests
     unfolding requested
     requested-allowed w s small =
         elim (common_at k w s).active as (λ b. (common_at k w s).active ≡ b →
-        Requested k answers w s (cond b (turned_away k answers ask w s) (processed k answers ask w s)).world (cond b (turned_away k answers ask w s) (processed k answers ask w s)).requests) [
+        let done = as_request (cond {A = Ran R} b (turned_away k answers ask w s) (begun_idle k answers ask w s)) in Requested k answers w s done.world done.requests) [
           | true ↦ λ is. while_active is
-          | false ↦ λ is.
-              let first = common_at-changed k lawful w s unblocked in
-              while_idle is (body-allowed (changed k w s unblocked) s (ap (λ (c : Common). c.active) first ∙ is) (omega (arith, small, idle-kept k lawful w s unblocked refl)))
+          | false ↦ λ is. begun-allowed w s is small
         ] refl
 
   allowed-below : (n : ℕ) (w : World R) (s : ℕ) → idle k w < n → Requested k answers w s (ask w s).world (ask w s).requests
   allowed-below zero w s few = absurd (omega arith)
-  allowed-below (suc n) w s few = rw (request-rule k lawful answers w s) (requested-allowed n (allowed-below n) w s (omega arith))
+  allowed-below (suc n) w s few = rw (request-rule k lawful answers w s, ran-is k answers w s) (requested-allowed n (allowed-below n) w s (omega arith))
 
   pub request-allowed : (w : World R) (s : ℕ) → Requested k answers w s (ask w s).world (ask w s).requests
   request-allowed w s = allowed-below (suc (idle k w)) w s (omega arith)
@@ -285,6 +344,10 @@ module _ {R : Type 0} (k : RecordRules R) (lawful : IsLawful k) (answers : List 
 
   pub follow-allowed : (w : World R) (s : ℕ) (link : LinkUse) → Follows k answers w s link (followed k ask w s link).world (followed k ask w s link).requests
   follow-allowed w s link = followed-allowed (idle k w + 2) (asks-allowed _) w s link (omega arith)
+
+  pub reads-allowed : (kind : R → InputKind) (w : World R) (s : ℕ) (link : LinkUse)
+      → Reads k answers kind w s link (read_link k ask kind w s link).world (read_link k ask kind w s link).came (read_link k ask kind w s link).requests
+  reads-allowed kind w s link = read_link-allowed (idle k w + 2) (asks-allowed _) kind w s link (omega arith)
 
   pub gets-allowed : (w : World R) (s : ℕ) (want : Want)
       → Gets k answers w s want (input k answers ask w s want).world (input k answers ask w s want).came (input k answers ask w s want).requests
@@ -308,3 +371,23 @@ module _ {R : Type 0} (k : RecordRules R) (lawful : IsLawful k) (answers : List 
 
   pub run-allowed : (w : World R) (s : ℕ) → (common_at k w s).active ≡ false → Runs k answers w s (body k answers ask w s).world (body k answers ask w s).requests
   run-allowed w s inactive = body-allowed (idle k w + 2) (asks-allowed _) w s inactive (omega arith)
+
+  -- a record whose device answered at last: it asks none again, so its body goes on now
+  goes-on : (w : World R) (s : ℕ) (output : Output) → ((v : Value) → output ≢ WriteDevice v) → (put_out k answers ask w s output).goes_on ≡ true
+  unfolding put_out
+  goes-on w s NoOutput none = refl
+  goes-on w s (WriteLink link v) none = refl
+  goes-on w s (WriteDevice v) none = absurd (none v refl)
+  goes-on w s (FollowLinks links) none = refl
+  goes-on w s (PostEvent name) none = refl
+
+  pub at_last-allowed : (w : World R) (s : ℕ) (x : Finished) → Resumes k answers w s x (went_on_at_last k answers w s x).world (went_on_at_last k answers w s x).requests
+  unfolding went_on_at_last after_output
+  at_last-allowed w s x =
+      let back = changed k w s resumed in
+      let taken = put back s (k.finished (at k back s) x) in
+      let output = k.last_output (at k back s) x in
+      let out = put_out k answers ask taken s output in
+      let on = goes-on taken s output (λ v. lawful.last_output_asks_none (at k back s) x v) in
+      let puts : PutsOut k answers taken s output out.world true out.requests = subst (λ (b : Bool). PutsOut k answers taken s output out.world b out.requests) on (puts_out-allowed taken s output) in
+      rw on (at_last refl puts (finish-allowed out.world s))

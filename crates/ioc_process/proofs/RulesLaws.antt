@@ -7,20 +7,24 @@ use Rattle.ioc_fields.specs.declared.field_no.Slot.{Slot}
 use Rattle.ioc_values.specs.declared.value.Value.{Value}
 use Rattle.ioc_values.specs.declared.input.Input.TheVariants.{Value as InputValue}
 use Rattle.ioc_record.specs.Values.{put_untested, converted_for}
-use Rattle.ioc_record.specs.declared.body.Output.{Output}
+use Rattle.ioc_common.specs.declared.body.Output.{Output}
 use Rattle.ioc_process.specs.declared.outbox.OutboxItem.{OutboxItem}
-use Rattle.ioc_process.specs.declared.outbox.OutboxItem.TheVariants.{Post}
+use Rattle.ioc_process.specs.declared.outbox.OutboxItem.TheVariants.{Once, Post}
 use Rattle.ioc_process.specs.Links.{handed_on}
-use Rattle.ioc_record.specs.declared.common.Common.{Common}
-use Rattle.ioc_record.specs.declared.link_field.LinkUse.{LinkUse}
-use Rattle.ioc_record.specs.declared.link_field.StandingLink.{StandingLink}
-use Rattle.ioc_record.specs.declared.body.Got.{Got}
-use Rattle.ioc_record.specs.declared.body.Want.{Want}
-use Rattle.ioc_record.specs.Steps.{blocked, unblocked, with_active, shown, waiting}
+use Rattle.ioc_common.specs.declared.common.Common.{Common}
+use Rattle.ioc_common.specs.declared.link_field.LinkUse.{LinkUse}
+use Rattle.ioc_common.specs.declared.link_field.StandingLink.{StandingLink}
+use Rattle.ioc_common.specs.declared.body.Got.{Got}
+use Rattle.ioc_common.specs.declared.body.Want.{Want}
+use Rattle.ioc_common.specs.Steps.{blocked, unblocked, with_active, shown, waiting, with_put_mark, with_reprocess_mark, disabled}
+use Rattle.ioc_common.specs.declared.body.InputKind.{InputKind}
+use Rattle.ioc_device.specs.declared.Ask.{Ask}
+use Rattle.ioc_values.specs.declared.value.Finished.{Finished}
+use Rattle.ioc_process.specs.Marks.{put_down, put_mark_passed, resumed, at_rest, with_disable_input}
 use Rattle.ioc_record.specs.RecordRules.{RecordRules}
 use Rattle.ioc_record.specs.Laws.{IsLawful}
-use Rattle.ioc_process.specs.World.{World, at, common_at, put, changed, used_one, sent}
-use Rattle.ioc_process.specs.Rules.{Left, as_it_was, now_waits, LeavesAll, Inherits, from_itself, from_another, Takes, that_converts, that_does_not, Receives, a_value, a_bad_value, a_fault, not_yet, Puts, that_fits, that_does_not_fit, Acknowledges, written, written_badly, not_written_yet, Gives, next, asked_too_often, no_more_numbers, Requested, while_active, while_idle, Causes, meanwhile_active, Reads, unused, absent, no_such_device, as_it_stands, after_request, Writes, to_nothing, to_absent, to_no_device, in_vain, alone, and_requests, Follows, to_record, to_scanned, nowhere, FollowsEach, no_more, one_more, PutsOut, nothing, to_link, to_device, to_links, as_event, Gets, no_input, of_link, of_device, Finishes, forward, Proceeds, at_once, kept_waiting, Runs}
+use Rattle.ioc_process.specs.World.{World, at, common_at, put, changed, called, sent}
+use Rattle.ioc_process.specs.Rules.{Left, as_it_was, now_waits, LeavesAll, Inherits, from_itself, from_another, Takes, that_converts, that_does_not, Receives, a_value, a_bad_value, a_fault, not_yet, Puts, that_fits, that_does_not_fit, Acknowledges, written, written_badly, not_written_yet, Gives, next, asked_too_often, no_more_numbers, Requested, while_active, while_idle, Causes, meanwhile_active, Reads, unused, absent, no_such_device, as_it_stands, after_request, Writes, to_nothing, to_absent, to_no_device, in_vain, alone, and_requests, Follows, to_record, to_scanned, nowhere, FollowsEach, no_more, one_more, PutsOut, nothing, to_link, to_device, to_links, as_event, Gets, no_input, of_link, of_device, Finishes, forward, Proceeds, at_once, kept_waiting, Runs, Disables, by_value, not_given, not_read, Rests, for_good, once_more, while_disabled, Asks, for_later, straight_away, Resumes, at_last}
 use Rattle.ioc_process.proofs.StepFrames.{blocked-frame, stored_with}
 use Rattle.ioc_process.proofs.Worlds.{at-put_same, at-put_other, common_at-changed}
 
@@ -137,9 +141,15 @@ module _ {R : Type 0} (k : RecordRules R) (lawful : IsLawful k) where
   inherits-both (from_itself {w} {s} _) = both_here w s
   inherits-both (from_another {w} {s} {t} _) = both-changed w s _ (record { active = refl; pending = refl })
 
-  takes-both : {w : World R} {s : ℕ} {t : StandingLink} {w' : World R} {got : Got} → Takes k w s t w' got → Both s w w'
+  takes-both : {kind : R → InputKind} {w : World R} {s : ℕ} {t : StandingLink} {w' : World R} {got : Got} → Takes k kind w s t w' got → Both s w w'
   takes-both (that_converts _ i) = inherits-both i
-  takes-both (that_does_not {w} {s} _) = both-changed w s _ (record { active = refl; pending = refl })
+  takes-both (that_does_not {kind} {w} {s} _) = both-changed w s _ (record { active = refl; pending = refl })
+
+  disables-both : {w : World R} {s : ℕ} {got : Got} {w' : World R} → Disables k w s got w' → Both s w w'
+  unfolding with_disable_input
+  disables-both (by_value {w} {s}) = both-changed w s _ (record { active = refl; pending = refl })
+  disables-both (not_given {w} {s}) = both_here w s
+  disables-both (not_read {w} {s}) = both_here w s
 
   -- s as it was where something came, and waiting where nothing came
   OwnIf : ℕ → World R → World R → Option Got → Type 0
@@ -208,9 +218,9 @@ module _ {R : Type 0} (k : RecordRules R) (lawful : IsLawful k) where
   taken-both w taken s got t = subst (Both s w) (sym t) (both-put w s s _ (record { active = lawful.taken_active _ got; pending = lawful.taken_pending _ got }))
 
   module _ (answers : List Answer) where
-    gives-both : {w : World R} {s : ℕ} {w' : World R} {answer : Answer} → Gives k answers w s w' answer → Both s w w'
-    unfolding at used_one Own
-    gives-both (next _ _) = record { others = λ n _. as_it_was refl refl; own = record { active = refl; pending = refl } }
+    gives-both : {w : World R} {s : ℕ} {ask : Ask} {w' : World R} {answer : Answer} → Gives k answers w s ask w' answer → Both s w w'
+    unfolding at called Own
+    gives-both (next _ _ _) = record { others = λ n _. as_it_was refl refl; own = record { active = refl; pending = refl } }
     gives-both (asked_too_often {w} {s} _) = both_here w s
     gives-both (no_more_numbers {w} {s} _) = both_here w s
 
@@ -225,6 +235,50 @@ module _ {R : Type 0} (k : RecordRules R) (lawful : IsLawful k) where
       active : (common_at k w' s).active ≡ false
       pending : (common_at k w' s).pending ≡ (common_at k w s).pending
 
+    once_more-ended : (w : World R) (s : ℕ) → Ended s w (sent (Once s) (changed k w s at_rest))
+    unfolding Own
+    once_more-ended w s =
+        let is = common_at-changed k lawful w s at_rest in
+        let sends = sent-both (Once s) (changed k w s at_rest) s in
+        record {
+          others = λ n apart. left_on (left_same (changed-but w s at_rest n apart)) (sends.others n apart);
+          active = sends.own.active ∙ ap (λ (c : Common). c.active) is;
+          pending = sends.own.pending ∙ ap (λ (c : Common). c.pending) is;
+        }
+
+    -- s comes to rest
+    rests-ended : {w : World R} {s : ℕ} {w' : World R} → Rests k w s w' → Ended s w w'
+    rests-ended (for_good {w} {s} _) =
+        let is = common_at-changed k lawful w s at_rest in
+        record { others = λ n apart. left_same (changed-but w s at_rest n apart); active = ap (λ (c : Common). c.active) is; pending = ap (λ (c : Common). c.pending) is }
+    rests-ended (once_more {w} {s} _) = once_more-ended w s
+
+    -- marks leave what is active and pending
+    put_down-same : (c : Common) → Same c (put_down c)
+    put_down-same c = let f = blocked-frame (with_reprocess_mark true c) in record { active = f.active; pending = f.pending }
+
+    passed-same : (by_put : Bool) (c : Common) → Same c (put_mark_passed by_put c)
+    unfolding put_mark_passed
+    passed-same by_put c = elim c.active as (λ b. Same c (cond b c (with_put_mark by_put c))) [
+      | true ↦ same_here c
+      | false ↦ record { active = refl; pending = refl }
+    ]
+
+    disabled-same : (c : Common) → Same c (disabled c)
+    unfolding disabled
+    disabled-same c = record { active = refl; pending = refl }
+
+    -- what a request does before it reads SDIS
+    readied-both : (w ready : World R) (s : ℕ) → ready ≡ changed k w s unblocked → Both s w ready
+    readied-both w ready s is = subst (Both s w) (sym is) (both-changed w s unblocked (record { active = refl; pending = refl }))
+
+    all_both : {w w' : World R} {s : ℕ} → Both s w w' → LeavesAll k w w'
+    unfolding Own
+    all_both {w} {w'} {s} both = all_of w w' s both.others (left_same both.own)
+
+    all_on : (w w' w'' : World R) → LeavesAll k w w' → LeavesAll k w' w'' → LeavesAll k w w''
+    all_on w w' w'' one two n = left_on (one n) (two n)
+
     mutual
       unfolding Own OwnIf OwnAs
 
@@ -232,14 +286,20 @@ module _ {R : Type 0} (k : RecordRules R) (lawful : IsLawful k) where
       requested-leaves (while_active {w} {s} _) =
           let f = blocked-frame (common_at k w s) in
           changed-all w s blocked (record { active = f.active; pending = f.pending })
-      requested-leaves (while_idle {w} {w'} {s} idle r) =
-          let first = changed-own w s unblocked (record { active = refl; pending = refl }) in
-          let rest = runs-leave r (first.active ∙ idle) in
-          all_of w w' s (λ n apart. left_on (left_same (changed-but w s unblocked n apart)) (rest n)) (left_on (left_same first) (rest s))
+      requested-leaves (while_disabled {w} {ready} {w'} {w''} {s} idle r reads disables _) =
+          let first = both_on (readied-both w ready s r) (both_on (reads-both reads) (disables-both disables)) in
+          all_both (both_on first (both-changed w'' s disabled (disabled-same _)))
+      requested-leaves (while_idle {w} {ready} {w'} {w''} {after} {s} idle r reads disables _ runs) =
+          let first = both_on (readied-both w ready s r) (both_on (reads-both reads) (disables-both disables)) in
+          all_on _ _ _ (all_both first) (runs-leave runs (first.own.active ∙ idle))
+
+      asks-leave : {w : World R} {s t : ℕ} {w' : World R} {requests : Requests} → Asks k answers w s t w' requests → LeavesAll k w w'
+      asks-leave (for_later {w} {s} {t} _) = changed-all w t put_down (put_down-same _)
+      asks-leave (straight_away {w} {w'} {s} {t} _ r) = all_on _ _ _ (changed-all w t _ (passed-same (common_at k w s).by_put _)) (requested-leaves r)
 
       causes-both : {w : World R} {s t : ℕ} {w' : World R} {requests : Requests} → Causes k answers w s t w' requests → Both s w w'
       causes-both (meanwhile_active {w} {w'} {s} r) =
-          let inside = requested-leaves r in
+          let inside = asks-leave r in
           let set = common_at-changed k lawful w s (with_active true) in
           let kept = left_active (inside s) (ap (λ (c : Common). c.active) set) in
           let back = common_at-changed k lawful w' s (with_active (common_at k w s).active) in
@@ -251,10 +311,10 @@ module _ {R : Type 0} (k : RecordRules R) (lawful : IsLawful k) where
             };
           }
 
-      reads-both : {w : World R} {s : ℕ} {link : LinkUse} {w' : World R} {got : Got} {requests : Requests} → Reads k answers w s link w' got requests → Both s w w'
-      reads-both (unused {w} {s}) = both_here w s
-      reads-both (absent {w} {s}) = both-changed w s _ (record { active = refl; pending = refl })
-      reads-both (no_such_device {w} {s}) = both-changed w s _ (record { active = refl; pending = refl })
+      reads-both : {kind : R → InputKind} {w : World R} {s : ℕ} {link : LinkUse} {w' : World R} {got : Got} {requests : Requests} → Reads k answers kind w s link w' got requests → Both s w w'
+      reads-both (unused {kind} {w} {s}) = both_here w s
+      reads-both (absent {kind} {w} {s}) = both-changed w s _ (record { active = refl; pending = refl })
+      reads-both (no_such_device {kind} {w} {s}) = both-changed w s _ (record { active = refl; pending = refl })
       reads-both (as_it_stands _ takes) = takes-both takes
       reads-both (after_request _ c takes) = both_on (causes-both c) (takes-both takes)
 
@@ -288,16 +348,16 @@ module _ {R : Type 0} (k : RecordRules R) (lawful : IsLawful k) where
       puts_out-both (as_event {w} {s} {name}) = both_as (sent-both (Post name) w s)
 
       finishes-ended : {w : World R} {s : ℕ} {w' : World R} {requests : Requests} → Finishes k answers w s w' requests → Ended s w w'
-      finishes-ended (forward {w} {ready} {w'} {s} {requests} r f) =
+      finishes-ended (forward {w} {ready} {w'} {w''} {s} {requests} r f rests) =
           let inside = follows-both f in
           let ready_pending : (common_at k ready s).pending ≡ (common_at k w s).pending =
           ap (λ (v : World R). (common_at k v s).pending) r ∙ ap (λ (c : Common). c.pending) (common_at-changed k lawful w s (shown w.moment)) in
-          let last = common_at-changed k lawful w' s (with_active false) in
+          let last = rests-ended rests in
           record {
             others = λ n apart. left_on (left_same (subst (λ (v : World R). Same (common_at k w n) (common_at k v n)) (sym r) (changed-but w s (shown w.moment) n apart)))
-                (left_on (inside.others n apart) (left_same (changed-but w' s (with_active false) n apart)));
-            active = ap (λ (c : Common). c.active) last;
-            pending = ap (λ (c : Common). c.pending) last ∙ inside.own.pending ∙ ready_pending;
+                (left_on (inside.others n apart) (last.others n apart));
+            active = last.active;
+            pending = last.pending ∙ inside.own.pending ∙ ready_pending;
           }
 
       -- s idle in the end, or waiting: of a record that was idle
@@ -321,3 +381,24 @@ module _ {R : Type 0} (k : RecordRules R) (lawful : IsLawful k) where
       runs-leave (Runs.waits {w} {w'} {s} g) idle =
           let first = gets-both g in
           all_of w w' s first.others (now_waits idle first.own.0 first.own.1)
+
+    -- a record whose device answered at last is idle in the end, and waits no more
+    pub resumes-others : {w : World R} {s : ℕ} {x : Finished} {w' : World R} {requests : Requests} → Resumes k answers w s x w' requests
+        → (n : ℕ) → n ≢ s → Left (common_at k w n) (common_at k w' n)
+    resumes-others (at_last {w} {back} {w'} {w''} {s} {x} b p f) n apart =
+        let taken = put back s (k.finished (at k back s) x) in
+        let out = puts_out-both p in
+        let rest = finishes-ended f in
+        left_on (left_same (subst (λ (v : World R). Same (common_at k w n) (common_at k v n)) (sym b) (changed-but w s resumed n apart)))
+        (left_on (left_same (put-but back s (k.finished (at k back s) x) n apart)) (left_on (out.others n apart) (rest.others n apart)))
+
+    pub resumes-own : {w : World R} {s : ℕ} {x : Finished} {w' : World R} {requests : Requests} → Resumes k answers w s x w' requests
+        → ((common_at k w' s).active ≡ false) × ((common_at k w' s).pending ≡ Nothing_)
+    unfolding OwnAs Own
+    resumes-own (at_last {w} {back} {w'} {w''} {s} {x} b p f) =
+        let out = puts_out-both p in
+        let rest = finishes-ended f in
+        let taken : (common_at k (put back s (k.finished (at k back s) x)) s).pending ≡ (common_at k back s).pending =
+        ap (λ (r : R). (k.common r).pending) (at-put_same k back s _) ∙ ap (λ (c : Common). c.pending) (lawful.finished_common (at k back s) x) in
+        let before : (common_at k back s).pending ≡ Nothing_ = ap (λ (v : World R). (common_at k v s).pending) b ∙ ap (λ (c : Common). c.pending) (common_at-changed k lawful w s resumed) in
+        (rest.active, rest.pending ∙ out.own.pending ∙ taken ∙ before)

@@ -9,11 +9,12 @@ use Rattle.ioc_links.specs.declared.link.Mode.{Mode}
 use Rattle.ioc_fields.specs.declared.field_no.FieldNo.{FieldNo}
 use Rattle.ioc_alarms.specs.Alarms.{is_invalid}
 use Rattle.ioc_values.specs.declared.value.Value.{Value}
-use Rattle.ioc_record.specs.declared.common.Common.{Common}
-use Rattle.ioc_record.specs.declared.link_field.LinkField.{LinkField}
-use Rattle.ioc_record.specs.declared.body.Got.{Got}
-use Rattle.ioc_record.specs.Links.{named_by_all}
-use Rattle.ioc_record.specs.Steps.{raised, inherited, blocked, is_scan}
+use Rattle.ioc_values.specs.declared.value.Finished.{Finished}
+use Rattle.ioc_common.specs.declared.common.Common.{Common}
+use Rattle.ioc_common.specs.declared.link_field.LinkField.{LinkField}
+use Rattle.ioc_common.specs.declared.body.Got.{Got}
+use Rattle.ioc_common.specs.Links.{named_by_all}
+use Rattle.ioc_common.specs.Steps.{raised, inherited, blocked, is_scan}
 use Rattle.ioc_record.specs.RecordRules.{RecordRules, targets}
 use Rattle.ioc_record.specs.Laws.{IsLawful}
 use Rattle.ioc_process.specs.World.{SameLinks}
@@ -64,6 +65,9 @@ module _ {R : Type 0} (k : RecordRules R) (lawful : IsLawful k) where
   pub links-taken : (r : R) (got : Got) → SameLinks k r (k.taken r got)
   links-taken r got = record { fields = lawful.taken_link_fields r got; links = lawful.taken_links r got }
 
+  pub links-finished : (r : R) (x : Finished) → SameLinks k r (k.finished r x)
+  links-finished r x = record { fields = lawful.finished_link_fields r x; links = lawful.finished_links r x }
+
   pub links-stored : (r : R) (f : FieldNo) (v : Value) → SameLinks k r (k.stored r f v)
   links-stored r f v = record { fields = lawful.stored_link_fields r f v; links = lawful.stored_links r f v }
 
@@ -75,3 +79,6 @@ module _ {R : Type 0} (k : RecordRules R) (lawful : IsLawful k) where
 
   pub targets-taken : (r : R) (got : Got) → targets k (k.taken r got) ≡ targets k r
   targets-taken r got = targets_same (links-taken r got)
+
+  pub targets-finished : (r : R) (x : Finished) → targets k (k.finished r x) ≡ targets k r
+  targets-finished r x = targets_same (links-finished r x)

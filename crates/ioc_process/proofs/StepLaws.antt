@@ -1,10 +1,12 @@
 -- The rules of an event allow what the function gives, and nothing else.
-use Rattle.std.proofs.Common.{◌≡◌, ℕ, Bool, true, false, cond, List, Option, Some, is_some, refl, sym, ap, subst, ◌∙◌}
+use Rattle.std.proofs.Common.{◌≡◌, ℕ, Bool, true, false, cond, List, Some, is_some, refl, sym, ap, subst, ◌∙◌}
 use Rattle.std.specs.Prelude.{Result, Ok, Err}
 use Rattle.std.specs.FinMap.{contains_key}
 use Rattle.ioc_values.specs.declared.error.IocError.{IocError}
-use Rattle.ioc_values.specs.declared.error.IocError.TheVariants.{NoField}
+use Rattle.ioc_values.specs.declared.error.IocError.TheVariants.{NoField, Stale}
 use Rattle.ioc_values.specs.declared.input.Input.{Input}
+use Rattle.ioc_values.specs.declared.value.Finished.{Finished}
+use Rattle.ioc_common.specs.Steps.{with_put_mark, with_reprocess_mark}
 use Rattle.ioc_fields.specs.declared.field_no.FieldNo.{FieldNo}
 use Rattle.ioc_fields.specs.Table.{row_of}
 use Rattle.ioc_device.specs.declared.Answer.{Answer}
@@ -16,29 +18,38 @@ use Rattle.ioc_record.specs.Laws.{IsLawful}
 use Rattle.ioc_record.specs.Values.{text_of, put_field}
 use Rattle.ioc_process.specs.declared.reply.Reply.{Reply}
 use Rattle.ioc_process.specs.declared.reply.Reply.TheVariants.{Plain, Outcome as Outcome-reply, Shown}
-use Rattle.ioc_process.specs.World.{World, at, common_at, put}
-use Rattle.ioc_process.specs.Rules.{Requested, while_active, while_idle}
-use Rattle.ioc_process.specs.Processing.{Done}
+use Rattle.ioc_process.specs.World.{World, at, common_at, put, changed}
+use Rattle.ioc_process.specs.Rules.{Requested}
+use Rattle.ioc_process.specs.Processing.{Done, ran, went_on_at_last}
 use Rattle.ioc_process.specs.declared.event.Event.{Event}
-use Rattle.ioc_process.specs.declared.event.Event.TheVariants.{Get, Process, Put}
-use Rattle.ioc_process.specs.Step.{Stepped, number_of, refused, told, outcome_reply, after_put, put_with, processes, stepped_there, stepped}
-use Rattle.ioc_process.specs.StepRules.{Step, no_such_record, no_such_field, shows_field, processes_record, refuses_value, stores_alone, stores_while_active, stores_and_processes, Replay, at_the_end, and_then}
+use Rattle.ioc_process.specs.declared.event.Event.TheVariants.{Get, Process, Put, Complete}
+use Rattle.ioc_process.specs.Step.{Stepped, number_of, refused, told, awaits, after_put, after_completion, put_with, processes, stepped_there, stepped}
+use Rattle.ioc_process.specs.StepRules.{Step, no_such_record, no_such_field, shows_field, processes_record, refuses_value, stores_alone, stores_while_active, stores_and_processes, not_awaited, completes_at_last, Replay, at_the_end, and_then}
 use Rattle.ioc_process.specs.declared.event.Entry.{Entry}
 use Rattle.ioc_process.proofs.Worlds.{at-put_same}
-use Rattle.ioc_process.proofs.RulesAlone.{request-is}
-use Rattle.ioc_process.proofs.RulesAllowed.{request-allowed}
-use Rattle.ioc_process.proofs.Stepping.{step-missing, step-there, step-process, step-put}
+use Rattle.ioc_process.proofs.RulesAlone.{request-is, at_last-is}
+use Rattle.ioc_process.proofs.RulesAllowed.{request-allowed, at_last-allowed}
+use Rattle.ioc_process.proofs.Depth.{request-rule}
+use Rattle.ioc_process.proofs.Stepping.{step-missing, step-there, step-process, step-put, step-complete}
+
+some_same : {X : Type 0} {x y : X} → Some x ≡ Some y → x ≡ y
+some_same is = cc
 
 module _ {R : Type 0} (k : RecordRules R) (lawful : IsLawful k) (answers : List Answer) where
   made : World R → Reply → Requests → Stepped R
   made w reply requests = record { world = w; reply = reply; requests = requests }
 
+  first-outcome : {x y : Requests} {outcome : Outcome} → x ≡ y → first_outcome y ≡ Some outcome → first_outcome x ≡ Some outcome
+  first-outcome is first = ap first_outcome is ∙ first
+
   told-is : (w w' : World R) (s : ℕ) (outcome : Outcome) (requests : Requests) → Requested k answers w s w' requests → first_outcome requests ≡ Some outcome
       → told k answers w s ≡ record { world = w'; reply = Outcome-reply outcome; requests = requests }
   unfolding told
   told-is w w' s outcome requests r is =
-      ap (λ (d : Done R). record { world = d.world; reply = outcome_reply (first_outcome d.requests); requests = d.requests }) (request-is k lawful answers r)
-      ∙ ap (λ (o : Option Outcome). record { world = w'; reply = outcome_reply o; requests = requests }) is
+      let done = sym (request-rule k lawful answers w s) ∙ request-is k lawful answers r in
+      let same : (ran k answers w s).outcome ≡ outcome = some_same (first-outcome (ap (λ (d : Done R). d.requests) done) is) in
+      ap (λ (d : Done R). record { world = d.world; reply = Outcome-reply (ran k answers w s).outcome; requests = d.requests }) done
+      ∙ ap (λ (o : Outcome). record { world = w'; reply = Outcome-reply o; requests = requests }) same
 
   get-is : (w : World R) (s : ℕ) (field : FieldNo) (b : Bool) → contains_key w.records s ≡ true → is_some (row_of (k.record_type (at k w s)) field) ≡ b
       → stepped k answers w (Get s field) ≡ cond b (record { world = w; reply = Shown (text_of k (at k w s) field); requests = None }) (refused w NoField)
@@ -52,7 +63,7 @@ module _ {R : Type 0} (k : RecordRules R) (lawful : IsLawful k) (answers : List 
 
   after-is : (w : World R) (s : ℕ) (field : FieldNo) (b active : Bool) → processes k (at k w s) field ≡ b → (common_at k w s).active ≡ active
       → after_put k answers w s field ≡ cond {A = Stepped R} b
-      (cond {A = Stepped R} active (record { world = w; reply = Outcome-reply Reprocess; requests = Request Reprocess None None }) (told k answers w s))
+      (cond {A = Stepped R} active (record { world = changed k w s (with_reprocess_mark true); reply = Outcome-reply Reprocess; requests = Request Reprocess None None }) (told k answers (changed k w s (with_put_mark true)) s))
       (record { world = w; reply = Plain; requests = None })
   unfolding after_put
   after-is w s field b active is act = rw (is, act) refl
@@ -62,6 +73,14 @@ module _ {R : Type 0} (k : RecordRules R) (lawful : IsLawful k) (answers : List 
 
   active-put : (w : World R) (s : ℕ) (r : R) (b : Bool) → (k.common r).active ≡ b → (common_at k (put w s r) s).active ≡ b
   active-put w s r b is = ap (λ (x : R). (k.common x).active) (at-put_same k w s r) ∙ is
+
+  stale-is : (w : World R) (s number : ℕ) (x : Finished) → contains_key w.records s ≡ true → awaits (common_at k w s) number ≡ false → stepped k answers w (Complete s number x) ≡ refused w Stale
+  unfolding stepped_there
+  stale-is w s number x there is = step-there k answers w (Complete s number x) there ∙ rw is refl
+
+  completion-is : (w : World R) (s : ℕ) (x : Finished) (done : Done R) → went_on_at_last k answers w s x ≡ done → after_completion k answers w s x ≡ record { world = done.world; reply = Plain; requests = done.requests }
+  unfolding after_completion
+  completion-is w s x done is = ap (λ (d : Done R). record { world = d.world; reply = Plain; requests = d.requests }) is
 
   -- no other result than that of the function
   pub step-is : {w : World R} {event : Event} {w' : World R} {reply : Reply} {requests : Requests} → Step k answers w event w' reply requests
@@ -77,23 +96,23 @@ module _ {R : Type 0} (k : RecordRules R) (lawful : IsLawful k) (answers : List 
       step-put k answers w s field given r there is ∙ after-is (put w s r) s field true true (type-put w s r field true proc) (active-put w s r true active)
   step-is (stores_and_processes {w} {w'} {s} {field} {given} {r} {outcome} {requests} there is proc idle q first) =
       step-put k answers w s field given r there is ∙ after-is (put w s r) s field true false (type-put w s r field true proc) (active-put w s r false idle)
-      ∙ told-is (put w s r) w' s outcome requests q first
+      ∙ told-is (changed k (put w s r) s (with_put_mark true)) w' s outcome requests q first
+  step-is (not_awaited {w} {s} {number} {x} there is) = stale-is w s number x there is
+  step-is (completes_at_last {w} {w'} {s} {number} {x} {requests} there is r) =
+      step-complete k answers w s number x there is ∙ completion-is w s x _ (at_last-is k lawful answers r)
 
   -- ---- and the result of the function is allowed
 
   Allows : World R → Event → Stepped R → Type 0
   Allows w event x = Step k answers w event x.world x.reply x.requests
 
-  some-outcome : {w : World R} {s : ℕ} {w' : World R} {requests : Requests} → Requested k answers w s w' requests → (o : Outcome) × (first_outcome requests ≡ Some o)
-  some-outcome (while_active _) = (_, refl)
-  some-outcome (while_idle _ _) = (_, refl)
+  -- the request by its outcome
+  pub ran-allowed : (w : World R) (s : ℕ) → let r = ran k answers w s in Requested k answers w s r.world (Request r.outcome r.requests None)
+  ran-allowed w s = subst (λ (d : Done R). Requested k answers w s d.world d.requests) (request-rule k lawful answers w s) (request-allowed k lawful answers w s)
 
   process-allowed : (w : World R) (s : ℕ) → contains_key w.records s ≡ true → Allows w (Process s) (told k answers w s)
   unfolding told Allows
-  process-allowed w s there =
-      let r = request-allowed k lawful answers w s in
-      let o = some-outcome r in
-      rw o.1 (processes_record there r o.1)
+  process-allowed w s there = processes_record there (ran-allowed w s) refl
 
   get-allowed : (w : World R) (s : ℕ) (field : FieldNo) → contains_key w.records s ≡ true → Allows w (Get s field) (stepped_there k answers w (Get s field))
   unfolding Allows stepped_there
@@ -114,9 +133,8 @@ module _ {R : Type 0} (k : RecordRules R) (lawful : IsLawful k) (answers : List 
         | true ↦ λ proc. elim (k.common r).active as (λ b. (k.common r).active ≡ b → Allows w (Put s field given) (after_put k answers v s field)) [
           | true ↦ λ active. rw (after-is v s field true true (type-put w s r field true proc) (active-put w s r true active)) (stores_while_active there is proc active)
           | false ↦ λ idle.
-              let q = request-allowed k lawful answers v s in
-              let o = some-outcome q in
-              rw (after-is v s field true false (type-put w s r field true proc) (active-put w s r false idle)) (rw o.1 (stores_and_processes there is proc idle q o.1))
+              let q = ran-allowed (changed k v s (with_put_mark true)) s in
+              rw (after-is v s field true false (type-put w s r field true proc) (active-put w s r false idle)) (stores_and_processes there is proc idle q refl)
         ] refl
         | false ↦ λ plain. rw (after-is v s field false (k.common r).active (type-put w s r field false plain) (active-put w s r _ refl)) (stores_alone there is plain)
       ] refl
@@ -127,11 +145,23 @@ module _ {R : Type 0} (k : RecordRules R) (lawful : IsLawful k) (answers : List 
   put-allowed w s field given (Ok r) there is = after-allowed w s field given r there is
   put-allowed w s field given (Err e) there is = refuses_value there is
 
+  complete-allowed : (w : World R) (s number : ℕ) (x : Finished) → contains_key w.records s ≡ true
+      → Allows w (Complete s number x) (cond (awaits (common_at k w s) number) (after_completion k answers w s x) (refused w Stale))
+  unfolding Allows after_completion
+  complete-allowed w s number x there =
+      elim (awaits (common_at k w s) number) as (λ b. awaits (common_at k w s) number ≡ b →
+      let done = cond {A = Stepped R} b (after_completion k answers w s x) (refused w Stale) in
+      Step k answers w (Complete s number x) done.world done.reply done.requests) [
+        | true ↦ λ is. completes_at_last there is (at_last-allowed k lawful answers w s x)
+        | false ↦ λ is. not_awaited there is
+      ] refl
+
   there-allowed : (w : World R) (event : Event) → contains_key w.records (number_of event) ≡ true → Allows w event (stepped_there k answers w event)
   unfolding stepped_there
   there-allowed w (Get s field) there = get-allowed w s field there
   there-allowed w (Process s) there = process-allowed w s there
   there-allowed w (Put s field given) there = put-allowed w s field given _ there refl
+  there-allowed w (Complete s number x) there = complete-allowed w s number x there
 
   pub step-allowed : (w : World R) (event : Event) → Step k answers w event (stepped k answers w event).world (stepped k answers w event).reply (stepped k answers w event).requests
   unfolding Allows

@@ -1,32 +1,49 @@
 -- The cases of an event, as the code meets them.
-use Rattle.std.proofs.Common.{◌≡◌, ℕ, true, false, cond, eqb, List, Option, Some, None as Nothing_, IsTrue, is_some, unwrap_or, refl, ap, subst, ◌∙◌, arith}
+use Rattle.std.proofs.Common.{◌≡◌, ℕ, Bool, true, false, cond, eqb, List, [], ◌∷◌, length, drop, Option, Some, None as Nothing_, IsTrue, is_some, unwrap_or, refl, sym, ap, subst, ◌∙◌, arith}
 use Rattle.std.specs.Prelude.{Result, Ok, Err, OnOk, OnErr}
 use Rattle.std.specs.Ordering.{nat_cmp, eq_by_cmp}
 use Rattle.std.specs.Cmp.{nat_cmp_total, unsigned_tied}
 use Rattle.std.specs.FinMap.{FinMap, get, contains_key, same_map, get-insert, nat_cmp-IsAntisymmetric}
 use Rattle.std.proofs.lemmas.Grind.{common_steps}
 use Rattle.ioc_values.specs.declared.error.IocError.{IocError}
-use Rattle.ioc_values.specs.declared.error.IocError.TheVariants.{NoRecord}
+use Rattle.ioc_values.specs.declared.error.IocError.TheVariants.{NoRecord, Stale}
 use Rattle.ioc_values.specs.declared.input.Input.{Input}
+use Rattle.ioc_values.specs.declared.value.Finished.{Finished}
 use Rattle.ioc_fields.specs.declared.field_no.FieldNo.{FieldNo}
 use Rattle.ioc_device.specs.declared.Answer.{Answer}
 use Rattle.ioc_ledger.specs.declared.outcome.Outcome.{Outcome}
 use Rattle.ioc_ledger.specs.declared.tally.Tally.{Tally}
-use Rattle.ioc_ledger.specs.Requests.{first_outcome}
+use Rattle.ioc_ledger.specs.Requests.{None, Request, counted, counted_one, counted_started, counted_completion}
+use Rattle.ioc_common.specs.declared.common.Common.{Common}
+use Rattle.ioc_process.specs.declared.call.Call.{Call}
+use Rattle.ioc_process.specs.Given.{later_among}
 use Rattle.ioc_record.specs.RecordRules.{RecordRules, targets}
 use Rattle.ioc_record.specs.Values.{put_field, put_tested, put_once_tested, put_untested, converted_for}
 use Rattle.ioc_record.specs.Laws.{IsLawful}
 use Rattle.ioc_values.specs.declared.value.Value.{Value}
 use Rattle.ioc_process.proofs.StepFrames.{targets_same, links-stored, stored_with}
 use Rattle.ioc_process.proofs.Keeping.{keeps-put}
-use Rattle.ioc_process.specs.declared.reply.Reply.TheVariants.{Outcome as Outcome-reply, Refused}
-use Rattle.ioc_process.specs.World.{World, Has, at, put, SameLinks, Keeps}
-use Rattle.ioc_process.specs.Processing.{request}
-use Rattle.ioc_process.specs.Runs.{Leaves}
+use Rattle.ioc_process.specs.declared.reply.Reply.{Reply}
+use Rattle.ioc_process.specs.declared.reply.Reply.TheVariants.{Plain, Outcome as Outcome-reply, Refused}
+use Rattle.ioc_ledger.specs.declared.outcome.Outcome.TheVariants.{Processed, Reprocess}
+use Rattle.ioc_common.specs.Steps.{with_put_mark, with_reprocess_mark}
+use Rattle.ioc_process.specs.World.{World, Has, at, common_at, put, changed, SameLinks, Keeps}
+use Rattle.ioc_process.specs.Processing.{ran, processed, went_on_at_last}
+use Rattle.ioc_process.specs.Runs.{Comes, Leaves}
 use Rattle.ioc_process.specs.declared.event.Event.{Event}
-use Rattle.ioc_process.specs.declared.event.Event.TheVariants.{Process, Put}
-use Rattle.ioc_process.specs.Step.{refused, told, outcome_reply, after_put, put_with, stepped_there, number_of, stepped}
+use Rattle.ioc_process.specs.declared.event.Event.TheVariants.{Get, Process, Put, Complete}
+use Rattle.ioc_process.specs.Step.{Stepped, refused, told, processes, awaits, after_put, after_completion, put_with, stepped_there, number_of, stepped, completes, calls_since, tallied}
 use Rattle.ioc_process.specs.Events.{Tells}
+
+drop_all : {X : Type 0} (xs : List X) → drop (length xs) xs ≡ []
+drop_all [] = refl
+drop_all (x ∷ xs) = drop_all xs
+
+refused-completes : (event : Event) (e : IocError) → completes event (Refused e) ≡ false
+refused-completes (Get s field) e = refl
+refused-completes (Process s) e = refl
+refused-completes (Put s field given) e = refl
+refused-completes (Complete s number x) e = refl
 
 module _ {R : Type 0} (k : RecordRules R) where
   found : (o : Option R) → IsTrue (is_some o) → Some (unwrap_or o k.missing) ≡ o
@@ -55,13 +72,76 @@ module _ {R : Type 0} (k : RecordRules R) where
     unfolding stepped
     step-there w event is = rw is refl
 
-    pub tells-refused : (w : World R) (event : Event) (counts : Tally) → contains_key w.records (number_of event) ≡ false → Tells w (Refused NoRecord) counts counts (stepped k answers w event)
-    tells-refused w event counts is = rw (step-missing w event is) (record { world = refl; reply = refl; tally = refl })
+    -- nothing was done
+    pub tallied-none : (t : Tally) (w : World R) (event : Event) (e : IocError) → tallied t w event (refused w e) ≡ t
+    unfolding tallied
+    tallied-none t w event e = rw (refused-completes event e, drop_all w.calls) refl
 
-    pub tells-told : (w after : World R) (s : ℕ) (outcome : Outcome) (before counts : Tally) → Leaves after before counts (request k answers w s)
-        → Some outcome ≡ first_outcome (request k answers w s).requests → Tells after (Outcome-reply outcome) before counts (told k answers w s)
-    unfolding told
-    tells-told w after s outcome before counts leaves is = record { world = leaves.world; reply = ap outcome_reply is; tally = leaves.tally }
+    pub tells-refused : (w : World R) (event : Event) (counts : Tally) → contains_key w.records (number_of event) ≡ false → Tells w w (Refused NoRecord) counts counts event (stepped k answers w event)
+    tells-refused w event counts is = rw (step-missing w event is) (record { world = refl; reply = refl; tally = sym (tallied-none counts w event NoRecord) })
+
+    pub tells-told : (w after : World R) (s : ℕ) (outcome : Outcome) (before between counts : Tally) → Leaves after before between outcome (ran k answers w s)
+        → counts ≡ counted_started between (later_among (calls_since w after)) → Tells w after (Outcome-reply outcome) before counts (Process s) (told k answers w s)
+    unfolding told tallied
+    tells-told w after s outcome before between counts leaves is = record {
+      world = leaves.world;
+      reply = ap Outcome-reply leaves.outcome;
+      tally = is ∙ ap (λ (t : Tally). counted_started t (later_among (calls_since w after))) leaves.tally
+          ∙ ap (λ (v : World R). counted_started (counted_one (counted before (ran k answers w s).requests) (ran k answers w s).outcome) (later_among (calls_since w v))) leaves.world;
+    }
+
+    -- what follows a put
+    pub tells-plain : (w : World R) (s : ℕ) (field : FieldNo) (counts : Tally) → processes k (at k w s) field ≡ false → Tells w w Plain counts counts (Process s) (after_put k answers w s field)
+    unfolding after_put tallied
+    tells-plain w s field counts is = rw is (record { world = refl; reply = refl; tally = rw (drop_all w.calls) refl })
+
+    pub tells-active : (w : World R) (s : ℕ) (field : FieldNo) (before counts : Tally) → processes k (at k w s) field ≡ true → (common_at k w s).active ≡ true → counts ≡ counted_one before Reprocess
+        → Tells w (changed k w s (with_reprocess_mark true)) (Outcome-reply Reprocess) before counts (Process s) (after_put k answers w s field)
+    unfolding after_put tallied changed put
+    tells-active w s field before counts is active one = rw (is, active) (record { world = refl; reply = refl; tally = rw (drop_all w.calls) one })
+
+    after_put-idle : (w : World R) (s : ℕ) (field : FieldNo) → processes k (at k w s) field ≡ true → (common_at k w s).active ≡ false → after_put k answers w s field ≡ told k answers (changed k w s (with_put_mark true)) s
+    unfolding after_put
+    after_put-idle w s field is idle =
+        let down : Stepped R = record { world = changed k w s (with_reprocess_mark true); reply = Outcome-reply Reprocess; requests = Request Reprocess None None } in
+        let on = told k answers (changed k w s (with_put_mark true)) s in
+        ap (λ (b : Bool). cond {A = Stepped R} b (cond {A = Stepped R} (common_at k w s).active down on) (record { world = w; reply = Plain; requests = None })) is
+        ∙ ap (λ (b : Bool). cond {A = Stepped R} b down on) idle
+
+    marked-calls : (w : World R) (s : ℕ) (f : Common → Common) → (changed k w s f).calls ≡ w.calls
+    unfolding changed put
+    marked-calls w s f = refl
+
+    pub tells-idle : (w after : World R) (s : ℕ) (field : FieldNo) (result : Reply) (before counts : Tally) → processes k (at k w s) field ≡ true → (common_at k w s).active ≡ false
+        → Tells (changed k w s (with_put_mark true)) after result before counts (Process s) (told k answers (changed k w s (with_put_mark true)) s) → Tells w after result before counts (Process s) (after_put k answers w s field)
+    unfolding tallied
+    tells-idle w after s field result before counts is idle tells =
+        let done = told k answers (changed k w s (with_put_mark true)) s in
+        let same : calls_since (changed k w s (with_put_mark true)) done.world ≡ calls_since w done.world = ap (λ (l : List Call). drop (length l) done.world.calls) (marked-calls w s (with_put_mark true)) in
+        rw (after_put-idle w s field is idle)
+        (record { world = tells.world; reply = tells.reply; tally = tells.tally ∙ ap (λ (l : List Call). counted_started (counted before done.requests) (later_among l)) same })
+
+    pub tells-put : (w after : World R) (s : ℕ) (field : FieldNo) (given : Input) (r : R) (result : Reply) (before counts : Tally) (done : Stepped R)
+        → Tells (put w s r) after result before counts (Process s) done → Tells w after result before counts (Put s field given) done
+    unfolding tallied put
+    tells-put w after s field given r result before counts done tells = record { world = tells.world; reply = tells.reply; tally = tells.tally }
+
+    -- a completion
+    pub tells-completion : (w after : World R) (s number : ℕ) (x : Finished) (before between counts : Tally) → Comes after before between Processed (processed (went_on_at_last k answers w s x))
+        → counts ≡ counted_completion (counted_started between (later_among (calls_since w after))) → Tells w after Plain before counts (Complete s number x) (after_completion k answers w s x)
+    unfolding after_completion tallied
+    tells-completion w after s number x before between counts comes is = record {
+      world = comes.world;
+      reply = refl;
+      tally = is ∙ ap (λ (t : Tally). counted_completion (counted_started t (later_among (calls_since w after)))) comes.tally
+          ∙ ap (λ (v : World R). counted_completion (counted_started (counted before (went_on_at_last k answers w s x).requests) (later_among (calls_since w v)))) comes.world;
+    }
+
+    -- which number it had plays no part
+    pub tells-numbered : (w after : World R) (s number other : ℕ) (x : Finished) (before counts : Tally) → Tells w after Plain before counts (Complete s number x) (after_completion k answers w s x)
+        → Tells w after Plain before counts (Complete s other x) (after_completion k answers w s x)
+    unfolding after_completion tallied
+    tells-numbered w after s number other x before counts tells = record { world = tells.world; reply = tells.reply; tally = tells.tally }
 
     pub step-process : (w : World R) (s : ℕ) → contains_key w.records s ≡ true → stepped k answers w (Process s) ≡ told k answers w s
     unfolding stepped_there
@@ -69,15 +149,26 @@ module _ {R : Type 0} (k : RecordRules R) where
 
     -- a put that is refused
     pub tells-put_refused : (w : World R) (s : ℕ) (field : FieldNo) (given : Input) (e : IocError) (counts : Tally) → contains_key w.records s ≡ true
-        → put_field k (at k w s) field given ≡ Err e → Tells w (Refused e) counts counts (stepped k answers w (Put s field given))
+        → put_field k (at k w s) field given ≡ Err e → Tells w w (Refused e) counts counts (Put s field given) (stepped k answers w (Put s field given))
     unfolding stepped_there
-    tells-put_refused w s field given e counts there is = rw (step-there w (Put s field given) there, is) (record { world = refl; reply = refl; tally = refl })
+    tells-put_refused w s field given e counts there is = rw (step-there w (Put s field given) there, is) (record { world = refl; reply = refl; tally = sym (tallied-none counts w (Put s field given) e) })
 
     -- a put that is done
     pub step-put : (w : World R) (s : ℕ) (field : FieldNo) (given : Input) (r : R) → contains_key w.records s ≡ true
         → put_field k (at k w s) field given ≡ Ok r → stepped k answers w (Put s field given) ≡ after_put k answers (put w s r) s field
     unfolding stepped_there
     step-put w s field given r there is = step-there w (Put s field given) there ∙ ap (put_with k answers w s field) is
+
+    -- a completion that isn't awaited, and one that is
+    pub tells-stale : (w : World R) (s number : ℕ) (x : Finished) (counts : Tally) → contains_key w.records s ≡ true → awaits (common_at k w s) number ≡ false
+        → Tells w w (Refused Stale) counts counts (Complete s number x) (stepped k answers w (Complete s number x))
+    unfolding stepped_there
+    tells-stale w s number x counts there is = rw (step-there w (Complete s number x) there, is) (record { world = refl; reply = refl; tally = sym (tallied-none counts w (Complete s number x) Stale) })
+
+    pub step-complete : (w : World R) (s number : ℕ) (x : Finished) → contains_key w.records s ≡ true → awaits (common_at k w s) number ≡ true
+        → stepped k answers w (Complete s number x) ≡ after_completion k answers w s x
+    unfolding stepped_there
+    step-complete w s number x there is = step-there w (Complete s number x) there ∙ rw is refl
 
 module _ {R : Type 0} (k : RecordRules R) (lawful : IsLawful k) where
   -- the record after is that before with some value stored in the field

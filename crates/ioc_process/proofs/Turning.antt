@@ -3,10 +3,11 @@ use Rattle.std.proofs.Common.{◌≡◌, ℕ, ◌+◌, ◌≤◌, Bool, true, fa
 use Rattle.ioc_menus.specs.declared.severity.Severity.TheVariants.{Invalid}
 use Rattle.ioc_menus.specs.declared.status.Status.TheVariants.{Link as LinkAlarm}
 use Rattle.ioc_process.specs.Processing.{faulted}
-use Rattle.ioc_record.specs.Steps.{with_active, raised}
+use Rattle.ioc_common.specs.Steps.{with_active, raised}
 use Rattle.ioc_record.specs.RecordRules.{RecordRules}
 use Rattle.ioc_record.specs.Laws.{IsLawful}
 use Rattle.ioc_process.specs.declared.frames.Frame.{Frame}
+use Rattle.ioc_ledger.specs.declared.outcome.Outcome.{Outcome}
 use Rattle.ioc_process.specs.World.{World, Has, common_at, changed, idle, Keeps}
 use Rattle.ioc_process.specs.Frames.{Turn, Ended, Calls, Turns, FrameStands, calls_left}
 use Rattle.ioc_process.proofs.Worlds.{idle-changed}
@@ -27,8 +28,8 @@ module _ {R : Type 0} (k : RecordRules R) where
     left = omega (arith, left, turns.left);
   }
 
-  pub turns_ended : {w after : World R} {more most : ℕ} → Keeps k w after → idle k after ≤ idle k w + more → Turns k w after more most Ended
-  turns_ended keeps fewer = record { keeps = keeps; fewer = omega (arith, fewer); stands = tt; left = omega arith }
+  pub turns_ended : {w after : World R} {more most : ℕ} → Keeps k w after → idle k after ≤ idle k w + more → (outcome : Outcome) → Turns k w after more most (Ended outcome)
+  turns_ended keeps fewer outcome = record { keeps = keeps; fewer = omega (arith, fewer); stands = tt; left = omega arith }
 
   pub turns_calls : {w after : World R} {more most : ℕ} (frame : Frame) (target : ℕ) → Keeps k w after → idle k after + 1 ≤ idle k w + more
       → FrameStands after frame → Has after target → calls_left frame.place + 1 ≤ most → Turns k w after more most (Calls frame target)

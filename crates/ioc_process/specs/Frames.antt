@@ -1,60 +1,70 @@
 -- What is left to do of a request, by the frames that are open. How requests are made is this project's own.
-use Rattle.std.specs.Prelude.{◌≡◌, ℕ, ◌+◌, ◌-◌, ◌≤◌, filter, drop, true, false, List, [], ◌∷◌, ◌++◌, Option, Some}
+use Rattle.std.specs.Prelude.{◌≡◌, ℕ, ◌+◌, ◌-◌, ◌≤◌, filter, drop, true, false, if◌then◌else◌, List, [], ◌∷◌, ◌++◌, Option, Some}
 use Rattle.std.specs.Prelude.{None as Nothing_}
 use Rattle.std.specs.List.{last_or}
 use Rattle.ioc_device.specs.declared.Answer.{Answer}
 use Rattle.ioc_ledger.specs.declared.tally.Tally.{Tally}
+use Rattle.ioc_ledger.specs.declared.outcome.Outcome.{Outcome}
+use Rattle.ioc_ledger.specs.declared.outcome.Outcome.TheVariants.{Active, Reprocess}
 use Rattle.ioc_ledger.specs.Requests.{None, followed_by, counted}
 use Rattle.ioc_fields.specs.Names.{all_slots}
 use Rattle.ioc_fields.specs.declared.field_no.Slot.{Slot}
-use Rattle.ioc_record.specs.Steps.{with_active}
-use Rattle.ioc_record.specs.Values.{read_as}
+use Rattle.ioc_common.specs.Steps.{with_active, disable_kind}
 use Rattle.ioc_record.specs.RecordRules.{RecordRules}
 use Rattle.ioc_process.specs.declared.frames.Place.{Place}
-use Rattle.ioc_process.specs.declared.frames.Place.TheVariants.{Reading as Reading-place, Writing, FollowingEach, Following}
+use Rattle.ioc_process.specs.declared.frames.Place.TheVariants.{ReadingDisable, Reading as Reading-place, Writing, FollowingEach, Following}
 use Rattle.ioc_process.specs.declared.frames.Frame.{Frame}
-use Rattle.ioc_process.specs.World.{World, Has, at, changed, idle, Keeps}
+use Rattle.ioc_process.specs.declared.frames.Next.{Next}
+use Rattle.ioc_process.specs.declared.frames.Next.TheVariants.{Requests as Requests-next, Ends}
+use Rattle.ioc_process.specs.World.{World, Has, common_at, changed, idle, Keeps}
+use Rattle.ioc_process.specs.Marks.{is_put_down, put_down, put_mark_passed}
 use Rattle.ioc_process.specs.Links.{is_chosen}
-use Rattle.ioc_process.specs.Processing.{Done, Reading, completed_if, request, value_came, completed, finished, followed_each}
+use Rattle.ioc_process.specs.Processing.{Done, Ran, Read, Reading, as_request, processed, ran_after, completed_if, request, ran, read_at, disable_came, judged, completed, finished, rested, followed_each}
 
 -- what a record came to when it began or went on
 pub data Turn : Type 0 where
   -- its request is done, or its device answers later
-  Ended : Turn
+  Ended : Outcome → Turn
   -- it requests another record, and goes on at the frame afterwards
   Calls : Frame → ℕ → Turn
 
--- the turn that was taken, by the frames that are open and the record that is requested: the newest frame waits for it
+-- the newest of the frames that are open, where they stand in order from it on
+abbrev pub newest_of : List Frame → Option Frame
+newest_of [] = Nothing_
+newest_of (frame ∷ frames) = Some frame
+
+-- the turn that was taken, by the frames that are open and what the code does next: the newest frame waits for the record that it asks
 abbrev pub waits_with : Option Frame → ℕ → Turn
-waits_with Nothing_ target = Ended
+waits_with Nothing_ target = Ended Active
 waits_with (Some frame) target = Calls frame target
 
-abbrev pub turn_of : List Frame → Option ℕ → Turn
-turn_of frames Nothing_ = Ended
-turn_of frames (Some target) = waits_with (last_or Nothing_ frames) target
+abbrev pub turn_of : List Frame → Next → Turn
+turn_of frames (Ends outcome) = Ended outcome
+turn_of frames (Requests-next target) = waits_with (last_or Nothing_ frames) target
 
--- the record that a turn requests
-abbrev pub called_of : Turn → Option ℕ
-called_of Ended = Nothing_
-called_of (Calls frame target) = Some target
+-- what the code does after a turn
+abbrev pub next_of : Turn → Next
+next_of (Ended outcome) = Ends outcome
+next_of (Calls frame target) = Requests-next target
 
 -- the frames that are open after a turn, the newest last
 abbrev pub opened : List Frame → Turn → List Frame
-opened frames Ended = frames
+opened frames (Ended outcome) = frames
 opened frames (Calls frame target) = frames ++ frame ∷ []
 
 -- a turn opened a frame where it requests a record, and none else
-pub record Opens (before after : List Frame) (result : Option ℕ) : Type 0 where
+pub record Opens (before after : List Frame) (result : Next) : Type 0 where
   pub frames : after ≡ opened before (turn_of after result)
-  pub called : called_of (turn_of after result) ≡ result
+  pub next : next_of (turn_of after result) ≡ result
 
 -- how many requests a turn makes at once
 abbrev pub calls : Turn → ℕ
-calls Ended = 0
+calls (Ended outcome) = 0
 calls (Calls frame target) = 1
 
 -- how many requests a body may still cause once it goes on at this place: sixteen links and the forward link at most
 abbrev pub calls_left : Place → ℕ
+calls_left (ReadingDisable t) = 18
 calls_left (Reading-place t) = 17
 calls_left Writing = 1
 calls_left (FollowingEach links next) = (16 - next) + 1
@@ -62,15 +72,20 @@ calls_left Following = 0
 
 -- how many it may still cause after a turn, with the one that the turn makes
 abbrev pub turn_left : Turn → ℕ
-turn_left Ended = 0
+turn_left (Ended outcome) = 0
 turn_left (Calls frame target) = 1 + calls_left frame.place
 
 -- a body causes so many requests at most: of the record that it reads, of sixteen links, and of its forward link's
 abbrev pub most_calls : ℕ
 most_calls = 18
 
+-- and a request one more: of the record that SDIS names
+abbrev pub most_of_request : ℕ
+most_of_request = 19
+
 -- the record that a place names is there
 abbrev pub PlaceStands : {R : Type 0} → World R → Place → Type 0
+PlaceStands w (ReadingDisable t) = Has w t.number
 PlaceStands w (Reading-place t) = Has w t.number
 PlaceStands w Writing = Unit {0}
 PlaceStands w (FollowingEach links next) = Unit {0}
@@ -87,7 +102,7 @@ AllStand w [] = Unit {0}
 AllStand w (frame ∷ frames) = FrameStands w frame × AllStand w frames
 
 abbrev pub TurnStands : {R : Type 0} → World R → Turn → Type 0
-TurnStands w Ended = Unit {0}
+TurnStands w (Ended outcome) = Unit {0}
 TurnStands w (Calls frame target) = FrameStands w frame × Has w target
 
 -- a turn keeps all records and their links. Each request that it makes at once has one idle record less before it; `more` may be
@@ -110,15 +125,17 @@ module _ {R : Type 0} (k : RecordRules R) (answers : List Answer) where
       record { world = rest.world; requests = followed_by done.requests rest.requests }
 
   -- record s goes on at this place
-  unfoldable pub went_on : World R → ℕ → Place → Done R
+  unfoldable pub went_on : World R → ℕ → Place → Ran R
+  went_on w s (ReadingDisable t) =
+      let read = read_at k (λ _. disable_kind) (changed k w s (with_active false)) s t in
+      judged k answers (request k answers) (disable_came k read.world s read.came) s
   went_on w s (Reading-place t) =
-      let back = changed k w s (with_active false) in
-      let read = value_came k back s t (read_as k (at k back t.number) t.field (k.input_kind (at k back s))) in
-      completed k answers (request k answers) read.world s read.came
-  went_on w s Writing = finished k (request k answers) (changed k w s (with_active false)) s
+      let read = read_at k k.input_kind (changed k w s (with_active false)) s t in
+      processed (completed k answers (request k answers) read.world s read.came)
+  went_on w s Writing = processed (finished k (request k answers) (changed k w s (with_active false)) s)
   went_on w s (FollowingEach links next) =
-      then_finished s (followed_each k (request k answers) (changed k w s (with_active false)) s (remaining links next))
-  went_on w s Following = record { world = changed k (changed k w s (with_active true)) s (with_active false); requests = None }
+      processed (then_finished s (followed_each k (request k answers) (changed k w s (with_active false)) s (remaining links next)))
+  went_on w s Following = processed (record { world = rested k (changed k w s (with_active true)) s; requests = None })
 
   -- what a body does after its input
   unfoldable pub after_reading : ℕ → Reading R → Done R
@@ -127,22 +144,38 @@ module _ {R : Type 0} (k : RecordRules R) (answers : List Answer) where
       record { world = rest.world; requests = followed_by reading.requests rest.requests }
 
   -- these requests, and then what the frame goes on with
-  unfoldable pub then_frame : Done R → Frame → Done R
-  then_frame done frame =
-      let rest = went_on done.world frame.source frame.place in
-      record { world = rest.world; requests = followed_by done.requests rest.requests }
+  unfoldable pub then_frame : Done R → Frame → Ran R
+  then_frame done frame = ran_after done.requests (went_on done.world frame.source frame.place)
+
+  -- the request of record t by record s, which is active
+  unfoldable pub asked_ran : World R → ℕ → ℕ → Ran R
+  asked_ran w s t =
+      let by_put = (common_at k w s).by_put in
+      if is_put_down by_put (common_at k w t)
+      then record { world = changed k w t put_down; requests = None; outcome = Reprocess }
+      else ran k answers (changed k w t (put_mark_passed by_put)) t
+
+  -- the request of record t, by the frame that waits for it
+  abbrev pub called_by : World R → Option Frame → ℕ → Ran R
+  called_by w Nothing_ t = ran k answers w t
+  called_by w (Some frame) t = asked_ran w frame.source t
+
+  -- a request that has read SDIS
+  unfoldable pub after_disable : ℕ → Read R → Ran R
+  after_disable s read = ran_after read.requests (judged k answers (request k answers) (disable_came k read.world s read.came) s)
 
   -- all that a turn leads to
-  unfoldable pub after_turn : World R → Turn → Done R
-  after_turn w Ended = record { world = w; requests = None }
-  after_turn w (Calls frame target) = then_frame (request k answers w target) frame
+  unfoldable pub after_turn : World R → Turn → Ran R
+  after_turn w (Ended outcome) = record { world = w; requests = None; outcome = outcome }
+  after_turn w (Calls frame target) = then_frame (as_request (asked_ran w frame.source target)) frame
 
   -- and then all frames, the newest first
-  abbrev pub then_frames : Done R → List Frame → Done R
-  then_frames done [] = done
-  then_frames done (frame ∷ frames) = then_frames (then_frame done frame) frames
+  abbrev pub then_frames : Ran R → List Frame → Ran R
+  then_frames ran [] = ran
+  then_frames ran (frame ∷ frames) = then_frames (then_frame (as_request ran) frame) frames
 
 -- the code has come from the tally `before` and these requests to `counts` and what is left
-pub record Goes {R : Type 0} (before counts : Tally) (done left : Done R) : Type 0 where
-  pub world : done.world ≡ left.world
-  pub tally : counted before done.requests ≡ counted counts left.requests
+pub record Goes {R : Type 0} (before counts : Tally) (ran left : Ran R) : Type 0 where
+  pub world : ran.world ≡ left.world
+  pub outcome : ran.outcome ≡ left.outcome
+  pub tally : counted before ran.requests ≡ counted counts left.requests

@@ -8,12 +8,12 @@ use Rattle.ioc_fields.specs.declared.field_no.FieldNo.TheVariants.{Common as Com
 use Rattle.ioc_fields.specs.declared.field_no.OwnField.TheVariants.{Lnk}
 use Rattle.ioc_fields.specs.declared.field_no.CommonField.TheVariants.{Proc}
 use Rattle.ioc_fields.specs.declared.field_no.Slot.{Slot}
-use Rattle.ioc_record.specs.declared.link_field.LinkField.{LinkField}
-use Rattle.ioc_record.specs.declared.link_field.LinkUse.{LinkUse}
-use Rattle.ioc_record.specs.declared.link_field.LinkUse.TheVariants.{Unused, Standing}
-use Rattle.ioc_record.specs.declared.link_field.StandingLink.{StandingLink}
-use Rattle.ioc_record.specs.Links.{use_of}
-use Rattle.ioc_record.specs.Steps.{inherited, is_passive}
+use Rattle.ioc_common.specs.declared.link_field.LinkField.{LinkField}
+use Rattle.ioc_common.specs.declared.link_field.LinkUse.{LinkUse}
+use Rattle.ioc_common.specs.declared.link_field.LinkUse.TheVariants.{Unused, Standing}
+use Rattle.ioc_common.specs.declared.link_field.StandingLink.{StandingLink}
+use Rattle.ioc_common.specs.Links.{use_of}
+use Rattle.ioc_common.specs.Steps.{inherited, is_passive}
 use Rattle.ioc_record.specs.RecordRules.{RecordRules}
 use Rattle.ioc_process.specs.World.{World, at, common_at, changed}
 

@@ -3,7 +3,7 @@ use crate::reply::Reply;
 use ioc_device::Answer;
 use ioc_fields::FieldNo;
 use ioc_names::RecordNo;
-use ioc_values::Input;
+use ioc_values::{Finished, Input};
 
 /// An event of a database, with what its caller gives.
 #[derive(Clone, Copy, PartialEq, Eq)]
@@ -14,6 +14,8 @@ pub enum Event {
     Process(RecordNo),
     /// A value is put into a field.
     Put(RecordNo, FieldNo, Input),
+    /// The device of a record has answered at last, to the wait of this number.
+    Complete(RecordNo, u64, Finished),
 }
 
 /// An event that was done: when, what devices answered in it, and the reply.

@@ -3,38 +3,36 @@ ghost use Rattle.std.specs.Prelude.{◌≡◌, ◌≤◌, ◌<◌, ◌+◌, ◌-
 ghost use Rattle.std.specs.FinMap.{len};
 ghost use Rattle.std.specs.Vec.{vec_capacity};
 ghost use Rattle.ioc_device.specs.declared.Answer.{Answer};
-ghost use Rattle.ioc_ledger.specs.Requests.{first_outcome};
-ghost use Rattle.ioc_process.specs.World.{Has, common_at, idle, IsClosed, Keeps};
-ghost use Rattle.ioc_process.specs.Runs.{Begins, ForAnswers, Leaves, IsStanding};
-ghost use Rattle.ioc_record.specs.declared.body.Output.TheVariants.{WriteLink};
-ghost use Rattle.ioc_record.specs.declared.link_field.LinkUse.TheVariants.{Standing};
-ghost use Rattle.ioc_process.specs.Processing.{request, completed, body, read_link, read_record, faulted, finished, after_output, put_out, write_link, wrote, after_writing, followed_each};
-ghost use Rattle.ioc_process.specs.Frames.{went_on, then_finished, remaining, after_reading, after_turn, turn_of, Opens, calls_left, most_calls, FrameStands, Turns, Goes};
+ghost use Rattle.ioc_process.specs.World.{Has, common_at, IsClosed};
+ghost use Rattle.ioc_process.specs.Given.{Begins};
+ghost use Rattle.ioc_process.specs.Runs.{ForAnswers, IsStanding};
+ghost use Rattle.ioc_common.specs.declared.body.Output.TheVariants.{WriteLink};
+ghost use Rattle.ioc_common.specs.declared.link_field.LinkUse.TheVariants.{Standing};
+ghost use Rattle.ioc_process.specs.Processing.{processed, request, completed, faulted, finished, after_output, put_out, write_link, wrote, after_writing, followed_each};
+ghost use Rattle.ioc_process.specs.Frames.{then_finished, remaining, after_turn, turn_of, Opens, Turns};
 
-use crate::frames::{Frame, Place};
+use crate::frames::{Frame, Next, Place};
 use crate::inputs::fault_link;
 use crate::outbox::OutboxItem;
 use crate::outputs::{Written, is_chosen, link_at, passive_target, write_device, write_value};
-use crate::steps::{common, raise, set_active, show, take};
+use crate::steps::{common, raise, rest, set_active, show, take};
 use crate::store::Store;
+use ioc_common::{Got, LinkUse, Output, StandingLink};
 use ioc_fields::Slot;
+use ioc_ledger::Outcome;
 use ioc_menus::{Severity, Status};
 use ioc_names::RecordNo;
-use ioc_record::{Got, LinkUse, Output, RecordKind, StandingLink};
+use ioc_record::RecordKind;
 use ioc_values::Value;
 
-/// A record shows its alarms, and goes on to its forward link: the answer is the record that it requests.
+/// A record shows its alarms, and goes on to its forward link: the answer is what comes next.
 #[inline(always)]
-pub fn finish<S: Store>(
-    store: &mut S,
-    frames: &mut Vec<Frame>,
-    number: RecordNo,
-) -> Option<RecordNo>
+pub fn finish<S: Store>(store: &mut S, frames: &mut Vec<Frame>, number: RecordNo) -> Next
     requires there { Has (S.world store.old) number }
     requires closed { IsClosed S.Record.rules (S.world store.old) }
     requires is_idle { (common_at S.Record.rules (S.world store.old) number).active ≡ false }
     requires room { vec_len frames.old < vec_capacity frames.old }
-    ensures turn { (answers : List Answer) → finished S.Record.rules (request S.Record.rules answers) (S.world store.old) number
+    ensures turn { (answers : List Answer) → processed (finished S.Record.rules (request S.Record.rules answers) (S.world store.old) number)
         ≡ after_turn S.Record.rules answers (S.world store.new) (turn_of frames.new.items result) }
     ensures given { S.given store.new ≡ S.given store.old }
     ensures turns { Turns S.Record.rules (S.world store.old) (S.world store.new) 0 1 (turn_of frames.new.items result) }
@@ -50,26 +48,22 @@ pub fn finish<S: Store>(
                 source: number,
                 place: Place::Following,
             });
-            Some(target)
+            Next::Requests(target)
         }
         None => {
-            set_active(store, number, false);
-            None
+            rest(store, number);
+            Next::Ends(Outcome::Processed)
         }
     }
 }
 
 /// A record raises an alarm for its output link, and finishes.
-pub fn finish_with_fault<S: Store>(
-    store: &mut S,
-    frames: &mut Vec<Frame>,
-    number: RecordNo,
-) -> Option<RecordNo>
+pub fn finish_with_fault<S: Store>(store: &mut S, frames: &mut Vec<Frame>, number: RecordNo) -> Next
     requires there { Has (S.world store.old) number }
     requires closed { IsClosed S.Record.rules (S.world store.old) }
     requires is_idle { (common_at S.Record.rules (S.world store.old) number).active ≡ false }
     requires room { vec_len frames.old < vec_capacity frames.old }
-    ensures turn { (answers : List Answer) → finished S.Record.rules (request S.Record.rules answers) (faulted S.Record.rules (S.world store.old) number) number
+    ensures turn { (answers : List Answer) → processed (finished S.Record.rules (request S.Record.rules answers) (faulted S.Record.rules (S.world store.old) number) number)
         ≡ after_turn S.Record.rules answers (S.world store.new) (turn_of frames.new.items result) }
     ensures given { S.given store.new ≡ S.given store.old }
     ensures turns { Turns S.Record.rules (S.world store.old) (S.world store.new) 0 1 (turn_of frames.new.items result) }
@@ -87,14 +81,14 @@ pub fn write_record<S: Store>(
     number: RecordNo,
     target: StandingLink,
     value: Value,
-) -> Option<RecordNo>
+) -> Next
     requires there { Has (S.world store.old) number }
     requires closed { IsClosed S.Record.rules (S.world store.old) }
     requires is_idle { (common_at S.Record.rules (S.world store.old) number).active ≡ false }
     requires room { vec_len frames.old < vec_capacity frames.old }
     requires standing { Has (S.world store.old) target.number }
-    ensures turn { (answers : List Answer) → then_finished S.Record.rules answers number
-        (after_writing S.Record.rules (request S.Record.rules answers) (wrote S.Record.rules (S.world store.old) number target value) number target) ≡ after_turn S.Record.rules answers (S.world store.new) (turn_of frames.new.items result) }
+    ensures turn { (answers : List Answer) → processed (then_finished S.Record.rules answers number
+        (after_writing S.Record.rules (request S.Record.rules answers) (wrote S.Record.rules (S.world store.old) number target value) number target)) ≡ after_turn S.Record.rules answers (S.world store.new) (turn_of frames.new.items result) }
     ensures given { S.given store.new ≡ S.given store.old }
     ensures turns { Turns S.Record.rules (S.world store.old) (S.world store.new) 0 2 (turn_of frames.new.items result) }
     ensures opens { Opens frames.old.items frames.new.items result }
@@ -110,7 +104,7 @@ pub fn write_record<S: Store>(
                 source: number,
                 place: Place::Writing,
             });
-            Some(called)
+            Next::Requests(called)
         }
     }
 }
@@ -123,14 +117,14 @@ pub fn write_link<S: Store>(
     number: RecordNo,
     link: LinkUse,
     value: Value,
-) -> Option<RecordNo>
+) -> Next
     requires there { Has (S.world store.old) number }
     requires closed { IsClosed S.Record.rules (S.world store.old) }
     requires is_idle { (common_at S.Record.rules (S.world store.old) number).active ≡ false }
     requires room { vec_len frames.old < vec_capacity frames.old }
     requires standing { IsStanding (S.world store.old) link }
-    ensures turn { (answers : List Answer) → then_finished S.Record.rules answers number
-        (write_link S.Record.rules (request S.Record.rules answers) (S.world store.old) number link value) ≡ after_turn S.Record.rules answers (S.world store.new) (turn_of frames.new.items result) }
+    ensures turn { (answers : List Answer) → processed (then_finished S.Record.rules answers number
+        (write_link S.Record.rules (request S.Record.rules answers) (S.world store.old) number link value)) ≡ after_turn S.Record.rules answers (S.world store.new) (turn_of frames.new.items result) }
     ensures given { S.given store.new ≡ S.given store.old }
     ensures turns { Turns S.Record.rules (S.world store.old) (S.world store.new) 0 2 (turn_of frames.new.items result) }
     ensures opens { Opens frames.old.items frames.new.items result }
@@ -150,13 +144,13 @@ pub fn follow_each<S: Store>(
     number: RecordNo,
     links: u16,
     first: usize,
-) -> Option<RecordNo>
+) -> Next
     requires there { Has (S.world store.old) number }
     requires closed { IsClosed S.Record.rules (S.world store.old) }
     requires is_idle { (common_at S.Record.rules (S.world store.old) number).active ≡ false }
     requires room { vec_len frames.old < vec_capacity frames.old }
-    ensures turn { (answers : List Answer) → then_finished S.Record.rules answers number
-        (followed_each S.Record.rules (request S.Record.rules answers) (S.world store.old) number (remaining links first)) ≡ after_turn S.Record.rules answers (S.world store.new) (turn_of frames.new.items result) }
+    ensures turn { (answers : List Answer) → processed (then_finished S.Record.rules answers number
+        (followed_each S.Record.rules (request S.Record.rules answers) (S.world store.old) number (remaining links first))) ≡ after_turn S.Record.rules answers (S.world store.new) (turn_of frames.new.items result) }
     ensures given { S.given store.new ≡ S.given store.old }
     ensures turns { Turns S.Record.rules (S.world store.old) (S.world store.new) 0 ((16 - first) + 1) (turn_of frames.new.items result) }
     ensures opens { Opens frames.old.items frames.new.items result }
@@ -173,7 +167,7 @@ pub fn follow_each<S: Store>(
                     source: number,
                     place: Place::FollowingEach(links, next),
                 });
-                return Some(target);
+                return Next::Requests(target);
             }
         }
     }
@@ -187,16 +181,16 @@ pub fn put_out<S: Store>(
     frames: &mut Vec<Frame>,
     number: RecordNo,
     output: Output,
-) -> Option<RecordNo>
+) -> Next
     requires there { Has (S.world store.old) number }
     requires closed { IsClosed S.Record.rules (S.world store.old) }
     requires is_idle { (common_at S.Record.rules (S.world store.old) number).active ≡ false }
     requires room { vec_len frames.old < vec_capacity frames.old }
     requires standing { (t : StandingLink) (v : Value) → output ≡ WriteLink (Standing t) v → Has (S.world store.old) t.number }
     ensures turn { ForAnswers (S.given store.new) (λ answers.
-        after_output S.Record.rules (request S.Record.rules answers) number (put_out S.Record.rules answers (request S.Record.rules answers) (S.world store.old) number output)
+        processed (after_output S.Record.rules (request S.Record.rules answers) number (put_out S.Record.rules answers (request S.Record.rules answers) (S.world store.old) number output))
         ≡ after_turn S.Record.rules answers (S.world store.new) (turn_of frames.new.items result)) }
-    ensures given { Begins (S.given store.old) (S.given store.new) }
+    ensures given { Begins S.Device.gives (S.given store.old) (S.given store.new) }
     ensures turns { Turns S.Record.rules (S.world store.old) (S.world store.new) 0 17 (turn_of frames.new.items result) }
     ensures opens { Opens frames.old.items frames.new.items result }
     ensures room { vec_capacity frames.new ≡ vec_capacity frames.old }
@@ -204,11 +198,11 @@ pub fn put_out<S: Store>(
     match output {
         Output::NoOutput => finish(store, frames, number),
         Output::WriteLink(link, value) => write_link(store, frames, number, link, value),
-        Output::WriteDevice(_) => {
-            if write_device(store, number) {
+        Output::WriteDevice(value) => {
+            if write_device(store, number, value) {
                 finish(store, frames, number)
             } else {
-                None
+                Next::Ends(Outcome::Processed)
             }
         }
         Output::FollowLinks(links) => follow_each(store, frames, number, links, 0),
@@ -226,15 +220,15 @@ pub fn finish_body<S: Store>(
     frames: &mut Vec<Frame>,
     number: RecordNo,
     got: Got,
-) -> Option<RecordNo>
+) -> Next
     requires there { Has (S.world store.old) number }
     requires closed { IsClosed S.Record.rules (S.world store.old) }
     requires is_idle { (common_at S.Record.rules (S.world store.old) number).active ≡ false }
     requires room { vec_len frames.old < vec_capacity frames.old }
     ensures turn { ForAnswers (S.given store.new) (λ answers.
-        completed S.Record.rules answers (request S.Record.rules answers) (S.world store.old) number got
+        processed (completed S.Record.rules answers (request S.Record.rules answers) (S.world store.old) number got)
         ≡ after_turn S.Record.rules answers (S.world store.new) (turn_of frames.new.items result)) }
-    ensures given { Begins (S.given store.old) (S.given store.new) }
+    ensures given { Begins S.Device.gives (S.given store.old) (S.given store.new) }
     ensures turns { Turns S.Record.rules (S.world store.old) (S.world store.new) 0 17 (turn_of frames.new.items result) }
     ensures opens { Opens frames.old.items frames.new.items result }
     ensures room { vec_capacity frames.new ≡ vec_capacity frames.old }
@@ -244,19 +238,15 @@ pub fn finish_body<S: Store>(
 }
 
 /// A body goes on whose link gave a fault.
-pub fn take_fault<S: Store>(
-    store: &mut S,
-    frames: &mut Vec<Frame>,
-    number: RecordNo,
-) -> Option<RecordNo>
+pub fn take_fault<S: Store>(store: &mut S, frames: &mut Vec<Frame>, number: RecordNo) -> Next
     requires there { Has (S.world store.old) number }
     requires closed { IsClosed S.Record.rules (S.world store.old) }
     requires is_idle { (common_at S.Record.rules (S.world store.old) number).active ≡ false }
     requires room { vec_len frames.old < vec_capacity frames.old }
     ensures turn { ForAnswers (S.given store.new) (λ answers.
-        completed S.Record.rules answers (request S.Record.rules answers) (faulted S.Record.rules (S.world store.old) number) number Got.Fault
+        processed (completed S.Record.rules answers (request S.Record.rules answers) (faulted S.Record.rules (S.world store.old) number) number Got.Fault)
         ≡ after_turn S.Record.rules answers (S.world store.new) (turn_of frames.new.items result)) }
-    ensures given { Begins (S.given store.old) (S.given store.new) }
+    ensures given { Begins S.Device.gives (S.given store.old) (S.given store.new) }
     ensures turns { Turns S.Record.rules (S.world store.old) (S.world store.new) 0 17 (turn_of frames.new.items result) }
     ensures opens { Opens frames.old.items frames.new.items result }
     ensures room { vec_capacity frames.new ≡ vec_capacity frames.old }

@@ -4,18 +4,20 @@ ghost use Rattle.ioc_record.specs.Values.{put_untested};
 ghost use Rattle.ioc_values.specs.declared.input.Input.TheVariants.{Value as InputValue};
 ghost use Rattle.ioc_device.specs.declared.Answer.{Answer};
 ghost use Rattle.ioc_process.specs.World.{Has, at, put, common_at, Keeps, Stays};
-ghost use Rattle.ioc_process.specs.Runs.{Begins, ForAnswers, HasWritten, HasPutOut, IsStanding, how_written};
+ghost use Rattle.ioc_process.specs.Given.{Begins};
+ghost use Rattle.ioc_process.specs.Runs.{ForAnswers, HasWritten, HasPutOut, IsStanding, how_written};
 ghost use Rattle.ioc_process.specs.Links.{is_chosen, is_proc, link_at, passive_named};
 ghost use Rattle.ioc_process.specs.Processing.{stored_at, wrote, acknowledged, write_device};
 
 use crate::inputs::can_ask;
 use crate::steps::{common, inherit, passes_on, passive, raise, wait};
 use crate::store::Store;
-use ioc_device::Answer;
+use ioc_common::{LinkUse, StandingLink};
+use ioc_device::{Answer, Ask};
 use ioc_fields::{CommonField, FieldNo, OwnField, Slot};
 use ioc_menus::{Severity, Status};
 use ioc_names::RecordNo;
-use ioc_record::{LinkUse, RecordKind, StandingLink, put_untested};
+use ioc_record::{RecordKind, put_untested};
 use ioc_values::{Input, IocError, Value};
 
 /// Is the field PROC? A put to it processes the record.
@@ -172,16 +174,16 @@ fn acknowledge<S: Store>(store: &mut S, number: RecordNo, answer: Answer) -> boo
 }
 
 /// A record writes its device; no, where that answers later.
-pub fn write_device<S: Store>(store: &mut S, number: RecordNo) -> bool
+pub fn write_device<S: Store>(store: &mut S, number: RecordNo, value: Value) -> bool
     requires { Has (S.world store.old) number }
     ensures out { ForAnswers (S.given store.new) (λ answers.
-        HasPutOut (S.world store.new) result (write_device S.Record.rules answers (S.world store.old) number)) }
+        HasPutOut (S.world store.new) result (write_device S.Record.rules answers (S.world store.old) number value)) }
     ensures keeps { Keeps S.Record.rules (S.world store.old) (S.world store.new) }
     ensures stays { IsTrue result → Stays S.Record.rules (S.world store.old) number (S.world store.new) }
-    ensures given { Begins (S.given store.old) (S.given store.new) }
+    ensures given { Begins S.Device.gives (S.given store.old) (S.given store.new) }
 {
     if can_ask(store, number) {
-        let answer = store.ask(number);
+        let answer = store.ask(number, Ask::Write(value));
         acknowledge(store, number, answer)
     } else {
         acknowledge(store, number, Answer::Fault)

@@ -4,10 +4,10 @@ use crate::steps::Step::{
     Raised, Set, SetRefused, Stands, Take, Test,
 };
 use crate::steps::{Came, Does, SHOW, Step, Wants, follow};
+use ioc_common::InputKind;
 use ioc_fields::{FieldNo, OwnField};
 use ioc_links::Mode;
-use ioc_record::{Common, InputKind, Record};
-use ioc_values::{IocError, Name, Range};
+use ioc_values::{IocError, Range};
 use rec_binary::Bi;
 
 const INP: FieldNo = FieldNo::Own(OwnField::Inp);
@@ -162,9 +162,5 @@ static TESTS: [Step<'static>; 138] = [
 
 #[test]
 fn bi(rt: HostRuntime) {
-    let fresh = Record {
-        common: Common::new(Name::cut(b"door")),
-        body: Bi::new(),
-    };
-    follow(&rt, fresh, &TESTS);
+    follow::<Bi>(&rt, rt.alloc(), "door", &TESTS);
 }

@@ -4,10 +4,10 @@ use crate::steps::Step::{
     Raised, ReadAsNumber, ReadAsText, Set, SetRefused, Stands, Take, Test,
 };
 use crate::steps::{Came, Does, SHOW, Step, Wants, follow};
+use ioc_common::InputKind;
 use ioc_fields::{FieldNo, OwnField};
 use ioc_links::Mode;
-use ioc_record::{Common, InputKind, Record};
-use ioc_values::{IocError, Name, Range};
+use ioc_values::{IocError, Range};
 use rec_binary::Bo;
 
 const OUT: FieldNo = FieldNo::Own(OwnField::Out);
@@ -264,9 +264,5 @@ static TESTS: [Step<'static>; 235] = [
 
 #[test]
 fn bo(rt: HostRuntime) {
-    let fresh = Record {
-        common: Common::new(Name::cut(b"valve")),
-        body: Bo::new(),
-    };
-    follow(&rt, fresh, &TESTS);
+    follow::<Bo>(&rt, rt.alloc(), "valve", &TESTS);
 }

@@ -3,19 +3,13 @@ use crate::steps::Step::{
     Begin, Converts, Has, Load, Put, PutRefused, Set, SetRefused, Stands, Take, Test,
 };
 use crate::steps::{Came, Does, Step, Wants, follow};
+use ioc_common::{InputKind, Kept};
 use ioc_fields::{FieldNo, OwnField, Slot};
 use ioc_links::Mode;
-use ioc_record::{Common, InputKind, Kept, Record, RecordBody};
-use ioc_values::{IocError, Name, Range, Value};
+use ioc_record::RecordBody;
+use ioc_values::{IocError, Range, Value};
 use rec_flow::Fanout;
 use std::test::Fail;
-
-fn new() -> Record<Fanout> {
-    Record {
-        common: Common::new(Name::cut(b"all")),
-        body: Fanout::new(),
-    }
-}
 
 static TESTS: [Step<'static>; 52] = [
     // UDF becomes 0, and no alarm of an undefined value is raised.
@@ -76,7 +70,7 @@ static TESTS: [Step<'static>; 52] = [
 
 #[test]
 fn fanout(rt: HostRuntime) {
-    follow(&rt, new(), &TESTS);
+    follow::<Fanout>(&rt, rt.alloc(), "all", &TESTS);
 }
 
 // SELM, SELN, OFFS, SHFT; the links that are followed; the alarm.
@@ -114,7 +108,7 @@ fn links_chosen(rt: HostRuntime) {
             Take(Came::Nothing, Does::Follow(*links)),
             Has("NSTA", *alarm),
         ];
-        follow(&rt, new(), &steps);
+        follow::<Fanout>(&rt, rt.alloc(), "all", &steps);
     }
 }
 

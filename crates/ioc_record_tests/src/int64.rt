@@ -3,8 +3,8 @@ use crate::steps::Step::{
     Begin, Converts, Has, Lists, Load, Put, PutRefused, Raised, Set, Shows, Take, Test,
 };
 use crate::steps::{Came, Does, Step, Wants, follow};
-use ioc_record::{Common, InputKind, Record};
-use ioc_values::{IocError, Name, Range};
+use ioc_common::InputKind;
+use ioc_values::{IocError, Range};
 use rec_numeric::{Int64in, Int64out};
 
 const TAKE_NOTHING: Step<'static> = Take(Came::Nothing, Does::Nothing);
@@ -110,18 +110,10 @@ static OUTPUT: [Step<'static>; 27] = [
 
 #[test]
 fn int64in(rt: HostRuntime) {
-    let fresh = Record {
-        common: Common::new(Name::cut(b"count")),
-        body: Int64in::new(),
-    };
-    follow(&rt, fresh, &INPUT);
+    follow::<Int64in>(&rt, rt.alloc(), "count", &INPUT);
 }
 
 #[test]
 fn int64out(rt: HostRuntime) {
-    let fresh = Record {
-        common: Common::new(Name::cut(b"goal")),
-        body: Int64out::new(),
-    };
-    follow(&rt, fresh, &OUTPUT);
+    follow::<Int64out>(&rt, rt.alloc(), "goal", &OUTPUT);
 }

@@ -4,10 +4,10 @@ use crate::steps::Step::{
     Test,
 };
 use crate::steps::{Act, Came, Does, SHOW, Step, Wants, follow};
+use ioc_common::InputKind;
 use ioc_fields::{FieldNo, OwnField};
 use ioc_menus::{Severity, Status};
-use ioc_record::{Common, InputKind, Record};
-use ioc_values::{Name, Range};
+use ioc_values::Range;
 use rec_numeric::Longin;
 
 const TAKE_NOTHING: Step<'static> = Take(Came::Nothing, Does::Nothing);
@@ -154,9 +154,5 @@ static TESTS: [Step<'static>; 129] = [
 
 #[test]
 fn longin(rt: HostRuntime) {
-    let fresh = Record {
-        common: Common::new(Name::cut(b"level")),
-        body: Longin::new(),
-    };
-    follow(&rt, fresh, &TESTS);
+    follow::<Longin>(&rt, rt.alloc(), "level", &TESTS);
 }

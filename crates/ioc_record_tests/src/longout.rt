@@ -4,10 +4,10 @@ use crate::steps::Step::{
     SetRefused, Stands, Take, Test,
 };
 use crate::steps::{Came, Does, Step, Wants, follow};
+use ioc_common::InputKind;
 use ioc_fields::{FieldNo, OwnField};
 use ioc_links::Mode;
-use ioc_record::{Common, InputKind, Record};
-use ioc_values::{IocError, Name, Range};
+use ioc_values::{IocError, Range};
 use rec_numeric::Longout;
 
 const OUT: FieldNo = FieldNo::Own(OwnField::Out);
@@ -135,9 +135,5 @@ static TESTS: [Step<'static>; 114] = [
 
 #[test]
 fn longout(rt: HostRuntime) {
-    let fresh = Record {
-        common: Common::new(Name::cut(b"pump")),
-        body: Longout::new(),
-    };
-    follow(&rt, fresh, &TESTS);
+    follow::<Longout>(&rt, rt.alloc(), "pump", &TESTS);
 }

@@ -4,10 +4,10 @@ use crate::steps::Step::{
     ReadAsNumber, Set, SetRefused, Stands, Take, Test,
 };
 use crate::steps::{Came, Does, SHOW, Step, Wants, follow};
+use ioc_common::InputKind;
 use ioc_fields::{FieldNo, OwnField};
 use ioc_links::Mode;
-use ioc_record::{Common, InputKind, Record};
-use ioc_values::{IocError, Name, Range};
+use ioc_values::{IocError, Range};
 use rec_multi::{Mbbi, Mbbo};
 
 const INP: FieldNo = FieldNo::Own(OwnField::Inp);
@@ -302,18 +302,10 @@ static OUTPUT: [Step<'static>; 98] = [
 
 #[test]
 fn mbbi(rt: HostRuntime) {
-    let fresh = Record {
-        common: Common::new(Name::cut(b"mode")),
-        body: Mbbi::new(),
-    };
-    follow(&rt, fresh, &INPUT);
+    follow::<Mbbi>(&rt, rt.alloc(), "mode", &INPUT);
 }
 
 #[test]
 fn mbbo(rt: HostRuntime) {
-    let fresh = Record {
-        common: Common::new(Name::cut(b"select")),
-        body: Mbbo::new(),
-    };
-    follow(&rt, fresh, &OUTPUT);
+    follow::<Mbbo>(&rt, rt.alloc(), "select", &OUTPUT);
 }

@@ -3,10 +3,11 @@ use crate::steps::Step::{
     Do, Has, Load, MayPut, Put, PutByLink, PutRefused, Raised, Set, SetRefused, Shows, Test,
 };
 use crate::steps::{Act, BLOCK, SHOW, Step, follow};
+use ioc_common::{InputKind, KeptLink, LinkField, LinkUse, disable_kind};
 use ioc_links::Mode;
 use ioc_menus::{Severity, Status};
-use ioc_record::{Common, InputKind, LinkField, LinkUse, Record, convert_to, disable_kind};
-use ioc_values::{IocError, Name, Range, Text, Value};
+use ioc_record::convert_to;
+use ioc_values::{IocError, Range, Text, Value};
 use rec_numeric::Longin;
 
 static TESTS: [Step<'static>; 188] = [
@@ -209,12 +210,9 @@ static TESTS: [Step<'static>; 188] = [
 
 #[test]
 fn every_record(rt: HostRuntime) {
-    let fresh = Record {
-        common: Common::new(Name::cut(b"level")),
-        body: Longin::new(),
-    };
-    follow(&rt, fresh, &TESTS);
+    follow::<Longin>(&rt, rt.alloc(), "level", &TESTS);
     assert!(rt; LinkField::empty().in_use() == LinkUse::Unused);
+    assert!(rt; KeptLink::empty().get() == LinkField::empty());
     assert!(rt; disable_kind() == InputKind::Number(Range::Short));
 }
 

@@ -1,14 +1,18 @@
 //! Tests of one record as lists of steps, each with what must come of it. One list holds all tests of a type, since
 //! a list costs the prover little and a function much.
+use ioc_common::{
+    Common, FieldAddress, Fresh, Got, InputKind, KeptLink, Lead, LinkUse, Output, StandingLink,
+    Want,
+};
 use ioc_fields::{FieldNo, OwnField, field};
 use ioc_links::Mode;
 use ioc_menus::{Severity, Status};
 use ioc_names::RecordNo;
 use ioc_record::{
-    Common, FieldAddress, Got, InputKind, Lead, LinkUse, Output, RecordKind, StandingLink, Want,
-    put_field, put_untested, read_as, set_field, test_put, text_of,
+    Record, RecordBody, RecordKind, put_field, put_untested, read_as, set_field, test_put, text_of,
 };
-use ioc_values::{Finished, Input, IocError, Range, Text, Value};
+use ioc_values::{Finished, Input, IocError, Name, Range, Text, Value};
+use std::alloc::Global;
 use std::process::Abort;
 
 /// What comes to a body.
@@ -140,9 +144,9 @@ fn at<K: RecordKind>(item: &K, name: &str) -> Result<FieldNo, IocError> {
     field(item.record_type(), name.as_bytes()).ok_or(IocError::NoField)
 }
 
-fn set<K: RecordKind>(item: &mut K, name: &str, text: &str) -> Result<(), IocError> {
+fn set<K: RecordKind>(alloc: Global, item: &mut K, name: &str, text: &str) -> Result<(), IocError> {
     let field = at(item, name)?;
-    set_field(item, field, text.as_bytes())
+    set_field(alloc, item, field, text.as_bytes())
 }
 
 fn put<K: RecordKind>(item: &mut K, name: &str, input: Input) -> Result<(), IocError> {
@@ -164,15 +168,18 @@ fn read<K: RecordKind>(item: &K, name: &str, kind: InputKind) -> Result<Value, I
 }
 
 // The link of the field leads there.
-fn lead_on<K: RecordKind>(item: &mut K, field: FieldNo, lead: Lead) -> bool {
-    match item.link(field) {
-        Some(link) => {
-            let mut link = *link;
-            link.lead = lead;
-            item.set_link(field, link);
+fn lead_on<K: RecordKind>(alloc: Global, item: &mut K, field: FieldNo, lead: Lead) -> bool {
+    let Some(kept) = item.link(field) else {
+        return false;
+    };
+    let mut link = kept.get();
+    link.lead = lead;
+    match KeptLink::new(alloc, link) {
+        Ok(kept) => {
+            item.set_link(field, kept);
             true
         }
-        None => false,
+        Err(_) => false,
     }
 }
 
@@ -289,11 +296,11 @@ fn is_read(found: Result<Value, IocError>, wanted: Value) -> bool {
 }
 
 // A step on fields, or on what every record has.
-fn holds<K: RecordKind>(item: &mut K, step: &Step<'_>) -> bool {
+fn holds<K: RecordKind>(alloc: Global, item: &mut K, step: &Step<'_>) -> bool {
     match step {
         Step::Test(_) => true,
-        Step::Set(name, text) => set(item, name, text).is_ok(),
-        Step::SetRefused(name, text, fault) => is_refused(set(item, name, text), *fault),
+        Step::Set(name, text) => set(alloc, item, name, text).is_ok(),
+        Step::SetRefused(name, text, fault) => is_refused(set(alloc, item, name, text), *fault),
         Step::Put(name, text) => put(item, name, Input::from_text(text.as_bytes())).is_ok(),
         Step::PutRefused(name, text, fault) => {
             is_refused(put(item, name, Input::from_text(text.as_bytes())), *fault)
@@ -315,19 +322,19 @@ fn holds<K: RecordKind>(item: &mut K, step: &Step<'_>) -> bool {
         Step::Raised(status, severity) => {
             has_text(item, "NSTA", status) && has_text(item, "NSEV", severity)
         }
-        step => type_holds(item, step),
+        step => type_holds(alloc, item, step),
     }
 }
 
 // A step of the record's type.
-fn type_holds<K: RecordKind>(item: &mut K, step: &Step<'_>) -> bool {
+fn type_holds<K: RecordKind>(alloc: Global, item: &mut K, step: &Step<'_>) -> bool {
     match step {
         Step::Load => {
             item.load();
             true
         }
-        Step::Stands(field) => lead_on(item, *field, there()),
-        Step::OwnsDevice(field) => lead_on(item, *field, Lead::OwnDevice),
+        Step::Stands(field) => lead_on(alloc, item, *field, there()),
+        Step::OwnsDevice(field) => lead_on(alloc, item, *field, Lead::OwnDevice),
         Step::Begin(wants) => item.begin() == want(*wants),
         Step::Take(came, does) => item.take(got(*came)) == output(*does),
         Step::Answer(number) => {
@@ -350,18 +357,24 @@ fn type_holds<K: RecordKind>(item: &mut K, step: &Step<'_>) -> bool {
     }
 }
 
-/// Goes through the tests of a list of steps, each with a fresh record.
-pub fn follow<K: RecordKind + Copy>(rt: &impl Abort, fresh: K, steps: &[Step<'_>]) {
-    let mut item = fresh;
+/// Goes through the tests of a list of steps, each with a new record of the type.
+pub fn follow<B: RecordBody + Fresh + Drop>(
+    rt: &impl Abort,
+    alloc: Global,
+    record_name: &str,
+    steps: &[Step<'_>],
+) {
+    let fresh_name = Name::cut(record_name.as_bytes());
+    let mut item = Record::new(fresh_name, B::fresh());
     let mut name = "";
     let mut number = 0u64;
     for step in steps {
         if let Step::Test(test) = step {
-            item = fresh;
+            item = Record::new(fresh_name, B::fresh());
             name = *test;
             number = 0;
         }
-        assert!(rt; holds(&mut item, step), "{name}, step {number}");
+        assert!(rt; holds(alloc, &mut item, step), "{name}, step {number}");
         number = number.saturating_add(1);
     }
 }

@@ -3,10 +3,10 @@ use crate::steps::Step::{
     Begin, Converts, Has, Lists, Load, OwnsDevice, Put, Raised, Set, SetRefused, Stands, Take, Test,
 };
 use crate::steps::{Came, Does, Step, Wants, follow};
+use ioc_common::InputKind;
 use ioc_fields::{FieldNo, OwnField};
 use ioc_links::Mode;
-use ioc_record::{Common, InputKind, Record};
-use ioc_values::{IocError, Name};
+use ioc_values::IocError;
 use rec_flow::Event;
 use rec_text::{Stringin, Stringout};
 
@@ -15,10 +15,6 @@ const INP: FieldNo = FieldNo::Own(OwnField::Inp);
 const OUT: FieldNo = FieldNo::Own(OwnField::Out);
 
 const DOL: FieldNo = FieldNo::Own(OwnField::Dol);
-
-fn common(name: &str) -> Common {
-    Common::new(Name::cut(name.as_bytes()))
-}
 
 static STRINGIN: [Step<'static>; 42] = [
     // The alarm of an undefined value, until a text comes.
@@ -69,11 +65,7 @@ static STRINGIN: [Step<'static>; 42] = [
 
 #[test]
 fn stringin(rt: HostRuntime) {
-    let fresh = Record {
-        common: common("text"),
-        body: Stringin::new(),
-    };
-    follow(&rt, fresh, &STRINGIN);
+    follow::<Stringin>(&rt, rt.alloc(), "text", &STRINGIN);
 }
 
 static STRINGOUT: [Step<'static>; 56] = [
@@ -139,11 +131,7 @@ static STRINGOUT: [Step<'static>; 56] = [
 
 #[test]
 fn stringout(rt: HostRuntime) {
-    let fresh = Record {
-        common: common("text"),
-        body: Stringout::new(),
-    };
-    follow(&rt, fresh, &STRINGOUT);
+    follow::<Stringout>(&rt, rt.alloc(), "text", &STRINGOUT);
 }
 
 static EVENT: [Step<'static>; 25] = [
@@ -178,9 +166,5 @@ static EVENT: [Step<'static>; 25] = [
 
 #[test]
 fn event(rt: HostRuntime) {
-    let fresh = Record {
-        common: common("event"),
-        body: Event::new(),
-    };
-    follow(&rt, fresh, &EVENT);
+    follow::<Event>(&rt, rt.alloc(), "event", &EVENT);
 }

@@ -1,7 +1,6 @@
-//! `ioc-replay DB SCRIPT`: loads a database text, does a script to it, and prints a line for each reply.
+//! `ioc-replay DB SCRIPT [NAME=VALUE]..`: loads a database text with these macros, does a script to it, and prints a line for each reply.
 #![tactic(auto)]
 
-use ioc_dbfile::macros::Macros;
 use ioc_main::{Arguments, Ending, RunFault, Stream, run, whole_run};
 use std::env;
 use std::fs::{self, File};
@@ -9,11 +8,11 @@ use std::io::{self, BufWriter, Write};
 use std::process::ExitCode;
 
 fn replay(rt: &HostRuntime) -> Result<(), RunFault> {
-    let files = Arguments::from_words(env::args(rt))?;
+    let files = Arguments::from_words(rt.alloc(), env::args(rt))?;
     let text = fs::read(rt, files.db.as_str())?;
     let script = File::open(rt, files.script.as_str())?;
     let mut out = BufWriter::new(rt.alloc(), io::writer(rt))?;
-    let ran = run(rt.alloc(), &text, &Macros::new(), script, &mut out);
+    let ran = run(rt.alloc(), &text, &files.macros, script, &mut out);
     whole_run(ran, out.flush())
 }
 

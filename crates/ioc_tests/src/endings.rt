@@ -5,16 +5,38 @@ use std::alloc::Global;
 use std::io;
 use std::test::Fail;
 
-// Words, and the files that are taken from them; none where they are refused.
-static WORDS: [(&[&str], Option<(&str, &str)>); 5] = [
+// Words that are taken, the files that they name, and what a macro A stands for then.
+static WORDS: [(&[&str], &str, &str, Option<&str>); 5] = [
     (
         &["ioc-replay", "a.db", "b.script"],
-        Some(("a.db", "b.script")),
+        "a.db",
+        "b.script",
+        None,
     ),
-    (&[], None),
-    (&["ioc-replay"], None),
-    (&["ioc-replay", "a.db"], None),
-    (&["ioc-replay", "a.db", "b.script", "c"], None),
+    (&["ioc-replay", "a", "b", "A=1"], "a", "b", Some("1")),
+    (
+        &["ioc-replay", "a", "b", "A=", "B_2=x=y", "A=1=2"],
+        "a",
+        "b",
+        Some("1=2"),
+    ),
+    (&["ioc-replay", "a", "b", "A="], "a", "b", Some("")),
+    (&["ioc-replay", "a", "b", "B_2=--help"], "a", "b", None),
+];
+
+// Words that are not taken, and why.
+static REFUSED: [(&[&str], RunFault); 11] = [
+    (&[], RunFault::Usage),
+    (&["ioc-replay"], RunFault::Usage),
+    (&["ioc-replay", "a.db"], RunFault::Usage),
+    (&["ioc-replay", "a.db", "b.script", "c"], RunFault::Usage),
+    (&["ioc-replay", "a", "b", "A=1", "c"], RunFault::Usage),
+    (&["ioc-replay", "a", "b", "=1"], RunFault::Usage),
+    (&["ioc-replay", "a", "b", "A-B=1"], RunFault::Usage),
+    (&["ioc-replay", "a", "b", "--helpful"], RunFault::Usage),
+    (&["ioc-replay", "--help"], RunFault::Help),
+    (&["ioc-replay", "a", "--version"], RunFault::Version),
+    (&["ioc-replay", "a", "b", "A=1", "--help"], RunFault::Help),
 ];
 
 fn strings(alloc: Global, words: &[&str]) -> Result<Vec<String>, Fail> {
@@ -25,29 +47,53 @@ fn strings(alloc: Global, words: &[&str]) -> Result<Vec<String>, Fail> {
     Ok(all)
 }
 
-fn are_taken(words: Vec<String>, wanted: Option<(&str, &str)>) -> bool {
-    match (Arguments::from_words(Ok(words.into_iter())), wanted) {
-        (Ok(files), Some((db, script))) => {
-            files.db.as_str() == db && files.script.as_str() == script
+fn are_taken(
+    alloc: Global,
+    words: Vec<String>,
+    db: &str,
+    script: &str,
+    value: Option<&str>,
+) -> bool {
+    match Arguments::from_words(alloc, Ok(words.into_iter())) {
+        Ok(files) => {
+            files.db.as_str() == db
+                && files.script.as_str() == script
+                && files.macros.value_of(b"A") == value.map(|value| value.as_bytes())
         }
-        (Err(RunFault::Usage), None) => true,
-        _ => false,
+        Err(_) => false,
     }
 }
 
 #[test]
-fn a_program_name_and_two_words(rt: HostRuntime) -> Result<(), Fail> {
-    let mut row = 0u64;
-    for (words, wanted) in &WORDS {
-        let words = strings(rt.alloc(), words)?;
-        assert!(rt; are_taken(words, *wanted), "row {row}, counted from 0");
-        row = row.saturating_add(1);
+fn words_that_are_taken(rt: HostRuntime) -> Result<(), Fail> {
+    for (words, db, script, value) in &WORDS {
+        let given = strings(rt.alloc(), words)?;
+        assert!(rt;
+            are_taken(rt.alloc(), given, db, script, *value),
+            "{words:?}"
+        );
     }
     Ok(())
 }
 
-fn is_refused(kind: io::ErrorKind, wanted: RunFault) -> bool {
-    match Arguments::from_words(Err(io::Error::from(kind))) {
+fn are_refused(alloc: Global, words: Vec<String>, wanted: RunFault) -> bool {
+    match Arguments::from_words(alloc, Ok(words.into_iter())) {
+        Ok(_) => false,
+        Err(fault) => fault == wanted,
+    }
+}
+
+#[test]
+fn words_that_are_refused(rt: HostRuntime) -> Result<(), Fail> {
+    for (words, fault) in &REFUSED {
+        let given = strings(rt.alloc(), words)?;
+        assert!(rt; are_refused(rt.alloc(), given, *fault), "{words:?}");
+    }
+    Ok(())
+}
+
+fn is_refused(alloc: Global, kind: io::ErrorKind, wanted: RunFault) -> bool {
+    match Arguments::from_words(alloc, Err(io::Error::from(kind))) {
         Ok(_) => false,
         Err(fault) => fault == wanted,
     }
@@ -55,8 +101,8 @@ fn is_refused(kind: io::ErrorKind, wanted: RunFault) -> bool {
 
 #[test]
 fn words_that_could_not_be_had(rt: HostRuntime) {
-    assert!(rt; is_refused(io::ErrorKind::OutOfMemory, RunFault::Memory));
-    assert!(rt; is_refused(io::ErrorKind::InvalidData, RunFault::Usage));
+    assert!(rt; is_refused(rt.alloc(), io::ErrorKind::OutOfMemory, RunFault::Memory));
+    assert!(rt; is_refused(rt.alloc(), io::ErrorKind::InvalidData, RunFault::Usage));
 }
 
 // What a run came to, with the exit status and what is told on standard error.
@@ -70,7 +116,11 @@ static ENDINGS: [(Result<(), RunFault>, u8, &str); 6] = [
         1,
         "E13 BadDb line 2: text not closed\n",
     ),
-    (Err(RunFault::Usage), 2, "usage: ioc-replay DB SCRIPT\n"),
+    (
+        Err(RunFault::Usage),
+        2,
+        "usage: ioc-replay DB SCRIPT [NAME=VALUE]..\n",
+    ),
     (Err(RunFault::Read), 3, "the input cannot be read\n"),
     (Err(RunFault::Write), 3, "the replies cannot be written\n"),
     (Err(RunFault::Memory), 4, "out of memory\n"),
@@ -85,6 +135,30 @@ fn ends(alloc: Global, ended: Result<(), RunFault>, status: u8, told: &str) -> b
         }
         Err(_) => false,
     }
+}
+
+fn asks(alloc: Global, fault: RunFault, front: &str) -> bool {
+    let ending = Ending::of(Err(fault));
+    match ending.to_string(alloc) {
+        Ok(text) => {
+            ending.status == 0
+                && ending.stream == Stream::Output
+                && text.as_str().starts_with(front)
+        }
+        Err(_) => false,
+    }
+}
+
+#[test]
+fn what_is_asked_for(rt: HostRuntime) {
+    assert!(rt;
+        asks(
+            rt.alloc(),
+            RunFault::Help,
+            "ioc-replay DB SCRIPT [NAME=VALUE].."
+        )
+    );
+    assert!(rt; asks(rt.alloc(), RunFault::Version, "ioc-replay "));
 }
 
 #[test]

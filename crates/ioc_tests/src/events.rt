@@ -3,7 +3,7 @@ use ioc_dbfile::{Database, Macros, load};
 use ioc_fields::{CommonField, FieldNo};
 use ioc_ledger::{Outcome, Tally};
 use ioc_names::RecordNo;
-use ioc_process::{OneMap, Reply, run_get, run_request};
+use ioc_process::{OneMap, Reply, Unwired, run_get, run_request};
 use ioc_types::Record;
 use std::alloc::Global;
 use std::test::Fail;
@@ -15,7 +15,7 @@ const LCNT: FieldNo = FieldNo::Common(CommonField::Lcnt);
 const STAT: FieldNo = FieldNo::Common(CommonField::Stat);
 
 // Is this the text of the field of the record of this number?
-fn shows(map: &OneMap<Record>, number: usize, field: FieldNo, wanted: &[u8]) -> bool {
+fn shows(map: &OneMap<Record, Unwired>, number: usize, field: FieldNo, wanted: &[u8]) -> bool {
     match run_get(map, RecordNo::new(number), field) {
         Reply::Shown(text) => text.as_slice() == wanted,
         _ => false,
@@ -25,7 +25,7 @@ fn shows(map: &OneMap<Record>, number: usize, field: FieldNo, wanted: &[u8]) -> 
 // The text of a field of the record of a number.
 type Shown = (usize, FieldNo, &'static [u8]);
 
-fn are_shown(map: &OneMap<Record>, shown: &[Shown]) -> bool {
+fn are_shown(map: &OneMap<Record, Unwired>, shown: &[Shown]) -> bool {
     for (number, field, wanted) in shown {
         if !shows(map, *number, *field, wanted) {
             return false;
@@ -46,6 +46,8 @@ static REQUESTS: [(&[u8], usize, Tally, &[Shown]); 3] = [
             disabled: 0,
             active: 1,
             reprocess: 0,
+            started: 0,
+            completed: 0,
         },
         &[(0, PACT, b"0"), (1, PACT, b"0"), (0, LCNT, b"1")],
     ),
@@ -59,6 +61,8 @@ static REQUESTS: [(&[u8], usize, Tally, &[Shown]); 3] = [
             disabled: 0,
             active: 1,
             reprocess: 0,
+            started: 0,
+            completed: 0,
         },
         &[(0, STAT, b"NO_ALARM"), (0, LCNT, b"1")],
     ),
@@ -72,6 +76,8 @@ static REQUESTS: [(&[u8], usize, Tally, &[Shown]); 3] = [
             disabled: 0,
             active: 0,
             reprocess: 0,
+            started: 0,
+            completed: 0,
         },
         &[(0, PACT, b"0"), (1, PACT, b"0"), (0, LCNT, b"0")],
     ),
@@ -85,7 +91,7 @@ fn is_processed(
     counts: Tally,
     shown: &[Shown],
 ) -> Result<bool, Fail> {
-    let Database { names: _names, map } = load(alloc, text, &Macros::new())?;
+    let Database { names: _names, map } = load(alloc, text, &Macros::new(alloc))?;
     let mut map = map;
     let mut frames = map.frames(alloc)?;
     let mut tally = Tally::default();

@@ -8,9 +8,13 @@ mod endings;
 #[cfg(test)]
 mod events;
 #[cfg(test)]
+mod facts;
+#[cfg(test)]
 mod lines;
 #[cfg(test)]
 mod loads;
+#[cfg(test)]
+mod macros;
 #[cfg(test)]
 mod rows;
 #[cfg(test)]

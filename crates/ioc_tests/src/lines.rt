@@ -1,7 +1,7 @@
 //! Scripts of long lines, and readers and writers of one byte a call.
 use crate::runs::prints;
 use crate::streams::{OneByteReader, OneByteWriter};
-use ioc_dbfile::macros::Macros;
+use ioc_dbfile::Macros;
 use ioc_main::{RunFault, run};
 use std::alloc::{AllocError, Global};
 
@@ -38,7 +38,7 @@ fn is_written(alloc: Global, left: usize) -> bool {
         held: Vec::new(alloc),
         left,
     };
-    let ended = run(alloc, DB, &Macros::new(), SCRIPT, &mut out);
+    let ended = run(alloc, DB, &Macros::new(alloc), SCRIPT, &mut out);
     let wanted = if left < WANTED.len() {
         Err(RunFault::Write)
     } else {
@@ -58,7 +58,7 @@ fn a_writer_of_one_byte(rt: HostRuntime) {
 fn is_read(alloc: Global, left: usize, wanted: Result<(), RunFault>, printed: &[u8]) -> bool {
     let script = OneByteReader { rest: SCRIPT, left };
     let mut out = Vec::new(alloc);
-    let ended = run(alloc, DB, &Macros::new(), script, &mut out);
+    let ended = run(alloc, DB, &Macros::new(alloc), script, &mut out);
     ended == wanted && out.as_slice() == printed
 }
 

@@ -1,9 +1,10 @@
 //! Whole loads of database texts.
-use Fact::{Counts, Leads, LeadsNowhere, Named, Shows, Unnamed};
-use ioc_dbfile::{Database, Macros, load};
-use ioc_fields::{CommonField, FieldNo, OwnField, Slot, field};
-use ioc_names::RecordNo;
-use ioc_record::{FieldAddress, Lead, RecordKind, text_of};
+use crate::facts::Fact::{self, Counts, Leads, LeadsNowhere, Named, Shows, Unnamed};
+use crate::facts::all_hold;
+use crate::runs::silent_run;
+use ioc_dbfile::{Macros, load};
+use ioc_fields::{CommonField, FieldNo, OwnField, Slot};
+use ioc_main::RunFault;
 use ioc_values::{BadDbKind, IocError};
 use std::alloc::Global;
 
@@ -13,21 +14,7 @@ const INP: FieldNo = FieldNo::Own(OwnField::Inp);
 
 const FLNK: FieldNo = FieldNo::Common(CommonField::Flnk);
 
-// A fact of a loaded database.
-enum Fact {
-    // There are so many records.
-    Counts(usize),
-    // The record of this name has that number.
-    Named(&'static [u8], usize),
-    Unnamed(&'static [u8]),
-    // The text of the field of the record of a number.
-    Shows(usize, &'static str, &'static [u8]),
-    // The link of the field of a record leads to that field of a record.
-    Leads(usize, FieldNo, usize, FieldNo),
-    LeadsNowhere(usize, FieldNo),
-}
-
-static LOADS: [(&[u8], &[Fact]); 11] = [
+static LOADS: [(&[u8], &[Fact]); 17] = [
     (
         b"record(longin,\"c\"){field(INP,\"5\")}\nrecord(longin,d){field(VAL,-7) field(VAL,\" +0x10 \")}\nrecord(longin,e){field(UDFS,MINOR)}\nrecord(bo,f){field(DOL,9)field(ONAM,on)}\nrecord(fanout,g){field(SELL,3)}",
         &[
@@ -105,54 +92,51 @@ static LOADS: [(&[u8], &[Fact]); 11] = [
         b"record(longin,a12345678901234567890123456789012345678901234567890123456789){field(VAL,\"\")}",
         &[Shows(0, "VAL", b"0"), Shows(0, "UDF", b"0")],
     ),
+    // Aliases, and records in pieces.
+    (
+        b"record(longin,\"a\"){alias(\"b\")} record(*,\"a\"){field(VAL,3)} alias(\"a\",\"c\") record(fanout,\"f\"){field(LNK0,\"c\")}",
+        &[
+            Counts(2),
+            Named(b"b", 0),
+            Named(b"c", 0),
+            Shows(0, "NAME", b"a"),
+            Shows(0, "VAL", b"3"),
+            Shows(1, "LNK0", b"c.VAL NPP NMS"),
+            Leads(1, FieldNo::Own(OwnField::Lnk(Slot::N0)), 0, VAL),
+        ],
+    ),
+    (
+        b"grecord(longin,a){field(VAL,1)field(EGU,w)}record(\"*\",\"a\"){field(VAL,2)}\nrecord(longin,a){field(EGU,x)}",
+        &[Counts(1), Shows(0, "VAL", b"2"), Shows(0, "EGU", b"x")],
+    ),
+    (
+        b"record(longin,a) record(longin,b)\nrecord(*,a)",
+        &[Counts(2), Named(b"b", 1)],
+    ),
+    (
+        b"record(longin,a){alias(b)}record(longin,b){field(VAL,4)}record(*,b){field(EGU,q)}alias(b,c)record(longin,d)",
+        &[
+            Counts(2),
+            Shows(0, "VAL", b"4"),
+            Shows(0, "EGU", b"q"),
+            Named(b"c", 0),
+            Named(b"d", 1),
+        ],
+    ),
+    (
+        b"record(longin,a){info(autosaveFields,\"VAL \\q\")info(\"k\",v)field(VAL,1)}",
+        &[Counts(1), Shows(0, "VAL", b"1")],
+    ),
+    // A link that comes before the record that it leads to, by its alias.
+    (
+        b"record(longin,a){field(FLNK,c)}record(longin,b){alias(c)}",
+        &[Leads(0, FLNK, 1, VAL)],
+    ),
 ];
-
-// Is this the text of the field of the record of a number?
-fn shows(database: &Database, number: usize, name: &str, wanted: &[u8]) -> bool {
-    let Some(item) = database.map.records.get(number) else {
-        return false;
-    };
-    match field(item.record_type(), name.as_bytes()) {
-        Some(field) => text_of(item, field).as_slice() == wanted,
-        None => false,
-    }
-}
-
-// Where a link of a record leads.
-fn lead_of(database: &Database, number: usize, field: FieldNo) -> Option<Lead> {
-    let link = database.map.records.get(number)?.link(field)?;
-    Some(link.lead)
-}
-
-fn holds(database: &Database, fact: &Fact) -> bool {
-    match fact {
-        Counts(count) => database.map.records.len() == *count,
-        Named(name, number) => database.names.find(name) == Some(RecordNo::new(*number)),
-        Unnamed(name) => database.names.find(name).is_none(),
-        Shows(number, name, wanted) => shows(database, *number, name, wanted),
-        Leads(number, field, end, end_field) => {
-            let address = FieldAddress {
-                number: RecordNo::new(*end),
-                field: *end_field,
-            };
-            lead_of(database, *number, *field) == Some(Lead::Field(address))
-        }
-        LeadsNowhere(number, field) => lead_of(database, *number, *field) == Some(Lead::Nowhere),
-    }
-}
-
-fn all_hold(database: &Database, facts: &[Fact]) -> bool {
-    for fact in facts {
-        if !holds(database, fact) {
-            return false;
-        }
-    }
-    true
-}
 
 // Is the text loaded, and do all the facts hold then?
 fn is_loaded(alloc: Global, text: &[u8], facts: &[Fact]) -> bool {
-    match load(alloc, text, &Macros::new()) {
+    match load(alloc, text, &Macros::new(alloc)) {
         Ok(database) => all_hold(&database, facts),
         Err(_) => false,
     }
@@ -174,7 +158,7 @@ enum Made {
 
 // Does the text make this?
 fn makes(alloc: Global, text: &[u8], wanted: Made) -> bool {
-    match (load(alloc, text, &Macros::new()), wanted) {
+    match (load(alloc, text, &Macros::new(alloc)), wanted) {
         (Ok(database), Made::Records(count)) => database.map.records.len() == count,
         (Err(IocError::BadDb(fault)), Made::Fault(line, kind)) => {
             fault.line == line && fault.kind == kind
@@ -184,7 +168,7 @@ fn makes(alloc: Global, text: &[u8], wanted: Made) -> bool {
 }
 
 // Texts that are refused, with the line and the kind of the first fault.
-static REFUSED: [(&[u8], u64, BadDbKind); 39] = [
+static REFUSED: [(&[u8], u64, BadDbKind); 51] = [
     (b"record(ai,a){}", 1, BadDbKind::BadType),
     (b"record(longin,\n\"a.b\"){}", 2, BadDbKind::BadName),
     (b"record(longin,\"\"){}", 1, BadDbKind::BadName),
@@ -258,11 +242,35 @@ static REFUSED: [(&[u8], u64, BadDbKind); 39] = [
     (b"\nlink(x)", 2, BadDbKind::LeftOut),
     (b"\"menu\"", 1, BadDbKind::Syntax),
     (b"record(longin,a){menu}", 1, BadDbKind::Syntax),
-    (b"grecord(longin,a){}", 1, BadDbKind::Syntax),
-    (b"alias(a,b)", 1, BadDbKind::Syntax),
-    (b"record(longin,a){info(k,v)}", 1, BadDbKind::Syntax),
-    (b"record(*,a){}", 1, BadDbKind::Syntax),
-    (b"record(\"*\",a){}", 1, BadDbKind::BadType),
+    (b"alias(a,\n\"b.c\")", 1, BadDbKind::NoRecord),
+    (b"record(longin,a)alias(a,\n\"b.c\")", 2, BadDbKind::BadName),
+    (b"record(longin,a)alias(\"a.b\",c)", 1, BadDbKind::BadName),
+    (b"record(longin,a){alias(a)}", 1, BadDbKind::Duplicate),
+    (
+        b"record(longin,a){alias(b)alias(\nb)}",
+        2,
+        BadDbKind::Duplicate,
+    ),
+    (
+        b"record(stringin,\"a\"){}\nrecord(longin,\"a\"){}",
+        2,
+        BadDbKind::Duplicate,
+    ),
+    (
+        b"record(longin,a){alias(b)}\nrecord(bo,b){}",
+        2,
+        BadDbKind::Duplicate,
+    ),
+    (b"record(*,a){}", 1, BadDbKind::NoRecord),
+    (b"record(\"*\",a){}", 1, BadDbKind::NoRecord),
+    (b"record(*,\"a.b\"){}", 1, BadDbKind::BadName),
+    (b"record(longin,a){info(k)}", 1, BadDbKind::Syntax),
+    (b"record(longin,a){info(*,v)}", 1, BadDbKind::Syntax),
+    (b"record(longin,a){info(k,v\n", 1, BadDbKind::OpenBody),
+    (b"record(longin,a){record(longin,b)}", 1, BadDbKind::Syntax),
+    (b"record(longin,a)}", 1, BadDbKind::Syntax),
+    (b"\"record\"(longin,a)", 1, BadDbKind::Syntax),
+    (b"alias(a\n", 1, BadDbKind::NoRecord),
     (b"record(ai,\na){}", 1, BadDbKind::BadType),
 ];
 
@@ -283,13 +291,13 @@ fn cut_makes(n: usize) -> Made {
     match n {
         0 => Made::Records(0),
         1..=5 => Made::Fault(1, BadDbKind::Syntax),
-        6 | 7 | 13..=15 | 18..=22 => Made::Fault(1, BadDbKind::OpenBody),
+        6 | 7 | 13..=15 | 18 | 21 | 22 => Made::Fault(1, BadDbKind::OpenBody),
         8..=12 => Made::Fault(1, BadDbKind::BadType),
         16 | 17 => Made::Fault(1, BadDbKind::Unclosed),
         25..=28 => Made::Fault(2, BadDbKind::Syntax),
         31 | 32 => Made::Fault(2, BadDbKind::BadField),
         36 | 37 => Made::Fault(2, BadDbKind::Unclosed),
-        41 | 42 => Made::Records(1),
+        19 | 20 | 41 | 42 => Made::Records(1),
         _ => Made::Fault(2, BadDbKind::OpenBody),
     }
 }
@@ -298,6 +306,27 @@ fn cut_makes(n: usize) -> Made {
 fn cut_texts(rt: HostRuntime) {
     for n in 0..=42 {
         assert!(rt; makes(rt.alloc(), &TEXT[..n], cut_makes(n)), "at {n}");
+    }
+}
+
+// Is the run of a text silent, and does it come to this?
+fn runs_silently(alloc: Global, text: &[u8], wanted: Made) -> bool {
+    match (silent_run(alloc, text, b""), wanted) {
+        (Some(Ok(())), Made::Records(_)) => true,
+        (Some(Err(RunFault::BadDb(fault))), Made::Fault(line, kind)) => {
+            fault.line == line && fault.kind == kind
+        }
+        _ => false,
+    }
+}
+
+#[test]
+fn runs_of_cut_texts(rt: HostRuntime) {
+    for n in 0..=42 {
+        assert!(rt;
+            runs_silently(rt.alloc(), &TEXT[..n], cut_makes(n)),
+            "at {n}"
+        );
     }
 }
 

@@ -4,7 +4,7 @@ use ioc_main::RunFault;
 use ioc_values::{BadDbKind, DbFault};
 
 // What a program is about, its database and its script, and what it prints.
-static PROGRAMS: [(&str, &[u8], &[u8], &[u8]); 10] = [
+static PROGRAMS: [(&str, &[u8], &[u8], &[u8]); 12] = [
     ("empty database and script", b"", b"", b""),
     (
         "constant input",
@@ -29,6 +29,18 @@ static PROGRAMS: [(&str, &[u8], &[u8], &[u8]); 10] = [
         b"record(longin,\"a\"){field(INP,\"b PP\")} record(longin,\"b\"){field(INP,\"7\") field(FLNK,\"c\")} record(longin,\"c\"){field(INP,\"b\")}",
         b"process a\nget a.VAL\nget c.VAL\n",
         b"ok processed\n= 7\n= 7\n",
+    ),
+    (
+        "a record that another disables",
+        b"record(longin,\"s\"){field(INP,\"1\")} record(longin,\"r\"){field(SDIS,\"s\") field(DISS,MAJOR)}",
+        b"process r\nget r.STAT\nget r.SEVR\nprocess r\nget r.STAT\nget r.SEVR\n",
+        b"ok disabled\n= DISABLE\n= MAJOR\nok disabled\n= DISABLE\n= MAJOR\n",
+    ),
+    (
+        "a record that is disabled by a constant, and no longer",
+        b"record(longin,\"r\"){field(SDIS,\"1\") field(UDF,0)}",
+        b"process r\nget r.DISA\nput r.DISV 2\nprocess r\nget r.STAT\n",
+        b"ok disabled\n= 1\nok\nok processed\n= NO_ALARM\n",
     ),
     (
         "refusals",

@@ -1,11 +1,9 @@
 -- The type bi keeps the laws of record types.
-use Rattle.std.proofs.Common.{◌≡◌, true, false, Bool, cond, [], Option, Some, None, refl, ap}
+use Rattle.std.proofs.Common.{ℕ, ◌≡◌, true, false, Bool, cond, [], Option, Some, None, refl, ap}
 use Rattle.std.specs.Prelude.{is_some}
 use Rattle.ioc_values.specs.declared.value.Value.{Value}
 use Rattle.ioc_values.specs.declared.value.Value.TheVariants as value
-use Rattle.ioc_values.specs.declared.kind.Range.TheVariants as range
 use Rattle.ioc_values.specs.Shapes.{IsValueOf}
-use Rattle.ioc_values.specs.Conversion.{Numbers, of_number}
 use Rattle.ioc_links.specs.declared.link.Link.{Link}
 use Rattle.ioc_links.specs.declared.link.Link.TheVariants.{Constant}
 use Rattle.ioc_fields.specs.declared.field_no.FieldNo.TheVariants.{Own}
@@ -15,19 +13,18 @@ use Rattle.ioc_fields.specs.declared.record_type.RecordType.TheVariants.{Bi as B
 use Rattle.ioc_fields.specs.Table.{row_of, own_row, bi_row, two_state_row, can_put, is_link, kind_of}
 use Rattle.ioc_fields.specs.Types.{reads_device}
 use Rattle.ioc_fields.specs.Defaults.{zero_of, own_default}
-use Rattle.ioc_record.specs.declared.source.Source.{Source}
-use Rattle.ioc_record.specs.declared.body.Got.{Got}
-use Rattle.ioc_record.specs.declared.body.Got.TheVariants as got
-use Rattle.ioc_record.specs.Links.{no_link, use_of, named_by_field}
+use Rattle.ioc_common.specs.declared.source.Source.{Source}
+use Rattle.ioc_common.specs.declared.body.Got.{Got}
+use Rattle.ioc_common.specs.Links.{no_link, use_of, named_by_field}
 use Rattle.ioc_record.specs.Values.{field_sort, sort_in}
-use Rattle.ioc_record.specs.Parts.{severity_back}
-use Rattle.ioc_record.specs.Raw.{is_raw}
-use Rattle.ioc_record.specs.Source.{new_source, source_link, source_set_here, source_set_there, source_begin_leads}
+use Rattle.ioc_common.specs.Parts.{severity_back}
+use Rattle.ioc_common.specs.Raw.{is_raw, raw_came, state_came, state_constant}
+use Rattle.ioc_common.specs.Source.{new_source, source_link, source_set_here, source_set_there, source_begin_leads}
 use Rattle.ioc_record.specs.BodyRules.{Held}
 use Rattle.ioc_record.specs.BodyLaws.{IsLawfulBody, IsNewBody}
 use Rattle.rec_binary.specs.declared.bi.Bi.{Bi}
 use Rattle.rec_binary.specs.TwoState.{new_two_state, two_state_get, two_state_stored}
-use Rattle.rec_binary.specs.Bi.{bi, new_bi, bi_stored, raw_taken, raw_came, value_came, bi_tested, bi_taken, raw_if, value_if, link_put, bi_loaded}
+use Rattle.rec_binary.specs.Bi.{bi, new_bi, bi_stored, raw_taken, raw_taken_if, state_taken_if, raw_put, bi_tested, bi_taken, link_put, bi_loaded}
 
 -- ---- links: INP stays
 
@@ -40,33 +37,26 @@ either-source : (b : Bool) (x y : Held Bi) (s : Source) → x.body.source ≡ s 
 either-source true x y s of_x of_y = of_x
 either-source false x y s of_x of_y = of_y
 
-raw_came-source : (h : Held Bi) (got : Got) → (raw_came h got).body.source ≡ h.body.source
+raw_taken-source : (h : Held Bi) (o : Option ℕ) → (raw_taken_if h o).body.source ≡ h.body.source
 unfolding raw_taken
-raw_came-source h (got.Value v) = refl
-raw_came-source h _ = refl
+raw_taken-source h None = refl
+raw_taken-source h (Some raw) = refl
 
-value_came-source : (h : Held Bi) (got : Got) → (value_came h got).body.source ≡ h.body.source
-value_came-source h (got.Value v) = refl
-value_came-source h _ = refl
+state_taken-source : (h : Held Bi) (o : Option ℕ) → (state_taken_if h o).body.source ≡ h.body.source
+state_taken-source h None = refl
+state_taken-source h (Some state) = refl
 
 taken-source : (h : Held Bi) (got : Got) → (bi_taken h got).body.source ≡ h.body.source
 unfolding bi_taken bi_tested
 taken-source h got =
-    either-source (is_raw h.body.source.input.link h.condition) (raw_came h got) (value_came h got) h.body.source (raw_came-source h got) (value_came-source h got)
-
-raw_if-source : (h : Held Bi) (o : Option Value) → (raw_if h o).body.source ≡ h.body.source
-raw_if-source h None = refl
-raw_if-source h (Some v) = refl
-
-value_if-source : (h : Held Bi) (o : Option Value) → (value_if h o).body.source ≡ h.body.source
-value_if-source h None = refl
-value_if-source h (Some v) = refl
+    let raw = raw_came got h.body.states.raw in
+    let state = state_came got h.body.states.value in
+    either-source (is_raw h.body.source.input.link h.condition) (raw_taken_if h raw) (state_taken_if h state) h.body.source (raw_taken-source h raw) (state_taken-source h state)
 
 link_put-source : (h : Held Bi) (l : Link) → (link_put h l).body.source ≡ h.body.source
 link_put-source h (Constant z) =
-    let raw = of_number (Numbers range.ULong) z in
-    let number = of_number (Numbers range.UShort) z in
-    either-source (is_raw h.body.source.input.link h.condition) (raw_if h raw) (value_if h number) h.body.source (raw_if-source h raw) (value_if-source h number)
+    let state = state_constant z in
+    either-source (is_raw h.body.source.input.link h.condition) (raw_put h z) (state_taken_if h state) h.body.source refl (state_taken-source h state)
 link_put-source h _ = refl
 
 loaded-source : (h : Held Bi) → (bi_loaded h).body.source ≡ h.body.source

@@ -2,19 +2,20 @@
 ghost use Rattle.std.specs.Prelude.{◌≡◌};
 ghost use Rattle.ioc_record.specs.BodyRules.{Held};
 ghost use Rattle.ioc_record.specs.BodyLaws.{IsNewBody};
-ghost use Rattle.rec_binary.specs.Bi.{bi, new_bi, raw_taken, raw_came, value_taken, value_came, bi_tested, constant_put};
+ghost use Rattle.rec_binary.specs.Bi.{bi, new_bi, raw_taken, bi_tested, constant_put, raw_taken_if, state_taken_if};
 
 use crate::two_state::TwoState;
+use ioc_common::{
+    Condition, Fresh, Got, InputKind, KeptLink, Output, Source, Want, raw_came, raw_constant,
+    state_came, state_constant,
+};
 use ioc_fields::{OwnField, RecordType};
 use ioc_links::Link;
-use ioc_record::{
-    Condition, Fresh, Got, InputKind, LinkField, Output, RecordBody, Source, Want, ulong_in,
-    ushort_in,
-};
-use ioc_values::{Kind, Range, Text, Value, of_number};
+use ioc_record::RecordBody;
+use ioc_values::{Range, Text, Value};
 
 /// The own fields of a bi. Record Reference Manual, "Binary Input Record".
-#[derive(Clone, Copy, Drop)]
+#[derive(Drop)]
 pub struct Bi {
     /// VAL, RVAL, MASK, ZNAM, ONAM, ZSV, OSV, COSV and LALM.
     pub states: TwoState,
@@ -49,37 +50,22 @@ impl Bi {
         condition.undefined = 0;
     }
 
-    // What came for RVAL: where nothing came it is RVAL itself.
-    fn came_raw(&mut self, condition: &mut Condition, got: Got)
-        ensures { record { body = self.new; condition = condition.new } ≡ raw_came (record { body = self.old; condition = condition.old }) got }
+    // RVAL takes a number, where there is one.
+    fn take_raw_if(&mut self, condition: &mut Condition, raw: Option<u32>)
+        ensures { record { body = self.new; condition = condition.new } ≡ raw_taken_if (record { body = self.old; condition = condition.old }) raw }
     {
-        match got {
-            Got::Value(value) => {
-                let raw = ulong_in(value).unwrap_or(self.states.raw);
-                self.take_raw(condition, raw);
-            }
-            Got::Nothing => {
-                let raw = self.states.raw;
-                self.take_raw(condition, raw);
-            }
-            Got::Fault => {}
+        if let Some(raw) = raw {
+            self.take_raw(condition, raw);
         }
     }
 
-    // VAL takes a value.
-    fn take_value(&mut self, condition: &mut Condition, value: Value)
-        ensures { record { body = self.new; condition = condition.new } ≡ value_taken (record { body = self.old; condition = condition.old }) value }
+    // VAL takes a number, where there is one.
+    fn take_state_if(&mut self, condition: &mut Condition, state: Option<u16>)
+        ensures { record { body = self.new; condition = condition.new } ≡ state_taken_if (record { body = self.old; condition = condition.old }) state }
     {
-        self.states.value = ushort_in(value).unwrap_or(self.states.value);
-        condition.undefined = 0;
-    }
-
-    // What came for VAL.
-    fn came_value(&mut self, condition: &mut Condition, got: Got)
-        ensures { record { body = self.new; condition = condition.new } ≡ value_came (record { body = self.old; condition = condition.old }) got }
-    {
-        if let Got::Value(value) = got {
-            self.take_value(condition, value);
+        if let Some(state) = state {
+            self.states.value = state;
+            condition.undefined = 0;
         }
     }
 
@@ -94,16 +80,13 @@ impl Bi {
     }
 
     // A constant goes into RVAL where raw, else into VAL where it is a state's number.
-    #[tactic(auto, unfolding(ioc_values::specs::Conversion::sort_of))]
     fn put_constant(&mut self, condition: &mut Condition, constant: i64)
         ensures { record { body = self.new; condition = condition.new } ≡ constant_put (record { body = self.old; condition = condition.old }) constant }
     {
         if self.source.input.is_raw(condition) {
-            if let Some(value) = of_number(Kind::Number(Range::ULong), constant) {
-                self.states.raw = ulong_in(value).unwrap_or(self.states.raw);
-            }
-        } else if let Some(value) = of_number(Kind::Number(Range::UShort), constant) {
-            self.take_value(condition, value);
+            self.states.raw = raw_constant(constant).unwrap_or(self.states.raw);
+        } else {
+            self.take_state_if(condition, state_constant(constant));
         }
     }
 }
@@ -129,11 +112,11 @@ impl RecordBody for Bi {
         RecordType::Bi
     }
 
-    fn link(&self, field: OwnField) -> Option<&LinkField> {
+    fn link(&self, field: OwnField) -> Option<&KeptLink> {
         self.source.link(field)
     }
 
-    fn set_link(&mut self, field: OwnField, link: LinkField) {
+    fn set_link(&mut self, field: OwnField, link: KeptLink) {
         self.source.set_link(field, link);
     }
 
@@ -171,9 +154,9 @@ impl RecordBody for Bi {
     #[inline(never)]
     fn take(&mut self, condition: &mut Condition, got: Got) -> Output {
         if self.source.input.is_raw(condition) {
-            self.came_raw(condition, got);
+            self.take_raw_if(condition, raw_came(got, self.states.raw));
         } else {
-            self.came_value(condition, got);
+            self.take_state_if(condition, state_came(got, self.states.value));
         }
         self.test(condition);
         Output::NoOutput
@@ -188,7 +171,7 @@ impl RecordBody for Bi {
 
     #[tactic(auto, unfolding(crate::specs::Bi::bi_loaded))]
     fn load(&mut self, condition: &mut Condition) {
-        if let Link::Constant(constant) = self.source.input.link {
+        if let Link::Constant(constant) = self.source.input.get().link {
             self.put_constant(condition, constant);
         }
         self.states.last_alarmed = self.states.value;

@@ -3,13 +3,14 @@ ghost use Rattle.std.specs.Prelude.{◌≡◌};
 ghost use Rattle.ioc_record.specs.BodyLaws.{IsNewBody};
 ghost use Rattle.rec_flow.specs.Event.{event, new_event};
 
+use ioc_common::{Condition, Fresh, Got, InputKind, KeptLink, Output, Want};
 use ioc_fields::{OwnField, RecordType};
-use ioc_record::{Condition, Got, InputKind, LinkField, Output, RecordBody, Want};
+use ioc_record::RecordBody;
 use ioc_values::{Text, Value};
 use rec_text::TextInput;
 
 /// The own fields of an event. Record Reference Manual, "Event Record".
-#[derive(Clone, Copy, Drop)]
+#[derive(Drop)]
 pub struct Event {
     /// VAL and INP.
     pub text: TextInput,
@@ -28,6 +29,16 @@ impl Event {
     }
 }
 
+impl Fresh for Event {
+    ghost use Rattle.rec_flow.specs.Event.{new_event};
+
+    ghost new_one = { new_event };
+
+    fn fresh() -> Self {
+        Event::new()
+    }
+}
+
 impl RecordBody for Event {
     ghost use Rattle.rec_flow.specs.EventLaws.{event_lawful};
 
@@ -39,11 +50,11 @@ impl RecordBody for Event {
         RecordType::Event
     }
 
-    fn link(&self, field: OwnField) -> Option<&LinkField> {
+    fn link(&self, field: OwnField) -> Option<&KeptLink> {
         self.text.source.link(field)
     }
 
-    fn set_link(&mut self, field: OwnField, link: LinkField) {
+    fn set_link(&mut self, field: OwnField, link: KeptLink) {
         self.text.source.set_link(field, link);
     }
 

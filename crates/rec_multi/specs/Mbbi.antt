@@ -2,20 +2,17 @@
 use Rattle.std.specs.Prelude.{ℕ, ℤ, ◌%◌, ◌^◌, bit_and, if◌then◌else◌, Option, Some, None, unwrap_or}
 use Rattle.ioc_values.specs.declared.value.Value.{Value}
 use Rattle.ioc_values.specs.declared.kind.Range.TheVariants as range
-use Rattle.ioc_values.specs.Conversion.{Numbers, of_number}
 use Rattle.ioc_links.specs.declared.link.Link.{Link}
 use Rattle.ioc_links.specs.declared.link.Link.TheVariants.{Constant}
 use Rattle.ioc_fields.specs.declared.field_no.OwnField.{OwnField}
 use Rattle.ioc_fields.specs.declared.field_no.OwnField.TheVariants.{Val, Inp}
 use Rattle.ioc_fields.specs.declared.record_type.RecordType.TheVariants as type
-use Rattle.ioc_record.specs.declared.body.Got.{Got}
-use Rattle.ioc_record.specs.declared.body.Got.TheVariants as got
-use Rattle.ioc_record.specs.declared.body.InputKind.{InputKind}
-use Rattle.ioc_record.specs.declared.body.InputKind.TheVariants as input
-use Rattle.ioc_record.specs.declared.body.Output.TheVariants.{NoOutput}
-use Rattle.ioc_record.specs.Parts.{ulong_in, ushort_in}
-use Rattle.ioc_record.specs.Raw.{is_raw}
-use Rattle.ioc_record.specs.Source.{new_source, source_link, source_with_link, source_begin}
+use Rattle.ioc_common.specs.declared.body.Got.{Got}
+use Rattle.ioc_common.specs.declared.body.InputKind.{InputKind}
+use Rattle.ioc_common.specs.declared.body.InputKind.TheVariants as input
+use Rattle.ioc_common.specs.declared.body.Output.TheVariants.{NoOutput}
+use Rattle.ioc_common.specs.Raw.{is_raw, raw_came, state_came, raw_constant, state_constant}
+use Rattle.ioc_common.specs.Source.{new_source, source_link, source_with_link, source_begin}
 use Rattle.ioc_record.specs.BodyRules.{BodyRules, Held}
 use Rattle.rec_multi.specs.Bits.{shifted_right}
 use Rattle.rec_multi.specs.States.{are_defined, state_valued}
@@ -58,26 +55,23 @@ raw_taken h raw =
       condition = record h.condition { undefined = 0 };
     }
 
--- raw: where nothing came, RVAL as it stands is the value; after a fault all stays
-abbrev pub raw_came : Held Mbbi → Got → Held Mbbi
-raw_came h (got.Value v) = raw_taken h (unwrap_or (ulong_in v) h.body.states.raw)
-raw_came h got.Nothing = raw_taken h h.body.states.raw
-raw_came h got.Fault = h
+-- the same, where there is a number
+abbrev pub raw_taken_if : Held Mbbi → Option ℕ → Held Mbbi
+raw_taken_if h None = h
+raw_taken_if h (Some raw) = raw_taken h raw
 
--- VAL takes a value, and UDF is cleared
-abbrev pub value_taken : Held Mbbi → Value → Held Mbbi
-value_taken h v = record {
-  body = record h.body { states = record h.body.states { value = unwrap_or (ushort_in v) h.body.states.value } };
+-- VAL takes a number, where there is one, and UDF is cleared
+abbrev pub state_taken_if : Held Mbbi → Option ℕ → Held Mbbi
+state_taken_if h None = h
+state_taken_if h (Some state) = record {
+  body = record h.body { states = record h.body.states { value = state } };
   condition = record h.condition { undefined = 0 };
 }
 
--- not raw: where nothing came, and after a fault, all stays
-abbrev pub value_came : Held Mbbi → Got → Held Mbbi
-value_came h (got.Value v) = value_taken h v
-value_came h _ = h
-
 abbrev pub came : Held Mbbi → Got → Held Mbbi
-came h got = if is_raw h.body.source.input.link h.condition then raw_came h got else value_came h got
+came h got =
+    if is_raw h.body.source.input.link h.condition then raw_taken_if h (raw_came got h.body.states.raw)
+    else state_taken_if h (state_came got h.body.states.value)
 
 -- with the alarms of the states
 abbrev pub alarmed : Held Mbbi → Held Mbbi
@@ -95,19 +89,13 @@ abbrev pub mbbi_constant_kind : OwnField → Option InputKind
 mbbi_constant_kind Inp = Some (input.Number range.ULong)
 mbbi_constant_kind _ = None
 
-abbrev pub raw_if : Held Mbbi → Option Value → Held Mbbi
-raw_if h None = h
-raw_if h (Some v) = record h { body = record h.body { states = record h.body.states { raw = unwrap_or (ulong_in v) h.body.states.raw } } }
-
-abbrev pub value_if : Held Mbbi → Option Value → Held Mbbi
-value_if h None = h
-value_if h (Some v) = value_taken h v
+-- RVAL takes a constant that fits
+abbrev pub raw_put : Held Mbbi → ℤ → Held Mbbi
+raw_put h z = record h { body = record h.body { states = record h.body.states { raw = unwrap_or (raw_constant z) h.body.states.raw } } }
 
 -- a constant of INP goes into RVAL where raw, and UDF stays; else into VAL, which clears UDF, where it is at most 65535, else nowhere
 abbrev pub constant_put : Held Mbbi → ℤ → Held Mbbi
-constant_put h z =
-    if is_raw h.body.source.input.link h.condition then raw_if h (of_number (Numbers range.ULong) z)
-    else value_if h (of_number (Numbers range.UShort) z)
+constant_put h z = if is_raw h.body.source.input.link h.condition then raw_put h z else state_taken_if h (state_constant z)
 
 abbrev pub link_put : Held Mbbi → Link → Held Mbbi
 link_put h (Constant z) = constant_put h z

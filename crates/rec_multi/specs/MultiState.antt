@@ -15,9 +15,9 @@ use Rattle.ioc_fields.specs.declared.field_no.OwnField.TheVariants.{Val, Rval, M
 use Rattle.ioc_fields.specs.declared.row.Row.{Row}
 use Rattle.ioc_fields.specs.Table.{multi_state_row}
 use Rattle.ioc_fields.specs.Defaults.{zero_of}
-use Rattle.ioc_record.specs.Condition.{raised}
+use Rattle.ioc_common.specs.Condition.{raised}
 use Rattle.ioc_record.specs.Values.{field_sort, sort_in}
-use Rattle.ioc_record.specs.Parts.{ulong_in, ushort_in, state_in, severity_in, severity_back}
+use Rattle.ioc_common.specs.Parts.{ulong_in, ushort_in, state_in, severity_in, severity_back}
 use Rattle.ioc_record.specs.BodyRules.{Held}
 use Rattle.rec_multi.specs.Bits.{made_mask}
 use Rattle.rec_multi.specs.States.{new_states, states_get, states_stored, severity_in_state, value_reads_back, text_reads_back, severity_reads_back, new_values, new_texts, new_severities}

@@ -2,20 +2,21 @@
 ghost use Rattle.std.specs.Prelude.{◌≡◌};
 ghost use Rattle.ioc_record.specs.BodyRules.{Held};
 ghost use Rattle.ioc_record.specs.BodyLaws.{IsNewBody};
-ghost use Rattle.rec_multi.specs.Mbbi.{mbbi, new_mbbi, state_of, raw_taken, raw_came, value_taken, value_came, constant_put};
+ghost use Rattle.rec_multi.specs.Mbbi.{mbbi, new_mbbi, state_of, raw_taken, constant_put, raw_taken_if, state_taken_if};
 
 use crate::bits::shifted_right;
 use crate::multi_state::MultiState;
+use ioc_common::{
+    Condition, Fresh, Got, InputKind, KeptLink, Output, Source, Want, raw_came, raw_constant,
+    state_came, state_constant,
+};
 use ioc_fields::{OwnField, RecordType};
 use ioc_links::Link;
-use ioc_record::{
-    Condition, Fresh, Got, InputKind, LinkField, Output, RecordBody, Source, Want, ulong_in,
-    ushort_in,
-};
-use ioc_values::{Kind, Range, Text, Value, of_number};
+use ioc_record::RecordBody;
+use ioc_values::{Range, Text, Value};
 
 /// The own fields of an mbbi. Record Reference Manual, "Multi-Bit Binary Input Record".
-#[derive(Clone, Copy, Drop)]
+#[derive(Drop)]
 pub struct Mbbi {
     /// VAL, RVAL, MASK, SHFT, NOBT, the sixteen states, UNSV, COSV and LALM.
     pub states: MultiState,
@@ -60,51 +61,33 @@ impl Mbbi {
         condition.undefined = 0;
     }
 
-    // What came for RVAL: where nothing came it is RVAL itself.
-    fn came_raw(&mut self, condition: &mut Condition, got: Got)
-        ensures { record { body = self.new; condition = condition.new } ≡ raw_came (record { body = self.old; condition = condition.old }) got }
+    // RVAL takes a number, where there is one.
+    fn take_raw_if(&mut self, condition: &mut Condition, raw: Option<u32>)
+        ensures { record { body = self.new; condition = condition.new } ≡ raw_taken_if (record { body = self.old; condition = condition.old }) raw }
     {
-        match got {
-            Got::Value(value) => {
-                let raw = ulong_in(value).unwrap_or(self.states.raw);
-                self.take_raw(condition, raw);
-            }
-            Got::Nothing => {
-                let raw = self.states.raw;
-                self.take_raw(condition, raw);
-            }
-            Got::Fault => {}
+        if let Some(raw) = raw {
+            self.take_raw(condition, raw);
         }
     }
 
-    // VAL takes a value.
-    fn take_value(&mut self, condition: &mut Condition, value: Value)
-        ensures { record { body = self.new; condition = condition.new } ≡ value_taken (record { body = self.old; condition = condition.old }) value }
+    // VAL takes a number, where there is one.
+    fn take_state_if(&mut self, condition: &mut Condition, state: Option<u16>)
+        ensures { record { body = self.new; condition = condition.new } ≡ state_taken_if (record { body = self.old; condition = condition.old }) state }
     {
-        self.states.value = ushort_in(value).unwrap_or(self.states.value);
-        condition.undefined = 0;
-    }
-
-    // What came for VAL.
-    fn came_value(&mut self, condition: &mut Condition, got: Got)
-        ensures { record { body = self.new; condition = condition.new } ≡ value_came (record { body = self.old; condition = condition.old }) got }
-    {
-        if let Got::Value(value) = got {
-            self.take_value(condition, value);
+        if let Some(state) = state {
+            self.states.value = state;
+            condition.undefined = 0;
         }
     }
 
     // A constant goes into RVAL where raw, else into VAL where it is a state's number.
-    #[tactic(auto, unfolding(ioc_values::specs::Conversion::sort_of))]
     fn put_constant(&mut self, condition: &mut Condition, constant: i64)
         ensures { record { body = self.new; condition = condition.new } ≡ constant_put (record { body = self.old; condition = condition.old }) constant }
     {
         if self.source.input.is_raw(condition) {
-            if let Some(value) = of_number(Kind::Number(Range::ULong), constant) {
-                self.states.raw = ulong_in(value).unwrap_or(self.states.raw);
-            }
-        } else if let Some(value) = of_number(Kind::Number(Range::UShort), constant) {
-            self.take_value(condition, value);
+            self.states.raw = raw_constant(constant).unwrap_or(self.states.raw);
+        } else {
+            self.take_state_if(condition, state_constant(constant));
         }
     }
 }
@@ -130,11 +113,11 @@ impl RecordBody for Mbbi {
         RecordType::Mbbi
     }
 
-    fn link(&self, field: OwnField) -> Option<&LinkField> {
+    fn link(&self, field: OwnField) -> Option<&KeptLink> {
         self.source.link(field)
     }
 
-    fn set_link(&mut self, field: OwnField, link: LinkField) {
+    fn set_link(&mut self, field: OwnField, link: KeptLink) {
         self.source.set_link(field, link);
     }
 
@@ -172,9 +155,9 @@ impl RecordBody for Mbbi {
     #[inline(never)]
     fn take(&mut self, condition: &mut Condition, got: Got) -> Output {
         if self.source.input.is_raw(condition) {
-            self.came_raw(condition, got);
+            self.take_raw_if(condition, raw_came(got, self.states.raw));
         } else {
-            self.came_value(condition, got);
+            self.take_state_if(condition, state_came(got, self.states.value));
         }
         self.states.test(condition);
         Output::NoOutput
@@ -190,7 +173,7 @@ impl RecordBody for Mbbi {
     #[tactic(auto, unfolding(crate::specs::Mbbi::mbbi_loaded))]
     fn load(&mut self, condition: &mut Condition) {
         self.states.load_mask();
-        if let Link::Constant(constant) = self.source.input.link {
+        if let Link::Constant(constant) = self.source.input.get().link {
             self.put_constant(condition, constant);
         }
         self.states.last_alarmed = self.states.value;

@@ -6,15 +6,14 @@ ghost use Rattle.rec_multi.specs.Mbbo.{mbbo, new_mbbo, number_of, converted, cam
 
 use crate::bits::shifted_left;
 use crate::multi_state::MultiState;
+use ioc_common::{Condition, Drive, Fresh, Got, InputKind, KeptLink, Output, Want, ushort_in};
 use ioc_fields::{OwnField, RecordType};
 use ioc_links::Link;
-use ioc_record::{
-    Condition, Drive, Fresh, Got, InputKind, LinkField, Output, RecordBody, Want, ushort_in,
-};
+use ioc_record::RecordBody;
 use ioc_values::{Kind, Range, Text, Value, of_number};
 
 /// The own fields of an mbbo. Record Reference Manual, "Multi-Bit Binary Output Record".
-#[derive(Clone, Copy, Drop)]
+#[derive(Drop)]
 pub struct Mbbo {
     /// VAL, RVAL, MASK, SHFT, NOBT, the sixteen states, UNSV, COSV and LALM.
     pub states: MultiState,
@@ -122,11 +121,11 @@ impl RecordBody for Mbbo {
         RecordType::Mbbo
     }
 
-    fn link(&self, field: OwnField) -> Option<&LinkField> {
+    fn link(&self, field: OwnField) -> Option<&KeptLink> {
         self.drive.link(field)
     }
 
-    fn set_link(&mut self, field: OwnField, link: LinkField) {
+    fn set_link(&mut self, field: OwnField, link: KeptLink) {
         self.drive.set_link(field, link);
     }
 
@@ -190,7 +189,7 @@ impl RecordBody for Mbbo {
     #[tactic(auto, unfolding(crate::specs::Mbbo::mbbo_loaded, ioc_values::specs::Conversion::sort_of))]
     fn load(&mut self, condition: &mut Condition) {
         self.states.load_mask();
-        if let Link::Constant(constant) = self.drive.desired.link {
+        if let Link::Constant(constant) = self.drive.desired.get().link {
             if let Some(value) = of_number(Kind::Number(Range::UShort), constant) {
                 self.states.value = ushort_in(value).unwrap_or(self.states.value);
                 condition.undefined = 0;

@@ -14,13 +14,13 @@ use Rattle.ioc_fields.specs.declared.field_no.OwnField.TheVariants.{Val, Inp}
 use Rattle.ioc_fields.specs.declared.row.Row.{Row}
 use Rattle.ioc_fields.specs.Table.{row_of, numeric_input_row, numeric_row, can_put, is_link, is_link_kind, kind_of}
 use Rattle.ioc_fields.specs.Defaults.{zero_of, own_default}
-use Rattle.ioc_record.specs.declared.link_field.LinkField.{LinkField}
-use Rattle.ioc_record.specs.declared.source.Source.{Source}
-use Rattle.ioc_record.specs.declared.body.Got.{Got}
-use Rattle.ioc_record.specs.declared.body.Got.TheVariants as got
-use Rattle.ioc_record.specs.Links.{no_link, use_of, named_by_field}
+use Rattle.ioc_common.specs.declared.link_field.LinkField.{LinkField}
+use Rattle.ioc_common.specs.declared.source.Source.{Source}
+use Rattle.ioc_common.specs.declared.body.Got.{Got}
+use Rattle.ioc_common.specs.declared.body.Got.TheVariants as got
+use Rattle.ioc_common.specs.Links.{no_link, use_of, named_by_field}
 use Rattle.ioc_record.specs.Values.{sort_in}
-use Rattle.ioc_record.specs.Source.{new_source, source_link, source_set_here, source_set_there, source_begin_leads}
+use Rattle.ioc_common.specs.Source.{new_source, source_link, source_set_here, source_set_there, source_begin_leads}
 use Rattle.ioc_record.specs.BodyRules.{Held}
 use Rattle.ioc_record.specs.BodyLaws.{IsLawfulBody, IsNewBody}
 use Rattle.rec_numeric.specs.Number.{NumberRules, long_number, int64_number}

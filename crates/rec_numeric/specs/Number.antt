@@ -6,7 +6,7 @@ use Rattle.ioc_values.specs.declared.value.Value.{Value}
 use Rattle.ioc_values.specs.declared.value.Value.TheVariants as value
 use Rattle.ioc_fields.specs.declared.record_type.RecordType.{RecordType}
 use Rattle.ioc_fields.specs.declared.record_type.RecordType.TheVariants as type
-use Rattle.ioc_record.specs.Parts.{long_in, int64_in}
+use Rattle.ioc_common.specs.Parts.{long_in, int64_in}
 
 -- a kind of numbers: its range and its values, the type that reads such numbers, and the one that writes them
 pub record NumberRules (N : Type 0) : Type 0 where

@@ -5,13 +5,14 @@ ghost use Rattle.rec_numeric.specs.Input.{numeric_input, new_input};
 
 use crate::number::Number;
 use crate::numeric::Numeric;
+use ioc_common::{Condition, Fresh, Got, InputKind, KeptLink, Output, Source, Want};
 use ioc_fields::{OwnField, RecordType};
 use ioc_links::Link;
-use ioc_record::{Condition, Fresh, Got, InputKind, LinkField, Output, RecordBody, Source, Want};
+use ioc_record::RecordBody;
 use ioc_values::{Kind, Text, Value, of_number};
 
 /// The own fields of a numeric input. Record Reference Manual, "Long Input Record" and "64bit Integer Input Record".
-#[derive(Clone, Copy, Drop)]
+#[derive(Drop)]
 pub struct NumericInput<N> {
     /// VAL, the limits with their severities, HYST, LALM, and those kept without effect.
     pub numbers: Numeric<N>,
@@ -60,11 +61,11 @@ impl<N: Number> RecordBody for NumericInput<N> {
         N::input_type()
     }
 
-    fn link(&self, field: OwnField) -> Option<&LinkField> {
+    fn link(&self, field: OwnField) -> Option<&KeptLink> {
         self.source.link(field)
     }
 
-    fn set_link(&mut self, field: OwnField, link: LinkField) {
+    fn set_link(&mut self, field: OwnField, link: KeptLink) {
         self.source.set_link(field, link);
     }
 
@@ -112,7 +113,7 @@ impl<N: Number> RecordBody for NumericInput<N> {
 
     #[tactic(auto, unfolding(crate::specs::Input::input_loaded, ioc_values::specs::Conversion::sort_of))]
     fn load(&mut self, condition: &mut Condition) {
-        if let Link::Constant(constant) = self.source.input.link {
+        if let Link::Constant(constant) = self.source.input.get().link {
             if let Some(value) = of_number(Kind::Number(N::range()), constant) {
                 self.store(condition, OwnField::Val, value);
             }

@@ -4,8 +4,8 @@ ghost use Rattle.rec_numeric.specs.Number.{NumberRules};
 ghost use Rattle.rec_numeric.specs.NumberLaws.{IsLawfulNumber};
 
 use ioc_alarms::WholeNumber;
+use ioc_common::{int64_in, long_in};
 use ioc_fields::RecordType;
-use ioc_record::{int64_in, long_in};
 use ioc_values::{Range, Value};
 
 /// A number that a numeric record holds, and the record types that hold it.

@@ -6,13 +6,14 @@ ghost use Rattle.rec_numeric.specs.Output.{numeric_output, new_output, within, l
 
 use crate::number::Number;
 use crate::numeric::Numeric;
+use ioc_common::{Condition, Drive, Fresh, Got, InputKind, KeptLink, Output, Want};
 use ioc_fields::{OwnField, RecordType};
 use ioc_links::Link;
-use ioc_record::{Condition, Drive, Fresh, Got, InputKind, LinkField, Output, RecordBody, Want};
+use ioc_record::RecordBody;
 use ioc_values::{Kind, Text, Value, of_number};
 
 /// The own fields of a numeric output. Record Reference Manual, "Long Output Record" and "64bit Integer Output Record".
-#[derive(Clone, Copy, Drop)]
+#[derive(Drop)]
 pub struct NumericOutput<N> {
     /// VAL, the limits with their severities, HYST, LALM, and those kept without effect.
     pub numbers: Numeric<N>,
@@ -112,11 +113,11 @@ impl<N: Number> RecordBody for NumericOutput<N> {
         N::output_type()
     }
 
-    fn link(&self, field: OwnField) -> Option<&LinkField> {
+    fn link(&self, field: OwnField) -> Option<&KeptLink> {
         self.drive.link(field)
     }
 
-    fn set_link(&mut self, field: OwnField, link: LinkField) {
+    fn set_link(&mut self, field: OwnField, link: KeptLink) {
         self.drive.set_link(field, link);
     }
 
@@ -182,7 +183,7 @@ impl<N: Number> RecordBody for NumericOutput<N> {
 
     #[tactic(auto, unfolding(crate::specs::Output::output_loaded, crate::specs::Output::output_stored, ioc_values::specs::Conversion::sort_of))]
     fn load(&mut self, condition: &mut Condition) {
-        if let Link::Constant(constant) = self.drive.desired.link {
+        if let Link::Constant(constant) = self.drive.desired.get().link {
             if let Some(value) = of_number(Kind::Number(N::range()), constant) {
                 self.store(condition, OwnField::Val, value);
             }

@@ -4,12 +4,13 @@ ghost use Rattle.ioc_record.specs.BodyLaws.{IsNewBody};
 ghost use Rattle.rec_text.specs.Stringin.{stringin, new_stringin};
 
 use crate::text_input::TextInput;
+use ioc_common::{Condition, Fresh, Got, InputKind, KeptLink, Output, Want};
 use ioc_fields::{OwnField, RecordType};
-use ioc_record::{Condition, Got, InputKind, LinkField, Output, RecordBody, Want};
+use ioc_record::RecordBody;
 use ioc_values::{Text, Value};
 
 /// The own fields of a stringin. Record Reference Manual, "String Input Record".
-#[derive(Clone, Copy, Drop)]
+#[derive(Drop)]
 pub struct Stringin {
     /// VAL and INP.
     pub text: TextInput,
@@ -28,6 +29,16 @@ impl Stringin {
     }
 }
 
+impl Fresh for Stringin {
+    ghost use Rattle.rec_text.specs.Stringin.{new_stringin};
+
+    ghost new_one = { new_stringin };
+
+    fn fresh() -> Self {
+        Stringin::new()
+    }
+}
+
 impl RecordBody for Stringin {
     ghost use Rattle.rec_text.specs.StringinLaws.{stringin_lawful};
 
@@ -39,11 +50,11 @@ impl RecordBody for Stringin {
         RecordType::Stringin
     }
 
-    fn link(&self, field: OwnField) -> Option<&LinkField> {
+    fn link(&self, field: OwnField) -> Option<&KeptLink> {
         self.text.source.link(field)
     }
 
-    fn set_link(&mut self, field: OwnField, link: LinkField) {
+    fn set_link(&mut self, field: OwnField, link: KeptLink) {
         self.text.source.set_link(field, link);
     }
 

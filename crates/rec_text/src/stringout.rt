@@ -4,15 +4,14 @@ ghost use Rattle.ioc_record.specs.BodyRules.{Held};
 ghost use Rattle.ioc_record.specs.BodyLaws.{IsNewBody};
 ghost use Rattle.rec_text.specs.Stringout.{stringout, new_stringout, worked};
 
+use ioc_common::{Condition, Drive, Fresh, Got, InputKind, KeptLink, Output, Want, text_in};
 use ioc_fields::{OwnField, RecordType};
 use ioc_links::Link;
-use ioc_record::{
-    Condition, Drive, Fresh, Got, InputKind, LinkField, Output, RecordBody, Want, text_in,
-};
+use ioc_record::RecordBody;
 use ioc_values::{Kind, Text, Value, of_number};
 
 /// The own fields of a stringout. Record Reference Manual, "String Output Record".
-#[derive(Clone, Copy, Drop)]
+#[derive(Drop)]
 pub struct Stringout {
     /// VAL.
     pub value: Text,
@@ -70,11 +69,11 @@ impl RecordBody for Stringout {
         RecordType::Stringout
     }
 
-    fn link(&self, field: OwnField) -> Option<&LinkField> {
+    fn link(&self, field: OwnField) -> Option<&KeptLink> {
         self.drive.link(field)
     }
 
-    fn set_link(&mut self, field: OwnField, link: LinkField) {
+    fn set_link(&mut self, field: OwnField, link: KeptLink) {
         self.drive.set_link(field, link);
     }
 
@@ -135,7 +134,7 @@ impl RecordBody for Stringout {
 
     #[tactic(auto, unfolding(crate::specs::Stringout::stringout_loaded, crate::specs::Stringout::stringout_stored, ioc_values::specs::Conversion::sort_of))]
     fn load(&mut self, condition: &mut Condition) {
-        if let Link::Constant(constant) = self.drive.desired.link {
+        if let Link::Constant(constant) = self.drive.desired.get().link {
             if let Some(value) = of_number(Kind::Text, constant) {
                 self.store(condition, OwnField::Val, value);
             }

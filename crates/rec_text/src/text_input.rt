@@ -3,13 +3,13 @@ ghost use Rattle.std.specs.Prelude.{◌≡◌};
 ghost use Rattle.ioc_record.specs.BodyRules.{Held};
 ghost use Rattle.rec_text.specs.TextInput.{new_text_input, text_input_get, text_input_stored, came, constant_put};
 
+use ioc_common::{Condition, Got, Source, text_in};
 use ioc_fields::OwnField;
 use ioc_links::Link;
-use ioc_record::{Condition, Got, Source, text_in};
 use ioc_values::{Kind, Text, Value, of_number};
 
 /// VAL, a text, and INP. Record Reference Manual, "String Input Record" and "Event Record".
-#[derive(Clone, Copy, Drop)]
+#[derive(Drop)]
 pub struct TextInput {
     /// VAL.
     pub value: Text,
@@ -64,7 +64,7 @@ impl TextInput {
     pub fn put_constant(&mut self, condition: &mut Condition)
         ensures { record { body = self.new; condition = condition.new } ≡ constant_put (record { body = self.old; condition = condition.old }) self.old.source.input.link }
     {
-        if let Link::Constant(constant) = self.source.input.link {
+        if let Link::Constant(constant) = self.source.input.get().link {
             if let Some(value) = of_number(Kind::Text, constant) {
                 self.store(condition, OwnField::Val, value);
             }

@@ -15,6 +15,6 @@ loop-item-preserved c =
     let so_far : c.loop-item.records ≡ map f (take i all) ++ drop i all = c.loop-item.invariant in
     let types : c.as_slice.result.now ≡ map record_rules.record_type all = c.as_slice.ensures.value ∙ c.in_ok-types.ensures in
     let new : c.finish_record.new.item ≡ f (get_or all i x) =
-    c.finish_record.ensures ∙ ap (λ (ts : List RecordType). finished record_rules c.args.names.now ts (get_or c.loop-item.records i x)) types ∙ ap (λ (rs : List Record). f (get_or rs i x)) so_far ∙ ap f (get_more f all i x c.loop-item-test.true)
+    c.in_ok-finish_record.ensures ∙ ap (λ (ts : List RecordType). finished record_rules c.args.names.now ts (get_or c.loop-item.records i x)) types ∙ ap (λ (rs : List Record). f (get_or rs i x)) so_far ∙ ap f (get_more f all i x c.loop-item-test.true)
     in
     rw (new, so_far) (map_more f all i x c.loop-item-test.true)

@@ -6,7 +6,7 @@ use Rattle.ioc_dbtext.proofs.expansion.expand.Given as goal
 
 abbrev pub invariant-loop-rest : goal.invariant-loop-rest
 invariant-loop-rest l =
-    (after (parts_of l.lengths.items l.bytes.items) (expansion l.room (lines_of l.rest)) ≡ expansion most_bytes (lines_of l.text)) × (sum l.lengths.items ≡ length l.bytes.items) × (length l.lengths.items + l.room ≤ 2 ^ 24)
+    (after (parts_of l.lengths.items l.bytes.items) (expansion l.macros l.room (lines_of l.rest)) ≡ expansion l.macros most_bytes (lines_of l.text)) × (sum l.lengths.items ≡ length l.bytes.items) × (length l.lengths.items + l.room ≤ 2 ^ 24)
 
 abbrev pub decreases-loop-rest : goal.decreases-loop-rest
 decreases-loop-rest l = length l.rest

@@ -1,13 +1,11 @@
 use Rattle.std.proofs.Common.{◌≡◌, ◌+◌, length}
 use Rattle.ioc_dbtext.specs.Bytes.{behind_gap}
-use Rattle.ioc_dbtokens.specs.Tokens.{tokens_at}
-use Rattle.ioc_dbtokens.specs.SeenLines.{texts}
 use Rattle.ioc_dbtokens.specs.SeenPlace.{tokens_of_place}
 use Rattle.ioc_dbtokens.proofs.tokens.find.Given as goal
 
-abbrev pub invariant-loop-behind : goal.invariant-loop-behind
-invariant-loop-behind l =
-    (tokens_at l.line l.rest (texts l.behind) l.end ≡ tokens_of_place l.fn.place) × (behind_gap l.rest ≡ l.rest) × (l.line + length l.behind.lengths.now ≡ l.fn.place.line + length l.fn.place.behind.lengths.now)
+abbrev pub invariant-loop-first : goal.invariant-loop-first
+invariant-loop-first l =
+    (tokens_of_place l.place ≡ tokens_of_place l.fn.place) × (behind_gap l.place.rest.now ≡ l.place.rest.now) × (l.place.line + length l.place.behind.lengths.now ≡ l.fn.place.line + length l.fn.place.behind.lengths.now) × (l.place.end ≡ l.fn.place.end)
 
-abbrev pub decreases-loop-behind : goal.decreases-loop-behind
-decreases-loop-behind l = length l.behind.lengths.now
+abbrev pub decreases-loop-first : goal.decreases-loop-first
+decreases-loop-first l = length l.place.behind.lengths.now

@@ -11,7 +11,7 @@ returns-in_err-run_script-clause-err g c =
     let same-names = c.in_ok-names.names-is in
     let kept = c.in_ok-replay.ensures.names in
     let named : c.in_ok-replay.replay.names ≡ (database_of c.in_ok-names.field-0).names = cc in
-    let stops = runs_stop c.args.db.now (database_of c.in_ok-names.field-0) c.in_ok-names.field-0.map c.in_ok-replay.replay.names (world_of c.in_ok-replay.replay.map) c.in_ok-names.ensures refl named c.in_ok-replay.ensures.world c.in_err-run_script.field-0.0 (g.R.Read.remaining c.args.script) (g.W.Write.contents c.args.out.now) (g.W.Write.contents c.run_script.new.out) c.in_err-run_script.ensures.err in
+    let stops = runs_stop c.args.macros.now c.args.db.now (database_of c.in_ok-names.field-0) c.in_ok-names.field-0.map c.in_ok-replay.replay.names (world_of c.in_ok-replay.replay.map) c.in_ok-names.ensures refl named c.in_ok-replay.ensures.world c.in_err-run_script.field-0.0 (g.R.Read.remaining c.args.script) (g.W.Write.contents c.args.out.now) (g.W.Write.contents c.run_script.new.out) c.in_err-run_script.ensures.err in
     rw (p.1, p.2) stops
 
 pub returns-clause-ok : goal.returns-clause-ok
@@ -19,4 +19,4 @@ returns-clause-ok g c =
     let same-names = c.in_ok-names.names-is in
     let kept = c.in_ok-replay.ensures.names in
     let named : c.in_ok-replay.replay.names ≡ (database_of c.in_ok-names.field-0).names = cc in
-    runs_whole c.args.db.now (database_of c.in_ok-names.field-0) c.in_ok-names.field-0.map c.in_ok-replay.replay.names (world_of c.in_ok-replay.replay.map) c.in_ok-names.ensures refl named c.in_ok-replay.ensures.world (g.R.Read.remaining c.args.script) (g.W.Write.contents c.args.out.now) (g.W.Write.contents c.run_script.new.out) c.in_ok-run_script.ensures.ok
+    runs_whole c.args.macros.now c.args.db.now (database_of c.in_ok-names.field-0) c.in_ok-names.field-0.map c.in_ok-replay.replay.names (world_of c.in_ok-replay.replay.map) c.in_ok-names.ensures refl named c.in_ok-replay.ensures.world (g.R.Read.remaining c.args.script) (g.W.Write.contents c.args.out.now) (g.W.Write.contents c.run_script.new.out) c.in_ok-run_script.ensures.ok

@@ -1,8 +1,9 @@
-use Rattle.std.proofs.Common.{sym, ◌∙◌}
+use Rattle.std.proofs.Common.{refl, sym, ◌∙◌}
+use Rattle.ioc_process.proofs.Answering.{begins_same}
 use Rattle.ioc_process.specs.declared.event.Event.TheVariants.{Put}
 use Rattle.ioc_process.proofs.Worlds.{has-put}
 use Rattle.ioc_process.proofs.Keeping.{keeps_on, closed_on}
-use Rattle.ioc_process.proofs.Stepping.{tells-refused, tells-put_refused, step-put, keeps-put_field}
+use Rattle.ioc_process.proofs.Stepping.{tells-refused, tells-put_refused, tells-put, step-put, keeps-put_field}
 use Rattle.ioc_process.proofs.events.run_put.Goals as goal
 
 pub returns-then-not-has-clause-step : goal.returns-then-not-has-clause-step
@@ -26,10 +27,20 @@ process_after_put-requires-clause-room g c =
 
 pub returns-in-Ok-clause-step : goal.returns-in-Ok-clause-step
 returns-in-Ok-clause-step g c = λ answers begins.
-    rw (
-      step-put g.S.Record.RecordKind.rules answers (g.S.Store.world c.args.store.now) c.args.number c.args.field c.args.given _ (sym c.has.ensures ∙ c.if-not-has.false) c.in-Ok.ensures.ok,
-      ← c.in-Ok.ensures.stored,
-    ) (c.process_after_put.ensures.after answers begins)
+    let k = g.S.Record.RecordKind.rules in
+    let w = g.S.Store.world c.args.store.now in
+    let s = c.args.number in
+    rw (step-put k answers w s c.args.field c.args.given _ (sym c.has.ensures ∙ c.if-not-has.false) c.in-Ok.ensures.ok)
+    (tells-put k answers w _ s c.args.field c.args.given _ _ _ _ _ (rw c.in-Ok.ensures.stored at (c.process_after_put.ensures.after answers begins)))
+
+pub returns-then-not-has-clause-given : goal.returns-then-not-has-clause-given
+returns-then-not-has-clause-given g c = begins_same refl
+
+pub returns-in-Err-clause-given : goal.returns-in-Err-clause-given
+returns-in-Err-clause-given g c = begins_same c.in-Err.ensures.given
+
+pub returns-in-Ok-clause-given : goal.returns-in-Ok-clause-given
+returns-in-Ok-clause-given g c = rw c.in-Ok.ensures.given at c.process_after_put.ensures.given
 
 pub returns-in-Ok-clause-keeps : goal.returns-in-Ok-clause-keeps
 returns-in-Ok-clause-keeps g c =

@@ -1,7 +1,8 @@
-use Rattle.std.proofs.Common.{true, false, ◌∙◌, sym, arith}
+use Rattle.std.proofs.Common.{true, ◌∙◌, sym, arith}
+use Rattle.ioc_ledger.specs.declared.outcome.Outcome.TheVariants.{Processed}
 use Rattle.ioc_process.proofs.Keeping.{keeps-active, keeps_on, closed_on}
 use Rattle.ioc_process.proofs.Bodies.{forward_stands}
-use Rattle.ioc_process.proofs.FrameSteps.{ready, ready-keeps, ready-called, ready-ended, passive_there, finished-calls, finished-ends}
+use Rattle.ioc_process.proofs.FrameSteps.{ready, ready-keeps, ready-called, ready-ended, passive_there, finished-calls, finished-ends, rested-keeps}
 use Rattle.ioc_process.proofs.FrameTurns.{turn_pushed, opens_pushed}
 use Rattle.ioc_process.proofs.Turning.{turns_calls, turns_ended}
 use Rattle.ioc_process.proofs.finishing.finish.Goals as goal
@@ -22,8 +23,8 @@ pub set_active-requires : goal.set_active-requires
 set_active-requires g c =
     rw c.show.ensures.world ((ready-keeps g.S.Record.RecordKind.rules g.met.S.Record.RecordKind.lawful (g.S.Store.world c.args.store.now) c.args.number c.requires.there).has _ c.requires.there)
 
-pub set_active-requires-in-None : goal.set_active-requires-in-None
-set_active-requires-in-None g c =
+pub rest-requires : goal.rest-requires
+rest-requires g c =
     rw c.show.ensures.world ((ready-keeps g.S.Record.RecordKind.rules g.met.S.Record.RecordKind.lawful (g.S.Store.world c.args.store.now) c.args.number c.requires.there).has _ c.requires.there)
 
 pub returns-in-Some-clause-turn : goal.returns-in-Some-clause-turn
@@ -58,7 +59,7 @@ returns-in-None-clause-turn g c = λ answers.
     let k = g.S.Record.RecordKind.rules in
     let lawful = g.met.S.Record.RecordKind.lawful in
     let w = g.S.Store.world c.args.store.now in
-    rw (c.set_active-in-None.ensures.world, c.show.ensures.world)
+    rw (c.rest.ensures.world, c.show.ensures.world)
     (finished-ends k lawful answers w c.args.number (rw (c.in_use-link.ensures, c.common.ensures, c.show.ensures.world) at (sym c.passive_target.ensures ∙ c.in-None.is)))
 
 pub returns-in-None-clause-turns : goal.returns-in-None-clause-turns
@@ -67,5 +68,5 @@ returns-in-None-clause-turns g c =
     let lawful = g.met.S.Record.RecordKind.lawful in
     let w = g.S.Store.world c.args.store.now in
     let first = ready-keeps k lawful w c.args.number c.requires.there in
-    rw (c.set_active-in-None.ensures.world, c.show.ensures.world)
-    (turns_ended k (keeps_on k first (keeps-active k lawful _ c.args.number (first.has _ c.requires.there) false)) (omega (arith, ready-ended k lawful w c.args.number c.requires.is_idle)))
+    rw (c.rest.ensures.world, c.show.ensures.world)
+    (turns_ended k (keeps_on k first (rested-keeps k lawful _ c.args.number (first.has _ c.requires.there))) (omega (arith, ready-ended k lawful w c.args.number c.requires.is_idle)) Processed)

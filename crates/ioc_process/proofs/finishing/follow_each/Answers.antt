@@ -1,6 +1,6 @@
 use Rattle.std.proofs.Common.{◌+◌, Bool, ℕ, true, cond, ap, sym, ◌∙◌, arith}
 use Rattle.ioc_process.specs.Links.{link_at}
-use Rattle.ioc_process.specs.Processing.{request, followed_each}
+use Rattle.ioc_process.specs.Processing.{request, followed_each, processed}
 use Rattle.ioc_process.specs.Frames.{then_finished, remaining}
 use Rattle.ioc_process.proofs.Worlds.{room-active}
 use Rattle.ioc_process.proofs.Keeping.{keeps-active}
@@ -31,7 +31,7 @@ returns-in-Some-passive_target-clause-turn g c = λ answers.
     let named = rw (c.link_at-link.ensures, i.world) at (sym c.passive_target.ensures ∙ c.in-Some-passive_target.is) in
     let chosen = remaining-chosen k lawful links c.loop-slot.next c.in-Some.slot (sym c.from_index.ensures ∙ c.in-Some.is) (sym c.is_chosen.ensures ∙ c.if-is_chosen.true) in
     rw (c.push_reserved.ensures.items, turn_pushed, c.set_active.ensures.world, i.world)
-    (i.left answers ∙ ap (λ slots. then_finished k answers s (followed_each k (request k answers) w s slots)) chosen
+    (ap (λ d. processed d) (i.left answers ∙ ap (λ slots. then_finished k answers s (followed_each k (request k answers) w s slots)) chosen)
     ∙ each-calls k lawful answers w s links (c.loop-slot.next + 1) c.in-Some.slot c.in-Some-passive_target.target c.requires.is_idle named)
 
 pub returns-in-Some-passive_target-clause-turns : goal.returns-in-Some-passive_target-clause-turns
@@ -101,5 +101,5 @@ returns-clause-turn g c = λ answers.
     let i = c.loop-slot.invariant in
     let links = c.args.links in
     let none = remaining-none k lawful links c.loop-slot.next (sym c.from_index.ensures ∙ none_of c.from_index.result (λ x is. c.in_default.not-Some x is)) in
-    i.left answers ∙ ap (λ slots. then_finished k answers s (followed_each k (request k answers) w s slots)) none
-    ∙ then_finished-none k lawful answers w s ∙ (rw i.world at (c.finish.ensures.turn answers))
+    ap (λ d. processed d) (i.left answers ∙ ap (λ slots. then_finished k answers s (followed_each k (request k answers) w s slots)) none
+    ∙ then_finished-none k lawful answers w s) ∙ (rw i.world at (c.finish.ensures.turn answers))

@@ -1,9 +1,11 @@
 use Rattle.std.proofs.Common.{true, ap, sym, ◌∙◌, refl, arith}
 use Rattle.ioc_ledger.specs.Requests.{None}
+use Rattle.ioc_ledger.specs.declared.outcome.Outcome.TheVariants.{Processed}
+use Rattle.ioc_process.specs.Given.{answers_of}
 use Rattle.ioc_process.specs.declared.outbox.OutboxItem.TheVariants.{Post}
-use Rattle.ioc_process.specs.Processing.{request, finished, write_device, put_out}
+use Rattle.ioc_process.specs.Processing.{request, finished, write_device, put_out, processed}
 use Rattle.ioc_process.specs.Frames.{then_finished, after_turn, Ended}
-use Rattle.ioc_process.proofs.Answering.{begins_all, write_device-requests}
+use Rattle.ioc_process.proofs.Answering.{begins_all, write_device-requests, begins_same}
 use Rattle.ioc_process.proofs.Depth.{sent-stays, write_device-outs}
 use Rattle.ioc_process.proofs.Keeping.{sent-keeps, closed_on}
 use Rattle.ioc_process.proofs.FrameSteps.{then_finished-none, output-on, output-waits, remaining-all}
@@ -40,8 +42,8 @@ returns-in-NoOutput-clause-turn g c = λ answers begins.
     let k = g.S.Record.RecordKind.rules in
     let lawful = g.met.S.Record.RecordKind.lawful in
     let w = g.S.Store.world c.args.store.now in
-    rw c.in-NoOutput.is (output-on k lawful answers c.args.number (record { world = w; requests = None; goes_on = true }) refl
-    ∙ then_finished-none k lawful answers w c.args.number ∙ c.finish.ensures.turn answers)
+    rw c.in-NoOutput.is (ap (λ d. processed d) (output-on k lawful answers c.args.number (record { world = w; requests = None; goes_on = true }) refl
+    ∙ then_finished-none k lawful answers w c.args.number) ∙ c.finish.ensures.turn answers)
 
 pub returns-in-WriteLink-clause-turn : goal.returns-in-WriteLink-clause-turn
 unfolding put_out
@@ -49,7 +51,7 @@ returns-in-WriteLink-clause-turn g c = λ answers begins.
     let k = g.S.Record.RecordKind.rules in
     let lawful = g.met.S.Record.RecordKind.lawful in
     let w = g.S.Store.world c.args.store.now in
-    rw c.in-WriteLink.is (output-on k lawful answers c.args.number _ refl ∙ c.write_link.ensures.turn answers)
+    rw c.in-WriteLink.is (ap (λ d. processed d) (output-on k lawful answers c.args.number _ refl) ∙ c.write_link.ensures.turn answers)
 
 pub returns-then-write_device-clause-turn : goal.returns-then-write_device-clause-turn
 unfolding put_out
@@ -57,11 +59,12 @@ returns-then-write_device-clause-turn g c = λ answers begins.
     let k = g.S.Record.RecordKind.rules in
     let lawful = g.met.S.Record.RecordKind.lawful in
     let w = g.S.Store.world c.args.store.now in
+    let v = c.in-WriteDevice.value in
     let out = c.write_device.ensures.out answers (rw c.finish-then-write_device.ensures.given at begins) in
-    rw c.in-WriteDevice.is (output-on k lawful answers c.args.number (write_device k answers w c.args.number) (sym out.goes_on ∙ c.if-write_device.true)
-    ∙ ap (λ r. then_finished k answers c.args.number (record { world = (write_device k answers w c.args.number).world; requests = r })) (write_device-requests k answers w c.args.number)
-    ∙ then_finished-none k lawful answers (write_device k answers w c.args.number).world c.args.number
-    ∙ ap (λ v. finished k (request k answers) v c.args.number) (sym out.world)
+    rw c.in-WriteDevice.is (ap (λ d. processed d) (output-on k lawful answers c.args.number (write_device k answers w c.args.number v) (sym out.goes_on ∙ c.if-write_device.true)
+    ∙ ap (λ r. then_finished k answers c.args.number (record { world = (write_device k answers w c.args.number v).world; requests = r })) (write_device-requests k answers w c.args.number v)
+    ∙ then_finished-none k lawful answers (write_device k answers w c.args.number v).world c.args.number
+    ∙ ap (λ u. finished k (request k answers) u c.args.number) (sym out.world))
     ∙ c.finish-then-write_device.ensures.turn answers)
 
 pub returns-else-write_device-clause-turn : goal.returns-else-write_device-clause-turn
@@ -70,18 +73,19 @@ returns-else-write_device-clause-turn g c = λ answers begins.
     let k = g.S.Record.RecordKind.rules in
     let lawful = g.met.S.Record.RecordKind.lawful in
     let w = g.S.Store.world c.args.store.now in
+    let v = c.in-WriteDevice.value in
     let out = c.write_device.ensures.out answers begins in
-    rw c.in-WriteDevice.is (output-waits k lawful answers c.args.number (write_device k answers w c.args.number) (sym out.goes_on ∙ c.if-write_device.false) (write_device-requests k answers w c.args.number)
-    ∙ ap (λ v. after_turn k answers v Ended) (sym out.world))
+    rw c.in-WriteDevice.is (output-waits k lawful answers c.args.number (write_device k answers w c.args.number v) (sym out.goes_on ∙ c.if-write_device.false) (write_device-requests k answers w c.args.number v)
+    ∙ ap (λ u. after_turn k answers u (Ended Processed)) (sym out.world))
 
 pub returns-else-write_device-clause-turns : goal.returns-else-write_device-clause-turns
 returns-else-write_device-clause-turns g c =
     let k = g.S.Record.RecordKind.rules in
     let lawful = g.met.S.Record.RecordKind.lawful in
     let w = g.S.Store.world c.args.store.now in
-    let given = g.S.Store.given c.write_device.new.store in
-    let out = c.write_device.ensures.out given (begins_all given) in
-    turns_ended k c.write_device.ensures.keeps (rw out.world (omega (arith, (write_device-outs k lawful given w c.args.number).fewer)))
+    let calls = (g.S.Store.given c.write_device.new.store).calls in
+    let out = c.write_device.ensures.out (answers_of calls) (begins_all calls) in
+    turns_ended k c.write_device.ensures.keeps (rw out.world (omega (arith, (write_device-outs k lawful (answers_of calls) w c.args.number c.in-WriteDevice.value).fewer))) Processed
 
 pub returns-in-FollowLinks-clause-turn : goal.returns-in-FollowLinks-clause-turn
 unfolding put_out
@@ -89,7 +93,7 @@ returns-in-FollowLinks-clause-turn g c = λ answers begins.
     let k = g.S.Record.RecordKind.rules in
     let lawful = g.met.S.Record.RecordKind.lawful in
     let w = g.S.Store.world c.args.store.now in
-    rw (c.in-FollowLinks.is, ← remaining-all k lawful) (output-on k lawful answers c.args.number _ refl ∙ c.follow_each.ensures.turn answers)
+    rw (c.in-FollowLinks.is, ← remaining-all k lawful) (ap (λ d. processed d) (output-on k lawful answers c.args.number _ refl) ∙ c.follow_each.ensures.turn answers)
 
 pub returns-in-PostEvent-clause-turn : goal.returns-in-PostEvent-clause-turn
 unfolding put_out
@@ -97,7 +101,7 @@ returns-in-PostEvent-clause-turn g c = λ answers begins.
     let k = g.S.Record.RecordKind.rules in
     let lawful = g.met.S.Record.RecordKind.lawful in
     let w = g.S.Store.world c.args.store.now in
-    rw c.in-PostEvent.is (output-on k lawful answers c.args.number _ refl ∙ then_finished-none k lawful answers _ c.args.number
+    rw c.in-PostEvent.is (ap (λ d. processed d) (output-on k lawful answers c.args.number _ refl ∙ then_finished-none k lawful answers _ c.args.number)
     ∙ (rw c.send.ensures.world at (c.finish-in-PostEvent.ensures.turn answers)))
 
 pub returns-in-PostEvent-clause-turns : goal.returns-in-PostEvent-clause-turns
@@ -107,3 +111,15 @@ returns-in-PostEvent-clause-turns g c =
     let w = g.S.Store.world c.args.store.now in
     turns_on k (sent-keeps k lawful (Post c.in-PostEvent.name) w) (omega (arith, (sent-stays k lawful (Post c.in-PostEvent.name) w c.args.number).fewer)) (omega arith)
     (rw c.send.ensures.world at c.finish-in-PostEvent.ensures.turns)
+
+pub returns-in-NoOutput-clause-given : goal.returns-in-NoOutput-clause-given
+returns-in-NoOutput-clause-given g c = begins_same c.finish.ensures.given
+
+pub returns-in-WriteLink-clause-given : goal.returns-in-WriteLink-clause-given
+returns-in-WriteLink-clause-given g c = begins_same c.write_link.ensures.given
+
+pub returns-in-FollowLinks-clause-given : goal.returns-in-FollowLinks-clause-given
+returns-in-FollowLinks-clause-given g c = begins_same c.follow_each.ensures.given
+
+pub returns-in-PostEvent-clause-given : goal.returns-in-PostEvent-clause-given
+returns-in-PostEvent-clause-given g c = begins_same (c.finish-in-PostEvent.ensures.given ∙ c.send.ensures.given)

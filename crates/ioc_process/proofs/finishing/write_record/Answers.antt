@@ -1,5 +1,5 @@
 use Rattle.std.proofs.Common.{Bool, ℕ, true, cond, ap, sym, ◌∙◌, arith}
-use Rattle.ioc_process.specs.Processing.{wrote, request}
+use Rattle.ioc_process.specs.Processing.{wrote, request, processed}
 use Rattle.ioc_process.specs.Frames.{then_finished}
 use Rattle.ioc_process.proofs.Worlds.{room-active}
 use Rattle.ioc_process.proofs.Depth.{wrote-stays}
@@ -69,8 +69,8 @@ returns-in-InVain-clause-turn g c = λ answers.
     let k = g.S.Record.RecordKind.rules in
     let lawful = g.met.S.Record.RecordKind.lawful in
     let w = g.S.Store.world c.args.store.now in
-    ap (then_finished k answers c.args.number) (written-vain k (request k answers) (wrote k w c.args.number c.args.target c.args.value) c.args.number c.args.target (sym c.write_value.ensures.written ∙ c.in-InVain.is))
-    ∙ then_finished-none k lawful answers _ c.args.number
+    ap (λ d. processed (then_finished k answers c.args.number d)) (written-vain k (request k answers) (wrote k w c.args.number c.args.target c.args.value) c.args.number c.args.target (sym c.write_value.ensures.written ∙ c.in-InVain.is))
+    ∙ ap (λ d. processed d) (then_finished-none k lawful answers _ c.args.number)
     ∙ (rw c.write_value.ensures.world at (c.finish_with_fault.ensures.turn answers))
 
 pub returns-in-InVain-clause-turns : goal.returns-in-InVain-clause-turns
@@ -86,8 +86,8 @@ returns-in-Alone-clause-turn g c = λ answers.
     let k = g.S.Record.RecordKind.rules in
     let lawful = g.met.S.Record.RecordKind.lawful in
     let w = g.S.Store.world c.args.store.now in
-    ap (then_finished k answers c.args.number) (written-alone k (request k answers) (wrote k w c.args.number c.args.target c.args.value) c.args.number c.args.target (sym c.write_value.ensures.written ∙ c.in-Alone.is))
-    ∙ then_finished-none k lawful answers _ c.args.number
+    ap (λ d. processed (then_finished k answers c.args.number d)) (written-alone k (request k answers) (wrote k w c.args.number c.args.target c.args.value) c.args.number c.args.target (sym c.write_value.ensures.written ∙ c.in-Alone.is))
+    ∙ ap (λ d. processed d) (then_finished-none k lawful answers _ c.args.number)
     ∙ (rw c.write_value.ensures.world at (c.finish.ensures.turn answers))
 
 pub returns-in-Alone-clause-turns : goal.returns-in-Alone-clause-turns
@@ -105,7 +105,7 @@ returns-in-AndRequests-clause-turn g c = λ answers.
     let w = g.S.Store.world c.args.store.now in
     let inactive = (wrote-stays k lawful w c.args.number c.args.target c.args.value).active ∙ c.requires.is_idle in
     rw (c.push_reserved.ensures.items, turn_pushed, c.set_active.ensures.world, c.write_value.ensures.world)
-    (ap (then_finished k answers c.args.number) (written-requests k (request k answers) (wrote k w c.args.number c.args.target c.args.value) c.args.number c.args.target (sym c.write_value.ensures.written ∙ c.in-AndRequests.is))
+    (ap (λ d. processed (then_finished k answers c.args.number d)) (written-requests k (request k answers) (wrote k w c.args.number c.args.target c.args.value) c.args.number c.args.target (sym c.write_value.ensures.written ∙ c.in-AndRequests.is))
     ∙ writing-calls k lawful answers (wrote k w c.args.number c.args.target c.args.value).world c.args.number c.args.target.number inactive)
 
 pub returns-in-AndRequests-clause-turns : goal.returns-in-AndRequests-clause-turns

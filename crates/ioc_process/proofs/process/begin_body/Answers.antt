@@ -1,8 +1,10 @@
 use Rattle.std.proofs.Common.{ap, ◌∙◌, sym, refl, arith}
-use Rattle.ioc_process.specs.Processing.{request, completed, input, read_device}
+use Rattle.ioc_ledger.specs.declared.outcome.Outcome.TheVariants.{Processed}
+use Rattle.ioc_process.specs.Given.{answers_of}
+use Rattle.ioc_process.specs.Processing.{request, completed, input, read_device, processed}
 use Rattle.ioc_process.specs.Frames.{after_turn}
 use Rattle.ioc_process.specs.Frames.{Ended}
-use Rattle.ioc_process.proofs.Answering.{begins_all, begins_on, read_device-requests}
+use Rattle.ioc_process.proofs.Answering.{begins_all, begins_on, starts_before, read_device-requests}
 use Rattle.ioc_process.proofs.Depth.{read_device-reads}
 use Rattle.ioc_process.proofs.Keeping.{closed_on}
 use Rattle.ioc_process.proofs.Bodies.{input_stands}
@@ -21,14 +23,14 @@ finish_body-requires-in-Some-clause-closed g c = closed_on _ g.met.S.Record.Reco
 pub returns-in-NoInput-clause-turn : goal.returns-in-NoInput-clause-turn
 unfolding input
 returns-in-NoInput-clause-turn g c = λ answers begins.
-    body-input g.S.Record.RecordKind.rules g.met.S.Record.RecordKind.lawful answers _ _ _ (ap g.S.Record.RecordKind.rules.begin (sym c.record.ensures) ∙ sym c.begin.ensures ∙ c.in-NoInput.is)
-    ∙ after_reading-came g.S.Record.RecordKind.rules g.met.S.Record.RecordKind.lawful answers _ _ _ refl refl
+    ap (λ d. processed d) (body-input g.S.Record.RecordKind.rules g.met.S.Record.RecordKind.lawful answers _ _ _ (ap g.S.Record.RecordKind.rules.begin (sym c.record.ensures) ∙ sym c.begin.ensures ∙ c.in-NoInput.is)
+    ∙ after_reading-came g.S.Record.RecordKind.rules g.met.S.Record.RecordKind.lawful answers _ _ _ refl refl)
     ∙ c.finish_body.ensures.turn answers begins
 
 pub returns-in-ReadLink-clause-turn : goal.returns-in-ReadLink-clause-turn
 unfolding input
 returns-in-ReadLink-clause-turn g c = λ answers begins.
-    body-input g.S.Record.RecordKind.rules g.met.S.Record.RecordKind.lawful answers _ _ _ (ap g.S.Record.RecordKind.rules.begin (sym c.record.ensures) ∙ sym c.begin.ensures ∙ c.in-ReadLink.is)
+    ap (λ d. processed d) (body-input g.S.Record.RecordKind.rules g.met.S.Record.RecordKind.lawful answers _ _ _ (ap g.S.Record.RecordKind.rules.begin (sym c.record.ensures) ∙ sym c.begin.ensures ∙ c.in-ReadLink.is))
     ∙ c.begin_reading.ensures.turn answers begins
 
 pub returns-in-Some-clause-turn : goal.returns-in-Some-clause-turn
@@ -36,10 +38,10 @@ unfolding input
 returns-in-Some-clause-turn g c = λ answers begins.
     let k = g.S.Record.RecordKind.rules in
     let w = g.S.Store.world c.args.store.now in
-    let device = c.in-Some.ensures.read answers (begins_on c.finish_body-in-Some.ensures.given begins) in
-    body-input k g.met.S.Record.RecordKind.lawful answers _ _ _ (ap k.begin (sym c.record.ensures) ∙ sym c.begin.ensures ∙ c.in-ReadDevice.is)
+    let device = c.in-Some.ensures.read answers (starts_before c.finish_body-in-Some.ensures.given begins) in
+    ap (λ d. processed d) (body-input k g.met.S.Record.RecordKind.lawful answers _ _ _ (ap k.begin (sym c.record.ensures) ∙ sym c.begin.ensures ∙ c.in-ReadDevice.is)
     ∙ after_reading-came k g.met.S.Record.RecordKind.lawful answers c.args.number (read_device k answers w c.args.number) c.in-Some.got (sym device.came) (read_device-requests k answers w c.args.number)
-    ∙ ap (λ v. completed k answers (request k answers) v c.args.number c.in-Some.got) (sym device.world)
+    ∙ ap (λ v. completed k answers (request k answers) v c.args.number c.in-Some.got) (sym device.world))
     ∙ c.finish_body-in-Some.ensures.turn answers begins
 
 pub returns-in-None-clause-turn : goal.returns-in-None-clause-turn
@@ -48,9 +50,9 @@ returns-in-None-clause-turn g c = λ answers begins.
     let k = g.S.Record.RecordKind.rules in
     let w = g.S.Store.world c.args.store.now in
     let device = c.in-None.ensures.read answers begins in
-    body-input k g.met.S.Record.RecordKind.lawful answers _ _ _ (ap k.begin (sym c.record.ensures) ∙ sym c.begin.ensures ∙ c.in-ReadDevice.is)
+    ap (λ d. processed d) (body-input k g.met.S.Record.RecordKind.lawful answers _ _ _ (ap k.begin (sym c.record.ensures) ∙ sym c.begin.ensures ∙ c.in-ReadDevice.is))
     ∙ after_reading-none k g.met.S.Record.RecordKind.lawful answers c.args.number (read_device k answers w c.args.number) (sym device.came) (read_device-requests k answers w c.args.number)
-    ∙ ap (λ v. after_turn k answers v Ended) (sym device.world)
+    ∙ ap (λ v. after_turn k answers v (Ended Processed)) (sym device.world)
 
 pub returns-in-Some-clause-turns : goal.returns-in-Some-clause-turns
 returns-in-Some-clause-turns g c =
@@ -60,7 +62,11 @@ returns-in-Some-clause-turns g c =
 pub returns-in-None-clause-turns : goal.returns-in-None-clause-turns
 returns-in-None-clause-turns g c =
     let k = g.S.Record.RecordKind.rules in
-    let given = g.S.Store.given c.ask_device.new.store in
-    let device = c.in-None.ensures.read given (begins_all given) in
+    let calls = (g.S.Store.given c.ask_device.new.store).calls in
+    let given = answers_of calls in
+    let device = c.in-None.ensures.read given (begins_all calls) in
     let reads = read_device-reads k g.met.S.Record.RecordKind.lawful given (g.S.Store.world c.args.store.now) c.args.number in
-    turns_ended k c.in-None.ensures.keeps (rw device.world (omega (arith, reads.fewer)))
+    turns_ended k c.in-None.ensures.keeps (rw device.world (omega (arith, reads.fewer))) Processed
+
+pub returns-in-Some-clause-given : goal.returns-in-Some-clause-given
+returns-in-Some-clause-given g c = begins_on c.in-Some.ensures.given c.finish_body-in-Some.ensures.given

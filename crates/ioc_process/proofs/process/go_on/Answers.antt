@@ -1,66 +1,117 @@
-use Rattle.std.proofs.Common.{true, false, refl, arith}
+use Rattle.std.proofs.Common.{true, false, refl, ◌∙◌, arith}
+use Rattle.ioc_ledger.specs.declared.outcome.Outcome.TheVariants.{Processed}
 use Rattle.ioc_process.specs.Frames.{went_on, after_turn}
 use Rattle.ioc_process.proofs.Keeping.{keeps-active, keeps_on, closed_on}
-use Rattle.ioc_process.proofs.FrameSteps.{went_on-came, read-inactive, read-idle, read-keeps, twice-idle}
-use Rattle.ioc_process.proofs.FrameSteps.{back-idle, back-inactive}
+use Rattle.ioc_process.proofs.Answering.{begins_same}
+use Rattle.ioc_process.proofs.FrameSteps.{back-idle, back-inactive, rested-keeps, twice-rested}
 use Rattle.ioc_process.proofs.Turning.{turns_on, turns_ended}
 use Rattle.ioc_process.proofs.process.go_on.Goals as goal
 
-pub read_value-got-requires-clause-there : goal.read_value-got-requires-clause-there
-read_value-got-requires-clause-there g c =
-    rw c.set_active.ensures.world ((keeps-active _ g.met.S.Record.RecordKind.lawful (g.S.Store.world c.args.store.now) c.args.frame.source c.requires.stands.source_there false).has _ c.requires.stands.source_there)
-
-pub read_value-got-requires-clause-standing : goal.read_value-got-requires-clause-standing
-read_value-got-requires-clause-standing g c =
-    rw c.set_active.ensures.world ((keeps-active _ g.met.S.Record.RecordKind.lawful (g.S.Store.world c.args.store.now) c.args.frame.source c.requires.stands.source_there false).has _ (rw c.in-Reading.is at c.requires.stands.place_stands))
-
-pub finish_body-requires-clause-there : goal.finish_body-requires-clause-there
-finish_body-requires-clause-there g c =
-    rw (c.read_value-got.ensures.read.world, c.set_active.ensures.world)
-    ((read-keeps _ g.met.S.Record.RecordKind.lawful (g.S.Store.world c.args.store.now) c.args.frame.source c.in-Reading.target c.requires.closed c.requires.stands.source_there (rw c.in-Reading.is at c.requires.stands.place_stands)).has _ c.requires.stands.source_there)
-
-pub finish_body-requires-clause-closed : goal.finish_body-requires-clause-closed
-finish_body-requires-clause-closed g c =
+pub take_disable-requires-clause-there : goal.take_disable-requires-clause-there
+take_disable-requires-clause-there g c =
+    let k = g.S.Record.RecordKind.rules in
     let lawful = g.met.S.Record.RecordKind.lawful in
-    rw (c.read_value-got.ensures.read.world, c.set_active.ensures.world)
-    (closed_on _ lawful (read-keeps _ lawful (g.S.Store.world c.args.store.now) c.args.frame.source c.in-Reading.target c.requires.closed c.requires.stands.source_there (rw c.in-Reading.is at c.requires.stands.place_stands)) c.requires.closed)
+    let w = g.S.Store.world c.args.store.now in
+    let s = c.args.frame.source in
+    let keeps = keeps-active k lawful w s c.requires.stands.source_there false in
+    rw c.set_active.ensures.world (keeps.has _ c.requires.stands.source_there)
 
-pub finish_body-requires-clause-is_idle : goal.finish_body-requires-clause-is_idle
-finish_body-requires-clause-is_idle g c =
-    rw (c.read_value-got.ensures.read.world, c.set_active.ensures.world) (read-inactive _ g.met.S.Record.RecordKind.lawful (g.S.Store.world c.args.store.now) c.args.frame.source c.in-Reading.target)
+pub take_disable-requires-clause-closed : goal.take_disable-requires-clause-closed
+take_disable-requires-clause-closed g c =
+    let k = g.S.Record.RecordKind.rules in
+    let lawful = g.met.S.Record.RecordKind.lawful in
+    let w = g.S.Store.world c.args.store.now in
+    let s = c.args.frame.source in
+    let keeps = keeps-active k lawful w s c.requires.stands.source_there false in
+    rw c.set_active.ensures.world (closed_on k lawful keeps c.requires.closed)
 
-pub set_active-requires-in-Following-2 : goal.set_active-requires-in-Following-2
-set_active-requires-in-Following-2 g c =
-    rw c.set_active-in-Following.ensures.world ((keeps-active _ g.met.S.Record.RecordKind.lawful (g.S.Store.world c.args.store.now) c.args.frame.source c.requires.stands.source_there true).has _ c.requires.stands.source_there)
+pub take_disable-requires-clause-is_idle : goal.take_disable-requires-clause-is_idle
+take_disable-requires-clause-is_idle g c =
+    let k = g.S.Record.RecordKind.rules in
+    let lawful = g.met.S.Record.RecordKind.lawful in
+    let w = g.S.Store.world c.args.store.now in
+    let s = c.args.frame.source in
+    let keeps = keeps-active k lawful w s c.requires.stands.source_there false in
+    rw c.set_active.ensures.world (back-inactive k lawful w s)
+
+pub take_disable-requires-clause-standing : goal.take_disable-requires-clause-standing
+take_disable-requires-clause-standing g c =
+    let k = g.S.Record.RecordKind.rules in
+    let lawful = g.met.S.Record.RecordKind.lawful in
+    let w = g.S.Store.world c.args.store.now in
+    let s = c.args.frame.source in
+    let keeps = keeps-active k lawful w s c.requires.stands.source_there false in
+    rw c.set_active.ensures.world (keeps.has _ (rw c.in-ReadingDisable.is at c.requires.stands.place_stands))
+
+pub returns-in-ReadingDisable-clause-turn : goal.returns-in-ReadingDisable-clause-turn
+unfolding went_on
+returns-in-ReadingDisable-clause-turn g c = λ answers begins.
+    rw (c.in-ReadingDisable.is, ← c.set_active.ensures.world) (c.take_disable.ensures.turn answers begins)
+
+pub returns-in-ReadingDisable-clause-given : goal.returns-in-ReadingDisable-clause-given
+returns-in-ReadingDisable-clause-given g c = rw c.set_active.ensures.given at c.take_disable.ensures.given
+
+pub returns-in-ReadingDisable-clause-turns : goal.returns-in-ReadingDisable-clause-turns
+returns-in-ReadingDisable-clause-turns g c =
+    let k = g.S.Record.RecordKind.rules in
+    let lawful = g.met.S.Record.RecordKind.lawful in
+    let w = g.S.Store.world c.args.store.now in
+    let s = c.args.frame.source in
+    let keeps = keeps-active k lawful w s c.requires.stands.source_there false in
+    rw c.in-ReadingDisable.is (turns_on k keeps (omega (arith, back-idle k lawful w s)) (omega arith) (rw c.set_active.ensures.world at c.take_disable.ensures.turns))
+
+pub take_value-requires-clause-there : goal.take_value-requires-clause-there
+take_value-requires-clause-there g c =
+    let k = g.S.Record.RecordKind.rules in
+    let lawful = g.met.S.Record.RecordKind.lawful in
+    let w = g.S.Store.world c.args.store.now in
+    let s = c.args.frame.source in
+    let keeps = keeps-active k lawful w s c.requires.stands.source_there false in
+    rw c.set_active-in-Reading.ensures.world (keeps.has _ c.requires.stands.source_there)
+
+pub take_value-requires-clause-closed : goal.take_value-requires-clause-closed
+take_value-requires-clause-closed g c =
+    let k = g.S.Record.RecordKind.rules in
+    let lawful = g.met.S.Record.RecordKind.lawful in
+    let w = g.S.Store.world c.args.store.now in
+    let s = c.args.frame.source in
+    let keeps = keeps-active k lawful w s c.requires.stands.source_there false in
+    rw c.set_active-in-Reading.ensures.world (closed_on k lawful keeps c.requires.closed)
+
+pub take_value-requires-clause-is_idle : goal.take_value-requires-clause-is_idle
+take_value-requires-clause-is_idle g c =
+    let k = g.S.Record.RecordKind.rules in
+    let lawful = g.met.S.Record.RecordKind.lawful in
+    let w = g.S.Store.world c.args.store.now in
+    let s = c.args.frame.source in
+    let keeps = keeps-active k lawful w s c.requires.stands.source_there false in
+    rw c.set_active-in-Reading.ensures.world (back-inactive k lawful w s)
+
+pub take_value-requires-clause-standing : goal.take_value-requires-clause-standing
+take_value-requires-clause-standing g c =
+    let k = g.S.Record.RecordKind.rules in
+    let lawful = g.met.S.Record.RecordKind.lawful in
+    let w = g.S.Store.world c.args.store.now in
+    let s = c.args.frame.source in
+    let keeps = keeps-active k lawful w s c.requires.stands.source_there false in
+    rw c.set_active-in-Reading.ensures.world (keeps.has _ (rw c.in-Reading.is at c.requires.stands.place_stands))
 
 pub returns-in-Reading-clause-turn : goal.returns-in-Reading-clause-turn
+unfolding went_on
 returns-in-Reading-clause-turn g c = λ answers begins.
-    rw c.in-Reading.is
-    (went_on-came g.S.Record.RecordKind.rules g.met.S.Record.RecordKind.lawful answers (g.S.Store.world c.args.store.now) _ _ c.in-Reading.target _ _ (rw c.set_active.ensures.world at c.read_value-got.ensures.read) (c.finish_body.ensures.turn answers begins))
+    rw (c.in-Reading.is, ← c.set_active-in-Reading.ensures.world) (c.take_value.ensures.turn answers begins)
 
-pub returns-in-Following-clause-turn : goal.returns-in-Following-clause-turn
-unfolding went_on after_turn
-returns-in-Following-clause-turn g c = λ answers begins.
-    rw (c.in-Following.is, c.set_active-in-Following-2.ensures.world, c.set_active-in-Following.ensures.world) refl
+pub returns-in-Reading-clause-given : goal.returns-in-Reading-clause-given
+returns-in-Reading-clause-given g c = rw c.set_active-in-Reading.ensures.given at c.take_value.ensures.given
 
 pub returns-in-Reading-clause-turns : goal.returns-in-Reading-clause-turns
 returns-in-Reading-clause-turns g c =
     let k = g.S.Record.RecordKind.rules in
     let lawful = g.met.S.Record.RecordKind.lawful in
     let w = g.S.Store.world c.args.store.now in
-    let source = c.args.frame.source in
-    let first = read-keeps k lawful w source c.in-Reading.target c.requires.closed c.requires.stands.source_there (rw c.in-Reading.is at c.requires.stands.place_stands) in
-    rw c.in-Reading.is (turns_on k first (omega (arith, read-idle k lawful w source c.in-Reading.target)) (omega arith)
-    (rw (c.read_value-got.ensures.read.world, c.set_active.ensures.world) at c.finish_body.ensures.turns))
-
-pub returns-in-Following-clause-turns : goal.returns-in-Following-clause-turns
-returns-in-Following-clause-turns g c =
-    let k = g.S.Record.RecordKind.rules in
-    let lawful = g.met.S.Record.RecordKind.lawful in
-    let w = g.S.Store.world c.args.store.now in
-    let first = keeps-active k lawful w c.args.frame.source c.requires.stands.source_there true in
-    rw (c.set_active-in-Following-2.ensures.world, c.set_active-in-Following.ensures.world)
-    (turns_ended k (keeps_on k first (keeps-active k lawful _ c.args.frame.source (first.has _ c.requires.stands.source_there) false)) (omega (arith, twice-idle k lawful w c.args.frame.source)))
+    let s = c.args.frame.source in
+    let keeps = keeps-active k lawful w s c.requires.stands.source_there false in
+    rw c.in-Reading.is (turns_on k keeps (omega (arith, back-idle k lawful w s)) (omega arith) (rw c.set_active-in-Reading.ensures.world at c.take_value.ensures.turns))
 
 pub finish-requires-clause-there : goal.finish-requires-clause-there
 finish-requires-clause-there g c =
@@ -84,7 +135,27 @@ pub finish-requires-clause-is_idle : goal.finish-requires-clause-is_idle
 finish-requires-clause-is_idle g c =
     let k = g.S.Record.RecordKind.rules in
     let lawful = g.met.S.Record.RecordKind.lawful in
-    rw c.set_active-in-Writing.ensures.world (back-inactive k lawful (g.S.Store.world c.args.store.now) c.args.frame.source)
+    let w = g.S.Store.world c.args.store.now in
+    let s = c.args.frame.source in
+    let keeps = keeps-active k lawful w s c.requires.stands.source_there false in
+    rw c.set_active-in-Writing.ensures.world (back-inactive k lawful w s)
+
+pub returns-in-Writing-clause-turn : goal.returns-in-Writing-clause-turn
+unfolding went_on
+returns-in-Writing-clause-turn g c = λ answers begins.
+    rw (c.in-Writing.is, ← c.set_active-in-Writing.ensures.world) (c.finish.ensures.turn answers)
+
+pub returns-in-Writing-clause-given : goal.returns-in-Writing-clause-given
+returns-in-Writing-clause-given g c = begins_same (c.finish.ensures.given ∙ c.set_active-in-Writing.ensures.given)
+
+pub returns-in-Writing-clause-turns : goal.returns-in-Writing-clause-turns
+returns-in-Writing-clause-turns g c =
+    let k = g.S.Record.RecordKind.rules in
+    let lawful = g.met.S.Record.RecordKind.lawful in
+    let w = g.S.Store.world c.args.store.now in
+    let s = c.args.frame.source in
+    let keeps = keeps-active k lawful w s c.requires.stands.source_there false in
+    rw c.in-Writing.is (turns_on k keeps (omega (arith, back-idle k lawful w s)) (omega arith) (rw c.set_active-in-Writing.ensures.world at c.finish.ensures.turns))
 
 pub follow_each-requires-clause-there : goal.follow_each-requires-clause-there
 follow_each-requires-clause-there g c =
@@ -108,26 +179,18 @@ pub follow_each-requires-clause-is_idle : goal.follow_each-requires-clause-is_id
 follow_each-requires-clause-is_idle g c =
     let k = g.S.Record.RecordKind.rules in
     let lawful = g.met.S.Record.RecordKind.lawful in
-    rw c.set_active-in-FollowingEach.ensures.world (back-inactive k lawful (g.S.Store.world c.args.store.now) c.args.frame.source)
-
-pub returns-in-Writing-clause-turn : goal.returns-in-Writing-clause-turn
-unfolding went_on
-returns-in-Writing-clause-turn g c = λ answers begins.
-    rw (c.in-Writing.is, ← c.set_active-in-Writing.ensures.world) (c.finish.ensures.turn answers)
-
-pub returns-in-Writing-clause-turns : goal.returns-in-Writing-clause-turns
-returns-in-Writing-clause-turns g c =
-    let k = g.S.Record.RecordKind.rules in
-    let lawful = g.met.S.Record.RecordKind.lawful in
     let w = g.S.Store.world c.args.store.now in
     let s = c.args.frame.source in
     let keeps = keeps-active k lawful w s c.requires.stands.source_there false in
-    rw c.in-Writing.is (turns_on k keeps (omega (arith, back-idle k lawful w s)) (omega arith) (rw c.set_active-in-Writing.ensures.world at c.finish.ensures.turns))
+    rw c.set_active-in-FollowingEach.ensures.world (back-inactive k lawful w s)
 
 pub returns-in-FollowingEach-clause-turn : goal.returns-in-FollowingEach-clause-turn
 unfolding went_on
 returns-in-FollowingEach-clause-turn g c = λ answers begins.
     rw (c.in-FollowingEach.is, ← c.set_active-in-FollowingEach.ensures.world) (c.follow_each.ensures.turn answers)
+
+pub returns-in-FollowingEach-clause-given : goal.returns-in-FollowingEach-clause-given
+returns-in-FollowingEach-clause-given g c = begins_same (c.follow_each.ensures.given ∙ c.set_active-in-FollowingEach.ensures.given)
 
 pub returns-in-FollowingEach-clause-turns : goal.returns-in-FollowingEach-clause-turns
 returns-in-FollowingEach-clause-turns g c =
@@ -137,3 +200,24 @@ returns-in-FollowingEach-clause-turns g c =
     let s = c.args.frame.source in
     let keeps = keeps-active k lawful w s c.requires.stands.source_there false in
     rw c.in-FollowingEach.is (turns_on k keeps (omega (arith, back-idle k lawful w s)) (omega arith) (rw c.set_active-in-FollowingEach.ensures.world at c.follow_each.ensures.turns))
+
+pub rest-requires : goal.rest-requires
+rest-requires g c =
+    rw c.set_active-in-Following.ensures.world ((keeps-active _ g.met.S.Record.RecordKind.lawful (g.S.Store.world c.args.store.now) c.args.frame.source c.requires.stands.source_there true).has _ c.requires.stands.source_there)
+
+pub returns-in-Following-clause-turn : goal.returns-in-Following-clause-turn
+unfolding went_on after_turn
+returns-in-Following-clause-turn g c = λ answers begins.
+    rw (c.in-Following.is, c.rest.ensures.world, c.set_active-in-Following.ensures.world) refl
+
+pub returns-in-Following-clause-given : goal.returns-in-Following-clause-given
+returns-in-Following-clause-given g c = begins_same (c.rest.ensures.given ∙ c.set_active-in-Following.ensures.given)
+
+pub returns-in-Following-clause-turns : goal.returns-in-Following-clause-turns
+returns-in-Following-clause-turns g c =
+    let k = g.S.Record.RecordKind.rules in
+    let lawful = g.met.S.Record.RecordKind.lawful in
+    let w = g.S.Store.world c.args.store.now in
+    let first = keeps-active k lawful w c.args.frame.source c.requires.stands.source_there true in
+    rw (c.rest.ensures.world, c.set_active-in-Following.ensures.world)
+    (turns_ended k (keeps_on k first (rested-keeps k lawful _ c.args.frame.source (first.has _ c.requires.stands.source_there))) (omega (arith, twice-rested k lawful w c.args.frame.source)) Processed)

@@ -1,8 +1,11 @@
-use Rattle.ioc_process.proofs.RulesAllowed.{cause-allowed, follow-allowed, gets-allowed, puts_out-allowed, finish-allowed, proceed-allowed, run-allowed}
+use Rattle.ioc_process.proofs.RulesAllowed.{cause-allowed, follow-allowed, reads-allowed, gets-allowed, puts_out-allowed, finish-allowed, proceed-allowed, run-allowed}
 use Rattle.ioc_process.proofs.rules.rules_allow_parts.Goals as goal
 
 pub returns-clause-causes : goal.returns-clause-causes
 returns-clause-causes g c = λ answers w s t. cause-allowed g.K.RecordKind.rules g.met.K.RecordKind.lawful answers w s t
+
+pub returns-clause-reads : goal.returns-clause-reads
+returns-clause-reads g c = λ answers kind w s link. reads-allowed g.K.RecordKind.rules g.met.K.RecordKind.lawful answers kind w s link
 
 pub returns-clause-gets : goal.returns-clause-gets
 returns-clause-gets g c = λ answers w s want. gets-allowed g.K.RecordKind.rules g.met.K.RecordKind.lawful answers w s want

@@ -5,7 +5,7 @@ pub returns-clause-causes : goal.returns-clause-causes
 returns-clause-causes g c = λ answers w after s t requests r. caused-is g.K.RecordKind.rules g.met.K.RecordKind.lawful answers r
 
 pub returns-clause-reads : goal.returns-clause-reads
-returns-clause-reads g c = λ answers w after s link got requests r. read_link-is g.K.RecordKind.rules g.met.K.RecordKind.lawful answers r
+returns-clause-reads g c = λ answers kind w after s link got requests r. read_link-is g.K.RecordKind.rules g.met.K.RecordKind.lawful answers r
 
 pub returns-clause-gets : goal.returns-clause-gets
 returns-clause-gets g c = λ answers w after s want came requests r. input-is g.K.RecordKind.rules g.met.K.RecordKind.lawful answers r

@@ -1,8 +1,8 @@
-use Rattle.std.proofs.Common.{sym, subst}
+use Rattle.std.proofs.Common.{refl, sym, subst}
 use Rattle.ioc_types.specs.Record.{record_rules}
 use Rattle.ioc_process.specs.OneMap.{world_of}
 use Rattle.ioc_process.specs.Rules.{IsSettled}
-use Rattle.ioc_main.proofs.Closing.{settled_same, room_same, faults_begin}
+use Rattle.ioc_main.proofs.Closing.{settled_same, room_same, run-faults, none_yet, faults_begin, tally_plain}
 use Rattle.ioc_main.proofs.replay.Replay.put.Goals as goal
 
 pub run_put-requires : goal.run_put-requires
@@ -14,7 +14,8 @@ run_put-requires c = record {
 
 pub invariant_of-self : goal.invariant_of-self
 invariant_of-self c =
-    let told = c.run_put.ensures.step _ (faults_begin c.run_put.new.store) in
+    let all = run-faults _ (λ before ask moment answer after is. is) c.run_put.ensures.given (none_yet c.begin.new.self (world_of c.args.self.now.map) c.begin.ensures) in
+    let told = c.run_put.ensures.step _ (faults_begin c.run_put.new.store all) in
     let before : IsSettled record_rules (world_of c.begin.new.self) = settled_same record_rules (world_of c.args.self.now.map) (world_of c.begin.new.self) c.begin.ensures c.args.self.now.settled in
     let room = room_same (world_of c.args.self.now.map) (world_of c.begin.new.self) _ c.begin.ensures c.args.self.now.room in
     record {
@@ -32,15 +33,18 @@ invariant_of-self-in-Err-1 c = record {
 
 pub returns-in-Ok-clause-world : goal.returns-in-Ok-clause-world
 returns-in-Ok-clause-world c =
-    let told = c.run_put.ensures.step _ (faults_begin c.run_put.new.store) in
+    let all = run-faults _ (λ before ask moment answer after is. is) c.run_put.ensures.given (none_yet c.begin.new.self (world_of c.args.self.now.map) c.begin.ensures) in
+    let told = c.run_put.ensures.step _ (faults_begin c.run_put.new.store all) in
     rw (sym c.in-Ok.ensures, sym c.begin.ensures, sym c.from_text-given.ensures) told.world
 
 pub returns-in-Ok-clause-reply : goal.returns-in-Ok-clause-reply
 returns-in-Ok-clause-reply c =
-    let told = c.run_put.ensures.step _ (faults_begin c.run_put.new.store) in
+    let all = run-faults _ (λ before ask moment answer after is. is) c.run_put.ensures.given (none_yet c.begin.new.self (world_of c.args.self.now.map) c.begin.ensures) in
+    let told = c.run_put.ensures.step _ (faults_begin c.run_put.new.store all) in
     rw (sym c.in-Ok.ensures, sym c.begin.ensures, sym c.from_text-given.ensures) told.reply
 
 pub returns-in-Ok-clause-tally : goal.returns-in-Ok-clause-tally
 returns-in-Ok-clause-tally c =
-    let told = c.run_put.ensures.step _ (faults_begin c.run_put.new.store) in
-    rw (sym c.in-Ok.ensures, sym c.begin.ensures, sym c.from_text-given.ensures) told.tally
+    let all = run-faults _ (λ before ask moment answer after is. is) c.run_put.ensures.given (none_yet c.begin.new.self (world_of c.args.self.now.map) c.begin.ensures) in
+    let told = c.run_put.ensures.step _ (faults_begin c.run_put.new.store all) in
+    rw (sym c.in-Ok.ensures, sym c.begin.ensures, sym c.from_text-given.ensures) (tally_plain _ _ _ _ _ _ (none_yet c.begin.new.self (world_of c.args.self.now.map) c.begin.ensures) refl told.world all told.tally)

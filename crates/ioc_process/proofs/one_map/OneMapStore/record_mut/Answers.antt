@@ -11,7 +11,7 @@ pub returns : goal.returns
 returns g c =
     let s = c.args.self.now in
     let within = has_within s.records.items c.args.number c.requires in (
-      (refl, λ r. set-there s c.index-place.result c.args.number r _ c.index-place.ensures),
+      (refl, λ r. set-there s c.index-place.result c.args.number r c.index-place.ensures),
       record {
         lends = tt;
         value = at-numbered g.K.RecordKind.rules s c.args.number c.index_mut.result.now

@@ -1,0 +1,85 @@
+//! A queue of limited length.
+ghost use Rattle.std.specs.Prelude.{◌≡◌, ◌<◌, ◌↔◌, [], ◌∷◌, ◌++◌, ℕ, length, option_to_list, IsTrue, IsSome, IfOk, Ok, Err, OnOk, OnErr, IfErr};
+
+use std::alloc::{AllocError, Global};
+use std::collections::VecDeque;
+use std::marker::Model;
+
+/// A queue, first in, first out, of at most `LIMIT` items. All its room is taken when it is made.
+#[derive(Drop)]
+pub struct Queue<T, const LIMIT: usize> {
+    items: VecDeque<T>,
+}
+
+impl<T, const LIMIT: usize> Model for Queue<T, LIMIT> {
+    ghost use Rattle.std.specs.Prelude.{◌≡◌, ◌≤◌, List, length};
+    ghost use Rattle.std.specs.VecDeque.{deque_len, deque_capacity};
+
+    ghost Value = { List T };
+
+    ghost view = { λ q. q.items.items };
+
+    ghost invariant = { λ q. (length q.items.items ≤ LIMIT) × (deque_len q.items ≡ length q.items.items) × (deque_capacity q.items ≡ LIMIT) };
+}
+
+impl<T, const LIMIT: usize> Queue<T, LIMIT> {
+    /// An empty queue, with room for all that it will hold.
+    ///
+    /// # Errors
+    ///
+    /// [`AllocError`] where memory is wanting.
+    pub fn new(alloc: Global) -> Result<Self, AllocError>
+        ensures { IfOk result (λ q. q ≡ []) }
+    {
+        let items = VecDeque::with_capacity(alloc, LIMIT)?;
+        Ok(Queue { items })
+    }
+
+    /// Does it hold as many items as it can?
+    pub fn is_full(&self) -> bool
+        ensures { IsTrue result ↔ (length self.now ≡ LIMIT) }
+    {
+        self.items.len() == LIMIT
+    }
+
+    /// How many items it holds.
+    pub fn len(&self) -> usize
+        ensures { result ≡ length self.now }
+    {
+        self.items.len()
+    }
+
+    /// Does it hold none?
+    pub fn is_empty(&self) -> bool
+        ensures { IsTrue result ↔ (self.now ≡ []) }
+    {
+        self.items.is_empty()
+    }
+
+    /// Puts an item at the end.
+    ///
+    /// # Errors
+    ///
+    /// The item, where the queue is full: it is as before then.
+    pub fn push(&mut self, item: T) -> Result<(), T>
+        ensures room { OnOk result (length self.old < LIMIT) }
+        ensures pushed { OnOk result (self.new ≡ self.old ++ item ∷ []) }
+        ensures full { OnErr result (length self.old ≡ LIMIT) }
+        ensures same { OnErr result (self.new ≡ self.old) }
+        ensures given_back { IfErr result (λ given. given ≡ item) }
+    {
+        if self.items.len() == LIMIT {
+            return Err(item);
+        }
+        self.items.push_back_reserved(item);
+        Ok(())
+    }
+
+    /// Takes the first item.
+    pub fn pop(&mut self) -> Option<T>
+        ensures taken { self.old ≡ option_to_list result ++ self.new }
+        ensures some { IsSome result ↔ (0 < length self.old) }
+    {
+        self.items.pop_front()
+    }
+}

@@ -1,0 +1,11 @@
+pub mod Links
+pub mod KeptLink
+pub mod Condition
+pub mod Scanning
+pub mod Disabling
+pub mod Steps
+pub mod CommonFields
+pub mod Parts
+pub mod Drive
+pub mod Source
+pub mod Raw

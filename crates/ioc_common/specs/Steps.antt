@@ -1,0 +1,135 @@
+-- Steps on the fields that every record has. Application Developer's Guide, "dbProcess"; Record Reference Manual, "Alarm Fields".
+use Rattle.std.specs.Prelude.{ℕ, List, [], ◌+◌, min, Bool, true, false, ◌||◌, nat_lt, if◌then◌else◌, Option, Some, None, ℤ, unwrap_or}
+use Rattle.std.specs.Option.{option_and_then}
+use Rattle.ioc_menus.specs.declared.severity.Severity.{Severity}
+use Rattle.ioc_menus.specs.declared.severity.Severity.TheVariants.{NoAlarm as NoSeverity, Invalid}
+use Rattle.ioc_menus.specs.declared.status.Status.{Status}
+use Rattle.ioc_menus.specs.declared.status.Status.TheVariants.{NoAlarm, Scan, Disable}
+use Rattle.ioc_menus.specs.declared.scan.Scan.{Scan as Scan-choice}
+use Rattle.ioc_menus.specs.declared.scan.Scan.TheVariants.{Passive}
+use Rattle.ioc_values.specs.declared.kind.Range.TheVariants.{Short}
+use Rattle.ioc_values.specs.Conversion.{Numbers, of_number}
+use Rattle.ioc_links.specs.declared.link.Link.{Link}
+use Rattle.ioc_links.specs.declared.link.Link.TheVariants.{Constant}
+use Rattle.ioc_links.specs.declared.link.Mode.{Mode}
+use Rattle.ioc_alarms.specs.Alarms.{is_invalid}
+use Rattle.ioc_common.specs.Condition.{raised as raised_in, settled as settled_in, inherited as inherited_in, new_condition}
+use Rattle.ioc_common.specs.declared.common.Common.{Common}
+use Rattle.ioc_common.specs.declared.condition.Condition.{Condition}
+use Rattle.ioc_common.specs.Scanning.{new_scanning}
+use Rattle.ioc_common.specs.Disabling.{new_disabling}
+use Rattle.ioc_common.specs.declared.body.InputKind.{InputKind}
+use Rattle.ioc_common.specs.declared.body.InputKind.TheVariants.{Number}
+use Rattle.ioc_common.specs.Links.{no_link}
+use Rattle.ioc_common.specs.Parts.{short_in}
+
+-- the status that says that a record was found active too often
+abbrev pub is_scan : Status → Bool
+is_scan Scan = true
+is_scan _ = false
+
+-- with an alarm raised
+abbrev pub raised : Status → Severity → Common → Common
+raised status severity c = record c { condition = raised_in status severity c.condition }
+
+-- with another record's alarm taken over
+abbrev pub inherited : Mode → Status → Severity → Common → Common
+inherited mode status severity c = record c { condition = inherited_in mode status severity c.condition }
+
+-- after a request that found the record active: counted, and where ten were counted before, SCAN is raised and shown.
+-- A record that shows SCAN is left alone, and one that shows an INVALID alarm raises none
+unfoldable pub blocked : Common → Common
+blocked c =
+    if is_scan c.condition.alarms.status then c
+    else
+    let counted : Common = record c { lock_count = min 255 (c.lock_count + 1) } in
+    if nat_lt c.lock_count 10 || is_invalid c.condition.alarms.severity then counted
+    else record counted { condition = settled_in (raised_in Scan Invalid c.condition) }
+
+-- with the active mark as given
+abbrev pub with_active : Bool → Common → Common
+with_active active c = record c { active = active }
+
+-- after a request that found the record idle
+abbrev pub unblocked : Common → Common
+unblocked c = record c { lock_count = 0 }
+
+-- TIME becomes the event's moment, the alarm raised is shown, and the record is active while it goes on to others
+abbrev pub shown : ℕ → Common → Common
+shown moment c = record c { active = true; time = moment; condition = settled_in c.condition }
+
+-- the status of a disabled record
+abbrev pub is_disable : Status → Bool
+is_disable Disable = true
+is_disable _ = false
+
+-- with DISABLE shown, of this severity, and no alarm raised
+abbrev pub disable_shown : Severity → Condition → Condition
+disable_shown severity c = record c { alarms = record { status = Disable; severity = severity; new_status = NoAlarm; new_severity = NoSeverity } }
+
+-- after a request that found the record disabled: it shows DISABLE with DISS, where it doesn't show DISABLE yet, and no put
+-- is under way any more
+unfoldable pub disabled : Common → Common
+disabled c = record c {
+  by_put = false;
+  reprocess = false;
+  condition = if is_disable c.condition.alarms.status then c.condition else disable_shown c.disabling.severity c.condition;
+}
+
+-- with PUTF as given
+abbrev pub with_put_mark : Bool → Common → Common
+with_put_mark by_put c = record c { by_put = by_put }
+
+-- with RPRO as given
+abbrev pub with_reprocess_mark : Bool → Common → Common
+with_reprocess_mark reprocess c = record c { reprocess = reprocess }
+
+abbrev pub is_passive_choice : Scan-choice → Bool
+is_passive_choice Passive = true
+is_passive_choice _ = false
+
+-- it is processed only where a client or another record asks for it
+abbrev pub is_passive : Common → Bool
+is_passive c = is_passive_choice c.scanning.scan
+
+-- its device answers later
+abbrev pub waiting : Common → Common
+waiting c = record c { active = true; pending = Some (c.last_pending + 1); last_pending = c.last_pending + 1 }
+
+-- its device has answered at last
+abbrev pub answered : Common → Common
+answered c = record c { pending = None }
+
+-- what SDIS gives is a Short
+abbrev pub disable_kind : InputKind
+disable_kind = Number Short
+
+-- a constant as a Short, where it is in range
+abbrev pub short_constant : Link → Option ℤ
+short_constant (Constant z) = option_and_then short_in (of_number (Numbers Short) z)
+short_constant _ = None
+
+-- at the end of a load a constant SDIS goes into DISA
+unfoldable pub constant_put : Common → Common
+constant_put c = record c { disabling = record c.disabling { input = unwrap_or (short_constant c.disable_link.link) c.disabling.input } }
+
+-- the fields of a new record
+unfoldable pub new_common : List ℕ → Common
+new_common name = record {
+  name = name;
+  description = [];
+  access_group = [];
+  condition = new_condition;
+  scanning = new_scanning;
+  disabling = new_disabling;
+  disable_link = no_link;
+  forward_link = no_link;
+  process = 0;
+  lock_count = 0;
+  active = false;
+  by_put = false;
+  reprocess = false;
+  time = 0;
+  pending = None;
+  last_pending = 0;
+}

@@ -1,0 +1,129 @@
+//! The fields by which the output types are driven, and drive.
+ghost use Rattle.std.specs.Prelude.{◌≡◌};
+ghost use Rattle.std.specs.Option.{option_copied};
+ghost use Rattle.ioc_common.specs.Drive.{new_drive, drive_link, drive_with_link, drive_get, drive_stored, drive_begin, drives, sets, written};
+
+use crate::body::{Output, Want};
+use crate::condition::Condition;
+use crate::kept_link::KeptLink;
+use crate::link_field::LinkUse;
+use crate::parts::{ivoa_in, omsl_in};
+use ioc_fields::OwnField;
+use ioc_menus::{Ivoa, Omsl, Severity};
+use ioc_values::Value;
+
+/// OUT, DOL, OMSL and IVOA. Record Reference Manual, "Output Specification" and "Invalid Output Action".
+#[derive(Drop)]
+pub struct Drive {
+    /// OUT.
+    pub output: KeptLink,
+    /// DOL.
+    pub desired: KeptLink,
+    /// OMSL.
+    pub mode: Omsl,
+    /// IVOA.
+    pub on_invalid: Ivoa,
+}
+
+impl Drive {
+    /// Those of a new record.
+    #[tactic(auto, unfolding(crate::specs::Drive::new_drive))]
+    pub fn new() -> Self
+        ensures { result ≡ new_drive }
+    {
+        Drive {
+            output: KeptLink::empty(),
+            desired: KeptLink::empty(),
+            mode: Omsl::Supervisory,
+            on_invalid: Ivoa::ContinueNormally,
+        }
+    }
+
+    pub fn link(&self, field: OwnField) -> Option<&KeptLink>
+        ensures { option_copied result ≡ drive_link self.now.output self.now.desired field }
+    {
+        match field {
+            OwnField::Out => Some(&self.output),
+            OwnField::Dol => Some(&self.desired),
+            _ => None,
+        }
+    }
+
+    #[tactic(auto, unfolding(crate::specs::Drive::drive_with_link))]
+    pub fn set_link(&mut self, field: OwnField, link: KeptLink)
+        ensures { self.new ≡ drive_with_link self.old field link }
+    {
+        match field {
+            OwnField::Out => self.output = link,
+            OwnField::Dol => self.desired = link,
+            _ => {}
+        }
+    }
+
+    #[tactic(auto, unfolding(crate::specs::Drive::drive_get))]
+    pub fn get(&self, field: OwnField) -> Option<Value>
+        ensures { result ≡ drive_get self.now field }
+    {
+        match field {
+            OwnField::Omsl => Some(Value::Enum(self.mode.number())),
+            OwnField::Ivoa => Some(Value::Enum(self.on_invalid.number())),
+            _ => None,
+        }
+    }
+
+    #[tactic(auto, unfolding(crate::specs::Drive::drive_stored))]
+    pub fn store(&mut self, field: OwnField, value: Value)
+        ensures { self.new ≡ drive_stored self.old field value }
+    {
+        match field {
+            OwnField::Omsl => self.mode = omsl_in(value).unwrap_or(self.mode),
+            OwnField::Ivoa => self.on_invalid = ivoa_in(value).unwrap_or(self.on_invalid),
+            _ => {}
+        }
+    }
+
+    /// In a closed loop DOL is read.
+    #[tactic(auto, unfolding(crate::specs::Drive::drive_begin))]
+    pub fn begin(&self) -> Want
+        ensures { result ≡ drive_begin self.now.mode self.now.desired }
+    {
+        match self.mode {
+            Omsl::ClosedLoop => Want::ReadLink(self.desired.in_use()),
+            Omsl::Supervisory => Want::NoInput,
+        }
+    }
+
+    /// Does an alarm raised, INVALID, set the output to IVOV?
+    #[tactic(auto, unfolding(crate::specs::Drive::sets))]
+    pub fn sets(&self, condition: &Condition) -> bool
+        ensures { result ≡ sets self.now.on_invalid condition.now }
+    {
+        match (condition.alarms.new_severity, self.on_invalid) {
+            (Severity::Invalid, Ivoa::SetOutputToIvov) => true,
+            _ => false,
+        }
+    }
+
+    /// Is the output driven? Not with an alarm raised, INVALID, where IVOA says so.
+    #[tactic(auto, unfolding(crate::specs::Drive::drives))]
+    pub fn drives(&self, condition: &Condition) -> bool
+        ensures { result ≡ drives self.now.on_invalid condition.now }
+    {
+        match (condition.alarms.new_severity, self.on_invalid) {
+            (Severity::Invalid, Ivoa::DontDriveOutputs) => false,
+            _ => true,
+        }
+    }
+
+    /// A value goes where OUT leads.
+    #[tactic(auto, unfolding(crate::specs::Drive::written))]
+    pub fn write(&self, value: Value) -> Output
+        ensures { result ≡ written self.now.output value }
+    {
+        match self.output.in_use() {
+            LinkUse::Unused => Output::NoOutput,
+            LinkUse::OwnDevice => Output::WriteDevice(value),
+            link => Output::WriteLink(link, value),
+        }
+    }
+}

@@ -1,0 +1,33 @@
+//! What records of all types share: the fields that each has and the steps on them, link fields, the fields by which
+//! types are fed and drive others, and what a body asks for.
+#![tactic(auto)]
+
+pub mod body;
+pub mod common;
+pub mod common_fields;
+pub mod condition;
+pub mod disabling;
+pub mod drive;
+pub mod kept;
+pub mod kept_link;
+pub mod link_field;
+pub mod parts;
+pub mod raw;
+pub mod scanning;
+pub mod source;
+
+pub use body::{Got, InputKind, Output, Want};
+pub use common::{Common, disable_kind};
+pub use condition::Condition;
+pub use disabling::Disabling;
+pub use drive::Drive;
+pub use kept::{Fresh, Kept};
+pub use kept_link::KeptLink;
+pub use link_field::{FieldAddress, Lead, LinkField, LinkUse, StandingLink};
+pub use parts::{
+    int64_in, ivoa_in, long_in, omsl_in, pini_in, priority_in, scan_in, severity_in, short_in,
+    state_in, text_in, uchar_in, ulong_in, ushort_in,
+};
+pub use raw::{raw_came, raw_constant, state_came, state_constant};
+pub use scanning::Scanning;
+pub use source::Source;

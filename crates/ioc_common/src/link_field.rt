@@ -1,0 +1,87 @@
+//! Link fields, and what a link in use comes to.
+ghost use Rattle.std.specs.Prelude.{◌≡◌};
+ghost use Rattle.ioc_common.specs.Links.{no_link, use_of};
+
+use ioc_fields::FieldNo;
+use ioc_links::{Link, Mode};
+use ioc_names::RecordNo;
+
+/// Where a database link leads: to a record that is there, and a field of it that is no link.
+#[derive(Clone, Copy, PartialEq, Eq, Debug)]
+pub struct FieldAddress {
+    pub number: RecordNo,
+    pub field: FieldNo,
+}
+
+/// Where a link leads: a database link to a field, and a device link to the record's own device.
+#[derive(Clone, Copy, PartialEq, Eq, Debug)]
+pub enum Lead {
+    Nowhere,
+    Field(FieldAddress),
+    OwnDevice,
+}
+
+/// A link field: the link as written, and where it leads. A database link or a device link that leads nowhere is absent.
+#[derive(Clone, Copy, PartialEq, Eq)]
+pub struct LinkField {
+    pub link: Link,
+    pub lead: Lead,
+}
+
+/// A standing link: a record, one of its fields, and how it is read or written.
+#[derive(Clone, Copy, PartialEq, Eq, Debug)]
+pub struct StandingLink {
+    pub number: RecordNo,
+    pub field: FieldNo,
+    /// PP: the record is requested, if it is passive.
+    pub process_passive: bool,
+    pub mode: Mode,
+}
+
+/// What a link comes to when it is used.
+#[derive(Clone, Copy, PartialEq, Eq, Debug)]
+pub enum LinkUse {
+    /// Empty or a constant.
+    Unused,
+    /// The record's own device.
+    OwnDevice,
+    /// A database link whose record or field isn't there, or a device link without a device.
+    Absent,
+    Standing(StandingLink),
+}
+
+#[tactic(auto, unfolding(crate::specs::Links::use_of))]
+impl LinkField {
+    /// An empty link.
+    pub fn empty() -> Self
+        ensures { result ≡ no_link }
+    {
+        LinkField {
+            link: Link::Empty,
+            lead: Lead::Nowhere,
+        }
+    }
+
+    /// What the link comes to in use.
+    /// Application Developer's Guide, "Database Links".
+    pub fn in_use(&self) -> LinkUse
+        ensures { result ≡ use_of self.now }
+    {
+        match self.link {
+            Link::Empty | Link::Constant(_) => LinkUse::Unused,
+            Link::Device(_) => match self.lead {
+                Lead::OwnDevice => LinkUse::OwnDevice,
+                Lead::Nowhere | Lead::Field(_) => LinkUse::Absent,
+            },
+            Link::Database(_, flags) => match self.lead {
+                Lead::Nowhere | Lead::OwnDevice => LinkUse::Absent,
+                Lead::Field(standing) => LinkUse::Standing(StandingLink {
+                    number: standing.number,
+                    field: standing.field,
+                    process_passive: flags.process_passive,
+                    mode: flags.mode,
+                }),
+            },
+        }
+    }
+}

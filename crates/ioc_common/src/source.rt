@@ -1,0 +1,56 @@
+//! The field by which the input types are fed.
+ghost use Rattle.std.specs.Prelude.{◌≡◌};
+ghost use Rattle.std.specs.Option.{option_copied};
+ghost use Rattle.ioc_common.specs.Source.{new_source, source_link, source_with_link, source_begin};
+
+use crate::body::Want;
+use crate::kept_link::KeptLink;
+use crate::link_field::LinkUse;
+use ioc_fields::OwnField;
+
+/// INP. Record Reference Manual, "Input Specification".
+#[derive(Drop)]
+pub struct Source {
+    /// INP.
+    pub input: KeptLink,
+}
+
+impl Source {
+    /// That of a new record: empty.
+    #[tactic(auto, unfolding(crate::specs::Source::new_source))]
+    pub fn new() -> Self
+        ensures { result ≡ new_source }
+    {
+        Source {
+            input: KeptLink::empty(),
+        }
+    }
+
+    pub fn link(&self, field: OwnField) -> Option<&KeptLink>
+        ensures { option_copied result ≡ source_link self.now.input field }
+    {
+        match field {
+            OwnField::Inp => Some(&self.input),
+            _ => None,
+        }
+    }
+
+    #[tactic(auto, unfolding(crate::specs::Source::source_with_link))]
+    pub fn set_link(&mut self, field: OwnField, link: KeptLink)
+        ensures { self.new ≡ source_with_link self.old field link }
+    {
+        if let OwnField::Inp = field {
+            self.input = link;
+        }
+    }
+
+    /// The device is read where INP names the record's own; else INP is read.
+    pub fn begin(&self) -> Want
+        ensures { result ≡ source_begin self.now.input }
+    {
+        match self.input.in_use() {
+            LinkUse::OwnDevice => Want::ReadDevice,
+            link => Want::ReadLink(link),
+        }
+    }
+}

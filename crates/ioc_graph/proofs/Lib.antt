@@ -1,0 +1,5 @@
+pub mod PathLaws
+pub mod Numbered
+mod All
+mod Leading
+pub mod Searching

@@ -1,0 +1,8 @@
+//! The connected parts of records that links join. Application Developer's Guide, "Database Locking, Scanning, and
+//! Processing": lock sets.
+#![tactic(auto)]
+
+pub mod edges;
+pub mod forest;
+
+pub use edges::{Edge, are_below, parts, parts_of_all};

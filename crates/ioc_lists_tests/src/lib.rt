@@ -1,0 +1,15 @@
+//! Tests of devices, completions, notifications, connected parts, queues and scan lists, each on its own.
+#![tactic(auto)]
+
+#[cfg(test)]
+mod callbacks;
+#[cfg(test)]
+mod completions;
+#[cfg(test)]
+mod devices;
+#[cfg(test)]
+mod notifications;
+#[cfg(test)]
+mod parts;
+#[cfg(test)]
+mod scans;

@@ -1,0 +1,120 @@
+//! Waiting lists of notifications.
+use ioc_fields::{CommonField, FieldNo};
+use ioc_names::RecordNo;
+use ioc_notify::{LiveNumbers, NotifyId, WaitingLists};
+use ioc_values::Value;
+use std::test::Fail;
+
+// Adds a notification, where there is room and it is newer than all that wait.
+fn add(lists: &mut WaitingLists, number: u64, target: usize) -> bool {
+    let number = NotifyId::new(number);
+    if !lists.has_room() || !lists.is_newer(number) {
+        return false;
+    }
+    lists.add(
+        number,
+        RecordNo::new(target),
+        FieldNo::Common(CommonField::Desc),
+        Value::Long(1),
+    );
+    true
+}
+
+// The number of the notification that waits longest for a record, with its value.
+fn first_value(lists: &WaitingLists, target: usize) -> Option<(u64, Value)> {
+    let waiting = lists.first(RecordNo::new(target))?;
+    Some((waiting.number.number(), waiting.value))
+}
+
+// Its number alone, where its value is the one that all have.
+fn first(lists: &WaitingLists, target: usize) -> Option<u64> {
+    match first_value(lists, target) {
+        Some((number, Value::Long(1))) => Some(number),
+        _ => None,
+    }
+}
+
+// The lowest record from this one on for which one waits.
+fn next(lists: &WaitingLists, from: usize) -> Option<usize> {
+    let target = lists.next_target(RecordNo::new(from))?;
+    Some(target.index())
+}
+
+#[test]
+fn first_in_first_out_at_each_record(rt: HostRuntime) -> Result<(), Fail> {
+    let mut lists = WaitingLists::with_room(rt.alloc(), 4)?;
+    assert_eq!(rt; next(&lists, 0), None);
+    assert!(rt; add(&mut lists, 1, 7));
+    assert!(rt; add(&mut lists, 3, 5));
+    assert!(rt; add(&mut lists, 4, 7));
+    assert!(rt; !add(&mut lists, 4, 7), "no newer number");
+    assert!(rt; add(&mut lists, 6, 5));
+    assert!(rt; !add(&mut lists, 8, 5), "no room");
+    assert_eq!(rt; first(&lists, 7), Some(1));
+    assert_eq!(rt; first(&lists, 5), Some(3));
+    assert_eq!(rt; first(&lists, 6), None);
+    assert_eq!(rt; next(&lists, 0), Some(5));
+    assert_eq!(rt; next(&lists, 6), Some(7));
+    assert_eq!(rt; next(&lists, 8), None);
+    assert!(rt; lists.remove(NotifyId::new(1)));
+    assert!(rt; !lists.remove(NotifyId::new(1)));
+    assert_eq!(rt; first(&lists, 7), Some(4));
+    assert!(rt; lists.has(NotifyId::new(4)));
+    assert!(rt; !lists.has(NotifyId::new(1)));
+    Ok(())
+}
+
+#[test]
+fn copy_and_more_room(rt: HostRuntime) -> Result<(), Fail> {
+    let mut lists = WaitingLists::with_room(rt.alloc(), 1)?;
+    assert!(rt; add(&mut lists, 1, 7));
+    let copy = lists.copy(rt.alloc())?;
+    assert!(rt; !lists.has_room());
+    lists.reserve(1)?;
+    assert!(rt; add(&mut lists, 2, 7));
+    assert_eq!(rt; copy.as_slice().len(), 1);
+    assert_eq!(rt; lists.as_slice().len(), 2);
+    assert_eq!(rt; first(&copy, 7), Some(1));
+    Ok(())
+}
+
+// Begins a notification, where one may begin.
+fn begin(live: &mut LiveNumbers) -> Option<u64> {
+    if live.can_begin() {
+        Some(live.begin().number())
+    } else {
+        None
+    }
+}
+
+#[test]
+fn notification_ends_with_its_last_holder(rt: HostRuntime) -> Result<(), Fail> {
+    let mut live = LiveNumbers::new(rt.alloc())?;
+    let one = NotifyId::new(1);
+    assert!(rt; !live.is_live(one));
+    assert_eq!(rt; begin(&mut live), Some(1));
+    assert_eq!(rt; begin(&mut live), Some(2));
+    live.gain(one);
+    assert!(rt; live.is_live(one));
+    assert!(rt; !live.lose(one));
+    assert!(rt; live.is_live(one));
+    assert!(rt; live.lose(one));
+    assert!(rt; !live.is_live(one));
+    assert!(rt; !live.lose(one));
+    assert!(rt; live.forget(NotifyId::new(2)));
+    assert!(rt; !live.forget(NotifyId::new(2)));
+    assert_eq!(rt; begin(&mut live), Some(3));
+    Ok(())
+}
+
+#[test]
+fn live_ones_are_256_at_most(rt: HostRuntime) -> Result<(), Fail> {
+    let mut live = LiveNumbers::new(rt.alloc())?;
+    for number in 1..257u64 {
+        assert_eq!(rt; begin(&mut live), Some(number));
+    }
+    assert_eq!(rt; begin(&mut live), None);
+    assert!(rt; live.forget(NotifyId::new(7)));
+    assert_eq!(rt; begin(&mut live), Some(257));
+    Ok(())
+}

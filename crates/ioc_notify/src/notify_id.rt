@@ -1,0 +1,36 @@
+//! Numbers of notifications.
+ghost use Rattle.std.specs.Prelude.{◌≡◌};
+
+use std::marker::Model;
+
+/// The number of a put with notification: 1, 2, 3, .. in the order of the calls.
+#[derive(Clone, Copy, PartialEq, Eq, Debug)]
+pub struct NotifyId {
+    number: u64,
+}
+
+impl Model for NotifyId {
+    ghost use Rattle.std.specs.Prelude.{ℕ};
+
+    ghost Value = { ℕ };
+
+    ghost view = { λ n. n.number };
+
+    ghost inverse = { λ n. record { number = n } };
+}
+
+impl NotifyId {
+    /// The number.
+    pub fn new(number: u64) -> Self
+        ensures { result ≡ number }
+    {
+        NotifyId { number }
+    }
+
+    /// As it is printed.
+    pub fn number(self) -> u64
+        ensures { result ≡ self }
+    {
+        self.number
+    }
+}

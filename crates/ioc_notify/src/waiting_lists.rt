@@ -1,0 +1,172 @@
+//! Notifications that wait for their record.
+ghost use Rattle.std.specs.Prelude.{◌≡◌, ◌↔◌, ◌+◌, ◌<◌, ◌≤◌, ◌==◌, length, All, IsTrue, IfOk, OnOk, OnErr, slice_get};
+ghost use Rattle.std.specs.List.{list_any};
+ghost use Rattle.ioc_notify.specs.Waits.{with_room, added, at_record, without, AreRising, IsLowestFrom, lower};
+
+use crate::notify_id::NotifyId;
+use ioc_fields::FieldNo;
+use ioc_names::RecordNo;
+use ioc_values::Value;
+use std::alloc::{AllocError, Global};
+use std::marker::Model;
+
+/// A put with notification that waits for its record.
+#[derive(Clone, Copy, PartialEq, Eq)]
+pub struct Waiting {
+    pub number: NotifyId,
+    pub target: RecordNo,
+    pub field: FieldNo,
+    /// What is to be put, converted for the field.
+    pub value: Value,
+}
+
+/// The waiting lists of records: first in, first out. Each takes a little of one table, whose room is taken before, so
+/// that nothing allocates when a notification is added.
+#[derive(Drop)]
+pub struct WaitingLists {
+    items: Vec<Waiting>,
+}
+
+impl Model for WaitingLists {
+    ghost use Rattle.std.specs.Prelude.{◌≡◌, ◌≤◌, length};
+    ghost use Rattle.std.specs.Vec.{vec_len, vec_capacity};
+    ghost use Rattle.ioc_notify.specs.Waits.{Waits, AreRising};
+
+    ghost Value = { Waits };
+
+    ghost view = { λ w. record { waiting = w.items.items; room = vec_capacity w.items } };
+
+    ghost invariant = { λ w. AreRising w.items.items };
+}
+
+impl WaitingLists {
+    /// No notification waits, and there is room for so many.
+    ///
+    /// # Errors
+    ///
+    /// [`AllocError`] where memory is wanting.
+    pub fn with_room(alloc: Global, room: usize) -> Result<Self, AllocError>
+        ensures { IfOk result (λ w. w ≡ with_room room) }
+    {
+        let items = Vec::with_capacity(alloc, room)?;
+        Ok(WaitingLists { items })
+    }
+
+    /// Takes room for so many more.
+    ///
+    /// # Errors
+    ///
+    /// [`AllocError`] where memory is wanting: all is as before then.
+    pub fn reserve(&mut self, additional: usize) -> Result<(), AllocError>
+        ensures same { self.new.waiting ≡ self.old.waiting }
+        ensures room { OnOk result (length self.old.waiting + additional ≤ self.new.room) }
+        ensures more { self.old.room ≤ self.new.room }
+        ensures err { OnErr result (self.new ≡ self.old) }
+    {
+        self.items.reserve(additional)
+    }
+
+    /// All that wait, the lowest number first.
+    pub fn as_slice(&self) -> &[Waiting]
+        ensures waiting { result.now ≡ self.now.waiting }
+        ensures rising { AreRising self.now.waiting }
+    {
+        self.items.as_slice()
+    }
+
+    /// Is there room for one more?
+    pub fn has_room(&self) -> bool
+        ensures { IsTrue result ↔ (length self.now.waiting < self.now.room) }
+    {
+        self.items.len() < self.items.capacity()
+    }
+
+    /// Is this number higher than those of all that wait?
+    pub fn is_newer(&self, number: NotifyId) -> bool
+        ensures { IsTrue result ↔ All (λ w. w.number < number) self.now.waiting }
+    {
+        self.items
+            .iter()
+            .all(|waiting| waiting.number.number() < number.number())
+    }
+
+    /// A put with notification waits from now on, behind those that wait for its record: its number, the record, the field,
+    /// and the value, converted for the field. It is newer than all that wait.
+    pub fn add(&mut self, number: NotifyId, target: RecordNo, field: FieldNo, value: Value)
+        requires room { length self.old.waiting < self.old.room }
+        requires newer { All (λ w. w.number < number) self.old.waiting }
+        ensures { self.new ≡ added self.old (record { number = number; target = target; field = field; value = value }) }
+    {
+        self.items.push_reserved(Waiting {
+            number,
+            target,
+            field,
+            value,
+        });
+    }
+
+    /// The notification that waits longest for this record.
+    pub fn first(&self, target: RecordNo) -> Option<Waiting>
+        ensures { result ≡ slice_get (at_record target self.now.waiting) 0 }
+    {
+        for waiting in &self.items {
+            if waiting.target == target {
+                return Some(*waiting);
+            }
+        }
+        None
+    }
+
+    /// Does the notification of this number wait?
+    pub fn has(&self, number: NotifyId) -> bool
+        ensures { result ≡ list_any (λ w. w.number == number) self.now.waiting }
+    {
+        self.items.iter().any(|waiting| waiting.number == number)
+    }
+
+    /// The notification of this number waits no more; answers whether it did.
+    pub fn remove(&mut self, number: NotifyId) -> bool
+        ensures waited { result ≡ list_any (λ w. w.number == number) self.old.waiting }
+        ensures removed { self.new ≡ record self.old { waiting = without number self.old.waiting } }
+    {
+        let waited = self.has(number);
+        self.items.retain(|waiting| waiting.number != number);
+        waited
+    }
+
+    /// The record of the lowest number, from this one on, for which a notification waits.
+    pub fn next_target(&self, from: RecordNo) -> Option<RecordNo>
+        ensures { IsLowestFrom from self.now.waiting result }
+    {
+        let mut lowest = None;
+        for waiting in &self.items {
+            lowest = lower(lowest, from, waiting.target);
+        }
+        lowest
+    }
+
+    /// The same lists, with room for those that wait.
+    ///
+    /// # Errors
+    ///
+    /// [`AllocError`] where memory is wanting.
+    pub fn copy(&self, alloc: Global) -> Result<Self, AllocError>
+        ensures { IfOk result (λ copy. copy.waiting ≡ self.now.waiting) }
+    {
+        let items = Vec::from_slice(alloc, self.items.as_slice())?;
+        Ok(WaitingLists { items })
+    }
+}
+
+// The lowest from one on, with one more record.
+fn lower(lowest: Option<RecordNo>, from: RecordNo, target: RecordNo) -> Option<RecordNo>
+    ensures { result ≡ lower lowest from target }
+{
+    if target.index() < from.index() {
+        return lowest;
+    }
+    match lowest {
+        Some(found) if found.index() <= target.index() => lowest,
+        _ => Some(target),
+    }
+}

@@ -1,0 +1,4 @@
+mod Agreement
+mod Highest
+mod Ordered
+mod Walks

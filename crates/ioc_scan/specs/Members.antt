@@ -1,0 +1,37 @@
+-- The tree of those who stand on lists, and what it has to do with the records' entries.
+use Rattle.std.specs.Prelude.{◌≡◌, ◌↔◌, ℕ, ◌<◌, ◌≤◌, ◌^◌, ℤ, pos, negsuc, ◌≤ℤ◌, Bool, false, Option, Some, None, option_map, List}
+use Rattle.std.specs.Ordering.{eq_by_cmp}
+use Rattle.std.specs.BTreeMap.{BTreeMap, get}
+use Rattle.ioc_scan.specs.contracts.position.PositionOrd.TheImpl as order_of
+use Rattle.ioc_scan.specs.declared.list_name.Place.{Place}
+use Rattle.ioc_scan.specs.declared.position.Position.{Position}
+use Rattle.ioc_scan.specs.declared.position.Listed.{Listed}
+use Rattle.ioc_scan.specs.declared.position.Entry.{Entry}
+use Rattle.ioc_scan.specs.Positions.{position, listed, entry_of}
+
+-- is this the position of a record with this place?
+abbrev pub is_at_place : Option Place → ℕ → Position → Bool
+is_at_place None order k = false
+is_at_place (Some p) order k = eq_by_cmp order_of.ghosts.cmp (position p order) k
+
+-- a record as its place says
+abbrev pub listed_at : ℕ → Option Place → Option Listed
+listed_at number place = option_map (λ p. listed number p) place
+
+-- a number that PHAS can be
+abbrev pub IsPhase : ℤ → Type 0
+IsPhase phase = (negsuc 32767 ≤ℤ phase) × (phase ≤ℤ pos 32767)
+
+-- by its entry a record stands at this position
+abbrev pub StandsAt : (ℕ → Entry) → Position → Listed → Type 0
+StandsAt entry k x = ((entry x.number).place ≡ Some (record { list = k.list; phase = k.phase; priority = x.priority })) × ((entry x.number).order ≡ k.order)
+
+-- at each position is who stands there by the entries, and no one else; the numbers of adding are those that were given
+pub record Agrees (entry : ℕ → Entry) (last : ℕ) (at : Position → Option Listed) : Type 0 where
+  pub stands : (k : Position) (x : Listed) → (at k ≡ Some x) ↔ StandsAt entry k x
+  pub given : (n : ℕ) → (entry n).order ≤ last
+  pub fits : last < 2 ^ 64
+  pub phases : (n : ℕ) (p : Place) → (entry n).place ≡ Some p → IsPhase p.phase
+
+abbrev pub Agree : List Entry → ℕ → BTreeMap Position Listed → Type 0
+Agree entries last members = Agrees (entry_of entries) last (get order_of.ghosts.cmp members)

@@ -1,0 +1,33 @@
+-- Which scan list a record is on. Record Reference Manual, "Scan Fields"; Application Developer's Guide, "Scanning
+-- Specification".
+use Rattle.std.specs.Prelude.{ℕ, false, true, List, [], ◌∷◌, Option, Some, None, length, ◌==◌, ◌||◌, nat_eq, if◌then◌else◌}
+use Rattle.std.specs.Cmp.Lexicographic.{pointwise}
+use Rattle.ioc_values.specs.Trim.{is_blank, trimmed}
+use Rattle.ioc_menus.specs.declared.scan.Scan.{Scan}
+use Rattle.ioc_menus.specs.declared.scan.Scan.TheVariants as scan
+use Rattle.ioc_scan.specs.declared.period.Period.{Period}
+use Rattle.ioc_scan.specs.declared.period.Period.TheVariants.{TenSeconds, FiveSeconds, TwoSeconds, OneSecond, HalfSecond, FifthSecond, TenthSecond}
+
+-- the period that a choice of SCAN is
+abbrev pub period_of : Scan → Option Period
+period_of scan.Passive = None
+period_of scan.Event = None
+period_of scan.IoIntr = None
+period_of scan.TenSeconds = Some TenSeconds
+period_of scan.FiveSeconds = Some FiveSeconds
+period_of scan.TwoSeconds = Some TwoSeconds
+period_of scan.OneSecond = Some OneSecond
+period_of scan.HalfSecond = Some HalfSecond
+period_of scan.FifthSecond = Some FifthSecond
+period_of scan.TenthSecond = Some TenthSecond
+
+-- the name of an event, without the spaces at its ends; an empty name and 0 name none
+abbrev pub event_word : List ℕ → Option (List ℕ)
+event_word name =
+    let word = trimmed (is_blank false) name in
+    if (length word == 0) || pointwise nat_eq word (48 ∷ []) then None else Some word
+
+-- the bytes before the first space or tab
+abbrev pub first_word : List ℕ → List ℕ
+first_word [] = []
+first_word (b ∷ bs) = if is_blank true b then [] else b ∷ first_word bs

@@ -1,0 +1,22 @@
+-- Where a record stands on its scan list.
+use Rattle.std.specs.Prelude.{ℕ, List, None, slice_index_or}
+use Rattle.ioc_scan.specs.declared.list_name.Place.{Place}
+use Rattle.ioc_scan.specs.declared.position.Position.{Position}
+use Rattle.ioc_scan.specs.declared.position.Listed.{Listed}
+use Rattle.ioc_scan.specs.declared.position.Entry.{Entry}
+
+-- where it stands, put there with this number of adding
+abbrev pub position : Place → ℕ → Position
+position p order = record { list = p.list; phase = p.phase; order = order }
+
+-- as it stands there
+abbrev pub listed : ℕ → Place → Listed
+listed number p = record { number = number; priority = p.priority }
+
+-- of a record before its first change
+abbrev pub new_entry : Entry
+new_entry = record { number = 0; place = None; order = 0 }
+
+-- of each record, by its number
+abbrev pub entry_of : List Entry → ℕ → Entry
+entry_of entries number = slice_index_or entries number new_entry

@@ -1,0 +1,217 @@
+//! The scan lists of a database.
+ghost use Rattle.std.specs.Prelude.{◌≡◌, ◌↔◌, ◌<◌, ◌≤◌, ◌-◌, ◌^◌, ◌++◌, [], cond, Some, None, IsOk, IfOk, IfSome, OnOk, OnErr, IsTrue, length, vec_len};
+ghost use Rattle.std.specs.BTreeMap.{BTreeMap, IsOrdered, get};
+ghost use Rattle.std.specs.Ordering.{eq_by_cmp};
+ghost use Rattle.ioc_scan.specs.contracts.position.PositionOrd.TheImpl as order_of;
+ghost use Rattle.ioc_scan.specs.declared.position.Position.{Position};
+ghost use Rattle.ioc_scan.specs.Scanned.{new_lists, placed, changed, InPhaseOrder};
+ghost use Rattle.ioc_scan.specs.Standing.{standing};
+ghost use Rattle.ioc_scan.specs.Members.{is_at_place, listed_at, IsPhase};
+
+use crate::list_name::{ListName, Place};
+use crate::position::{Entry, Listed, Position};
+use ioc_names::RecordNo;
+use std::alloc::{AllocError, Global};
+use std::collections::BTreeMap;
+use std::marker::Model;
+
+/// The scan lists: where each record stands, and who stands on each list, in the order of PHAS, with equal PHAS in the
+/// order of adding.
+#[derive(Drop)]
+pub struct ScanLists {
+    entries: Vec<Entry>,
+    members: BTreeMap<Position, Listed>,
+    last: u64,
+}
+
+impl Model for ScanLists {
+    ghost use Rattle.ioc_scan.specs.Scanned.{Scanned};
+    ghost use Rattle.ioc_scan.specs.Members.{Agree};
+
+    ghost Value = { Scanned };
+
+    ghost view = { λ s. record { entries = s.entries.items; last = s.last } };
+
+    ghost invariant = { λ s. Agree s.entries.items s.last s.members };
+}
+
+impl ScanLists {
+    /// The lists of so many records, of which none stands on any.
+    ///
+    /// # Errors
+    ///
+    /// [`AllocError`] where memory is wanting.
+    pub fn new(alloc: Global, count: usize) -> Result<Self, AllocError>
+        ensures { IfOk result (λ s. s ≡ new_lists count) }
+    {
+        let mut entries = Vec::new(alloc);
+        entries.resize(count, Entry::new())?;
+        Ok(ScanLists {
+            entries,
+            members: BTreeMap::new(alloc),
+            last: 0,
+        })
+    }
+
+    /// How many records there are.
+    pub fn len(&self) -> usize
+        ensures { result ≡ length self.now.entries }
+    {
+        self.entries.len()
+    }
+
+    /// Is there a number of adding left for a change?
+    pub fn can_change(&self) -> bool
+        ensures { IsTrue result ↔ (self.now.last < 2 ^ 64 - 1) }
+    {
+        self.last < u64::MAX
+    }
+
+    /// A change of a record: it leaves its list, and goes on the one of this place behind those with its PHAS. Changes of
+    /// a record are numbered, and one with a lower number than one that was done is ignored. At the start the number is
+    /// 0.
+    ///
+    /// # Errors
+    ///
+    /// [`AllocError`] where memory is wanting: nothing has changed then.
+    pub fn change(
+        &mut self,
+        member: RecordNo,
+        number: u64,
+        place: Option<Place>,
+    ) -> Result<(), AllocError>
+        requires known { member < length self.old.entries }
+        requires room { self.old.last < 2 ^ 64 - 1 }
+        ensures ok { OnOk result (self.new ≡ changed self.old member number place) }
+        ensures err { OnErr result (self.new ≡ self.old) }
+        ensures off { place ≡ None → IsOk result }
+    {
+        let before = self.entries[member.index()];
+        if number < before.number {
+            return Ok(());
+        }
+        let order = self.last + 1;
+        put_on(&mut self.members, member, &place, order)?;
+        take_off(&mut self.members, &before.place, before.order);
+        self.entries[member.index()] = Entry {
+            number,
+            place,
+            order,
+        };
+        self.last = order;
+        Ok(())
+    }
+
+    /// Puts a record on the list of this place, behind those with its PHAS, and off the list where it stands. It isn't a
+    /// numbered change: which changes are ignored from then on stays the same.
+    ///
+    /// # Errors
+    ///
+    /// [`AllocError`] where memory is wanting: nothing has changed then.
+    pub fn add(&mut self, member: RecordNo, place: Place) -> Result<(), AllocError>
+        requires known { member < length self.old.entries }
+        requires room { self.old.last < 2 ^ 64 - 1 }
+        ensures ok { OnOk result (self.new ≡ placed self.old member (Some place)) }
+        ensures err { OnErr result (self.new ≡ self.old) }
+    {
+        let number = self.entries[member.index()].number;
+        self.change(member, number, Some(place))
+    }
+
+    /// Takes a record off its list, if it stands on one. It isn't a numbered change either, and takes no memory.
+    pub fn remove(&mut self, member: RecordNo)
+        requires known { member < length self.old.entries }
+        requires room { self.old.last < 2 ^ 64 - 1 }
+        ensures { self.new ≡ placed self.old member None }
+    {
+        let number = self.entries[member.index()].number;
+        let _removed = self.change(member, number, None);
+    }
+
+    /// Writes who stands on a list, in the order of PHAS, and with equal PHAS in the order of adding, in the place of what
+    /// stood there. It takes memory only where the room there doesn't do.
+    ///
+    /// # Errors
+    ///
+    /// [`AllocError`] where memory is wanting: what is written then is of no use.
+    pub fn walk(&self, list: &ListName, into: &mut Vec<Listed>) -> Result<(), AllocError>
+        ensures { OnOk result (InPhaseOrder self.now list.now into.new.items) }
+    {
+        into.clear();
+        copy_list(&self.members, list, into)
+    }
+}
+
+// Adds those who stand on a list, in order.
+fn copy_list(
+    members: &BTreeMap<Position, Listed>,
+    list: &ListName,
+    into: &mut Vec<Listed>,
+) -> Result<(), AllocError>
+    ensures listed { OnOk result (into.new.items ≡ into.old.items ++ standing list.now members.now.entries) }
+    ensures ordered { IsOrdered order_of.ghosts.cmp members.now }
+{
+    let low = Position {
+        list: *list,
+        phase: i16::MIN,
+        order: 0,
+    };
+    let high = Position {
+        list: *list,
+        phase: i16::MAX,
+        order: u64::MAX,
+    };
+    for (_, listed) in members.range(low..=high) {
+        into.push(*listed)?;
+    }
+    Ok(())
+}
+
+// Puts a record on the list of its place, where it has one. Nobody stood there.
+fn put_on(
+    members: &mut BTreeMap<Position, Listed>,
+    member: RecordNo,
+    place: &Option<Place>,
+    order: u64,
+) -> Result<(), AllocError>
+    ensures ok { OnOk result ((k : Position) → get order_of.ghosts.cmp members.new k ≡ cond (is_at_place place.now order k) (listed_at member place.now) (get order_of.ghosts.cmp members.old k)) }
+    ensures err { OnErr result (members.new.entries ≡ members.old.entries) }
+    ensures phase { IfSome place.now (λ p. IsPhase p.phase) }
+    ensures off { place.now ≡ None → IsOk result }
+{
+    if let Some(place) = place {
+        insert(
+            members,
+            place.list,
+            place.phase,
+            order,
+            Listed::of(member, place),
+        )?;
+    }
+    Ok(())
+}
+
+// Takes the record that stands at a place, if it is one, off its list.
+fn take_off(members: &mut BTreeMap<Position, Listed>, place: &Option<Place>, order: u64)
+    ensures { (k : Position) → get order_of.ghosts.cmp members.new k ≡ cond (is_at_place place.now order k) None (get order_of.ghosts.cmp members.old k) }
+{
+    if let Some(place) = place {
+        let _listed = members.remove(&Position::of(place, order));
+    }
+}
+
+// Puts a record at a position.
+fn insert(
+    members: &mut BTreeMap<Position, Listed>,
+    list: ListName,
+    phase: i16,
+    order: u64,
+    listed: Listed,
+) -> Result<(), AllocError>
+    ensures ok { OnOk result ((k : Position) → get order_of.ghosts.cmp members.new k ≡ cond (eq_by_cmp order_of.ghosts.cmp (record { list = list; phase = phase; order = order }) k) (Some listed) (get order_of.ghosts.cmp members.old k)) }
+    ensures err { OnErr result (members.new.entries ≡ members.old.entries) }
+    ensures phase { IsPhase phase }
+{
+    members.insert(Position { list, phase, order }, listed)?;
+    Ok(())
+}
