@@ -9,3 +9,4 @@ pub mod Parts
 pub mod Drive
 pub mod Source
 pub mod Raw
+pub mod Wants

@@ -37,12 +37,24 @@ use_as (Database target flags) lead = database_use flags lead
 unfoldable pub use_of : LinkField → LinkUse
 use_of field = use_as field.link field.lead
 
+-- the text of a device link; of any other it is empty
+abbrev pub device_text : Link → List ℕ
+device_text (Device text) = text
+device_text _ = []
+
 -- the records that a link in use names
 abbrev pub named_by : LinkUse → List ℕ
 named_by (Standing-link target) = target.number ∷ []
 named_by Unused = []
 named_by OwnDevice = []
 named_by Absent = []
+
+-- the record that a link in use names, if it names one
+abbrev pub record_named : LinkUse → Option ℕ
+record_named (Standing-link target) = Some target.number
+record_named Unused = None
+record_named OwnDevice = None
+record_named Absent = None
 
 -- the records that a link field names
 abbrev pub named_by_field : Option LinkField → List ℕ

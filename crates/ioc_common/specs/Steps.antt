@@ -100,6 +100,14 @@ waiting c = record c { active = true; pending = Some (c.last_pending + 1); last_
 abbrev pub answered : Common → Common
 answered c = record c { pending = None }
 
+-- with this put with notification, or none
+abbrev pub with_notification : Option ℕ → Common → Common
+with_notification number c = record c { notification = number }
+
+-- where it stands on its scan list changes once more
+abbrev pub change_numbered : Common → Common
+change_numbered c = record c { last_change = c.last_change + 1 }
+
 -- what SDIS gives is a Short
 abbrev pub disable_kind : InputKind
 disable_kind = Number Short
@@ -132,4 +140,6 @@ new_common name = record {
   time = 0;
   pending = None;
   last_pending = 0;
+  last_change = 0;
+  notification = None;
 }

@@ -11,6 +11,7 @@ use crate::scanning::Scanning;
 use ioc_alarms::Alarms;
 use ioc_links::{Link, Mode};
 use ioc_menus::{Scan, Severity, Status};
+use ioc_notify::NotifyId;
 use ioc_values::{Kind, Name, Range, Text, of_number};
 
 /// The fields that every record has. Record Reference Manual, "Fields Common to All Record Types".
@@ -48,6 +49,10 @@ pub struct Common {
     pub pending: Option<u64>,
     /// The number that was given to a completion at last: they run 1, 2, 3, .. in each record.
     pub last_pending: u64,
+    /// The number that was given at last to a change of where it stands on its scan list: they run 1, 2, 3, .. in each record.
+    pub last_change: u64,
+    /// The put with notification that the record is processed for.
+    pub notification: Option<NotifyId>,
 }
 
 /// What SDIS gives is a Short.
@@ -205,6 +210,8 @@ impl Common {
             time: 0,
             pending: None,
             last_pending: 0,
+            last_change: 0,
+            notification: None,
         }
     }
 }

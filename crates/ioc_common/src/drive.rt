@@ -1,9 +1,11 @@
 //! The fields by which the output types are driven, and drive.
 ghost use Rattle.std.specs.Prelude.{◌≡◌};
 ghost use Rattle.std.specs.Option.{option_copied};
+ghost use Rattle.std.specs.Prelude.{IsTrue};
+ghost use Rattle.ioc_common.specs.Wants.{need_of, link_wanted, puts_out};
 ghost use Rattle.ioc_common.specs.Drive.{new_drive, drive_link, drive_with_link, drive_get, drive_stored, drive_begin, drives, sets, written};
 
-use crate::body::{Output, Want};
+use crate::body::{Need, Output};
 use crate::condition::Condition;
 use crate::kept_link::KeptLink;
 use crate::link_field::LinkUse;
@@ -84,12 +86,23 @@ impl Drive {
 
     /// In a closed loop DOL is read.
     #[tactic(auto, unfolding(crate::specs::Drive::drive_begin))]
-    pub fn begin(&self) -> Want
-        ensures { result ≡ drive_begin self.now.mode self.now.desired }
+    pub fn begin(&self) -> Need
+        ensures { result ≡ need_of (drive_begin self.now.mode self.now.desired) }
     {
         match self.mode {
-            Omsl::ClosedLoop => Want::ReadLink(self.desired.in_use()),
-            Omsl::Supervisory => Want::NoInput,
+            Omsl::ClosedLoop => self.desired.need(),
+            Omsl::Supervisory => Need::Nothing,
+        }
+    }
+
+    /// The link that is read, if one is.
+    #[tactic(auto, unfolding(crate::specs::Drive::drive_begin))]
+    pub fn wanted_link(&self) -> LinkUse
+        ensures { result ≡ link_wanted (drive_begin self.now.mode self.now.desired) }
+    {
+        match self.mode {
+            Omsl::ClosedLoop => self.desired.in_use(),
+            Omsl::Supervisory => LinkUse::Unused,
         }
     }
 
@@ -115,15 +128,17 @@ impl Drive {
         }
     }
 
-    /// A value goes where OUT leads.
+    /// A value goes where OUT leads: does it go anywhere?
     #[tactic(auto, unfolding(crate::specs::Drive::written))]
-    pub fn write(&self, value: Value) -> Output
-        ensures { result ≡ written self.now.output value }
+    pub fn write(&self, value: Value, output: &mut Output) -> bool
+        ensures puts_out { result ≡ puts_out (written self.now.output value) }
+        ensures output { IsTrue result → output.new ≡ written self.now.output value }
     {
         match self.output.in_use() {
-            LinkUse::Unused => Output::NoOutput,
-            LinkUse::OwnDevice => Output::WriteDevice(value),
-            link => Output::WriteLink(link, value),
+            LinkUse::Unused => return false,
+            LinkUse::OwnDevice => *output = Output::WriteDevice(value),
+            link => *output = Output::WriteLink(link, value),
         }
+        true
     }
 }

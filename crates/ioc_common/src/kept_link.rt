@@ -1,10 +1,14 @@
 //! A link field as its record keeps it.
 ghost use Rattle.std.specs.Prelude.{◌≡◌, IfOk};
-ghost use Rattle.ioc_common.specs.Links.{no_link, use_of};
+ghost use Rattle.ioc_common.specs.Links.{no_link, use_of, device_text, record_named};
+ghost use Rattle.ioc_common.specs.Wants.{is_unused, is_own_device, need_of_link};
 ghost use Rattle.ioc_common.specs.Raw.{is_device};
 
+use crate::body::Need;
 use crate::link_field::{Lead, LinkField, LinkUse};
-use ioc_links::Link;
+use ioc_links::{Link, MAX_DEVICE_BYTES};
+use ioc_names::RecordNo;
+use ioc_values::Short;
 use std::alloc::{AllocError, Global};
 use std::marker::Model;
 
@@ -64,6 +68,50 @@ impl KeptLink {
         }
     }
 
+    /// Is the link empty or a constant?
+    #[tactic(auto, unfolding(crate::specs::Links::use_of))]
+    pub fn is_unused(&self) -> bool
+        ensures { result ≡ is_unused (use_of self.now) }
+    {
+        match &self.place {
+            Some(place) => place.is_unused(),
+            None => true,
+        }
+    }
+
+    /// Does the link lead to the record's own device?
+    #[tactic(auto, unfolding(crate::specs::Links::use_of))]
+    pub fn is_own_device(&self) -> bool
+        ensures { result ≡ is_own_device (use_of self.now) }
+    {
+        match &self.place {
+            Some(place) => place.is_own_device(),
+            None => false,
+        }
+    }
+
+    /// What a body needs first that reads the link.
+    pub fn need(&self) -> Need
+        ensures { result ≡ need_of_link (use_of self.now) }
+    {
+        if self.is_unused() {
+            Need::Nothing
+        } else {
+            Need::Link
+        }
+    }
+
+    /// The record that the link names in use, if it names one.
+    #[tactic(auto, unfolding(crate::specs::Links::use_of))]
+    pub fn record_named(&self) -> Option<RecordNo>
+        ensures { result ≡ record_named (use_of self.now) }
+    {
+        match &self.place {
+            Some(place) => place.record_named(),
+            None => None,
+        }
+    }
+
     /// Does the link name a device?
     pub fn is_device(&self) -> bool
         ensures { result ≡ is_device self.now.link }
@@ -71,6 +119,19 @@ impl KeptLink {
         match &self.place {
             Some(place) => matches!(place.link, Link::Device(_)),
             None => false,
+        }
+    }
+
+    /// The text of a device link; of any other it is empty.
+    pub fn device_text(&self) -> Short<MAX_DEVICE_BYTES>
+        ensures { result ≡ device_text self.now.link }
+    {
+        let Some(place) = &self.place else {
+            return Short::new();
+        };
+        match place.link {
+            Link::Device(text) => text,
+            Link::Empty | Link::Constant(_) | Link::Database(..) => Short::new(),
         }
     }
 }

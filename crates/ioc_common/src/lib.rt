@@ -16,7 +16,7 @@ pub mod raw;
 pub mod scanning;
 pub mod source;
 
-pub use body::{Got, InputKind, Output, Want};
+pub use body::{Got, InputKind, Need, Output, Want};
 pub use common::{Common, disable_kind};
 pub use condition::Condition;
 pub use disabling::Disabling;

@@ -1,6 +1,7 @@
 //! Link fields, and what a link in use comes to.
 ghost use Rattle.std.specs.Prelude.{◌≡◌};
-ghost use Rattle.ioc_common.specs.Links.{no_link, use_of};
+ghost use Rattle.ioc_common.specs.Links.{no_link, use_of, record_named};
+ghost use Rattle.ioc_common.specs.Wants.{is_unused, is_own_device};
 
 use ioc_fields::FieldNo;
 use ioc_links::{Link, Mode};
@@ -59,6 +60,53 @@ impl LinkField {
         LinkField {
             link: Link::Empty,
             lead: Lead::Nowhere,
+        }
+    }
+
+    /// Is the link empty or a constant?
+    pub fn is_unused(&self) -> bool
+        ensures { result ≡ is_unused (use_of self.now) }
+    {
+        match self.link {
+            Link::Empty | Link::Constant(_) => true,
+            Link::Device(_) => match self.lead {
+                Lead::OwnDevice | Lead::Nowhere | Lead::Field(_) => false,
+            },
+            Link::Database(_, _) => match self.lead {
+                Lead::OwnDevice | Lead::Nowhere | Lead::Field(_) => false,
+            },
+        }
+    }
+
+    /// Does the link lead to the record's own device?
+    pub fn is_own_device(&self) -> bool
+        ensures { result ≡ is_own_device (use_of self.now) }
+    {
+        match self.link {
+            Link::Empty | Link::Constant(_) => false,
+            Link::Device(_) => match self.lead {
+                Lead::OwnDevice => true,
+                Lead::Nowhere | Lead::Field(_) => false,
+            },
+            Link::Database(_, _) => match self.lead {
+                Lead::OwnDevice | Lead::Nowhere | Lead::Field(_) => false,
+            },
+        }
+    }
+
+    /// The record that the link names in use, if it names one.
+    pub fn record_named(&self) -> Option<RecordNo>
+        ensures { result ≡ record_named (use_of self.now) }
+    {
+        match self.link {
+            Link::Empty | Link::Constant(_) => None,
+            Link::Device(_) => match self.lead {
+                Lead::OwnDevice | Lead::Nowhere | Lead::Field(_) => None,
+            },
+            Link::Database(_, _) => match self.lead {
+                Lead::OwnDevice | Lead::Nowhere => None,
+                Lead::Field(standing) => Some(standing.number),
+            },
         }
     }
 

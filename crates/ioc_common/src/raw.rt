@@ -20,22 +20,22 @@ impl KeptLink {
 }
 
 /// What RVAL takes of what came: itself where nothing came, and nothing after a fault.
-pub fn raw_came(got: Got, raw: u32) -> Option<u32>
-    ensures { result ≡ raw_came got raw }
+pub fn raw_came(got: &Got, raw: u32) -> Option<u32>
+    ensures { result ≡ raw_came got.now raw }
 {
     match got {
-        Got::Value(value) => Some(ulong_in(value).unwrap_or(raw)),
+        Got::Value(value) => Some(ulong_in(*value).unwrap_or(raw)),
         Got::Nothing => Some(raw),
         Got::Fault => None,
     }
 }
 
 /// What VAL takes of what came: nothing where nothing came, and after a fault.
-pub fn state_came(got: Got, state: u16) -> Option<u16>
-    ensures { result ≡ state_came got state }
+pub fn state_came(got: &Got, state: u16) -> Option<u16>
+    ensures { result ≡ state_came got.now state }
 {
     match got {
-        Got::Value(value) => Some(ushort_in(value).unwrap_or(state)),
+        Got::Value(value) => Some(ushort_in(*value).unwrap_or(state)),
         Got::Nothing | Got::Fault => None,
     }
 }

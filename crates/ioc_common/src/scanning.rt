@@ -8,7 +8,7 @@ use ioc_menus::{Pini, Priority, Scan};
 use ioc_values::{Text, Value};
 
 /// SCAN, PINI, PHAS, EVNT and PRIO. Record Reference Manual, "Scan Fields".
-#[derive(Clone, Copy)]
+#[derive(Clone, Copy, PartialEq, Eq)]
 pub struct Scanning {
     /// EVNT: the event that has the record processed, where SCAN is Event.
     pub event: Text,

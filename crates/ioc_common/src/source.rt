@@ -2,8 +2,9 @@
 ghost use Rattle.std.specs.Prelude.{◌≡◌};
 ghost use Rattle.std.specs.Option.{option_copied};
 ghost use Rattle.ioc_common.specs.Source.{new_source, source_link, source_with_link, source_begin};
+ghost use Rattle.ioc_common.specs.Wants.{need_of, link_wanted};
 
-use crate::body::Want;
+use crate::body::Need;
 use crate::kept_link::KeptLink;
 use crate::link_field::LinkUse;
 use ioc_fields::OwnField;
@@ -45,12 +46,27 @@ impl Source {
     }
 
     /// The device is read where INP names the record's own; else INP is read.
-    pub fn begin(&self) -> Want
-        ensures { result ≡ source_begin self.now.input }
+    #[tactic(auto, using(crate::specs::Wants::source_need))]
+    pub fn begin(&self) -> Need
+        ensures { result ≡ need_of (source_begin self.now.input) }
+    {
+        if self.input.is_unused() {
+            Need::Nothing
+        } else if self.input.is_own_device() {
+            Need::Device
+        } else {
+            Need::Link
+        }
+    }
+
+    /// The link that is read, if one is.
+    #[tactic(auto, using(crate::specs::Wants::source_wanted))]
+    pub fn wanted_link(&self) -> LinkUse
+        ensures { result ≡ link_wanted (source_begin self.now.input) }
     {
         match self.input.in_use() {
-            LinkUse::OwnDevice => Want::ReadDevice,
-            link => Want::ReadLink(link),
+            LinkUse::OwnDevice => LinkUse::Unused,
+            link => link,
         }
     }
 }

@@ -1,9 +1,11 @@
 -- Each standing link of a loaded database names a record that is there.
-use Rattle.std.proofs.Common.{◌≡◌, ℕ, zero, suc, ◌<◌, Bool, true, false, cond, List, [], ◌∷◌, ◌++◌, length, map, Option, Some, None, refl, sym, ap, ◌∙◌, ◌⊎◌, inl, inr, arith, lt-ltb, unwrap_or}
+use Rattle.std.proofs.Common.{◌≡◌, ℕ, zero, suc, ◌+◌, ◌<◌, Bool, true, false, cond, List, [], ◌∷◌, ◌++◌, length, map, Option, Some, None, refl, sym, ap, ◌∙◌, ◌⊎◌, inl, inr, arith, lt-ltb, unwrap_or}
 use Rattle.std.specs.Prelude.{slice_get, slice_index_or, Contains, is_some}
 use Rattle.ioc_names.specs.NameTable.{NameTable, number_of}
 use Rattle.ioc_links.specs.declared.link.Link.{Link}
 use Rattle.ioc_links.specs.declared.link.Link.TheVariants.{Empty, Constant, Device, Database}
+use Rattle.ioc_common.specs.declared.link_field.Lead.{Lead}
+use Rattle.ioc_common.specs.declared.link_field.Lead.TheVariants.{Nowhere, Field, OwnDevice}
 use Rattle.ioc_links.specs.declared.link.Flags.{Flags}
 use Rattle.ioc_fields.specs.declared.record_type.RecordType.{RecordType}
 use Rattle.ioc_fields.specs.declared.field_no.FieldNo.{FieldNo}
@@ -11,17 +13,17 @@ use Rattle.ioc_fields.specs.Names.{field_of}
 use Rattle.ioc_common.specs.declared.link_field.FieldAddress.{FieldAddress}
 use Rattle.ioc_fields.specs.Table.{is_link}
 use Rattle.ioc_common.specs.declared.link_field.LinkField.{LinkField}
-use Rattle.ioc_common.specs.Links.{use_of, use_as, database_use, named_by, named_by_field, named_by_all}
+use Rattle.ioc_common.specs.Links.{use_of, use_as, database_use, device_use, named_by, named_by_field, named_by_all}
 use Rattle.ioc_record.specs.Laws.{IsLawful}
 use Rattle.ioc_record.specs.RecordRules.{RecordRules, targets}
 use Rattle.ioc_types.specs.RecordLaws.{record_lawful}
 use Rattle.ioc_fields.specs.LinkFields.{link_fields, link_fields_are, stands_among_links}
-use Rattle.ioc_process.specs.declared.one_map.OneMap.{OneMap}
 use Rattle.ioc_types.specs.Record.{Record, record_rules}
-use Rattle.ioc_process.specs.OneMap.{world_of}
+use Rattle.ioc_dbfile.specs.FirstWorld.{first_world}
 use Rattle.ioc_process.specs.OneMapLaws.{get-numbered, contains-numbered}
 use Rattle.ioc_process.specs.World.{at, IsClosed}
-use Rattle.ioc_dbfile.specs.Finished.{target_field, target_in, target_at, standing_of, lead_of, leads_to, with_standing, linked, linked_all, finished}
+use Rattle.ioc_dbfile.specs.Finished.{target_field, target_in, target_at, standing_of, lead_of, leads_to, with_standing, linked, linked_all, finished, by_place, Owner}
+use Rattle.ioc_dbfile.specs.Owners.{owner_of, device_lead}
 
 -- each number is below a limit
 abbrev Below : ℕ → List ℕ → Type 0
@@ -67,18 +69,23 @@ database_below : (n : ℕ) (flags : Flags) (o : Option FieldAddress) → StandsB
 database_below n flags None h = tt
 database_below n flags (Some s) h = (h, tt)
 
-link_below : (names : NameTable) (types : List RecordType) (l : Link) → Below (length types) (named_by (use_as l (leads_to names types l)))
+device_below : (n : ℕ) (lead : Lead) → Below n (named_by (device_use lead))
+device_below n Nowhere = tt
+device_below n (Field to) = tt
+device_below n OwnDevice = tt
+
+link_below : (names : NameTable) (types : List RecordType) (owner : Owner) (n : ℕ) (l : Link) → Below (length types) (named_by (use_as l (leads_to names types owner n l)))
 unfolding standing_of
-link_below names types Empty = tt
-link_below names types (Constant z) = tt
-link_below names types (Device text) = tt
-link_below names types (Database target flags) = database_below (length types) flags (target_at types target.field (number_of names target.record_name)) (target_below types target.field (number_of names target.record_name))
+link_below names types owner n Empty = tt
+link_below names types owner n (Constant z) = tt
+link_below names types owner n (Device text) = device_below (length types) (device_lead n (owner text))
+link_below names types owner n (Database target flags) = database_below (length types) flags (target_at types target.field (number_of names target.record_name)) (target_below types target.field (number_of names target.record_name))
 
 -- a link field whose link leads where it leads
-led_below : (names : NameTable) (types : List RecordType) (l : LinkField)
-    → Below (length types) (named_by_field (Some (record { link = l.link; lead = leads_to names types l.link })))
+led_below : (names : NameTable) (types : List RecordType) (owner : Owner) (n : ℕ) (l : LinkField)
+    → Below (length types) (named_by_field (Some (record { link = l.link; lead = leads_to names types owner n l.link })))
 unfolding use_of
-led_below names types l = link_below names types l.link
+led_below names types owner n l = link_below names types owner n l.link
 
 none_below : (n : ℕ) (o : Option LinkField) → o ≡ None → Below n (named_by_field o)
 none_below n o is = rw is tt
@@ -86,7 +93,7 @@ none_below n o is = rw is tt
 some_is : {X : Type 0} (o : Option X) (x : X) → o ≡ Some x → is_some o ≡ true
 some_is o x is = rw is refl
 
-module _ {R : Type 0} (k : RecordRules R) (lawful : IsLawful k) (names : NameTable) (types : List RecordType) where
+module _ {R : Type 0} (k : RecordRules R) (lawful : IsLawful k) (names : NameTable) (types : List RecordType) (owner : Owner) (n : ℕ) where
   -- a field is still to be linked, or its link leads to a record that is there
   abbrev Ready : List FieldNo → R → FieldNo → Type 0
   Ready fields r g = ((i : ℕ) × (slice_get fields i ≡ Some g)) ⊎ Below (length types) (named_by_field (k.link r g))
@@ -97,15 +104,15 @@ module _ {R : Type 0} (k : RecordRules R) (lawful : IsLawful k) (names : NameTab
   first_or_later f fs r g l is below (suc i) at = inl (i, at)
 
   set_ready : (f : FieldNo) (fs : List FieldNo) (r : R) (l : LinkField) (g : FieldNo) → k.link r f ≡ Some l → Ready (f ∷ fs) r g
-      → Ready fs (k.with_link r f (record { link = l.link; lead = leads_to names types l.link })) g
+      → Ready fs (k.with_link r f (record { link = l.link; lead = leads_to names types owner n l.link })) g
   set_ready f fs r l g is ready =
-      let new : LinkField = record { link = l.link; lead = leads_to names types l.link } in
+      let new : LinkField = record { link = l.link; lead = leads_to names types owner n l.link } in
       let here : k.link (k.with_link r f new) f ≡ Some new = lawful.set_here r f new (some_is (k.link r f) l is) in
       elim (lawful.set_there r f g new) [
-        | inl set ↦ inr (rw set (led_below names types l))
+        | inl set ↦ inr (rw set (led_below names types owner n l))
         | inr same ↦ elim ready [
           | inr below ↦ inr (rw same below)
-          | inl at ↦ first_or_later f fs (k.with_link r f new) g new here (led_below names types l) at.0 at.1
+          | inl at ↦ first_or_later f fs (k.with_link r f new) g new here (led_below names types owner n l) at.0 at.1
         ]
       ]
 
@@ -114,23 +121,23 @@ module _ {R : Type 0} (k : RecordRules R) (lawful : IsLawful k) (names : NameTab
   none_or_later f fs r g is (suc i) at = inl (i, at)
 
   standing_ready : (f : FieldNo) (fs : List FieldNo) (r : R) (o : Option LinkField) (g : FieldNo) → k.link r f ≡ o → Ready (f ∷ fs) r g
-      → Ready fs (with_standing k names types r f o) g
+      → Ready fs (with_standing k names types owner n r f o) g
   standing_ready f fs r (Some l) g is ready = set_ready f fs r l g is ready
   standing_ready f fs r None g is ready = elim ready [
     | inr below ↦ inr below
     | inl at ↦ none_or_later f fs r g is at.0 at.1
   ]
 
-  linked_ready : (f : FieldNo) (fs : List FieldNo) (r : R) (g : FieldNo) → Ready (f ∷ fs) r g → Ready fs (linked k names types f r) g
+  linked_ready : (f : FieldNo) (fs : List FieldNo) (r : R) (g : FieldNo) → Ready (f ∷ fs) r g → Ready fs (linked k names types owner n f r) g
   unfolding linked
   linked_ready f fs r g ready = standing_ready f fs r (k.link r f) g refl ready
 
-  all_ready : (fields : List FieldNo) (r : R) → ((g : FieldNo) → Ready fields r g) → (g : FieldNo) → Below (length types) (named_by_field (k.link (linked_all k names types fields r) g))
+  all_ready : (fields : List FieldNo) (r : R) → ((g : FieldNo) → Ready fields r g) → (g : FieldNo) → Below (length types) (named_by_field (k.link (linked_all k names types owner n fields r) g))
   all_ready [] r ready g = elim (ready g) [
     | inl at ↦ cc
     | inr below ↦ below
   ]
-  all_ready (f ∷ fs) r ready g = all_ready fs (linked k names types f r) (λ x. linked_ready f fs r x (ready x)) g
+  all_ready (f ∷ fs) r ready g = all_ready fs (linked k names types owner n f r) (λ x. linked_ready f fs r x (ready x)) g
 
   all_below : (link : FieldNo → Option LinkField) (fields : List FieldNo) → ((g : FieldNo) → Below (length types) (named_by_field (link g))) → Below (length types) (named_by_all link fields)
   all_below link [] each = tt
@@ -149,33 +156,38 @@ module _ {R : Type 0} (k : RecordRules R) (lawful : IsLawful k) (names : NameTab
   first_ready r g = ready_by r g (k.link r g) refl
 
   -- the links of a record at the end of a load lead to records that are there
-  finished_below : (r : R) → Below (length types) (targets k (finished k names types r))
+  finished_below : (r : R) → Below (length types) (targets k (finished k names types owner n r))
   unfolding finished
   finished_below r =
-      let ready = linked_all k names types (k.link_fields r) r in
+      let ready = linked_all k names types owner n (k.link_fields r) r in
       all_below (k.link (k.loaded ready)) (k.link_fields (k.loaded ready))
       (λ g. rw (lawful.loaded_links ready) (all_ready (k.link_fields r) r (first_ready r) g))
 
--- ---- the whole map
+-- ---- the whole database
+
+length-by_place : {A : Type 0} (f : ℕ → A → A) (n : ℕ) (xs : List A) → length (by_place f n xs) ≡ length xs
+length-by_place f n [] = refl
+length-by_place f n (x ∷ xs) = let e = length-by_place f (n + 1) xs in omega (arith, e)
 
 length-map : {A B : Type 0} (f : A → B) (xs : List A) → length (map f xs) ≡ length xs
 length-map f [] = refl
 length-map f (x ∷ xs) = let e = length-map f xs in omega (arith, e)
 
-at_below : (names : NameTable) (types : List RecordType) (rs : List Record) (i : ℕ) → Below (length types) (targets record_rules (unwrap_or (slice_get (map (finished record_rules names types) rs) i) record_rules.missing))
-at_below names types [] i = rw record_lawful.missing_targets tt
-at_below names types (r ∷ rs) zero = finished_below record_rules record_lawful names types r
-at_below names types (r ∷ rs) (suc i) = at_below names types rs i
+at_below : (names : NameTable) (types : List RecordType) (owner : Owner) (n : ℕ) (rs : List Record) (i : ℕ)
+    → Below (length types) (targets record_rules (unwrap_or (slice_get (by_place (finished record_rules names types owner) n rs) i) record_rules.missing))
+at_below names types owner n [] i = rw record_lawful.missing_targets tt
+at_below names types owner n (r ∷ rs) zero = finished_below record_rules record_lawful names types owner n r
+at_below names types owner n (r ∷ rs) (suc i) = at_below names types owner (n + 1) rs i
 
--- a map of records at the end of a load
-pub finished_closed : {D : Type 0} (names : NameTable) (rs items : List Record) (m : OneMap Record D) → m.records.items ≡ items → items ≡ map (finished record_rules names (map record_rules.record_type rs)) rs → IsClosed record_rules (world_of m)
-unfolding at
-finished_closed names rs items m e all = record {
+-- records at the end of a load
+pub finished_closed : (names : NameTable) (owner : Owner) (rs items : List Record)
+    → items ≡ by_place (finished record_rules names (map record_rules.record_type rs) owner) 0 rs → IsClosed record_rules (first_world items)
+unfolding at first_world
+finished_closed names owner rs items same = record {
   closed = λ n target named.
       let types = map record_rules.record_type rs in
-      let same : m.records.items ≡ map (finished record_rules names types) rs = e ∙ all in
-      let here : Contains (targets record_rules (unwrap_or (slice_get (map (finished record_rules names types) rs) n) record_rules.missing)) target = rw (get-numbered, same) at named in
-      let below : target < length types = below_at (length types) _ here.0 target (at_below names types rs n) here.1 here.2 in
-      let count : length m.records.items ≡ length types = ap length same ∙ length-map _ rs ∙ sym (length-map record_rules.record_type rs) in
-      rw (contains-numbered m.records.items target) (lt-ltb target (length m.records.items) (omega arith));
+      let here : Contains (targets record_rules (unwrap_or (slice_get (by_place (finished record_rules names types owner) 0 rs) n) record_rules.missing)) target = rw (get-numbered, same) at named in
+      let below : target < length types = below_at (length types) _ here.0 target (at_below names types owner 0 rs n) here.1 here.2 in
+      let count : length items ≡ length types = ap length same ∙ length-by_place _ 0 rs ∙ sym (length-map record_rules.record_type rs) in
+      rw (contains-numbered items target) (lt-ltb target (length items) (omega arith));
 }

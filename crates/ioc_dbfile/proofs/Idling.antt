@@ -1,5 +1,5 @@
 -- A loaded database is quiet: new records are idle, and neither a field that is set nor the end of a load changes that.
-use Rattle.std.proofs.Common.{◌≡◌, ℕ, zero, suc, Bool, true, false, cond, List, [], ◌∷◌, ◌++◌, map, Option, Some, None, Result, Ok, Err, IsTrue, refl, sym, subst, ◌∙◌}
+use Rattle.std.proofs.Common.{◌≡◌, ℕ, zero, suc, ◌+◌, Bool, true, false, cond, List, [], ◌∷◌, ◌++◌, map, Option, Some, None, Result, Ok, Err, IsTrue, refl, sym, subst, ◌∙◌}
 use Rattle.std.specs.Prelude.{slice_get, slice_set, is_some, unwrap_or}
 use Rattle.ioc_values.specs.declared.value.Value.{Value}
 use Rattle.ioc_values.specs.declared.error.IocError.{IocError}
@@ -22,12 +22,11 @@ use Rattle.ioc_record.specs.Laws.{IsLawful}
 use Rattle.ioc_record.specs.RecordRules.{RecordRules}
 use Rattle.ioc_types.specs.Record.{Record, record_rules, new_record}
 use Rattle.ioc_types.specs.RecordLaws.{record_lawful}
-use Rattle.ioc_process.specs.declared.one_map.OneMap.{OneMap}
-use Rattle.ioc_process.specs.OneMap.{world_of}
+use Rattle.ioc_dbfile.specs.FirstWorld.{first_world}
 use Rattle.ioc_process.specs.OneMapLaws.{get-numbered}
 use Rattle.ioc_process.specs.World.{at, common_at}
 use Rattle.ioc_process.specs.Rules.{IsQuiet}
-use Rattle.ioc_dbfile.specs.Finished.{with_standing, linked, linked_all, finished}
+use Rattle.ioc_dbfile.specs.Finished.{with_standing, linked, linked_all, finished, by_place, Owner}
 use Rattle.ioc_dbfile.specs.Loader.{set_at}
 use Rattle.ioc_dbfile.specs.Idle.{IsIdle, AllIdle}
 
@@ -93,29 +92,29 @@ module _ {R : Type 0} (k : RecordRules R) where
     pub set_field-idle : (r r' : R) (f : FieldNo) (text : List ℕ) → set_field k r f text ≡ Ok r' → IsIdle k r → IsIdle k r'
     set_field-idle r r' f text is idle = subst IdleIfMade is (set-idle r f text idle)
 
-    module _ (names : NameTable) (types : List RecordType) where
-      standing-idle : (r : R) (f : FieldNo) (o : Option LinkField) → IsIdle k r → IsIdle k (with_standing k names types r f o)
-      standing-idle r f None idle = idle
-      standing-idle r f (Some l) idle = link-idle r f _ idle
+    module _ (names : NameTable) (types : List RecordType) (owner : Owner) where
+      standing-idle : (n : ℕ) (r : R) (f : FieldNo) (o : Option LinkField) → IsIdle k r → IsIdle k (with_standing k names types owner n r f o)
+      standing-idle n r f None idle = idle
+      standing-idle n r f (Some l) idle = link-idle r f _ idle
 
-      linked-idle : (r : R) (f : FieldNo) → IsIdle k r → IsIdle k (linked k names types f r)
+      linked-idle : (n : ℕ) (r : R) (f : FieldNo) → IsIdle k r → IsIdle k (linked k names types owner n f r)
       unfolding linked
-      linked-idle r f idle = standing-idle r f (k.link r f) idle
+      linked-idle n r f idle = standing-idle n r f (k.link r f) idle
 
-      all_linked-idle : (fields : List FieldNo) (r : R) → IsIdle k r → IsIdle k (linked_all k names types fields r)
-      all_linked-idle [] r idle = idle
-      all_linked-idle (f ∷ fs) r idle = all_linked-idle fs (linked k names types f r) (linked-idle r f idle)
+      all_linked-idle : (n : ℕ) (fields : List FieldNo) (r : R) → IsIdle k r → IsIdle k (linked_all k names types owner n fields r)
+      all_linked-idle n [] r idle = idle
+      all_linked-idle n (f ∷ fs) r idle = all_linked-idle n fs (linked k names types owner n f r) (linked-idle n r f idle)
 
       loaded-idle : (r : R) → IsIdle k r → IsIdle k (k.loaded r)
       loaded-idle r idle = record { active = lawful.loaded_active r ∙ idle.active; pending = lawful.loaded_pending r ∙ idle.pending }
 
-      finished-idle : (r : R) → IsIdle k r → IsIdle k (finished k names types r)
+      finished-idle : (n : ℕ) (r : R) → IsIdle k r → IsIdle k (finished k names types owner n r)
       unfolding finished
-      finished-idle r idle = loaded-idle _ (all_linked-idle (k.link_fields r) r idle)
+      finished-idle n r idle = loaded-idle _ (all_linked-idle n (k.link_fields r) r idle)
 
-      all-finished : (rs : List R) → AllIdle k rs → AllIdle k (map (finished k names types) rs)
-      all-finished [] idle = tt
-      all-finished (r ∷ rs) idle = (finished-idle r idle.0, all-finished rs idle.1)
+      all-finished : (n : ℕ) (rs : List R) → AllIdle k rs → AllIdle k (by_place (finished k names types owner) n rs)
+      all-finished n [] idle = tt
+      all-finished n (r ∷ rs) idle = (finished-idle n r idle.0, all-finished (n + 1) rs idle.1)
 
 -- a record that was set, among the others
 pub set-made : (names : NameTable) (items : List Record) (n : ℕ) (f : FieldNo) (text : List ℕ) (old new : Record) → slice_get items n ≡ Some old → set_field record_rules old f text ≡ Ok new
@@ -128,14 +127,14 @@ pub new-idle : (type : RecordType) (name : List ℕ) → IsIdle record_rules (ne
 unfolding new_common
 new-idle type name = record { active = refl; pending = refl }
 
--- a map of records at the end of a load is quiet
-pub finished_quiet : {D : Type 0} (names : NameTable) (rs items : List Record) (m : OneMap Record D) → m.records.items ≡ items → items ≡ map (finished record_rules names (map record_rules.record_type rs)) rs
-    → AllIdle record_rules rs → IsQuiet record_rules (world_of m)
-unfolding at
-finished_quiet names rs items m e all idle = record {
+-- records at the end of a load are quiet
+pub finished_quiet : (names : NameTable) (owner : Owner) (rs items : List Record) → items ≡ by_place (finished record_rules names (map record_rules.record_type rs) owner) 0 rs
+    → AllIdle record_rules rs → IsQuiet record_rules (first_world items)
+unfolding at first_world
+finished_quiet names owner rs items same idle = record {
   quiet = λ n has.
-      let made : AllIdle record_rules m.records.items = subst (AllIdle record_rules) (sym (e ∙ all)) (all-finished record_rules record_lawful names (map record_rules.record_type rs) rs idle) in
-      let here = idle-there record_rules m.records.items n made (rw get-numbered at has) in
-      let same : at record_rules (world_of m) n ≡ unwrap_or (slice_get m.records.items n) record_rules.missing = rw get-numbered refl in
-      rw (common_at, same, here.active, here.pending) (λ h. h, λ h. h);
+      let made : AllIdle record_rules items = subst (AllIdle record_rules) (sym same) (all-finished record_rules record_lawful names (map record_rules.record_type rs) owner 0 rs idle) in
+      let here = idle-there record_rules items n made (rw get-numbered at has) in
+      let there : at record_rules (first_world items) n ≡ unwrap_or (slice_get items n) record_rules.missing = rw get-numbered refl in
+      rw (common_at, there, here.active, here.pending) (λ h. h, λ h. h);
 }

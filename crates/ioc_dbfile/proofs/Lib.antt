@@ -7,9 +7,11 @@ pub mod Lexed
 pub mod Spelled
 pub mod Reading
 pub mod Mapped
+pub mod OwnerLemmas
 pub mod Closing
 pub mod Idling
 pub mod Shrinking
 pub mod Saying
 pub mod OnLines
 pub mod ByHand
+mod Taking

@@ -1,9 +1,9 @@
 -- The end of a load: it is decided where links lead, and constants are put.
 -- EPICS Application Developer's Guide, "Database Links" and "iocInit".
-use Rattle.std.specs.Prelude.{ℕ, List, [], ◌∷◌, Option, Some, None, Result, Ok, map, slice_get, if◌then◌else◌}
+use Rattle.std.specs.Prelude.{ℕ, ◌+◌, List, [], ◌∷◌, Option, Some, None, Result, Ok, map, slice_get, if◌then◌else◌}
 use Rattle.ioc_names.specs.NameTable.{NameTable, number_of, no_names}
 use Rattle.ioc_links.specs.declared.link.Link.{Link}
-use Rattle.ioc_links.specs.declared.link.Link.TheVariants.{Database}
+use Rattle.ioc_links.specs.declared.link.Link.TheVariants.{Device, Database}
 use Rattle.ioc_links.specs.declared.link.Target.{Target}
 use Rattle.ioc_fields.specs.declared.record_type.RecordType.{RecordType}
 use Rattle.ioc_fields.specs.declared.field_no.FieldNo.{FieldNo}
@@ -19,6 +19,7 @@ use Rattle.ioc_dbfile.specs.Statements.{◌>>=◌}
 use Rattle.ioc_dbfile.specs.Loader.{Loading, loading}
 use Rattle.ioc_dbtext.specs.Macros.{Defined}
 use Rattle.ioc_dbfile.specs.Loading.{filled_by}
+use Rattle.ioc_dbfile.specs.Owners.{owner_of, device_lead}
 
 -- a field that a link can lead to: one that is there and no link field itself
 abbrev pub target_field : ℕ → RecordType → Option FieldNo → Option FieldAddress
@@ -44,33 +45,43 @@ abbrev pub lead_of : Option FieldAddress → Lead
 lead_of None = Nowhere
 lead_of (Some to) = Field to
 
--- where a link leads
-abbrev pub leads_to : NameTable → List RecordType → Link → Lead
-leads_to names types (Database target flags) = lead_of (standing_of names types target)
-leads_to names types _ = Nowhere
+-- who owns the device of a name
+abbrev pub Owner : Type 0
+Owner = List ℕ → Option ℕ
+
+-- where a link of record n leads
+abbrev pub leads_to : NameTable → List RecordType → Owner → ℕ → Link → Lead
+leads_to names types owner n (Database target flags) = lead_of (standing_of names types target)
+leads_to names types owner n (Device text) = device_lead n (owner text)
+leads_to names types owner n _ = Nowhere
+
+-- what is made of each item of a list and its number, from n on
+abbrev pub by_place : {A : Type 0} → (ℕ → A → A) → ℕ → List A → List A
+by_place f n [] = []
+by_place f n (x ∷ xs) = f n x ∷ by_place f (n + 1) xs
 
 module _ {R : Type 0} (k : RecordRules R) where
-  -- a record with a link field that leads where it leads
-  abbrev pub with_standing : NameTable → List RecordType → R → FieldNo → Option LinkField → R
-  with_standing names types r field None = r
-  with_standing names types r field (Some l) = k.with_link r field (record { link = l.link; lead = leads_to names types l.link })
+  -- record n with a link field that leads where it leads
+  abbrev pub with_standing : NameTable → List RecordType → Owner → ℕ → R → FieldNo → Option LinkField → R
+  with_standing names types owner n r field None = r
+  with_standing names types owner n r field (Some l) = k.with_link r field (record { link = l.link; lead = leads_to names types owner n l.link })
 
   -- one link field
-  unfoldable pub linked : NameTable → List RecordType → FieldNo → R → R
-  linked names types field r = with_standing names types r field (k.link r field)
+  unfoldable pub linked : NameTable → List RecordType → Owner → ℕ → FieldNo → R → R
+  linked names types owner n field r = with_standing names types owner n r field (k.link r field)
 
   -- these link fields
-  abbrev pub linked_all : NameTable → List RecordType → List FieldNo → R → R
-  linked_all names types [] r = r
-  linked_all names types (field ∷ fields) r = linked_all names types fields (linked names types field r)
+  abbrev pub linked_all : NameTable → List RecordType → Owner → ℕ → List FieldNo → R → R
+  linked_all names types owner n [] r = r
+  linked_all names types owner n (field ∷ fields) r = linked_all names types owner n fields (linked names types owner n field r)
 
-  -- a record at the end of a load
-  unfoldable pub finished : NameTable → List RecordType → R → R
-  finished names types r = k.loaded (linked_all names types (k.link_fields r) r)
+  -- record n at the end of a load
+  unfoldable pub finished : NameTable → List RecordType → Owner → ℕ → R → R
+  finished names types owner n r = k.loaded (linked_all names types owner n (k.link_fields r) r)
 
   -- all records at the end of a load
   abbrev pub all_finished : Loading R → Loading R
-  all_finished s = record { names = s.names; records = map (finished s.names (map k.record_type s.records)) s.records }
+  all_finished s = record { names = s.names; records = by_place (finished s.names (map k.record_type s.records) (owner_of k s.records)) 0 s.records }
 
   -- the database of a text by these macros, or its first fault
   unfoldable pub loaded_by : (RecordType → List ℕ → R) → List Defined → List ℕ → Result (Loading R) DbFault

@@ -3,7 +3,10 @@ pub mod Statements
 pub mod Loading
 pub mod Loader
 pub mod Idle
+pub mod Owners
+pub mod OwnerTable
 pub mod Finished
+pub mod FirstWorld
 pub mod SeenDatabase
 pub mod Laws
 pub mod Spelling

@@ -5,4 +5,4 @@ use Rattle.ioc_dbfile.specs.Loader.{Loading}
 
 -- its names, and its records by their numbers
 abbrev pub database_of : Database → Loading Record
-database_of d = record { names = d.names; records = d.map.records.items }
+database_of d = record { names = d.names; records = d.records.items }

@@ -7,12 +7,13 @@ use Rattle.ioc_values.specs.declared.error.BadDbKind.TheVariants as kinds
 use Rattle.ioc_fields.specs.declared.record_type.RecordType.{RecordType}
 use Rattle.ioc_fields.specs.declared.field_no.FieldNo.{FieldNo}
 use Rattle.ioc_dbtext.specs.declared.token.TokenKind.{TokenKind}
-use Rattle.ioc_dbtext.specs.declared.token.TokenKind.TheVariants.{Sign, Word, Quoted, Fault}
+use Rattle.ioc_dbtext.specs.declared.token.TokenKind.TheVariants.{Word, Quoted, Fault}
 use Rattle.ioc_values.specs.declared.error.DbFault.{DbFault}
 use Rattle.ioc_values.specs.declared.error.IocError.{IocError}
 use Rattle.ioc_values.specs.declared.error.IocError.TheVariants as errors
 use Rattle.ioc_dbtext.specs.Lexing.{Lexeme}
 use Rattle.ioc_dbtokens.specs.Escapes.{unescaped_from}
+pub use Rattle.ioc_dbtokens.specs.Signs.{is_sign_of}
 use Rattle.ioc_dbfile.specs.Rules.{Rules}
 
 -- a step, then what is made of what it gave
@@ -62,11 +63,6 @@ sound token _ rest = Ok (token, rest)
 unfoldable pub next_at : ℕ → List Lexeme → Result (Lexeme × List Lexeme) DbFault
 next_at last [] = Err (at last kinds.OpenBody)
 next_at last (token ∷ rest) = sound token token.kind rest
-
--- this sign
-abbrev pub is_sign_of : ℕ → TokenKind → Bool
-is_sign_of b (Sign c) = c == b
-is_sign_of b _ = false
 
 -- the rest behind this sign
 unfoldable pub expect : ℕ → ℕ → List Lexeme → Result (List Lexeme) DbFault

@@ -1,22 +1,22 @@
 //! Loaded databases.
 ghost use Rattle.ioc_types.specs.Record.{record_rules};
-ghost use Rattle.ioc_process.specs.OneMap.{world_of};
+ghost use Rattle.ioc_dbfile.specs.FirstWorld.{first_world};
 ghost use Rattle.ioc_process.specs.World.{IsClosed};
 ghost use Rattle.ioc_process.specs.Rules.{IsQuiet};
 
 use crate::finish::finish_all;
 use ioc_names::Names;
-use ioc_process::{OneMap, Unwired};
 use ioc_types::Record;
 use std::alloc::{AllocError, Global};
 
-/// A loaded database: the names of its records, and the records by their numbers.
+/// A loaded database: the names of its records, and the records by their numbers. A device that links name belongs to the first of the
+/// records that have such a link: only its link leads to it ([`owns_device`](crate::owns_device)).
 #[derive(Drop)]
 pub struct Database {
     pub names: Names,
-    pub map: OneMap<Record, Unwired>,
-    ghost closed: { IsClosed record_rules (world_of map) },
-    ghost quiet: { IsQuiet record_rules (world_of map) },
+    pub records: Vec<Record>,
+    ghost closed: { IsClosed record_rules (first_world records.items) },
+    ghost quiet: { IsQuiet record_rules (first_world records.items) },
 }
 
 impl Database {
@@ -33,7 +33,6 @@ impl Database {
     {
         let mut records = records;
         finish_all(alloc, &names, records.as_mut_slice())?;
-        let map = OneMap::new(records, Vec::new(alloc));
-        Ok(Database { names, map })
+        Ok(Database { names, records })
     }
 }

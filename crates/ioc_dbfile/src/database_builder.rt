@@ -1,5 +1,5 @@
 //! The database that statements fill.
-ghost use Rattle.std.specs.Prelude.{◌≡◌, ◌↔◌, [], true, IsSome, IfSome, IfOk};
+ghost use Rattle.std.specs.Prelude.{◌≡◌, ◌↔◌, [], true, IsSome, IfSome, IfOk, slice_get};
 ghost use Rattle.ioc_links.specs.Grammar.{is_record_name};
 ghost use Rattle.ioc_dbfile.specs.Loader.{same_type, kind_of_refusal, build_error};
 ghost use Rattle.ioc_names.specs.NameTable.{no_names};
@@ -9,7 +9,7 @@ use crate::database::Database;
 use crate::new_records::push_new;
 use ioc_fields::{FieldNo, RecordType, can_set, field};
 use ioc_links::is_record_name;
-use ioc_names::{Names, RecordNo};
+use ioc_names::{Entered, Names, RecordNo};
 use ioc_record::{RecordKind, set_field};
 use ioc_types::Record;
 use ioc_values::{BadDbKind, IocError, Name};
@@ -45,7 +45,9 @@ impl Model for DatabaseBuilder {
 }
 
 impl DatabaseBuilder {
-    ghost use Rattle.ioc_types.specs.Record.{record_rules};
+    ghost use Rattle.ioc_types.specs.Record.{record_rules, new_record};
+    ghost use Rattle.ioc_dbfile.specs.Loader.{add_more};
+    ghost use Rattle.ioc_dbfile.specs.Rules.{Builds};
     ghost use Rattle.ioc_dbfile.specs.Finished.{all_finished};
     ghost use Rattle.ioc_dbfile.specs.SeenDatabase.{database_of};
 
@@ -58,6 +60,20 @@ impl DatabaseBuilder {
             names: Names::new(alloc),
             records: Vec::new(alloc),
         }
+    }
+
+    /// The record of this number gets more fields, where it has this type.
+    #[tactic(auto, unfolding(crate::specs::Loader::same_type))]
+    fn add_more(&self, record_type: RecordType, number: RecordNo) -> Result<RecordNo, BuildError>
+        ensures { Builds (λ n. (n, self.now)) result (add_more record_rules new_record record_type self.now number (slice_get self.now.records number)) }
+    {
+        let Some(record) = self.records.get(number.index()) else {
+            return Err(BuildError::Refused(BadDbKind::Duplicate));
+        };
+        if !same_type(record_type, record.record_type()) {
+            return Err(BuildError::Refused(BadDbKind::Duplicate));
+        }
+        Ok(number)
     }
 
     /// The database of these names and records: it is decided where links lead, and constants are put.
@@ -116,21 +132,19 @@ impl Builder for DatabaseBuilder {
         let Some(short) = valid_name(name) else {
             return Err(BuildError::Refused(BadDbKind::BadName));
         };
-        if let Some(number) = self.names.find(name) {
-            let Some(record) = self.records.get(number.index()) else {
-                return Err(BuildError::Refused(BadDbKind::Duplicate));
-            };
-            if !same_type(record_type, record.record_type()) {
-                return Err(BuildError::Refused(BadDbKind::Duplicate));
-            }
-            return Ok(number);
-        }
         if self.names.len() >= MAX_RECORDS {
-            return Err(BuildError::Refused(BadDbKind::TooMany));
+            let Some(number) = self.names.find(name) else {
+                return Err(BuildError::Refused(BadDbKind::TooMany));
+            };
+            return self.add_more(record_type, number);
         }
-        push_new(self.alloc, &mut self.records, record_type, short)?;
-        let number = self.names.add(short)?;
-        Ok(number)
+        match self.names.find_or_add(short)? {
+            Entered::Before(number) => self.add_more(record_type, number),
+            Entered::Now(number) => {
+                push_new(self.alloc, &mut self.records, record_type, short)?;
+                Ok(number)
+            }
+        }
     }
 
     fn alias(&mut self, number: RecordNo, name: &[u8]) -> Result<(), BuildError> {

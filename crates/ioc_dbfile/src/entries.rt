@@ -195,12 +195,8 @@ pub fn braces_at<B: Builder>(
 ) -> Result<(), IocError>
     ensures { Gives (λ _. (builder.new, tokens.new)) result (braces_at B.rules turns last number builder.old tokens.old) }
 {
-    let Some(token) = tokens.peek() else {
-        return Ok(());
-    };
-    if !is_sign_of(b'{', token.kind) {
+    if !tokens.take_sign(b'{') {
         return Ok(());
     }
-    tokens.next();
     body_at(alloc, turns, last, number, builder, tokens)
 }

@@ -2,15 +2,25 @@
 ghost use Rattle.std.specs.Prelude.{◌≡◌, IfOk, OnOk, map};
 ghost use Rattle.ioc_types.specs.Record.{record_rules};
 ghost use Rattle.ioc_fields.specs.Table.{is_link_kind};
-ghost use Rattle.ioc_dbfile.specs.Finished.{standing_of, leads_to, linked, linked_all, finished};
+ghost use Rattle.ioc_dbfile.specs.Finished.{standing_of, leads_to, linked, linked_all, finished, by_place};
+ghost use Rattle.ioc_dbfile.specs.Owners.{owner_of};
+ghost use Rattle.ioc_dbfile.specs.OwnerTable.{owner_in};
 
+use crate::owners::{Owners, owners_of};
 use ioc_common::{FieldAddress, KeptLink, Lead, LinkField};
 use ioc_fields::{FieldKind, FieldNo, RecordType, field, kind_of};
 use ioc_links::{Link, Target};
-use ioc_names::Names;
+use ioc_names::{Names, RecordNo};
 use ioc_record::RecordKind;
 use ioc_types::Record;
 use std::alloc::{AllocError, Global};
+
+// What is known of all records when it is decided where their links lead.
+#[derive(Drop)]
+struct Whole {
+    types: Vec<RecordType>,
+    owners: Owners,
+}
 
 fn is_link(kind: Option<FieldKind>) -> bool
     ensures { result ≡ is_link_kind kind }
@@ -32,15 +42,16 @@ fn standing_of(names: &Names, types: &[RecordType], target: &Target) -> Option<F
     Some(FieldAddress { number, field })
 }
 
-fn leads_to(names: &Names, types: &[RecordType], link: &Link) -> Lead
-    ensures { result ≡ leads_to names.now types.now link.now }
+fn leads_to(names: &Names, whole: &Whole, number: RecordNo, link: &Link) -> Lead
+    ensures { result ≡ leads_to names.now whole.now.types.items (owner_in whole.now.owners) number link.now }
 {
     match link {
-        Link::Database(target, _) => match standing_of(names, types, target) {
+        Link::Database(target, _) => match standing_of(names, whole.types.as_slice(), target) {
             Some(standing) => Lead::Field(standing),
             None => Lead::Nowhere,
         },
-        _ => Lead::Nowhere,
+        Link::Device(text) => whole.owners.lead(number, text),
+        Link::Empty | Link::Constant(_) => Lead::Nowhere,
     }
 }
 
@@ -49,17 +60,18 @@ fn leads_to(names: &Names, types: &[RecordType], link: &Link) -> Lead
 fn link_one(
     alloc: Global,
     names: &Names,
-    types: &[RecordType],
+    whole: &Whole,
+    number: RecordNo,
     field: FieldNo,
     item: &mut Record,
 ) -> Result<(), AllocError>
-    ensures { OnOk result (item.new ≡ linked record_rules names.now types.now field item.old) }
+    ensures { OnOk result (item.new ≡ linked record_rules names.now whole.now.types.items (owner_in whole.now.owners) number field item.old) }
 {
     let Some(found) = item.link(field) else {
         return Ok(());
     };
     let link = found.get().link;
-    let lead = leads_to(names, types, &link);
+    let lead = leads_to(names, whole, number, &link);
     let kept = KeptLink::new(alloc, LinkField { link, lead })?;
     item.set_link(field, kept);
     Ok(())
@@ -69,15 +81,16 @@ fn link_one(
 fn link_all(
     alloc: Global,
     names: &Names,
-    types: &[RecordType],
+    whole: &Whole,
+    number: RecordNo,
     fields: &[FieldNo],
     item: &mut Record,
 ) -> Result<(), AllocError>
-    ensures { OnOk result (item.new ≡ linked_all record_rules names.now types.now fields.now item.old) }
+    ensures { OnOk result (item.new ≡ linked_all record_rules names.now whole.now.types.items (owner_in whole.now.owners) number fields.now item.old) }
 {
     let mut rest = fields;
     while let [field, others @ ..] = rest {
-        link_one(alloc, names, types, *field, item)?;
+        link_one(alloc, names, whole, number, *field, item)?;
         rest = others;
     }
     Ok(())
@@ -88,13 +101,14 @@ fn link_all(
 fn finish_record(
     alloc: Global,
     names: &Names,
-    types: &[RecordType],
+    whole: &Whole,
+    number: RecordNo,
     item: &mut Record,
 ) -> Result<(), AllocError>
-    ensures { OnOk result (item.new ≡ finished record_rules names.now types.now item.old) }
+    ensures { OnOk result (item.new ≡ finished record_rules names.now whole.now.types.items (owner_in whole.now.owners) number item.old) }
 {
     let fields = item.link_fields();
-    link_all(alloc, names, types, fields, item)?;
+    link_all(alloc, names, whole, number, fields, item)?;
     item.load();
     Ok(())
 }
@@ -114,11 +128,15 @@ fn types_of(alloc: Global, records: &[Record]) -> Result<Vec<RecordType>, AllocE
 
 /// Ends the load of records.
 pub fn finish_all(alloc: Global, names: &Names, records: &mut [Record]) -> Result<(), AllocError>
-    ensures { OnOk result (records.new ≡ map (finished record_rules names.now (map record_rules.record_type records.old)) records.old) }
+    ensures { OnOk result (records.new ≡ by_place (finished record_rules names.now (map record_rules.record_type records.old) (owner_of record_rules records.old)) 0 records.old) }
 {
     let types = types_of(alloc, records)?;
+    let owners = owners_of(alloc, records)?;
+    let whole = Whole { types, owners };
+    let mut number = 0;
     for item in records.iter_mut() {
-        finish_record(alloc, names, types.as_slice(), item)?;
+        finish_record(alloc, names, &whole, RecordNo::new(number), item)?;
+        number += 1;
     }
     Ok(())
 }

@@ -7,11 +7,13 @@
 pub mod builder;
 pub mod database;
 pub mod database_builder;
+mod device_name;
 mod entries;
 mod finish;
 pub mod laws;
 pub mod loading;
 mod new_records;
+pub mod owners;
 mod statements;
 mod words;
 
@@ -20,3 +22,4 @@ pub use database::Database;
 pub use database_builder::{DatabaseBuilder, MAX_RECORDS};
 pub use ioc_dbtext::{MAX_BYTES, Macros};
 pub use loading::{fill_by_text, load};
+pub use owners::owns_device;

@@ -8,7 +8,7 @@ use crate::builder::{BuildError, Builder};
 use crate::entries::{braces_at, second_at};
 use crate::words::{
     begins_record, expect, fault, is_sign_of, is_value, is_word, name_line, next_at, refused_word,
-    text_of, value_at,
+    sound, text_of, value_at,
 };
 use ioc_dbtext::Token;
 use ioc_dbtokens::Tokens;
@@ -181,10 +181,10 @@ fn statement_at<B: Builder>(
 ) -> Result<bool, IocError>
     ensures { Gives (λ more. (more, builder.new, tokens.new)) result (statement_at B.rules turns last builder.old tokens.old) }
 {
-    if tokens.peek().is_none() {
+    let Some(token) = tokens.next() else {
         return Ok(false);
-    }
-    let token = next_at(last, tokens)?;
+    };
+    let token = sound(token)?;
     statement_of(alloc, turns, last, &token, builder, tokens)?;
     Ok(true)
 }

@@ -1,9 +1,10 @@
 //! Single tokens of statements.
-ghost use Rattle.std.specs.Prelude.{◌≡◌, IfOk};
+ghost use Rattle.std.specs.Prelude.{◌≡◌, List, IfOk};
+ghost use Rattle.ioc_dbtext.specs.Lexing.{Lexeme};
 ghost use Rattle.ioc_values.specs.declared.error.BadDbKind.TheVariants as kinds;
 ghost use Rattle.ioc_dbtext.specs.SeenToken.{seen};
 ghost use Rattle.ioc_dbtokens.specs.SeenSaid.{said_bytes};
-ghost use Rattle.ioc_dbfile.specs.Statements.{Reads, at, next_at, is_sign_of, expect, is_value, value_at, is_bareword, is_word, text_of, name_line, begins_record, is_left_out, refused_word};
+ghost use Rattle.ioc_dbfile.specs.Statements.{Reads, at, sound, next_at, is_sign_of, expect, is_value, value_at, is_bareword, is_word, text_of, name_line, begins_record, is_left_out, refused_word};
 
 use ioc_dbtext::{Token, TokenKind};
 use ioc_dbtokens::{Said, Tokens, read_escapes};
@@ -17,6 +18,19 @@ pub fn fault(line: u64, kind: BadDbKind) -> IocError
     IocError::BadDb(DbFault { line, kind })
 }
 
+/// The token, where it is no fault.
+pub fn sound<'a>(token: Token<'a>) -> Result<Token<'a>, DbFault>
+    ensures { (rest : List Lexeme) → Reads (λ t. (seen t, rest)) result (sound (seen token.entry) token.entry.kind rest) }
+{
+    match token.kind {
+        TokenKind::Fault(kind) => Err(DbFault {
+            line: token.line,
+            kind,
+        }),
+        _ => Ok(token),
+    }
+}
+
 /// The next token of a statement, of a text with this last line.
 #[tactic(auto, unfolding(crate::specs::Statements::next_at))]
 pub fn next_at<'a>(last: u64, tokens: &mut Tokens<'a>) -> Result<Token<'a>, DbFault>
@@ -26,11 +40,7 @@ pub fn next_at<'a>(last: u64, tokens: &mut Tokens<'a>) -> Result<Token<'a>, DbFa
         let kind = BadDbKind::OpenBody;
         return Err(DbFault { line: last, kind });
     };
-    let line = token.line;
-    match token.kind {
-        TokenKind::Fault(kind) => Err(DbFault { line, kind }),
-        _ => Ok(token),
-    }
+    sound(token)
 }
 
 /// A token that does not fit.
@@ -53,9 +63,9 @@ pub fn is_sign_of(b: u8, kind: TokenKind) -> bool
     }
 }
 
-/// Takes this sign.
+/// The next token, which must be this sign.
 #[tactic(auto, unfolding(crate::specs::Statements::expect))]
-pub fn expect(b: u8, last: u64, tokens: &mut Tokens<'_>) -> Result<(), DbFault>
+fn sign_at(b: u8, last: u64, tokens: &mut Tokens<'_>) -> Result<(), DbFault>
     ensures { Reads (λ _. tokens.new) result (expect b last tokens.old) }
 {
     let token = next_at(last, tokens)?;
@@ -63,6 +73,17 @@ pub fn expect(b: u8, last: u64, tokens: &mut Tokens<'_>) -> Result<(), DbFault>
         return Err(misfit(&token));
     }
     Ok(())
+}
+
+/// Takes this sign.
+pub fn expect(b: u8, last: u64, tokens: &mut Tokens<'_>) -> Result<(), DbFault>
+    ensures { Reads (λ _. tokens.new) result (expect b last tokens.old) }
+{
+    // Mostly it stands there, and then no token need be made of it.
+    if tokens.take_sign(b) {
+        return Ok(());
+    }
+    sign_at(b, last, tokens)
 }
 
 /// Whether it is a bareword or a quoted text.

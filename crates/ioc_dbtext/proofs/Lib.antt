@@ -7,3 +7,4 @@ pub mod Replacing
 pub mod Pieces
 pub mod LineEnds
 pub mod Parting
+mod Plain

@@ -1,6 +1,6 @@
 -- The token at the front of a line, and where a line's tokens begin.
 -- EPICS Application Developer's Guide, "Database Definition", "General Rules for Database Definition".
-use Rattle.std.specs.Prelude.{ℕ, zero, suc, ◌-◌, Bool, true, false, List, [], ◌∷◌, length, take, nat_lt, Option, Some, None, ◌==◌, ◌||◌, if◌then◌else◌}
+use Rattle.std.specs.Prelude.{ℕ, zero, suc, ◌-◌, Bool, true, false, List, [], ◌∷◌, length, take, nat_lt, Option, Some, None, ◌==◌, ◌&&◌, ◌||◌, if◌then◌else◌}
 use Rattle.ioc_values.specs.declared.error.BadDbKind.TheVariants as kinds
 use Rattle.ioc_dbtext.specs.declared.token.TokenKind.{TokenKind}
 use Rattle.ioc_dbtext.specs.declared.token.TokenKind.TheVariants.{Sign, Word, Quoted, Fault}
@@ -29,6 +29,11 @@ quoted_at line text (b ∷ bs) = record { token = record { line = line; kind = Q
 -- ( ) { } , *
 unfoldable pub is_sign : ℕ → Bool
 is_sign b = (b == 40) || ((b == 41) || ((b == 123) || ((b == 125) || ((b == 44) || (b == 42)))))
+
+-- what stands behind this sign, where it is the first byte
+abbrev pub behind_sign : ℕ → List ℕ → Option (List ℕ)
+behind_sign b [] = None
+behind_sign b (c ∷ bs) = if (c == b) && is_sign b then Some bs else None
 
 -- the token that begins with this byte
 abbrev pub token_by : ℕ → ℕ → List ℕ → Cut

@@ -4,7 +4,7 @@ use Rattle.std.specs.Prelude.{ℕ, ◌-◌, nat_lt, length, slice_index_or, Bool
 use Rattle.std.specs.List.{onto_first}
 use Rattle.ioc_dbtext.specs.declared.lines.Quoting.{Quoting}
 use Rattle.ioc_dbtext.specs.declared.lines.Quoting.TheVariants.{Outside, Inside, Escaped}
-use Rattle.ioc_dbtext.specs.Macros.{Defined, replaced}
+use Rattle.ioc_dbtext.specs.Macros.{Defined, lacks, replaced}
 
 -- the first byte is this one
 abbrev pub begins_with : ℕ → List ℕ → Bool
@@ -41,6 +41,10 @@ begins_comment Escaped b = false
 abbrev pub uncommented : Quoting → List ℕ → List ℕ
 uncommented quoting [] = []
 uncommented quoting (b ∷ bs) = if begins_comment quoting b then [] else b ∷ uncommented (quoting_after quoting b) bs
+
+-- no byte begins a comment or a macro
+abbrev pub is_plain : List ℕ → Bool
+is_plain bs = lacks 35 bs && lacks 36 bs
 
 -- the text of a line, where its macros can be replaced
 unfoldable pub line_text : List Defined → List ℕ → Option (List ℕ)

@@ -7,7 +7,7 @@ ghost use Rattle.ioc_dbtext.specs.SeenTexts.{expansion_of};
 
 use crate::bytes::skip_gap;
 use crate::lexer::token_at;
-use crate::lines::{line_text, split_line};
+use crate::lines::{is_plain, line_text, split_line};
 use crate::macros::Macros;
 use crate::texts::{End, Texts};
 use std::alloc::{AllocError, Global};
@@ -76,11 +76,12 @@ pub fn expand(alloc: Global, macros: &Macros, text: &[u8]) -> Result<Texts, Allo
     let mut bytes = Vec::new(alloc);
     let mut lengths = Vec::new(alloc);
     let mut replacement = Vec::new(alloc);
+    let plain = is_plain(text);
     let mut room = MAX_BYTES;
     let mut rest = text;
     while !rest.is_empty() {
         let (line, behind) = split_line(rest);
-        let found = line_text(macros, line, &mut replacement)?;
+        let found = line_text(macros, plain, line, &mut replacement)?;
         let Some(text) = found else {
             let end = End::BadMacro;
             return Ok(Texts {

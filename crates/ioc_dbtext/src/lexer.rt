@@ -1,7 +1,7 @@
 //! One token of a line.
-ghost use Rattle.std.specs.Prelude.{◌≡◌, ◌≤◌, Some, None, false, length};
+ghost use Rattle.std.specs.Prelude.{◌≡◌, ◌≤◌, Some, None, false, length, option_map};
 ghost use Rattle.ioc_dbtext.specs.Bytes.{quoted_of, behind_quoted};
-ghost use Rattle.ioc_dbtext.specs.Lexing.{is_sign, bare, quoted_at, token_at, is_fault, behind_begun, begun_within};
+ghost use Rattle.ioc_dbtext.specs.Lexing.{is_sign, behind_sign, bare, quoted_at, token_at, is_fault, behind_begun, begun_within};
 ghost use Rattle.ioc_dbtext.specs.SeenToken.{CutsSo};
 
 use crate::bytes::{is_word_byte, skip_gap, split_quoted, split_word};
@@ -37,7 +37,7 @@ fn quoted_at<'a>(line: u64, bytes: &'a [u8]) -> (Token<'a>, &'a [u8])
 
 /// The token at the front of some bytes of this line that begin with no blank, and what stands behind it: none
 /// where there are no bytes. Behind a fault stands nothing.
-#[inline]
+#[inline(always)]
 #[tactic(auto, unfolding(crate::specs::Lexing::token_at))]
 pub fn token_at<'a>(line: u64, bytes: &'a [u8]) -> Option<(Token<'a>, &'a [u8])>
     ensures { CutsSo (token_at line bytes.now) result }
@@ -57,6 +57,20 @@ pub fn token_at<'a>(line: u64, bytes: &'a [u8]) -> Option<(Token<'a>, &'a [u8])>
         return Some((Token { line, kind, text }, rest));
     }
     Some(bare(line, TokenKind::Fault(BadDbKind::Syntax), &[]))
+}
+
+/// What stands behind this sign, where it is the first of some bytes.
+#[inline]
+pub fn behind_sign(b: u8, bytes: &[u8]) -> Option<&[u8]>
+    ensures { option_map (λ behind. behind.now) result ≡ behind_sign b bytes.now }
+{
+    let [first, behind @ ..] = bytes else {
+        return None;
+    };
+    if *first != b || !is_sign(b) {
+        return None;
+    }
+    Some(behind)
 }
 
 /// Whether no token can stand behind this one.

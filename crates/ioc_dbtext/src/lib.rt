@@ -8,7 +8,7 @@ mod bytes;
 mod expansion;
 pub mod laws;
 mod lexer;
-pub mod lines;
+mod lines;
 pub mod macros;
 mod replacement;
 mod search;
@@ -17,7 +17,7 @@ pub mod token;
 
 pub use bytes::{escapes, skip_gap};
 pub use expansion::{MAX_BYTES, expand};
-pub use lexer::{is_fault, token_at};
+pub use lexer::{behind_sign, is_fault, token_at};
 pub use macros::Macros;
 pub use search::{lacks, split_at_byte};
 pub use texts::{End, Texts};

@@ -1,7 +1,7 @@
 //! The lines of a text, and what is left of one.
-ghost use Rattle.std.specs.Prelude.{◌≡◌, ◌<◌, ◌≤◌, ◌∷◌, ◌++◌, length, option_map, IfOk};
+ghost use Rattle.std.specs.Prelude.{◌≡◌, ◌<◌, ◌≤◌, ◌∷◌, ◌++◌, length, option_map, true, IfOk};
 ghost use Rattle.ioc_dbtext.specs.Macros.{back_of};
-ghost use Rattle.ioc_dbtext.specs.Lines.{quoting_after, begins_comment, uncommented, stands, without_end, line_text, lines_of};
+ghost use Rattle.ioc_dbtext.specs.Lines.{quoting_after, begins_comment, uncommented, stands, without_end, is_plain, line_text, lines_of};
 
 use crate::macros::Macros;
 use crate::replacement::add_replaced;
@@ -74,6 +74,13 @@ fn uncommented(line: &[u8]) -> &[u8]
     &line[..count]
 }
 
+/// Whether no byte begins a comment or a macro.
+pub fn is_plain(bytes: &[u8]) -> bool
+    ensures { result ≡ is_plain bytes.now }
+{
+    lacks(b'#', bytes) && lacks(b'$', bytes)
+}
+
 /// Whether this byte stands so many bytes before the last.
 fn stands(c: u8, before: usize, bytes: &[u8]) -> bool
     requires { before < 2 }
@@ -109,7 +116,7 @@ pub fn split_line(text: &[u8]) -> (&[u8], &[u8])
 }
 
 /// What stands in one line, without comment and line end and with its macros replaced; none where one of them can't be.
-/// Where a macro is used, it stands in `replacement`.
+/// Where a macro is used, it stands in `replacement`. Where it is known to be plain, it isn't searched again.
 ///
 /// # Errors
 ///
@@ -117,13 +124,19 @@ pub fn split_line(text: &[u8]) -> (&[u8], &[u8])
 #[tactic(auto, unfolding(crate::specs::Lines::line_text))]
 pub fn line_text<'a>(
     macros: &Macros,
+    plain: bool,
     line: &'a [u8],
     replacement: &'a mut Vec<u8>,
 ) -> Result<Option<&'a [u8]>, AllocError>
-    requires { length (back_of 10 line.now) ≤ 1 }
+    requires one { length (back_of 10 line.now) ≤ 1 }
+    requires known { plain ≡ true → is_plain line.now ≡ true }
     ensures { IfOk result (λ text. option_map (λ t. t.now) text ≡ line_text macros.now line.now) }
 {
-    let text = uncommented(without_end(line));
+    let body = without_end(line);
+    if plain {
+        return Ok(Some(body));
+    }
+    let text = uncommented(body);
     if lacks(b'$', text) {
         return Ok(Some(text));
     }

@@ -4,7 +4,7 @@ use Rattle.ioc_dbtext.specs.declared.texts.End.{End}
 use Rattle.ioc_dbtext.specs.declared.texts.End.TheVariants.{Whole, BadMacro, TooLong}
 use Rattle.ioc_dbtext.specs.Bytes.{behind_gap}
 use Rattle.ioc_dbtext.specs.Lexing.{Lexeme, Cut, is_fault, token_at}
-use Rattle.ioc_dbtokens.specs.Tokens.{end_of, tokens_of, tokens_at, TakesToken, front_of, from_front}
+use Rattle.ioc_dbtokens.specs.Tokens.{end_of, tokens_of, tokens_at, TakesToken, front_of}
 use Rattle.ioc_dbtext.specs.Texts.{parts_of}
 use Rattle.ioc_dbtokens.proofs.Turns.{tokens_nil, one_left}
 
@@ -14,7 +14,7 @@ all_done line [] bytes h = tokens_nil line []
 all_done line (n ∷ ns) bytes h = absurd (omega arith)
 
 -- behind the last line stands what ends them
-ends : (line : ℕ) (rest lengths bytes : List ℕ) (end : End) → token_at line rest ≡ None → (length rest ≡ 0 → length lengths ≡ 0) → tokens_at line rest (parts_of lengths bytes) end ≡ end_of end (line + 1)
+pub ends : (line : ℕ) (rest lengths bytes : List ℕ) (end : End) → token_at line rest ≡ None → (length rest ≡ 0 → length lengths ≡ 0) → tokens_at line rest (parts_of lengths bytes) end ≡ end_of end (line + 1)
 unfolding token_at
 ends line [] [] bytes end e h = tokens_nil line (end_of end (line + 1))
 ends line [] (v ∷ vs) bytes end e h = let none : length (v ∷ vs) ≡ 0 = h refl in absurd (omega arith)
@@ -31,7 +31,7 @@ takes_end line rest lengths bytes end total new o e h same front none =
     let all : end_of end (line + 1) ≡ total = sym (ends line rest lengths bytes end e h) ∙ same in
     rw (front, none, ← all) (end_step end (line + 1))
 
-one : (line : ℕ) (rest : List ℕ) (behind : List (List ℕ)) (end : End) (cut : Cut) → behind_gap rest ≡ rest → token_at line rest ≡ Some cut
+pub one : (line : ℕ) (rest : List ℕ) (behind : List (List ℕ)) (end : End) (cut : Cut) → behind_gap rest ≡ rest → token_at line rest ≡ Some cut
     → tokens_at line rest behind end ≡ cut.token ∷ cond (is_fault cut.token.kind) [] (tokens_at line cut.rest behind end)
 one line rest behind end cut solid e = one_left line rest (tokens_of end (line + 1) behind) cut (ap (token_at line) solid ∙ e)
 
@@ -44,8 +44,3 @@ pub takes_one : (line : ℕ) (rest : List ℕ) (behind : List (List ℕ)) (end :
     → tokens_at line rest behind end ≡ total → total ≡ cut.token ∷ tokens_at line cut.rest behind end
 takes_one line rest behind end total cut solid e f same =
     sym same ∙ one line rest behind end cut solid e ∙ ap (λ (t : Bool). cut.token ∷ cond t [] (tokens_at line cut.rest behind end)) f
-
--- tokens of which the first was made
-pub from_taken : (old new : List Lexeme) (o : Option Lexeme) → TakesToken old o new → from_front o new ≡ old
-from_taken old new None h = sym h.0
-from_taken old new (Some token) h = sym h

@@ -3,3 +3,4 @@ pub mod SeenLines
 pub mod SeenPlace
 pub mod Escapes
 pub mod SeenSaid
+pub mod Signs

@@ -43,11 +43,6 @@ abbrev pub front_of : List Lexeme → Option Lexeme
 front_of [] = None
 front_of (token ∷ rest) = Some token
 
--- a token that was made, before those that are not made yet; where none was made there are none
-abbrev pub from_front : Option Lexeme → List Lexeme → List Lexeme
-from_front None rest = []
-from_front (Some token) rest = token ∷ rest
-
 -- the tokens from the rest of a line on
 abbrev pub tokens_at : ℕ → List ℕ → List (List ℕ) → End → List Lexeme
 tokens_at line rest behind end = tokens_before line rest (tokens_of end (line + 1) behind)

@@ -2,6 +2,7 @@
 ghost use Rattle.std.specs.Prelude.{◌≡◌, ◌+◌, ◌<◌, ◌≤◌, ◌^◌, [], length, option_map};
 ghost use Rattle.ioc_dbtext.specs.Bytes.{behind_gap};
 ghost use Rattle.ioc_dbtokens.specs.Tokens.{tokens_of, TakesToken, front_of, end_of};
+ghost use Rattle.ioc_dbtokens.specs.Signs.{takes_sign};
 ghost use Rattle.ioc_dbtext.specs.SeenToken.{seen};
 ghost use Rattle.ioc_dbtokens.specs.SeenLines.{TakesLine};
 ghost use Rattle.ioc_dbtokens.specs.SeenPlace.{tokens_of_place};
@@ -9,14 +10,13 @@ ghost use Rattle.ioc_dbtext.specs.SeenTexts.{expansion_of};
 
 use crate::lines::Lines;
 use crate::place::Place;
-use ioc_dbtext::{End, Texts, Token, TokenKind, is_fault, skip_gap, token_at};
+use ioc_dbtext::{End, Texts, Token, TokenKind, behind_sign, is_fault, skip_gap, token_at};
 use ioc_values::BadDbKind;
 use std::marker::Model;
 
-/// The tokens that are still to come: each is made once, when the one before it is taken.
+/// The tokens that are still to come: each is made once, when it is taken.
 #[derive(Drop)]
 pub struct Tokens<'a> {
-    front: Option<Token<'a>>,
     place: Place<'a>,
 }
 
@@ -26,12 +26,9 @@ impl<'a> Model for Tokens<'a> {
 
     ghost Value = { List Lexeme };
 
-    ghost use Rattle.std.specs.Prelude.{option_map};
-    ghost use Rattle.ioc_dbtext.specs.SeenToken.{seen};
     ghost use Rattle.ioc_dbtokens.specs.SeenPlace.{tokens_of_place};
-    ghost use Rattle.ioc_dbtokens.specs.Tokens.{from_front};
 
-    ghost view = { λ t. from_front (option_map seen t.front) (tokens_of_place t.place) };
+    ghost view = { λ t. tokens_of_place t.place };
 
     ghost invariant = { λ t. t.place.line + length t.place.behind.lengths.now < 2 ^ 63 };
 }
@@ -116,6 +113,20 @@ fn stop<'a>(place: &mut Place<'a>)
     place.end = End::Whole;
 }
 
+/// Takes this sign from a place on, behind which the place stands then: whether it stands there.
+fn take_sign_at<'a>(b: u8, place: &mut Place<'a>) -> bool
+    requires { place.old.line + length place.old.behind.lengths.now < 2 ^ 63 }
+    ensures takes { (result, tokens_of_place place.new) ≡ takes_sign b (tokens_of_place place.old) }
+    ensures room { place.new.line + length place.new.behind.lengths.now ≤ place.old.line + length place.old.behind.lengths.now }
+{
+    find(place);
+    let Some(behind) = behind_sign(b, place.rest) else {
+        return false;
+    };
+    place.rest = behind;
+    true
+}
+
 impl<'a> Tokens<'a> {
     /// The tokens of some texts, of which the first is line 1: no more than there are bytes, and one that ends them.
     pub fn new(texts: &'a Texts) -> Self
@@ -126,29 +137,26 @@ impl<'a> Tokens<'a> {
             bytes: texts.bytes.as_slice(),
             lengths: texts.lengths.as_slice(),
         };
-        let mut place = Place {
+        let place = Place {
             line: 0,
             rest: &[],
             behind,
             end: texts.end,
         };
-        let front = advance(&mut place);
-        Tokens { front, place }
+        Tokens { place }
     }
 
     /// The next token, if there is one. Behind a fault there is none.
     pub fn next(&mut self) -> Option<Token<'a>>
         ensures { TakesToken self.old (option_map seen result) self.new }
     {
-        let token = self.front?;
-        self.front = advance(&mut self.place);
-        Some(token)
+        advance(&mut self.place)
     }
 
-    /// The next token, which stays.
-    pub fn peek(&self) -> Option<Token<'a>>
-        ensures { option_map seen result ≡ front_of self.now }
+    /// Takes the next token where it is this sign: whether it is. Any other stays.
+    pub fn take_sign(&mut self, b: u8) -> bool
+        ensures { (result, self.new) ≡ takes_sign b self.old }
     {
-        self.front
+        take_sign_at(b, &mut self.place)
     }
 }

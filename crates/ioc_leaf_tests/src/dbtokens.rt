@@ -7,17 +7,16 @@ use std::alloc::Global;
 // A token: its line, what it is and its text.
 type Wanted = (u64, TokenKind, &'static [u8]);
 
-// Is the next token this one, and seen before it is taken?
+// Is the next token this one? A sign that doesn't stand there isn't taken.
 fn is_next(tokens: &mut Tokens<'_>, wanted: &Wanted) -> bool {
-    let (Some(front), Some(token)) = (tokens.peek(), tokens.next()) else {
+    if tokens.take_sign(b';') {
+        return false;
+    }
+    let Some(token) = tokens.next() else {
         return false;
     };
     let (line, kind, said) = *wanted;
-    front.line == token.line
-        && front.kind == token.kind
-        && token.line == line
-        && token.kind == kind
-        && token.text == said
+    token.line == line && token.kind == kind && token.text == said
 }
 
 // Are these the tokens, and no more?
@@ -27,7 +26,7 @@ fn are_next(tokens: &mut Tokens<'_>, table: &[Wanted]) -> bool {
             return false;
         }
     }
-    tokens.peek().is_none() && tokens.next().is_none()
+    tokens.next().is_none()
 }
 
 // Are these the tokens of the text?

@@ -1,5 +1,5 @@
 -- Requests with those that they caused, and their counts.
-use Rattle.std.specs.Prelude.{ℕ, zero, suc, ◌+◌, ◌-◌, ◌^◌, min, Option, Some, None as Nothing_}
+use Rattle.std.specs.Prelude.{◌≡◌, ℕ, zero, suc, ◌+◌, ◌-◌, ◌^◌, ◌<◌, ◌⊎◌, min, Option, Some, None as Nothing_}
 use Rattle.ioc_ledger.specs.declared.outcome.Outcome.{Outcome}
 use Rattle.ioc_ledger.specs.declared.outcome.Outcome.TheVariants.{Processed, Disabled, Active, Reprocess}
 use Rattle.ioc_ledger.specs.declared.tally.Tally.{Tally}
@@ -47,3 +47,43 @@ counted_completion t = record t { completed = more t.completed }
 abbrev pub first_outcome : Requests → Option Outcome
 first_outcome None = Nothing_
 first_outcome (Request outcome caused later) = Some outcome
+
+-- how many requests these are, with those that they caused
+abbrev pub nodes : Requests → ℕ
+nodes None = 0
+nodes (Request outcome caused later) = nodes caused + (1 + nodes later)
+
+-- one, where the outcome is this
+abbrev pub one_if : Outcome → Outcome → ℕ
+one_if Processed Processed = 1
+one_if Disabled Disabled = 1
+one_if Active Active = 1
+one_if Reprocess Reprocess = 1
+one_if _ _ = 0
+
+-- how many of them have this outcome
+abbrev pub nodes_of : Outcome → Requests → ℕ
+nodes_of wanted None = 0
+nodes_of wanted (Request outcome caused later) = nodes_of wanted caused + (one_if wanted outcome + nodes_of wanted later)
+
+-- so many more, unless it is full
+abbrev pub filled : ℕ → ℕ → ℕ
+filled n count = min (2 ^ 64 - 1) (n + count)
+
+-- each count of requests is a number of 64 bits
+abbrev pub Fits : Tally → Type 0
+Fits t = (t.begun < 2 ^ 64) × (t.processed < 2 ^ 64) × (t.disabled < 2 ^ 64) × (t.active < 2 ^ 64) × (t.reprocess < 2 ^ 64)
+
+-- the requests begun are those processed, disabled, active or put down for reprocessing, or the count of those begun is full
+abbrev pub AddsUp : Tally → Type 0
+AddsUp t = (t.begun ≡ 2 ^ 64 - 1) ⊎ (t.begun ≡ ((t.processed + t.disabled) + t.active) + t.reprocess)
+
+-- with these requests counted, each count is so many more as there are of them, and no other count has changed
+pub record CountsEach (before after : Tally) (requests : Requests) : Type 0 where
+  pub begun : after.begun ≡ filled before.begun (nodes requests)
+  pub processed : after.processed ≡ filled before.processed (nodes_of Processed requests)
+  pub disabled : after.disabled ≡ filled before.disabled (nodes_of Disabled requests)
+  pub active : after.active ≡ filled before.active (nodes_of Active requests)
+  pub reprocess : after.reprocess ≡ filled before.reprocess (nodes_of Reprocess requests)
+  pub started : after.started ≡ before.started
+  pub completed : after.completed ≡ before.completed

@@ -1,6 +1,7 @@
 //! What becomes of requests, and how many there were.
 #![tactic(auto)]
 
+pub mod laws;
 pub mod outcome;
 pub mod tally;
 

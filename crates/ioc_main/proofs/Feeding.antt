@@ -5,9 +5,10 @@ use Rattle.std.proofs.Math.ListN.{drop_of_length-le}
 use Rattle.std.specs.Io.KnownBytes.{Appends}
 use Rattle.ioc_main.specs.Script.{lines_of}
 use Rattle.ioc_main.specs.Coming.{to_come}
-use Rattle.ioc_main.specs.Written.{Writes, WritesPart}
+use Rattle.ioc_main.specs.Written.{Writes, StopsLine}
+use Rattle.ioc_main.specs.declared.fault.LineFault.{LineFault}
 use Rattle.ioc_main.proofs.ComingLemmas.{at_end, starts, all_read, last_line-of}
-use Rattle.ioc_main.proofs.WrittenLemmas.{writes_trans, writes_then_part, appends_all, appends_empty}
+use Rattle.ioc_main.proofs.WrittenLemmas.{writes_trans, writes_then_stops, appends_all, appends_empty}
 
 -- a line feed came
 pub line_ends : (t u : List (List ℕ) → List ℕ) (w v : Option (List ℕ)) (line kept : List ℕ) (b : ℕ) → b ≡ 10
@@ -18,10 +19,10 @@ line_ends t u w v line kept b is p rest =
     let q : Writes w (to_come t line (b ∷ rest)) v (u (lines_of rest)) = subst (λ (l : List ℕ). Writes w l v (u (lines_of rest))) (sym (at_end t line b rest is)) (p.1 (lines_of rest)) in
     subst (λ (l : List ℕ). Writes w (to_come t line (b ∷ rest)) v l) (sym e) q
 
-pub line_fails : (t : List (List ℕ) → List ℕ) (w v : Option (List ℕ)) (line : List ℕ) (b : ℕ) → b ≡ 10
-    → ((lines : List (List ℕ)) → WritesPart w (t (line ∷ lines)) v)
-    → (rest : List ℕ) → WritesPart w (to_come t line (b ∷ rest)) v
-line_fails t w v line b is p rest = subst (λ (l : List ℕ). WritesPart w l v) (sym (at_end t line b rest is)) (p (lines_of rest))
+pub line_fails : (fault : LineFault) (t : List (List ℕ) → List ℕ) (w v : Option (List ℕ)) (line : List ℕ) (b : ℕ) → b ≡ 10
+    → ((lines : List (List ℕ)) → StopsLine fault w (t (line ∷ lines)) v)
+    → (rest : List ℕ) → StopsLine fault w (to_come t line (b ∷ rest)) v
+line_fails fault t w v line b is p rest = subst (λ (l : List ℕ). StopsLine fault w l v) (sym (at_end t line b rest is)) (p (lines_of rest))
 
 next_byte : (piece : List ℕ) (i : ℕ) → i < length piece → drop i piece ≡ get_or piece i 0 ∷ drop (i + 1) piece
 next_byte piece i h = rw (add-one, drop-cons piece i 0) refl
@@ -34,8 +35,8 @@ module _ (w0 w v : Option (List ℕ)) (all : List ℕ) (come : List ℕ → List
   pub feed_step : (more : List ℕ) → Writes w (come (b ∷ (drop (i + 1) piece ++ rest))) v more → Writes w0 all w (come (drop i piece ++ rest)) → Writes w0 all v more
   feed_step more p inv = writes_trans w0 w v all _ more inv (subst (λ (l : List ℕ). Writes w (come l) v more) (sym (at_byte piece i b rest within is)) p)
 
-  pub feed_fails : WritesPart w (come (b ∷ (drop (i + 1) piece ++ rest))) v → Writes w0 all w (come (drop i piece ++ rest)) → WritesPart w0 all v
-  feed_fails p inv = writes_then_part w0 w v all _ inv (subst (λ (l : List ℕ). WritesPart w (come l) v) (sym (at_byte piece i b rest within is)) p)
+  pub feed_fails : (fault : LineFault) → StopsLine fault w (come (b ∷ (drop (i + 1) piece ++ rest))) v → Writes w0 all w (come (drop i piece ++ rest)) → StopsLine fault w0 all v
+  feed_fails fault p inv = writes_then_stops fault w0 w v all _ inv (subst (λ (l : List ℕ). StopsLine fault w (come l) v) (sym (at_byte piece i b rest within is)) p)
 
 -- a piece is at its end
 pub feed_ends : (w0 w : Option (List ℕ)) (all : List ℕ) (come : List ℕ → List ℕ) (piece : List ℕ) (i : ℕ) (rest : List ℕ) → length piece ≤ i
@@ -62,6 +63,6 @@ module _ (t : List (List ℕ) → List ℕ) where
       let q : Writes w (t (line ∷ [])) v [] = subst (λ (l : List ℕ). Writes w (t (line ∷ [])) v l) none p in
       subst (λ (l : List ℕ). Appends w v l) (sym (last_is line slice e h)) (appends_all w v _ q)
 
-  pub last_fails : (w v : Option (List ℕ)) (line slice : List ℕ) → slice ≡ line → 1 ≤ length slice
-      → WritesPart w (t (line ∷ [])) v → WritesPart w (to_come t line []) v
-  last_fails w v line slice e h p = subst (λ (l : List ℕ). WritesPart w l v) (sym (last_is line slice e h)) p
+  pub last_fails : (fault : LineFault) (w v : Option (List ℕ)) (line slice : List ℕ) → slice ≡ line → 1 ≤ length slice
+      → StopsLine fault w (t (line ∷ [])) v → StopsLine fault w (to_come t line []) v
+  last_fails fault w v line slice e h p = subst (λ (l : List ℕ). StopsLine fault w l v) (sym (last_is line slice e h)) p

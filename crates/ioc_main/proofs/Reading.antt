@@ -3,10 +3,11 @@ use Rattle.std.proofs.Common.{◌≡◌, ℕ, List, [], ◌++◌, Option, Some, 
 use Rattle.std.specs.Prelude.{IfSome}
 use Rattle.std.specs.Io.KnownBytes.{Appends, Consumes, IsAtEnd}
 use Rattle.ioc_main.specs.Script.{lines_of}
-use Rattle.ioc_main.specs.Written.{Writes, WritesPart}
+use Rattle.ioc_main.specs.Written.{Writes, StopsLine}
+use Rattle.ioc_main.specs.declared.fault.LineFault.{LineFault}
 use Rattle.ioc_main.specs.Coming.{to_come, ReadsSo}
 use Rattle.ioc_main.proofs.ComingLemmas.{starts}
-use Rattle.ioc_main.proofs.WrittenLemmas.{writes_same, writes_trans, writes_then_part, appends_all}
+use Rattle.ioc_main.proofs.WrittenLemmas.{writes_same, writes_trans, writes_then_stops, appends_all}
 
 abbrev Transcript : Type 0
 Transcript = List (List ℕ) → List ℕ
@@ -24,14 +25,14 @@ reads_on whole t s (Some x) (Some y) None w v u line more piece q p inv = absurd
 reads_on whole t s (Some x) (Some y) (Some z) w v u line more piece q p inv =
     writes_trans w v u (whole (lines_of x)) _ (to_come s more z) (subst (λ (l : List ℕ). Writes w (whole (lines_of x)) v (to_come t line l)) q inv) (p z)
 
-pub reads_fail : (whole t : Transcript) (a b d w v u : Option (List ℕ)) (line piece : List ℕ) → Consumes b d piece
-    → ((rest : List ℕ) → WritesPart v (to_come t line (piece ++ rest)) u)
-    → ReadsSo whole a b w t line v → IfSome a (λ text. WritesPart w (whole (lines_of text)) u)
-reads_fail whole t None b d w v u line piece q p inv = tt
-reads_fail whole t (Some x) None d w v u line piece q p inv = absurd inv
-reads_fail whole t (Some x) (Some y) None w v u line piece q p inv = absurd q
-reads_fail whole t (Some x) (Some y) (Some z) w v u line piece q p inv =
-    writes_then_part w v u (whole (lines_of x)) _ (subst (λ (l : List ℕ). Writes w (whole (lines_of x)) v (to_come t line l)) q inv) (p z)
+pub reads_fail : (fault : LineFault) (whole t : Transcript) (a b d w v u : Option (List ℕ)) (line piece : List ℕ) → Consumes b d piece
+    → ((rest : List ℕ) → StopsLine fault v (to_come t line (piece ++ rest)) u)
+    → ReadsSo whole a b w t line v → IfSome a (λ text. StopsLine fault w (whole (lines_of text)) u)
+reads_fail fault whole t None b d w v u line piece q p inv = tt
+reads_fail fault whole t (Some x) None d w v u line piece q p inv = absurd inv
+reads_fail fault whole t (Some x) (Some y) None w v u line piece q p inv = absurd q
+reads_fail fault whole t (Some x) (Some y) (Some z) w v u line piece q p inv =
+    writes_then_stops fault w v u (whole (lines_of x)) _ (subst (λ (l : List ℕ). Writes w (whole (lines_of x)) v (to_come t line l)) q inv) (p z)
 
 -- the reader is at its end
 at_end : (b d : Option (List ℕ)) (y : List ℕ) → b ≡ Some y → Consumes b d [] → IsAtEnd d → y ≡ []
@@ -50,12 +51,12 @@ reads_end whole t (Some x) None d w v u line q h p inv = absurd inv
 reads_end whole t (Some x) (Some y) d w v u line q h p inv =
     appends_all w u (whole (lines_of x)) (writes_trans w v u (whole (lines_of x)) (to_come t line []) [] (reads_all whole t x y d w v line q h inv) (to_come t line [], sym (append-nil (to_come t line [])), p))
 
-pub reads_end_fails : (whole t : Transcript) (a b d w v u : Option (List ℕ)) (line : List ℕ) → Consumes b d [] → IsAtEnd d
-    → WritesPart v (to_come t line []) u → ReadsSo whole a b w t line v → IfSome a (λ text. WritesPart w (whole (lines_of text)) u)
-reads_end_fails whole t None b d w v u line q h p inv = tt
-reads_end_fails whole t (Some x) None d w v u line q h p inv = absurd inv
-reads_end_fails whole t (Some x) (Some y) d w v u line q h p inv =
-    writes_then_part w v u (whole (lines_of x)) (to_come t line []) (reads_all whole t x y d w v line q h inv) p
+pub reads_end_fails : (fault : LineFault) (whole t : Transcript) (a b d w v u : Option (List ℕ)) (line : List ℕ) → Consumes b d [] → IsAtEnd d
+    → StopsLine fault v (to_come t line []) u → ReadsSo whole a b w t line v → IfSome a (λ text. StopsLine fault w (whole (lines_of text)) u)
+reads_end_fails fault whole t None b d w v u line q h p inv = tt
+reads_end_fails fault whole t (Some x) None d w v u line q h p inv = absurd inv
+reads_end_fails fault whole t (Some x) (Some y) d w v u line q h p inv =
+    writes_then_stops fault w v u (whole (lines_of x)) (to_come t line []) (reads_all whole t x y d w v line q h inv) p
 
 pub none_read : (b d : Option (List ℕ)) (n : ℕ) (buf : List ℕ) → n ≡ 0 → Consumes b d (take n buf) → Consumes b d []
 none_read b d n buf e q = subst (λ (k : ℕ). Consumes b d (take k buf)) e q

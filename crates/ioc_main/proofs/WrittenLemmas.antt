@@ -1,7 +1,11 @@
 -- One write after the other.
 use Rattle.std.proofs.Common.{◌≡◌, ℕ, false, eqb, length, List, [], ◌∷◌, ◌++◌, take, drop, Option, Some, None, refl, sym, ap, subst, ◌∙◌, append_assoc, append-nil, take-append-drop}
+use Rattle.std.specs.Prelude.{IfSome}
 use Rattle.std.specs.Io.KnownBytes.{Appends, Keeps}
-use Rattle.ioc_main.specs.Written.{Writes, WritesPart}
+use Rattle.ioc_main.specs.Written.{Writes, WritesPart, WritesFront, StopsLine, StopsScript}
+use Rattle.ioc_main.specs.declared.fault.LineFault.{LineFault}
+use Rattle.ioc_main.specs.declared.fault.LineFault.TheVariants as line
+use Rattle.ioc_main.specs.Faults.{script_fault_of}
 
 appends_trans : (a b c : Option (List ℕ)) (bs cs : List ℕ) → Appends a b bs → Appends b c cs → Appends a c (bs ++ cs)
 appends_trans None b c bs cs p q = tt
@@ -24,6 +28,23 @@ writes_more a b c x y z n p q e =
 
 pub writes_then_part : (a b c : Option (List ℕ)) (x y : List ℕ) → Writes a x b y → WritesPart b y c → WritesPart a x c
 writes_then_part a b c x y p q = (q.0, q.1, writes_trans a b c x y (q.0 ∷ q.1) p q.2)
+
+pub writes_then_stops : (fault : LineFault) (a b c : Option (List ℕ)) (x y : List ℕ) → Writes a x b y → StopsLine fault b y c → StopsLine fault a x c
+writes_then_stops line.Write a b c x y p q = writes_then_part a b c x y p q
+writes_then_stops line.Memory a b c x y p q = (q.0, writes_trans a b c x y q.0 p q.1)
+
+-- a line that stopped stops the script
+pub stops_script : (fault : LineFault) (a b : Option (List ℕ)) (x : List ℕ) → StopsLine fault a x b → StopsScript (script_fault_of fault) a x b
+stops_script line.Write a b x p = p
+stops_script line.Memory a b x p = p
+
+pub script_stops : (fault : LineFault) (script a b : Option (List ℕ)) (t : List ℕ → List ℕ) → IfSome script (λ text. StopsLine fault a (t text) b) → IfSome script (λ text. StopsScript (script_fault_of fault) a (t text) b)
+script_stops fault None a b t p = tt
+script_stops fault (Some text) a b t p = stops_script fault a b (t text) p
+
+-- nothing was written of it
+pub writes_none : (a : Option (List ℕ)) (x : List ℕ) → WritesFront a x a
+writes_none a x = (x, ([], refl, appends_none a))
 
 -- a writer that kept what it had took nothing
 appends_kept : (a b : Option (List ℕ)) → Keeps a b → Appends a b []

@@ -6,6 +6,8 @@ use Rattle.std.specs.declared.io.ErrorKind.TheVariants.{OutOfMemory}
 use Rattle.ioc_values.specs.declared.error.IocError.{IocError}
 use Rattle.ioc_values.specs.declared.error.IocError.TheVariants as refusal
 use Rattle.ioc_values.specs.Words.{fault_text as db_fault_text}
+use Rattle.ioc_main.specs.declared.fault.LineFault.{LineFault}
+use Rattle.ioc_main.specs.declared.fault.LineFault.TheVariants as line
 use Rattle.ioc_main.specs.declared.fault.ScriptFault.{ScriptFault}
 use Rattle.ioc_main.specs.declared.fault.ScriptFault.TheVariants as script
 use Rattle.ioc_main.specs.declared.fault.RunFault.{RunFault}
@@ -40,10 +42,16 @@ abbrev pub fault_of : IocError → RunFault
 fault_of (refusal.BadDb fault) = BadDb fault
 fault_of _ = Memory
 
+-- why a line stopped a script
+abbrev pub script_fault_of : LineFault → ScriptFault
+script_fault_of line.Write = script.Write
+script_fault_of line.Memory = script.Memory
+
 -- why a script stopped, as a fault of the run
 abbrev pub run_fault_of : ScriptFault → RunFault
 run_fault_of script.Read = Read
 run_fault_of script.Write = Write
+run_fault_of script.Memory = Memory
 
 -- a growth was refused
 abbrev pub is_out_of_memory : ErrorKind → Bool

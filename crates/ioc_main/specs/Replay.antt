@@ -1,6 +1,10 @@
 -- What a script does to a database, line by line, and what is printed for it.
-use Rattle.std.specs.Prelude.{ℕ, List, [], ◌∷◌, ◌++◌, codes, replicate, if◌then◌else◌, Option, Some, None, Result, Ok, Err}
+use Rattle.std.specs.Prelude.{ℕ, List, [], ◌∷◌, ◌++◌, take, codes, decimal, Bool, true, false, if◌then◌else◌, Option, Some, None, Result, Ok, Err}
 use Rattle.std.specs.FinMap.{contains_key}
+use Rattle.ioc_values.specs.declared.value.Value.{Value}
+use Rattle.ioc_values.specs.declared.value.Value.TheVariants.{Text}
+use Rattle.ioc_values.specs.declared.value.Finished.{Finished}
+use Rattle.ioc_values.specs.declared.value.Finished.TheVariants.{Done as Finished-done, Fault as Finished-fault}
 use Rattle.ioc_values.specs.declared.error.IocError.{IocError}
 use Rattle.ioc_values.specs.declared.error.IocError.TheVariants.{NoRecord, NoField}
 use Rattle.ioc_values.specs.Words.{refusal_words}
@@ -9,18 +13,18 @@ use Rattle.ioc_names.specs.NameTable.{NameTable, number_of}
 use Rattle.ioc_fields.specs.declared.field_no.FieldNo.{FieldNo}
 use Rattle.ioc_fields.specs.Names.{field_of}
 use Rattle.ioc_device.specs.declared.Answer.{Answer}
-use Rattle.ioc_device.specs.declared.Answer.TheVariants.{Fault}
+use Rattle.ioc_device.specs.declared.Answer.TheVariants.{Done as Answer-done, Fault as Answer-fault, Later as Answer-later}
 use Rattle.ioc_ledger.specs.declared.outcome.Outcome.{Outcome}
 use Rattle.ioc_ledger.specs.declared.outcome.Outcome.TheVariants.{Processed, Disabled, Active, Reprocess}
-use Rattle.ioc_ledger.specs.Requests.{Requests, None as No-requests}
+use Rattle.ioc_ledger.specs.declared.tally.Tally.{Tally}
 use Rattle.ioc_record.specs.RecordRules.{RecordRules}
 use Rattle.ioc_process.specs.declared.reply.Reply.{Reply}
 use Rattle.ioc_process.specs.declared.reply.Reply.TheVariants.{Plain, Outcome as Outcome-reply, Shown, Refused}
-use Rattle.ioc_process.specs.World.{World, at, begun, begun_at}
-use Rattle.ioc_process.specs.declared.event.Event.{Event}
-use Rattle.ioc_process.specs.declared.event.Event.TheVariants.{Get as Get-event, Process as Process-event, Put as Put-event}
-use Rattle.ioc_process.specs.Step.{Stepped, stepped, refused}
-use Rattle.ioc_main.specs.Script.{Command, Silent, Bad, Process, Put, Get, At, command_of}
+use Rattle.ioc_process.specs.World.{World, at}
+use Rattle.ioc_process.specs.declared.event.Event.TheVariants.{Get as Get-event, Process as Process-event, Put as Put-event, Complete as Complete-event}
+use Rattle.ioc_process.specs.Step.{stepped}
+use Rattle.ioc_main.specs.Script.{Command, Silent, Bad, Process, Put, Get, At, Next-done, Next-fault, Next-later, Done, Fault, Tally as Tally-command, command_of}
+use Rattle.ioc_main.specs.Machine.{Machine, Told, answers_from, refused, queued_at, at_moment, most_served, done, serve}
 
 -- what the outcome of a request is called
 unfoldable pub outcome_words : Outcome → List ℕ
@@ -36,19 +40,29 @@ reply_words (Outcome-reply outcome) = outcome_words outcome
 reply_words (Shown text) = codes "= " ++ text
 reply_words (Refused e) = refusal_words e
 
--- the answers of devices in an event: no record has a device yet, and one that is asked faults, at most 256 times
-unfoldable pub faults : List Answer
-faults = replicate 256 Fault
+-- the counts of requests, without the line feed
+unfoldable pub tally_words : Tally → ℕ → List ℕ
+tally_words t dropped =
+    codes "tally begun=" ++ decimal t.begun ++ codes " processed=" ++ decimal t.processed ++ codes " disabled=" ++ decimal t.disabled ++ codes " active=" ++ decimal t.active
+    ++ codes " reprocess=" ++ decimal t.reprocess ++ codes " started=" ++ decimal t.started ++ codes " completed=" ++ decimal t.completed ++ codes " dropped=" ++ decimal dropped
 
--- what a line leaves, what is printed for it, and which requests were made
+-- what a line leaves, and what is printed for it
 pub record Answered (R : Type 0) : Type 0 where
-  pub world : World R
+  pub machine : Machine R
   pub said : List ℕ
-  pub requests : Requests
 
 -- the line of a reply
-abbrev pub replied : {R : Type 0} → Stepped R → Answered R
-replied event = record { world = event.world; said = reply_words event.reply ++ 10 ∷ []; requests = event.requests }
+abbrev pub replied : {R : Type 0} → Told R → Answered R
+replied told = record { machine = told.machine; said = reply_words told.reply ++ 10 ∷ [] }
+
+-- the value that a text gives: its first 39 bytes
+abbrev pub given_value : List ℕ → Value
+given_value text = Text (take 39 text)
+
+-- does a line ask for nothing?
+abbrev pub is_silent : Command → Bool
+is_silent Silent = true
+is_silent _ = false
 
 module _ {R : Type 0} (k : RecordRules R) (names : NameTable) where
   -- the field of this name of the record of this name
@@ -64,32 +78,50 @@ module _ {R : Type 0} (k : RecordRules R) (names : NameTable) where
   unfoldable pub channel : World R → List ℕ → List ℕ → Result (ℕ × FieldNo) IocError
   channel w name field = field_at w field (number_of names name)
 
-  -- one event
-  abbrev pub done : World R → Event → Stepped R
-  done w event = stepped k faults (begun w) event
+  abbrev pub processed : Machine R → Option ℕ → Told R
+  processed m None = refused m NoRecord
+  processed m (Some number) = done k m (Process-event number)
 
-  abbrev pub processed : World R → Option ℕ → Stepped R
-  processed w None = refused (begun w) NoRecord
-  processed w (Some number) = done w (Process-event number)
+  -- a get changes nothing
+  abbrev pub got : Machine R → Result (ℕ × FieldNo) IocError → Told R
+  got m (Ok c) = record { machine = m; reply = (stepped k (answers_from m.queued) m.world (Get-event c.0 c.1)).reply }
+  got m (Err e) = refused m e
 
-  abbrev pub got : World R → Result (ℕ × FieldNo) IocError → Stepped R
-  got w (Ok c) = done w (Get-event c.0 c.1)
-  got w (Err e) = refused (begun w) e
+  abbrev pub were_put : Machine R → List ℕ → Result (ℕ × FieldNo) IocError → Told R
+  were_put m text (Ok c) = done k m (Put-event c.0 c.1 (input_of text))
+  were_put m text (Err e) = refused m e
 
-  abbrev pub were_put : World R → List ℕ → Result (ℕ × FieldNo) IocError → Stepped R
-  were_put w text (Ok c) = done w (Put-event c.0 c.1 (input_of text))
-  were_put w text (Err e) = refused (begun w) e
+  -- an answer is queued for the device of a record
+  abbrev pub answers_next : Machine R → Answer → Option ℕ → Told R
+  answers_next m answer None = refused m NoRecord
+  answers_next m answer (Some number) = queued_at m number answer (m.queued number)
+
+  abbrev pub were_completed : Machine R → ℕ → Finished → Option ℕ → Told R
+  were_completed m wait finished None = refused m NoRecord
+  were_completed m wait finished (Some number) = done k m (Complete-event number wait finished)
 
   -- what a line asks for is done
-  unfoldable pub answered : World R → Command → Answered R
-  answered w Silent = record { world = w; said = []; requests = No-requests }
-  answered w Bad = record { world = w; said = codes "bad\n"; requests = No-requests }
-  answered w (Process name) = replied (processed w (number_of names name))
-  answered w (Put name field text) = replied (were_put w text (channel w name field))
-  answered w (Get name field) = replied (got w (channel w name field))
-  answered w (At moment) = record { world = begun_at moment w; said = codes "ok\n"; requests = No-requests }
+  unfoldable pub carried_out : Machine R → Command → Answered R
+  carried_out m Silent = record { machine = m; said = [] }
+  carried_out m Bad = record { machine = m; said = codes "bad\n" }
+  carried_out m (Process name) = replied (processed m (number_of names name))
+  carried_out m (Put name field text) = replied (were_put m text (channel m.world name field))
+  carried_out m (Get name field) = replied (got m (channel m.world name field))
+  carried_out m (At moment) = record { machine = at_moment moment m; said = codes "ok\n" }
+  carried_out m (Next-done name text) = replied (answers_next m (Answer-done (given_value text)) (number_of names name))
+  carried_out m (Next-fault name) = replied (answers_next m Answer-fault (number_of names name))
+  carried_out m (Next-later name) = replied (answers_next m Answer-later (number_of names name))
+  carried_out m (Done name wait text) = replied (were_completed m wait (Finished-done (given_value text)) (number_of names name))
+  carried_out m (Fault name wait) = replied (were_completed m wait Finished-fault (number_of names name))
+  carried_out m Tally-command = record { machine = m; said = tally_words m.tally m.queues.dropped ++ 10 ∷ [] }
+
+  -- after a line that is answered, requests that wait are served
+  unfoldable pub answered : Machine R → Command → Answered R
+  answered m command =
+      let did = carried_out m command in
+      if is_silent command then did else record { machine = serve k most_served did.machine; said = did.said }
 
   -- what is printed for these lines
-  abbrev pub transcript : World R → List (List ℕ) → List ℕ
-  transcript w [] = []
-  transcript w (line ∷ lines) = let did = answered w (command_of line) in did.said ++ transcript did.world lines
+  abbrev pub transcript : Machine R → List (List ℕ) → List ℕ
+  transcript m [] = []
+  transcript m (line ∷ lines) = let did = answered m (command_of line) in did.said ++ transcript did.machine lines

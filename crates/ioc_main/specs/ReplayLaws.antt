@@ -4,13 +4,13 @@ use Rattle.std.proofs.lemmas.Bool.{cases_lt, lt-ltb}
 use Rattle.std.proofs.lemmas.List.{length-take, take_all}
 use Rattle.ioc_types.specs.Record.{record_rules}
 use Rattle.ioc_main.specs.declared.replay.Replay.{Replay}
-use Rattle.ioc_process.specs.OneMap.{world_of}
+use Rattle.ioc_main.specs.SeenMachine.{machine_of}
 use Rattle.ioc_main.specs.Script.{Command, cut, command_of}
 use Rattle.ioc_main.specs.Replay.{transcript, answered}
 
 -- what is printed for these lines
 abbrev pub printed : Replay → List (List ℕ) → List ℕ
-printed s lines = transcript record_rules s.names (world_of s.map) lines
+printed s lines = transcript record_rules s.names (machine_of s.machine) lines
 
 pub no-lines : (s : Replay) → printed s [] ≡ []
 no-lines s = refl
@@ -27,4 +27,4 @@ cut-command line =
 pub long-lines : (s : Replay) (a b : List ℕ) (lines : List (List ℕ)) → cut a ≡ cut b → printed s (a ∷ lines) ≡ printed s (b ∷ lines)
 long-lines s a b lines e =
     let same : command_of a ≡ command_of b = sym (cut-command a) ∙ ap command_of e ∙ cut-command b in
-    ap (λ (c : Command). let did = answered record_rules s.names (world_of s.map) c in did.said ++ transcript record_rules s.names did.world lines) same
+    ap (λ (c : Command). let did = answered record_rules s.names (machine_of s.machine) c in did.said ++ transcript record_rules s.names did.machine lines) same

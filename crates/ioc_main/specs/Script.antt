@@ -1,6 +1,7 @@
--- The lines of a script, and what each asks for: `process REC`, `put REC.F TEXT`, `get REC.F`, `at N`. This project's own, after the
--- commands dbtr, dbpf and dbgf of an IOC's shell: Application Developer's Guide, "IOC Test Facilities".
-use Rattle.std.specs.Prelude.{ℕ, ◌^◌, List, [], ◌∷◌, take, length, codes, nat_lt, nat_eq, ◌==◌, if◌then◌else◌, Option, Some, None}
+-- The lines of a script, and what each asks for: `process REC`, `put REC.F TEXT`, `get REC.F`, `at N`, `next REC done TEXT`,
+-- `next REC fault`, `next REC later`, `done REC N TEXT`, `fault REC N`, `tally`. This project's own, after the commands dbtr, dbpf and
+-- dbgf of an IOC's shell: Application Developer's Guide, "IOC Test Facilities".
+use Rattle.std.specs.Prelude.{ℕ, ◌^◌, List, [], ◌∷◌, take, length, codes, nat_lt, nat_eq, ◌==◌, if◌then◌else◌, unwrap_or, Option, Some, None}
 use Rattle.std.specs.List.{onto_first}
 use Rattle.std.specs.Cmp.Lexicographic.{pointwise}
 use Rattle.ioc_values.specs.Number.{numeral, below}
@@ -33,6 +34,15 @@ pub data Command : Type 0 where
   Get : (name : List ℕ) → (field : List ℕ) → Command
   -- the lines that follow are done at this moment
   At : (moment : ℕ) → Command
+  -- the device of a record will answer so, after the answers that it has
+  Next-done : (name : List ℕ) → (text : List ℕ) → Command
+  Next-fault : (name : List ℕ) → Command
+  Next-later : (name : List ℕ) → Command
+  -- the device of a record has answered at last, to the wait of this number
+  Done : (name : List ℕ) → (wait : ℕ) → (text : List ℕ) → Command
+  Fault : (name : List ℕ) → (wait : ℕ) → Command
+  -- the counts of requests
+  Tally : Command
 
 -- one word, and nothing behind it
 abbrev pub process_of : List ℕ → Option (List ℕ) → Command
@@ -67,16 +77,61 @@ abbrev pub at_of : List ℕ → Option (List ℕ) → Command
 at_of word (Some words) = Bad
 at_of word None = at_moment (below (2 ^ 64) (numeral 10 word))
 
+-- this, if nothing stands behind
+abbrev pub alone : Option (List ℕ) → Command → Command
+alone None command = command
+alone (Some words) command = Bad
+
+-- an answer by its word
+abbrev pub next_by : List ℕ → List ℕ → Option (List ℕ) → Command
+next_by name word text =
+    if pointwise nat_eq word (codes "done") then Next-done name (unwrap_or text [])
+    else (if pointwise nat_eq word (codes "fault") then alone text (Next-fault name)
+    else (if pointwise nat_eq word (codes "later") then alone text (Next-later name) else Bad))
+
+abbrev pub next_of : List ℕ → Option (List ℕ) → Command
+next_of [] words = Bad
+next_of (b ∷ bs) None = Bad
+next_of (b ∷ bs) (Some words) = next_by (b ∷ bs) (before 32 words) (behind 32 words)
+
+-- a number, and then a text
+abbrev pub done_at : List ℕ → Option ℕ → Option (List ℕ) → Command
+done_at name None text = Bad
+done_at name (Some wait) text = Done name wait (unwrap_or text [])
+
+abbrev pub done_of : List ℕ → Option (List ℕ) → Command
+done_of [] words = Bad
+done_of (b ∷ bs) None = Bad
+done_of (b ∷ bs) (Some words) = done_at (b ∷ bs) (below (2 ^ 64) (numeral 10 (before 32 words))) (behind 32 words)
+
+-- a number alone
+abbrev pub fault_at : List ℕ → Option ℕ → Command
+fault_at name None = Bad
+fault_at name (Some wait) = Fault name wait
+
+abbrev pub fault_of : List ℕ → Option (List ℕ) → Command
+fault_of [] words = Bad
+fault_of (b ∷ bs) None = Bad
+fault_of (b ∷ bs) (Some word) = fault_at (b ∷ bs) (below (2 ^ 64) (numeral 10 word))
+
+-- what a script does as a record's device
+abbrev pub by_device_verb : List ℕ → List ℕ → Option (List ℕ) → Command
+by_device_verb verb word words =
+    if pointwise nat_eq verb (codes "next") then next_of word words
+    else (if pointwise nat_eq verb (codes "done") then done_of word words
+    else (if pointwise nat_eq verb (codes "fault") then fault_of word words else Bad))
+
 -- a first word, and the words behind it
 abbrev pub by_verb : List ℕ → List ℕ → Command
 by_verb verb words =
     if pointwise nat_eq verb (codes "process") then process_of (before 32 words) (behind 32 words)
     else (if pointwise nat_eq verb (codes "put") then put_of (before 32 words) (behind 32 words)
     else (if pointwise nat_eq verb (codes "get") then get_of (before 32 words) (behind 32 words)
-    else (if pointwise nat_eq verb (codes "at") then at_of (before 32 words) (behind 32 words) else Bad)))
+    else (if pointwise nat_eq verb (codes "at") then at_of (before 32 words) (behind 32 words)
+    else by_device_verb verb (before 32 words) (behind 32 words))))
 
 abbrev pub with_words : List ℕ → Option (List ℕ) → Command
-with_words verb None = Bad
+with_words verb None = if pointwise nat_eq verb (codes "tally") then Tally else Bad
 with_words verb (Some words) = by_verb verb words
 
 -- words are parted by one space

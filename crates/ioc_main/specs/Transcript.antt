@@ -3,8 +3,6 @@ use Rattle.std.specs.Prelude.{◌≡◌, ℕ, List, [], Option, IfSome, Result, 
 use Rattle.std.specs.Io.KnownBytes.{Keeps}
 use Rattle.ioc_types.specs.Record.{record_rules, new_record}
 use Rattle.ioc_types.specs.Record.{Record}
-use Rattle.ioc_process.specs.OneMap.{numbered}
-use Rattle.ioc_process.specs.World.{World}
 use Rattle.ioc_values.specs.declared.error.DbFault.{DbFault}
 use Rattle.ioc_dbtext.specs.Macros.{Defined}
 use Rattle.ioc_dbfile.specs.Loader.{Loading}
@@ -12,6 +10,7 @@ use Rattle.ioc_dbfile.specs.Finished.{loaded_by}
 use Rattle.ioc_main.specs.declared.fault.RunFault.{RunFault}
 use Rattle.ioc_main.specs.declared.fault.RunFault.TheVariants.{BadDb, Read, Write, Memory}
 use Rattle.ioc_main.specs.Script.{lines_of}
+use Rattle.ioc_main.specs.Machine.{first_machine}
 use Rattle.ioc_main.specs.Replay.{transcript}
 use Rattle.ioc_main.specs.Written.{WritesFront, WritesPart}
 
@@ -19,12 +18,8 @@ use Rattle.ioc_main.specs.Written.{WritesFront, WritesPart}
 abbrev pub loaded : List Defined → List ℕ → Result (Loading Record) DbFault
 loaded macros text = loaded_by record_rules new_record macros text
 
--- a loaded database at the beginning
-abbrev pub first_world : List Record → World Record
-first_world records = record { records = numbered records; moment = 0; calls = []; outbox = []; dropped = 0 }
-
 abbrev pub transcript_on : Loading Record → List ℕ → List ℕ
-transcript_on database script = transcript record_rules database.names (first_world database.records) (lines_of script)
+transcript_on database script = transcript record_rules database.names (first_machine record_rules database.records) (lines_of script)
 
 -- nothing is printed where the database text is refused
 abbrev pub transcript_by : Result (Loading Record) DbFault → List ℕ → List ℕ
@@ -43,7 +38,7 @@ IsDatabase macros text = (database : Loading Record) × (loaded macros text ≡ 
 -- failed write not all of it
 abbrev pub StopsWith : RunFault → List Defined → List ℕ → Option (List ℕ) → Option (List ℕ) → Option (List ℕ) → Type 0
 StopsWith (BadDb fault) macros text script old new = (loaded macros text ≡ Err fault) × Keeps old new
-StopsWith Memory macros text script old new = Keeps old new
+StopsWith Memory macros text script old new = IfSome script (λ script. WritesFront old (transcript_of macros text script) new)
 StopsWith Read macros text script old new = IsDatabase macros text × IfSome script (λ script. WritesFront old (transcript_of macros text script) new)
 StopsWith Write macros text script old new = IsDatabase macros text × IfSome script (λ script. WritesPart old (transcript_of macros text script) new)
 StopsWith _ macros text script old new = ⊥

@@ -1,7 +1,8 @@
 //! What a line of a script asks for.
 ghost use Rattle.std.specs.Prelude.{◌≡◌, option_map};
-ghost use Rattle.ioc_main.specs.Script.{command_of, worded, by_verb, process_of, put_of, get_of, at_of};
+ghost use Rattle.ioc_main.specs.Script.{command_of, worded, by_verb, process_of, put_of, get_of, at_of, next_by, next_of, done_of, fault_of, by_device_verb};
 ghost use Rattle.ioc_main.specs.Seen.{seen, bytes};
+ghost use Rattle.ioc_main.specs.Replay.{is_silent};
 
 use crate::parts::cut_at;
 use ioc_values::number::decimal;
@@ -20,6 +21,18 @@ pub enum Command<'a> {
     Get(&'a [u8], &'a [u8]),
     /// The lines that follow are done at this moment, in nanoseconds since 1970-01-01 00:00 UTC.
     At(u64),
+    /// The device of a record will answer with this text, after the answers that it has.
+    NextDone(&'a [u8], &'a [u8]),
+    /// It will answer with a fault.
+    NextFault(&'a [u8]),
+    /// It will answer later.
+    NextLater(&'a [u8]),
+    /// The device of a record has answered with this text at last, to the wait of this number.
+    Done(&'a [u8], u64, &'a [u8]),
+    /// It has answered with a fault.
+    Fault(&'a [u8], u64),
+    /// The counts of requests.
+    Tally,
 }
 
 #[tactic(auto, unfolding(crate::specs::Script::command_of))]
@@ -37,6 +50,13 @@ impl<'a> Command<'a> {
             [_, ..] => worded(line),
         }
     }
+
+    /// Does the line ask for nothing?
+    pub fn is_silent(&self) -> bool
+        ensures { result ≡ is_silent (seen self.now) }
+    {
+        matches!(self, Command::Silent)
+    }
 }
 
 // A line of words that one space parts.
@@ -44,10 +64,11 @@ fn worded(line: &[u8]) -> Command<'_>
     ensures { seen result ≡ worded line.now }
 {
     let (verb, words) = cut_at(line, b' ');
-    let Some(words) = words else {
-        return Command::Bad;
-    };
-    by_verb(verb, words)
+    match words {
+        Some(words) => by_verb(verb, words),
+        None if verb == b"tally".as_slice() => Command::Tally,
+        None => Command::Bad,
+    }
 }
 
 fn by_verb<'a>(verb: &'a [u8], words: &'a [u8]) -> Command<'a>
@@ -62,6 +83,21 @@ fn by_verb<'a>(verb: &'a [u8], words: &'a [u8]) -> Command<'a>
         get(word, text)
     } else if verb == b"at".as_slice() {
         at(word, text)
+    } else {
+        by_device_verb(verb, word, text)
+    }
+}
+
+// What a script does as a record's device.
+fn by_device_verb<'a>(verb: &'a [u8], word: &'a [u8], words: Option<&'a [u8]>) -> Command<'a>
+    ensures { seen result ≡ by_device_verb verb.now word.now (option_map bytes words.entry) }
+{
+    if verb == b"next".as_slice() {
+        next(word, words)
+    } else if verb == b"done".as_slice() {
+        done(word, words)
+    } else if verb == b"fault".as_slice() {
+        fault(word, words)
     } else {
         Command::Bad
     }
@@ -103,5 +139,62 @@ fn at<'a>(word: &'a [u8], more: Option<&'a [u8]>) -> Command<'a>
     match (decimal(word), more) {
         (Some(moment), None) => Command::At(moment),
         (None, _) | (Some(_), Some(_)) => Command::Bad,
+    }
+}
+
+// An answer by its word.
+fn next_by<'a>(name: &'a [u8], word: &'a [u8], text: Option<&'a [u8]>) -> Command<'a>
+    ensures { seen result ≡ next_by name.now word.now (option_map bytes text.entry) }
+{
+    if word == b"done".as_slice() {
+        return Command::NextDone(name, text.unwrap_or(b""));
+    }
+    if text.is_some() {
+        Command::Bad
+    } else if word == b"fault".as_slice() {
+        Command::NextFault(name)
+    } else if word == b"later".as_slice() {
+        Command::NextLater(name)
+    } else {
+        Command::Bad
+    }
+}
+
+fn next<'a>(name: &'a [u8], words: Option<&'a [u8]>) -> Command<'a>
+    ensures { seen result ≡ next_of name.now (option_map bytes words.entry) }
+{
+    match (name, words) {
+        ([], _) | (_, None) => Command::Bad,
+        ([_, ..], Some(words)) => {
+            let (word, text) = cut_at(words, b' ');
+            next_by(name, word, text)
+        }
+    }
+}
+
+fn done<'a>(name: &'a [u8], words: Option<&'a [u8]>) -> Command<'a>
+    ensures { seen result ≡ done_of name.now (option_map bytes words.entry) }
+{
+    match (name, words) {
+        ([], _) | (_, None) => Command::Bad,
+        ([_, ..], Some(words)) => {
+            let (number, text) = cut_at(words, b' ');
+            match decimal(number) {
+                Some(wait) => Command::Done(name, wait, text.unwrap_or(b"")),
+                None => Command::Bad,
+            }
+        }
+    }
+}
+
+fn fault<'a>(name: &'a [u8], words: Option<&'a [u8]>) -> Command<'a>
+    ensures { seen result ≡ fault_of name.now (option_map bytes words.entry) }
+{
+    match (name, words) {
+        ([], _) | (_, None) => Command::Bad,
+        ([_, ..], Some(word)) => match decimal(word) {
+            Some(wait) => Command::Fault(name, wait),
+            None => Command::Bad,
+        },
     }
 }

@@ -33,19 +33,53 @@ pub enum ScriptFault {
     Read,
     /// A reply could not be written.
     Write,
+    /// A growth was refused.
+    Memory,
+}
+
+/// Why a line was not answered.
+#[derive(Clone, Copy, Debug, PartialEq, Eq)]
+pub enum LineFault {
+    /// Its reply could not be written.
+    Write,
+    /// A growth was refused.
+    Memory,
 }
 
 /// The writer took no byte, or answered an error.
 #[derive(Clone, Copy, Debug, PartialEq, Eq)]
 pub struct WriteFault;
 
-impl From<WriteFault> for ScriptFault {
-    ghost use Rattle.ioc_main.specs.declared.fault.ScriptFault.TheVariants.{Write};
+impl From<WriteFault> for LineFault {
+    ghost use Rattle.ioc_main.specs.declared.fault.LineFault.TheVariants.{Write};
 
     ghost from_gives = { λ e fault. fault ≡ Write };
 
-    fn from(_fault: WriteFault) -> ScriptFault {
-        ScriptFault::Write
+    fn from(_fault: WriteFault) -> LineFault {
+        LineFault::Write
+    }
+}
+
+impl From<AllocError> for LineFault {
+    ghost use Rattle.ioc_main.specs.declared.fault.LineFault.TheVariants.{Memory};
+
+    ghost from_gives = { λ _ fault. fault ≡ Memory };
+
+    fn from(_e: AllocError) -> LineFault {
+        LineFault::Memory
+    }
+}
+
+impl From<LineFault> for ScriptFault {
+    ghost use Rattle.ioc_main.specs.Faults.{script_fault_of};
+
+    ghost from_gives = { λ e fault. fault ≡ script_fault_of e };
+
+    fn from(e: LineFault) -> ScriptFault {
+        match e {
+            LineFault::Write => ScriptFault::Write,
+            LineFault::Memory => ScriptFault::Memory,
+        }
     }
 }
 
@@ -58,6 +92,7 @@ impl From<ScriptFault> for RunFault {
         match e {
             ScriptFault::Read => RunFault::Read,
             ScriptFault::Write => RunFault::Write,
+            ScriptFault::Memory => RunFault::Memory,
         }
     }
 }

@@ -1,11 +1,11 @@
 //! The lines of a script, from any reader, each answered as it ends.
-ghost use Rattle.std.specs.Prelude.{◌≡◌, ◌∷◌, ◌++◌, [], List, ℕ, OnOk, OnErr, IfSome, IfErr};
+ghost use Rattle.std.specs.Prelude.{◌≡◌, ◌∷◌, ◌++◌, [], List, ℕ, OnOk, IfSome, IfErr};
 ghost use Rattle.std.specs.Io.KnownBytes.{Appends};
 ghost use Rattle.ioc_main.specs.Script.{lines_of, cut};
 ghost use Rattle.ioc_main.specs.Coming.{to_come};
-ghost use Rattle.ioc_main.specs.Written.{Writes, WritesPart, StopsScript};
+ghost use Rattle.ioc_main.specs.Written.{Writes, StopsLine, StopsScript};
 
-use crate::fault::{ScriptFault, WriteFault};
+use crate::fault::{LineFault, ScriptFault};
 use crate::session::Session;
 use crate::writing::write_text;
 use ioc_values::Short;
@@ -19,11 +19,11 @@ fn end_line<S: Session, W: Write>(
     session: &mut S,
     line: &mut Line,
     out: &mut W,
-) -> Result<(), WriteFault>
+) -> Result<(), LineFault>
     ensures ok { OnOk result ((line.new ≡ []) × ((lines : List (List ℕ)) → Writes (W.contents out.old) (S.transcript session.old (line.old ∷ lines)) (W.contents out.new) (S.transcript session.new lines))) }
-    ensures err { OnErr result ((lines : List (List ℕ)) → WritesPart (W.contents out.old) (S.transcript session.old (line.old ∷ lines)) (W.contents out.new)) }
+    ensures err { IfErr result (λ fault. (lines : List (List ℕ)) → StopsLine fault (W.contents out.old) (S.transcript session.old (line.old ∷ lines)) (W.contents out.new)) }
 {
-    let reply = session.answer(line.as_slice());
+    let reply = session.answer(line.as_slice())?;
     write_text(out, reply.as_slice())?;
     line.clear();
     Ok(())
@@ -41,9 +41,9 @@ fn take_byte<S: Session, W: Write>(
     line: &mut Line,
     out: &mut W,
     b: u8,
-) -> Result<(), WriteFault>
+) -> Result<(), LineFault>
     ensures ok { OnOk result ((rest : List ℕ) → Writes (W.contents out.old) (to_come (S.transcript session.old) line.old (b ∷ rest)) (W.contents out.new) (to_come (S.transcript session.new) line.new rest)) }
-    ensures err { OnErr result ((rest : List ℕ) → WritesPart (W.contents out.old) (to_come (S.transcript session.old) line.old (b ∷ rest)) (W.contents out.new)) }
+    ensures err { IfErr result (λ fault. (rest : List ℕ) → StopsLine fault (W.contents out.old) (to_come (S.transcript session.old) line.old (b ∷ rest)) (W.contents out.new)) }
 {
     if b == b'\n' {
         return end_line(session, line, out);
@@ -57,9 +57,9 @@ fn feed<S: Session, W: Write>(
     line: &mut Line,
     out: &mut W,
     piece: &[u8],
-) -> Result<(), WriteFault>
+) -> Result<(), LineFault>
     ensures ok { OnOk result ((rest : List ℕ) → Writes (W.contents out.old) (to_come (S.transcript session.old) line.old (piece.now ++ rest)) (W.contents out.new) (to_come (S.transcript session.new) line.new rest)) }
-    ensures err { OnErr result ((rest : List ℕ) → WritesPart (W.contents out.old) (to_come (S.transcript session.old) line.old (piece.now ++ rest)) (W.contents out.new)) }
+    ensures err { IfErr result (λ fault. (rest : List ℕ) → StopsLine fault (W.contents out.old) (to_come (S.transcript session.old) line.old (piece.now ++ rest)) (W.contents out.new)) }
 {
     for b in piece {
         take_byte(session, line, out, *b)?;
@@ -72,9 +72,9 @@ fn finish<S: Session, W: Write>(
     session: &mut S,
     line: &mut Line,
     out: &mut W,
-) -> Result<(), WriteFault>
+) -> Result<(), LineFault>
     ensures ok { OnOk result (Appends (W.contents out.old) (W.contents out.new) (to_come (S.transcript session.old) line.old [])) }
-    ensures err { OnErr result (WritesPart (W.contents out.old) (to_come (S.transcript session.old) line.old []) (W.contents out.new)) }
+    ensures err { IfErr result (λ fault. StopsLine fault (W.contents out.old) (to_come (S.transcript session.old) line.old []) (W.contents out.new)) }
 {
     match line.as_slice() {
         [] => Ok(()),
@@ -86,8 +86,8 @@ fn finish<S: Session, W: Write>(
 ///
 /// # Errors
 ///
-/// [`ScriptFault::Read`] where a read failed, [`ScriptFault::Write`] where a write did. Then what was written is a beginning of
-/// the transcript (after a failed write not all of it), and nothing more is written.
+/// [`ScriptFault::Read`] where a read failed, [`ScriptFault::Write`] where a write did, [`ScriptFault::Memory`] where a growth was
+/// refused. Then what was written is a beginning of the transcript (after a failed write not all of it), and nothing more is written.
 pub fn run_script<S: Session, R: Read + Drop, W: Write>(
     session: &mut S,
     mut script: R,

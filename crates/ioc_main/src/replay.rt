@@ -1,64 +1,56 @@
 //! A loaded database, to which a script is done.
-ghost use Rattle.std.specs.Prelude.{◌≡◌, ◌≤◌, [], ◌∷◌, ◌++◌, List, ℕ, IfOk};
-ghost use Rattle.std.specs.FinMap.{len};
-ghost use Rattle.std.specs.Vec.{vec_capacity};
+ghost use Rattle.std.specs.Prelude.{◌≡◌, ◌∷◌, ◌++◌, List, ℕ, IfOk};
 ghost use Rattle.ioc_names.specs.NameTable.{number_of};
 ghost use Rattle.ioc_types.specs.Record.{record_rules};
-ghost use Rattle.ioc_process.specs.World.{begun_at};
 ghost use Rattle.ioc_process.specs.Rules.{IsSettled};
-ghost use Rattle.ioc_ledger.specs.Requests.{counted};
-ghost use Rattle.ioc_process.specs.OneMap.{world_of};
-ghost use Rattle.ioc_main.specs.Replay.{channel, processed, got, were_put, answered};
+ghost use Rattle.ioc_dbfile.specs.FirstWorld.{first_world};
+ghost use Rattle.ioc_main.specs.Machine.{first_machine};
+ghost use Rattle.ioc_main.specs.SeenMachine.{machine_of};
+ghost use Rattle.ioc_main.specs.Replay.{Answered, channel, processed, got, were_put, answers_next, were_completed, given_value, carried_out, answered};
 ghost use Rattle.ioc_main.specs.Script.{command_of};
 ghost use Rattle.ioc_main.specs.Seen.{seen};
 
 use crate::command::Command;
+use crate::machine::Machine;
 use crate::reply_line::reply_line;
 use crate::session::{LineReply, Session};
-use crate::settled::event_leaves_settled;
+use ioc_device::Answer;
 use ioc_fields::{FieldNo, field};
-use ioc_ledger::Tally;
 use ioc_names::{Names, RecordNo};
-use ioc_process::{Frame, OneMap, Reply, Store, Unwired, run_get, run_put, run_request};
+use ioc_process::{Reply, Store};
 use ioc_record::RecordKind;
 use ioc_types::Record;
-use ioc_values::{Input, IocError};
+use ioc_values::{Finished, Input, IocError, Text, Value};
 use std::alloc::{AllocError, Global};
 
-/// A loaded database, to which a script is done. Between lines no link leaves it, and a record is active exactly where its
-/// completion is pending.
+/// A loaded database, to which a script is done.
 #[derive(Drop)]
 pub struct Replay {
     names: Names,
-    map: OneMap<Record, Unwired>,
-    // Open frames of the line under way, with room for all records from the load on.
-    frames: Vec<Frame>,
-    tally: Tally,
-    ghost settled: { IsSettled record_rules (world_of map) },
-    ghost empty: { frames.items ≡ [] },
-    ghost room: { len (world_of map).records ≤ vec_capacity frames },
+    machine: Machine,
+}
+
+// The value that a text gives: its first 39 bytes.
+fn given_value(text: &[u8]) -> Value
+    ensures { result ≡ given_value text.now }
+{
+    Value::Text(Text::cut(text))
 }
 
 impl Replay {
-    /// A database of these names and records. The frames take their room here, so that no line wants memory.
-    pub fn new(
-        alloc: Global,
-        names: Names,
-        map: OneMap<Record, Unwired>,
-    ) -> Result<Self, AllocError>
-        requires { IsSettled record_rules (world_of map) }
+    /// A database of these names and records. All room that events want is taken here: of the lines of a script, only those that
+    /// queue an answer want memory.
+    ///
+    /// # Errors
+    ///
+    /// [`AllocError`] where memory is wanting.
+    pub fn new(alloc: Global, names: Names, records: Vec<Record>) -> Result<Self, AllocError>
+        requires { IsSettled record_rules (first_world records.items) }
         ensures names { IfOk result (λ r. r.names ≡ names) }
-        ensures world { IfOk result (λ r. world_of r.map ≡ begun_at 0 (world_of map)) }
+        ensures machine { IfOk result (λ r. machine_of r.machine ≡ first_machine record_rules records.items) }
     {
-        let frames = map.frames(alloc)?;
-        let mut map = map;
-        map.begin_at(0);
-        Ok(Replay {
-            names,
-            map,
-            frames,
-            tally: Tally::default(),
-        })
+        let machine = Machine::new(alloc, records)?;
+        Ok(Replay { names, machine })
     }
 
     // The field of this name of the record of this name.
@@ -68,103 +60,104 @@ impl Replay {
         record_name: &[u8],
         field_name: &[u8],
     ) -> Result<(RecordNo, FieldNo), IocError>
-        ensures { result ≡ channel record_rules self.now.names (world_of self.now.map) record_name.now field_name.now }
+        ensures { result ≡ channel record_rules self.now.names (machine_of self.now.machine).world record_name.now field_name.now }
     {
         let Some(number) = self.names.find(record_name) else {
             return Err(IocError::NoRecord);
         };
-        if !self.map.has(number) {
+        let map = self.machine.map();
+        if !map.has(number) {
             return Err(IocError::NoRecord);
         }
-        let record_type = self.map.record(number).record_type();
+        let record_type = map.record(number).record_type();
         match field(record_type, field_name) {
             Some(found) => Ok((number, found)),
             None => Err(IocError::NoField),
         }
     }
 
-    fn process(&mut self, record_name: &[u8]) -> Reply
+    fn process(&mut self, name: &[u8]) -> Reply
         ensures names { self.new.names ≡ self.old.names }
-        ensures world { world_of self.new.map ≡ (processed record_rules self.old.names (world_of self.old.map) (number_of self.old.names record_name.now)).world }
-        ensures reply { result ≡ (processed record_rules self.old.names (world_of self.old.map) (number_of self.old.names record_name.now)).reply }
-        ensures tally { self.new.tally ≡ counted self.old.tally (processed record_rules self.old.names (world_of self.old.map) (number_of self.old.names record_name.now)).requests }
+        ensures machine { machine_of self.new.machine ≡ (processed record_rules self.old.names (machine_of self.old.machine) (number_of self.old.names name.now)).machine }
+        ensures reply { result ≡ (processed record_rules self.old.names (machine_of self.old.machine) (number_of self.old.names name.now)).reply }
     {
-        self.map.begin();
-        match self.names.find(record_name) {
-            Some(number) => {
-                event_leaves_settled();
-                run_request(&mut self.map, &mut self.frames, number, &mut self.tally)
-            }
+        match self.names.find(name) {
+            Some(number) => self.machine.process(number),
             None => Reply::Refused(IocError::NoRecord),
         }
     }
 
-    fn get(&mut self, record_name: &[u8], field_name: &[u8]) -> Reply
-        ensures names { self.new.names ≡ self.old.names }
-        ensures world { world_of self.new.map ≡ (got record_rules self.old.names (world_of self.old.map) (channel record_rules self.old.names (world_of self.old.map) record_name.now field_name.now)).world }
-        ensures reply { result ≡ (got record_rules self.old.names (world_of self.old.map) (channel record_rules self.old.names (world_of self.old.map) record_name.now field_name.now)).reply }
-        ensures tally { self.new.tally ≡ counted self.old.tally (got record_rules self.old.names (world_of self.old.map) (channel record_rules self.old.names (world_of self.old.map) record_name.now field_name.now)).requests }
+    fn get(&self, record_name: &[u8], field_name: &[u8]) -> Reply
+        ensures { result ≡ (got record_rules self.now.names (machine_of self.now.machine) (channel record_rules self.now.names (machine_of self.now.machine).world record_name.now field_name.now)).reply }
     {
-        let channel = self.channel(record_name, field_name);
-        self.map.begin();
-        match channel {
-            Ok((number, field)) => run_get(&self.map, number, field),
+        match self.channel(record_name, field_name) {
+            Ok((number, field)) => self.machine.get(number, field),
             Err(refused) => Reply::Refused(refused),
         }
     }
 
     fn put(&mut self, record_name: &[u8], field_name: &[u8], text: &[u8]) -> Reply
         ensures names { self.new.names ≡ self.old.names }
-        ensures world { world_of self.new.map ≡ (were_put record_rules self.old.names (world_of self.old.map) text.now (channel record_rules self.old.names (world_of self.old.map) record_name.now field_name.now)).world }
-        ensures reply { result ≡ (were_put record_rules self.old.names (world_of self.old.map) text.now (channel record_rules self.old.names (world_of self.old.map) record_name.now field_name.now)).reply }
-        ensures tally { self.new.tally ≡ counted self.old.tally (were_put record_rules self.old.names (world_of self.old.map) text.now (channel record_rules self.old.names (world_of self.old.map) record_name.now field_name.now)).requests }
+        ensures machine { machine_of self.new.machine ≡ (were_put record_rules self.old.names (machine_of self.old.machine) text.now (channel record_rules self.old.names (machine_of self.old.machine).world record_name.now field_name.now)).machine }
+        ensures reply { result ≡ (were_put record_rules self.old.names (machine_of self.old.machine) text.now (channel record_rules self.old.names (machine_of self.old.machine).world record_name.now field_name.now)).reply }
     {
-        let channel = self.channel(record_name, field_name);
-        self.map.begin();
-        match channel {
-            Ok((number, field)) => {
-                event_leaves_settled();
-                let given = Input::from_text(text);
-                run_put(
-                    &mut self.map,
-                    &mut self.frames,
-                    number,
-                    field,
-                    given,
-                    &mut self.tally,
-                )
-            }
+        match self.channel(record_name, field_name) {
+            Ok((number, field)) => self.machine.put(number, field, Input::from_text(text)),
             Err(refused) => Reply::Refused(refused),
         }
     }
 
-    // The lines that follow are done at this moment.
-    fn set_moment(&mut self, moment: u64)
+    fn queue(&mut self, name: &[u8], answer: Answer) -> Result<Reply, AllocError>
         ensures names { self.new.names ≡ self.old.names }
-        ensures world { world_of self.new.map ≡ begun_at moment (world_of self.old.map) }
-        ensures tally { self.new.tally ≡ self.old.tally }
+        ensures told { IfOk result (λ reply. record { machine = machine_of self.new.machine; reply = reply } ≡ answers_next record_rules self.old.names (machine_of self.old.machine) answer (number_of self.old.names name.now)) }
     {
-        self.map.begin_at(moment);
+        match self.names.find(name) {
+            Some(number) => self.machine.queue(number, answer),
+            None => Ok(Reply::Refused(IocError::NoRecord)),
+        }
+    }
+
+    fn complete(&mut self, name: &[u8], wait: u64, finished: Finished) -> Reply
+        ensures names { self.new.names ≡ self.old.names }
+        ensures machine { machine_of self.new.machine ≡ (were_completed record_rules self.old.names (machine_of self.old.machine) wait finished (number_of self.old.names name.now)).machine }
+        ensures reply { result ≡ (were_completed record_rules self.old.names (machine_of self.old.machine) wait finished (number_of self.old.names name.now)).reply }
+    {
+        match self.names.find(name) {
+            Some(number) => self.machine.complete(number, wait, finished),
+            None => Reply::Refused(IocError::NoRecord),
+        }
     }
 
     // Does what a line asks for.
-    #[tactic(auto, unfolding(crate::specs::Replay::answered))]
-    fn carry_out(&mut self, command: Command<'_>) -> LineReply
+    #[tactic(auto, unfolding(crate::specs::Replay::carried_out))]
+    fn carry_out(&mut self, command: Command<'_>) -> Result<LineReply, AllocError>
         ensures names { self.new.names ≡ self.old.names }
-        ensures world { world_of self.new.map ≡ (answered record_rules self.old.names (world_of self.old.map) (seen command.entry)).world }
-        ensures said { result ≡ (answered record_rules self.old.names (world_of self.old.map) (seen command.entry)).said }
-        ensures tally { self.new.tally ≡ counted self.old.tally (answered record_rules self.old.names (world_of self.old.map) (seen command.entry)).requests }
+        ensures machine { IfOk result (λ said. machine_of self.new.machine ≡ (carried_out record_rules self.old.names (machine_of self.old.machine) (seen command.entry)).machine) }
+        ensures said { IfOk result (λ said. said ≡ (carried_out record_rules self.old.names (machine_of self.old.machine) (seen command.entry)).said) }
     {
         match command {
-            Command::Silent => LineReply::new(),
-            Command::Bad => LineReply::cut(b"bad\n"),
-            Command::Process(record) => reply_line(self.process(record)),
-            Command::Put(record, field, text) => reply_line(self.put(record, field, text)),
-            Command::Get(record, field) => reply_line(self.get(record, field)),
+            Command::Silent => Ok(LineReply::new()),
+            Command::Bad => Ok(LineReply::cut(b"bad\n")),
+            Command::Process(record) => Ok(reply_line(self.process(record))),
+            Command::Put(record, field, text) => Ok(reply_line(self.put(record, field, text))),
+            Command::Get(record, field) => Ok(reply_line(self.get(record, field))),
             Command::At(moment) => {
-                self.set_moment(moment);
-                LineReply::cut(b"ok\n")
+                self.machine.set_moment(moment);
+                Ok(LineReply::cut(b"ok\n"))
             }
+            Command::NextDone(record, text) => {
+                Ok(reply_line(self.queue(record, Answer::Done(given_value(text)))?))
+            }
+            Command::NextFault(record) => Ok(reply_line(self.queue(record, Answer::Fault)?)),
+            Command::NextLater(record) => Ok(reply_line(self.queue(record, Answer::Later)?)),
+            Command::Done(record, wait, text) => {
+                let finished = Finished::Done(given_value(text));
+                Ok(reply_line(self.complete(record, wait, finished)))
+            }
+            Command::Fault(record, wait) => {
+                Ok(reply_line(self.complete(record, wait, Finished::Fault)))
+            }
+            Command::Tally => Ok(self.machine.tally_line()),
         }
     }
 }
@@ -178,11 +171,15 @@ impl Session for Replay {
 
     ghost long_lines = { long-lines };
 
-    /// Answers a line. Each request that it makes is counted, and nothing else.
-    fn answer(&mut self, line: &[u8]) -> LineReply
-        ensures transcript { (lines : List (List ℕ)) → printed self.old (line.now ∷ lines) ≡ result ++ printed self.new lines }
-        ensures tally { self.new.tally ≡ counted self.old.tally (answered record_rules self.old.names (world_of self.old.map) (command_of line.now)).requests }
-    {
-        self.carry_out(Command::from_line(line))
+    /// Answers a line, and then serves the requests that wait.
+    #[tactic(auto, unfolding(crate::specs::Replay::answered))]
+    fn answer(&mut self, line: &[u8]) -> Result<LineReply, AllocError> {
+        let command = Command::from_line(line);
+        let is_silent = command.is_silent();
+        let said = self.carry_out(command)?;
+        if !is_silent {
+            self.machine.serve();
+        }
+        Ok(said)
     }
 }

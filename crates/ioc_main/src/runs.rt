@@ -16,9 +16,9 @@ use std::io::{Read, Write};
 /// # Errors
 ///
 /// [`RunFault::BadDb`] with the first fault of the database text; nothing is written then.
-/// [`RunFault::Memory`] where a growth was refused; nothing is written then. [`RunFault::Read`] where a read of the script
-/// failed and [`RunFault::Write`] where a write did, be it that the writer took no byte; then what was written is a
-/// beginning of the transcript.
+/// [`RunFault::Memory`] where a growth was refused, [`RunFault::Read`] where a read of the script failed and [`RunFault::Write`]
+/// where a write did, be it that the writer took no byte; then what was written is a beginning of the transcript, and nothing more
+/// is written.
 pub fn run<R: Read + Drop, W: Write>(
     alloc: Global,
     db: &[u8],
@@ -30,8 +30,8 @@ pub fn run<R: Read + Drop, W: Write>(
     ensures ok { OnOk result (IsDatabase macros.now db.now × IfSome (R.remaining script) (λ text. Appends (W.contents out.old) (W.contents out.new) (transcript_of macros.now db.now text))) }
     ensures err { IfErr result (λ fault. StopsWith fault macros.now db.now (R.remaining script) (W.contents out.old) (W.contents out.new)) }
 {
-    let Database { names, map } = load(alloc, db, macros)?;
-    let mut replay = Replay::new(alloc, names, map)?;
+    let Database { names, records } = load(alloc, db, macros)?;
+    let mut replay = Replay::new(alloc, names, records)?;
     run_script(&mut replay, script, out)?;
     Ok(())
 }

@@ -1,12 +1,12 @@
 //! Who answers the lines of a script.
-ghost use Rattle.std.specs.Prelude.{◌≡◌, ◌∷◌, ◌++◌, [], List, ℕ};
+ghost use Rattle.std.specs.Prelude.{◌≡◌, ◌∷◌, ◌++◌, [], List, ℕ, IfOk};
 ghost use Rattle.ioc_main.specs.Script.{cut};
 
 use ioc_values::Short;
+use std::alloc::AllocError;
 
-/// What is printed for one line, its line feed included: `= `, a field's text of at most 120 bytes, and the line feed
-/// are the longest.
-pub type LineReply = Short<128>;
+/// What is printed for one line, its line feed included: the counts of requests, of at most 20 digits each, are the longest.
+pub type LineReply = Short<256>;
 
 /// Who answers the lines of a script, one after the other.
 pub trait Session {
@@ -14,8 +14,12 @@ pub trait Session {
     ghost transcript: { Self → List (List ℕ) → List ℕ };
 
     /// Answers a line, which comes without its line feed.
-    fn answer(&mut self, line: &[u8]) -> LineReply
-        ensures { (lines : List (List ℕ)) → transcript self.old (line.now ∷ lines) ≡ result ++ transcript self.new lines };
+    ///
+    /// # Errors
+    ///
+    /// [`AllocError`] where a growth was refused: nothing more may be asked then.
+    fn answer(&mut self, line: &[u8]) -> Result<LineReply, AllocError>
+        ensures { IfOk result (λ reply. (lines : List (List ℕ)) → transcript self.old (line.now ∷ lines) ≡ reply ++ transcript self.new lines) };
 
     ghost no_lines: { (s : Self) → transcript s [] ≡ [] };
 

@@ -4,7 +4,7 @@ ghost use Rattle.ioc_process.specs.World.{World};
 ghost use Rattle.ioc_process.specs.Rules.{IsSettled};
 ghost use Rattle.ioc_process.specs.declared.event.Event.{Event};
 ghost use Rattle.ioc_process.specs.Step.{stepped};
-ghost use Rattle.ioc_main.specs.Replay.{faults};
+ghost use Rattle.ioc_process.specs.Given.{Answers};
 
 use ioc_process::rules::{events_leave_settled, rules_are_steps};
 use ioc_types::Record;
@@ -12,7 +12,7 @@ use ioc_types::Record;
 /// An event leaves a database of this program so that no link leaves it and a record is active exactly where its completion
 /// is pending, if it was so before.
 pub fn event_leaves_settled()
-    ensures { (w : World Record) (event : Event) → IsSettled record_rules w → IsSettled record_rules (stepped record_rules faults w event).world }
+    ensures { (answers : Answers) (w : World Record) (event : Event) → IsSettled record_rules w → IsSettled record_rules (stepped record_rules answers w event).world }
 {
     events_leave_settled::<Record>();
     rules_are_steps::<Record>();

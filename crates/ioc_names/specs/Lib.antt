@@ -1,3 +1,4 @@
+pub mod Entering
 pub mod Entries
 pub mod Laws
 pub mod NameTable

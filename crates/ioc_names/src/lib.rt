@@ -2,10 +2,12 @@
 //! Record Reference Manual, "Fields Common to All Record Types", NAME; Application Developer's Guide, "alias".
 #![tactic(auto)]
 
+pub mod entered;
 pub mod laws;
 mod name_key;
 pub mod names;
 pub mod record_no;
 
+pub use entered::Entered;
 pub use names::Names;
 pub use record_no::RecordNo;

@@ -1,12 +1,15 @@
 //! The names of records.
 ghost use Rattle.std.specs.Prelude.{◌≡◌, ◌↔◌, ◌<◌, ◌≤◌, ◌-◌, ◌^◌, None, length, IsTrue, IfOk, IfSome, OnOk, OnErr};
 ghost use Rattle.ioc_names.specs.NameTable.{no_names, number_of, added, aliased};
+ghost use Rattle.ioc_names.specs.Entering.{entered, entry_of, or_inserted};
 ghost use Rattle.std.specs.FinMap.{get, insert};
 ghost use Rattle.ioc_names.specs.Entries.{number_map};
 
+use crate::entered::Entered;
 use crate::name_key::NameKey;
 use crate::record_no::RecordNo;
 use indexmap::IndexMap;
+use indexmap::map::Entry;
 use ioc_values::Name;
 use std::alloc::{AllocError, Global};
 use std::marker::Model;
@@ -86,6 +89,26 @@ impl Names {
         Ok(number)
     }
 
+    /// The number of the record that has this name or alias, by one look-up; else a new record has the name, and the
+    /// next number.
+    ///
+    /// # Errors
+    ///
+    /// [`AllocError`] where memory is wanting: nothing has changed then.
+    pub fn find_or_add(&mut self, name: Name) -> Result<Entered, AllocError>
+        requires { self.old.count < 2 ^ 64 - 1 }
+        ensures entered { OnOk result (self.new ≡ entered self.old name) }
+        ensures number { IfOk result (λ e. e ≡ entry_of self.old name) }
+        ensures err { OnErr result (self.new ≡ self.old) }
+    {
+        let next = RecordNo::new(self.count);
+        if let Some(found) = find_or_enter(&mut self.numbers, name, next)? {
+            return Ok(Entered::Before(found));
+        }
+        self.count = next.index() + 1;
+        Ok(Entered::Now(next))
+    }
+
     /// The record of this number has this second name. No record has the name yet: see `find`.
     ///
     /// # Errors
@@ -99,6 +122,26 @@ impl Names {
     {
         enter(&mut self.numbers, alias, number)?;
         Ok(())
+    }
+}
+
+// Finds the number that a name was entered with, or enters it with this one.
+fn find_or_enter(
+    numbers: &mut IndexMap<NameKey, RecordNo>,
+    name: Name,
+    number: RecordNo,
+) -> Result<Option<RecordNo>, AllocError>
+    ensures found { IfOk result (λ f. f ≡ get (number_map numbers.old.entries) name) }
+    ensures ok { IfOk result (λ f. number_map numbers.new.entries ≡ or_inserted f (number_map numbers.old.entries) name number) }
+    ensures err { OnErr result (numbers.new.entries ≡ numbers.old.entries) }
+    ensures short { length name ≤ 60 }
+{
+    match numbers.entry(NameKey::new(name))? {
+        Entry::Occupied(entry) => Ok(Some(*entry.get())),
+        Entry::Vacant(entry) => {
+            entry.insert(number);
+            Ok(None)
+        }
     }
 }
 

@@ -1,6 +1,6 @@
 -- Two worlds side by side, in which the same requests are made: what holds of both goes on to hold.
 use Rattle.std.proofs.Common.{◌≡◌, ℕ, zero, suc, ◌+◌, Bool, true, false, cond, eqb, List, [], ◌∷◌, length, Option, Some, None as Nothing_, refl, ap, subst, ◌∙◌, arith}
-use Rattle.std.specs.Prelude.{slice_get, unwrap_or, Result, Ok, Err, Contains, nat_lt, ◌&&◌, ◌||◌, ◌-◌, ◌^◌}
+use Rattle.std.specs.Prelude.{slice_get, unwrap_or, Result, Ok, Err, Contains, nat_lt, ◌&&◌, ◌||◌, ◌-◌, ◌^◌, nat_eq}
 use Rattle.ioc_common.specs.declared.common.Common.{Common}
 use Rattle.ioc_common.specs.declared.link_field.LinkUse.{LinkUse}
 use Rattle.ioc_common.specs.declared.link_field.LinkUse.TheVariants.{Unused, OwnDevice, Absent, Standing}
@@ -24,12 +24,12 @@ use Rattle.ioc_values.specs.declared.value.Value.{Value}
 use Rattle.ioc_values.specs.declared.error.IocError.{IocError}
 use Rattle.ioc_common.specs.Links.{use_of}
 use Rattle.ioc_record.specs.Values.{read_as, converted_to, put_untested, converted_for}
-use Rattle.ioc_common.specs.Steps.{inherited, blocked, unblocked, with_active, shown, is_passive, with_put_mark, with_reprocess_mark, disabled, disable_kind}
+use Rattle.ioc_common.specs.Steps.{inherited, blocked, unblocked, with_active, shown, is_passive, with_put_mark, with_reprocess_mark, disabled, disable_kind, change_numbered}
 use Rattle.ioc_record.specs.RecordRules.{RecordRules, targets}
 use Rattle.ioc_record.specs.Laws.{IsLawful}
 use Rattle.ioc_process.specs.declared.outbox.OutboxItem.{OutboxItem}
-use Rattle.ioc_process.specs.declared.outbox.OutboxItem.TheVariants.{Once, Post}
-use Rattle.ioc_process.specs.World.{World, at, common_at, put, changed, idle, called, sent}
+use Rattle.ioc_process.specs.declared.outbox.OutboxItem.TheVariants.{Once, Post, Change}
+use Rattle.ioc_process.specs.World.{World, at, common_at, put, changed, idle, called, sent, lost, taken_on, let_go as let_go_of}
 use Rattle.ioc_process.specs.Marks.{is_put_down, put_down, put_mark_passed, resumed, at_rest, with_disable_input, is_disabled}
 use Rattle.ioc_process.specs.declared.call.Call.{Call}
 use Rattle.ioc_device.specs.declared.Ask.{Ask}
@@ -43,6 +43,10 @@ use Rattle.ioc_process.specs.Processing.{Done, Ran, Read, Came, Reading, Written
 use Rattle.ioc_process.proofs.StepFrames.{OwnLinks, blocked-frame, stored_with}
 use Rattle.ioc_process.proofs.Named.{link_named}
 use Rattle.ioc_process.proofs.Depth.{request-nested}
+use Rattle.ioc_process.specs.Given.{Answers}
+use Rattle.ioc_process.specs.Scanning.{places_record, device_of, moved, rescanned, rewired}
+use Rattle.std.specs.Cmp.Lexicographic.{pointwise}
+use Rattle.ioc_process.specs.Notifying.{taken_over, holding, passed_on, notified_as, notified}
 
 both_followed : {a b c d : Requests} → a ≡ b → c ≡ d → followed_by a c ≡ followed_by b d
 both_followed {a} {b} {c} {d} one two = ap (λ (x : Requests). followed_by x c) one ∙ ap (followed_by b) two
@@ -74,6 +78,9 @@ pub record Guards {R : Type 0} (k : RecordRules R) (May : ℕ → Type 0) (Good 
   pub put : {w v : World R} → Inv w v → (n : ℕ) → May n → (r : R) → Good n r → Inv (put w n r) (put v n r)
   pub call : {w v : World R} → Inv w v → (one : Call) → Inv (called one w) (called one v)
   pub send : {w v : World R} → Inv w v → (item : OutboxItem) → Inv (sent item w) (sent item v)
+  pub lose : {w v : World R} → Inv w v → Inv (lost w) (lost v)
+  pub take_on : {w v : World R} → Inv w v → (number : ℕ) → Inv (taken_on number w) (taken_on number v)
+  pub let_go : {w v : World R} → Inv w v → (number : ℕ) → Inv (let_go_of number w) (let_go_of number v)
 
 pub record Goes {R : Type 0} (Inv : World R → World R → Type 0) (done other : Done R) : Type 0 where
   pub inv : Inv done.world other.world
@@ -159,10 +166,10 @@ module _ {R : Type 0} (k : RecordRules R) (lawful : IsLawful k) (May : ℕ → T
       ap (λ (calls : List Call). nat_lt (length calls) 256 && nat_lt (common_at k w s).last_pending (2 ^ 64 - 1)) (g.calls inv)
       ∙ ap (λ (r : R). nat_lt (length v.calls) 256 && nat_lt (k.common r).last_pending (2 ^ 64 - 1)) (g.same inv s may)
 
-  next-same : (answers : List Answer) {w v : World R} → Inv w v → (s : ℕ) (ask : Ask) → next_call k answers w s ask ≡ next_call k answers v s ask
-  next-same answers inv s ask = ap (λ (calls : List Call). record { target = s; ask = ask; answer = unwrap_or (slice_get answers (length calls)) Fault-answer }) (g.calls inv)
+  next-same : (answers : Answers) {w v : World R} → Inv w v → (s : ℕ) (ask : Ask) → next_call k answers w s ask ≡ next_call k answers v s ask
+  next-same answers inv s ask = ap (λ (calls : List Call). record { target = s; ask = ask; answer = answers calls s ask }) (g.calls inv)
 
-  pub read_device-goes : (answers : List Answer) {w v : World R} → Inv w v → (s : ℕ) → May s → GoesRead Inv (read_device k answers w s) (read_device k answers v s)
+  pub read_device-goes : (answers : Answers) {w v : World R} → Inv w v → (s : ℕ) → May s → GoesRead Inv (read_device k answers w s) (read_device k answers v s)
   unfolding read_device
   read_device-goes answers {w} {v} inv s may =
       let call = next_call k answers w s Read-ask in
@@ -188,10 +195,41 @@ module _ {R : Type 0} (k : RecordRules R) (lawful : IsLawful k) (May : ℕ → T
       subst (λ (r : R). Inv (handed_on k w s t) (changed k v t.number (inherited t.mode (k.common r).condition.alarms.new_status (k.common r).condition.alarms.new_severity)))
       (g.same inv s may) (changed-goes inv t.number there _ (λ c. (refl, refl)))
 
+  -- a record goes on another scan list
+  pub moved-goes : {w v : World R} → Inv w v → (n : ℕ) → May n → Inv (moved k w n) (moved k v n)
+  unfolding moved
+  moved-goes {w} {v} inv n may =
+      let change : World R → R → World R = λ u r.
+      cond (nat_lt (k.common r).last_change (2 ^ 64 - 1))
+      (sent (Change (record { target = n; number = (k.common r).last_change + 1; scanning = (k.common r).scanning; device = device_of k r })) (changed k u n change_numbered)) (lost u) in
+      subst (λ (r : R). Inv (moved k w n) (change v r)) (g.same inv n may)
+      (elim (nat_lt (common_at k w n).last_change (2 ^ 64 - 1)) as (λ b.
+      let item = Change (record { target = n; number = (common_at k w n).last_change + 1; scanning = (common_at k w n).scanning; device = device_of k (at k w n) }) in
+      Inv (cond b (sent item (changed k w n change_numbered)) (lost w)) (cond b (sent item (changed k v n change_numbered)) (lost v))) [
+        | true ↦ g.send (changed-goes inv n may change_numbered (λ c. (refl, refl))) _
+        | false ↦ g.lose inv
+      ])
+
+  pub rescanned-goes : {w v : World R} → Inv w v → (n : ℕ) → May n → (field : FieldNo) → Inv (rescanned k w n field) (rescanned k v n field)
+  unfolding rescanned
+  rescanned-goes {w} {v} inv n may field = elim (places_record field) as (λ b. Inv (cond b (moved k w n) w) (cond b (moved k v n) v)) [
+    | true ↦ moved-goes inv n may
+    | false ↦ inv
+  ]
+
+  pub rewired-goes : {w v : World R} → Inv w v → (before : List ℕ) (n : ℕ) → May n → Inv (rewired k before w n) (rewired k before v n)
+  unfolding rewired
+  rewired-goes {w} {v} inv before n may =
+      subst (λ (r : R). Inv (rewired k before w n) (cond (pointwise nat_eq before (device_of k r)) v (moved k v n))) (g.same inv n may)
+      (elim (pointwise nat_eq before (device_of k (at k w n))) as (λ b. Inv (cond b w (moved k w n)) (cond b v (moved k v n))) [
+        | true ↦ inv
+        | false ↦ moved-goes inv n may
+      ])
+
   stored-goes : {w v : World R} → Inv w v → (t : StandingLink) → May t.number → (result : Result R IocError) → ((r : R) → result ≡ Ok r → Good t.number r)
       → GoesWritten Inv (stored_at k w t result) (stored_at k v t result)
   unfolding stored_at
-  stored-goes inv t there (Ok r) good = record { inv = g.put inv t.number there r (good r refl); stored = refl }
+  stored-goes inv t there (Ok r) good = record { inv = rescanned-goes (g.put inv t.number there r (good r refl)) t.number there t.field; stored = refl }
   stored-goes inv t there (Err e) good = record { inv = inv; stored = refl }
 
   untested-good : {w v : World R} → Inv w v → (t : StandingLink) → May t.number → (given : Input) (r : R) → put_untested k (at k w t.number) t.field given ≡ Ok r → Good t.number r
@@ -214,7 +252,7 @@ module _ {R : Type 0} (k : RecordRules R) (lawful : IsLawful k) (May : ℕ → T
   acknowledged-goes inv s may Fault-answer = record { inv = changed-goes inv s may _ (λ c. (refl, refl)); requests = refl; goes_on = refl }
   acknowledged-goes inv s may Later = record { inv = changed-goes inv s may _ (λ _. (refl, refl)); requests = refl; goes_on = refl }
 
-  pub write_device-goes : (answers : List Answer) {w v : World R} → Inv w v → (s : ℕ) → May s → (x : Value) → GoesOut Inv (write_device k answers w s x) (write_device k answers v s x)
+  pub write_device-goes : (answers : Answers) {w v : World R} → Inv w v → (s : ℕ) → May s → (x : Value) → GoesOut Inv (write_device k answers w s x) (write_device k answers v s x)
   unfolding write_device
   write_device-goes answers {w} {v} inv s may x =
       let call = next_call k answers w s (Write-ask x) in
@@ -235,13 +273,37 @@ module _ {R : Type 0} (k : RecordRules R) (lawful : IsLawful k) (May : ℕ → T
   disable_came-goes inv s may Got-nothing = inv
   disable_came-goes inv s may Got-fault = inv
 
+  -- a notification goes from record to record, and is told
+  holding-goes : {w v : World R} → Inv w v → (t : ℕ) → May t → (number : Option ℕ) → Inv (holding k w t number) (holding k v t number)
+  unfolding holding
+  holding-goes inv t may Nothing_ = inv
+  holding-goes inv t may (Some number) = g.take_on (changed-goes inv t may _ (λ c. (refl, refl))) number
+
+  pub passed_on-goes : {w v : World R} → Inv w v → (s : ℕ) → May s → (t : ℕ) → May t → Inv (passed_on k w s t) (passed_on k v s t)
+  unfolding passed_on
+  passed_on-goes {w} {v} inv s may t there =
+      subst (λ (r : R). Inv (holding k w t (taken_over (common_at k w s) (common_at k w t))) (holding k v t (taken_over (k.common r) (common_at k v t)))) (g.same inv s may)
+      (subst (λ (r : R). Inv (holding k w t (taken_over (common_at k w s) (common_at k w t))) (holding k v t (taken_over (common_at k w s) (k.common r)))) (g.same inv t there)
+      (holding-goes inv t there (taken_over (common_at k w s) (common_at k w t))))
+
+  notified_as-goes : {w v : World R} → Inv w v → (s : ℕ) → May s → (number : Option ℕ) → Inv (notified_as k w s number) (notified_as k v s number)
+  unfolding notified_as
+  notified_as-goes inv s may Nothing_ = inv
+  notified_as-goes inv s may (Some number) = g.let_go (changed-goes inv s may _ (λ c. (refl, refl))) number
+
+  pub notified-goes : {w v : World R} → Inv w v → (s : ℕ) → May s → Inv (notified k w s) (notified k v s)
+  unfolding notified
+  notified-goes {w} {v} inv s may =
+      subst (λ (r : R). Inv (notified_as k w s (common_at k w s).notification) (notified_as k v s (k.common r).notification)) (g.same inv s may)
+      (notified_as-goes inv s may (common_at k w s).notification)
+
   -- a record comes to rest
   pub rested-goes : {w v : World R} → Inv w v → (s : ℕ) → May s → Inv (rested k w s) (rested k v s)
   unfolding rested
   rested-goes {w} {v} inv s may =
-      let quiet = changed-goes inv s may at_rest (λ c. (refl, refl)) in
-      subst (λ (r : R). Inv (rested k w s) (cond (k.common r).reprocess (sent (Once s) (changed k v s at_rest)) (changed k v s at_rest))) (g.same inv s may)
-      (elim (common_at k w s).reprocess as (λ b. Inv (cond b (sent (Once s) (changed k w s at_rest)) (changed k w s at_rest)) (cond b (sent (Once s) (changed k v s at_rest)) (changed k v s at_rest))) [
+      let quiet = changed-goes (notified-goes inv s may) s may at_rest (λ c. (refl, refl)) in
+      subst (λ (r : R). Inv (rested k w s) (cond (k.common r).reprocess (sent (Once s) (changed k (notified k v s) s at_rest)) (changed k (notified k v s) s at_rest))) (g.same inv s may)
+      (elim (common_at k w s).reprocess as (λ b. Inv (cond b (sent (Once s) (changed k (notified k w s) s at_rest)) (changed k (notified k w s) s at_rest)) (cond b (sent (Once s) (changed k (notified k v s) s at_rest)) (changed k (notified k v s) s at_rest))) [
         | true ↦ g.send quiet (Once s)
         | false ↦ quiet
       ])
@@ -255,13 +317,13 @@ module _ {R : Type 0} (k : RecordRules R) (lawful : IsLawful k) (May : ℕ → T
     asked-goes {w} {v} inv s may t there =
         let by_put = (common_at k w s).by_put in
         let down : World R → Done R = λ u. record { world = changed k u t put_down; requests = Request Reprocess None None } in
-        let mine : Bool → Bool → Done R = λ p b. cond {A = Done R} b (down w) (ask (changed k w t (put_mark_passed p)) t) in
-        let theirs : Bool → Bool → Done R = λ p b. cond {A = Done R} b (down v) (other (changed k v t (put_mark_passed p)) t) in
+        let mine : Bool → Bool → Done R = λ p b. cond {A = Done R} b (down w) (ask (passed_on k (changed k w t (put_mark_passed p)) s t) t) in
+        let theirs : Bool → Bool → Done R = λ p b. cond {A = Done R} b (down v) (other (passed_on k (changed k v t (put_mark_passed p)) s t) t) in
         subst (λ (r : R). Goes Inv (asked k ask w s t) (theirs (k.common r).by_put (is_put_down (k.common r).by_put (common_at k v t)))) (g.same inv s may)
         (subst (λ (r : R). Goes Inv (asked k ask w s t) (theirs by_put (is_put_down by_put (k.common r)))) (g.same inv t there)
         (elim (is_put_down by_put (common_at k w t)) as (λ b. Goes Inv (mine by_put b) (theirs by_put b)) [
           | true ↦ record { inv = changed-goes inv t there put_down (λ c. (blocked-frame (with_reprocess_mark true c)).links); requests = refl }
-          | false ↦ asks _ _ (changed-goes inv t there (put_mark_passed by_put) (passed-links by_put)) t there
+          | false ↦ asks _ _ (passed_on-goes (changed-goes inv t there (put_mark_passed by_put) (passed-links by_put)) s may t there) t there
         ]))
 
     pub caused-goes : {w v : World R} → Inv w v → (s : ℕ) → May s → (t : ℕ) → May t → Goes Inv (caused k ask w s t) (caused k other v s t)
@@ -389,7 +451,7 @@ module _ {R : Type 0} (k : RecordRules R) (lawful : IsLawful k) (May : ℕ → T
         let rest = subst (λ (b : Bool). Goes Inv (finished_if k ask out.world s out.goes_on) (finished_if k other out'.world s b)) go.goes_on (finished_if-goes go.inv s may out.goes_on) in
         record { inv = rest.inv; requests = ap (λ (x : Requests). followed_by x (finished_if k ask out.world s out.goes_on).requests) go.requests ∙ ap (followed_by out'.requests) rest.requests }
 
-    module _ (answers : List Answer) where
+    module _ (answers : Answers) where
       pub put_out-goes : {w v : World R} → Inv w v → (s : ℕ) → May s → (output : Output) → ((t : StandingLink) (x : Value) → output ≡ WriteLink (Standing t) x → May t.number)
           → GoesOut Inv (put_out k answers ask w s output) (put_out k answers other v s output)
       unfolding put_out
@@ -443,10 +505,10 @@ module _ {R : Type 0} (k : RecordRules R) (lawful : IsLawful k) (May : ℕ → T
       pub judged-goes : {w v : World R} → Inv w v → (s : ℕ) → May s → GoesRan Inv (judged k answers ask w s) (judged k answers other v s)
       unfolding judged
       judged-goes {w} {v} inv s may =
-          let off : World R → Ran R = λ u. record { world = changed k u s disabled; requests = None; outcome = Disabled } in
+          let off : World R → Ran R = λ u. record { world = changed k (notified k u s) s disabled; requests = None; outcome = Disabled } in
           subst (λ (r : R). GoesRan Inv (judged k answers ask w s) (cond {A = Ran R} (is_disabled (k.common r)) (off v) (processed (body k answers other v s)))) (g.same inv s may)
           (elim (is_disabled (common_at k w s)) as (λ b. GoesRan Inv (cond {A = Ran R} b (off w) (processed (body k answers ask w s))) (cond {A = Ran R} b (off v) (processed (body k answers other v s)))) [
-            | true ↦ record { inv = changed-goes inv s may disabled disabled-links; requests = refl; outcome = refl }
+            | true ↦ record { inv = changed-goes (notified-goes inv s may) s may disabled disabled-links; requests = refl; outcome = refl }
             | false ↦ let rest = body-goes inv s may in record { inv = rest.inv; requests = rest.requests; outcome = refl }
           ])
 
@@ -486,7 +548,7 @@ module _ {R : Type 0} (k : RecordRules R) (lawful : IsLawful k) (May : ℕ → T
     requests = ap (λ (x : Requests). Request ran.outcome x None) go.requests ∙ ap (λ (o : Outcome). Request o other.requests None) go.outcome;
   }
 
-  module _ (answers : List Answer) where
+  module _ (answers : Answers) where
     nested-goes : (depth : ℕ) {w v : World R} → Inv w v → (s : ℕ) → May s → Goes Inv (nested k answers depth w s) (nested k answers depth v s)
     unfolding nested
     nested-goes zero inv s may = record { inv = inv; requests = refl }

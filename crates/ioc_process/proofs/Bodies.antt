@@ -1,7 +1,6 @@
 -- The cases of a request and of a body, as the code meets them.
 use Rattle.std.proofs.Common.{◌≡◌, ℕ, true, false, List, refl, ap, ◌∙◌}
 use Rattle.ioc_ledger.specs.declared.tally.Tally.{Tally}
-use Rattle.ioc_device.specs.declared.Answer.{Answer}
 use Rattle.ioc_common.specs.declared.body.Got.{Got}
 use Rattle.ioc_common.specs.declared.body.Want.TheVariants.{ReadLink}
 use Rattle.ioc_fields.specs.declared.field_no.FieldNo.TheVariants.{Own}
@@ -22,17 +21,18 @@ use Rattle.ioc_process.specs.Processing.{request, ran, requested, turned_away, b
 use Rattle.ioc_process.specs.Links.{link_at}
 use Rattle.ioc_process.specs.Runs.{IsStanding}
 use Rattle.ioc_process.proofs.Named.{link_named}
+use Rattle.ioc_process.specs.Given.{Answers}
 
 pub counted-followed_by : (t : Tally) (some others : Requests) → counted t (followed_by some others) ≡ counted (counted t some) others
 counted-followed_by t None others = refl
 counted-followed_by t (Request outcome caused later) others = counted-followed_by (counted_one (counted t caused) outcome) later others
 
 module _ {R : Type 0} (k : RecordRules R) (lawful : IsLawful k) where
-  pub ran-turned_away : (answers : List Answer) (w : World R) (s : ℕ) → (common_at k w s).active ≡ true → ran k answers w s ≡ turned_away k answers (request k answers) w s
+  pub ran-turned_away : (answers : Answers) (w : World R) (s : ℕ) → (common_at k w s).active ≡ true → ran k answers w s ≡ turned_away k answers (request k answers) w s
   unfolding ran requested
   ran-turned_away answers w s active = rw active refl
 
-  pub ran-idle : (answers : List Answer) (w : World R) (s : ℕ) → (common_at k w s).active ≡ false → ran k answers w s ≡ begun_idle k answers (request k answers) w s
+  pub ran-idle : (answers : Answers) (w : World R) (s : ℕ) → (common_at k w s).active ≡ false → ran k answers w s ≡ begun_idle k answers (request k answers) w s
   unfolding ran requested
   ran-idle answers w s active = rw active refl
 

@@ -21,7 +21,7 @@ use Rattle.ioc_values.specs.declared.error.IocError.{IocError}
 use Rattle.ioc_common.specs.Links.{use_of}
 use Rattle.std.proofs.lemmas.Grind.{common_steps}
 use Rattle.ioc_common.specs.declared.body.InputKind.{InputKind}
-use Rattle.ioc_common.specs.Steps.{inherited, blocked, unblocked, with_active, shown, waiting, is_passive, with_put_mark, disabled, disable_kind}
+use Rattle.ioc_common.specs.Steps.{inherited, blocked, unblocked, with_active, shown, waiting, is_passive, with_put_mark, disabled, disable_kind, change_numbered, with_notification}
 use Rattle.ioc_process.specs.Marks.{is_put_down, put_down, put_mark_passed, at_rest, with_disable_input, is_disabled}
 use Rattle.ioc_process.specs.declared.call.Call.{Call}
 use Rattle.ioc_device.specs.declared.Ask.TheVariants.{Read as Read-ask, Write as Write-ask}
@@ -30,7 +30,7 @@ use Rattle.ioc_record.specs.RecordRules.{RecordRules}
 use Rattle.ioc_record.specs.Laws.{IsLawful}
 use Rattle.ioc_process.specs.declared.outbox.OutboxItem.{OutboxItem}
 use Rattle.ioc_process.specs.declared.outbox.OutboxItem.TheVariants.{Once, Post}
-use Rattle.ioc_process.specs.World.{World, Has, at, common_at, put, called, sent, changed, idle, Stays}
+use Rattle.ioc_process.specs.World.{World, Has, at, common_at, put, called, sent, changed, idle, Stays, lost, taken_on, let_go}
 use Rattle.ioc_process.specs.Links.{link_at, chosen_links, requests_first, requests_after, handed_on}
 use Rattle.ioc_ledger.specs.Requests.{None, Request, more}
 use Rattle.ioc_process.specs.Processing.{Done, Ran, Read, Reading, Written, PutOut, as_request, ran_after, processed, asked, rested, disable_came, next_call, as_input, judged, begun_idle, ran, caused, followed, inherits, value_came, stored_at, wrote, after_writing, write_link, followed_each, finished, finished_if, after_output, acknowledged, write_device, put_out, prepared, read_record, faulted, read_link, completed, completed_if, device_gave, received, read_device, can_ask, input, body, turned_away, requested, nested, request, read_at}
@@ -38,6 +38,11 @@ use Rattle.std.specs.Prelude.{nat_lt, ◌++◌, Result, Ok, Err}
 use Rattle.ioc_fields.specs.declared.field_no.FieldNo.{FieldNo}
 use Rattle.ioc_process.proofs.StepFrames.{blocked-frame, stored_with}
 use Rattle.ioc_process.proofs.Worlds.{room, common_at-changed, idle-changed, idle-kept, idle-put, at-put_same, at-put_other, has-put}
+use Rattle.ioc_process.specs.Given.{Answers}
+use Rattle.ioc_process.specs.Scanning.{moved, rescanned}
+use Rattle.ioc_process.proofs.ScanLaws.{moved-either, rescanned-either}
+use Rattle.ioc_process.specs.Notifying.{passed_on, notified}
+use Rattle.ioc_process.proofs.NotifyLaws.{passed-either, notified-either}
 
 -- marks leave a record as active as it was
 pub passed-active : (by_put : Bool) (c : Common) → (put_mark_passed by_put c).active ≡ c.active
@@ -113,12 +118,6 @@ module _ {R : Type 0} (k : RecordRules R) (lawful : IsLawful k) where
   value_came-stays w s t (Ok v) = inherits-stays w s t
   value_came-stays w s t (Err e) = faulted-stays w s
 
-  -- a value that is stored, or not, takes no record away
-  pub written_has : (w : World R) (t : StandingLink) (result : Result R IocError) (n : ℕ) → Has w n → Has (stored_at k w t result).world n
-  unfolding stored_at
-  written_has w t (Ok r) n has = has-put k w t.number n r has
-  written_has w t (Err e) n has = has
-
   -- a record that is put, as active as it was
   pub stays-put : (w : World R) (s n : ℕ) (r : R) → (k.common r).active ≡ (common_at k w n).active → Stays k w s (put w n r)
   stays-put w s n r same = record {
@@ -137,10 +136,56 @@ module _ {R : Type 0} (k : RecordRules R) (lawful : IsLawful k) where
   unfolding handed_on
   handed-stays w s n t = stays-other w n t.number _ refl
 
+  pub sent-stays : (item : OutboxItem) (w : World R) (s : ℕ) → Stays k w s (sent item w)
+  unfolding idle at sent
+  sent-stays item w s =
+      elim (nat_lt (length w.outbox) 256) as (λ b. Stays k w s (cond b (record w { outbox = w.outbox ++ item ∷ [] }) (record w { dropped = more w.dropped }))) [
+        | true ↦ record { fewer = omega arith; active = refl }
+        | false ↦ record { fewer = omega arith; active = refl }
+      ]
+
+  pub lost-stays : (w : World R) (s : ℕ) → Stays k w s (lost w)
+  unfolding idle at lost
+  lost-stays w s = record { fewer = omega arith; active = refl }
+
+  pub moved-stays : (w : World R) (s n : ℕ) → Stays k w s (moved k w n)
+  moved-stays w s n = moved-either k (Stays k w s) w n (λ item. stays_on k (stays-other w s n change_numbered refl) (sent-stays item _ s)) (lost-stays w s)
+
+  pub rescanned-stays : (w : World R) (s n : ℕ) (field : FieldNo) → Stays k w s (rescanned k w n field)
+  rescanned-stays w s n field = rescanned-either k (Stays k w s) w n field (stays_here k w s) (moved-stays w s n)
+
+  sent-has : (item : OutboxItem) (w : World R) (m : ℕ) → Has w m → Has (sent item w) m
+  unfolding sent
+  sent-has item w m has =
+      elim (nat_lt (length w.outbox) 256) as (λ b. Has (cond b (record w { outbox = w.outbox ++ item ∷ [] }) (record w { dropped = more w.dropped })) m) [
+        | true ↦ has
+        | false ↦ has
+      ]
+
+  lost-has : (w : World R) (m : ℕ) → Has w m → Has (lost w) m
+  unfolding lost
+  lost-has w m has = has
+
+  numbered-has : (w : World R) (n m : ℕ) → Has w m → Has (changed k w n change_numbered) m
+  unfolding changed
+  numbered-has w n m has = has-put k w n m _ has
+
+  pub moved-has : (w : World R) (n m : ℕ) → Has w m → Has (moved k w n) m
+  moved-has w n m has = moved-either k (λ v. Has v m) w n (λ item. sent-has item _ m (numbered-has w n m has)) (lost-has w m has)
+
+  pub rescanned-has : (w : World R) (n : ℕ) (field : FieldNo) (m : ℕ) → Has w m → Has (rescanned k w n field) m
+  rescanned-has w n field m has = rescanned-either k (λ v. Has v m) w n field has (moved-has w n m has)
+
+  -- a value that is stored, or not, takes no record away
+  pub written_has : (w : World R) (t : StandingLink) (result : Result R IocError) (n : ℕ) → Has w n → Has (stored_at k w t result).world n
+  unfolding stored_at
+  written_has w t (Ok r) n has = rescanned-has (put w t.number r) t.number t.field n (has-put k w t.number n r has)
+  written_has w t (Err e) n has = has
+
   stored-stays : (w : World R) (s : ℕ) (t : StandingLink) (result : Result R IocError) → ((r : R) → result ≡ Ok r → (k.common r).active ≡ (common_at k w t.number).active)
       → Stays k w s (stored_at k w t result).world
   unfolding stored_at
-  stored-stays w s t (Ok r) same = stays-put w s t.number r (same r refl)
+  stored-stays w s t (Ok r) same = stays_on k (stays-put w s t.number r (same r refl)) (rescanned-stays (put w t.number r) s t.number t.field)
   stored-stays w s t (Err e) same = stays_here k w s
 
   pub untested-active : (r : R) (f : FieldNo) (given : Input) (r' : R) → put_untested k r f given ≡ Ok r' → (k.common r').active ≡ (k.common r).active
@@ -171,13 +216,46 @@ module _ {R : Type 0} (k : RecordRules R) (lawful : IsLawful k) where
         | false ↦ refl
       ]
 
+  -- a notification plays no part in how many records are idle
+  taken_on-idle : (number : ℕ) (w : World R) → idle k (taken_on number w) ≡ idle k w
+  unfolding idle taken_on
+  taken_on-idle number w = refl
+
+  let_go-idle : (number : ℕ) (w : World R) → idle k (let_go number w) ≡ idle k w
+  unfolding idle let_go
+  let_go-idle number w = refl
+
+  pub passed_on-idle : (w : World R) (s t : ℕ) → idle k (passed_on k w s t) ≡ idle k w
+  passed_on-idle w s t = passed-either k (λ v. idle k v ≡ idle k w) w s t refl (λ n. taken_on-idle n _ ∙ idle-kept k lawful w t (with_notification (Some n)) refl)
+
+  pub notified-idle : (w : World R) (s : ℕ) → idle k (notified k w s) ≡ idle k w
+  notified-idle w s = notified-either k (λ v. idle k v ≡ idle k w) w s refl (λ n. let_go-idle n _ ∙ idle-kept k lawful w s (with_notification Nothing_) refl)
+
+  taken_on-common : (number : ℕ) (w : World R) (m : ℕ) → common_at k (taken_on number w) m ≡ common_at k w m
+  unfolding at taken_on
+  taken_on-common number w m = refl
+
+  let_go-common : (number : ℕ) (w : World R) (m : ℕ) → common_at k (let_go number w) m ≡ common_at k w m
+  unfolding at let_go
+  let_go-common number w m = refl
+
+  pub notified-active : (w : World R) (s : ℕ) → (common_at k (notified k w s) s).active ≡ (common_at k w s).active
+  notified-active w s = notified-either k (λ v. (common_at k v s).active ≡ (common_at k w s).active) w s refl
+      (λ n. ap (λ (c : Common). c.active) (let_go-common n _ s ∙ common_at-changed k lawful w s (with_notification Nothing_)))
+
+  pub notified-stays : (w : World R) (s : ℕ) → Stays k w s (notified k w s)
+  notified-stays w s = record { fewer = omega (arith, notified-idle w s); active = notified-active w s }
+
   -- a record that comes to rest is one more that is idle, unless it was
+  notified-rest : (w : World R) (s : ℕ) → idle k (changed k (notified k w s) s at_rest) + one_if_not (common_at k w s).active ≡ idle k w + 1
+  notified-rest w s = omega (arith, idle-changed k lawful (notified k w s) s at_rest, notified-idle w s, ap one_if_not (notified-active w s))
+
   pub rested-idle : (w : World R) (s : ℕ) → idle k (rested k w s) + one_if_not (common_at k w s).active ≡ idle k w + 1
   unfolding rested
   rested-idle w s =
-      elim (common_at k w s).reprocess as (λ b. idle k (cond b (sent (Once s) (changed k w s at_rest)) (changed k w s at_rest)) + one_if_not (common_at k w s).active ≡ idle k w + 1) [
-        | true ↦ rw (sent-idle (Once s) (changed k w s at_rest)) (idle-changed k lawful w s at_rest)
-        | false ↦ idle-changed k lawful w s at_rest
+      elim (common_at k w s).reprocess as (λ b. idle k (cond b (sent (Once s) (changed k (notified k w s) s at_rest)) (changed k (notified k w s) s at_rest)) + one_if_not (common_at k w s).active ≡ idle k w + 1) [
+        | true ↦ rw (sent-idle (Once s) (changed k (notified k w s) s at_rest)) (notified-rest w s)
+        | false ↦ notified-rest w s
       ]
 
   pub disable_came-stays : (w : World R) (s : ℕ) (got : Got) → Stays k w s (disable_came k w s got)
@@ -191,8 +269,8 @@ module _ {R : Type 0} (k : RecordRules R) (lawful : IsLawful k) where
     unfolding asked
     asked-fewer w s t room =
         let by_put = (common_at k w s).by_put in
-        let marked = changed k w t (put_mark_passed by_put) in
-        let level = idle-kept k lawful w t (put_mark_passed by_put) (passed-active by_put _) in
+        let marked = passed_on k (changed k w t (put_mark_passed by_put)) s t in
+        let level = passed_on-idle (changed k w t (put_mark_passed by_put)) s t ∙ idle-kept k lawful w t (put_mark_passed by_put) (passed-active by_put _) in
         elim (is_put_down by_put (common_at k w t)) as (λ b. idle k (cond {A = Done R} b (record { world = changed k w t put_down; requests = Request Reprocess None None }) (ask marked t)).world ≤ idle k w) [
           | true ↦ omega (arith, idle-kept k lawful w t put_down (blocked-frame _).active)
           | false ↦ omega (arith, level, asks.fewer marked t (omega (arith, level, room)))
@@ -202,8 +280,8 @@ module _ {R : Type 0} (k : RecordRules R) (lawful : IsLawful k) where
     unfolding asked
     asked-same w s t room =
         let by_put = (common_at k w s).by_put in
-        let level = idle-kept k lawful w t (put_mark_passed by_put) (passed-active by_put _) in
-        rw (asks.same (changed k w t (put_mark_passed by_put)) t (omega (arith, level, room))) refl
+        let level = passed_on-idle (changed k w t (put_mark_passed by_put)) s t ∙ idle-kept k lawful w t (put_mark_passed by_put) (passed-active by_put _) in
+        rw (asks.same (passed_on k (changed k w t (put_mark_passed by_put)) s t) t (omega (arith, level, room))) refl
 
     pub caused-stays : (w : World R) (s t : ℕ) → Room k bound w s → Stays k w s (caused k ask w s t).world
     unfolding caused
@@ -377,7 +455,7 @@ module _ {R : Type 0} (k : RecordRules R) (lawful : IsLawful k) where
   unfolding idle at called
   called_reads call w s reading r = record { fewer = r.fewer; active = r.active }
 
-  pub read_device-reads : (answers : List Answer) (w : World R) (s : ℕ) → Reads k w s (read_device k answers w s)
+  pub read_device-reads : (answers : Answers) (w : World R) (s : ℕ) → Reads k w s (read_device k answers w s)
   unfolding read_device
   read_device-reads answers w s =
       let call = next_call k answers w s Read-ask in
@@ -389,14 +467,6 @@ module _ {R : Type 0} (k : RecordRules R) (lawful : IsLawful k) where
   outs : (w : World R) (s : ℕ) (out : PutOut R) → Stays k w s out.world → Outs k w s out
   outs w s out stays = record { fewer = stays.fewer; active = λ _. stays.active }
 
-  pub sent-stays : (item : OutboxItem) (w : World R) (s : ℕ) → Stays k w s (sent item w)
-  unfolding idle at sent
-  sent-stays item w s =
-      elim (nat_lt (length w.outbox) 256) as (λ b. Stays k w s (cond b (record w { outbox = w.outbox ++ item ∷ [] }) (record w { dropped = more w.dropped }))) [
-        | true ↦ record { fewer = omega arith; active = refl }
-        | false ↦ record { fewer = omega arith; active = refl }
-      ]
-
   acknowledged-outs : (w : World R) (s : ℕ) (answer : Answer) → Outs k w s (acknowledged k w s answer)
   unfolding acknowledged
   acknowledged-outs w s (Done-answer v) = outs w s _ (stays_here k w s)
@@ -407,7 +477,7 @@ module _ {R : Type 0} (k : RecordRules R) (lawful : IsLawful k) where
   unfolding idle at called
   called_outs call w s out o = record { fewer = o.fewer; active = o.active }
 
-  pub write_device-outs : (answers : List Answer) (w : World R) (s : ℕ) (v : Value) → Outs k w s (write_device k answers w s v)
+  pub write_device-outs : (answers : Answers) (w : World R) (s : ℕ) (v : Value) → Outs k w s (write_device k answers w s v)
   unfolding write_device
   write_device-outs answers w s v =
       let call = next_call k answers w s (Write-ask v) in
@@ -416,7 +486,7 @@ module _ {R : Type 0} (k : RecordRules R) (lawful : IsLawful k) where
         | false ↦ acknowledged-outs w s Fault-answer
       ]
 
-  module _ (answers : List Answer) (bound : ℕ) (ask other : World R → ℕ → Done R) (asks : Asks k bound ask other) where
+  module _ (answers : Answers) (bound : ℕ) (ask other : World R → ℕ → Done R) (asks : Asks k bound ask other) where
     pub input-reads : (w : World R) (s : ℕ) (want : Want) → Room k bound w s → Reads k w s (input k answers ask w s want)
     unfolding input
     input-reads w s NoInput room = reads w s _ (stays_here k w s)
@@ -508,8 +578,8 @@ module _ {R : Type 0} (k : RecordRules R) (lawful : IsLawful k) where
     pub judged-fewer : (w : World R) (s : ℕ) → (common_at k w s).active ≡ false → idle k w ≤ bound → idle k (judged k answers ask w s).world ≤ idle k w
     unfolding judged
     judged-fewer w s inactive room =
-        elim (is_disabled (common_at k w s)) as (λ b. idle k (cond {A = Ran R} b (record { world = changed k w s disabled; requests = None; outcome = Disabled }) (processed (body k answers ask w s))).world ≤ idle k w) [
-          | true ↦ (stays-changed w s disabled (disabled-active _)).fewer
+        elim (is_disabled (common_at k w s)) as (λ b. idle k (cond {A = Ran R} b (record { world = changed k (notified k w s) s disabled; requests = None; outcome = Disabled }) (processed (body k answers ask w s))).world ≤ idle k w) [
+          | true ↦ omega (arith, notified-idle w s, (stays-changed (notified k w s) s disabled (disabled-active _)).fewer)
           | false ↦ body-fewer w s inactive room
         ]
 
@@ -567,7 +637,7 @@ module _ {R : Type 0} (k : RecordRules R) (lawful : IsLawful k) where
           | false ↦ λ inactive. begun-same w s inactive room
         ] refl
 
-  module _ (answers : List Answer) where
+  module _ (answers : Answers) where
     nested-asks : (n m bound : ℕ) → bound ≤ n → bound ≤ m → Asks k bound (nested k answers n) (nested k answers m)
     unfolding nested
     nested-asks zero m bound small _ = record { same = λ w s h. absurd (omega arith); fewer = λ w s h. absurd (omega arith) }

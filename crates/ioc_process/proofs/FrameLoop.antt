@@ -1,6 +1,5 @@
 -- One turn of the loop over frames.
 use Rattle.std.proofs.Common.{◌≡◌, ℕ, List, [], ◌∷◌, length, refl, sym, subst, ◌∙◌, arith}
-use Rattle.ioc_device.specs.declared.Answer.{Answer}
 use Rattle.ioc_ledger.specs.declared.tally.Tally.{Tally}
 use Rattle.ioc_record.specs.RecordRules.{RecordRules}
 use Rattle.ioc_record.specs.Laws.{IsLawful}
@@ -16,6 +15,7 @@ use Rattle.ioc_ledger.specs.Requests.{counted_one}
 use Rattle.ioc_process.specs.Runs.{Comes}
 use Rattle.ioc_process.proofs.FrameTurns.{opened_first, now, turn_now}
 use Rattle.ioc_process.proofs.FrameSteps.{goes-on, goes-popped}
+use Rattle.ioc_process.specs.Given.{Answers}
 
 pub goes_here : {R : Type 0} (before : Tally) (done : Ran R) → Goes before before done done
 goes_here before done = record { world = refl; outcome = refl; tally = refl }
@@ -38,7 +38,7 @@ module _ {R : Type 0} (k : RecordRules R) where
   all-keep w after [] keeps stands = tt
   all-keep w after (frame ∷ frames) keeps stands = (frame-keeps w after frame keeps stands.0, all-keep w after frames keeps stands.1)
 
-module _ {R : Type 0} (k : RecordRules R) (lawful : IsLawful k) (answers : List Answer) (before counts : Tally) (done : Ran R) (w after : World R) (frames : List Frame) (turn : Turn) where
+module _ {R : Type 0} (k : RecordRules R) (lawful : IsLawful k) (answers : Answers) (before counts : Tally) (done : Ran R) (w after : World R) (frames : List Frame) (turn : Turn) where
   -- a request began, and its record came to a turn
   pub goes-called : (target : ℕ) → Goes before counts done (then_frames k answers (now k answers w frames (Requests target)) frames) →
       called_by k answers w (newest_of frames) target ≡ after_turn k answers after turn
@@ -61,6 +61,6 @@ empty_of_length [] is = refl
 empty_of_length (frame ∷ frames) is = absurd (omega arith)
 
 -- no frame is open and nothing is left
-pub comes-ended : {R : Type 0} (k : RecordRules R) (answers : List Answer) (before counts : Tally) (done : Ran R) (w : World R) (outcome : Outcome)
+pub comes-ended : {R : Type 0} (k : RecordRules R) (answers : Answers) (before counts : Tally) (done : Ran R) (w : World R) (outcome : Outcome)
     → Goes before counts done (now k answers w [] (Ends outcome)) → Comes w before counts outcome done
 comes-ended k answers before counts done w outcome goes = record { world = sym goes.world; outcome = sym goes.outcome; tally = sym goes.tally }

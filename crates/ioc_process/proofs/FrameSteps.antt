@@ -4,7 +4,6 @@ use Rattle.std.specs.Prelude.{slice_get, drop}
 use Rattle.ioc_fields.specs.Names.{all_slots}
 use Rattle.ioc_fields.specs.declared.field_no.Slot.{Slot}
 use Rattle.ioc_values.specs.declared.value.Finished.{Finished}
-use Rattle.ioc_device.specs.declared.Answer.{Answer}
 use Rattle.ioc_ledger.specs.declared.tally.Tally.{Tally}
 use Rattle.ioc_ledger.specs.declared.outcome.Outcome.{Outcome}
 use Rattle.ioc_ledger.specs.declared.outcome.Outcome.TheVariants.{Processed, Disabled, Reprocess}
@@ -35,7 +34,9 @@ use Rattle.ioc_process.specs.Frames.{asked_ran, after_disable, went_on, then_fin
 use Rattle.ioc_process.specs.Runs.{HasCome, IsStanding}
 use Rattle.ioc_process.proofs.Worlds.{idle-changed, common_at-changed, at-put_same}
 use Rattle.ioc_process.proofs.Depth.{request-rule, rested-idle, room-shown, shown-active, value_came-stays}
-use Rattle.ioc_process.proofs.Keeping.{keeps_on, keeps-changed, sent-keeps, value_came-keeps}
+use Rattle.ioc_process.proofs.Keeping.{keeps_on, keeps-changed, sent-keeps, value_came-keeps, notified-keeps}
+use Rattle.ioc_process.specs.Given.{Answers}
+use Rattle.ioc_process.specs.Notifying.{passed_on, notified}
 
 followed_by-assoc : (a b c : Requests) → followed_by (followed_by a b) c ≡ followed_by a (followed_by b c)
 followed_by-assoc None b c = refl
@@ -99,26 +100,27 @@ module _ {R : Type 0} (k : RecordRules R) (lawful : IsLawful k) where
   pub rested-keeps : (w : World R) (s : ℕ) → Has w s → Keeps k w (rested k w s)
   unfolding rested
   rested-keeps w s there =
-      let first = keeps-changed k lawful w s there at_rest (λ c. (refl, refl)) in
-      elim (common_at k w s).reprocess as (λ b. Keeps k w (cond b (sent (Once s) (changed k w s at_rest)) (changed k w s at_rest))) [
+      let told = notified-keeps k lawful w s there in
+      let first = keeps_on k told (keeps-changed k lawful (notified k w s) s (told.has s there) at_rest (λ c. (refl, refl))) in
+      elim (common_at k w s).reprocess as (λ b. Keeps k w (cond b (sent (Once s) (changed k (notified k w s) s at_rest)) (changed k (notified k w s) s at_rest))) [
         | true ↦ keeps_on k first (sent-keeps k lawful (Once s) _)
         | false ↦ first
       ]
 
   -- a request of a record by one that is active, as it is told of the request alone
-  pub asked-ran : (answers : List Answer) (w : World R) (s t : ℕ) → asked k (request k answers) w s t ≡ as_request (asked_ran k answers w s t)
+  pub asked-ran : (answers : Answers) (w : World R) (s t : ℕ) → asked k (request k answers) w s t ≡ as_request (asked_ran k answers w s t)
   unfolding asked asked_ran
   asked-ran answers w s t =
       let by_put = (common_at k w s).by_put in
       elim (is_put_down by_put (common_at k w t)) as (λ b.
-      cond {A = Done R} b (record { world = changed k w t put_down; requests = Request Reprocess None None }) (request k answers (changed k w t (put_mark_passed by_put)) t)
-      ≡ as_request (cond {A = Ran R} b (record { world = changed k w t put_down; requests = None; outcome = Reprocess }) (ran k answers (changed k w t (put_mark_passed by_put)) t))) [
+      cond {A = Done R} b (record { world = changed k w t put_down; requests = Request Reprocess None None }) (request k answers (passed_on k (changed k w t (put_mark_passed by_put)) s t) t)
+      ≡ as_request (cond {A = Ran R} b (record { world = changed k w t put_down; requests = None; outcome = Reprocess }) (ran k answers (passed_on k (changed k w t (put_mark_passed by_put)) s t) t))) [
         | true ↦ refl
         | false ↦ request-rule k lawful answers _ t
       ]
 
   -- a link that is followed: a record is requested, or none is
-  pub followed-calls : (answers : List Answer) (w : World R) (s : ℕ) (link : LinkUse) (target : ℕ) → passive_named k w link ≡ Some target → followed k (request k answers) w s link ≡ caused k (request k answers) w s target
+  pub followed-calls : (answers : Answers) (w : World R) (s : ℕ) (link : LinkUse) (target : ℕ) → passive_named k w link ≡ Some target → followed k (request k answers) w s link ≡ caused k (request k answers) w s target
   unfolding followed
   followed-calls answers w s (Standing t) target is =
       elim (is_passive (common_at k w t.number)) as (λ b. cond b (Some t.number) Nothing_ ≡ Some target
@@ -130,7 +132,7 @@ module _ {R : Type 0} (k : RecordRules R) (lawful : IsLawful k) where
   followed-calls answers w s OwnDevice target is = absurd cc
   followed-calls answers w s Absent target is = absurd cc
 
-  pub followed-none : (answers : List Answer) (w : World R) (s : ℕ) (link : LinkUse) → passive_named k w link ≡ Nothing_ → followed k (request k answers) w s link ≡ record { world = w; requests = None }
+  pub followed-none : (answers : Answers) (w : World R) (s : ℕ) (link : LinkUse) → passive_named k w link ≡ Nothing_ → followed k (request k answers) w s link ≡ record { world = w; requests = None }
   unfolding followed
   followed-none answers w s (Standing t) is =
       elim (is_passive (common_at k w t.number)) as (λ b. cond b (Some t.number) Nothing_ ≡ Nothing_
@@ -154,7 +156,7 @@ module _ {R : Type 0} (k : RecordRules R) (lawful : IsLawful k) where
   passive_there w Absent target stands is = absurd cc
 
   -- a body that follows its forward link
-  pub finished-calls : (answers : List Answer) (w : World R) (s : ℕ) (target : ℕ) → passive_named k (ready w s) (use_of (common_at k (ready w s) s).forward_link) ≡ Some target →
+  pub finished-calls : (answers : Answers) (w : World R) (s : ℕ) (target : ℕ) → passive_named k (ready w s) (use_of (common_at k (ready w s) s).forward_link) ≡ Some target →
       processed (finished k (request k answers) w s) ≡ after_turn k answers (changed k (ready w s) s (with_active true)) (Calls (record { source = s; place = Following }) target)
   unfolding finished caused after_turn then_frame went_on ran_after
   finished-calls answers w s target is =
@@ -165,17 +167,17 @@ module _ {R : Type 0} (k : RecordRules R) (lawful : IsLawful k) where
       (λ i. record { world = rested k (changed k next.world s (with_active true)) s; requests = sym (followed_by-none next.requests) i; outcome = Processed })
 
   -- a body that has no link to follow
-  pub finished-ends : (answers : List Answer) (w : World R) (s : ℕ) → passive_named k (ready w s) (use_of (common_at k (ready w s) s).forward_link) ≡ Nothing_ →
+  pub finished-ends : (answers : Answers) (w : World R) (s : ℕ) → passive_named k (ready w s) (use_of (common_at k (ready w s) s).forward_link) ≡ Nothing_ →
       processed (finished k (request k answers) w s) ≡ after_turn k answers (rested k (ready w s) s) (Ended Processed)
   unfolding finished after_turn
   finished-ends answers w s none = ap (λ (d : Done R). record { world = rested k d.world s; requests = d.requests; outcome = Processed }) (followed-none answers (ready w s) s _ none)
 
   -- a body that finishes with nothing before it
-  pub then_finished-none : (answers : List Answer) (w : World R) (s : ℕ) → then_finished k answers s (record { world = w; requests = None }) ≡ finished k (request k answers) w s
+  pub then_finished-none : (answers : Answers) (w : World R) (s : ℕ) → then_finished k answers s (record { world = w; requests = None }) ≡ finished k (request k answers) w s
   unfolding then_finished
   then_finished-none answers w s = refl
 
-  then_finished-after : (answers : List Answer) (s : ℕ) (first : Requests) (rest : Done R) → then_finished k answers s (record { world = rest.world; requests = followed_by first rest.requests })
+  then_finished-after : (answers : Answers) (s : ℕ) (first : Requests) (rest : Done R) → then_finished k answers s (record { world = rest.world; requests = followed_by first rest.requests })
       ≡ record { world = (then_finished k answers s rest).world; requests = followed_by first (then_finished k answers s rest).requests }
   unfolding then_finished
   then_finished-after answers s first rest =
@@ -183,26 +185,26 @@ module _ {R : Type 0} (k : RecordRules R) (lawful : IsLawful k) where
       ap (λ (r : Requests). record { world = last.world; requests = r }) (followed_by-assoc first rest.requests last.requests)
 
   -- a body that has taken what came
-  pub completed-taken : (answers : List Answer) (w : World R) (s : ℕ) (got : Got) (output : Output) {left : Ran R} → k.output (at k w s) got ≡ output
+  pub completed-taken : (answers : Answers) (w : World R) (s : ℕ) (got : Got) (output : Output) {left : Ran R} → k.output (at k w s) got ≡ output
       → processed (after_output k (request k answers) s (put_out k answers (request k answers) (put w s (k.taken (at k w s) got)) s output)) ≡ left → processed (completed k answers (request k answers) w s got) ≡ left
   unfolding completed
   completed-taken answers w s got output is left =
       ap (λ (o : Output). processed (after_output k (request k answers) s (put_out k answers (request k answers) (put w s (k.taken (at k w s) got)) s o))) is ∙ left
 
   -- an output after which the body goes on now, and one after which it doesn't
-  pub output-on : (answers : List Answer) (s : ℕ) (out : PutOut R) → out.goes_on ≡ true → after_output k (request k answers) s out ≡ then_finished k answers s (record { world = out.world; requests = out.requests })
+  pub output-on : (answers : Answers) (s : ℕ) (out : PutOut R) → out.goes_on ≡ true → after_output k (request k answers) s out ≡ then_finished k answers s (record { world = out.world; requests = out.requests })
   unfolding after_output then_finished
   output-on answers s out is =
       ap (λ (b : Bool). let rest = finished_if k (request k answers) out.world s b in record { world = rest.world; requests = followed_by out.requests rest.requests }) is
 
-  pub output-waits : (answers : List Answer) (s : ℕ) (out : PutOut R) → out.goes_on ≡ false → out.requests ≡ None → processed (after_output k (request k answers) s out) ≡ after_turn k answers out.world (Ended Processed)
+  pub output-waits : (answers : Answers) (s : ℕ) (out : PutOut R) → out.goes_on ≡ false → out.requests ≡ None → processed (after_output k (request k answers) s out) ≡ after_turn k answers out.world (Ended Processed)
   unfolding after_output after_turn
   output-waits answers s out is none =
       ap (λ (b : Bool). let rest = finished_if k (request k answers) out.world s b in processed (record { world = rest.world; requests = followed_by out.requests rest.requests })) is
       ∙ ap (λ (r : Requests). processed (record { world = out.world; requests = followed_by r None })) none
 
   -- a body that has written and requests the record: it finishes afterwards
-  pub writing-calls : (answers : List Answer) (w : World R) (s : ℕ) (target : ℕ) → (common_at k w s).active ≡ false →
+  pub writing-calls : (answers : Answers) (w : World R) (s : ℕ) (target : ℕ) → (common_at k w s).active ≡ false →
       processed (then_finished k answers s (caused k (request k answers) w s target)) ≡ after_turn k answers (changed k w s (with_active true)) (Calls (record { source = s; place = Writing }) target)
   unfolding then_finished caused after_turn then_frame went_on ran_after
   writing-calls answers w s target inactive = rw (inactive, asked-ran answers (changed k w s (with_active true)) s target) refl
@@ -224,12 +226,12 @@ module _ {R : Type 0} (k : RecordRules R) (lawful : IsLawful k) where
   unfolding remaining chosen_links
   remaining-all links = refl
 
-  pub each-none : (answers : List Answer) (w : World R) (s : ℕ) (slot : Slot) (slots : List Slot) → passive_named k w (link_at k w s slot) ≡ Nothing_ →
+  pub each-none : (answers : Answers) (w : World R) (s : ℕ) (slot : Slot) (slots : List Slot) → passive_named k w (link_at k w s slot) ≡ Nothing_ →
       followed_each k (request k answers) w s (slot ∷ slots) ≡ followed_each k (request k answers) w s slots
   unfolding followed_each
   each-none answers w s slot slots none = rw (followed-none answers w s (link_at k w s slot) none) refl
 
-  pub each-calls : (answers : List Answer) (w : World R) (s links next : ℕ) (slot : Slot) (target : ℕ) → (common_at k w s).active ≡ false → passive_named k w (link_at k w s slot) ≡ Some target →
+  pub each-calls : (answers : Answers) (w : World R) (s links next : ℕ) (slot : Slot) (target : ℕ) → (common_at k w s).active ≡ false → passive_named k w (link_at k w s slot) ≡ Some target →
       processed (then_finished k answers s (followed_each k (request k answers) w s (slot ∷ remaining links next)))
       ≡ after_turn k answers (changed k w s (with_active true)) (Calls (record { source = s; place = FollowingEach links next }) target)
   unfolding followed_each caused after_turn then_frame went_on ran_after
@@ -240,7 +242,7 @@ module _ {R : Type 0} (k : RecordRules R) (lawful : IsLawful k) where
       let rest = followed_each k (request k answers) back s (remaining links next) in
       rw (followed-calls answers w s (link_at k w s slot) target is, inactive, asked-ran answers mid s target) (ap (λ (d : Done R). processed d) (then_finished-after answers s done.requests rest))
 
-  one_frame : (answers : List Answer) (before counts : Tally) (ran left : Ran R) (frame : Frame) → Goes before counts ran left
+  one_frame : (answers : Answers) (before counts : Tally) (ran left : Ran R) (frame : Frame) → Goes before counts ran left
       → Goes before counts (then_frame k answers (as_request ran) frame) (then_frame k answers (as_request left) frame)
   unfolding then_frame ran_after
   one_frame answers before counts ran left frame goes = record {
@@ -252,13 +254,13 @@ module _ {R : Type 0} (k : RecordRules R) (lawful : IsLawful k) where
   }
 
   -- frames carry on from what the code has done
-  pub goes-on : (answers : List Answer) (before counts : Tally) (frames : List Frame) (ran left : Ran R) → Goes before counts ran left → Goes before counts (then_frames k answers ran frames) (then_frames k answers left frames)
+  pub goes-on : (answers : Answers) (before counts : Tally) (frames : List Frame) (ran left : Ran R) → Goes before counts ran left → Goes before counts (then_frames k answers ran frames) (then_frames k answers left frames)
   goes-on answers before counts [] ran left goes = goes
   goes-on answers before counts (frame ∷ frames) ran left goes =
       goes-on answers before counts frames (then_frame k answers (as_request ran) frame) (then_frame k answers (as_request left) frame) (one_frame answers before counts ran left frame goes)
 
   -- the request that a frame waited for is done, and counted
-  pub goes-popped : (answers : List Answer) (counts new_counts : Tally) (w : World R) (frame : Frame) (outcome : Outcome) → new_counts ≡ counted_one counts outcome
+  pub goes-popped : (answers : Answers) (counts new_counts : Tally) (w : World R) (frame : Frame) (outcome : Outcome) → new_counts ≡ counted_one counts outcome
       → Goes counts new_counts (then_frame k answers (as_request (record { world = w; requests = None; outcome = outcome })) frame) (went_on k answers w frame.source frame.place)
   unfolding then_frame ran_after
   goes-popped answers counts new_counts w frame outcome one =
@@ -293,20 +295,20 @@ module _ {R : Type 0} (k : RecordRules R) (lawful : IsLawful k) where
       )
 
   -- a body by its input
-  pub body-input : (answers : List Answer) (w : World R) (s : ℕ) (want : Want) → k.begin (at k w s) ≡ want →
+  pub body-input : (answers : Answers) (w : World R) (s : ℕ) (want : Want) → k.begin (at k w s) ≡ want →
       body k answers (request k answers) w s ≡ after_reading k answers s (input k answers (request k answers) w s want)
   unfolding body after_reading
   body-input answers w s want is = ap (λ (it : Want). after_reading k answers s (input k answers (request k answers) w s it)) is
 
   -- an input that came and caused nothing
-  pub after_reading-came : (answers : List Answer) (s : ℕ) (reading : Reading R) (got : Got) → reading.came ≡ Some got → reading.requests ≡ None →
+  pub after_reading-came : (answers : Answers) (s : ℕ) (reading : Reading R) (got : Got) → reading.came ≡ Some got → reading.requests ≡ None →
       after_reading k answers s reading ≡ completed k answers (request k answers) reading.world s got
   unfolding after_reading
   after_reading-came answers s reading got came none =
       ap (λ (o : Option Got). let rest = completed_if k answers (request k answers) reading.world s o in record { world = rest.world; requests = followed_by reading.requests rest.requests }) came
       ∙ ap (λ r. record { world = (completed k answers (request k answers) reading.world s got).world; requests = followed_by r (completed k answers (request k answers) reading.world s got).requests }) none
 
-  pub after_reading-none : (answers : List Answer) (s : ℕ) (reading : Reading R) → reading.came ≡ Nothing_ → reading.requests ≡ None →
+  pub after_reading-none : (answers : Answers) (s : ℕ) (reading : Reading R) → reading.came ≡ Nothing_ → reading.requests ≡ None →
       processed (after_reading k answers s reading) ≡ after_turn k answers reading.world (Ended Processed)
   unfolding after_reading after_turn
   after_reading-none answers s reading came none =
@@ -314,26 +316,26 @@ module _ {R : Type 0} (k : RecordRules R) (lawful : IsLawful k) where
       ∙ ap (λ r. processed (record { world = reading.world; requests = followed_by r None })) none
 
   -- a link with PP: the record that it names is requested first
-  pub after_reading-calls : (answers : List Answer) (w : World R) (s : ℕ) (t : StandingLink) → requests_first k w t ≡ true → (common_at k w s).active ≡ false →
+  pub after_reading-calls : (answers : Answers) (w : World R) (s : ℕ) (t : StandingLink) → requests_first k w t ≡ true → (common_at k w s).active ≡ false →
       processed (after_reading k answers s (as_input (read_record k (request k answers) k.input_kind w s t)))
       ≡ after_turn k answers (changed k w s (with_active true)) (Calls (record { source = s; place = Reading-place t }) t.number)
   unfolding after_reading after_turn then_frame went_on read_record prepared caused ran_after read_at
   after_reading-calls answers w s t passive inactive = rw (passive, inactive, asked-ran answers (changed k w s (with_active true)) s t.number) refl
 
-  pub after_reading-plain : (answers : List Answer) (w : World R) (s : ℕ) (t : StandingLink) → requests_first k w t ≡ false →
+  pub after_reading-plain : (answers : Answers) (w : World R) (s : ℕ) (t : StandingLink) → requests_first k w t ≡ false →
       after_reading k answers s (as_input (read_record k (request k answers) k.input_kind w s t))
       ≡ completed k answers (request k answers) (read_at k k.input_kind w s t).world s (read_at k k.input_kind w s t).came
   unfolding after_reading read_record prepared read_at
   after_reading-plain answers w s t passive = rw passive refl
 
   -- a request that reads SDIS
-  pub after_disable-calls : (answers : List Answer) (w : World R) (s : ℕ) (t : StandingLink) → requests_first k w t ≡ true → (common_at k w s).active ≡ false →
+  pub after_disable-calls : (answers : Answers) (w : World R) (s : ℕ) (t : StandingLink) → requests_first k w t ≡ true → (common_at k w s).active ≡ false →
       after_disable k answers s (read_record k (request k answers) (λ _. disable_kind) w s t)
       ≡ after_turn k answers (changed k w s (with_active true)) (Calls (record { source = s; place = ReadingDisable t }) t.number)
   unfolding after_disable after_turn then_frame went_on read_record prepared caused read_at
   after_disable-calls answers w s t passive inactive = rw (passive, inactive, asked-ran answers (changed k w s (with_active true)) s t.number) refl
 
-  pub after_disable-plain : (answers : List Answer) (w : World R) (s : ℕ) (t : StandingLink) → requests_first k w t ≡ false →
+  pub after_disable-plain : (answers : Answers) (w : World R) (s : ℕ) (t : StandingLink) → requests_first k w t ≡ false →
       after_disable k answers s (read_record k (request k answers) (λ _. disable_kind) w s t)
       ≡ (let read = read_at k (λ _. disable_kind) w s t in judged k answers (request k answers) (disable_came k read.world s read.came) s)
   unfolding after_disable read_record prepared read_at ran_after
@@ -345,45 +347,45 @@ module _ {R : Type 0} (k : RecordRules R) (lawful : IsLawful k) where
   came_read kind w mid s t got to is came = subst (λ (x : InputKind). HasCome mid got (value_came k w s t (read_as k (at k w t.number) t.field x))) is came
 
   -- what came through a link, as the code has it
-  pub came-completed : (answers : List Answer) (mid : World R) (s : ℕ) (got : Got) (read : Came R) (left : Ran R) → HasCome mid got read
+  pub came-completed : (answers : Answers) (mid : World R) (s : ℕ) (got : Got) (read : Came R) (left : Ran R) → HasCome mid got read
       → processed (completed k answers (request k answers) mid s got) ≡ left → processed (completed k answers (request k answers) read.world s read.came) ≡ left
   came-completed answers mid s got read left came is =
       ap (λ (v : World R). processed (completed k answers (request k answers) v s read.came)) (sym came.world) ∙ ap (λ (x : Got). processed (completed k answers (request k answers) mid s x)) (sym came.came) ∙ is
 
-  pub came-judged : (answers : List Answer) (mid : World R) (s : ℕ) (got : Got) (read : Came R) (left : Ran R) → HasCome mid got read
+  pub came-judged : (answers : Answers) (mid : World R) (s : ℕ) (got : Got) (read : Came R) (left : Ran R) → HasCome mid got read
       → judged k answers (request k answers) (disable_came k mid s got) s ≡ left → judged k answers (request k answers) (disable_came k read.world s read.came) s ≡ left
   came-judged answers mid s got read left came is =
       ap (λ (v : World R). judged k answers (request k answers) (disable_came k v s read.came) s) (sym came.world) ∙ ap (λ (x : Got). judged k answers (request k answers) (disable_came k mid s x) s) (sym came.came) ∙ is
 
   -- a request of an idle record, by what SDIS comes to
-  pub begun-reads : (answers : List Answer) (w ready : World R) (s : ℕ) (link : LinkUse) → ready ≡ changed k w s unblocked → link ≡ use_of (common_at k ready s).disable_link
+  pub begun-reads : (answers : Answers) (w ready : World R) (s : ℕ) (link : LinkUse) → ready ≡ changed k w s unblocked → link ≡ use_of (common_at k ready s).disable_link
       → begun_idle k answers (request k answers) w s ≡ after_disable k answers s (read_link k (request k answers) (λ _. disable_kind) ready s link)
   unfolding begun_idle after_disable
   begun-reads answers w ready s link r is = rw (← r, ← is) refl
 
-  pub after_disable-unused : (answers : List Answer) (w : World R) (s : ℕ) → after_disable k answers s (read_link k (request k answers) (λ _. disable_kind) w s Unused) ≡ judged k answers (request k answers) w s
+  pub after_disable-unused : (answers : Answers) (w : World R) (s : ℕ) → after_disable k answers s (read_link k (request k answers) (λ _. disable_kind) w s Unused) ≡ judged k answers (request k answers) w s
   unfolding after_disable read_link ran_after disable_came
   after_disable-unused answers w s = refl
 
-  pub after_disable-faulted : (answers : List Answer) (w : World R) (s : ℕ) (link : LinkUse) → read_link k (request k answers) (λ _. disable_kind) w s link ≡ record { world = faulted k w s; requests = None; came = Got-fault }
+  pub after_disable-faulted : (answers : Answers) (w : World R) (s : ℕ) (link : LinkUse) → read_link k (request k answers) (λ _. disable_kind) w s link ≡ record { world = faulted k w s; requests = None; came = Got-fault }
       → after_disable k answers s (read_link k (request k answers) (λ _. disable_kind) w s link) ≡ judged k answers (request k answers) (faulted k w s) s
   unfolding after_disable ran_after disable_came
   after_disable-faulted answers w s link is = ap (λ (read : Read R). after_disable k answers s read) is
 
-  pub judged-off : (answers : List Answer) (w : World R) (s : ℕ) → is_disabled (common_at k w s) ≡ true → judged k answers (request k answers) w s ≡ after_turn k answers (changed k w s disabled) (Ended Disabled)
+  pub judged-off : (answers : Answers) (w : World R) (s : ℕ) → is_disabled (common_at k w s) ≡ true → judged k answers (request k answers) w s ≡ after_turn k answers (changed k (notified k w s) s disabled) (Ended Disabled)
   unfolding judged after_turn
   judged-off answers w s is = rw is refl
 
-  pub judged-on : (answers : List Answer) (w : World R) (s : ℕ) → is_disabled (common_at k w s) ≡ false → judged k answers (request k answers) w s ≡ processed (body k answers (request k answers) w s)
+  pub judged-on : (answers : Answers) (w : World R) (s : ℕ) → is_disabled (common_at k w s) ≡ false → judged k answers (request k answers) w s ≡ processed (body k answers (request k answers) w s)
   unfolding judged
   judged-on answers w s is = rw is refl
 
-  pub asked_ran-later : (answers : List Answer) (w : World R) (s t : ℕ) → is_put_down (common_at k w s).by_put (common_at k w t) ≡ true → asked_ran k answers w s t ≡ after_turn k answers (changed k w t put_down) (Ended Reprocess)
+  pub asked_ran-later : (answers : Answers) (w : World R) (s t : ℕ) → is_put_down (common_at k w s).by_put (common_at k w t) ≡ true → asked_ran k answers w s t ≡ after_turn k answers (changed k w t put_down) (Ended Reprocess)
   unfolding asked_ran after_turn
   asked_ran-later answers w s t is = rw is refl
 
-  pub asked_ran-now : (answers : List Answer) (w : World R) (s t : ℕ) → is_put_down (common_at k w s).by_put (common_at k w t) ≡ false
-      → asked_ran k answers w s t ≡ ran k answers (changed k w t (put_mark_passed (common_at k w s).by_put)) t
+  pub asked_ran-now : (answers : Answers) (w : World R) (s t : ℕ) → is_put_down (common_at k w s).by_put (common_at k w t) ≡ false
+      → asked_ran k answers w s t ≡ ran k answers (passed_on k (changed k w t (put_mark_passed (common_at k w s).by_put)) s t) t
   unfolding asked_ran
   asked_ran-now answers w s t is = rw is refl
 

@@ -3,7 +3,6 @@ use Rattle.std.proofs.Common.{◌≡◌, ℕ, zero, suc, subst, sym, ◌+◌, Li
 use Rattle.std.proofs.lemmas.List.{reverse-append, reverse-reverse, length_push}
 use Rattle.std.specs.List.{last_or}
 use Rattle.std.specs.Prelude.{slice_get, ◌-◌}
-use Rattle.ioc_device.specs.declared.Answer.{Answer}
 use Rattle.ioc_ledger.specs.Requests.{None}
 use Rattle.ioc_record.specs.RecordRules.{RecordRules}
 use Rattle.ioc_process.specs.declared.frames.Frame.{Frame}
@@ -13,6 +12,7 @@ use Rattle.ioc_process.specs.declared.frames.Next.{Next}
 use Rattle.ioc_process.specs.declared.frames.Next.TheVariants.{Requests, Ends}
 use Rattle.ioc_ledger.specs.declared.outcome.Outcome.{Outcome}
 use Rattle.ioc_process.specs.Frames.{Turn, Ended, Calls, newest_of, waits_with, turn_of, next_of, opened, Opens, calls, called_by, after_turn, then_frames, FrameStands, AllStand, TurnStands}
+use Rattle.ioc_process.specs.Given.{Answers}
 
 -- the open frames after a turn, the newest first
 abbrev pub opened_first : List Frame → Turn → List Frame
@@ -62,7 +62,7 @@ pub all_stand : {R : Type 0} (w : World R) (frames : List Frame) (turn : Turn) �
 all_stand w frames (Ended outcome) stands all = all
 all_stand w frames (Calls frame target) stands all = (stands.0, all)
 
-module _ {R : Type 0} (k : RecordRules R) (answers : List Answer) where
+module _ {R : Type 0} (k : RecordRules R) (answers : Answers) where
   -- what comes next leads to
   abbrev pub now : World R → List Frame → Next → Ran R
   now w frames (Ends outcome) = record { world = w; requests = None; outcome = outcome }
@@ -74,7 +74,7 @@ module _ {R : Type 0} (k : RecordRules R) (answers : List Answer) where
   turn_now w frames (Ended outcome) = refl
   turn_now w frames (Calls frame target) = refl
 
-module _ {R : Type 0} (k : RecordRules R) (answers : List Answer) where
+module _ {R : Type 0} (k : RecordRules R) (answers : Answers) where
   -- a turn that was taken where no frame was open
   pub begun_now : (w : World R) (frames : List Frame) (first : Next) → Opens [] frames first
       → after_turn k answers w (turn_of frames first) ≡ then_frames k answers (now k answers w (reverse frames) first) (reverse frames)

@@ -1,5 +1,5 @@
 -- What requests leave alone: which records there are, and what their links name.
-use Rattle.std.proofs.Common.{◌≡◌, ◌≢◌, ℕ, Bool, true, false, cond, eqb, List, [], ◌∷◌, length, refl, ap, subst, ◌∙◌, arith}
+use Rattle.std.proofs.Common.{◌≡◌, ◌≢◌, ℕ, Bool, true, false, cond, eqb, List, [], ◌∷◌, length, refl, ap, subst, ◌∙◌, arith, Some, None as Nothing_}
 use Rattle.std.proofs.lemmas.Grind.{common_steps}
 use Rattle.std.specs.Prelude.{Result, Ok, Err, Contains, nat_lt, ◌++◌}
 use Rattle.ioc_values.specs.declared.value.Value.{Value}
@@ -14,18 +14,24 @@ use Rattle.ioc_values.specs.declared.value.Finished.{Finished}
 use Rattle.ioc_process.specs.Marks.{with_disable_input, resumed}
 use Rattle.ioc_process.specs.declared.call.Call.{Call}
 use Rattle.ioc_device.specs.declared.Answer.TheVariants.{Done as Done-answer, Fault as Fault-answer, Later}
-use Rattle.ioc_common.specs.Steps.{with_active}
+use Rattle.ioc_common.specs.Steps.{with_active, change_numbered, with_notification}
 use Rattle.ioc_record.specs.RecordRules.{RecordRules}
 use Rattle.ioc_record.specs.Laws.{IsLawful}
 use Rattle.ioc_ledger.specs.Requests.{more}
 use Rattle.ioc_process.specs.declared.outbox.OutboxItem.{OutboxItem}
-use Rattle.ioc_process.specs.World.{World, Has, at, put, changed, SameLinks, Keeps, IsClosed, called, sent}
+use Rattle.ioc_process.specs.World.{World, Has, at, put, changed, SameLinks, Keeps, IsClosed, called, sent, lost, taken_on, let_go}
 use Rattle.ioc_process.specs.Processing.{inherits, value_came, wrote, faulted, device_gave, received, read_device, acknowledged, write_device, next_call, can_ask, request, ran, went_on_at_last, disable_came}
 use Rattle.ioc_process.proofs.StepFrames.{OwnLinks, targets_same, links-set, links-taken, links-finished, links-stored}
 use Rattle.ioc_process.proofs.Worlds.{at-put_same, at-put_other, has-put, has-put_back, len-put}
 use Rattle.ioc_process.specs.Links.{handed_on}
 use Rattle.ioc_process.proofs.Depth.{written_has}
 use Rattle.ioc_process.proofs.Alongside.{Guards, inherits-goes, value_came-goes, wrote-goes, request-goes, ran-goes, at_last-goes}
+use Rattle.ioc_process.specs.Given.{Answers}
+use Rattle.ioc_process.specs.Scanning.{moved, rescanned}
+use Rattle.ioc_process.proofs.ScanLaws.{moved-either, rescanned-either}
+use Rattle.ioc_fields.specs.declared.field_no.FieldNo.{FieldNo}
+use Rattle.ioc_process.specs.Notifying.{passed_on, notified}
+use Rattle.ioc_process.proofs.NotifyLaws.{passed-either, notified-either}
 
 -- the same record has the same links, and so has one after another
 pub same_links : {R : Type 0} (k : RecordRules R) (r : R) → SameLinks k r r
@@ -106,13 +112,37 @@ module _ {R : Type 0} (k : RecordRules R) (lawful : IsLawful k) where
         | false ↦ record { has = λ _ h. h; only = λ _ h. h; count = refl; links = λ n. record { fields = refl; links = refl } }
       ]
 
+  pub lost-keeps : (w : World R) → Keeps k w (lost w)
+  unfolding at lost
+  lost-keeps w = record { has = λ _ h. h; only = λ _ h. h; count = refl; links = λ n. record { fields = refl; links = refl } }
+
+  taken_on-keeps : (number : ℕ) (w : World R) → Keeps k w (taken_on number w)
+  unfolding at taken_on
+  taken_on-keeps number w = record { has = λ _ h. h; only = λ _ h. h; count = refl; links = λ n. record { fields = refl; links = refl } }
+
+  let_go-keeps : (number : ℕ) (w : World R) → Keeps k w (let_go number w)
+  unfolding at let_go
+  let_go-keeps number w = record { has = λ _ h. h; only = λ _ h. h; count = refl; links = λ n. record { fields = refl; links = refl } }
+
+  pub passed_on-keeps : (w : World R) (s t : ℕ) → Has w t → Keeps k w (passed_on k w s t)
+  passed_on-keeps w s t there = passed-either k (Keeps k w) w s t (keeps_all k w) (λ n. keeps_on k (keeps-changed w t there (with_notification (Some n)) (λ c. (refl, refl))) (taken_on-keeps n _))
+
+  pub notified-keeps : (w : World R) (s : ℕ) → Has w s → Keeps k w (notified k w s)
+  notified-keeps w s there = notified-either k (Keeps k w) w s (keeps_all k w) (λ n. keeps_on k (keeps-changed w s there (with_notification Nothing_) (λ c. (refl, refl))) (let_go-keeps n _))
+
+  pub moved-keeps : (w : World R) (n : ℕ) → Has w n → Keeps k w (moved k w n)
+  moved-keeps w n there = moved-either k (Keeps k w) w n (λ item. keeps_on k (keeps-changed w n there change_numbered (λ c. (refl, refl))) (sent-keeps item _)) (lost-keeps w)
+
+  pub rescanned-keeps : (w : World R) (n : ℕ) (field : FieldNo) → Has w n → Keeps k w (rescanned k w n field)
+  rescanned-keeps w n field there = rescanned-either k (Keeps k w) w n field (keeps_all k w) (moved-keeps w n there)
+
   acknowledged-keeps : (w : World R) (s : ℕ) → Has w s → (answer : Answer) → Keeps k w (acknowledged k w s answer).world
   unfolding acknowledged
   acknowledged-keeps w s there (Done-answer v) = keeps_all k w
   acknowledged-keeps w s there Fault-answer = keeps-changed w s there _ (λ c. (refl, refl))
   acknowledged-keeps w s there Later = keeps-changed w s there _ (λ c. (refl, refl))
 
-  pub write_device-keeps : (answers : List Answer) (w : World R) (s : ℕ) → Has w s → (v : Value) → Keeps k w (write_device k answers w s v).world
+  pub write_device-keeps : (answers : Answers) (w : World R) (s : ℕ) → Has w s → (v : Value) → Keeps k w (write_device k answers w s v).world
   unfolding write_device
   write_device-keeps answers w s there v =
       let call = next_call k answers w s (Write-ask v) in
@@ -121,7 +151,7 @@ module _ {R : Type 0} (k : RecordRules R) (lawful : IsLawful k) where
         | false ↦ acknowledged-keeps w s there Fault-answer
       ]
 
-  pub read_device-keeps : (answers : List Answer) (w : World R) (s : ℕ) → Has w s → Keeps k w (read_device k answers w s).world
+  pub read_device-keeps : (answers : Answers) (w : World R) (s : ℕ) → Has w s → Keeps k w (read_device k answers w s).world
   unfolding read_device
   read_device-keeps answers w s there =
       let call = next_call k answers w s Read-ask in
@@ -158,6 +188,9 @@ module _ {R : Type 0} (k : RecordRules R) (lawful : IsLawful k) where
       put = λ inv n may r good. (ap (λ (w : World R). put w n r) inv.0, put_kept k w0 _ n may r inv.1 good.1);
       call = λ inv one. (ap (called one) inv.0, keeps_on k inv.1 (called-keeps one _));
       send = λ inv item. (ap (sent item) inv.0, keeps_on k inv.1 (sent-keeps item _));
+      lose = λ inv. (ap lost inv.0, keeps_on k inv.1 (lost-keeps _));
+      take_on = λ inv number. (ap (taken_on number) inv.0, keeps_on k inv.1 (taken_on-keeps number _));
+      let_go = λ inv number. (ap (let_go number) inv.0, keeps_on k inv.1 (let_go-keeps number _));
     }
 
     start : KeptFrom w0 w0
@@ -172,11 +205,11 @@ module _ {R : Type 0} (k : RecordRules R) (lawful : IsLawful k) where
     pub wrote-keeps : (s : ℕ) → Has w0 s → (t : StandingLink) → Has w0 t.number → (v : Value) → Keeps k w0 (wrote k w0 s t v).world
     wrote-keeps s may t there v = (wrote-goes k lawful _ _ _ kept start s may t there v).inv.1
 
-    pub request-keeps : (answers : List Answer) (s : ℕ) → Has w0 s → Keeps k w0 (request k answers w0 s).world
+    pub request-keeps : (answers : Answers) (s : ℕ) → Has w0 s → Keeps k w0 (request k answers w0 s).world
     request-keeps answers s may = (request-goes k lawful _ _ _ kept answers start s may).inv.1
 
-    pub ran-keeps : (answers : List Answer) (s : ℕ) → Has w0 s → Keeps k w0 (ran k answers w0 s).world
+    pub ran-keeps : (answers : Answers) (s : ℕ) → Has w0 s → Keeps k w0 (ran k answers w0 s).world
     ran-keeps answers s may = (ran-goes k lawful _ _ _ kept answers start s may).inv.1
 
-    pub at_last-keeps : (answers : List Answer) (s : ℕ) → Has w0 s → (x : Finished) → Keeps k w0 (went_on_at_last k answers w0 s x).world
+    pub at_last-keeps : (answers : Answers) (s : ℕ) → Has w0 s → (x : Finished) → Keeps k w0 (went_on_at_last k answers w0 s x).world
     at_last-keeps answers s may x = (at_last-goes k lawful _ _ _ kept answers start s may x).inv.1

@@ -1,5 +1,8 @@
 mod Weights
 mod Worlds
+mod ScanLaws
+mod Living
+mod NotifyLaws
 mod StepFrames
 mod Named
 mod Depth
@@ -14,9 +17,11 @@ mod RulesLaws
 mod Stepping
 mod StepLaws
 mod Quieting
+mod LinkChanges
 mod QuietEvents
 mod LocalEvents
 mod FrameSteps
+mod Needs
 mod Writing
 mod FrameTurns
 mod Turning

@@ -1,19 +1,21 @@
 -- Requests look at the records that links lead to, and change these alone.
 use Rattle.std.proofs.Common.{◌≡◌, ◌≢◌, ℕ, Bool, true, false, cond, eqb, List, [], ◌∷◌, length, refl, sym, ap, subst, ◌∙◌, arith}
 use Rattle.std.proofs.lemmas.Grind.{common_steps}
-use Rattle.std.specs.Prelude.{Contains, nat_lt, ◌++◌}
+use Rattle.std.specs.Prelude.{Contains, nat_lt, ◌++◌, if◌then◌else◌}
 use Rattle.ioc_ledger.specs.Requests.{more}
 use Rattle.ioc_process.specs.declared.outbox.OutboxItem.{OutboxItem}
-use Rattle.ioc_device.specs.declared.Answer.{Answer}
 use Rattle.ioc_record.specs.RecordRules.{RecordRules, targets}
 use Rattle.ioc_record.specs.Laws.{IsLawful}
-use Rattle.ioc_process.specs.World.{World, at, put, called, sent}
+use Rattle.ioc_process.specs.World.{World, at, put, called, sent, lost, taken_on, let_go}
 use Rattle.ioc_process.specs.declared.call.Call.{Call}
 use Rattle.ioc_process.specs.Processing.{Done}
 use Rattle.ioc_process.specs.Local.{Shut, Same, Spares, Agree, RequestIsLocal}
 use Rattle.ioc_process.proofs.StepFrames.{targets-set, targets-taken, targets-finished, targets-stored}
 use Rattle.ioc_process.proofs.Worlds.{at-put_same, at-put_other}
 use Rattle.ioc_process.proofs.Alongside.{Guards, Goes, request-goes}
+use Rattle.ioc_process.specs.Given.{Answers}
+use Rattle.ioc_notify.specs.Living.{gained, lost as lost_by, is_at_its_last}
+use Rattle.ioc_notify.specs.declared.live_numbers.Live.{Live}
 
 module _ {R : Type 0} (k : RecordRules R) (U : ℕ → Type 0) (w0 v0 : World R) where
   -- the two worlds go on from w0 and v0
@@ -46,13 +48,13 @@ module _ {R : Type 0} (k : RecordRules R) (U : ℕ → Type 0) (w0 v0 : World R)
       (cond b (record v { outbox = v.outbox ++ item ∷ [] }) (record v { dropped = more v.dropped }))
   unfolding at
   sent_both w v item true inv = record {
-    same = record { moment = inv.same.moment; calls = inv.same.calls; outbox = ap (λ (l : List OutboxItem). l ++ item ∷ []) inv.same.outbox; dropped = inv.same.dropped; records = inv.same.records };
+    same = record { moment = inv.same.moment; calls = inv.same.calls; outbox = ap (λ (l : List OutboxItem). l ++ item ∷ []) inv.same.outbox; dropped = inv.same.dropped; live = inv.same.live; ended = inv.same.ended; records = inv.same.records };
     shut = record { shut = inv.shut.shut };
     spares = record { spared = inv.spares.spared };
     other_spares = record { spared = inv.other_spares.spared };
   }
   sent_both w v item false inv = record {
-    same = record { moment = inv.same.moment; calls = inv.same.calls; outbox = inv.same.outbox; dropped = ap more inv.same.dropped; records = inv.same.records };
+    same = record { moment = inv.same.moment; calls = inv.same.calls; outbox = inv.same.outbox; dropped = ap more inv.same.dropped; live = inv.same.live; ended = inv.same.ended; records = inv.same.records };
     shut = record { shut = inv.shut.shut };
     spares = record { spared = inv.spares.spared };
     other_spares = record { spared = inv.other_spares.spared };
@@ -63,6 +65,42 @@ module _ {R : Type 0} (k : RecordRules R) (U : ℕ → Type 0) (w0 v0 : World R)
   sent_along w v inv item =
       subst (λ (n : ℕ). Along (sent item w) (cond (nat_lt n 256) (record v { outbox = v.outbox ++ item ∷ [] }) (record v { dropped = more v.dropped })))
       (ap length inv.same.outbox) (sent_both w v item (nat_lt (length w.outbox) 256) inv)
+
+  lost_along : (w v : World R) → Along w v → Along (lost w) (lost v)
+  unfolding at lost
+  lost_along w v inv = record {
+    same = record { moment = inv.same.moment; calls = inv.same.calls; outbox = inv.same.outbox; dropped = ap more inv.same.dropped; live = inv.same.live; ended = inv.same.ended; records = inv.same.records };
+    shut = record { shut = inv.shut.shut };
+    spares = record { spared = inv.spares.spared };
+    other_spares = record { spared = inv.other_spares.spared };
+  }
+
+  taken_on_along : (w v : World R) → Along w v → (number : ℕ) → Along (taken_on number w) (taken_on number v)
+  unfolding at taken_on
+  taken_on_along w v inv number = record {
+    same = record { moment = inv.same.moment; calls = inv.same.calls; outbox = inv.same.outbox; dropped = inv.same.dropped; live = ap (gained number) inv.same.live; ended = inv.same.ended; records = inv.same.records };
+    shut = record { shut = inv.shut.shut };
+    spares = record { spared = inv.spares.spared };
+    other_spares = record { spared = inv.other_spares.spared };
+  }
+
+  let_go_along : (w v : World R) → Along w v → (number : ℕ) → Along (let_go number w) (let_go number v)
+  unfolding at let_go
+  let_go_along w v inv number = record {
+    same = record {
+      moment = inv.same.moment;
+      calls = inv.same.calls;
+      outbox = inv.same.outbox;
+      dropped = inv.same.dropped;
+      live = ap (lost_by number) inv.same.live;
+      ended = ap (λ (l : List Live). if is_at_its_last number l then w.ended ++ number ∷ [] else w.ended) inv.same.live
+          ∙ ap (λ (e : List ℕ). if is_at_its_last number v.live then e ++ number ∷ [] else e) inv.same.ended;
+      records = inv.same.records;
+    };
+    shut = record { shut = inv.shut.shut };
+    spares = record { spared = inv.spares.spared };
+    other_spares = record { spared = inv.other_spares.spared };
+  }
 
   pub guards : IsLawful k → Guards k U Within Along
   unfolding at put called
@@ -77,7 +115,7 @@ module _ {R : Type 0} (k : RecordRules R) (U : ℕ → Type 0) (w0 v0 : World R)
     finished = λ good x target links. good target (subst (λ (l : List ℕ). Contains l target) (targets-finished k lawful _ x) links);
     stored = λ good f x target links. good target (subst (λ (l : List ℕ). Contains l target) (targets-stored k lawful _ f x) links);
     put = λ {w} {v} inv n may r good. record {
-      same = record { moment = inv.same.moment; calls = inv.same.calls; outbox = inv.same.outbox; dropped = inv.same.dropped; records = λ m. both_put w v n r m (inv.same.records m) };
+      same = record { moment = inv.same.moment; calls = inv.same.calls; outbox = inv.same.outbox; dropped = inv.same.dropped; live = inv.same.live; ended = inv.same.ended; records = λ m. both_put w v n r m (inv.same.records m) };
       shut = record {
         shut = λ m target. by_put (λ m' x. U m' → Contains (targets k x) target → U target) w n r
             (λ u links. good target links) (λ m' _ u links. inv.shut.shut m' target u links) m;
@@ -86,12 +124,15 @@ module _ {R : Type 0} (k : RecordRules R) (U : ℕ → Type 0) (w0 v0 : World R)
       other_spares = record { spared = λ m. by_put (λ m' x. (U m' → ⊥) → x ≡ at k v0 m') v n r (λ out. absurd (out may)) (λ m' _ out. inv.other_spares.spared m' out) m };
     };
     call = λ inv one. record {
-      same = record { moment = inv.same.moment; calls = ap (λ (l : List Call). l ++ one ∷ []) inv.same.calls; outbox = inv.same.outbox; dropped = inv.same.dropped; records = inv.same.records };
+      same = record { moment = inv.same.moment; calls = ap (λ (l : List Call). l ++ one ∷ []) inv.same.calls; outbox = inv.same.outbox; dropped = inv.same.dropped; live = inv.same.live; ended = inv.same.ended; records = inv.same.records };
       shut = record { shut = inv.shut.shut };
       spares = record { spared = inv.spares.spared };
       other_spares = record { spared = inv.other_spares.spared };
     };
     send = λ {w} {v} inv item. sent_along w v inv item;
+    lose = λ {w} {v} inv. lost_along w v inv;
+    take_on = λ {w} {v} inv number. taken_on_along w v inv number;
+    let_go = λ {w} {v} inv number. let_go_along w v inv number;
   }
 
   pub along : Shut k U w0 → Same k U w0 v0 → Along w0 v0
@@ -106,7 +147,7 @@ module _ {R : Type 0} (k : RecordRules R) (U : ℕ → Type 0) (w0 v0 : World R)
     other_spares = goes.inv.other_spares;
   }
 
-module _ {R : Type 0} (k : RecordRules R) (lawful : IsLawful k) (U : ℕ → Type 0) (answers : List Answer) where
+module _ {R : Type 0} (k : RecordRules R) (lawful : IsLawful k) (U : ℕ → Type 0) (answers : Answers) where
   pub request-local : RequestIsLocal k U answers
   request-local w v s shut same there =
       agree k U w v _ _ (request-goes k lawful U (Within k U w v) (Along k U w v) (guards k U w v lawful) answers (along k U w v shut same) s there)

@@ -3,7 +3,6 @@ use Rattle.std.proofs.Common.{◌≡◌, ℕ, List, IsSome, IsTrue, unwrap_or, s
 use Rattle.std.specs.Prelude.{◌↔◌, Contains}
 use Rattle.std.specs.Ordering.{nat_cmp}
 use Rattle.std.specs.FinMap.{FinMap, get, contains_key}
-use Rattle.ioc_device.specs.declared.Answer.{Answer}
 use Rattle.ioc_common.specs.declared.common.Common.{Common}
 use Rattle.ioc_record.specs.RecordRules.{RecordRules, targets}
 use Rattle.ioc_record.specs.Laws.{IsLawful}
@@ -13,13 +12,14 @@ use Rattle.ioc_process.specs.Processing.{request}
 use Rattle.ioc_process.proofs.Keeping.{request-keeps}
 use Rattle.ioc_process.proofs.RulesAllowed.{request-allowed}
 use Rattle.ioc_process.proofs.RulesLaws.{requested-leaves}
+use Rattle.ioc_process.specs.Given.{Answers}
 
 pub left-quiet : {a b : Common} → Left a b → (IsTrue a.active ↔ IsSome a.pending) → IsTrue b.active ↔ IsSome b.pending
 left-quiet (as_it_was active pending) quiet = rw (active, pending) quiet
 left-quiet (now_waits idle waits some) quiet = (λ _. some, λ _. waits)
 
 module _ {R : Type 0} (k : RecordRules R) (lawful : IsLawful k) where
-  pub request-quiet : (answers : List Answer) (w : World R) (s : ℕ) → Has w s → IsClosed k w → IsQuiet k w → IsQuiet k (request k answers w s).world
+  pub request-quiet : (answers : Answers) (w : World R) (s : ℕ) → Has w s → IsClosed k w → IsQuiet k w → IsQuiet k (request k answers w s).world
   request-quiet answers w s there closed quiet = record {
     quiet = λ n has. left-quiet (requested-leaves k lawful answers (request-allowed k lawful answers w s) n)
         (quiet.quiet n ((request-keeps k lawful w closed answers s there).only n has));

@@ -35,8 +35,10 @@ use Rattle.ioc_ledger.specs.declared.outcome.Outcome.TheVariants.{Disabled, Repr
 use Rattle.ioc_process.specs.Processing.{Done, Reading, PutOut, caused, followed, inherits, faulted, value_came, stored_at, wrote, after_writing, write_link, followed_each, finished, finished_if, after_output, acknowledged, write_device, put_out, prepared, read_record, read_link, completed, completed_if, device_gave, received, read_device, can_ask, input, body, turned_away, processed, requested, request, Ran, as_request, ran_after, asked, rested, disable_came, next_call, judged, begun_idle, ran, went_on_at_last, read_at}
 use Rattle.ioc_process.specs.Rules.{Inherits, from_itself, from_another, Takes, that_converts, that_does_not, Receives, a_value, a_bad_value, a_fault, not_yet, Puts, that_fits, that_does_not_fit, Acknowledges, written, written_badly, not_written_yet, Gives, next, asked_too_often, no_more_numbers, Requested, while_active, while_idle, Causes, meanwhile_active, unused, absent, no_such_device, as_it_stands, after_request, Writes, to_nothing, to_absent, to_no_device, in_vain, alone, and_requests, Follows, to_record, to_scanned, nowhere, FollowsEach, no_more, one_more, PutsOut, nothing, to_link, to_device, to_links, as_event, Gets, no_input, of_device, Finishes, forward, Proceeds, at_once, kept_waiting, Runs, Disables, by_value, not_given, not_read, Rests, for_good, once_more, while_disabled, Asks, for_later, straight_away, Reads, Resumes, at_last, of_link}
 use Rattle.ioc_process.proofs.Worlds.{idle-changed, idle-kept, one_of_two}
-use Rattle.ioc_process.proofs.Depth.{passed-active, stays-changed, stays_on, stays-read_link, disable_came-stays, Room, room_on, room-shown, shown-active, taken-stays, wrote-stays, stays-followed, outs-put_out, reads-input, request-rule}
+use Rattle.ioc_process.proofs.Depth.{passed-active, stays-changed, stays_on, stays-read_link, disable_came-stays, Room, room_on, room-shown, shown-active, taken-stays, wrote-stays, stays-followed, outs-put_out, reads-input, request-rule, passed_on-idle}
 use Rattle.ioc_process.proofs.RulesAlone.{followed_by-none}
+use Rattle.ioc_process.specs.Given.{Answers}
+use Rattle.ioc_process.specs.Notifying.{passed_on, notified}
 
 module _ {R : Type 0} (k : RecordRules R) where
   inherits-allowed : (w : World R) (s : ℕ) (t : StandingLink) → Inherits k w s t (inherits k w s t)
@@ -66,7 +68,7 @@ module _ {R : Type 0} (k : RecordRules R) where
   rests-allowed : (w : World R) (s : ℕ) → Rests k w s (rested k w s)
   unfolding rested
   rests-allowed w s =
-      elim (common_at k w s).reprocess as (λ b. (common_at k w s).reprocess ≡ b → Rests k w s (cond b (sent (Once s) (changed k w s at_rest)) (changed k w s at_rest))) [
+      elim (common_at k w s).reprocess as (λ b. (common_at k w s).reprocess ≡ b → Rests k w s (cond b (sent (Once s) (changed k (notified k w s) s at_rest)) (changed k (notified k w s) s at_rest))) [
         | true ↦ λ is. once_more is
         | false ↦ λ is. for_good is
       ] refl
@@ -112,11 +114,11 @@ module _ {R : Type 0} (k : RecordRules R) where
   received-none w s Fault-answer = refl
   received-none w s Later = refl
 
-ran-is : {R : Type 0} (k : RecordRules R) (answers : List Answer) (w : World R) (s : ℕ) → ran k answers w s ≡ requested k answers (request k answers) w s
+ran-is : {R : Type 0} (k : RecordRules R) (answers : Answers) (w : World R) (s : ℕ) → ran k answers w s ≡ requested k answers (request k answers) w s
 unfolding ran
 ran-is k answers w s = refl
 
-module _ {R : Type 0} (k : RecordRules R) (lawful : IsLawful k) (answers : List Answer) where
+module _ {R : Type 0} (k : RecordRules R) (lawful : IsLawful k) (answers : Answers) where
   abbrev ask : World R → ℕ → Done R
   ask = request k answers
 
@@ -171,8 +173,8 @@ module _ {R : Type 0} (k : RecordRules R) (lawful : IsLawful k) (answers : List 
     unfolding asked
     asked-allowed w s t few =
         let by_put = (common_at k w s).by_put in
-        let level = idle-kept k lawful w t (put_mark_passed by_put) (passed-active by_put _) in
-        let now = ask (changed k w t (put_mark_passed by_put)) t in
+        let level = passed_on-idle k lawful (changed k w t (put_mark_passed by_put)) s t ∙ idle-kept k lawful w t (put_mark_passed by_put) (passed-active by_put _) in
+        let now = ask (passed_on k (changed k w t (put_mark_passed by_put)) s t) t in
         elim (is_put_down by_put (common_at k w t)) as (λ b. is_put_down by_put (common_at k w t) ≡ b →
         let done = cond {A = Done R} b (record { world = changed k w t put_down; requests = Request Reprocess None None }) now in
         Asks k answers w s t done.world done.requests) [
@@ -313,7 +315,7 @@ module _ {R : Type 0} (k : RecordRules R) (lawful : IsLawful k) (answers : List 
         let came = disable_came k read.world s read.came in
         let stays = stays_on k first (stays_on k (stays-read_link k lawful answers ready s (λ _. disable_kind) link) (disable_came-stays k lawful read.world s read.came)) in
         elim (is_disabled (common_at k came s)) as (λ b. is_disabled (common_at k came s) ≡ b →
-        let done = cond {A = Ran R} b (record { world = changed k came s disabled; requests = None; outcome = Disabled }) (processed (body k answers ask came s)) in
+        let done = cond {A = Ran R} b (record { world = changed k (notified k came s) s disabled; requests = None; outcome = Disabled }) (processed (body k answers ask came s)) in
         Requested k answers w s done.world (Request done.outcome (followed_by read.requests done.requests) None)) [
           | true ↦ λ is. rw followed_by-none (while_disabled inactive refl reads (disables-allowed k read.world s read.came) is)
           | false ↦ λ is. while_idle inactive refl reads (disables-allowed k read.world s read.came) is (body-allowed came s (stays.active ∙ inactive) (omega (arith, stays.fewer, small)))

@@ -27,6 +27,8 @@ use Rattle.ioc_ledger.specs.Requests.{Requests, None, Request, followed_by}
 use Rattle.ioc_process.specs.Processing.{Done, Came, Reading, Written, PutOut, caused, followed, inherits, faulted, value_came, stored_at, wrote, after_writing, write_link, followed_each, finished, after_output, acknowledged, write_device, put_out, prepared, read_record, read_link, completed, completed_if, device_gave, received, read_device, can_ask, input, body, turned_away, processed, requested, request, Ran, Read, as_request, ran_after, asked, rested, disable_came, judged, begun_idle, ran, as_input, went_on_at_last, read_at}
 use Rattle.ioc_process.specs.Rules.{Inherits, from_itself, from_another, Takes, that_converts, that_does_not, Receives, a_value, a_bad_value, a_fault, not_yet, Puts, that_fits, that_does_not_fit, Acknowledges, written, written_badly, not_written_yet, Gives, next, asked_too_often, no_more_numbers, Requested, while_active, while_idle, Causes, meanwhile_active, Reads, unused, absent, no_such_device, as_it_stands, after_request, Writes, to_nothing, to_absent, to_no_device, in_vain, alone, and_requests, Follows, to_record, to_scanned, nowhere, FollowsEach, no_more, one_more, PutsOut, nothing, to_link, to_device, to_links, as_event, Gets, no_input, of_device, Finishes, forward, Proceeds, at_once, kept_waiting, Runs, Disables, by_value, not_given, not_read, Rests, for_good, once_more, while_disabled, Asks, for_later, straight_away, Resumes, at_last, of_link}
 use Rattle.ioc_process.proofs.Depth.{request-rule}
+use Rattle.ioc_process.specs.Given.{Answers}
+use Rattle.ioc_process.specs.Notifying.{passed_on, notified}
 
 pub followed_by-none : (requests : Requests) → followed_by requests None ≡ requests
 followed_by-none None = refl
@@ -82,7 +84,7 @@ module _ {R : Type 0} (k : RecordRules R) where
   acknowledged-is written_badly = refl
   acknowledged-is not_written_yet = refl
 
-module _ {R : Type 0} (k : RecordRules R) (lawful : IsLawful k) (answers : List Answer) where
+module _ {R : Type 0} (k : RecordRules R) (lawful : IsLawful k) (answers : Answers) where
   read_device-is : {w : World R} {s : ℕ} {w' : World R} {answer : Answer} → Gives k answers w s Read-ask w' answer → read_device k answers w s ≡ received k w' s answer
   unfolding read_device
   read_device-is (next {w} {s} few small gives) =
@@ -118,7 +120,7 @@ module _ {R : Type 0} (k : RecordRules R) (lawful : IsLawful k) (answers : List 
   unfolding ran requested
   request-idle w s is = request-rule k lawful answers w s ∙ rw is refl
 
-  judged-off : (w : World R) (s : ℕ) → is_disabled (common_at k w s) ≡ true → judged k answers ask w s ≡ record { world = changed k w s disabled; requests = None; outcome = Disabled }
+  judged-off : (w : World R) (s : ℕ) → is_disabled (common_at k w s) ≡ true → judged k answers ask w s ≡ record { world = changed k (notified k w s) s disabled; requests = None; outcome = Disabled }
   unfolding judged
   judged-off w s is = rw is refl
 
@@ -138,7 +140,7 @@ module _ {R : Type 0} (k : RecordRules R) (lawful : IsLawful k) (answers : List 
   unfolding asked
   asked-later w s t is = rw is refl
 
-  asked-now : (w : World R) (s t : ℕ) → is_put_down (common_at k w s).by_put (common_at k w t) ≡ false → asked k ask w s t ≡ request k answers (changed k w t (put_mark_passed (common_at k w s).by_put)) t
+  asked-now : (w : World R) (s t : ℕ) → is_put_down (common_at k w s).by_put (common_at k w t) ≡ false → asked k ask w s t ≡ request k answers (passed_on k (changed k w t (put_mark_passed (common_at k w s).by_put)) s t) t
   unfolding asked
   asked-now w s t is = rw is refl
 
@@ -242,7 +244,7 @@ module _ {R : Type 0} (k : RecordRules R) (lawful : IsLawful k) (answers : List 
     request-is (while_disabled {w} {ready} {w'} {w''} {s} {got} {requests} idle r reads disables off) =
         request-idle w s idle
         ∙ ap (λ (x : Ran R). as_request x) (begun-step w ready s _ w'' _ r (read_link-is reads) (disables-is k disables) (judged-off w'' s off))
-        ∙ ap (λ (x : Requests). record { world = changed k w'' s disabled; requests = Request Disabled x None }) (followed_by-none requests)
+        ∙ ap (λ (x : Requests). record { world = changed k (notified k w'' s) s disabled; requests = Request Disabled x None }) (followed_by-none requests)
     request-is (while_idle {w} {ready} {w'} {w''} {after} {s} {got} {first} {rest} idle r reads disables on runs) =
         request-idle w s idle
         ∙ ap (λ (x : Ran R). as_request x) (begun-step w ready s _ w'' _ r (read_link-is reads) (disables-is k disables) (judged-on w'' s on ∙ ap (λ (d : Done R). processed d) (body-is runs)))

@@ -16,17 +16,23 @@ use Rattle.ioc_common.specs.declared.link_field.LinkUse.{LinkUse}
 use Rattle.ioc_common.specs.declared.link_field.StandingLink.{StandingLink}
 use Rattle.ioc_common.specs.declared.body.Got.{Got}
 use Rattle.ioc_common.specs.declared.body.Want.{Want}
-use Rattle.ioc_common.specs.Steps.{blocked, unblocked, with_active, shown, waiting, with_put_mark, with_reprocess_mark, disabled}
+use Rattle.ioc_common.specs.Steps.{blocked, unblocked, with_active, shown, waiting, with_put_mark, with_reprocess_mark, disabled, change_numbered, with_notification}
 use Rattle.ioc_common.specs.declared.body.InputKind.{InputKind}
 use Rattle.ioc_device.specs.declared.Ask.{Ask}
 use Rattle.ioc_values.specs.declared.value.Finished.{Finished}
 use Rattle.ioc_process.specs.Marks.{put_down, put_mark_passed, resumed, at_rest, with_disable_input}
 use Rattle.ioc_record.specs.RecordRules.{RecordRules}
 use Rattle.ioc_record.specs.Laws.{IsLawful}
-use Rattle.ioc_process.specs.World.{World, at, common_at, put, changed, called, sent}
+use Rattle.ioc_process.specs.World.{World, at, common_at, put, changed, called, sent, lost, taken_on, let_go}
 use Rattle.ioc_process.specs.Rules.{Left, as_it_was, now_waits, LeavesAll, Inherits, from_itself, from_another, Takes, that_converts, that_does_not, Receives, a_value, a_bad_value, a_fault, not_yet, Puts, that_fits, that_does_not_fit, Acknowledges, written, written_badly, not_written_yet, Gives, next, asked_too_often, no_more_numbers, Requested, while_active, while_idle, Causes, meanwhile_active, Reads, unused, absent, no_such_device, as_it_stands, after_request, Writes, to_nothing, to_absent, to_no_device, in_vain, alone, and_requests, Follows, to_record, to_scanned, nowhere, FollowsEach, no_more, one_more, PutsOut, nothing, to_link, to_device, to_links, as_event, Gets, no_input, of_link, of_device, Finishes, forward, Proceeds, at_once, kept_waiting, Runs, Disables, by_value, not_given, not_read, Rests, for_good, once_more, while_disabled, Asks, for_later, straight_away, Resumes, at_last}
 use Rattle.ioc_process.proofs.StepFrames.{blocked-frame, stored_with}
 use Rattle.ioc_process.proofs.Worlds.{at-put_same, at-put_other, common_at-changed}
+use Rattle.ioc_process.specs.Given.{Answers}
+use Rattle.ioc_process.specs.Scanning.{moved, rescanned}
+use Rattle.ioc_process.proofs.ScanLaws.{moved-either, rescanned-either}
+use Rattle.ioc_fields.specs.declared.field_no.FieldNo.{FieldNo}
+use Rattle.ioc_process.specs.Notifying.{passed_on, notified}
+use Rattle.ioc_process.proofs.NotifyLaws.{passed-either, notified-either}
 
 true-not-false : true ≡ false → ⊥
 true-not-false is = cc
@@ -129,12 +135,60 @@ module _ {R : Type 0} (k : RecordRules R) (lawful : IsLawful k) where
       let set = lawful.common_set (at k w t.number) in
       both-put w s t.number _ (record { active = ap (λ (c : Common). c.active) (set _); pending = ap (λ (c : Common). c.pending) (set _) })
 
+  sent-both : (item : OutboxItem) (w : World R) (s : ℕ) → Both s w (sent item w)
+  unfolding at sent Own
+  sent-both item w s = elim (nat_lt (length w.outbox) 256) as (λ b. Both s w (cond b (record w { outbox = w.outbox ++ item ∷ [] }) (record w { dropped = more w.dropped }))) [
+    | true ↦ record { others = λ n _. as_it_was refl refl; own = record { active = refl; pending = refl } }
+    | false ↦ record { others = λ n _. as_it_was refl refl; own = record { active = refl; pending = refl } }
+  ]
+
+  changed-is : (w : World R) (n : ℕ) → put w n (k.with_common (at k w n) (change_numbered (common_at k w n))) ≡ changed k w n change_numbered
+  unfolding changed
+  changed-is w n = refl
+
+  lost-both : (w : World R) (s : ℕ) → Both s w (lost w)
+  unfolding at lost Own
+  lost-both w s = record { others = λ n _. as_it_was refl refl; own = same_here _ }
+
+  -- a record goes on another scan list
+  moved-both : (w : World R) (s n : ℕ) → Both s w (moved k w n)
+  moved-both w s n =
+      let numbered = subst (λ (v : World R). Both s w v) (changed-is w n) (both-put w s n _ (record { active = ap (λ (c : Common). c.active) (lawful.common_set _ _); pending = ap (λ (c : Common). c.pending) (lawful.common_set _ _) })) in
+      moved-either k (Both s w) w n (λ item. both_on numbered (sent-both item _ s)) (lost-both w s)
+
+  taken_on-both : (number : ℕ) (w : World R) (s : ℕ) → Both s w (taken_on number w)
+  unfolding at taken_on Own
+  taken_on-both number w s = record { others = λ n _. as_it_was refl refl; own = same_here _ }
+
+  let_go-both : (number : ℕ) (w : World R) (s : ℕ) → Both s w (let_go number w)
+  unfolding at let_go Own
+  let_go-both number w s = record { others = λ n _. as_it_was refl refl; own = same_here _ }
+
+  set_as : (w : World R) (n : ℕ) (number : Option ℕ) → put w n (k.with_common (at k w n) (with_notification number (common_at k w n))) ≡ changed k w n (with_notification number)
+  unfolding changed
+  set_as w n number = refl
+
+  set_notification-both : (w : World R) (s n : ℕ) (number : Option ℕ) → Both s w (changed k w n (with_notification number))
+  set_notification-both w s n number =
+      subst (λ (v : World R). Both s w v) (set_as w n number) (both-put w s n _ (record { active = ap (λ (c : Common). c.active) (lawful.common_set _ _); pending = ap (λ (c : Common). c.pending) (lawful.common_set _ _) }))
+
+  -- a notification goes from record to record, and is told
+  passed_on-both : (w : World R) (s source t : ℕ) → Both s w (passed_on k w source t)
+  passed_on-both w s source t = passed-either k (Both s w) w source t (both_here w s) (λ n. both_on (set_notification-both w s t (Some n)) (taken_on-both n _ s))
+
+  notified-both : (w : World R) (s n : ℕ) → Both s w (notified k w n)
+  notified-both w s n = notified-either k (Both s w) w n (both_here w s) (λ m. both_on (set_notification-both w s n Nothing_) (let_go-both m _ s))
+
+  rescanned-both : (w : World R) (s n : ℕ) (field : FieldNo) → Both s w (rescanned k w n field)
+  rescanned-both w s n field = rescanned-either k (Both s w) w n field (both_here w s) (moved-both w s n)
+
   puts-both : {w : World R} {t : StandingLink} {v : Value} {w' : World R} {stored : Bool} (s : ℕ) → Puts k w t v w' stored → Both s w w'
   unfolding put_untested
   puts-both s (that_fits {w} {t} {v} {r} is) =
       let with = stored_with k (at k w t.number) r t.field (converted_for k (at k w t.number) t.field (InputValue v)) is in
-      both-put w s t.number r (subst (λ (x : R). Same (common_at k w t.number) (k.common x)) with.1
-      (record { active = lawful.stored_active (at k w t.number) t.field with.0; pending = lawful.stored_pending (at k w t.number) t.field with.0 }))
+      both_on (both-put w s t.number r (subst (λ (x : R). Same (common_at k w t.number) (k.common x)) with.1
+      (record { active = lawful.stored_active (at k w t.number) t.field with.0; pending = lawful.stored_pending (at k w t.number) t.field with.0 })))
+      (rescanned-both (put w t.number r) s t.number t.field)
   puts-both s (that_does_not_fit {w} _) = both_here w s
 
   inherits-both : {w : World R} {s : ℕ} {t : StandingLink} {w' : World R} → Inherits k w s t w' → Both s w w'
@@ -200,13 +254,6 @@ module _ {R : Type 0} (k : RecordRules R) (lawful : IsLawful k) where
         own = (ap (λ (c : Common). c.active) is, subst (λ (o : Option ℕ). IsSome o) (sym (ap (λ (c : Common). c.pending) is)) refl);
       }
 
-  sent-both : (item : OutboxItem) (w : World R) (s : ℕ) → Both s w (sent item w)
-  unfolding at sent Own
-  sent-both item w s = elim (nat_lt (length w.outbox) 256) as (λ b. Both s w (cond b (record w { outbox = w.outbox ++ item ∷ [] }) (record w { dropped = more w.dropped }))) [
-    | true ↦ record { others = λ n _. as_it_was refl refl; own = record { active = refl; pending = refl } }
-    | false ↦ record { others = λ n _. as_it_was refl refl; own = record { active = refl; pending = refl } }
-  ]
-
   -- after a step that leaves s as it was
   as_on : {w w' w'' : World R} {s : ℕ} {goes_on : Bool} → Both s w w' → BothAs s w' w'' goes_on → BothAs s w w'' goes_on
   unfolding OwnAs Own
@@ -217,7 +264,7 @@ module _ {R : Type 0} (k : RecordRules R) (lawful : IsLawful k) where
   unfolding Own
   taken-both w taken s got t = subst (Both s w) (sym t) (both-put w s s _ (record { active = lawful.taken_active _ got; pending = lawful.taken_pending _ got }))
 
-  module _ (answers : List Answer) where
+  module _ (answers : Answers) where
     gives-both : {w : World R} {s : ℕ} {ask : Ask} {w' : World R} {answer : Answer} → Gives k answers w s ask w' answer → Both s w w'
     unfolding at called Own
     gives-both (next _ _ _) = record { others = λ n _. as_it_was refl refl; own = record { active = refl; pending = refl } }
@@ -235,22 +282,31 @@ module _ {R : Type 0} (k : RecordRules R) (lawful : IsLawful k) where
       active : (common_at k w' s).active ≡ false
       pending : (common_at k w' s).pending ≡ (common_at k w s).pending
 
-    once_more-ended : (w : World R) (s : ℕ) → Ended s w (sent (Once s) (changed k w s at_rest))
+    once_more-ended : (w : World R) (s : ℕ) → Ended s w (sent (Once s) (changed k (notified k w s) s at_rest))
     unfolding Own
     once_more-ended w s =
-        let is = common_at-changed k lawful w s at_rest in
-        let sends = sent-both (Once s) (changed k w s at_rest) s in
+        let told = notified-both w s s in
+        let v = notified k w s in
+        let is = common_at-changed k lawful v s at_rest in
+        let sends = sent-both (Once s) (changed k v s at_rest) s in
         record {
-          others = λ n apart. left_on (left_same (changed-but w s at_rest n apart)) (sends.others n apart);
+          others = λ n apart. left_on (told.others n apart) (left_on (left_same (changed-but v s at_rest n apart)) (sends.others n apart));
           active = sends.own.active ∙ ap (λ (c : Common). c.active) is;
-          pending = sends.own.pending ∙ ap (λ (c : Common). c.pending) is;
+          pending = sends.own.pending ∙ ap (λ (c : Common). c.pending) is ∙ told.own.pending;
         }
 
     -- s comes to rest
     rests-ended : {w : World R} {s : ℕ} {w' : World R} → Rests k w s w' → Ended s w w'
+    unfolding Own
     rests-ended (for_good {w} {s} _) =
-        let is = common_at-changed k lawful w s at_rest in
-        record { others = λ n apart. left_same (changed-but w s at_rest n apart); active = ap (λ (c : Common). c.active) is; pending = ap (λ (c : Common). c.pending) is }
+        let told = notified-both w s s in
+        let v = notified k w s in
+        let is = common_at-changed k lawful v s at_rest in
+        record {
+          others = λ n apart. left_on (told.others n apart) (left_same (changed-but v s at_rest n apart));
+          active = ap (λ (c : Common). c.active) is;
+          pending = ap (λ (c : Common). c.pending) is ∙ told.own.pending;
+        }
     rests-ended (once_more {w} {s} _) = once_more-ended w s
 
     -- marks leave what is active and pending
@@ -288,14 +344,14 @@ module _ {R : Type 0} (k : RecordRules R) (lawful : IsLawful k) where
           changed-all w s blocked (record { active = f.active; pending = f.pending })
       requested-leaves (while_disabled {w} {ready} {w'} {w''} {s} idle r reads disables _) =
           let first = both_on (readied-both w ready s r) (both_on (reads-both reads) (disables-both disables)) in
-          all_both (both_on first (both-changed w'' s disabled (disabled-same _)))
+          all_both (both_on first (both_on (notified-both w'' s s) (both-changed (notified k w'' s) s disabled (disabled-same _))))
       requested-leaves (while_idle {w} {ready} {w'} {w''} {after} {s} idle r reads disables _ runs) =
           let first = both_on (readied-both w ready s r) (both_on (reads-both reads) (disables-both disables)) in
           all_on _ _ _ (all_both first) (runs-leave runs (first.own.active ∙ idle))
 
       asks-leave : {w : World R} {s t : ℕ} {w' : World R} {requests : Requests} → Asks k answers w s t w' requests → LeavesAll k w w'
       asks-leave (for_later {w} {s} {t} _) = changed-all w t put_down (put_down-same _)
-      asks-leave (straight_away {w} {w'} {s} {t} _ r) = all_on _ _ _ (changed-all w t _ (passed-same (common_at k w s).by_put _)) (requested-leaves r)
+      asks-leave (straight_away {w} {w'} {s} {t} _ r) = all_on _ _ _ (changed-all w t _ (passed-same (common_at k w s).by_put _)) (all_on _ _ _ (all_both (passed_on-both _ t s t)) (requested-leaves r))
 
       causes-both : {w : World R} {s t : ℕ} {w' : World R} {requests : Requests} → Causes k answers w s t w' requests → Both s w w'
       causes-both (meanwhile_active {w} {w'} {s} r) =

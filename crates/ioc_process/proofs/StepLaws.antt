@@ -1,42 +1,45 @@
 -- The rules of an event allow what the function gives, and nothing else.
 use Rattle.std.proofs.Common.{◌≡◌, ℕ, Bool, true, false, cond, List, Some, is_some, refl, sym, ap, subst, ◌∙◌}
-use Rattle.std.specs.Prelude.{Result, Ok, Err}
+use Rattle.std.specs.Prelude.{Result, Ok, Err, not}
 use Rattle.std.specs.FinMap.{contains_key}
 use Rattle.ioc_values.specs.declared.error.IocError.{IocError}
-use Rattle.ioc_values.specs.declared.error.IocError.TheVariants.{NoField, Stale}
+use Rattle.ioc_values.specs.declared.error.IocError.TheVariants.{NoRecord, NoField, PutDisabled, Stale}
 use Rattle.ioc_values.specs.declared.input.Input.{Input}
 use Rattle.ioc_values.specs.declared.value.Finished.{Finished}
 use Rattle.ioc_common.specs.Steps.{with_put_mark, with_reprocess_mark}
 use Rattle.ioc_fields.specs.declared.field_no.FieldNo.{FieldNo}
 use Rattle.ioc_fields.specs.Table.{row_of}
-use Rattle.ioc_device.specs.declared.Answer.{Answer}
 use Rattle.ioc_ledger.specs.declared.outcome.Outcome.{Outcome}
 use Rattle.ioc_ledger.specs.declared.outcome.Outcome.TheVariants.{Reprocess}
 use Rattle.ioc_ledger.specs.Requests.{Requests, None, Request, first_outcome}
 use Rattle.ioc_record.specs.RecordRules.{RecordRules}
 use Rattle.ioc_record.specs.Laws.{IsLawful}
-use Rattle.ioc_record.specs.Values.{text_of, put_field}
+use Rattle.ioc_record.specs.Values.{text_of, put_field, stops_put}
+use Rattle.ioc_common.specs.declared.link_field.LinkField.{LinkField}
+use Rattle.ioc_common.specs.Links.{use_of, named_by}
 use Rattle.ioc_process.specs.declared.reply.Reply.{Reply}
 use Rattle.ioc_process.specs.declared.reply.Reply.TheVariants.{Plain, Outcome as Outcome-reply, Shown}
 use Rattle.ioc_process.specs.World.{World, at, common_at, put, changed}
+use Rattle.ioc_process.specs.Scanning.{device_of, rescanned, rewired}
 use Rattle.ioc_process.specs.Rules.{Requested}
 use Rattle.ioc_process.specs.Processing.{Done, ran, went_on_at_last}
 use Rattle.ioc_process.specs.declared.event.Event.{Event}
-use Rattle.ioc_process.specs.declared.event.Event.TheVariants.{Get, Process, Put, Complete}
-use Rattle.ioc_process.specs.Step.{Stepped, number_of, refused, told, awaits, after_put, after_completion, put_with, processes, stepped_there, stepped}
-use Rattle.ioc_process.specs.StepRules.{Step, no_such_record, no_such_field, shows_field, processes_record, refuses_value, stores_alone, stores_while_active, stores_and_processes, not_awaited, completes_at_last, Replay, at_the_end, and_then}
+use Rattle.ioc_process.specs.declared.event.Event.TheVariants.{Get, Process, Put, Complete, Link}
+use Rattle.ioc_process.specs.Step.{Stepped, number_of, all_there, refused, relinked, told, awaits, after_put, after_completion, put_with, processes, stepped_there, stepped}
+use Rattle.ioc_process.specs.StepRules.{Step, no_such_record, no_such_field, shows_field, processes_record, refuses_value, stores_alone, stores_while_active, stores_and_processes, not_awaited, completes_at_last, leads_to_no_record, no_link_field, keeps_its_link, takes_link, Replay, at_the_end, and_then}
 use Rattle.ioc_process.specs.declared.event.Entry.{Entry}
 use Rattle.ioc_process.proofs.Worlds.{at-put_same}
 use Rattle.ioc_process.proofs.RulesAlone.{request-is, at_last-is}
 use Rattle.ioc_process.proofs.RulesAllowed.{request-allowed, at_last-allowed}
 use Rattle.ioc_process.proofs.Depth.{request-rule}
 use Rattle.ioc_process.proofs.Stepping.{step-missing, step-there, step-process, step-put, step-complete}
+use Rattle.ioc_process.specs.Given.{Answers, listed}
 
 some_same : {X : Type 0} {x y : X} → Some x ≡ Some y → x ≡ y
 some_same is = cc
 
-module _ {R : Type 0} (k : RecordRules R) (lawful : IsLawful k) (answers : List Answer) where
-  made : World R → Reply → Requests → Stepped R
+module _ {R : Type 0} (k : RecordRules R) (lawful : IsLawful k) (answers : Answers) where
+  abbrev made : World R → Reply → Requests → Stepped R
   made w reply requests = record { world = w; reply = reply; requests = requests }
 
   first-outcome : {x y : Requests} {outcome : Outcome} → x ≡ y → first_outcome y ≡ Some outcome → first_outcome x ≡ Some outcome
@@ -68,12 +71,6 @@ module _ {R : Type 0} (k : RecordRules R) (lawful : IsLawful k) (answers : List 
   unfolding after_put
   after-is w s field b active is act = rw (is, act) refl
 
-  type-put : (w : World R) (s : ℕ) (r : R) (field : FieldNo) (b : Bool) → processes k r field ≡ b → processes k (at k (put w s r) s) field ≡ b
-  type-put w s r field b is = ap (λ (x : R). processes k x field) (at-put_same k w s r) ∙ is
-
-  active-put : (w : World R) (s : ℕ) (r : R) (b : Bool) → (k.common r).active ≡ b → (common_at k (put w s r) s).active ≡ b
-  active-put w s r b is = ap (λ (x : R). (k.common x).active) (at-put_same k w s r) ∙ is
-
   stale-is : (w : World R) (s number : ℕ) (x : Finished) → contains_key w.records s ≡ true → awaits (common_at k w s) number ≡ false → stepped k answers w (Complete s number x) ≡ refused w Stale
   unfolding stepped_there
   stale-is w s number x there is = step-there k answers w (Complete s number x) there ∙ rw is refl
@@ -81,6 +78,24 @@ module _ {R : Type 0} (k : RecordRules R) (lawful : IsLawful k) (answers : List 
   completion-is : (w : World R) (s : ℕ) (x : Finished) (done : Done R) → went_on_at_last k answers w s x ≡ done → after_completion k answers w s x ≡ record { world = done.world; reply = Plain; requests = done.requests }
   unfolding after_completion
   completion-is w s x done is = ap (λ (d : Done R). record { world = d.world; reply = Plain; requests = d.requests }) is
+
+  abbrev relinks : World R → ℕ → FieldNo → LinkField → World R
+  relinks w s field link = rewired k (device_of k (at k w s)) (put w s (k.with_link (at k w s) field link)) s
+
+  either_way : (w : World R) (done : Stepped R) (led has stops : Bool)
+      → cond {A = Stepped R} (not led) (refused w NoRecord) (cond {A = Stepped R} (not has) (refused w NoField) (cond {A = Stepped R} stops (refused w PutDisabled) done))
+      ≡ cond {A = Stepped R} led (cond {A = Stepped R} has (cond {A = Stepped R} stops (refused w PutDisabled) done) (refused w NoField)) (refused w NoRecord)
+  either_way w done true true stops = refl
+  either_way w done true false stops = refl
+  either_way w done false has stops = refl
+
+  relinked-is : (w : World R) (s : ℕ) (field : FieldNo) (link : LinkField) (led has stops : Bool) → contains_key w.records s ≡ true → all_there w (named_by (use_of link)) ≡ led
+      → is_some (k.link (at k w s) field) ≡ has → stops_put (common_at k w s) field ≡ stops
+      → stepped k answers w (Link s field link)
+      ≡ cond {A = Stepped R} led (cond {A = Stepped R} has (cond {A = Stepped R} stops (refused w PutDisabled) (made (relinks w s field link) Plain None)) (refused w NoField)) (refused w NoRecord)
+  unfolding stepped_there relinked
+  relinked-is w s field link led has stops there is_led is_there is_stopped =
+      step-there k answers w (Link s field link) there ∙ rw (is_led, is_there, is_stopped) (either_way w (made (relinks w s field link) Plain None) led has stops)
 
   -- no other result than that of the function
   pub step-is : {w : World R} {event : Event} {w' : World R} {reply : Reply} {requests : Requests} → Step k answers w event w' reply requests
@@ -90,16 +105,20 @@ module _ {R : Type 0} (k : RecordRules R) (lawful : IsLawful k) (answers : List 
   step-is (shows_field {w} {s} {field} there some) = get-is w s field true there some
   step-is (processes_record {w} {w'} {s} {outcome} {requests} there r is) = step-process k answers w s there ∙ told-is w w' s outcome requests r is
   step-is (refuses_value {w} {s} {field} {given} {e} there is) = put-refused-is w s field given e there is
-  step-is (stores_alone {w} {s} {field} {given} {r} there is plain) =
-      step-put k answers w s field given r there is ∙ after-is (put w s r) s field false (k.common r).active (type-put w s r field false plain) (active-put w s r _ refl)
-  step-is (stores_while_active {w} {s} {field} {given} {r} there is proc active) =
-      step-put k answers w s field given r there is ∙ after-is (put w s r) s field true true (type-put w s r field true proc) (active-put w s r true active)
-  step-is (stores_and_processes {w} {w'} {s} {field} {given} {r} {outcome} {requests} there is proc idle q first) =
-      step-put k answers w s field given r there is ∙ after-is (put w s r) s field true false (type-put w s r field true proc) (active-put w s r false idle)
-      ∙ told-is (changed k (put w s r) s (with_put_mark true)) w' s outcome requests q first
+  step-is (stores_alone {w} {w'} {s} {field} {given} {r} there is stored plain) =
+      step-put k answers w s field given r there is ∙ ap (λ (v : World R). after_put k answers v s field) (sym stored) ∙ after-is w' s field false (common_at k w' s).active plain refl
+  step-is (stores_while_active {w} {w'} {s} {field} {given} {r} there is stored proc active) =
+      step-put k answers w s field given r there is ∙ ap (λ (v : World R). after_put k answers v s field) (sym stored) ∙ after-is w' s field true true proc active
+  step-is (stores_and_processes {w} {w'} {w''} {s} {field} {given} {r} {outcome} {requests} there is stored proc idle q first) =
+      step-put k answers w s field given r there is ∙ ap (λ (v : World R). after_put k answers v s field) (sym stored) ∙ after-is w' s field true false proc idle
+      ∙ told-is (changed k w' s (with_put_mark true)) w'' s outcome requests q first
   step-is (not_awaited {w} {s} {number} {x} there is) = stale-is w s number x there is
   step-is (completes_at_last {w} {w'} {s} {number} {x} {requests} there is r) =
       step-complete k answers w s number x there is ∙ completion-is w s x _ (at_last-is k lawful answers r)
+  step-is (leads_to_no_record {w} {s} {field} {link} there led) = relinked-is w s field link false _ _ there led refl refl
+  step-is (no_link_field {w} {s} {field} {link} there led has) = relinked-is w s field link true false _ there led has refl
+  step-is (keeps_its_link {w} {s} {field} {link} there led has stops) = relinked-is w s field link true true true there led has stops
+  step-is (takes_link {w} {s} {field} {link} there led has stops) = relinked-is w s field link true true false there led has stops
 
   -- ---- and the result of the function is allowed
 
@@ -125,18 +144,18 @@ module _ {R : Type 0} (k : RecordRules R) (lawful : IsLawful k) (answers : List 
       ] refl
 
   after-allowed : (w : World R) (s : ℕ) (field : FieldNo) (given : Input) (r : R) → contains_key w.records s ≡ true → put_field k (at k w s) field given ≡ Ok r
-      → Allows w (Put s field given) (after_put k answers (put w s r) s field)
+      → Allows w (Put s field given) (after_put k answers (rescanned k (put w s r) s field) s field)
   unfolding Allows told
   after-allowed w s field given r there is =
-      let v = put w s r in
-      elim (processes k r field) as (λ b. processes k r field ≡ b → Allows w (Put s field given) (after_put k answers v s field)) [
-        | true ↦ λ proc. elim (k.common r).active as (λ b. (k.common r).active ≡ b → Allows w (Put s field given) (after_put k answers v s field)) [
-          | true ↦ λ active. rw (after-is v s field true true (type-put w s r field true proc) (active-put w s r true active)) (stores_while_active there is proc active)
+      let v = rescanned k (put w s r) s field in
+      elim (processes k (at k v s) field) as (λ b. processes k (at k v s) field ≡ b → Allows w (Put s field given) (after_put k answers v s field)) [
+        | true ↦ λ proc. elim (common_at k v s).active as (λ b. (common_at k v s).active ≡ b → Allows w (Put s field given) (after_put k answers v s field)) [
+          | true ↦ λ active. rw (after-is v s field true true proc active) (stores_while_active there is refl proc active)
           | false ↦ λ idle.
               let q = ran-allowed (changed k v s (with_put_mark true)) s in
-              rw (after-is v s field true false (type-put w s r field true proc) (active-put w s r false idle)) (stores_and_processes there is proc idle q refl)
+              rw (after-is v s field true false proc idle) (stores_and_processes there is refl proc idle q refl)
         ] refl
-        | false ↦ λ plain. rw (after-is v s field false (k.common r).active (type-put w s r field false plain) (active-put w s r _ refl)) (stores_alone there is plain)
+        | false ↦ λ plain. rw (after-is v s field false (common_at k v s).active plain refl) (stores_alone there is refl plain)
       ] refl
 
   put-allowed : (w : World R) (s : ℕ) (field : FieldNo) (given : Input) (result : Result R IocError) → contains_key w.records s ≡ true → put_field k (at k w s) field given ≡ result
@@ -156,12 +175,27 @@ module _ {R : Type 0} (k : RecordRules R) (lawful : IsLawful k) (answers : List 
         | false ↦ λ is. not_awaited there is
       ] refl
 
+  link-allowed : (w : World R) (s : ℕ) (field : FieldNo) (link : LinkField) → contains_key w.records s ≡ true → Allows w (Link s field link) (stepped k answers w (Link s field link))
+  unfolding Allows
+  link-allowed w s field link there =
+      elim (all_there w (named_by (use_of link))) as (λ b. all_there w (named_by (use_of link)) ≡ b → Allows w (Link s field link) (stepped k answers w (Link s field link))) [
+        | true ↦ λ led. elim (is_some (k.link (at k w s) field)) as (λ b. is_some (k.link (at k w s) field) ≡ b → Allows w (Link s field link) (stepped k answers w (Link s field link))) [
+          | true ↦ λ has. elim (stops_put (common_at k w s) field) as (λ b. stops_put (common_at k w s) field ≡ b → Allows w (Link s field link) (stepped k answers w (Link s field link))) [
+            | true ↦ λ stops. rw (relinked-is w s field link true true true there led has stops) (keeps_its_link there led has stops)
+            | false ↦ λ stops. rw (relinked-is w s field link true true false there led has stops) (takes_link there led has stops)
+          ] refl
+          | false ↦ λ has. rw (relinked-is w s field link true false _ there led has refl) (no_link_field there led has)
+        ] refl
+        | false ↦ λ led. rw (relinked-is w s field link false _ _ there led refl refl) (leads_to_no_record there led)
+      ] refl
+
   there-allowed : (w : World R) (event : Event) → contains_key w.records (number_of event) ≡ true → Allows w event (stepped_there k answers w event)
   unfolding stepped_there
   there-allowed w (Get s field) there = get-allowed w s field there
   there-allowed w (Process s) there = process-allowed w s there
   there-allowed w (Put s field given) there = put-allowed w s field given _ there refl
   there-allowed w (Complete s number x) there = complete-allowed w s number x there
+  there-allowed w (Link s field link) there = subst (Allows w (Link s field link)) (step-there k answers w (Link s field link) there) (link-allowed w s field link there)
 
   pub step-allowed : (w : World R) (event : Event) → Step k answers w event (stepped k answers w event).world (stepped k answers w event).reply (stepped k answers w event).requests
   unfolding Allows
@@ -176,5 +210,5 @@ module _ {R : Type 0} (k : RecordRules R) (lawful : IsLawful k) where
   pub replay-is : {w w' w'' : World R} {entries : List Entry} → Replay k w entries w' → Replay k w entries w'' → w' ≡ w''
   replay-is at_the_end at_the_end = refl
   replay-is (and_then {w} {w'} {w''} {entry} {entries} first _ rest) (and_then second _ others) =
-      let same = sym (step-is k lawful entry.answers.items first) ∙ step-is k lawful entry.answers.items second in
+      let same = sym (step-is k lawful (listed entry.answers.items) first) ∙ step-is k lawful (listed entry.answers.items) second in
       replay-is (subst (λ (v : World R). Replay k v entries w'') (ap (λ (x : Stepped R). x.world) same) rest) others

@@ -1,6 +1,6 @@
 -- The cases of an event, as the code meets them.
-use Rattle.std.proofs.Common.{◌≡◌, ℕ, Bool, true, false, cond, eqb, List, [], ◌∷◌, length, drop, Option, Some, None as Nothing_, IsTrue, is_some, unwrap_or, refl, sym, ap, subst, ◌∙◌, arith}
-use Rattle.std.specs.Prelude.{Result, Ok, Err, OnOk, OnErr}
+use Rattle.std.proofs.Common.{◌≡◌, ℕ, Bool, true, false, cond, eqb, List, [], ◌∷◌, length, drop, Option, Some, None as Nothing_, IsTrue, is_some, unwrap_or, refl, sym, ap, subst, ◌∙◌, arith, ◌++◌}
+use Rattle.std.specs.Prelude.{Result, Ok, Err, OnOk, OnErr, nat_lt}
 use Rattle.std.specs.Ordering.{nat_cmp, eq_by_cmp}
 use Rattle.std.specs.Cmp.{nat_cmp_total, unsigned_tied}
 use Rattle.std.specs.FinMap.{FinMap, get, contains_key, same_map, get-insert, nat_cmp-IsAntisymmetric}
@@ -10,13 +10,12 @@ use Rattle.ioc_values.specs.declared.error.IocError.TheVariants.{NoRecord, Stale
 use Rattle.ioc_values.specs.declared.input.Input.{Input}
 use Rattle.ioc_values.specs.declared.value.Finished.{Finished}
 use Rattle.ioc_fields.specs.declared.field_no.FieldNo.{FieldNo}
-use Rattle.ioc_device.specs.declared.Answer.{Answer}
 use Rattle.ioc_ledger.specs.declared.outcome.Outcome.{Outcome}
 use Rattle.ioc_ledger.specs.declared.tally.Tally.{Tally}
-use Rattle.ioc_ledger.specs.Requests.{None, Request, counted, counted_one, counted_started, counted_completion}
+use Rattle.ioc_ledger.specs.Requests.{None, Request, counted, counted_one, counted_started, counted_completion, more}
 use Rattle.ioc_common.specs.declared.common.Common.{Common}
 use Rattle.ioc_process.specs.declared.call.Call.{Call}
-use Rattle.ioc_process.specs.Given.{later_among}
+use Rattle.ioc_process.specs.Given.{Answers, later_among}
 use Rattle.ioc_record.specs.RecordRules.{RecordRules, targets}
 use Rattle.ioc_record.specs.Values.{put_field, put_tested, put_once_tested, put_untested, converted_for}
 use Rattle.ioc_record.specs.Laws.{IsLawful}
@@ -26,14 +25,17 @@ use Rattle.ioc_process.proofs.Keeping.{keeps-put}
 use Rattle.ioc_process.specs.declared.reply.Reply.{Reply}
 use Rattle.ioc_process.specs.declared.reply.Reply.TheVariants.{Plain, Outcome as Outcome-reply, Refused}
 use Rattle.ioc_ledger.specs.declared.outcome.Outcome.TheVariants.{Processed, Reprocess}
-use Rattle.ioc_common.specs.Steps.{with_put_mark, with_reprocess_mark}
-use Rattle.ioc_process.specs.World.{World, Has, at, common_at, put, changed, SameLinks, Keeps}
+use Rattle.ioc_common.specs.Steps.{with_put_mark, with_reprocess_mark, change_numbered}
+use Rattle.ioc_process.specs.World.{World, Has, at, common_at, put, changed, SameLinks, Keeps, sent, lost}
 use Rattle.ioc_process.specs.Processing.{ran, processed, went_on_at_last}
 use Rattle.ioc_process.specs.Runs.{Comes, Leaves}
 use Rattle.ioc_process.specs.declared.event.Event.{Event}
-use Rattle.ioc_process.specs.declared.event.Event.TheVariants.{Get, Process, Put, Complete}
+use Rattle.ioc_process.specs.declared.event.Event.TheVariants.{Get, Process, Put, Complete, Link}
 use Rattle.ioc_process.specs.Step.{Stepped, refused, told, processes, awaits, after_put, after_completion, put_with, stepped_there, number_of, stepped, completes, calls_since, tallied}
 use Rattle.ioc_process.specs.Events.{Tells}
+use Rattle.ioc_process.specs.Scanning.{rescanned, moved}
+use Rattle.ioc_process.proofs.ScanLaws.{rescanned-either, moved-either}
+use Rattle.ioc_process.specs.declared.outbox.OutboxItem.{OutboxItem}
 
 drop_all : {X : Type 0} (xs : List X) → drop (length xs) xs ≡ []
 drop_all [] = refl
@@ -44,6 +46,18 @@ refused-completes (Get s field) e = refl
 refused-completes (Process s) e = refl
 refused-completes (Put s field given) e = refl
 refused-completes (Complete s number x) e = refl
+refused-completes (Link s field link) e = refl
+
+sent_calls : {R : Type 0} (item : OutboxItem) (w : World R) → (sent item w).calls ≡ w.calls
+unfolding sent
+sent_calls item w = elim (nat_lt (length w.outbox) 256) as (λ b. (cond b (record w { outbox = w.outbox ++ item ∷ [] }) (record w { dropped = more w.dropped })).calls ≡ w.calls) [
+  | true ↦ refl
+  | false ↦ refl
+]
+
+lost_calls : {R : Type 0} (w : World R) → (lost w).calls ≡ w.calls
+unfolding lost
+lost_calls w = refl
 
 module _ {R : Type 0} (k : RecordRules R) where
   found : (o : Option R) → IsTrue (is_some o) → Some (unwrap_or o k.missing) ≡ o
@@ -63,7 +77,13 @@ module _ {R : Type 0} (k : RecordRules R) where
   put-at w n has = ap (λ (m : FinMap nat_cmp R). record w { records = m })
       (same_map nat_cmp_total nat_cmp-IsAntisymmetric _ _ (λ q. get-insert nat_cmp_total w.records n _ q ∙ found_at w.records n q has))
 
-  module _ (answers : List Answer) where
+  -- neither a put nor a change of place calls a device
+  rescanned-calls : (w : World R) (s : ℕ) (r : R) (field : FieldNo) → (rescanned k (put w s r) s field).calls ≡ w.calls
+  unfolding put changed
+  rescanned-calls w s r field =
+      rescanned-either k (λ v. v.calls ≡ w.calls) (put w s r) s field refl (moved-either k (λ v. v.calls ≡ w.calls) (put w s r) s (λ item. sent_calls item _) (lost_calls _))
+
+  module _ (answers : Answers) where
     pub step-missing : (w : World R) (event : Event) → contains_key w.records (number_of event) ≡ false → stepped k answers w event ≡ refused w NoRecord
     unfolding stepped
     step-missing w event is = rw is refl
@@ -122,9 +142,13 @@ module _ {R : Type 0} (k : RecordRules R) where
         (record { world = tells.world; reply = tells.reply; tally = tells.tally ∙ ap (λ (l : List Call). counted_started (counted before done.requests) (later_among l)) same })
 
     pub tells-put : (w after : World R) (s : ℕ) (field : FieldNo) (given : Input) (r : R) (result : Reply) (before counts : Tally) (done : Stepped R)
-        → Tells (put w s r) after result before counts (Process s) done → Tells w after result before counts (Put s field given) done
-    unfolding tallied put
-    tells-put w after s field given r result before counts done tells = record { world = tells.world; reply = tells.reply; tally = tells.tally }
+        → Tells (rescanned k (put w s r) s field) after result before counts (Process s) done → Tells w after result before counts (Put s field given) done
+    unfolding tallied
+    tells-put w after s field given r result before counts done tells = record {
+      world = tells.world;
+      reply = tells.reply;
+      tally = tells.tally ∙ ap (λ (l : List Call). counted_started (counted before done.requests) (later_among (drop (length l) done.world.calls))) (rescanned-calls w s r field);
+    }
 
     -- a completion
     pub tells-completion : (w after : World R) (s number : ℕ) (x : Finished) (before between counts : Tally) → Comes after before between Processed (processed (went_on_at_last k answers w s x))
@@ -155,7 +179,7 @@ module _ {R : Type 0} (k : RecordRules R) where
 
     -- a put that is done
     pub step-put : (w : World R) (s : ℕ) (field : FieldNo) (given : Input) (r : R) → contains_key w.records s ≡ true
-        → put_field k (at k w s) field given ≡ Ok r → stepped k answers w (Put s field given) ≡ after_put k answers (put w s r) s field
+        → put_field k (at k w s) field given ≡ Ok r → stepped k answers w (Put s field given) ≡ after_put k answers (rescanned k (put w s r) s field) s field
     unfolding stepped_there
     step-put w s field given r there is = step-there w (Put s field given) there ∙ ap (put_with k answers w s field) is
 

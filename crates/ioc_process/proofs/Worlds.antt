@@ -9,7 +9,7 @@ use Rattle.ioc_record.specs.RecordRules.{RecordRules}
 use Rattle.ioc_record.specs.Laws.{IsLawful}
 use Rattle.ioc_ledger.specs.Requests.{more}
 use Rattle.ioc_process.specs.declared.outbox.OutboxItem.{OutboxItem}
-use Rattle.ioc_process.specs.World.{sent, World, Has, at, common_at, put, changed, idle, one_if_idle, total}
+use Rattle.ioc_process.specs.World.{sent, lost, World, Has, at, common_at, put, changed, idle, one_if_idle, total}
 use Rattle.ioc_process.proofs.Weights.{weight_of, total-insert}
 
 pub one_of_two : (b : Bool) → cond b 1 0 + cond b 0 1 ≡ 1
@@ -97,3 +97,8 @@ sent_by item w =
       | true ↦ refl
       | false ↦ refl
     ]
+
+-- an item dropped changes the count of these
+pub lost_by : {R : Type 0} (w : World R) → record w { dropped = more w.dropped } ≡ lost w
+unfolding lost
+lost_by w = refl

@@ -2,7 +2,6 @@
 use Rattle.std.specs.Prelude.{◌≡◌, ℕ, ◌+◌, ◌-◌, ◌≤◌, filter, drop, true, false, if◌then◌else◌, List, [], ◌∷◌, ◌++◌, Option, Some}
 use Rattle.std.specs.Prelude.{None as Nothing_}
 use Rattle.std.specs.List.{last_or}
-use Rattle.ioc_device.specs.declared.Answer.{Answer}
 use Rattle.ioc_ledger.specs.declared.tally.Tally.{Tally}
 use Rattle.ioc_ledger.specs.declared.outcome.Outcome.{Outcome}
 use Rattle.ioc_ledger.specs.declared.outcome.Outcome.TheVariants.{Active, Reprocess}
@@ -20,6 +19,8 @@ use Rattle.ioc_process.specs.World.{World, Has, common_at, changed, idle, Keeps}
 use Rattle.ioc_process.specs.Marks.{is_put_down, put_down, put_mark_passed}
 use Rattle.ioc_process.specs.Links.{is_chosen}
 use Rattle.ioc_process.specs.Processing.{Done, Ran, Read, Reading, as_request, processed, ran_after, completed_if, request, ran, read_at, disable_came, judged, completed, finished, rested, followed_each}
+use Rattle.ioc_process.specs.Given.{Answers}
+use Rattle.ioc_process.specs.Notifying.{passed_on}
 
 -- what a record came to when it began or went on
 pub data Turn : Type 0 where
@@ -117,7 +118,7 @@ pub record Turns {R : Type 0} (k : RecordRules R) (w after : World R) (more most
 unfoldable pub remaining : ℕ → ℕ → List Slot
 remaining links next = filter (is_chosen links) (drop next all_slots)
 
-module _ {R : Type 0} (k : RecordRules R) (answers : List Answer) where
+module _ {R : Type 0} (k : RecordRules R) (answers : Answers) where
   -- record s finishes after this
   unfoldable pub then_finished : ℕ → Done R → Done R
   then_finished s done =
@@ -153,7 +154,7 @@ module _ {R : Type 0} (k : RecordRules R) (answers : List Answer) where
       let by_put = (common_at k w s).by_put in
       if is_put_down by_put (common_at k w t)
       then record { world = changed k w t put_down; requests = None; outcome = Reprocess }
-      else ran k answers (changed k w t (put_mark_passed by_put)) t
+      else ran k answers (passed_on k (changed k w t (put_mark_passed by_put)) s t) t
 
   -- the request of record t, by the frame that waits for it
   abbrev pub called_by : World R → Option Frame → ℕ → Ran R

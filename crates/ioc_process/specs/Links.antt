@@ -12,7 +12,7 @@ use Rattle.ioc_common.specs.declared.link_field.LinkField.{LinkField}
 use Rattle.ioc_common.specs.declared.link_field.LinkUse.{LinkUse}
 use Rattle.ioc_common.specs.declared.link_field.LinkUse.TheVariants.{Unused, Standing}
 use Rattle.ioc_common.specs.declared.link_field.StandingLink.{StandingLink}
-use Rattle.ioc_common.specs.Links.{use_of}
+use Rattle.ioc_common.specs.Links.{use_of, record_named}
 use Rattle.ioc_common.specs.Steps.{inherited, is_passive}
 use Rattle.ioc_record.specs.RecordRules.{RecordRules}
 use Rattle.ioc_process.specs.World.{World, at, common_at, changed}
@@ -55,6 +55,9 @@ module _ {R : Type 0} (k : RecordRules R) where
       changed k w t.number (inherited t.mode from.new_status from.new_severity)
 
   -- the record that a link names, where that is passive: it is requested when the link is followed
+  abbrev pub passive_record : World R → Option ℕ → Option ℕ
+  passive_record w (Some n) = if is_passive (common_at k w n) then Some n else Nothing_
+  passive_record w Nothing_ = Nothing_
+
   abbrev pub passive_named : World R → LinkUse → Option ℕ
-  passive_named w (Standing t) = if is_passive (common_at k w t.number) then Some t.number else Nothing_
-  passive_named w _ = Nothing_
+  passive_named w link = passive_record w (record_named link)

@@ -1,5 +1,6 @@
 //! What can happen to a database, and what is kept of it.
 use crate::reply::Reply;
+use ioc_common::LinkField;
 use ioc_device::Answer;
 use ioc_fields::FieldNo;
 use ioc_names::RecordNo;
@@ -16,6 +17,8 @@ pub enum Event {
     Put(RecordNo, FieldNo, Input),
     /// The device of a record has answered at last, to the wait of this number.
     Complete(RecordNo, u64, Finished),
+    /// A link field gets another link.
+    Link(RecordNo, FieldNo, LinkField),
 }
 
 /// An event that was done: when, what devices answered in it, and the reply.

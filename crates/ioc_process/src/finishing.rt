@@ -2,9 +2,8 @@
 ghost use Rattle.std.specs.Prelude.{◌≡◌, ◌≤◌, ◌<◌, ◌+◌, ◌-◌, ℕ, List, [], Some, false, vec_len};
 ghost use Rattle.std.specs.FinMap.{len};
 ghost use Rattle.std.specs.Vec.{vec_capacity};
-ghost use Rattle.ioc_device.specs.declared.Answer.{Answer};
 ghost use Rattle.ioc_process.specs.World.{Has, common_at, IsClosed};
-ghost use Rattle.ioc_process.specs.Given.{Begins};
+ghost use Rattle.ioc_process.specs.Given.{Answers, Begins};
 ghost use Rattle.ioc_process.specs.Runs.{ForAnswers, IsStanding};
 ghost use Rattle.ioc_common.specs.declared.body.Output.TheVariants.{WriteLink};
 ghost use Rattle.ioc_common.specs.declared.link_field.LinkUse.TheVariants.{Standing};
@@ -14,7 +13,9 @@ ghost use Rattle.ioc_process.specs.Frames.{then_finished, remaining, after_turn,
 use crate::frames::{Frame, Next, Place};
 use crate::inputs::fault_link;
 use crate::outbox::OutboxItem;
-use crate::outputs::{Written, is_chosen, link_at, passive_target, write_device, write_value};
+use crate::outputs::{
+    Written, is_chosen, link_at, passive_record, passive_target, write_device, write_value,
+};
 use crate::steps::{common, raise, rest, set_active, show, take};
 use crate::store::Store;
 use ioc_common::{Got, LinkUse, Output, StandingLink};
@@ -32,7 +33,7 @@ pub fn finish<S: Store>(store: &mut S, frames: &mut Vec<Frame>, number: RecordNo
     requires closed { IsClosed S.Record.rules (S.world store.old) }
     requires is_idle { (common_at S.Record.rules (S.world store.old) number).active ≡ false }
     requires room { vec_len frames.old < vec_capacity frames.old }
-    ensures turn { (answers : List Answer) → processed (finished S.Record.rules (request S.Record.rules answers) (S.world store.old) number)
+    ensures turn { (answers : Answers) → processed (finished S.Record.rules (request S.Record.rules answers) (S.world store.old) number)
         ≡ after_turn S.Record.rules answers (S.world store.new) (turn_of frames.new.items result) }
     ensures given { S.given store.new ≡ S.given store.old }
     ensures turns { Turns S.Record.rules (S.world store.old) (S.world store.new) 0 1 (turn_of frames.new.items result) }
@@ -40,8 +41,8 @@ pub fn finish<S: Store>(store: &mut S, frames: &mut Vec<Frame>, number: RecordNo
     ensures room { vec_capacity frames.new ≡ vec_capacity frames.old }
 {
     show(store, number);
-    let link = common(store, number).forward_link.in_use();
-    match passive_target(store, link) {
+    let named = common(store, number).forward_link.record_named();
+    match passive_record(store, named) {
         Some(target) => {
             set_active(store, number, true);
             frames.push_reserved(Frame {
@@ -63,7 +64,7 @@ pub fn finish_with_fault<S: Store>(store: &mut S, frames: &mut Vec<Frame>, numbe
     requires closed { IsClosed S.Record.rules (S.world store.old) }
     requires is_idle { (common_at S.Record.rules (S.world store.old) number).active ≡ false }
     requires room { vec_len frames.old < vec_capacity frames.old }
-    ensures turn { (answers : List Answer) → processed (finished S.Record.rules (request S.Record.rules answers) (faulted S.Record.rules (S.world store.old) number) number)
+    ensures turn { (answers : Answers) → processed (finished S.Record.rules (request S.Record.rules answers) (faulted S.Record.rules (S.world store.old) number) number)
         ≡ after_turn S.Record.rules answers (S.world store.new) (turn_of frames.new.items result) }
     ensures given { S.given store.new ≡ S.given store.old }
     ensures turns { Turns S.Record.rules (S.world store.old) (S.world store.new) 0 1 (turn_of frames.new.items result) }
@@ -87,7 +88,7 @@ pub fn write_record<S: Store>(
     requires is_idle { (common_at S.Record.rules (S.world store.old) number).active ≡ false }
     requires room { vec_len frames.old < vec_capacity frames.old }
     requires standing { Has (S.world store.old) target.number }
-    ensures turn { (answers : List Answer) → processed (then_finished S.Record.rules answers number
+    ensures turn { (answers : Answers) → processed (then_finished S.Record.rules answers number
         (after_writing S.Record.rules (request S.Record.rules answers) (wrote S.Record.rules (S.world store.old) number target value) number target)) ≡ after_turn S.Record.rules answers (S.world store.new) (turn_of frames.new.items result) }
     ensures given { S.given store.new ≡ S.given store.old }
     ensures turns { Turns S.Record.rules (S.world store.old) (S.world store.new) 0 2 (turn_of frames.new.items result) }
@@ -123,7 +124,7 @@ pub fn write_link<S: Store>(
     requires is_idle { (common_at S.Record.rules (S.world store.old) number).active ≡ false }
     requires room { vec_len frames.old < vec_capacity frames.old }
     requires standing { IsStanding (S.world store.old) link }
-    ensures turn { (answers : List Answer) → processed (then_finished S.Record.rules answers number
+    ensures turn { (answers : Answers) → processed (then_finished S.Record.rules answers number
         (write_link S.Record.rules (request S.Record.rules answers) (S.world store.old) number link value)) ≡ after_turn S.Record.rules answers (S.world store.new) (turn_of frames.new.items result) }
     ensures given { S.given store.new ≡ S.given store.old }
     ensures turns { Turns S.Record.rules (S.world store.old) (S.world store.new) 0 2 (turn_of frames.new.items result) }
@@ -149,7 +150,7 @@ pub fn follow_each<S: Store>(
     requires closed { IsClosed S.Record.rules (S.world store.old) }
     requires is_idle { (common_at S.Record.rules (S.world store.old) number).active ≡ false }
     requires room { vec_len frames.old < vec_capacity frames.old }
-    ensures turn { (answers : List Answer) → processed (then_finished S.Record.rules answers number
+    ensures turn { (answers : Answers) → processed (then_finished S.Record.rules answers number
         (followed_each S.Record.rules (request S.Record.rules answers) (S.world store.old) number (remaining links first))) ≡ after_turn S.Record.rules answers (S.world store.new) (turn_of frames.new.items result) }
     ensures given { S.given store.new ≡ S.given store.old }
     ensures turns { Turns S.Record.rules (S.world store.old) (S.world store.new) 0 ((16 - first) + 1) (turn_of frames.new.items result) }
@@ -175,20 +176,20 @@ pub fn follow_each<S: Store>(
 }
 
 /// A record puts out what it has to, and finishes; its device may keep it waiting.
-#[inline(always)]
+#[inline(never)]
 pub fn put_out<S: Store>(
     store: &mut S,
     frames: &mut Vec<Frame>,
     number: RecordNo,
-    output: Output,
+    output: &Output,
 ) -> Next
     requires there { Has (S.world store.old) number }
     requires closed { IsClosed S.Record.rules (S.world store.old) }
     requires is_idle { (common_at S.Record.rules (S.world store.old) number).active ≡ false }
     requires room { vec_len frames.old < vec_capacity frames.old }
-    requires standing { (t : StandingLink) (v : Value) → output ≡ WriteLink (Standing t) v → Has (S.world store.old) t.number }
+    requires standing { (t : StandingLink) (v : Value) → output.now ≡ WriteLink (Standing t) v → Has (S.world store.old) t.number }
     ensures turn { ForAnswers (S.given store.new) (λ answers.
-        processed (after_output S.Record.rules (request S.Record.rules answers) number (put_out S.Record.rules answers (request S.Record.rules answers) (S.world store.old) number output))
+        processed (after_output S.Record.rules (request S.Record.rules answers) number (put_out S.Record.rules answers (request S.Record.rules answers) (S.world store.old) number output.now))
         ≡ after_turn S.Record.rules answers (S.world store.new) (turn_of frames.new.items result)) }
     ensures given { Begins S.Device.gives (S.given store.old) (S.given store.new) }
     ensures turns { Turns S.Record.rules (S.world store.old) (S.world store.new) 0 17 (turn_of frames.new.items result) }
@@ -197,17 +198,17 @@ pub fn put_out<S: Store>(
 {
     match output {
         Output::NoOutput => finish(store, frames, number),
-        Output::WriteLink(link, value) => write_link(store, frames, number, link, value),
+        Output::WriteLink(link, value) => write_link(store, frames, number, *link, *value),
         Output::WriteDevice(value) => {
-            if write_device(store, number, value) {
+            if write_device(store, number, *value) {
                 finish(store, frames, number)
             } else {
                 Next::Ends(Outcome::Processed)
             }
         }
-        Output::FollowLinks(links) => follow_each(store, frames, number, links, 0),
+        Output::FollowLinks(links) => follow_each(store, frames, number, *links, 0),
         Output::PostEvent(name) => {
-            store.send(OutboxItem::Post(name));
+            store.send(OutboxItem::Post(*name));
             finish(store, frames, number)
         }
     }
@@ -233,8 +234,12 @@ pub fn finish_body<S: Store>(
     ensures opens { Opens frames.old.items frames.new.items result }
     ensures room { vec_capacity frames.new ≡ vec_capacity frames.old }
 {
-    let output = take(store, number, got);
-    put_out(store, frames, number, output)
+    let mut output = Output::NoOutput;
+    if take(store, number, &got, &mut output) {
+        put_out(store, frames, number, &output)
+    } else {
+        finish(store, frames, number)
+    }
 }
 
 /// A body goes on whose link gave a fault.

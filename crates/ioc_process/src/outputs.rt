@@ -1,15 +1,16 @@
 //! What a body puts out: a value through a link or to a device, and the links that it follows.
-ghost use Rattle.std.specs.Prelude.{◌≡◌, ◌<◌, ◌-◌, ◌^◌, List, IsTrue, OnOk, OnErr, IfErr, Ok, Err};
+ghost use Rattle.std.specs.Prelude.{◌≡◌, ◌<◌, ◌-◌, ◌^◌, ℕ, List, Some, IsTrue, OnOk, OnErr, IfErr, Ok, Err};
 ghost use Rattle.ioc_record.specs.Values.{put_untested};
 ghost use Rattle.ioc_values.specs.declared.input.Input.TheVariants.{Value as InputValue};
 ghost use Rattle.ioc_device.specs.declared.Answer.{Answer};
 ghost use Rattle.ioc_process.specs.World.{Has, at, put, common_at, Keeps, Stays};
 ghost use Rattle.ioc_process.specs.Given.{Begins};
 ghost use Rattle.ioc_process.specs.Runs.{ForAnswers, HasWritten, HasPutOut, IsStanding, how_written};
-ghost use Rattle.ioc_process.specs.Links.{is_chosen, is_proc, link_at, passive_named};
+ghost use Rattle.ioc_process.specs.Links.{is_chosen, is_proc, link_at, passive_named, passive_record};
 ghost use Rattle.ioc_process.specs.Processing.{stored_at, wrote, acknowledged, write_device};
 
 use crate::inputs::can_ask;
+use crate::scan_change::rescan;
 use crate::steps::{common, inherit, passes_on, passive, raise, wait};
 use crate::store::Store;
 use ioc_common::{LinkUse, StandingLink};
@@ -46,6 +47,20 @@ pub fn link_at<S: Store>(store: &S, number: RecordNo, slot: Slot) -> LinkUse
         Some(field) => field.in_use(),
         None => LinkUse::Unused,
     }
+}
+
+/// A record, where it is passive.
+#[inline(always)]
+pub fn passive_record<S: Store>(store: &S, named: Option<RecordNo>) -> Option<RecordNo>
+    requires { (n : ℕ) → named ≡ Some n → Has (S.world store.now) n }
+    ensures { result ≡ passive_record S.Record.rules (S.world store.now) named }
+{
+    if let Some(number) = named {
+        if passive(store, number) {
+            return Some(number);
+        }
+    }
+    None
 }
 
 /// The record that a link names, where that is passive.
@@ -89,7 +104,10 @@ fn place_value<S: Store>(store: &mut S, target: StandingLink, value: Value) -> b
 {
     let StandingLink { number, field, .. } = target;
     match put_through(store, number, field, Input::Value(value)) {
-        Ok(()) => true,
+        Ok(()) => {
+            rescan(store, number, field);
+            true
+        }
         Err(_) => false,
     }
 }

@@ -1,8 +1,8 @@
 //! Tests of one record as lists of steps, each with what must come of it. One list holds all tests of a type, since
 //! a list costs the prover little and a function much.
 use ioc_common::{
-    Common, FieldAddress, Fresh, Got, InputKind, KeptLink, Lead, LinkUse, Output, StandingLink,
-    Want,
+    Common, FieldAddress, Fresh, Got, InputKind, KeptLink, Lead, LinkUse, Need, Output,
+    StandingLink, Want,
 };
 use ioc_fields::{FieldNo, OwnField, field};
 use ioc_links::Mode;
@@ -326,6 +326,34 @@ fn holds<K: RecordKind>(alloc: Global, item: &mut K, step: &Step<'_>) -> bool {
     }
 }
 
+// The body begins, and wants this.
+fn begins<K: RecordKind>(item: &K, wanted: Want) -> bool {
+    let need = match wanted {
+        Want::NoInput | Want::ReadLink(LinkUse::Unused) => Need::Nothing,
+        Want::ReadLink(_) => Need::Link,
+        Want::ReadDevice => Need::Device,
+    };
+    let link = match wanted {
+        Want::ReadLink(link) => link,
+        Want::NoInput | Want::ReadDevice => LinkUse::Unused,
+    };
+    item.begin() == need && item.wanted_link() == link
+}
+
+// The body takes what came, and does this next.
+fn takes<K: RecordKind>(item: &mut K, got: Got, does: Output) -> bool {
+    let mut output = Output::NoOutput;
+    let puts_out = item.take(&got, &mut output);
+    puts_out == (does != Output::NoOutput) && output == does
+}
+
+// The body's device has answered at last, and the body puts out nothing.
+fn ends<K: RecordKind>(item: &mut K, finished: Finished) -> bool {
+    let mut output = Output::FollowLinks(0);
+    item.finish(finished, &mut output);
+    output == Output::NoOutput
+}
+
 // A step of the record's type.
 fn type_holds<K: RecordKind>(alloc: Global, item: &mut K, step: &Step<'_>) -> bool {
     match step {
@@ -335,12 +363,10 @@ fn type_holds<K: RecordKind>(alloc: Global, item: &mut K, step: &Step<'_>) -> bo
         }
         Step::Stands(field) => lead_on(alloc, item, *field, there()),
         Step::OwnsDevice(field) => lead_on(alloc, item, *field, Lead::OwnDevice),
-        Step::Begin(wants) => item.begin() == want(*wants),
-        Step::Take(came, does) => item.take(got(*came)) == output(*does),
-        Step::Answer(number) => {
-            item.finish(Finished::Done(Value::ULong(*number))) == Output::NoOutput
-        }
-        Step::AnswerFault => item.finish(Finished::Fault) == Output::NoOutput,
+        Step::Begin(wants) => begins(item, want(*wants)),
+        Step::Take(came, does) => takes(item, got(*came), output(*does)),
+        Step::Answer(number) => ends(item, Finished::Done(Value::ULong(*number))),
+        Step::AnswerFault => ends(item, Finished::Fault),
         Step::ReadAsNumber(name, number) => {
             let kind = InputKind::Number(Range::Long);
             is_read(read(item, name, kind), Value::Long(*number))

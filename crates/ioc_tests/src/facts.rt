@@ -1,5 +1,5 @@
 //! Facts of loaded databases.
-use Fact::{Counts, Leads, LeadsNowhere, Named, Shows, Unnamed};
+use Fact::{Counts, Leads, LeadsHome, LeadsNowhere, Named, Shows, Unnamed};
 use ioc_common::{FieldAddress, Lead};
 use ioc_dbfile::Database;
 use ioc_fields::{FieldNo, field};
@@ -18,11 +18,13 @@ pub enum Fact {
     /// The link of the field of a record leads to that field of a record.
     Leads(usize, FieldNo, usize, FieldNo),
     LeadsNowhere(usize, FieldNo),
+    /// The link leads to the device of its own record.
+    LeadsHome(usize, FieldNo),
 }
 
 // Is this the text of the field of the record of a number?
 fn shows(database: &Database, number: usize, name: &str, wanted: &[u8]) -> bool {
-    let Some(item) = database.map.records.get(number) else {
+    let Some(item) = database.records.get(number) else {
         return false;
     };
     match field(item.record_type(), name.as_bytes()) {
@@ -33,13 +35,13 @@ fn shows(database: &Database, number: usize, name: &str, wanted: &[u8]) -> bool 
 
 // Where a link of a record leads.
 fn lead_of(database: &Database, number: usize, field: FieldNo) -> Option<Lead> {
-    let link = database.map.records.get(number)?.link(field)?;
+    let link = database.records.get(number)?.link(field)?;
     Some(link.get().lead)
 }
 
 fn holds(database: &Database, fact: &Fact) -> bool {
     match fact {
-        Counts(count) => database.map.records.len() == *count,
+        Counts(count) => database.records.len() == *count,
         Named(name, number) => database.names.find(name) == Some(RecordNo::new(*number)),
         Unnamed(name) => database.names.find(name).is_none(),
         Shows(number, name, wanted) => shows(database, *number, name, wanted),
@@ -51,6 +53,7 @@ fn holds(database: &Database, fact: &Fact) -> bool {
             lead_of(database, *number, *field) == Some(Lead::Field(address))
         }
         LeadsNowhere(number, field) => lead_of(database, *number, *field) == Some(Lead::Nowhere),
+        LeadsHome(number, field) => lead_of(database, *number, *field) == Some(Lead::OwnDevice),
     }
 }
 

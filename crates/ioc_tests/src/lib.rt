@@ -4,11 +4,15 @@
 #[cfg(test)]
 mod chains;
 #[cfg(test)]
+mod devices;
+#[cfg(test)]
 mod endings;
 #[cfg(test)]
-mod events;
-#[cfg(test)]
 mod facts;
+#[cfg(test)]
+mod hostile;
+#[cfg(test)]
+mod language;
 #[cfg(test)]
 mod lines;
 #[cfg(test)]

@@ -1,5 +1,5 @@
 //! Whole loads of database texts.
-use crate::facts::Fact::{self, Counts, Leads, LeadsNowhere, Named, Shows, Unnamed};
+use crate::facts::Fact::{self, Counts, Leads, LeadsHome, LeadsNowhere, Named, Shows, Unnamed};
 use crate::facts::all_hold;
 use crate::runs::silent_run;
 use ioc_dbfile::{Macros, load};
@@ -39,9 +39,10 @@ static LOADS: [(&[u8], &[Fact]); 17] = [
             Unnamed(b"h"),
         ],
     ),
-    // A link leads nowhere where there is no such record or field, where the field is a link, and to a device.
+    // A link leads nowhere where there is no such record or field, and where the field is a link. One to a device leads there from the
+    // first record that names it.
     (
-        b"record(longin,a){field(INP,\"b.UDF PP\") field(FLNK,c)}\nrecord(bo,b){field(OUT,a)field(DOL,\"a.NOPE\")field(FLNK,\"c.OUT\")}\nrecord(longin,c){field(INP,nowhere)field(FLNK,\"b.OUT\")}\nrecord(fanout,d){field(LNK3,\"b.ZNAM\")field(SELL,a)}\nrecord(longin,e){field(INP,\"@card\")}",
+        b"record(longin,a){field(INP,\"b.UDF PP\") field(FLNK,c)}\nrecord(bo,b){field(OUT,a)field(DOL,\"a.NOPE\")field(FLNK,\"c.OUT\")}\nrecord(longin,c){field(INP,nowhere)field(FLNK,\"b.OUT\")}\nrecord(fanout,d){field(LNK3,\"b.ZNAM\")field(SELL,a)}\nrecord(longin,e){field(INP,\"@card\")}record(longin,f){field(INP,\"@card\")}record(longin,g){field(INP,\"@card 1\")}",
         &[
             Leads(0, INP, 1, FieldNo::Common(CommonField::Udf)),
             Leads(0, FLNK, 2, VAL),
@@ -57,7 +58,9 @@ static LOADS: [(&[u8], &[Fact]); 17] = [
                 FieldNo::Own(OwnField::Znam),
             ),
             Leads(3, FieldNo::Own(OwnField::Sell), 0, VAL),
-            LeadsNowhere(4, INP),
+            LeadsHome(4, INP),
+            LeadsNowhere(5, INP),
+            LeadsHome(6, INP),
         ],
     ),
     // The value of the last field, as its text shows it.
@@ -159,7 +162,7 @@ enum Made {
 // Does the text make this?
 fn makes(alloc: Global, text: &[u8], wanted: Made) -> bool {
     match (load(alloc, text, &Macros::new(alloc)), wanted) {
-        (Ok(database), Made::Records(count)) => database.map.records.len() == count,
+        (Ok(database), Made::Records(count)) => database.records.len() == count,
         (Err(IocError::BadDb(fault)), Made::Fault(line, kind)) => {
             fault.line == line && fault.kind == kind
         }

@@ -6,8 +6,8 @@ ghost use Rattle.rec_binary.specs.Bi.{bi, new_bi, raw_taken, bi_tested, constant
 
 use crate::two_state::TwoState;
 use ioc_common::{
-    Condition, Fresh, Got, InputKind, KeptLink, Output, Source, Want, raw_came, raw_constant,
-    state_came, state_constant,
+    Condition, Fresh, Got, InputKind, KeptLink, LinkUse, Need, Output, Source, raw_came,
+    raw_constant, state_came, state_constant,
 };
 use ioc_fields::{OwnField, RecordType};
 use ioc_links::Link;
@@ -136,9 +136,12 @@ impl RecordBody for Bi {
         }
     }
 
-    #[inline(never)]
-    fn begin(&self) -> Want {
+    fn begin(&self) -> Need {
         self.source.begin()
+    }
+
+    fn wanted_link(&self) -> LinkUse {
+        self.source.wanted_link()
     }
 
     #[tactic(auto, unfolding(crate::specs::Bi::bi_kind))]
@@ -152,14 +155,14 @@ impl RecordBody for Bi {
 
     #[tactic(auto, unfolding(crate::specs::Bi::bi_taken))]
     #[inline(never)]
-    fn take(&mut self, condition: &mut Condition, got: Got) -> Output {
+    fn take(&mut self, condition: &mut Condition, got: &Got, _output: &mut Output) -> bool {
         if self.source.input.is_raw(condition) {
             self.take_raw_if(condition, raw_came(got, self.states.raw));
         } else {
             self.take_state_if(condition, state_came(got, self.states.value));
         }
         self.test(condition);
-        Output::NoOutput
+        false
     }
 
     fn constant_kind(&self, _condition: &Condition, field: OwnField) -> Option<InputKind> {

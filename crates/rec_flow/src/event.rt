@@ -3,7 +3,7 @@ ghost use Rattle.std.specs.Prelude.{◌≡◌};
 ghost use Rattle.ioc_record.specs.BodyLaws.{IsNewBody};
 ghost use Rattle.rec_flow.specs.Event.{event, new_event};
 
-use ioc_common::{Condition, Fresh, Got, InputKind, KeptLink, Output, Want};
+use ioc_common::{Condition, Fresh, Got, InputKind, KeptLink, LinkUse, Need, Output};
 use ioc_fields::{OwnField, RecordType};
 use ioc_record::RecordBody;
 use ioc_values::{Text, Value};
@@ -70,9 +70,12 @@ impl RecordBody for Event {
         self.text.store(condition, field, value);
     }
 
-    #[inline(never)]
-    fn begin(&self) -> Want {
+    fn begin(&self) -> Need {
         self.text.source.begin()
+    }
+
+    fn wanted_link(&self) -> LinkUse {
+        self.text.source.wanted_link()
     }
 
     fn input_kind(&self, _condition: &Condition) -> InputKind {
@@ -81,13 +84,14 @@ impl RecordBody for Event {
 
     #[tactic(auto, unfolding(crate::specs::Event::event_taken, crate::specs::Event::event_output))]
     #[inline(never)]
-    fn take(&mut self, condition: &mut Condition, got: Got) -> Output {
+    fn take(&mut self, condition: &mut Condition, got: &Got, output: &mut Output) -> bool {
         match got {
-            Got::Value(value) => self.text.store(condition, OwnField::Val, value),
+            Got::Value(value) => self.text.store(condition, OwnField::Val, *value),
             Got::Nothing => condition.undefined = 0,
             Got::Fault => {}
         }
-        Output::PostEvent(self.text.value)
+        *output = Output::PostEvent(self.text.value);
+        true
     }
 
     fn constant_kind(&self, _condition: &Condition, field: OwnField) -> Option<InputKind> {

@@ -7,8 +7,8 @@ ghost use Rattle.rec_multi.specs.Mbbi.{mbbi, new_mbbi, state_of, raw_taken, cons
 use crate::bits::shifted_right;
 use crate::multi_state::MultiState;
 use ioc_common::{
-    Condition, Fresh, Got, InputKind, KeptLink, Output, Source, Want, raw_came, raw_constant,
-    state_came, state_constant,
+    Condition, Fresh, Got, InputKind, KeptLink, LinkUse, Need, Output, Source, raw_came,
+    raw_constant, state_came, state_constant,
 };
 use ioc_fields::{OwnField, RecordType};
 use ioc_links::Link;
@@ -137,9 +137,12 @@ impl RecordBody for Mbbi {
         }
     }
 
-    #[inline(never)]
-    fn begin(&self) -> Want {
+    fn begin(&self) -> Need {
         self.source.begin()
+    }
+
+    fn wanted_link(&self) -> LinkUse {
+        self.source.wanted_link()
     }
 
     #[tactic(auto, unfolding(crate::specs::Mbbi::mbbi_kind))]
@@ -153,14 +156,14 @@ impl RecordBody for Mbbi {
 
     #[tactic(auto, unfolding(crate::specs::Mbbi::mbbi_taken))]
     #[inline(never)]
-    fn take(&mut self, condition: &mut Condition, got: Got) -> Output {
+    fn take(&mut self, condition: &mut Condition, got: &Got, _output: &mut Output) -> bool {
         if self.source.input.is_raw(condition) {
             self.take_raw_if(condition, raw_came(got, self.states.raw));
         } else {
             self.take_state_if(condition, state_came(got, self.states.value));
         }
         self.states.test(condition);
-        Output::NoOutput
+        false
     }
 
     fn constant_kind(&self, _condition: &Condition, field: OwnField) -> Option<InputKind> {

@@ -6,7 +6,9 @@ ghost use Rattle.rec_multi.specs.Mbbo.{mbbo, new_mbbo, number_of, converted, cam
 
 use crate::bits::shifted_left;
 use crate::multi_state::MultiState;
-use ioc_common::{Condition, Drive, Fresh, Got, InputKind, KeptLink, Output, Want, ushort_in};
+use ioc_common::{
+    Condition, Drive, Fresh, Got, InputKind, KeptLink, LinkUse, Need, Output, ushort_in,
+};
 use ioc_fields::{OwnField, RecordType};
 use ioc_links::Link;
 use ioc_record::RecordBody;
@@ -60,12 +62,12 @@ impl Mbbo {
     }
 
     // What came goes into VAL and is converted; where nothing came, a defined VAL is.
-    fn came(&mut self, condition: &mut Condition, got: Got)
-        ensures { record { body = self.new; condition = condition.new } ≡ came (record { body = self.old; condition = condition.old }) got }
+    fn came(&mut self, condition: &mut Condition, got: &Got)
+        ensures { record { body = self.new; condition = condition.new } ≡ came (record { body = self.old; condition = condition.old }) got.now }
     {
         match got {
             Got::Value(value) => {
-                self.states.value = ushort_in(value).unwrap_or(self.states.value);
+                self.states.value = ushort_in(*value).unwrap_or(self.states.value);
                 condition.undefined = 0;
                 self.convert();
             }
@@ -80,8 +82,8 @@ impl Mbbo {
 
     // Takes what came, and raises alarms.
     #[tactic(auto, unfolding(crate::specs::Mbbo::worked))]
-    fn work(&mut self, condition: &mut Condition, got: Got)
-        ensures { record { body = self.new; condition = condition.new } ≡ worked (record { body = self.old; condition = condition.old }) got }
+    fn work(&mut self, condition: &mut Condition, got: &Got)
+        ensures { record { body = self.new; condition = condition.new } ≡ worked (record { body = self.old; condition = condition.old }) got.now }
     {
         self.came(condition, got);
         self.states.test(condition);
@@ -155,9 +157,12 @@ impl RecordBody for Mbbo {
         }
     }
 
-    #[inline(never)]
-    fn begin(&self) -> Want {
+    fn begin(&self) -> Need {
         self.drive.begin()
+    }
+
+    fn wanted_link(&self) -> LinkUse {
+        self.drive.wanted_link()
     }
 
     fn input_kind(&self, _condition: &Condition) -> InputKind {
@@ -166,16 +171,16 @@ impl RecordBody for Mbbo {
 
     #[tactic(auto, unfolding(crate::specs::Mbbo::mbbo_taken, crate::specs::Mbbo::mbbo_output, crate::specs::Mbbo::settled))]
     #[inline(never)]
-    fn take(&mut self, condition: &mut Condition, got: Got) -> Output {
+    fn take(&mut self, condition: &mut Condition, got: &Got, output: &mut Output) -> bool {
         self.work(condition, got);
         if self.drive.sets(condition) {
             self.states.value = self.invalid_value;
             self.convert();
         }
         if self.drive.drives(condition) {
-            self.drive.write(self.driven_value(condition))
+            self.drive.write(self.driven_value(condition), output)
         } else {
-            Output::NoOutput
+            false
         }
     }
 

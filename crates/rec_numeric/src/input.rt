@@ -5,7 +5,7 @@ ghost use Rattle.rec_numeric.specs.Input.{numeric_input, new_input};
 
 use crate::number::Number;
 use crate::numeric::Numeric;
-use ioc_common::{Condition, Fresh, Got, InputKind, KeptLink, Output, Source, Want};
+use ioc_common::{Condition, Fresh, Got, InputKind, KeptLink, LinkUse, Need, Output, Source};
 use ioc_fields::{OwnField, RecordType};
 use ioc_links::Link;
 use ioc_record::RecordBody;
@@ -85,9 +85,12 @@ impl<N: Number> RecordBody for NumericInput<N> {
         }
     }
 
-    #[inline(never)]
-    fn begin(&self) -> Want {
+    fn begin(&self) -> Need {
         self.source.begin()
+    }
+
+    fn wanted_link(&self) -> LinkUse {
+        self.source.wanted_link()
     }
 
     fn input_kind(&self, _condition: &Condition) -> InputKind {
@@ -96,12 +99,12 @@ impl<N: Number> RecordBody for NumericInput<N> {
 
     #[tactic(auto, unfolding(crate::specs::Input::input_taken))]
     #[inline(never)]
-    fn take(&mut self, condition: &mut Condition, got: Got) -> Output {
+    fn take(&mut self, condition: &mut Condition, got: &Got, _output: &mut Output) -> bool {
         if let Got::Value(value) = got {
-            self.store(condition, OwnField::Val, value);
+            self.store(condition, OwnField::Val, *value);
         }
         self.numbers.test(condition);
-        Output::NoOutput
+        false
     }
 
     fn constant_kind(&self, _condition: &Condition, field: OwnField) -> Option<InputKind> {

@@ -6,7 +6,7 @@ ghost use Rattle.rec_numeric.specs.Output.{numeric_output, new_output, within, l
 
 use crate::number::Number;
 use crate::numeric::Numeric;
-use ioc_common::{Condition, Drive, Fresh, Got, InputKind, KeptLink, Output, Want};
+use ioc_common::{Condition, Drive, Fresh, Got, InputKind, KeptLink, LinkUse, Need, Output};
 use ioc_fields::{OwnField, RecordType};
 use ioc_links::Link;
 use ioc_record::RecordBody;
@@ -76,12 +76,12 @@ impl<N: Number> NumericOutput<N> {
 
     // Takes what came, keeps it within the drive limits, and raises alarms.
     #[tactic(auto, unfolding(crate::specs::Output::worked))]
-    fn work(&mut self, condition: &mut Condition, got: Got)
-        ensures { record { body = self.new; condition = condition.new } ≡ worked N.number N.whole (record { body = self.old; condition = condition.old }) got }
+    fn work(&mut self, condition: &mut Condition, got: &Got)
+        ensures { record { body = self.new; condition = condition.new } ≡ worked N.number N.whole (record { body = self.old; condition = condition.old }) got.now }
     {
         match got {
             Got::Value(value) => {
-                self.numbers.value = N::in_value(value).unwrap_or(self.numbers.value);
+                self.numbers.value = N::in_value(*value).unwrap_or(self.numbers.value);
                 condition.undefined = 0;
                 self.numbers.value = self.limited_value();
             }
@@ -151,9 +151,12 @@ impl<N: Number> RecordBody for NumericOutput<N> {
         }
     }
 
-    #[inline(never)]
-    fn begin(&self) -> Want {
+    fn begin(&self) -> Need {
         self.drive.begin()
+    }
+
+    fn wanted_link(&self) -> LinkUse {
+        self.drive.wanted_link()
     }
 
     fn input_kind(&self, _condition: &Condition) -> InputKind {
@@ -162,15 +165,15 @@ impl<N: Number> RecordBody for NumericOutput<N> {
 
     #[tactic(auto, unfolding(crate::specs::Output::output_taken, crate::specs::Output::output_driven, crate::specs::Output::settled))]
     #[inline(never)]
-    fn take(&mut self, condition: &mut Condition, got: Got) -> Output {
+    fn take(&mut self, condition: &mut Condition, got: &Got, output: &mut Output) -> bool {
         self.work(condition, got);
         if self.drive.sets(condition) {
             self.numbers.value = self.invalid_value;
         }
         if self.drive.drives(condition) {
-            self.drive.write(self.numbers.value.value())
+            self.drive.write(self.numbers.value.value(), output)
         } else {
-            Output::NoOutput
+            false
         }
     }
 

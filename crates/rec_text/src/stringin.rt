@@ -4,7 +4,7 @@ ghost use Rattle.ioc_record.specs.BodyLaws.{IsNewBody};
 ghost use Rattle.rec_text.specs.Stringin.{stringin, new_stringin};
 
 use crate::text_input::TextInput;
-use ioc_common::{Condition, Fresh, Got, InputKind, KeptLink, Output, Want};
+use ioc_common::{Condition, Fresh, Got, InputKind, KeptLink, LinkUse, Need, Output};
 use ioc_fields::{OwnField, RecordType};
 use ioc_record::RecordBody;
 use ioc_values::{Text, Value};
@@ -70,9 +70,12 @@ impl RecordBody for Stringin {
         self.text.store(condition, field, value);
     }
 
-    #[inline(never)]
-    fn begin(&self) -> Want {
+    fn begin(&self) -> Need {
         self.text.source.begin()
+    }
+
+    fn wanted_link(&self) -> LinkUse {
+        self.text.source.wanted_link()
     }
 
     fn input_kind(&self, _condition: &Condition) -> InputKind {
@@ -81,10 +84,10 @@ impl RecordBody for Stringin {
 
     #[tactic(auto, unfolding(crate::specs::Stringin::stringin_taken))]
     #[inline(never)]
-    fn take(&mut self, condition: &mut Condition, got: Got) -> Output {
+    fn take(&mut self, condition: &mut Condition, got: &Got, _output: &mut Output) -> bool {
         self.text.come(condition, got);
         condition.test_undefined();
-        Output::NoOutput
+        false
     }
 
     fn constant_kind(&self, _condition: &Condition, field: OwnField) -> Option<InputKind> {

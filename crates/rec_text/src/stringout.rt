@@ -4,7 +4,9 @@ ghost use Rattle.ioc_record.specs.BodyRules.{Held};
 ghost use Rattle.ioc_record.specs.BodyLaws.{IsNewBody};
 ghost use Rattle.rec_text.specs.Stringout.{stringout, new_stringout, worked};
 
-use ioc_common::{Condition, Drive, Fresh, Got, InputKind, KeptLink, Output, Want, text_in};
+use ioc_common::{
+    Condition, Drive, Fresh, Got, InputKind, KeptLink, LinkUse, Need, Output, text_in,
+};
 use ioc_fields::{OwnField, RecordType};
 use ioc_links::Link;
 use ioc_record::RecordBody;
@@ -37,11 +39,11 @@ impl Stringout {
 
     // Takes what came, and raises the alarm of an undefined value.
     #[tactic(auto, unfolding(crate::specs::Stringout::worked))]
-    fn work(&mut self, condition: &mut Condition, got: Got)
-        ensures { record { body = self.new; condition = condition.new } ≡ worked (record { body = self.old; condition = condition.old }) got }
+    fn work(&mut self, condition: &mut Condition, got: &Got)
+        ensures { record { body = self.new; condition = condition.new } ≡ worked (record { body = self.old; condition = condition.old }) got.now }
     {
         if let Got::Value(value) = got {
-            self.value = text_in(value).unwrap_or(self.value);
+            self.value = text_in(*value).unwrap_or(self.value);
             condition.undefined = 0;
         }
         condition.test_undefined();
@@ -102,9 +104,12 @@ impl RecordBody for Stringout {
         }
     }
 
-    #[inline(never)]
-    fn begin(&self) -> Want {
+    fn begin(&self) -> Need {
         self.drive.begin()
+    }
+
+    fn wanted_link(&self) -> LinkUse {
+        self.drive.wanted_link()
     }
 
     fn input_kind(&self, _condition: &Condition) -> InputKind {
@@ -113,15 +118,15 @@ impl RecordBody for Stringout {
 
     #[tactic(auto, unfolding(crate::specs::Stringout::stringout_taken, crate::specs::Stringout::stringout_output, crate::specs::Stringout::settled))]
     #[inline(never)]
-    fn take(&mut self, condition: &mut Condition, got: Got) -> Output {
+    fn take(&mut self, condition: &mut Condition, got: &Got, output: &mut Output) -> bool {
         self.work(condition, got);
         if self.drive.sets(condition) {
             self.value = self.invalid_value;
         }
         if self.drive.drives(condition) {
-            self.drive.write(Value::Text(self.value))
+            self.drive.write(Value::Text(self.value), output)
         } else {
-            Output::NoOutput
+            false
         }
     }
 

@@ -51,11 +51,11 @@ impl TextInput {
     }
 
     /// A text that came goes into VAL, and clears UDF.
-    pub fn come(&mut self, condition: &mut Condition, got: Got)
-        ensures { record { body = self.new; condition = condition.new } ≡ came (record { body = self.old; condition = condition.old }) got }
+    pub fn come(&mut self, condition: &mut Condition, got: &Got)
+        ensures { record { body = self.new; condition = condition.new } ≡ came (record { body = self.old; condition = condition.old }) got.now }
     {
         if let Got::Value(value) = got {
-            self.store(condition, OwnField::Val, value);
+            self.store(condition, OwnField::Val, *value);
         }
     }
 

@@ -1,9 +1,10 @@
-use Rattle.std.proofs.Common.{◌≡◌, ◌++◌, List, map, take, drop, get_or, ap, ◌∙◌}
-use Rattle.ioc_types.specs.Record.{Record}
+use Rattle.std.proofs.Common.{◌≡◌, ◌++◌, ◌+◌, ℕ, List, Option, map, take, drop, get_or, length, ap, sym, ◌∙◌, arith}
+use Rattle.ioc_types.specs.Record.{Record, record_rules}
 use Rattle.ioc_fields.specs.declared.record_type.RecordType.{RecordType}
-use Rattle.ioc_types.specs.Record.{record_rules}
-use Rattle.ioc_dbfile.specs.Finished.{finished}
-use Rattle.ioc_dbfile.proofs.Mapped.{map_more, get_more}
+use Rattle.ioc_dbfile.specs.Finished.{Owner, finished, by_place}
+use Rattle.ioc_dbfile.specs.Owners.{owner_of}
+use Rattle.ioc_dbfile.specs.OwnerTable.{owner_in}
+use Rattle.ioc_dbfile.proofs.Mapped.{map_more, get_more, all_mapped}
 use Rattle.ioc_dbfile.proofs.finish.finish_all.Goals as goal
 
 pub loop-item-preserved : goal.loop-item-preserved
@@ -11,10 +12,23 @@ loop-item-preserved c =
     let all = c.args.records.now in
     let i = c.loop-item.item-index in
     let x = c.item-item.result in
-    let f = finished record_rules c.args.names.now (map record_rules.record_type all) in
-    let so_far : c.loop-item.records ≡ map f (take i all) ++ drop i all = c.loop-item.invariant in
-    let types : c.as_slice.result.now ≡ map record_rules.record_type all = c.as_slice.ensures.value ∙ c.in_ok-types.ensures in
-    let new : c.finish_record.new.item ≡ f (get_or all i x) =
-    c.in_ok-finish_record.ensures ∙ ap (λ (ts : List RecordType). finished record_rules c.args.names.now ts (get_or c.loop-item.records i x)) types ∙ ap (λ (rs : List Record). f (get_or rs i x)) so_far ∙ ap f (get_more f all i x c.loop-item-test.true)
+    let f = finished record_rules c.args.names.now c.in_ok-types.types.items (owner_in c.in_ok-owners.owners) in
+    let so_far : c.loop-item.records ≡ by_place f 0 (take i all) ++ drop i all = c.loop-item.invariant.1 in
+    let place : c.new.result ≡ 0 + i = omega (arith, c.new.ensures, c.loop-item.invariant.0) in
+    let new : c.finish_record.new.item ≡ f (0 + i) (get_or all i x) =
+    c.in_ok-finish_record.ensures ∙ ap (λ (n : ℕ). f n (get_or c.loop-item.records i x)) place ∙ ap (λ (rs : List Record). f (0 + i) (get_or rs i x)) so_far ∙ ap (f (0 + i)) (get_more f 0 all i x c.loop-item-test.true)
     in
-    rw (new, so_far) (map_more f all i x c.loop-item-test.true)
+    (omega (arith, c.loop-item.invariant.0), rw (new, so_far) (map_more f 0 all i x c.loop-item-test.true))
+
+pub returns : goal.returns
+returns c =
+    let all = c.args.records.now in
+    let names = c.args.names.now in
+    let types = c.in_ok-types.types.items in
+    let owner = owner_in c.in_ok-owners.owners in
+    let first : Owner = owner_of record_rules all in
+    let owned : owner ≡ first = (λ j text. (c.in_ok-owners.ensures text) j) in
+    let f = finished record_rules names types owner in
+    let done : c.loop-item.records ≡ by_place f 0 all = rw (c.loop-item.invariant.1) (all_mapped f all c.loop-item.item-index (omega (arith, c.loop-item-test.false))) in
+    let typed : types ≡ map record_rules.record_type all = c.in_ok-types.ensures in
+    done ∙ ap (λ (ts : List RecordType). by_place (finished record_rules names ts owner) 0 all) typed ∙ ap (λ (o : Owner). by_place (finished record_rules names (map record_rules.record_type all) o) 0 all) owned

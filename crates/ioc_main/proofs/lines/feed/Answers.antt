@@ -7,7 +7,7 @@ use Rattle.ioc_main.proofs.lines.feed.Goals as goal
 pub returns-in_err-take_byte-clause-err : goal.returns-in_err-take_byte-clause-err
 returns-in_err-take_byte-clause-err g c =
     let p = err_from_is_err_and c.from_residual.result c.from_residual.ensures.1 in
-    rw p.1 (λ rest. feed_fails _ _ _ _ (to_come (g.S.Session.transcript c.loop-b.session) c.loop-b.line) c.args.piece.now c.loop-b.b-index _ rest c.loop-b-test.true refl (c.in_err-take_byte.ensures.err (drop (c.loop-b.b-index + 1) c.args.piece.now ++ rest)) (c.loop-b.invariant rest))
+    rw (p.1, p.2) (λ rest. feed_fails _ _ _ _ (to_come (g.S.Session.transcript c.loop-b.session) c.loop-b.line) c.args.piece.now c.loop-b.b-index _ rest c.loop-b-test.true refl _ (c.in_err-take_byte.ensures.err (drop (c.loop-b.b-index + 1) c.args.piece.now ++ rest)) (c.loop-b.invariant rest))
 
 pub loop-b-preserved : goal.loop-b-preserved
 loop-b-preserved g c =

@@ -1,5 +1,5 @@
 use Rattle.std.proofs.Common.{[]}
-use Rattle.std.proofs.lemmas.Result.{on_ok_weaker, on_err_weaker}
+use Rattle.std.proofs.lemmas.Result.{on_ok_weaker, IfErr-weaker}
 use Rattle.ioc_main.proofs.Feeding.{last_empty, last_ends, last_fails}
 use Rattle.ioc_main.proofs.lines.finish.Goals as goal
 
@@ -13,4 +13,4 @@ returns-in-len1-up-clause-ok g c =
 
 pub returns-in-len1-up-clause-err : goal.returns-in-len1-up-clause-err
 returns-in-len1-up-clause-err g c =
-    on_err_weaker c.end_line.result (λ p. last_fails (g.S.Session.transcript c.args.session.now) _ _ c.args.line.now c.as_slice.result.now c.as_slice.ensures.value c.in-len1-up.len_at_least (p [])) c.end_line.ensures.err
+    IfErr-weaker c.end_line.result _ _ (λ fault p. last_fails (g.S.Session.transcript c.args.session.now) fault _ _ c.args.line.now c.as_slice.result.now c.as_slice.ensures.value c.in-len1-up.len_at_least (p [])) c.end_line.ensures.err

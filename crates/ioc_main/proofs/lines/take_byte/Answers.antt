@@ -1,4 +1,4 @@
-use Rattle.std.proofs.lemmas.Result.{on_ok_weaker, on_err_weaker}
+use Rattle.std.proofs.lemmas.Result.{on_ok_weaker, IfErr-weaker}
 use Rattle.ioc_main.proofs.WrittenLemmas.{writes_same}
 use Rattle.ioc_main.proofs.ComingLemmas.{at_more}
 use Rattle.ioc_main.proofs.Feeding.{line_ends, line_fails}
@@ -10,7 +10,7 @@ returns-then-b-eq10-clause-ok g c =
 
 pub returns-then-b-eq10-clause-err : goal.returns-then-b-eq10-clause-err
 returns-then-b-eq10-clause-err g c =
-    on_err_weaker c.end_line.result (line_fails (g.S.Session.transcript c.args.session.now) _ _ c.args.line.now c.args.b c.if-b-eq10.true) c.end_line.ensures.err
+    IfErr-weaker c.end_line.result _ _ (λ fault. line_fails fault (g.S.Session.transcript c.args.session.now) _ _ c.args.line.now c.args.b c.if-b-eq10.true) c.end_line.ensures.err
 
 pub returns-clause-ok : goal.returns-clause-ok
 returns-clause-ok g c =

@@ -3,6 +3,7 @@ use Rattle.ioc_ledger.specs.declared.outcome.Outcome.TheVariants.{Processed}
 use Rattle.ioc_process.proofs.Keeping.{keeps-active, keeps_on, closed_on}
 use Rattle.ioc_process.proofs.Bodies.{forward_stands}
 use Rattle.ioc_process.proofs.FrameSteps.{ready, ready-keeps, ready-called, ready-ended, passive_there, finished-calls, finished-ends, rested-keeps}
+use Rattle.ioc_process.proofs.Needs.{named_there}
 use Rattle.ioc_process.proofs.FrameTurns.{turn_pushed, opens_pushed}
 use Rattle.ioc_process.proofs.Turning.{turns_calls, turns_ended}
 use Rattle.ioc_process.proofs.finishing.finish.Goals as goal
@@ -11,13 +12,13 @@ pub common-requires : goal.common-requires
 common-requires g c =
     rw c.show.ensures.world ((ready-keeps g.S.Record.RecordKind.rules g.met.S.Record.RecordKind.lawful (g.S.Store.world c.args.store.now) c.args.number c.requires.there).has _ c.requires.there)
 
-pub passive_target-requires : goal.passive_target-requires
-passive_target-requires g c =
+pub passive_record-requires : goal.passive_record-requires
+passive_record-requires g c =
     let k = g.S.Record.RecordKind.rules in
     let lawful = g.met.S.Record.RecordKind.lawful in
     let w = g.S.Store.world c.args.store.now in
     let closed = closed_on k lawful (ready-keeps k lawful w c.args.number c.requires.there) c.requires.closed in
-    rw (c.in_use-link.ensures, c.common.ensures, c.show.ensures.world) (forward_stands k lawful (ready k lawful w c.args.number) c.args.number closed)
+    rw (c.record_named-named.ensures, c.common.ensures, c.show.ensures.world) (named_there (ready k lawful w c.args.number) _ (forward_stands k lawful (ready k lawful w c.args.number) c.args.number closed))
 
 pub set_active-requires : goal.set_active-requires
 set_active-requires g c =
@@ -33,7 +34,7 @@ returns-in-Some-clause-turn g c = λ answers.
     let lawful = g.met.S.Record.RecordKind.lawful in
     let w = g.S.Store.world c.args.store.now in
     rw (c.push_reserved.ensures.items, turn_pushed, c.set_active.ensures.world, c.show.ensures.world)
-    (finished-calls k lawful answers w c.args.number c.in-Some.target (rw (c.in_use-link.ensures, c.common.ensures, c.show.ensures.world) at (sym c.passive_target.ensures ∙ c.in-Some.is)))
+    (finished-calls k lawful answers w c.args.number c.in-Some.target (rw (c.record_named-named.ensures, c.common.ensures, c.show.ensures.world) at (sym c.passive_record.ensures ∙ c.in-Some.is)))
 
 pub returns-in-Some-clause-turns : goal.returns-in-Some-clause-turns
 returns-in-Some-clause-turns g c =
@@ -44,7 +45,7 @@ returns-in-Some-clause-turns g c =
     let active = keeps-active k lawful (ready k lawful w c.args.number) c.args.number (first.has _ c.requires.there) true in
     let keeps = keeps_on k first active in
     let closed = closed_on k lawful first c.requires.closed in
-    let named = rw (c.in_use-link.ensures, c.common.ensures, c.show.ensures.world) at (sym c.passive_target.ensures ∙ c.in-Some.is) in
+    let named = rw (c.record_named-named.ensures, c.common.ensures, c.show.ensures.world) at (sym c.passive_record.ensures ∙ c.in-Some.is) in
     rw (c.push_reserved.ensures.items, turn_pushed, c.set_active.ensures.world, c.show.ensures.world)
     (turns_calls k _ _ keeps (omega (arith, ready-called k lawful w c.args.number c.requires.is_idle))
     (record { source_there = keeps.has _ c.requires.there; place_stands = tt })
@@ -60,7 +61,7 @@ returns-in-None-clause-turn g c = λ answers.
     let lawful = g.met.S.Record.RecordKind.lawful in
     let w = g.S.Store.world c.args.store.now in
     rw (c.rest.ensures.world, c.show.ensures.world)
-    (finished-ends k lawful answers w c.args.number (rw (c.in_use-link.ensures, c.common.ensures, c.show.ensures.world) at (sym c.passive_target.ensures ∙ c.in-None.is)))
+    (finished-ends k lawful answers w c.args.number (rw (c.record_named-named.ensures, c.common.ensures, c.show.ensures.world) at (sym c.passive_record.ensures ∙ c.in-None.is)))
 
 pub returns-in-None-clause-turns : goal.returns-in-None-clause-turns
 returns-in-None-clause-turns g c =

@@ -1,9 +1,9 @@
 use Rattle.std.proofs.Common.{◌≡◌, ◌≤◌, ◌-◌, List}
 use Rattle.std.specs.Vec.{vec_capacity}
-use Rattle.ioc_device.specs.declared.Answer.{Answer}
 use Rattle.ioc_process.specs.Processing.{request, followed_each}
 use Rattle.ioc_process.specs.Frames.{then_finished, remaining}
 use Rattle.ioc_process.proofs.finishing.follow_each.Given as goal
+use Rattle.ioc_process.specs.Given.{Answers}
 
 abbrev pub invariant-loop-slot : goal.invariant-loop-slot
 invariant-loop-slot g l =
@@ -15,7 +15,7 @@ invariant-loop-slot g l =
       frames : l.frames.items ≡ l.fn.frames.items;
       room : vec_capacity l.frames ≡ vec_capacity l.fn.frames;
       onward : l.fn.first ≤ l.next;
-      left : (answers : List Answer) → then_finished k answers l.fn.number (followed_each k (request k answers) w l.fn.number (remaining l.fn.links l.fn.first))
+      left : (answers : Answers) → then_finished k answers l.fn.number (followed_each k (request k answers) w l.fn.number (remaining l.fn.links l.fn.first))
           ≡ then_finished k answers l.fn.number (followed_each k (request k answers) w l.fn.number (remaining l.fn.links l.next));
     }
 

@@ -1,11 +1,11 @@
 use Rattle.std.proofs.Common.{true, ap, sym, ◌∙◌, refl, arith}
 use Rattle.ioc_ledger.specs.Requests.{None}
 use Rattle.ioc_ledger.specs.declared.outcome.Outcome.TheVariants.{Processed}
-use Rattle.ioc_process.specs.Given.{answers_of}
+use Rattle.ioc_process.specs.Given.{answers_of, listed}
 use Rattle.ioc_process.specs.declared.outbox.OutboxItem.TheVariants.{Post}
 use Rattle.ioc_process.specs.Processing.{request, finished, write_device, put_out, processed}
 use Rattle.ioc_process.specs.Frames.{then_finished, after_turn, Ended}
-use Rattle.ioc_process.proofs.Answering.{begins_all, write_device-requests, begins_same}
+use Rattle.ioc_process.proofs.Answering.{listed-accords, write_device-requests, begins_same}
 use Rattle.ioc_process.proofs.Depth.{sent-stays, write_device-outs}
 use Rattle.ioc_process.proofs.Keeping.{sent-keeps, closed_on}
 use Rattle.ioc_process.proofs.FrameSteps.{then_finished-none, output-on, output-waits, remaining-all}
@@ -84,8 +84,8 @@ returns-else-write_device-clause-turns g c =
     let lawful = g.met.S.Record.RecordKind.lawful in
     let w = g.S.Store.world c.args.store.now in
     let calls = (g.S.Store.given c.write_device.new.store).calls in
-    let out = c.write_device.ensures.out (answers_of calls) (begins_all calls) in
-    turns_ended k c.write_device.ensures.keeps (rw out.world (omega (arith, (write_device-outs k lawful (answers_of calls) w c.args.number c.in-WriteDevice.value).fewer))) Processed
+    let out = c.write_device.ensures.out (listed (answers_of calls)) (listed-accords calls) in
+    turns_ended k c.write_device.ensures.keeps (rw out.world (omega (arith, (write_device-outs k lawful (listed (answers_of calls)) w c.args.number c.in-WriteDevice.value).fewer))) Processed
 
 pub returns-in-FollowLinks-clause-turn : goal.returns-in-FollowLinks-clause-turn
 unfolding put_out

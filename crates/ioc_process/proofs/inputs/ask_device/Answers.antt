@@ -2,7 +2,7 @@ use Rattle.std.proofs.Common.{ap, sym, ◌∙◌}
 use Rattle.ioc_device.specs.declared.Ask.TheVariants.{Read as Read-ask}
 use Rattle.ioc_process.specs.Given.{Given}
 use Rattle.ioc_process.specs.World.{Keeps, called}
-use Rattle.ioc_process.proofs.Answering.{by_world, slice_get-given, read_device-asked, read_device-not_asked, can_ask-more, stays_if_read, begins_call, begins_same}
+use Rattle.ioc_process.proofs.Answering.{by_world, answer-given, read_device-asked, read_device-not_asked, can_ask-more, stays_if_read, begins_call, begins_same}
 use Rattle.ioc_process.proofs.Depth.{read_device-reads}
 use Rattle.ioc_process.proofs.Keeping.{read_device-keeps}
 use Rattle.ioc_process.proofs.inputs.ask_device.Goals as goal
@@ -14,7 +14,7 @@ receive-requires-clause-more g c = λ _.
 pub returns-then-can_ask-clause-read : goal.returns-then-can_ask-clause-read
 returns-then-can_ask-clause-read g c = λ answers begins.
     let w = g.S.Store.world c.args.store.now in
-    let next = rw (g.met.S.Store.calls_given c.args.store.now) at (slice_get-given _ _ answers (record { target = c.args.number; ask = Read-ask; answer = c.ask-answer.result }) (ap (λ (x : Given _). x.calls) c.receive.ensures.given ∙ c.ask-answer.ensures.calls) begins) in
+    let next = rw (g.met.S.Store.calls_given c.args.store.now) at (answer-given _ _ answers (record { target = c.args.number; ask = Read-ask; answer = c.ask-answer.result }) (ap (λ (x : Given _). x.calls) c.receive.ensures.given ∙ c.ask-answer.ensures.calls) begins) in
     rw (read_device-asked g.S.Record.RecordKind.rules answers w c.args.number _ (sym c.can_ask.ensures ∙ c.if-can_ask.true) next, ← c.ask-answer.ensures.world) c.receive.ensures.received
 
 pub returns-then-can_ask-clause-keeps : goal.returns-then-can_ask-clause-keeps

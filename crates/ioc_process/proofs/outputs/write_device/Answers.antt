@@ -2,7 +2,7 @@ use Rattle.std.proofs.Common.{ap, sym, ◌∙◌}
 use Rattle.ioc_device.specs.declared.Ask.TheVariants.{Write as Write-ask}
 use Rattle.ioc_process.specs.Given.{Given}
 use Rattle.ioc_process.specs.World.{Keeps, called}
-use Rattle.ioc_process.proofs.Answering.{by_world, slice_get-given, write_device-asked, write_device-not_asked, can_ask-more, stays_if_out, begins_call, begins_same}
+use Rattle.ioc_process.proofs.Answering.{by_world, answer-given, write_device-asked, write_device-not_asked, can_ask-more, stays_if_out, begins_call, begins_same}
 use Rattle.ioc_process.proofs.Depth.{write_device-outs}
 use Rattle.ioc_process.proofs.Keeping.{write_device-keeps}
 use Rattle.ioc_process.proofs.outputs.write_device.Goals as goal
@@ -18,7 +18,7 @@ acknowledge-requires-clause-more g c = λ _.
 pub returns-then-can_ask-clause-out : goal.returns-then-can_ask-clause-out
 returns-then-can_ask-clause-out g c = λ answers begins.
     let w = g.S.Store.world c.args.store.now in
-    let next = rw (g.met.S.Store.calls_given c.args.store.now) at (slice_get-given _ _ answers (record { target = c.args.number; ask = Write-ask c.args.value; answer = c.ask-answer.result }) (ap (λ (x : Given _). x.calls) c.acknowledge.ensures.given ∙ c.ask-answer.ensures.calls) begins) in
+    let next = rw (g.met.S.Store.calls_given c.args.store.now) at (answer-given _ _ answers (record { target = c.args.number; ask = Write-ask c.args.value; answer = c.ask-answer.result }) (ap (λ (x : Given _). x.calls) c.acknowledge.ensures.given ∙ c.ask-answer.ensures.calls) begins) in
     rw (write_device-asked g.S.Record.RecordKind.rules answers w c.args.number c.args.value _ (sym c.can_ask.ensures ∙ c.if-can_ask.true) next, ← c.ask-answer.ensures.world) c.acknowledge.ensures.out
 
 pub returns-then-can_ask-clause-keeps : goal.returns-then-can_ask-clause-keeps

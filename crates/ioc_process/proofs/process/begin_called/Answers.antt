@@ -1,17 +1,30 @@
-use Rattle.std.proofs.Common.{ap, ◌∙◌, sym, arith}
+use Rattle.std.proofs.Common.{ap, ◌∙◌, sym, arith, ℕ, Bool, ◌≤◌}
 use Rattle.ioc_common.specs.declared.common.Common.{Common}
 use Rattle.ioc_ledger.specs.declared.outcome.Outcome.TheVariants.{Reprocess}
 use Rattle.ioc_process.specs.Marks.{is_put_down, put_down, put_mark_passed}
-use Rattle.ioc_process.specs.World.{common_at, changed}
+use Rattle.ioc_process.specs.World.{common_at, changed, World, Has, Keeps, idle}
 use Rattle.ioc_process.specs.Processing.{ran}
 use Rattle.ioc_process.proofs.StepFrames.{blocked-frame}
-use Rattle.ioc_process.proofs.Depth.{stays-changed, passed-active}
+use Rattle.ioc_process.proofs.Depth.{stays-changed, passed-active, passed_on-idle}
 use Rattle.ioc_process.proofs.Alongside.{passed-links}
-use Rattle.ioc_process.proofs.Keeping.{keeps-changed, closed_on}
+use Rattle.ioc_process.proofs.Keeping.{keeps-changed, closed_on, keeps_on, passed_on-keeps}
 use Rattle.ioc_process.proofs.Answering.{begins_same}
 use Rattle.ioc_process.proofs.FrameSteps.{asked_ran-later, asked_ran-now}
 use Rattle.ioc_process.proofs.Turning.{turns_on, turns_ended}
 use Rattle.ioc_process.proofs.process.begin_called.Goals as goal
+use Rattle.ioc_process.specs.Notifying.{passed_on}
+use Rattle.ioc_record.specs.RecordRules.{RecordRules}
+use Rattle.ioc_record.specs.Laws.{IsLawful}
+
+-- a record that is requested takes over the mark and the notification of its source
+handed : {R : Type 0} (k : RecordRules R) → IsLawful k → (w : World R) (s t : ℕ) (by_put : Bool) → Has w t → Keeps k w (passed_on k (changed k w t (put_mark_passed by_put)) s t)
+handed k lawful w s t by_put there =
+    let first = keeps-changed k lawful w t there (put_mark_passed by_put) (passed-links by_put) in
+    keeps_on k first (passed_on-keeps k lawful _ s t (first.has t there))
+
+handed-idle : {R : Type 0} (k : RecordRules R) → IsLawful k → (w : World R) (s t : ℕ) (by_put : Bool) → idle k (passed_on k (changed k w t (put_mark_passed by_put)) s t) ≤ idle k w
+handed-idle k lawful w s t by_put =
+    omega (arith, passed_on-idle k lawful (changed k w t (put_mark_passed by_put)) s t, (stays-changed k lawful w t (put_mark_passed by_put) (passed-active by_put _)).fewer)
 
 pub returns-then-is_put_down-clause-turn : goal.returns-then-is_put_down-clause-turn
 returns-then-is_put_down-clause-turn g c = λ answers begins.
@@ -43,7 +56,7 @@ begin_request-requires-clause-there g c =
     let w = g.S.Store.world c.args.store.now in
     let s = c.args.source in
     let t = c.args.target in
-    rw c.pass_put_mark.ensures.world ((keeps-changed k lawful w t c.requires.there _ (passed-links _)).has _ c.requires.there)
+    rw (c.pass_notification.ensures.world, c.pass_put_mark.ensures.world) ((handed k lawful w s t c.common.result.now.by_put c.requires.there).has _ c.requires.there)
 
 pub begin_request-requires-clause-closed : goal.begin_request-requires-clause-closed
 begin_request-requires-clause-closed g c =
@@ -52,7 +65,7 @@ begin_request-requires-clause-closed g c =
     let w = g.S.Store.world c.args.store.now in
     let s = c.args.source in
     let t = c.args.target in
-    rw c.pass_put_mark.ensures.world (closed_on k lawful (keeps-changed k lawful w t c.requires.there _ (passed-links _)) c.requires.closed)
+    rw (c.pass_notification.ensures.world, c.pass_put_mark.ensures.world) (closed_on k lawful (handed k lawful w s t c.common.result.now.by_put c.requires.there) c.requires.closed)
 
 pub begin_request-requires-clause-room : goal.begin_request-requires-clause-room
 begin_request-requires-clause-room g c =
@@ -61,7 +74,7 @@ begin_request-requires-clause-room g c =
     let w = g.S.Store.world c.args.store.now in
     let s = c.args.source in
     let t = c.args.target in
-    rw c.pass_put_mark.ensures.world (omega (arith, c.requires.room, (stays-changed k lawful w t (put_mark_passed c.common.result.now.by_put) (passed-active _ _)).fewer))
+    rw (c.pass_notification.ensures.world, c.pass_put_mark.ensures.world) (omega (arith, c.requires.room, handed-idle k lawful w s t c.common.result.now.by_put))
 
 pub returns-else-is_put_down-clause-turn : goal.returns-else-is_put_down-clause-turn
 returns-else-is_put_down-clause-turn g c = λ answers begins.
@@ -72,10 +85,10 @@ returns-else-is_put_down-clause-turn g c = λ answers begins.
     let t = c.args.target in
     let by_put = ap (λ (it : Common). it.by_put) c.common.ensures in
     asked_ran-now k lawful answers w s t (ap (λ b. is_put_down b (common_at k w t)) (sym by_put) ∙ sym c.is_put_down.ensures ∙ c.if-is_put_down.false)
-    ∙ ap (λ b. ran k answers (changed k w t (put_mark_passed b)) t) (sym by_put) ∙ (rw c.pass_put_mark.ensures.world at (c.begin_request.ensures.turn answers begins))
+    ∙ ap (λ b. ran k answers (passed_on k (changed k w t (put_mark_passed b)) s t) t) (sym by_put) ∙ (rw (c.pass_notification.ensures.world, c.pass_put_mark.ensures.world) at (c.begin_request.ensures.turn answers begins))
 
 pub returns-else-is_put_down-clause-given : goal.returns-else-is_put_down-clause-given
-returns-else-is_put_down-clause-given g c = rw c.pass_put_mark.ensures.given at c.begin_request.ensures.given
+returns-else-is_put_down-clause-given g c = rw (c.pass_notification.ensures.given, c.pass_put_mark.ensures.given) at c.begin_request.ensures.given
 
 pub returns-else-is_put_down-clause-turns : goal.returns-else-is_put_down-clause-turns
 returns-else-is_put_down-clause-turns g c =
@@ -84,5 +97,17 @@ returns-else-is_put_down-clause-turns g c =
     let w = g.S.Store.world c.args.store.now in
     let s = c.args.source in
     let t = c.args.target in
-    turns_on k (keeps-changed k lawful w t c.requires.there _ (passed-links _)) (omega (arith, (stays-changed k lawful w t (put_mark_passed c.common.result.now.by_put) (passed-active _ _)).fewer)) (omega arith)
-    (rw c.pass_put_mark.ensures.world at c.begin_request.ensures.turns)
+    turns_on k (handed k lawful w s t c.common.result.now.by_put c.requires.there) (omega (arith, handed-idle k lawful w s t c.common.result.now.by_put)) (omega arith)
+    (rw (c.pass_notification.ensures.world, c.pass_put_mark.ensures.world) at c.begin_request.ensures.turns)
+
+pub pass_notification-requires-clause-source : goal.pass_notification-requires-clause-source
+pass_notification-requires-clause-source g c =
+    let k = g.S.Record.RecordKind.rules in
+    let lawful = g.met.S.Record.RecordKind.lawful in
+    rw c.pass_put_mark.ensures.world ((keeps-changed k lawful (g.S.Store.world c.args.store.now) c.args.target c.requires.there _ (passed-links _)).has _ c.requires.source_there)
+
+pub pass_notification-requires-clause-target : goal.pass_notification-requires-clause-target
+pass_notification-requires-clause-target g c =
+    let k = g.S.Record.RecordKind.rules in
+    let lawful = g.met.S.Record.RecordKind.lawful in
+    rw c.pass_put_mark.ensures.world ((keeps-changed k lawful (g.S.Store.world c.args.store.now) c.args.target c.requires.there _ (passed-links _)).has _ c.requires.there)

@@ -4,7 +4,7 @@ use Rattle.ioc_process.specs.Marks.{resumed}
 use Rattle.ioc_process.specs.Processing.{Ran, went_on_at_last}
 use Rattle.ioc_ledger.specs.Requests.{counted}
 use Rattle.ioc_process.specs.Frames.{turn_of}
-use Rattle.ioc_process.proofs.Answering.{begins_on, starts_before}
+use Rattle.ioc_process.proofs.Answering.{begins_on, accords_before}
 use Rattle.ioc_process.proofs.Worlds.{idle_few}
 use Rattle.ioc_process.proofs.Keeping.{keeps-put, keeps_on, closed_on, resumed-keeps}
 use Rattle.ioc_process.proofs.StepFrames.{links-finished}
@@ -14,8 +14,8 @@ use Rattle.ioc_process.proofs.FrameSteps.{resumed-idle}
 use Rattle.ioc_process.proofs.Turning.{some_idle}
 use Rattle.ioc_process.proofs.process.complete_record.Goals as goal
 
-pub take_at_last-output-requires : goal.take_at_last-output-requires
-take_at_last-output-requires g c =
+pub take_at_last-requires : goal.take_at_last-requires
+take_at_last-requires g c =
     let k = g.S.Record.RecordKind.rules in
     let lawful = g.met.S.Record.RecordKind.lawful in
     let w = g.S.Store.world c.args.store.now in
@@ -38,7 +38,7 @@ put_out-next-requires-clause-there g c =
     let first = resumed-keeps k lawful w s c.requires.there in
     let taken = put back s (k.finished (at k back s) x) in
     let keeps = keeps_on k first (keeps-put k back s (first.has _ c.requires.there) _ (links-finished k lawful (at k back s) x)) in
-    rw (c.take_at_last-output.ensures.world, c.resume.ensures.world) (keeps.has _ c.requires.there)
+    rw (c.take_at_last.ensures.world, c.resume.ensures.world) (keeps.has _ c.requires.there)
 
 pub put_out-next-requires-clause-closed : goal.put_out-next-requires-clause-closed
 put_out-next-requires-clause-closed g c =
@@ -51,7 +51,7 @@ put_out-next-requires-clause-closed g c =
     let first = resumed-keeps k lawful w s c.requires.there in
     let taken = put back s (k.finished (at k back s) x) in
     let keeps = keeps_on k first (keeps-put k back s (first.has _ c.requires.there) _ (links-finished k lawful (at k back s) x)) in
-    rw (c.take_at_last-output.ensures.world, c.resume.ensures.world) (closed_on k lawful keeps c.requires.closed)
+    rw (c.take_at_last.ensures.world, c.resume.ensures.world) (closed_on k lawful keeps c.requires.closed)
 
 pub put_out-next-requires-clause-is_idle : goal.put_out-next-requires-clause-is_idle
 put_out-next-requires-clause-is_idle g c =
@@ -64,7 +64,7 @@ put_out-next-requires-clause-is_idle g c =
     let first = resumed-keeps k lawful w s c.requires.there in
     let taken = put back s (k.finished (at k back s) x) in
     let keeps = keeps_on k first (keeps-put k back s (first.has _ c.requires.there) _ (links-finished k lawful (at k back s) x)) in
-    rw (c.take_at_last-output.ensures.world, c.resume.ensures.world) (resumed-idle k lawful w s x)
+    rw (c.take_at_last.ensures.world, c.resume.ensures.world) (resumed-idle k lawful w s x)
 
 pub put_out-next-requires-clause-room : goal.put_out-next-requires-clause-room
 put_out-next-requires-clause-room g c =
@@ -90,8 +90,8 @@ put_out-next-requires-clause-standing g c = λ t v is.
     let first = resumed-keeps k lawful w s c.requires.there in
     let taken = put back s (k.finished (at k back s) x) in
     let keeps = keeps_on k first (keeps-put k back s (first.has _ c.requires.there) _ (links-finished k lawful (at k back s) x)) in
-    let output = rw c.resume.ensures.world at (sym c.take_at_last-output.ensures.output ∙ is) in
-    rw (c.take_at_last-output.ensures.world, c.resume.ensures.world)
+    let output = rw c.resume.ensures.world at (sym c.take_at_last.ensures.output ∙ is) in
+    rw (c.take_at_last.ensures.world, c.resume.ensures.world)
     ((keeps-put k back s (first.has _ c.requires.there) _ (links-finished k lawful (at k back s) x)).has _ (last_output_stands k lawful back s x (closed_on k lawful first c.requires.closed) t v output))
 
 pub run_frames-requires-clause-closed : goal.run_frames-requires-clause-closed
@@ -105,7 +105,7 @@ run_frames-requires-clause-closed g c =
     let first = resumed-keeps k lawful w s c.requires.there in
     let taken = put back s (k.finished (at k back s) x) in
     let keeps = keeps_on k first (keeps-put k back s (first.has _ c.requires.there) _ (links-finished k lawful (at k back s) x)) in
-    let came = rw (c.take_at_last-output.ensures.world, c.resume.ensures.world) at c.put_out-next.ensures.turns in
+    let came = rw (c.take_at_last.ensures.world, c.resume.ensures.world) at c.put_out-next.ensures.turns in
     closed_on k lawful came.keeps (closed_on k lawful keeps c.requires.closed)
 
 pub run_frames-requires-clause-room : goal.run_frames-requires-clause-room
@@ -119,7 +119,7 @@ run_frames-requires-clause-room g c =
     let first = resumed-keeps k lawful w s c.requires.there in
     let taken = put back s (k.finished (at k back s) x) in
     let keeps = keeps_on k first (keeps-put k back s (first.has _ c.requires.there) _ (links-finished k lawful (at k back s) x)) in
-    let came = rw (c.take_at_last-output.ensures.world, c.resume.ensures.world) at c.put_out-next.ensures.turns in
+    let came = rw (c.take_at_last.ensures.world, c.resume.ensures.world) at c.put_out-next.ensures.turns in
     let turn = turn_of c.put_out-next.new.frames.items c.put_out-next.result in
     omega (
       arith,
@@ -147,7 +147,7 @@ returns-clause-done g c = λ answers begins.
     let taken = put back s (k.finished (at k back s) x) in
     let keeps = keeps_on k first (keeps-put k back s (first.has _ c.requires.there) _ (links-finished k lawful (at k back s) x)) in
     let run = c.run_frames.ensures.done answers begins in
-    let turn = rw (c.take_at_last-output.ensures.output, c.take_at_last-output.ensures.world, c.resume.ensures.world) at (c.put_out-next.ensures.turn answers (starts_before c.run_frames.ensures.given begins)) in
+    let turn = rw (c.take_at_last.ensures.output, c.take_at_last.ensures.world, c.resume.ensures.world) at (c.put_out-next.ensures.turn answers (accords_before c.run_frames.ensures.given begins)) in
     record {
       world = run.world ∙ ap (λ (r : Ran _). r.world) (sym turn);
       outcome = refl;
@@ -156,7 +156,7 @@ returns-clause-done g c = λ answers begins.
 
 pub returns-clause-given : goal.returns-clause-given
 returns-clause-given g c =
-    rw (c.take_at_last-output.ensures.given, c.resume.ensures.given) at (begins_on c.put_out-next.ensures.given c.run_frames.ensures.given)
+    rw (c.take_at_last.ensures.given, c.resume.ensures.given) at (begins_on c.put_out-next.ensures.given c.run_frames.ensures.given)
 
 pub returns-clause-keeps : goal.returns-clause-keeps
 returns-clause-keeps g c =
@@ -169,5 +169,5 @@ returns-clause-keeps g c =
     let first = resumed-keeps k lawful w s c.requires.there in
     let taken = put back s (k.finished (at k back s) x) in
     let keeps = keeps_on k first (keeps-put k back s (first.has _ c.requires.there) _ (links-finished k lawful (at k back s) x)) in
-    let came = rw (c.take_at_last-output.ensures.world, c.resume.ensures.world) at c.put_out-next.ensures.turns in
+    let came = rw (c.take_at_last.ensures.world, c.resume.ensures.world) at c.put_out-next.ensures.turns in
     keeps_on k keeps (keeps_on k came.keeps c.run_frames.ensures.keeps)

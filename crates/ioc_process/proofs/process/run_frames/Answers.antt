@@ -4,7 +4,7 @@ use Rattle.ioc_process.specs.Frames.{turn_of, called_by, Goes, after_turn}
 use Rattle.ioc_process.proofs.FrameWork.{work-called, work-went_on}
 use Rattle.ioc_process.proofs.FrameTurns.{NextStands, begun_now, newest_reverse, reverse_push, length_opened, next_stands, all_stand, all_opened, all_forward}
 use Rattle.ioc_process.proofs.FrameLoop.{goes_here, goes-called, goes-went_on, all-keep}
-use Rattle.ioc_process.proofs.Answering.{begins_same, begins_on, starts_before}
+use Rattle.ioc_process.proofs.Answering.{begins_same, begins_on, accords_before}
 use Rattle.ioc_process.proofs.Keeping.{keeps_all, keeps_on, closed_on}
 use Rattle.ioc_process.proofs.process.run_frames.Goals as goal
 
@@ -41,7 +41,7 @@ loop-next-preserved-in-Requests g c =
     record {
       goes = λ answers begins. rw (← came.opens.next, opened)
           (goes-called k lawful answers c.args.tally.now c.loop-next.tally _ (g.S.Store.world c.loop-next.store) _ (reverse c.loop-next.frames.items) turn c.in-Requests.target
-          (rw c.in-Requests.is at (i.goes answers (starts_before came.given begins)))
+          (rw c.in-Requests.is at (i.goes answers (accords_before came.given begins)))
           (ap (λ frame. called_by k answers (g.S.Store.world c.loop-next.store) frame c.in-Requests.target) (newest_reverse c.loop-next.frames.items) ∙ came.turn answers begins));
       given = begins_on i.given came.given;
       keeps = keeps_on k i.keeps came.turns.keeps;
@@ -74,7 +74,7 @@ loop-next-preserved g c =
     record {
       goes = λ answers begins. rw (← came.opens.next, opened)
           (goes-went_on k lawful answers c.args.tally.now c.loop-next.tally _ (g.S.Store.world c.loop-next.store) _ (reverse below) turn c.in-Some.frame c.in-Ends.outcome _ c.count.ensures
-          (rw (c.in-Ends.is, taken) at (i.goes answers (starts_before came.given begins))) (came.turn answers begins));
+          (rw (c.in-Ends.is, taken) at (i.goes answers (accords_before came.given begins))) (came.turn answers begins));
       given = begins_on i.given came.given;
       keeps = keeps_on k i.keeps came.turns.keeps;
       closed = closed_on _ lawful came.turns.keeps i.closed;

@@ -2,15 +2,13 @@ use Rattle.std.proofs.Common.{List, ℕ, ap, ◌∙◌, arith}
 use Rattle.ioc_dbtext.specs.Texts.{parts_of}
 use Rattle.ioc_dbtokens.specs.Tokens.{tokens_of}
 use Rattle.ioc_dbtokens.proofs.Turns.{tokens_nil}
-use Rattle.ioc_dbtokens.proofs.Advance.{from_taken}
 use Rattle.ioc_dbtokens.proofs.Counting.{tokens_count}
 use Rattle.ioc_dbtokens.proofs.tokens.Tokens.new.Goals as goal
 
 pub returns-clause-tokens : goal.returns-clause-tokens
 returns-clause-tokens c =
     let end = c.args.texts.now.end in
-    from_taken _ _ _ c.advance-front.ensures.takes
-    ∙ tokens_nil 0 (tokens_of end 1 (parts_of c.as_slice-2.result.now c.as_slice.result.now))
+    tokens_nil 0 (tokens_of end 1 (parts_of c.as_slice-2.result.now c.as_slice.result.now))
     ∙ ap (λ (ns : List ℕ). tokens_of end 1 (parts_of ns c.as_slice.result.now)) c.as_slice-2.ensures.value
     ∙ ap (λ (bs : List ℕ). tokens_of end 1 (parts_of c.args.texts.now.lengths.items bs)) c.as_slice.ensures.value
 

@@ -2,6 +2,6 @@ use Rattle.std.proofs.Common.{refl}
 use Rattle.ioc_process.specs.World.{begun}
 use Rattle.ioc_process.proofs.one_map.OneMap.begin.Goals as goal
 
-pub returns : goal.returns
+pub returns-clause-world : goal.returns-clause-world
 unfolding begun
-returns g c = rw (c.begin.ensures.moment, c.begin.ensures.calls, c.begin.ensures.items, c.begin.ensures.dropped) refl
+returns-clause-world g c = rw (c.begin.ensures.moment, c.begin.ensures.calls, c.begin.ensures.items, c.begin.ensures.dropped, c.begin.ensures.live, c.begin.ensures.ended) refl

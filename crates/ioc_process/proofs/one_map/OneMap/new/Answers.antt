@@ -4,4 +4,4 @@ use Rattle.ioc_process.proofs.one_map.OneMap.new.Goals as goal
 
 pub returns-clause-fresh : goal.returns-clause-fresh
 unfolding begun_at begun
-returns-clause-fresh g c = rw (c.new.ensures.moment, c.new.ensures.calls, c.new.ensures.items, c.new.ensures.dropped) refl
+returns-clause-fresh g c = rw (c.begin.ensures.moment, c.begin.ensures.calls, c.begin.ensures.items, c.begin.ensures.dropped, c.begin.ensures.ended) refl

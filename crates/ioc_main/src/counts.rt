@@ -1,0 +1,35 @@
+//! The line that tells the counts of requests.
+ghost use Rattle.std.specs.Prelude.{◌≡◌, ◌+◌, ◌≤◌, ◌++◌, ◌∷◌, [], length, decimal};
+ghost use Rattle.ioc_main.specs.Replay.{tally_words};
+
+use crate::session::LineReply;
+use ioc_ledger::Tally;
+use itoa::Buffer;
+
+// A count behind its word. A count has 20 digits at most.
+fn add_count(line: &mut LineReply, word: &[u8], count: u64)
+    requires { length line.old + length word.now + 20 ≤ 256 }
+    ensures added { line.new ≡ line.old ++ word.now ++ decimal count }
+    ensures length { length line.new ≤ length line.old + length word.now + 20 }
+{
+    line.extend(word);
+    line.extend(Buffer::new().format(count).as_bytes());
+}
+
+/// The counts, and how many items were dropped, with the line feed.
+#[tactic(auto, unfolding(crate::specs::Replay::tally_words))]
+pub fn tally_line(tally: &Tally, dropped: u64) -> LineReply
+    ensures { result ≡ tally_words tally.now dropped ++ 10 ∷ [] }
+{
+    let mut line = LineReply::new();
+    add_count(&mut line, b"tally begun=", tally.begun);
+    add_count(&mut line, b" processed=", tally.processed);
+    add_count(&mut line, b" disabled=", tally.disabled);
+    add_count(&mut line, b" active=", tally.active);
+    add_count(&mut line, b" reprocess=", tally.reprocess);
+    add_count(&mut line, b" started=", tally.started);
+    add_count(&mut line, b" completed=", tally.completed);
+    add_count(&mut line, b" dropped=", dropped);
+    line.push(b'\n');
+    line
+}

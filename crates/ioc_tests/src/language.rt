@@ -1,0 +1,87 @@
+//! Whole programs over databases with macros, aliases and records in pieces.
+use ioc_dbfile::Macros;
+use ioc_main::{RunFault, run};
+use ioc_values::{BadDbKind, DbFault, IocError};
+use std::alloc::Global;
+
+// A macro's name and value.
+type Definition = (&'static [u8], &'static [u8]);
+
+// What a run comes to and prints.
+struct Run {
+    macros: &'static [Definition],
+    db: &'static [u8],
+    script: &'static [u8],
+    ended: Result<(), RunFault>,
+    printed: &'static [u8],
+}
+
+static RUNS: [Run; 5] = [
+    Run {
+        macros: &[],
+        db: b"record(longin,\"a\"){alias(\"b\")} record(*,\"a\"){field(VAL,3)} alias(\"a\",\"c\") record(fanout,\"f\"){field(LNK0,\"c\") field(DESC,\"${X=none}\")}",
+        script: b"get b.VAL\nget f.LNK0\nget f.DESC\n",
+        ended: Ok(()),
+        printed: b"= 3\n= c.VAL NPP NMS\n= none\n",
+    },
+    Run {
+        macros: &[],
+        db: b"record(longin,\"a\"){alias(\"a\")}",
+        script: b"get a.VAL\n",
+        ended: Err(RunFault::BadDb(DbFault {
+            line: 1,
+            kind: BadDbKind::Duplicate,
+        })),
+        printed: b"",
+    },
+    Run {
+        macros: &[],
+        db: b"record(stringin,\"a\"){}\nrecord(longin,\"a\"){}",
+        script: b"get a.VAL\n",
+        ended: Err(RunFault::BadDb(DbFault {
+            line: 2,
+            kind: BadDbKind::Duplicate,
+        })),
+        printed: b"",
+    },
+    Run {
+        macros: &[(b"P", b"k")],
+        db: b"record(longin,\"$(P)x\"){field(INP,\"$(V=3)\")}",
+        script: b"get kx.VAL\n",
+        ended: Ok(()),
+        printed: b"= 3\n",
+    },
+    Run {
+        macros: &[],
+        db: b"record(longin,\"$(P)x\"){field(INP,\"$(V=3)\")}",
+        script: b"get kx.VAL\n",
+        ended: Err(RunFault::BadDb(DbFault {
+            line: 1,
+            kind: BadDbKind::Macro,
+        })),
+        printed: b"",
+    },
+];
+
+fn defined(alloc: Global, definitions: &[Definition]) -> Result<Macros, IocError> {
+    let mut macros = Macros::new(alloc);
+    for (name, value) in definitions {
+        macros.define(alloc, name, value)?;
+    }
+    Ok(macros)
+}
+
+// Does the run come to what is wanted, and print it?
+fn comes_to(alloc: Global, wanted: &Run) -> Result<bool, IocError> {
+    let macros = defined(alloc, wanted.macros)?;
+    let mut out = Vec::new(alloc);
+    let ended = run(alloc, wanted.db, &macros, wanted.script, &mut out);
+    Ok(ended == wanted.ended && out.as_slice() == wanted.printed)
+}
+
+#[test]
+fn runs_with_macros_and_aliases(rt: HostRuntime) {
+    for wanted in &RUNS {
+        assert!(rt; comes_to(rt.alloc(), wanted) == Ok(true));
+    }
+}
