@@ -26,11 +26,11 @@ one_listed number priority = record { number = number; priority = priority }
 same_listed : (x : Listed) (n : ℕ) (p : Place) → x.number ≡ n → p.priority ≡ x.priority → x ≡ listed n p
 same_listed x n p e f = ap (λ (m : ℕ). one_listed m x.priority) e ∙ ap (λ (q : Priority). one_listed n q) (sym f)
 
-abbrev one_place : ListName → ℤ → Priority → Place
+abbrev pub one_place : ListName → ℤ → Priority → Place
 one_place list phase priority = record { list = list; phase = phase; priority = priority }
 
 -- the place of who stands at a position
-so_placed : (p : Place) (order : ℕ) (k : Position) (priority : Priority) → k ≡ position p order → p.priority ≡ priority → p ≡ record { list = k.list; phase = k.phase; priority = priority }
+pub so_placed : (p : Place) (order : ℕ) (k : Position) (priority : Priority) → k ≡ position p order → p.priority ≡ priority → p ≡ record { list = k.list; phase = k.phase; priority = priority }
 so_placed p order k priority is e =
     ap (λ (v : Position). one_place v.list v.phase p.priority) (sym is) ∙ ap (λ (q : Priority). one_place k.list k.phase q) e
 

@@ -1,4 +1,5 @@
 mod Agreement
 mod Highest
 mod Ordered
+mod Walking
 mod Walks

@@ -9,7 +9,7 @@ use Rattle.ioc_scan.specs.Standing.{low, high, within}
 use Rattle.std.proofs.lemmas.Cmp.{ranked, int_ranked, tied_itself}
 use Rattle.std.proofs.lemmas.Map.Lookups.{CmpEqualImpliesEq, exact_bytes, exact_signed, exact_unsigned}
 use Rattle.ioc_scan.specs.declared.list_name.ListName.{ListName}
-use Rattle.ioc_scan.specs.declared.list_name.ListName.TheVariants.{Period, Event, Interrupt}
+use Rattle.ioc_scan.specs.declared.list_name.ListName.TheVariants.{Period, Event, Interrupt, Start}
 use Rattle.ioc_scan.specs.declared.period.Period.TheVariants.{TenSeconds, FiveSeconds, TwoSeconds, OneSecond, HalfSecond, FifthSecond, TenthSecond}
 use Rattle.ioc_scan.specs.declared.position.Position.{Position}
 use Rattle.ioc_scan.specs.contracts.period.PeriodOrd.TheImpl as period
@@ -35,6 +35,7 @@ exact_list : CmpEqualImpliesEq list_cmp
 exact_list (Period a) (Period b) e = ap Period (exact_period a b e)
 exact_list (Event a) (Event b) e = ap Event (exact_bytes a b e)
 exact_list (Interrupt a) (Interrupt b) e = ap Interrupt (exact_bytes a b e)
+exact_list Start Start e = refl
 exact_list a b e = cc
 
 list_itself : (l : ListName) → list_cmp l l ≡ Equal

@@ -5,3 +5,4 @@ pub mod Places
 pub mod Positions
 pub mod Scanned
 pub mod Standing
+pub mod Walked

@@ -16,6 +16,8 @@ pub enum ListName {
     Event(Word),
     /// Of those that are processed at an interrupt of the devices whose links begin with this word.
     Interrupt(Word),
+    /// Of those that are processed once at the start: PINI.
+    Start,
 }
 
 /// Where a record stands: on which list, PHAS, and PRIO.

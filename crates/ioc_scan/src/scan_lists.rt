@@ -6,6 +6,7 @@ ghost use Rattle.ioc_scan.specs.contracts.position.PositionOrd.TheImpl as order_
 ghost use Rattle.ioc_scan.specs.declared.position.Position.{Position};
 ghost use Rattle.ioc_scan.specs.Scanned.{new_lists, placed, changed, InPhaseOrder};
 ghost use Rattle.ioc_scan.specs.Standing.{standing};
+ghost use Rattle.ioc_scan.specs.Walked.{walked};
 ghost use Rattle.ioc_scan.specs.Members.{is_at_place, listed_at, IsPhase};
 
 use crate::list_name::{ListName, Place};
@@ -135,7 +136,8 @@ impl ScanLists {
     ///
     /// [`AllocError`] where memory is wanting: what is written then is of no use.
     pub fn walk(&self, list: &ListName, into: &mut Vec<Listed>) -> Result<(), AllocError>
-        ensures { OnOk result (InPhaseOrder self.now list.now into.new.items) }
+        ensures order { OnOk result (InPhaseOrder self.now list.now into.new.items) }
+        ensures walked { OnOk result (into.new.items ≡ walked self.now list.now) }
     {
         into.clear();
         copy_list(&self.members, list, into)

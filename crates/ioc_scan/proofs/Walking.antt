@@ -1,0 +1,151 @@
+-- The tree of those who stand on lists is the map of all who do, by their positions.
+use Rattle.std.proofs.Common.{◌≡◌, ◌≢◌, ℕ, zero, suc, ◌+◌, ◌⊎◌, inl, inr, ⊎_elim, Bool, true, false, cond, T, Ok, Err, Option, Some, None, List, [], ◌∷◌, ◌++◌, refl, sym, ap, ◌∙◌, subst, arith}
+use Rattle.std.specs.Prelude.{◌&&◌, All, Result, OnOk}
+use Rattle.std.proofs.lemmas.List.Elements.{All-head, All-tail, All-from_recursion}
+use Rattle.std.specs.List.Sorted.{IsStrictlySortedBy}
+use Rattle.std.specs.declared.cmp.Ordering.{Ordering}
+use Rattle.std.specs.declared.cmp.Ordering.TheVariants.{Less}
+use Rattle.std.specs.Ordering.{is_lt, eq_by_cmp}
+use Rattle.std.specs.Map.{lookup, keys_of}
+use Rattle.std.specs.FinMap.{entries, from_entries, entries_sorted, get-entries, get-from_entries}
+use Rattle.std.specs.FinMap.Entries.{find, is_sorted, below_all, same_entries}
+use Rattle.std.specs.BTreeMap.{BTreeMap, IsOrdered, get}
+use Rattle.std.proofs.lemmas.Map.Keys.{sorted_head, sorted_tail}
+use Rattle.std.proofs.lemmas.Map.Views.{tells_apart}
+use Rattle.ioc_scan.specs.contracts.position.PositionOrd.TheImpl as order_of
+use Rattle.ioc_scan.specs.declared.list_name.ListName.{ListName}
+use Rattle.ioc_scan.specs.declared.list_name.Place.{Place}
+use Rattle.ioc_scan.specs.declared.position.Position.{Position}
+use Rattle.ioc_scan.specs.declared.position.Listed.{Listed}
+use Rattle.ioc_scan.specs.declared.position.Entry.{Entry}
+use Rattle.ioc_scan.specs.Positions.{position, listed, new_entry, entry_of}
+use Rattle.ioc_scan.specs.Scanned.{Scanned}
+use Rattle.ioc_scan.specs.Members.{StandsAt, Agree}
+use Rattle.ioc_scan.specs.Standing.{standing}
+use Rattle.ioc_scan.specs.Walked.{standing_by, all_standing, walked}
+use Rattle.ioc_scan.proofs.Ordered.{exact, itself, total}
+use Rattle.ioc_scan.proofs.Agreement.{so_placed}
+
+abbrev cmp : Position → Position → Ordering
+cmp = order_of.ghosts.cmp
+
+both : (a b : Bool) → T a → T b → T (a && b)
+both true b p q = q
+both false b p q = p
+
+below : (k : Position) (es : List (Position × Listed)) → All (λ y. cmp k y ≡ Less) (keys_of es) → T (below_all cmp k es)
+below k [] h = tt
+below k (e ∷ es) h = both (is_lt (cmp k e.0)) (below_all cmp k es) (subst (λ o. T (is_lt o)) (sym (All-head (λ y. cmp k y ≡ Less) e.0 (keys_of es) h)) tt) (below k es (All-tail (λ y. cmp k y ≡ Less) e.0 (keys_of es) h))
+
+-- keys that rise, told by a test
+rising : (es : List (Position × Listed)) → IsStrictlySortedBy cmp (keys_of es) → T (is_sorted cmp es)
+rising [] s = tt
+rising (e ∷ es) s = both (below_all cmp e.0 es) (is_sorted cmp es) (below e.0 es (All-from_recursion (λ y. cmp e.0 y ≡ Less) (keys_of es) (sorted_head cmp e.0 (keys_of es) s))) (rising es (sorted_tail cmp e.0 (keys_of es) s))
+
+found_by : (q : Position) (es : List (Position × Listed)) → find cmp q es ≡ lookup (eq_by_cmp cmp q) es
+found_by q [] = refl
+found_by q (e ∷ es) = ap (cond (eq_by_cmp cmp q e.0) (Some e.1)) (found_by q es)
+
+-- a record of these entries stands at a position, the first of them being record n
+abbrev Stands : ℕ → List Entry → Position → Listed → Type 0
+Stands n es k x = (i : ℕ) × (n + i ≡ x.number) × ((entry_of es i).place ≡ Some (record { list = k.list; phase = k.phase; priority = x.priority })) × ((entry_of es i).order ≡ k.order)
+
+abbrev Here : Option Place → ℕ → ℕ → Position → Listed → Type 0
+Here o order n k x = (p : Place) × (o ≡ Some p) × (k ≡ position p order) × (listed n p ≡ x)
+
+found_first : (b : Bool) (p : Place) (order n : ℕ) (k : Position) (x : Listed) (rest : Option Listed)
+    → eq_by_cmp cmp k (position p order) ≡ b → cond b (Some (listed n p)) rest ≡ Some x → Here (Some p) order n k x ⊎ (rest ≡ Some x)
+found_first true p order n k x rest t e = inl (p, refl, tells_apart exact k (position p order) t, let s : listed n p ≡ x = cc in s)
+found_first false p order n k x rest t e = inr e
+
+found_in : (o : Option Place) (order n : ℕ) (k : Position) (x : Listed) (rest : List (Position × Listed))
+    → find cmp k (standing_by n o order ++ rest) ≡ Some x → Here o order n k x ⊎ (find cmp k rest ≡ Some x)
+found_in None order n k x rest e = inr e
+found_in (Some p) order n k x rest e = found_first (eq_by_cmp cmp k (position p order)) p order n k x (find cmp k rest) refl e
+
+first_stands : (e : Entry) (es : List Entry) (n : ℕ) (k : Position) (x : Listed) → Here e.place e.order n k x → Stands n (e ∷ es) k x
+first_stands e es n k x h = (
+  zero,
+  (let s : x.number ≡ n = ap (λ (v : Listed). v.number) (sym h.3) in omega arith),
+  (h.1 ∙ ap Some (so_placed h.0 e.order k x.priority h.2 (ap (λ (v : Listed). v.priority) h.3))),
+  ap (λ (v : Position). v.order) (sym h.2),
+)
+
+found : (n : ℕ) (es : List Entry) (k : Position) (x : Listed) → find cmp k (all_standing n es) ≡ Some x → Stands n es k x
+found n [] k x e = cc
+found n (v ∷ es) k x e =
+    ⊎_elim
+    (first_stands v es n k x)
+    (λ later. let s = found (1 + n) es k x later in (suc s.0, (let i : (1 + n) + s.0 ≡ x.number = s.1 in omega arith), s.2, s.3))
+    (found_in v.place v.order n k x (all_standing (1 + n) es) e)
+
+first_there : (b : Bool) (x : Listed) (rest : Option Listed) → b ≡ true → cond b (Some x) rest ≢ None
+first_there true x rest e = λ n. cc
+first_there false x rest e = λ n. cc
+
+later_there : (b : Bool) (x : Listed) (rest : Option Listed) → rest ≢ None → cond b (Some x) rest ≢ None
+later_there true x rest h = λ n. cc
+later_there false x rest h = h
+
+found_at_once : (o : Option Place) (order n : ℕ) (k : Position) (p : Place) (rest : List (Position × Listed))
+    → o ≡ Some p → position p order ≡ k → find cmp k (standing_by n o order ++ rest) ≢ None
+found_at_once None order n k p rest e is = cc
+found_at_once (Some q) order n k p rest e is =
+    let same : q ≡ p = cc in
+    first_there (eq_by_cmp cmp k (position q order)) (listed n q) (find cmp k rest)
+    (ap (eq_by_cmp cmp k) (ap (λ (v : Place). position v order) same ∙ is) ∙ itself k)
+
+found_later : (o : Option Place) (order n : ℕ) (k : Position) (rest : List (Position × Listed)) → find cmp k rest ≢ None → find cmp k (standing_by n o order ++ rest) ≢ None
+found_later None order n k rest h = h
+found_later (Some p) order n k rest h = later_there (eq_by_cmp cmp k (position p order)) (listed n p) (find cmp k rest) h
+
+abbrev at_order : Position → ℕ → Position
+at_order k order = record { list = k.list; phase = k.phase; order = order }
+
+there : (n : ℕ) (es : List Entry) (i : ℕ) (k : Position) (x : Listed)
+    → (entry_of es i).place ≡ Some (record { list = k.list; phase = k.phase; priority = x.priority }) → (entry_of es i).order ≡ k.order → find cmp k (all_standing n es) ≢ None
+there n [] i k x e o = cc
+there n (v ∷ es) zero k x e o =
+    found_at_once v.place v.order n k (record { list = k.list; phase = k.phase; priority = x.priority }) (all_standing (1 + n) es) e (ap (λ (m : ℕ). at_order k m) o)
+there n (v ∷ es) (suc i) k x e o = found_later v.place v.order n k (all_standing (1 + n) es) (there (1 + n) es i k x e o)
+
+either_way : (o g : Option Listed) → ((x : Listed) → o ≡ Some x → g ≡ Some x) → ((x : Listed) → g ≡ Some x → o ≢ None) → o ≡ g
+either_way None None f h = refl
+either_way None (Some x) f h = absurd (h x refl refl)
+either_way (Some x) g f h = sym (f x refl)
+
+module _ (es : List Entry) (last : ℕ) (m : BTreeMap Position Listed) (list : ListName) (agree : Agree es last m) (ordered : IsOrdered order_of.ghosts.cmp m) where
+  abbrev all : List (Position × Listed)
+  all = all_standing 0 es
+
+  abbrev tree : List (Position × Listed)
+  tree = entries (from_entries {R = cmp} all)
+
+  same_found : (k : Position) → find cmp k all ≡ get cmp m k
+  same_found k =
+      either_way (find cmp k all) (get cmp m k)
+      (λ x e.
+      let s = found 0 es k x e in
+      let same : s.0 ≡ x.number = omega (arith, s.1) in
+      (agree.stands k x).1 (subst (λ (v : ℕ). (entry_of es v).place ≡ Some (record { list = k.list; phase = k.phase; priority = x.priority })) same s.2, subst (λ (v : ℕ). (entry_of es v).order ≡ k.order) same s.3))
+      (λ x e. let s = (agree.stands k x).0 e in there 0 es x.number k x s.0 s.1)
+
+  same_tree : tree ≡ m.entries
+  same_tree =
+      same_entries cmp total exact tree m.entries (entries_sorted (from_entries {R = cmp} all)) (rising m.entries ordered)
+      (λ q. sym (get-entries (from_entries {R = cmp} all) q) ∙ get-from_entries total all q ∙ same_found q ∙ sym (found_by q m.entries))
+
+  -- the walk of the tree is that of the entries
+  pub same_walk : standing list m.entries ≡ walked (record { entries = es; last = last }) list
+  unfolding walked
+  same_walk = ap (standing list) (sym same_tree)
+
+on_ok : {T E : Type 0} (r : Result T E) (P Q : Type 0) → OnOk r P → (P → Q) → OnOk r Q
+on_ok r P Q p f = elim r as (λ v. OnOk v P → OnOk v Q) [ Ok x ↦ f | Err e ↦ λ q. tt ] p
+
+-- what was written of a list is its walk, where nothing stood there before
+pub written_walk : {X E : Type 0} (r : Result X E) (v : Scanned) (es : List Entry) (last : ℕ) (m : BTreeMap Position Listed) (list : ListName) (before after : List Listed)
+    → Agree es last m → IsOrdered order_of.ghosts.cmp m → record { entries = es; last = last } ≡ v → before ≡ [] → OnOk r (after ≡ before ++ standing list m.entries) → OnOk r (after ≡ walked v list)
+written_walk r v es last m list before after agree ordered is none ok =
+    on_ok r (after ≡ before ++ standing list m.entries) (after ≡ walked v list) ok
+    (λ e. e ∙ ap (λ (xs : List Listed). xs ++ standing list m.entries) none ∙ same_walk es last m list agree ordered ∙ ap (λ (s : Scanned). walked s list) is)
