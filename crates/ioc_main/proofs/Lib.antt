@@ -2,10 +2,5 @@ pub mod WrittenLemmas
 pub mod ComingLemmas
 pub mod Feeding
 pub mod Reading
-pub mod Closing
-pub mod Scripting
-pub mod Eventing
-pub mod Serving
-pub mod Sending
 pub mod Words
 pub mod Beginning

@@ -2,8 +2,6 @@ pub mod Script
 pub mod Coming
 pub mod Written
 pub mod Seen
-pub mod Machine
-pub mod SeenMachine
 pub mod Replay
 pub mod ReplayLaws
 pub mod Faults

@@ -1,6 +1,6 @@
 -- Which scan list a record is on. Record Reference Manual, "Scan Fields"; Application Developer's Guide, "Scanning
 -- Specification".
-use Rattle.std.specs.Prelude.{ℕ, false, true, List, [], ◌∷◌, Option, Some, None, length, ◌==◌, ◌||◌, nat_eq, if◌then◌else◌}
+use Rattle.std.specs.Prelude.{ℕ, false, true, List, [], ◌∷◌, Option, Some, None, length, ◌==◌, ◌||◌, nat_eq, nat_lt, if◌then◌else◌}
 use Rattle.std.specs.Cmp.Lexicographic.{pointwise}
 use Rattle.ioc_values.specs.Trim.{is_blank, trimmed}
 use Rattle.ioc_menus.specs.declared.scan.Scan.{Scan}
@@ -26,6 +26,10 @@ abbrev pub event_word : List ℕ → Option (List ℕ)
 event_word name =
     let word = trimmed (is_blank false) name in
     if (length word == 0) || pointwise nat_eq word (48 ∷ []) then None else Some word
+
+-- a word that is given, unless it is longer than any word of a device link
+abbrev pub given_word : List ℕ → Option (List ℕ)
+given_word word = if nat_lt 119 (length word) then None else Some word
 
 -- the bytes before the first space or tab
 abbrev pub first_word : List ℕ → List ℕ

@@ -5,7 +5,7 @@ ghost use Rattle.std.specs.Cmp.Lexicographic.{pointwise, slice_cmp, nat_list_eq_
 ghost use Rattle.std.specs.Cmp.{partial_equiv_from_equiv, partial_order_from_own_ties};
 ghost use Rattle.std.specs.Cmp.Rules.{comparing};
 ghost use Rattle.std.proofs.Common.{rules};
-ghost use Rattle.ioc_scan.specs.Places.{event_word, first_word};
+ghost use Rattle.ioc_scan.specs.Places.{event_word, given_word, first_word};
 
 use ioc_links::MAX_DEVICE_BYTES;
 use ioc_values::trim::{is_blank, trim};
@@ -46,6 +46,16 @@ impl Word {
     {
         let bytes = trim(name.as_slice(), false);
         if bytes.is_empty() || bytes == b"0".as_slice() {
+            return None;
+        }
+        Some(Word::of(bytes))
+    }
+
+    /// A word that is given; none where it is longer than any word of a device link.
+    pub fn given(bytes: &[u8]) -> Option<Self>
+        ensures { result ≡ given_word bytes.now }
+    {
+        if bytes.len() > MAX_DEVICE_BYTES {
             return None;
         }
         Some(Word::of(bytes))

@@ -1,0 +1,56 @@
+-- What the code of an event does to the machine of a script.
+use Rattle.std.proofs.Common.{◌≡◌, ℕ, [], List, refl, sym, ap, subst, ◌∙◌}
+use Rattle.ioc_device.specs.declared.Answer.{Answer}
+use Rattle.ioc_ledger.specs.declared.tally.Tally.{Tally}
+use Rattle.ioc_record.specs.RecordRules.{RecordRules}
+use Rattle.ioc_process.specs.declared.event.Event.{Event}
+use Rattle.ioc_process.specs.declared.reply.Reply.{Reply}
+use Rattle.ioc_process.specs.World.{World, begun}
+use Rattle.ioc_process.specs.Given.{Given, Answers, Begins}
+use Rattle.ioc_process.specs.Runs.{ForAnswers}
+use Rattle.ioc_process.specs.Rules.{IsSettled}
+use Rattle.ioc_process.specs.Events.{Tells}
+use Rattle.ioc_process.specs.Step.{stepped, tallied}
+use Rattle.ioc_machine.specs.Machine.{Machine, Queued, TakesAnswer, answers_from, left_after, no_counts, stepped_on}
+use Rattle.ioc_machine.specs.Scanner.{Scanner}
+use Rattle.ioc_machine.proofs.Scripting.{left_is, accords}
+
+-- the parts of a machine are those of another
+pub same_machine : {R : Type 0} (w w' : World R) (d d' : Queued) (t t' : Tally) (s s' : Scanner) → w ≡ w' → d ≡ d' → t ≡ t' → s ≡ s'
+    → (let a : Machine R = record { world = w; queued = d; tally = t; scanner = s } in let b : Machine R = record { world = w'; queued = d'; tally = t'; scanner = s' } in a ≡ b)
+same_machine w w' d d' t t' s s' e f g h = λ i. record { world = e i; queued = f i; tally = g i; scanner = h i }
+
+-- no request was counted
+pub none_counted : (t : Tally) → t.begun ≡ 0 × (t.processed ≡ 0 × (t.disabled ≡ 0 × (t.active ≡ 0 × (t.reprocess ≡ 0 × (t.started ≡ 0 × t.completed ≡ 0))))) → t ≡ no_counts
+none_counted t e = λ i. record {
+  begun = e.0 i;
+  processed = e.1.0 i;
+  disabled = e.1.1.0 i;
+  active = e.1.1.1.0 i;
+  reprocess = e.1.1.1.1.0 i;
+  started = e.1.1.1.1.1.0 i;
+  completed = e.1.1.1.1.1.1 i;
+}
+
+-- the code of an event leaves this, before what it sent is done
+pub record IsDone {R : Type 0} (k : RecordRules R) (m after : Machine R) (reply : Reply) (event : Event) : Type 0 where
+  pub machine : after ≡ (stepped_on k m event).machine
+  pub reply_is : reply ≡ (stepped_on k m event).reply
+  pub settled : ((answers : Answers) (w : World R) (event : Event) → IsSettled k w → IsSettled k (stepped k answers w event).world) → IsSettled k (begun m.world) → IsSettled k after.world
+
+pub event_is : {R : Type 0} (k : RecordRules R) (m : Machine R) (event : Event) (start w : World R) (before after : Given (List Answer)) (t : Tally) (reply : Reply)
+    → start ≡ begun m.world → before.devices ≡ m.queued → before.calls ≡ [] → Begins TakesAnswer before after → after.calls ≡ w.calls
+    → ForAnswers after (λ answers. Tells start w reply m.tally t event (stepped k answers start event))
+    → IsDone k m (record { world = w; queued = after.devices; tally = t; scanner = m.scanner }) reply event
+unfolding stepped_on
+event_is {R} k m event start w before after t reply begins devices none work calls step =
+    let answers = answers_from m.queued in
+    let told : Tells (begun m.world) w reply m.tally t event (stepped k answers (begun m.world) event) =
+    subst (λ (s : World R). Tells s w reply m.tally t event (stepped k answers s event)) begins (step answers (accords m.queued before after devices none work)) in
+    let left : after.devices ≡ left_after m.queued (stepped k answers (begun m.world) event).world.calls =
+    left_is m.queued before after devices none work ∙ ap (left_after m.queued) (calls ∙ ap (λ (x : World R). x.calls) told.world) in
+    record {
+      machine = same_machine _ _ _ _ _ _ _ _ told.world left told.tally refl;
+      reply_is = told.reply;
+      settled = λ leaves is. subst (IsSettled k) (sym told.world) (leaves answers (begun m.world) event is);
+    }

@@ -1,0 +1,4 @@
+pub mod Scripting
+pub mod Eventing
+pub mod Serving
+pub mod Closing

@@ -1,0 +1,4 @@
+pub mod Scanner
+pub mod FirstLists
+pub mod Machine
+pub mod SeenMachine

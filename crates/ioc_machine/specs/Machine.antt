@@ -1,0 +1,169 @@
+-- What a script works on: a database with devices whose answers are queued, the counts of requests, its scan lists, and the requests that
+-- wait. What an event does to it. Application Developer's Guide, "Device Support" and "Scanning Specification": scanOnce.
+use Rattle.std.specs.Prelude.{◌≡◌, ℕ, zero, suc, ◌==◌, if◌then◌else◌, List, [], ◌∷◌, ◌++◌, length, map, filter, drop, option_map, slice_get, Option, Some}
+use Rattle.std.specs.Prelude.{None as Nothing_}
+use Rattle.ioc_values.specs.declared.value.Finished.{Finished}
+use Rattle.ioc_values.specs.declared.error.IocError.{IocError}
+use Rattle.ioc_values.specs.declared.error.IocError.TheVariants.{NoField}
+use Rattle.ioc_device.specs.declared.Ask.{Ask}
+use Rattle.ioc_device.specs.declared.Answer.{Answer}
+use Rattle.ioc_device.specs.declared.Answer.TheVariants.{Fault, Later}
+use Rattle.ioc_ledger.specs.declared.tally.Tally.{Tally}
+use Rattle.ioc_callback.specs.declared.queues.Queues.{Queues}
+use Rattle.ioc_callback.specs.Serving.{no_items, in_turn, served}
+use Rattle.ioc_scan.specs.declared.list_name.ListName.{ListName}
+use Rattle.ioc_scan.specs.declared.position.Listed.{Listed}
+use Rattle.ioc_scan.specs.Walked.{walked}
+use Rattle.ioc_record.specs.RecordRules.{RecordRules}
+use Rattle.ioc_process.specs.declared.call.Call.{Call}
+use Rattle.ioc_process.specs.declared.event.Event.{Event}
+use Rattle.ioc_process.specs.declared.event.Event.TheVariants.{Process}
+use Rattle.ioc_process.specs.declared.reply.Reply.{Reply}
+use Rattle.ioc_process.specs.declared.reply.Reply.TheVariants.{Plain, Refused}
+use Rattle.ioc_process.specs.Given.{Answers, Devices, with_device}
+use Rattle.ioc_process.specs.OneMap.{device_at}
+use Rattle.ioc_process.specs.World.{World, begun, begun_at}
+use Rattle.ioc_process.specs.Step.{stepped, tallied}
+use Rattle.ioc_dbfile.specs.FirstWorld.{first_world}
+use Rattle.ioc_dbfile.specs.Owners.{owns_device}
+use Rattle.ioc_machine.specs.declared.first_lists.Occasion.TheVariants.{Scanning as When-scanned}
+use Rattle.ioc_machine.specs.Scanner.{Scanner, called_on, with_outbox}
+use Rattle.ioc_machine.specs.FirstLists.{first_lists, starters}
+
+-- the answers that are queued for the device of each record that has one
+abbrev pub Queued : Type 0
+Queued = Devices (List Answer)
+
+-- the first of the answers; where none is queued the answer comes later
+abbrev pub first_answer : List Answer → Answer
+first_answer [] = Later
+first_answer (answer ∷ answers) = answer
+
+-- a device whose answers are queued gives the first of them, whatever it is asked, and keeps the others
+abbrev pub TakesAnswer : List Answer → Ask → ℕ → Answer → List Answer → Type 0
+TakesAnswer before ask moment answer after = (answer ≡ first_answer before) × (after ≡ drop 1 before)
+
+-- a record without a device gets a fault
+abbrev pub next_answer : Option (List Answer) → Answer
+next_answer Nothing_ = Fault
+next_answer (Some answers) = first_answer answers
+
+-- how many of these calls are of the device of record n
+abbrev pub times_asked : ℕ → List Call → ℕ
+times_asked n [] = 0
+times_asked n (call ∷ calls) = if n == call.target then suc (times_asked n calls) else times_asked n calls
+
+-- what is left of the answers after these calls: each took the first of those of its device
+unfoldable pub left_after : Queued → List Call → Queued
+left_after queued calls n = option_map (drop (times_asked n calls)) (queued n)
+
+-- what devices answer: each call gets the next one of its device, after the calls before it
+unfoldable pub answers_from : Queued → Answers
+answers_from queued before n ask = next_answer (left_after queued before n)
+
+pub record Machine (R : Type 0) : Type 0 where
+  pub world : World R
+  -- the answers that are queued for devices
+  pub queued : Queued
+  pub tally : Tally
+  -- the scan lists, and the requests that wait
+  pub scanner : Scanner
+
+-- what is left, and what the caller is answered
+pub record Told (R : Type 0) : Type 0 where
+  pub machine : Machine R
+  pub reply : Reply
+
+-- nothing is changed
+abbrev pub refused : {R : Type 0} → Machine R → IocError → Told R
+refused m e = record { machine = m; reply = Refused e }
+
+-- the device of record n will answer so, after the answers that it has
+abbrev pub queued_at : {R : Type 0} → Machine R → ℕ → Answer → Option (List Answer) → Told R
+queued_at m n answer Nothing_ = refused m NoField
+queued_at m n answer (Some answers) = record { machine = record m { queued = with_device m.queued n (answers ++ answer ∷ []) }; reply = Plain }
+
+-- later events are done at this moment
+abbrev pub at_moment : {R : Type 0} → ℕ → Machine R → Machine R
+at_moment moment m = record m { world = begun_at moment m.world }
+
+-- other requests wait
+abbrev pub with_queues : {R : Type 0} → Machine R → Queues ℕ → Machine R
+with_queues m queues = record m { scanner = record m.scanner { queues = queues } }
+
+-- what an event sent is done
+abbrev pub with_sent : {R : Type 0} → Machine R → Machine R
+with_sent m = record m { scanner = with_outbox m.scanner m.world }
+
+-- a machine, and a number that its caller is told
+pub record Counted (R : Type 0) : Type 0 where
+  pub machine : Machine R
+  pub count : ℕ
+
+-- those on a list are put on the callback queues, if there is a list; the count is of those that found room
+abbrev pub queued_on : {R : Type 0} → Machine R → Option ListName → Counted R
+queued_on m list = let queued = called_on m.scanner list in record { machine = record m { scanner = queued.scanner }; count = queued.count }
+
+-- before the first request
+abbrev pub no_counts : Tally
+no_counts = record { begun = 0; processed = 0; disabled = 0; active = 0; reprocess = 0; started = 0; completed = 0 }
+
+-- most requests that are served after a line
+abbrev pub most_served : ℕ
+most_served = 1000
+
+module _ {R : Type 0} (k : RecordRules R) where
+  -- a record that owns a device has one for which nothing is queued
+  abbrev pub first_queue : R → Option (List Answer)
+  first_queue r = if owns_device k r then Some [] else Nothing_
+
+  -- an event, but for what it sent
+  unfoldable pub stepped_on : Machine R → Event → Told R
+  stepped_on m event =
+      let step = stepped k (answers_from m.queued) (begun m.world) event in
+      record {
+        machine = record {
+          world = step.world;
+          queued = left_after m.queued step.world.calls;
+          tally = tallied m.tally (begun m.world) event step;
+          scanner = m.scanner;
+        };
+        reply = step.reply;
+      }
+
+  -- an event, and then what it sent
+  abbrev pub done : Machine R → Event → Told R
+  done m event = let told = stepped_on m event in record { machine = with_sent told.machine; reply = told.reply }
+
+  -- these records are requested, each by an event of its own
+  abbrev pub each_requested : Machine R → List Listed → Machine R
+  each_requested m [] = m
+  each_requested m (x ∷ xs) = each_requested (done m (Process x.number)).machine xs
+
+  -- a loaded database before its records with PINI are processed
+  unfoldable pub loaded_machine : List R → Machine R
+  loaded_machine records =
+      record {
+        world = first_world records;
+        queued = device_at (map first_queue records);
+        tally = no_counts;
+        scanner = record { lists = first_lists k When-scanned records; queues = no_items };
+      }
+
+  -- before the first line the records with PINI are processed
+  abbrev pub first_machine : List R → Machine R
+  first_machine records = each_requested (loaded_machine records) (starters k records)
+
+  -- the first of the requests that wait is served
+  abbrev pub served_one : Machine R → Option ℕ → Machine R
+  served_one m Nothing_ = m
+  served_one m (Some n) = (done (with_queues m (served m.scanner.queues)) (Process n)).machine
+
+  -- so many of them are served, if there are as many
+  unfoldable pub serve : ℕ → Machine R → Machine R
+  serve zero m = m
+  serve (suc turns) m = serve turns (served_one m (slice_get (in_turn m.scanner.queues) 0))
+
+  -- those on a list are requested at once; the count is the list's length
+  abbrev pub scanned : Machine R → ListName → Counted R
+  scanned m list = let xs = walked m.scanner.lists list in record { machine = each_requested m xs; count = length xs }

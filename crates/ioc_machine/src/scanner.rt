@@ -1,0 +1,186 @@
+//! The scan lists and the queues of a database.
+ghost use Rattle.std.specs.Prelude.{◌≡◌, ◌≤◌, ◌+◌, ◌∷◌, [], length, IfOk, OnOk};
+ghost use Rattle.ioc_types.specs.Record.{record_rules};
+ghost use Rattle.ioc_callback.specs.Serving.{no_items};
+ghost use Rattle.ioc_process.specs.Outbox.{items_of};
+ghost use Rattle.ioc_machine.specs.Scanner.{with_each_called, count_called, called_on, event_list, interrupt_list, with_change, with_item, with_items, with_more_dropped};
+
+use crate::first_lists::place_by;
+use ioc_callback::Queues;
+use ioc_names::RecordNo;
+use ioc_process::outbox::Outbox;
+use ioc_process::{OutboxItem, ScanChange};
+use ioc_scan::{ListName, Listed, ScanLists, Word};
+use ioc_values::Text;
+use std::alloc::{AllocError, Global};
+use std::marker::Model;
+
+/// The scan lists and the queues of a database. Contracts see the lists and the queues.
+#[derive(Drop)]
+pub struct Scanner {
+    lists: ScanLists,
+    queues: Queues<RecordNo>,
+    // Who stands on the list that is walked.
+    walked: Vec<Listed>,
+}
+
+impl Model for Scanner {
+    ghost use Rattle.ioc_machine.specs.Scanner.{Scanner};
+
+    ghost Value = { Scanner };
+
+    ghost view = { λ s. record { lists = s.lists; queues = s.queues } };
+}
+
+// Puts each record on the callback queue of its priority, and answers how many found room.
+fn call_each(queues: &mut Queues<RecordNo>, listed: &[Listed]) -> u64
+    ensures queues { queues.new ≡ with_each_called queues.old listed.now }
+    ensures count { result ≡ count_called queues.old listed.now }
+{
+    let mut count = 0;
+    let mut rest = listed;
+    while let [item, others @ ..] = rest {
+        if queues.push(item.priority, item.number).is_ok() {
+            count += 1;
+        }
+        rest = others;
+    }
+    count
+}
+
+/// The list of those who wait for an event of this name.
+pub fn event_list(name: Text) -> Option<ListName>
+    ensures { result ≡ event_list name }
+{
+    Some(ListName::Event(Word::of_event(name)?))
+}
+
+/// The list of those with a device link whose first word is this.
+pub fn interrupt_list(word: &[u8]) -> Option<ListName>
+    ensures { result ≡ interrupt_list word.now }
+{
+    Some(ListName::Interrupt(Word::given(word)?))
+}
+
+impl Scanner {
+    ghost use Rattle.std.specs.Prelude.{◌++◌, option_to_list, IsSome, ◌↔◌, ◌<◌};
+    ghost use Rattle.ioc_callback.specs.Serving.{in_turn, served};
+    ghost use Rattle.ioc_process.specs.declared.outbox.OutboxItem.TheVariants.{Once};
+    ghost use Rattle.ioc_scan.specs.Walked.{walked};
+
+    /// These lists, with no request waiting.
+    ///
+    /// # Errors
+    ///
+    /// [`AllocError`] where memory is wanting.
+    pub fn new(alloc: Global, lists: ScanLists) -> Result<Self, AllocError>
+        ensures { IfOk result (λ s. s ≡ record { lists = lists; queues = no_items }) }
+    {
+        let queues = Queues::new(alloc)?;
+        Ok(Scanner {
+            lists,
+            queues,
+            walked: Vec::new(alloc),
+        })
+    }
+
+    /// How many items were dropped.
+    pub fn dropped(&self) -> u64
+        ensures { result ≡ self.now.queues.dropped }
+    {
+        self.queues.dropped
+    }
+
+    /// Takes the request whose turn it is.
+    pub fn next(&mut self) -> Option<RecordNo>
+        ensures taken { in_turn self.old.queues ≡ option_to_list result ++ in_turn self.new.queues }
+        ensures after { self.new ≡ record self.old { queues = served self.old.queues } }
+        ensures some { IsSome result ↔ (0 < length (in_turn self.old.queues)) }
+    {
+        self.queues.next()
+    }
+
+    /// Writes who stands on a list, in its order, in the place of what stood there.
+    ///
+    /// # Errors
+    ///
+    /// [`AllocError`] where memory is wanting.
+    pub fn walk(&self, list: &ListName, into: &mut Vec<Listed>) -> Result<(), AllocError>
+        ensures { OnOk result (into.new.items ≡ walked self.now.lists list.now) }
+    {
+        self.lists.walk(list, into)
+    }
+
+    /// Puts the records on a list on the callback queues of their priorities, if there is a list, and answers how many found room. What
+    /// finds none is counted as dropped.
+    ///
+    /// # Errors
+    ///
+    /// [`AllocError`] where memory is wanting.
+    pub fn call(&mut self, list: Option<ListName>) -> Result<u64, AllocError>
+        ensures scanner { OnOk result (self.new ≡ (called_on self.old list).scanner) }
+        ensures count { IfOk result (λ count. count ≡ (called_on self.old list).count) }
+    {
+        match list {
+            Some(list) => {
+                self.lists.walk(&list, &mut self.walked)?;
+                Ok(call_each(&mut self.queues, self.walked.as_slice()))
+            }
+            None => Ok(0),
+        }
+    }
+
+    // A request once more waits, or is dropped.
+    fn wait_once(&mut self, number: RecordNo)
+        ensures { self.new ≡ with_item self.old (Once number) }
+    {
+        // What finds no room is counted by the queues.
+        let _dropped = self.queues.push_once(number);
+    }
+
+    // A record goes to another list, or off its list.
+    fn change(&mut self, change: &ScanChange) -> Result<(), AllocError>
+        ensures { OnOk result (self.new ≡ with_change self.old change.now) }
+    {
+        if change.target.index() >= self.lists.len() {
+            return Ok(());
+        }
+        if !self.lists.can_change() {
+            self.queues.dropped = self.queues.dropped.saturating_add(1);
+            return Ok(());
+        }
+        let place = place_by(&change.scanning, change.device);
+        self.lists.change(change.target, change.number, place)
+    }
+
+    // Does an item that an event has sent.
+    fn do_item(&mut self, item: &OutboxItem) -> Result<(), AllocError>
+        ensures { OnOk result (self.new ≡ with_item self.old item.now) }
+    {
+        match item {
+            OutboxItem::Once(number) => self.wait_once(*number),
+            OutboxItem::Post(name) => {
+                let _queued = self.call(event_list(*name))?;
+            }
+            OutboxItem::Change(change) => self.change(change)?,
+        }
+        Ok(())
+    }
+
+    /// Does what an event has sent, in order, and counts what it found no room for.
+    ///
+    /// # Errors
+    ///
+    /// [`AllocError`] where memory is wanting.
+    pub fn do_outbox(&mut self, outbox: &Outbox) -> Result<(), AllocError>
+        ensures { OnOk result (self.new ≡ with_more_dropped (with_items self.old (items_of outbox.now)) outbox.now.dropped) }
+    {
+        let mut rest = outbox.items();
+        while let [item, others @ ..] = rest {
+            self.do_item(item)?;
+            rest = others;
+        }
+        self.queues.dropped = self.queues.dropped.saturating_add(outbox.dropped);
+        Ok(())
+    }
+}

@@ -1,8 +1,0 @@
--- The machine of a script as the code has it, seen as that of the definitions.
-use Rattle.ioc_types.specs.Record.{Record}
-use Rattle.ioc_process.specs.OneMap.{world_of, device_at}
-use Rattle.ioc_main.specs.declared.machine.Machine.{Machine as Kept}
-use Rattle.ioc_main.specs.Machine.{Machine}
-
-abbrev pub machine_of : Kept → Machine Record
-machine_of m = record { world = world_of m.map; queued = device_at m.map.devices.items; tally = m.tally; queues = m.queues }
