@@ -15,7 +15,7 @@ use Rattle.ioc_dbfile.specs.Statements.{Gives}
 use Rattle.ioc_dbfile.specs.SeenDatabase.{database_of}
 use Rattle.ioc_main.proofs.WrittenLemmas.{writes_none}
 use Rattle.ioc_main.specs.Script.{lines_of}
-use Rattle.ioc_main.specs.Machine.{Machine, first_machine}
+use Rattle.ioc_machine.specs.Machine.{Machine, first_machine}
 use Rattle.ioc_main.specs.Replay.{transcript}
 use Rattle.ioc_main.specs.Written.{WritesFront, WritesPart, StopsScript}
 use Rattle.ioc_main.specs.Transcript.{loaded, transcript_by, transcript_of, IsDatabase, StopsWith}

@@ -23,8 +23,10 @@ use Rattle.ioc_process.specs.declared.reply.Reply.TheVariants.{Plain, Outcome as
 use Rattle.ioc_process.specs.World.{World, at}
 use Rattle.ioc_process.specs.declared.event.Event.TheVariants.{Get as Get-event, Process as Process-event, Put as Put-event, Complete as Complete-event}
 use Rattle.ioc_process.specs.Step.{stepped}
-use Rattle.ioc_main.specs.Script.{Command, Silent, Bad, Process, Put, Get, At, Next-done, Next-fault, Next-later, Done, Fault, Tally as Tally-command, command_of}
-use Rattle.ioc_main.specs.Machine.{Machine, Told, answers_from, refused, queued_at, at_moment, most_served, done, serve}
+use Rattle.ioc_main.specs.Script.{Command, Silent, Bad, Process, Put, Get, At, Next-done, Next-fault, Next-later, Done, Fault, Event, Interrupt, Scan, Tally as Tally-command, command_of}
+use Rattle.ioc_scan.specs.declared.list_name.ListName.TheVariants.{Period as Period-list}
+use Rattle.ioc_machine.specs.Scanner.{event_list, interrupt_list}
+use Rattle.ioc_machine.specs.Machine.{Machine, Told, Counted, answers_from, refused, queued_at, queued_on, at_moment, most_served, done, scanned, serve}
 
 -- what the outcome of a request is called
 unfoldable pub outcome_words : Outcome → List ℕ
@@ -40,6 +42,10 @@ reply_words (Outcome-reply outcome) = outcome_words outcome
 reply_words (Shown text) = codes "= " ++ text
 reply_words (Refused e) = refusal_words e
 
+-- a number, without the line feed
+unfoldable pub count_words : ℕ → List ℕ
+count_words count = codes "ok " ++ decimal count
+
 -- the counts of requests, without the line feed
 unfoldable pub tally_words : Tally → ℕ → List ℕ
 tally_words t dropped =
@@ -54,6 +60,10 @@ pub record Answered (R : Type 0) : Type 0 where
 -- the line of a reply
 abbrev pub replied : {R : Type 0} → Told R → Answered R
 replied told = record { machine = told.machine; said = reply_words told.reply ++ 10 ∷ [] }
+
+-- the line of a number
+abbrev pub counted : {R : Type 0} → Counted R → Answered R
+counted c = record { machine = c.machine; said = count_words c.count ++ 10 ∷ [] }
 
 -- the value that a text gives: its first 39 bytes
 abbrev pub given_value : List ℕ → Value
@@ -113,7 +123,10 @@ module _ {R : Type 0} (k : RecordRules R) (names : NameTable) where
   carried_out m (Next-later name) = replied (answers_next m Answer-later (number_of names name))
   carried_out m (Done name wait text) = replied (were_completed m wait (Finished-done (given_value text)) (number_of names name))
   carried_out m (Fault name wait) = replied (were_completed m wait Finished-fault (number_of names name))
-  carried_out m Tally-command = record { machine = m; said = tally_words m.tally m.queues.dropped ++ 10 ∷ [] }
+  carried_out m (Event name) = counted (queued_on m (event_list (take 39 name)))
+  carried_out m (Interrupt word) = counted (queued_on m (interrupt_list word))
+  carried_out m (Scan period) = counted (scanned k m (Period-list period))
+  carried_out m Tally-command = record { machine = m; said = tally_words m.tally m.scanner.queues.dropped ++ 10 ∷ [] }
 
   -- after a line that is answered, requests that wait are served
   unfoldable pub answered : Machine R → Command → Answered R

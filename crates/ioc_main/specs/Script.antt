@@ -1,10 +1,17 @@
 -- The lines of a script, and what each asks for: `process REC`, `put REC.F TEXT`, `get REC.F`, `at N`, `next REC done TEXT`,
--- `next REC fault`, `next REC later`, `done REC N TEXT`, `fault REC N`, `tally`. This project's own, after the commands dbtr, dbpf and
+-- `next REC fault`, `next REC later`, `done REC N TEXT`, `fault REC N`, `event NAME`, `io WORD`, `scan CHOICE`,
+-- `tally`. This project's own, after the commands dbtr, dbpf and
 -- dbgf of an IOC's shell: Application Developer's Guide, "IOC Test Facilities".
-use Rattle.std.specs.Prelude.{ℕ, ◌^◌, List, [], ◌∷◌, take, length, codes, nat_lt, nat_eq, ◌==◌, if◌then◌else◌, unwrap_or, Option, Some, None}
+use Rattle.std.specs.Prelude.{ℕ, ◌^◌, List, [], ◌∷◌, take, length, codes, nat_lt, nat_eq, ◌==◌, if◌then◌else◌, unwrap_or, slice_get, Option, Some, None}
 use Rattle.std.specs.List.{onto_first}
 use Rattle.std.specs.Cmp.Lexicographic.{pointwise}
 use Rattle.ioc_values.specs.Number.{numeral, below}
+use Rattle.ioc_menus.specs.declared.menu.Menu.TheVariants.{Scan as Scan-menu}
+use Rattle.ioc_menus.specs.declared.scan.Scan.{Scan as Scan-choice}
+use Rattle.ioc_menus.specs.Texts.{choice_of}
+use Rattle.ioc_menus.specs.Numbers.{scans}
+use Rattle.ioc_scan.specs.declared.period.Period.{Period}
+use Rattle.ioc_scan.specs.Places.{period_of}
 
 -- the lines, without the line feeds that end them
 abbrev pub lines_of : List ℕ → List (List ℕ)
@@ -41,6 +48,12 @@ pub data Command : Type 0 where
   -- the device of a record has answered at last, to the wait of this number
   Done : (name : List ℕ) → (wait : ℕ) → (text : List ℕ) → Command
   Fault : (name : List ℕ) → (wait : ℕ) → Command
+  -- the event of this name is posted
+  Event : (name : List ℕ) → Command
+  -- an interrupt of the devices whose links begin with this word
+  Interrupt : (word : List ℕ) → Command
+  -- the list of a period is scanned
+  Scan : (period : Period) → Command
   -- the counts of requests
   Tally : Command
 
@@ -114,12 +127,46 @@ fault_of [] words = Bad
 fault_of (b ∷ bs) None = Bad
 fault_of (b ∷ bs) (Some word) = fault_at (b ∷ bs) (below (2 ^ 64) (numeral 10 word))
 
+-- one word, and nothing behind it
+abbrev pub interrupt_of : List ℕ → Option (List ℕ) → Command
+interrupt_of [] more = Bad
+interrupt_of (b ∷ bs) (Some words) = Bad
+interrupt_of (b ∷ bs) None = Interrupt (b ∷ bs)
+
+abbrev pub period_at : Option Scan-choice → Option Period
+period_at None = None
+period_at (Some choice) = period_of choice
+
+abbrev pub period_numbered : Option ℕ → Option Period
+period_numbered None = None
+period_numbered (Some number) = period_at (slice_get scans number)
+
+-- the period of this name
+abbrev pub period_named : List ℕ → Option Period
+period_named text = period_numbered (choice_of Scan-menu text)
+
+abbrev pub scan_at : Option Period → Command
+scan_at None = Bad
+scan_at (Some period) = Scan period
+
+-- a period, by its choice of SCAN
+abbrev pub scan_of : List ℕ → Command
+scan_of text = scan_at (period_named text)
+
+-- what has records on scan lists processed
+abbrev pub by_scan_verb : List ℕ → List ℕ → Command
+by_scan_verb verb words =
+    if pointwise nat_eq verb (codes "event") then Event words
+    else (if pointwise nat_eq verb (codes "io") then interrupt_of (before 32 words) (behind 32 words)
+    else (if pointwise nat_eq verb (codes "scan") then scan_of words else Bad))
+
 -- what a script does as a record's device
-abbrev pub by_device_verb : List ℕ → List ℕ → Option (List ℕ) → Command
-by_device_verb verb word words =
-    if pointwise nat_eq verb (codes "next") then next_of word words
-    else (if pointwise nat_eq verb (codes "done") then done_of word words
-    else (if pointwise nat_eq verb (codes "fault") then fault_of word words else Bad))
+abbrev pub by_device_verb : List ℕ → List ℕ → Command
+by_device_verb verb words =
+    if pointwise nat_eq verb (codes "next") then next_of (before 32 words) (behind 32 words)
+    else (if pointwise nat_eq verb (codes "done") then done_of (before 32 words) (behind 32 words)
+    else (if pointwise nat_eq verb (codes "fault") then fault_of (before 32 words) (behind 32 words)
+    else by_scan_verb verb words))
 
 -- a first word, and the words behind it
 abbrev pub by_verb : List ℕ → List ℕ → Command
@@ -128,10 +175,10 @@ by_verb verb words =
     else (if pointwise nat_eq verb (codes "put") then put_of (before 32 words) (behind 32 words)
     else (if pointwise nat_eq verb (codes "get") then get_of (before 32 words) (behind 32 words)
     else (if pointwise nat_eq verb (codes "at") then at_of (before 32 words) (behind 32 words)
-    else by_device_verb verb (before 32 words) (behind 32 words))))
+    else by_device_verb verb words)))
 
 abbrev pub with_words : List ℕ → Option (List ℕ) → Command
-with_words verb None = if pointwise nat_eq verb (codes "tally") then Tally else Bad
+with_words verb None = if pointwise nat_eq verb (codes "tally") then Tally else (if pointwise nat_eq verb (codes "event") then Event [] else Bad)
 with_words verb (Some words) = by_verb verb words
 
 -- words are parted by one space

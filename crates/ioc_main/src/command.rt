@@ -1,10 +1,13 @@
 //! What a line of a script asks for.
 ghost use Rattle.std.specs.Prelude.{◌≡◌, option_map};
-ghost use Rattle.ioc_main.specs.Script.{command_of, worded, by_verb, process_of, put_of, get_of, at_of, next_by, next_of, done_of, fault_of, by_device_verb};
+ghost use Rattle.ioc_main.specs.Script.{command_of, worded, by_verb, process_of, put_of, get_of, at_of, next_by, next_of, done_of, fault_of, by_device_verb, by_scan_verb, interrupt_of, period_named, scan_of};
 ghost use Rattle.ioc_main.specs.Seen.{seen, bytes};
 ghost use Rattle.ioc_main.specs.Replay.{is_silent};
 
 use crate::parts::cut_at;
+use ioc_menus::{Menu, Scan, choice};
+use ioc_scan::Period;
+use ioc_scan::period::period_of;
 use ioc_values::number::decimal;
 
 /// What a line of a script asks for.
@@ -31,6 +34,12 @@ pub enum Command<'a> {
     Done(&'a [u8], u64, &'a [u8]),
     /// It has answered with a fault.
     Fault(&'a [u8], u64),
+    /// The event of this name is posted.
+    Event(&'a [u8]),
+    /// An interrupt of the devices whose links begin with this word.
+    Interrupt(&'a [u8]),
+    /// The list of a period is scanned.
+    Scan(Period),
     /// The counts of requests.
     Tally,
 }
@@ -67,6 +76,7 @@ fn worded(line: &[u8]) -> Command<'_>
     match words {
         Some(words) => by_verb(verb, words),
         None if verb == b"tally".as_slice() => Command::Tally,
+        None if verb == b"event".as_slice() => Command::Event(b""),
         None => Command::Bad,
     }
 }
@@ -84,22 +94,64 @@ fn by_verb<'a>(verb: &'a [u8], words: &'a [u8]) -> Command<'a>
     } else if verb == b"at".as_slice() {
         at(word, text)
     } else {
-        by_device_verb(verb, word, text)
+        by_device_verb(verb, words)
     }
 }
 
 // What a script does as a record's device.
-fn by_device_verb<'a>(verb: &'a [u8], word: &'a [u8], words: Option<&'a [u8]>) -> Command<'a>
-    ensures { seen result ≡ by_device_verb verb.now word.now (option_map bytes words.entry) }
+fn by_device_verb<'a>(verb: &'a [u8], words: &'a [u8]) -> Command<'a>
+    ensures { seen result ≡ by_device_verb verb.now words.now }
 {
+    let (word, text) = cut_at(words, b' ');
     if verb == b"next".as_slice() {
-        next(word, words)
+        next(word, text)
     } else if verb == b"done".as_slice() {
-        done(word, words)
+        done(word, text)
     } else if verb == b"fault".as_slice() {
-        fault(word, words)
+        fault(word, text)
+    } else {
+        by_scan_verb(verb, words)
+    }
+}
+
+// What has records on scan lists processed.
+fn by_scan_verb<'a>(verb: &'a [u8], words: &'a [u8]) -> Command<'a>
+    ensures { seen result ≡ by_scan_verb verb.now words.now }
+{
+    let (word, more) = cut_at(words, b' ');
+    if verb == b"event".as_slice() {
+        Command::Event(words)
+    } else if verb == b"io".as_slice() {
+        interrupt(word, more)
+    } else if verb == b"scan".as_slice() {
+        scan(words)
     } else {
         Command::Bad
+    }
+}
+
+fn interrupt<'a>(word: &'a [u8], more: Option<&'a [u8]>) -> Command<'a>
+    ensures { seen result ≡ interrupt_of word.now (option_map bytes more.entry) }
+{
+    match (word, more) {
+        ([], _) | (_, Some(_)) => Command::Bad,
+        ([_, ..], None) => Command::Interrupt(word),
+    }
+}
+
+// The period of a choice of SCAN.
+fn period(text: &[u8]) -> Option<Period>
+    ensures { result ≡ period_named text.now }
+{
+    period_of(Scan::from_number(choice(Menu::Scan, text)?)?)
+}
+
+fn scan(text: &[u8]) -> Command<'_>
+    ensures { seen result ≡ scan_of text.now }
+{
+    match period(text) {
+        Some(period) => Command::Scan(period),
+        None => Command::Bad,
     }
 }
 

@@ -1,6 +1,6 @@
-//! The line that tells the counts of requests.
+//! Lines that tell counts.
 ghost use Rattle.std.specs.Prelude.{◌≡◌, ◌+◌, ◌≤◌, ◌++◌, ◌∷◌, [], length, decimal};
-ghost use Rattle.ioc_main.specs.Replay.{tally_words};
+ghost use Rattle.ioc_main.specs.Replay.{count_words, tally_words};
 
 use crate::session::LineReply;
 use ioc_ledger::Tally;
@@ -14,6 +14,17 @@ fn add_count(line: &mut LineReply, word: &[u8], count: u64)
 {
     line.extend(word);
     line.extend(Buffer::new().format(count).as_bytes());
+}
+
+/// The line that tells a number, with the line feed.
+#[tactic(auto, unfolding(crate::specs::Replay::count_words))]
+pub fn count_line(count: u64) -> LineReply
+    ensures { result ≡ count_words count ++ 10 ∷ [] }
+{
+    let mut line = LineReply::new();
+    add_count(&mut line, b"ok ", count);
+    line.push(b'\n');
+    line
 }
 
 /// The counts, and how many items were dropped, with the line feed.

@@ -1,24 +1,26 @@
 //! A loaded database, to which a script is done.
-ghost use Rattle.std.specs.Prelude.{◌≡◌, ◌∷◌, ◌++◌, List, ℕ, IfOk};
+ghost use Rattle.std.specs.Prelude.{◌≡◌, ◌∷◌, ◌++◌, List, ℕ, IfOk, OnOk};
 ghost use Rattle.ioc_names.specs.NameTable.{number_of};
 ghost use Rattle.ioc_types.specs.Record.{record_rules};
 ghost use Rattle.ioc_process.specs.Rules.{IsSettled};
 ghost use Rattle.ioc_dbfile.specs.FirstWorld.{first_world};
-ghost use Rattle.ioc_main.specs.Machine.{first_machine};
-ghost use Rattle.ioc_main.specs.SeenMachine.{machine_of};
+ghost use Rattle.ioc_machine.specs.Machine.{first_machine};
+ghost use Rattle.ioc_machine.specs.SeenMachine.{machine_of};
 ghost use Rattle.ioc_main.specs.Replay.{Answered, channel, processed, got, were_put, answers_next, were_completed, given_value, carried_out, answered};
 ghost use Rattle.ioc_main.specs.Script.{command_of};
 ghost use Rattle.ioc_main.specs.Seen.{seen};
 
 use crate::command::Command;
-use crate::machine::Machine;
+use crate::counts::{count_line, tally_line};
 use crate::reply_line::reply_line;
 use crate::session::{LineReply, Session};
 use ioc_device::Answer;
 use ioc_fields::{FieldNo, field};
+use ioc_machine::{Machine, event_list, interrupt_list};
 use ioc_names::{Names, RecordNo};
 use ioc_process::{Reply, Store};
 use ioc_record::RecordKind;
+use ioc_scan::ListName;
 use ioc_types::Record;
 use ioc_values::{Finished, Input, IocError, Text, Value};
 use std::alloc::{AllocError, Global};
@@ -38,8 +40,8 @@ fn given_value(text: &[u8]) -> Value
 }
 
 impl Replay {
-    /// A database of these names and records. All room that events want is taken here: of the lines of a script, only those that
-    /// queue an answer want memory.
+    /// A database of these names and records. All room that events want is taken here: of the lines of a script, those that
+    /// queue an answer or change a scan list want memory.
     ///
     /// # Errors
     ///
@@ -76,14 +78,14 @@ impl Replay {
         }
     }
 
-    fn process(&mut self, name: &[u8]) -> Reply
+    fn process(&mut self, name: &[u8]) -> Result<Reply, AllocError>
         ensures names { self.new.names ≡ self.old.names }
-        ensures machine { machine_of self.new.machine ≡ (processed record_rules self.old.names (machine_of self.old.machine) (number_of self.old.names name.now)).machine }
-        ensures reply { result ≡ (processed record_rules self.old.names (machine_of self.old.machine) (number_of self.old.names name.now)).reply }
+        ensures machine { OnOk result (machine_of self.new.machine ≡ (processed record_rules self.old.names (machine_of self.old.machine) (number_of self.old.names name.now)).machine) }
+        ensures reply { IfOk result (λ reply. reply ≡ (processed record_rules self.old.names (machine_of self.old.machine) (number_of self.old.names name.now)).reply) }
     {
         match self.names.find(name) {
             Some(number) => self.machine.process(number),
-            None => Reply::Refused(IocError::NoRecord),
+            None => Ok(Reply::Refused(IocError::NoRecord)),
         }
     }
 
@@ -96,14 +98,14 @@ impl Replay {
         }
     }
 
-    fn put(&mut self, record_name: &[u8], field_name: &[u8], text: &[u8]) -> Reply
+    fn put(&mut self, record_name: &[u8], field_name: &[u8], text: &[u8]) -> Result<Reply, AllocError>
         ensures names { self.new.names ≡ self.old.names }
-        ensures machine { machine_of self.new.machine ≡ (were_put record_rules self.old.names (machine_of self.old.machine) text.now (channel record_rules self.old.names (machine_of self.old.machine).world record_name.now field_name.now)).machine }
-        ensures reply { result ≡ (were_put record_rules self.old.names (machine_of self.old.machine) text.now (channel record_rules self.old.names (machine_of self.old.machine).world record_name.now field_name.now)).reply }
+        ensures machine { OnOk result (machine_of self.new.machine ≡ (were_put record_rules self.old.names (machine_of self.old.machine) text.now (channel record_rules self.old.names (machine_of self.old.machine).world record_name.now field_name.now)).machine) }
+        ensures reply { IfOk result (λ reply. reply ≡ (were_put record_rules self.old.names (machine_of self.old.machine) text.now (channel record_rules self.old.names (machine_of self.old.machine).world record_name.now field_name.now)).reply) }
     {
         match self.channel(record_name, field_name) {
             Ok((number, field)) => self.machine.put(number, field, Input::from_text(text)),
-            Err(refused) => Reply::Refused(refused),
+            Err(refused) => Ok(Reply::Refused(refused)),
         }
     }
 
@@ -117,14 +119,14 @@ impl Replay {
         }
     }
 
-    fn complete(&mut self, name: &[u8], wait: u64, finished: Finished) -> Reply
+    fn complete(&mut self, name: &[u8], wait: u64, finished: Finished) -> Result<Reply, AllocError>
         ensures names { self.new.names ≡ self.old.names }
-        ensures machine { machine_of self.new.machine ≡ (were_completed record_rules self.old.names (machine_of self.old.machine) wait finished (number_of self.old.names name.now)).machine }
-        ensures reply { result ≡ (were_completed record_rules self.old.names (machine_of self.old.machine) wait finished (number_of self.old.names name.now)).reply }
+        ensures machine { OnOk result (machine_of self.new.machine ≡ (were_completed record_rules self.old.names (machine_of self.old.machine) wait finished (number_of self.old.names name.now)).machine) }
+        ensures reply { IfOk result (λ reply. reply ≡ (were_completed record_rules self.old.names (machine_of self.old.machine) wait finished (number_of self.old.names name.now)).reply) }
     {
         match self.names.find(name) {
             Some(number) => self.machine.complete(number, wait, finished),
-            None => Reply::Refused(IocError::NoRecord),
+            None => Ok(Reply::Refused(IocError::NoRecord)),
         }
     }
 
@@ -138,8 +140,8 @@ impl Replay {
         match command {
             Command::Silent => Ok(LineReply::new()),
             Command::Bad => Ok(LineReply::cut(b"bad\n")),
-            Command::Process(record) => Ok(reply_line(self.process(record))),
-            Command::Put(record, field, text) => Ok(reply_line(self.put(record, field, text))),
+            Command::Process(record) => Ok(reply_line(self.process(record)?)),
+            Command::Put(record, field, text) => Ok(reply_line(self.put(record, field, text)?)),
             Command::Get(record, field) => Ok(reply_line(self.get(record, field))),
             Command::At(moment) => {
                 self.machine.set_moment(moment);
@@ -152,12 +154,17 @@ impl Replay {
             Command::NextLater(record) => Ok(reply_line(self.queue(record, Answer::Later)?)),
             Command::Done(record, wait, text) => {
                 let finished = Finished::Done(given_value(text));
-                Ok(reply_line(self.complete(record, wait, finished)))
+                Ok(reply_line(self.complete(record, wait, finished)?))
             }
             Command::Fault(record, wait) => {
-                Ok(reply_line(self.complete(record, wait, Finished::Fault)))
+                Ok(reply_line(self.complete(record, wait, Finished::Fault)?))
             }
-            Command::Tally => Ok(self.machine.tally_line()),
+            Command::Event(name) => Ok(count_line(self.machine.call(event_list(Text::cut(name)))?)),
+            Command::Interrupt(word) => Ok(count_line(self.machine.call(interrupt_list(word))?)),
+            Command::Scan(period) => {
+                Ok(count_line(self.machine.scan(&ListName::Period(period))?))
+            }
+            Command::Tally => Ok(tally_line(self.machine.tally(), self.machine.dropped())),
         }
     }
 }
@@ -178,7 +185,7 @@ impl Session for Replay {
         let is_silent = command.is_silent();
         let said = self.carry_out(command)?;
         if !is_silent {
-            self.machine.serve();
+            self.machine.serve()?;
         }
         Ok(said)
     }

@@ -1,7 +1,7 @@
 use Rattle.std.proofs.Common.{◌≡◌, ◌∷◌, ◌++◌, [], ap, ◌∙◌}
 use Rattle.ioc_types.specs.Record.{Record, record_rules}
 use Rattle.ioc_process.specs.declared.reply.Reply.{Reply}
-use Rattle.ioc_main.specs.Machine.{Told}
+use Rattle.ioc_machine.specs.Machine.{Told}
 use Rattle.ioc_main.specs.Replay.{reply_words, carried_out}
 use Rattle.ioc_main.proofs.replay.Replay.carry_out.Goals as goal
 
