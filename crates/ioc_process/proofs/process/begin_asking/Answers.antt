@@ -1,0 +1,56 @@
+use Rattle.std.proofs.Common.{ap, ◌∙◌, sym, refl, arith}
+use Rattle.ioc_common.specs.declared.body.Want.TheVariants.{ReadLink}
+use Rattle.ioc_ledger.specs.declared.outcome.Outcome.TheVariants.{Processed}
+use Rattle.ioc_process.specs.Given.{answers_of, listed}
+use Rattle.ioc_process.specs.Processing.{request, completed, input, read_device, processed}
+use Rattle.ioc_process.specs.Frames.{after_turn}
+use Rattle.ioc_process.specs.Frames.{Ended}
+use Rattle.ioc_process.proofs.Answering.{listed-accords, begins_on, accords_before, read_device-requests}
+use Rattle.ioc_process.proofs.Depth.{read_device-reads}
+use Rattle.ioc_process.proofs.Keeping.{closed_on}
+use Rattle.ioc_process.proofs.Bodies.{input_stands}
+use Rattle.ioc_process.proofs.FrameSteps.{body-input, after_reading-came, after_reading-none}
+use Rattle.ioc_process.proofs.Needs.{needs-link, needs-device, body-nothing}
+use Rattle.ioc_process.proofs.Turning.{turns_on, turns_ended}
+use Rattle.ioc_process.proofs.process.begin_asking.Goals as goal
+
+pub finish_body-requires-clause-closed : goal.finish_body-requires-clause-closed
+finish_body-requires-clause-closed g c = closed_on _ g.met.S.Record.RecordKind.lawful c.in-Some.ensures.keeps c.requires.closed
+
+pub returns-in-Some-clause-turn : goal.returns-in-Some-clause-turn
+unfolding input
+returns-in-Some-clause-turn g c = λ answers begins.
+    let k = g.S.Record.RecordKind.rules in
+    let w = g.S.Store.world c.args.store.now in
+    let device = c.in-Some.ensures.read answers (accords_before c.finish_body.ensures.given begins) in
+    ap (λ d. processed d) (body-input k g.met.S.Record.RecordKind.lawful answers _ _ _ (needs-device _ c.requires.wants)
+    ∙ after_reading-came k g.met.S.Record.RecordKind.lawful answers c.args.number (read_device k answers w c.args.number) c.in-Some.got (sym device.came) (read_device-requests k answers w c.args.number)
+    ∙ ap (λ v. completed k answers (request k answers) v c.args.number c.in-Some.got) (sym device.world))
+    ∙ c.finish_body.ensures.turn answers begins
+
+pub returns-in-None-clause-turn : goal.returns-in-None-clause-turn
+unfolding input
+returns-in-None-clause-turn g c = λ answers begins.
+    let k = g.S.Record.RecordKind.rules in
+    let w = g.S.Store.world c.args.store.now in
+    let device = c.in-None.ensures.read answers begins in
+    ap (λ d. processed d) (body-input k g.met.S.Record.RecordKind.lawful answers _ _ _ (needs-device _ c.requires.wants))
+    ∙ after_reading-none k g.met.S.Record.RecordKind.lawful answers c.args.number (read_device k answers w c.args.number) (sym device.came) (read_device-requests k answers w c.args.number)
+    ∙ ap (λ v. after_turn k answers v (Ended Processed)) (sym device.world)
+
+pub returns-in-Some-clause-turns : goal.returns-in-Some-clause-turns
+returns-in-Some-clause-turns g c =
+    let k = g.S.Record.RecordKind.rules in
+    turns_on k c.in-Some.ensures.keeps (omega (arith, (c.in-Some.ensures.stays refl).fewer)) (omega arith) c.finish_body.ensures.turns
+
+pub returns-in-None-clause-turns : goal.returns-in-None-clause-turns
+returns-in-None-clause-turns g c =
+    let k = g.S.Record.RecordKind.rules in
+    let calls = (g.S.Store.given c.ask_device.new.store).calls in
+    let given = listed (answers_of calls) in
+    let device = c.in-None.ensures.read given (listed-accords calls) in
+    let reads = read_device-reads k g.met.S.Record.RecordKind.lawful given (g.S.Store.world c.args.store.now) c.args.number in
+    turns_ended k c.in-None.ensures.keeps (rw device.world (omega (arith, reads.fewer))) Processed
+
+pub returns-in-Some-clause-given : goal.returns-in-Some-clause-given
+returns-in-Some-clause-given g c = begins_on c.in-Some.ensures.given c.finish_body.ensures.given

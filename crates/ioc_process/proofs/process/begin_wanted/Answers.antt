@@ -1,0 +1,26 @@
+use Rattle.std.proofs.Common.{ap, ◌∙◌, sym, refl, arith}
+use Rattle.ioc_common.specs.declared.body.Want.TheVariants.{ReadLink}
+use Rattle.ioc_ledger.specs.declared.outcome.Outcome.TheVariants.{Processed}
+use Rattle.ioc_process.specs.Given.{answers_of, listed}
+use Rattle.ioc_process.specs.Processing.{request, completed, input, read_device, processed}
+use Rattle.ioc_process.specs.Frames.{after_turn}
+use Rattle.ioc_process.specs.Frames.{Ended}
+use Rattle.ioc_process.proofs.Answering.{listed-accords, begins_on, accords_before, read_device-requests}
+use Rattle.ioc_process.proofs.Depth.{read_device-reads}
+use Rattle.ioc_process.proofs.Keeping.{closed_on}
+use Rattle.ioc_process.proofs.Bodies.{input_stands}
+use Rattle.ioc_process.proofs.FrameSteps.{body-input, after_reading-came, after_reading-none}
+use Rattle.ioc_process.proofs.Needs.{needs-link, needs-device, body-nothing}
+use Rattle.ioc_process.proofs.Turning.{turns_on, turns_ended}
+use Rattle.ioc_process.proofs.process.begin_wanted.Goals as goal
+
+pub begin_reading-requires-clause-standing : goal.begin_reading-requires-clause-standing
+begin_reading-requires-clause-standing g c =
+    input_stands g.S.Record.RecordKind.rules g.met.S.Record.RecordKind.lawful _ _ _ c.requires.closed
+    (needs-link _ c.requires.wants ∙ ap ReadLink (sym c.wanted_link-link.ensures))
+
+pub returns-clause-turn : goal.returns-clause-turn
+unfolding input
+returns-clause-turn g c = λ answers begins.
+    ap (λ d. processed d) (body-input g.S.Record.RecordKind.rules g.met.S.Record.RecordKind.lawful answers _ _ _ (needs-link _ c.requires.wants ∙ ap ReadLink (sym c.wanted_link-link.ensures)))
+    ∙ c.begin_reading.ensures.turn answers begins
