@@ -47,9 +47,9 @@ pub fn finish<S: Store>(store: &mut S, frames: &mut Vec<Frame>, number: RecordNo
             set_active(store, number, true);
             frames.push_reserved(Frame {
                 source: number,
-                place: Place::Following,
+                place: Place::Following(target),
             });
-            Next::Requests(target)
+            Next::Requests
         }
         None => {
             rest(store, number);
@@ -103,9 +103,9 @@ pub fn write_record<S: Store>(
             set_active(store, number, true);
             frames.push_reserved(Frame {
                 source: number,
-                place: Place::Writing,
+                place: Place::Writing(called),
             });
-            Next::Requests(called)
+            Next::Requests
         }
     }
 }
@@ -166,9 +166,9 @@ pub fn follow_each<S: Store>(
                 set_active(store, number, true);
                 frames.push_reserved(Frame {
                     source: number,
-                    place: Place::FollowingEach(links, next),
+                    place: Place::FollowingEach(links, target, next),
                 });
-                return Next::Requests(target);
+                return Next::Requests;
             }
         }
     }
