@@ -1,14 +1,12 @@
 -- One turn of the loop over frames.
-use Rattle.std.proofs.Common.{◌≡◌, ℕ, List, [], ◌∷◌, length, refl, sym, subst, ◌∙◌, arith}
+use Rattle.std.proofs.Common.{◌≡◌, List, [], ◌∷◌, length, refl, sym, subst, ◌∙◌, arith}
 use Rattle.ioc_ledger.specs.declared.tally.Tally.{Tally}
 use Rattle.ioc_record.specs.RecordRules.{RecordRules}
 use Rattle.ioc_record.specs.Laws.{IsLawful}
 use Rattle.ioc_process.specs.declared.frames.Frame.{Frame}
-use Rattle.ioc_process.specs.declared.frames.Place.{Place}
-use Rattle.ioc_process.specs.declared.frames.Place.TheVariants.{ReadingDisable, Reading, Writing, FollowingEach, Following}
 use Rattle.ioc_process.specs.World.{World, Keeps}
 use Rattle.ioc_process.specs.Processing.{Ran}
-use Rattle.ioc_process.specs.Frames.{Turn, newest_of, next_of, called_by, went_on, then_frames, after_turn, Goes, FrameStands, PlaceStands, AllStand}
+use Rattle.ioc_process.specs.Frames.{Turn, newest_of, next_of, called_by, went_on, then_frames, after_turn, Goes, FrameStands, AllStand}
 use Rattle.ioc_process.specs.declared.frames.Next.TheVariants.{Requests, Ends}
 use Rattle.ioc_ledger.specs.declared.outcome.Outcome.{Outcome}
 use Rattle.ioc_ledger.specs.Requests.{counted_one}

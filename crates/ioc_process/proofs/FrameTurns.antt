@@ -6,7 +6,7 @@ use Rattle.std.specs.Prelude.{slice_get, ◌-◌}
 use Rattle.ioc_ledger.specs.Requests.{None}
 use Rattle.ioc_record.specs.RecordRules.{RecordRules}
 use Rattle.ioc_process.specs.declared.frames.Frame.{Frame}
-use Rattle.ioc_process.specs.World.{World, Has}
+use Rattle.ioc_process.specs.World.{World}
 use Rattle.ioc_process.specs.Processing.{Ran}
 use Rattle.ioc_process.specs.declared.frames.Next.{Next}
 use Rattle.ioc_process.specs.declared.frames.Next.TheVariants.{Requests, Ends}
@@ -110,17 +110,6 @@ last_is [] frame is = cc
 last_is (first ∷ frames) frame is =
     let e : length (first ∷ frames) - 1 ≡ length frames = omega arith in
     last_from frames first Nothing_ frame (sym (ap (slice_get (first ∷ frames)) e) ∙ is)
-
-get_last : (frames : List Frame) (first : Frame) → slice_get (first ∷ frames) (length frames) ≡ Nothing_ → ⊥
-get_last [] first none = absurd cc
-get_last (next ∷ frames) first none = get_last frames next none
-
--- where a frame is open, there is a last one
-pub last_there : (frames : List Frame) → 1 ≤ length frames → slice_get frames (length frames - 1) ≡ Nothing_ → ⊥
-last_there [] some none = absurd (omega arith)
-last_there (first ∷ frames) some none =
-    let e : length (first ∷ frames) - 1 ≡ length frames = omega arith in
-    get_last frames first (sym (ap (slice_get (first ∷ frames)) e) ∙ none)
 
 -- each frame stands
 pub one_stands : {R : Type 0} (w : World R) (frames : List Frame) (n : ℕ) (frame : Frame) → AllStand w frames → slice_get frames n ≡ Some frame → FrameStands w frame

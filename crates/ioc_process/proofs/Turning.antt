@@ -8,7 +8,7 @@ use Rattle.ioc_record.specs.RecordRules.{RecordRules}
 use Rattle.ioc_record.specs.Laws.{IsLawful}
 use Rattle.ioc_process.specs.declared.frames.Frame.{Frame}
 use Rattle.ioc_ledger.specs.declared.outcome.Outcome.{Outcome}
-use Rattle.ioc_process.specs.World.{World, Has, common_at, changed, idle, Keeps}
+use Rattle.ioc_process.specs.World.{World, common_at, changed, idle, Keeps}
 use Rattle.ioc_process.specs.Frames.{Turn, Ended, Calls, Turns, FrameStands, calls_left}
 use Rattle.ioc_process.proofs.Worlds.{idle-changed}
 use Rattle.ioc_process.proofs.Keeping.{keeps_on}

@@ -1,17 +1,9 @@
-use Rattle.std.proofs.Common.{ap, ◌∙◌, sym, refl, arith}
+use Rattle.std.proofs.Common.{ap, ◌∙◌, sym}
 use Rattle.ioc_common.specs.declared.body.Want.TheVariants.{ReadLink}
-use Rattle.ioc_ledger.specs.declared.outcome.Outcome.TheVariants.{Processed}
-use Rattle.ioc_process.specs.Given.{answers_of, listed}
-use Rattle.ioc_process.specs.Processing.{request, completed, input, read_device, processed}
-use Rattle.ioc_process.specs.Frames.{after_turn}
-use Rattle.ioc_process.specs.Frames.{Ended}
-use Rattle.ioc_process.proofs.Answering.{listed-accords, begins_on, accords_before, read_device-requests}
-use Rattle.ioc_process.proofs.Depth.{read_device-reads}
-use Rattle.ioc_process.proofs.Keeping.{closed_on}
+use Rattle.ioc_process.specs.Processing.{input, processed}
 use Rattle.ioc_process.proofs.Bodies.{input_stands}
-use Rattle.ioc_process.proofs.FrameSteps.{body-input, after_reading-came, after_reading-none}
-use Rattle.ioc_process.proofs.Needs.{needs-link, needs-device, body-nothing}
-use Rattle.ioc_process.proofs.Turning.{turns_on, turns_ended}
+use Rattle.ioc_process.proofs.FrameSteps.{body-input}
+use Rattle.ioc_process.proofs.Needs.{needs-link}
 use Rattle.ioc_process.proofs.process.begin_wanted.Goals as goal
 
 pub begin_reading-requires-clause-standing : goal.begin_reading-requires-clause-standing

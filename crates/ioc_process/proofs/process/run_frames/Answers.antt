@@ -2,7 +2,7 @@ use Rattle.std.proofs.Common.{◌≡◌, ◌∷◌, [], reverse, length, refl, a
 use Rattle.std.proofs.lemmas.List.{length-reverse}
 use Rattle.ioc_process.specs.Frames.{turn_of, called_by, Goes, after_turn}
 use Rattle.ioc_process.proofs.FrameWork.{work-called, work-went_on}
-use Rattle.ioc_process.proofs.FrameTurns.{NextOpens, begun_now, newest_reverse, reverse_push, length_opened, next_opens, all_stand, all_opened, all_forward}
+use Rattle.ioc_process.proofs.FrameTurns.{begun_now, newest_reverse, reverse_push, length_opened, next_opens, all_stand, all_opened, all_forward}
 use Rattle.ioc_process.proofs.FrameLoop.{goes_here, goes-called, goes-went_on, all-keep}
 use Rattle.ioc_process.proofs.Answering.{begins_same, begins_on, accords_before}
 use Rattle.ioc_process.proofs.Keeping.{keeps_all, keeps_on, closed_on}
