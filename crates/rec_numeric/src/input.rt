@@ -1,7 +1,7 @@
 //! The types longin and int64in.
 ghost use Rattle.std.specs.Prelude.{◌≡◌};
 ghost use Rattle.ioc_record.specs.BodyLaws.{IsNewBody};
-ghost use Rattle.rec_numeric.specs.Input.{numeric_input, new_input, input_stored};
+ghost use Rattle.rec_numeric.specs.Input.{numeric_input, new_input};
 
 use crate::number::Number;
 use crate::numeric::Numeric;
@@ -37,15 +37,6 @@ impl<N: Number> NumericInput<N> {
             numbers: Numeric::new(),
             source: Source::new(),
         }
-    }
-
-    // VAL takes a value that came, and UDF is cleared.
-    #[inline(never)]
-    fn take_value(&mut self, condition: &mut Condition, value: &Value)
-        ensures { record { body = self.new; condition = condition.new }
-            ≡ input_stored N.number (record { body = self.old; condition = condition.old }) OwnField.Val value.now }
-    {
-        self.store(condition, OwnField::Val, *value);
     }
 }
 
@@ -107,10 +98,10 @@ impl<N: Number> RecordBody for NumericInput<N> {
     }
 
     #[tactic(auto, unfolding(crate::specs::Input::input_taken))]
-    #[inline(always)]
+    #[inline(never)]
     fn take(&mut self, condition: &mut Condition, got: &Got, _output: &mut Output) -> bool {
         if let Got::Value(value) = got {
-            self.take_value(condition, value);
+            self.store(condition, OwnField::Val, *value);
         }
         self.numbers.test(condition);
         false
