@@ -33,9 +33,10 @@ fn hold<S: Store>(store: &mut S, number: RecordNo, notification: Option<NotifyId
     }
 }
 
-/// A record that is requested takes over the notification of the one that requests it, where it is idle and has none.
+// A record that is requested takes over the notification of the one that requests it, where it is idle and has none.
 #[tactic(auto, unfolding(crate::specs::Notifying::passed_on))]
-pub fn pass_notification<S: Store>(store: &mut S, source: RecordNo, target: RecordNo)
+#[inline(never)]
+fn take_over<S: Store>(store: &mut S, source: RecordNo, target: RecordNo)
     requires source { Has (S.world store.old) source }
     requires target { Has (S.world store.old) target }
     ensures world { S.world store.new ≡ passed_on S.Record.rules (S.world store.old) source target }
@@ -43,6 +44,20 @@ pub fn pass_notification<S: Store>(store: &mut S, source: RecordNo, target: Reco
 {
     let notification = taken_over(common(store, source), common(store, target));
     hold(store, target, notification);
+}
+
+/// A record that is requested takes over the notification of the one that requests it, if that has one, where it is idle and has none.
+#[tactic(auto, unfolding(crate::specs::Notifying::passed_on, crate::specs::Notifying::holding))]
+#[inline(always)]
+pub fn pass_notification<S: Store>(store: &mut S, source: RecordNo, target: RecordNo)
+    requires source { Has (S.world store.old) source }
+    requires target { Has (S.world store.old) target }
+    ensures world { S.world store.new ≡ passed_on S.Record.rules (S.world store.old) source target }
+    ensures given { S.given store.new ≡ S.given store.old }
+{
+    if common(store, source).notification.is_some() {
+        take_over(store, source, target);
+    }
 }
 
 // This notification of a record is told: the record has it no more.
