@@ -10,7 +10,7 @@ use Rattle.ioc_process.proofs.Keeping.{closed_on}
 use Rattle.ioc_process.proofs.FrameSteps.{body-input, after_reading-came, after_reading-none}
 use Rattle.ioc_process.proofs.Needs.{needs-device}
 use Rattle.ioc_process.proofs.Turning.{turns_on, turns_ended}
-use Rattle.ioc_process.proofs.process.begin_asking.Goals as goal
+use Rattle.ioc_process.proofs.reading.begin_asking.Goals as goal
 
 pub finish_body-requires-clause-closed : goal.finish_body-requires-clause-closed
 finish_body-requires-clause-closed g c = closed_on _ g.met.S.Record.RecordKind.lawful c.in-Some.ensures.keeps c.requires.closed

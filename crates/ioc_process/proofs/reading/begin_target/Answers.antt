@@ -6,7 +6,7 @@ use Rattle.ioc_process.proofs.FrameSteps.{after_reading-calls, after_reading-pla
 use Rattle.ioc_process.proofs.FrameTurns.{turn_pushed, opens_pushed}
 use Rattle.ioc_process.proofs.Turning.{turns_on, turns_calls}
 use Rattle.ioc_process.specs.Processing.{processed}
-use Rattle.ioc_process.proofs.process.begin_target.Goals as goal
+use Rattle.ioc_process.proofs.reading.begin_target.Goals as goal
 
 pub returns-then-passes_on-clause-turn : goal.returns-then-passes_on-clause-turn
 returns-then-passes_on-clause-turn g c = λ answers begins.

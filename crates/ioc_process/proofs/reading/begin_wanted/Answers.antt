@@ -4,7 +4,7 @@ use Rattle.ioc_process.specs.Processing.{input, processed}
 use Rattle.ioc_process.proofs.Bodies.{input_stands}
 use Rattle.ioc_process.proofs.FrameSteps.{body-input}
 use Rattle.ioc_process.proofs.Needs.{needs-link}
-use Rattle.ioc_process.proofs.process.begin_wanted.Goals as goal
+use Rattle.ioc_process.proofs.reading.begin_wanted.Goals as goal
 
 pub begin_reading-requires-clause-standing : goal.begin_reading-requires-clause-standing
 begin_reading-requires-clause-standing g c =

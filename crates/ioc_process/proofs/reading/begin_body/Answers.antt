@@ -1,7 +1,7 @@
 use Rattle.std.proofs.Common.{ap, ◌∙◌, sym}
 use Rattle.ioc_process.specs.Processing.{processed}
 use Rattle.ioc_process.proofs.Needs.{body-nothing}
-use Rattle.ioc_process.proofs.process.begin_body.Goals as goal
+use Rattle.ioc_process.proofs.reading.begin_body.Goals as goal
 
 pub returns-in-Nothing-clause-turn : goal.returns-in-Nothing-clause-turn
 returns-in-Nothing-clause-turn g c = λ answers begins.
