@@ -1,14 +1,12 @@
 -- One turn of the loop over frames.
-use Rattle.std.proofs.Common.{◌≡◌, ℕ, List, [], ◌∷◌, length, refl, sym, subst, ◌∙◌, arith}
+use Rattle.std.proofs.Common.{◌≡◌, List, [], ◌∷◌, length, refl, sym, subst, ◌∙◌, arith}
 use Rattle.ioc_ledger.specs.declared.tally.Tally.{Tally}
 use Rattle.ioc_record.specs.RecordRules.{RecordRules}
 use Rattle.ioc_record.specs.Laws.{IsLawful}
 use Rattle.ioc_process.specs.declared.frames.Frame.{Frame}
-use Rattle.ioc_process.specs.declared.frames.Place.{Place}
-use Rattle.ioc_process.specs.declared.frames.Place.TheVariants.{ReadingDisable, Reading, Writing, FollowingEach, Following}
 use Rattle.ioc_process.specs.World.{World, Keeps}
 use Rattle.ioc_process.specs.Processing.{Ran}
-use Rattle.ioc_process.specs.Frames.{Turn, newest_of, next_of, called_by, went_on, then_frames, after_turn, Goes, FrameStands, PlaceStands, AllStand}
+use Rattle.ioc_process.specs.Frames.{Turn, newest_of, next_of, called_by, went_on, then_frames, after_turn, Goes, FrameStands, AllStand}
 use Rattle.ioc_process.specs.declared.frames.Next.TheVariants.{Requests, Ends}
 use Rattle.ioc_ledger.specs.declared.outcome.Outcome.{Outcome}
 use Rattle.ioc_ledger.specs.Requests.{counted_one}
@@ -24,15 +22,8 @@ goes_both : {R : Type 0} {before between counts : Tally} {done mid left : Ran R}
 goes_both one two = record { world = one.world ∙ two.world; outcome = one.outcome ∙ two.outcome; tally = one.tally ∙ two.tally }
 
 module _ {R : Type 0} (k : RecordRules R) where
-  place-keeps : (w after : World R) (place : Place) → Keeps k w after → PlaceStands w place → PlaceStands after place
-  place-keeps w after (ReadingDisable t) keeps stands = keeps.has _ stands
-  place-keeps w after (Reading t) keeps stands = keeps.has _ stands
-  place-keeps w after Writing keeps stands = tt
-  place-keeps w after (FollowingEach links next) keeps stands = tt
-  place-keeps w after Following keeps stands = tt
-
   pub frame-keeps : (w after : World R) (frame : Frame) → Keeps k w after → FrameStands w frame → FrameStands after frame
-  frame-keeps w after frame keeps stands = record { source_there = keeps.has _ stands.source_there; place_stands = place-keeps w after frame.place keeps stands.place_stands }
+  frame-keeps w after frame keeps stands = record { source_there = keeps.has _ stands.source_there; requested_there = keeps.has _ stands.requested_there }
 
   pub all-keep : (w after : World R) (frames : List Frame) → Keeps k w after → AllStand w frames → AllStand after frames
   all-keep w after [] keeps stands = tt
@@ -40,10 +31,10 @@ module _ {R : Type 0} (k : RecordRules R) where
 
 module _ {R : Type 0} (k : RecordRules R) (lawful : IsLawful k) (answers : Answers) (before counts : Tally) (done : Ran R) (w after : World R) (frames : List Frame) (turn : Turn) where
   -- a request began, and its record came to a turn
-  pub goes-called : (target : ℕ) → Goes before counts done (then_frames k answers (now k answers w frames (Requests target)) frames) →
-      called_by k answers w (newest_of frames) target ≡ after_turn k answers after turn
+  pub goes-called : Goes before counts done (then_frames k answers (now k answers w frames Requests) frames) →
+      called_by k answers w (newest_of frames) ≡ after_turn k answers after turn
       → Goes before counts done (then_frames k answers (now k answers after (opened_first frames turn) (next_of turn)) (opened_first frames turn))
-  goes-called target so_far is =
+  goes-called so_far is =
       subst (λ d. Goes before counts done d) (turn_now k answers after frames turn) (subst (λ d. Goes before counts done (then_frames k answers d frames)) is so_far)
 
   -- a frame was taken, the request that it waited for was counted, and its body came to a turn

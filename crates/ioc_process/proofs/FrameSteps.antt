@@ -157,7 +157,7 @@ module _ {R : Type 0} (k : RecordRules R) (lawful : IsLawful k) where
 
   -- a body that follows its forward link
   pub finished-calls : (answers : Answers) (w : World R) (s : ℕ) (target : ℕ) → passive_named k (ready w s) (use_of (common_at k (ready w s) s).forward_link) ≡ Some target →
-      processed (finished k (request k answers) w s) ≡ after_turn k answers (changed k (ready w s) s (with_active true)) (Calls (record { source = s; place = Following }) target)
+      processed (finished k (request k answers) w s) ≡ after_turn k answers (changed k (ready w s) s (with_active true)) (Calls (record { source = s; place = Following target }))
   unfolding finished caused after_turn then_frame went_on ran_after
   finished-calls answers w s target is =
       let active = shown-active k lawful w s in
@@ -205,7 +205,7 @@ module _ {R : Type 0} (k : RecordRules R) (lawful : IsLawful k) where
 
   -- a body that has written and requests the record: it finishes afterwards
   pub writing-calls : (answers : Answers) (w : World R) (s : ℕ) (target : ℕ) → (common_at k w s).active ≡ false →
-      processed (then_finished k answers s (caused k (request k answers) w s target)) ≡ after_turn k answers (changed k w s (with_active true)) (Calls (record { source = s; place = Writing }) target)
+      processed (then_finished k answers s (caused k (request k answers) w s target)) ≡ after_turn k answers (changed k w s (with_active true)) (Calls (record { source = s; place = Writing target }))
   unfolding then_finished caused after_turn then_frame went_on ran_after
   writing-calls answers w s target inactive = rw (inactive, asked-ran answers (changed k w s (with_active true)) s target) refl
 
@@ -233,7 +233,7 @@ module _ {R : Type 0} (k : RecordRules R) (lawful : IsLawful k) where
 
   pub each-calls : (answers : Answers) (w : World R) (s links next : ℕ) (slot : Slot) (target : ℕ) → (common_at k w s).active ≡ false → passive_named k w (link_at k w s slot) ≡ Some target →
       processed (then_finished k answers s (followed_each k (request k answers) w s (slot ∷ remaining links next)))
-      ≡ after_turn k answers (changed k w s (with_active true)) (Calls (record { source = s; place = FollowingEach links next }) target)
+      ≡ after_turn k answers (changed k w s (with_active true)) (Calls (record { source = s; place = FollowingEach links target next }))
   unfolding followed_each caused after_turn then_frame went_on ran_after
   each-calls answers w s links next slot target inactive is =
       let mid = changed k w s (with_active true) in
@@ -318,7 +318,7 @@ module _ {R : Type 0} (k : RecordRules R) (lawful : IsLawful k) where
   -- a link with PP: the record that it names is requested first
   pub after_reading-calls : (answers : Answers) (w : World R) (s : ℕ) (t : StandingLink) → requests_first k w t ≡ true → (common_at k w s).active ≡ false →
       processed (after_reading k answers s (as_input (read_record k (request k answers) k.input_kind w s t)))
-      ≡ after_turn k answers (changed k w s (with_active true)) (Calls (record { source = s; place = Reading-place t }) t.number)
+      ≡ after_turn k answers (changed k w s (with_active true)) (Calls (record { source = s; place = Reading-place t }))
   unfolding after_reading after_turn then_frame went_on read_record prepared caused ran_after read_at
   after_reading-calls answers w s t passive inactive = rw (passive, inactive, asked-ran answers (changed k w s (with_active true)) s t.number) refl
 
@@ -331,7 +331,7 @@ module _ {R : Type 0} (k : RecordRules R) (lawful : IsLawful k) where
   -- a request that reads SDIS
   pub after_disable-calls : (answers : Answers) (w : World R) (s : ℕ) (t : StandingLink) → requests_first k w t ≡ true → (common_at k w s).active ≡ false →
       after_disable k answers s (read_record k (request k answers) (λ _. disable_kind) w s t)
-      ≡ after_turn k answers (changed k w s (with_active true)) (Calls (record { source = s; place = ReadingDisable t }) t.number)
+      ≡ after_turn k answers (changed k w s (with_active true)) (Calls (record { source = s; place = ReadingDisable t }))
   unfolding after_disable after_turn then_frame went_on read_record prepared caused read_at
   after_disable-calls answers w s t passive inactive = rw (passive, inactive, asked-ran answers (changed k w s (with_active true)) s t.number) refl
 

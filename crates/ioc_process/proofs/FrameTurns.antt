@@ -1,12 +1,12 @@
 -- The turn that was taken, by the frames that are open and the record that is requested.
-use Rattle.std.proofs.Common.{◌≡◌, ℕ, zero, suc, subst, sym, ◌+◌, List, [], ◌∷◌, ◌++◌, length, reverse, Option, Some, None as Nothing_, refl, ap, ◌∙◌, arith}
+use Rattle.std.proofs.Common.{◌≡◌, ℕ, zero, suc, subst, sym, ◌+◌, ◌≤◌, List, [], ◌∷◌, ◌++◌, length, reverse, Option, Some, None as Nothing_, refl, ap, ◌∙◌, arith}
 use Rattle.std.proofs.lemmas.List.{reverse-append, reverse-reverse, length_push}
 use Rattle.std.specs.List.{last_or}
 use Rattle.std.specs.Prelude.{slice_get, ◌-◌}
 use Rattle.ioc_ledger.specs.Requests.{None}
 use Rattle.ioc_record.specs.RecordRules.{RecordRules}
 use Rattle.ioc_process.specs.declared.frames.Frame.{Frame}
-use Rattle.ioc_process.specs.World.{World, Has}
+use Rattle.ioc_process.specs.World.{World}
 use Rattle.ioc_process.specs.Processing.{Ran}
 use Rattle.ioc_process.specs.declared.frames.Next.{Next}
 use Rattle.ioc_process.specs.declared.frames.Next.TheVariants.{Requests, Ends}
@@ -17,62 +17,62 @@ use Rattle.ioc_process.specs.Given.{Answers}
 -- the open frames after a turn, the newest first
 abbrev pub opened_first : List Frame → Turn → List Frame
 opened_first frames (Ended outcome) = frames
-opened_first frames (Calls frame target) = frame ∷ frames
+opened_first frames (Calls frame) = frame ∷ frames
 
 pub reverse_push : (frames : List Frame) (frame : Frame) → reverse (frames ++ frame ∷ []) ≡ frame ∷ reverse frames
 reverse_push frames frame = reverse-append frames (frame ∷ [])
 
 pub reverse_opened : (frames : List Frame) (turn : Turn) → reverse (opened frames turn) ≡ opened_first (reverse frames) turn
 reverse_opened frames (Ended outcome) = refl
-reverse_opened frames (Calls frame target) = reverse_push frames frame
+reverse_opened frames (Calls frame) = reverse_push frames frame
 
 pub all_opened : (frames after : List Frame) (turn : Turn) → after ≡ opened frames turn → reverse after ≡ opened_first (reverse frames) turn
 all_opened frames after turn is = ap reverse is ∙ reverse_opened frames turn
 
 pub length_opened : (frames : List Frame) (turn : Turn) → length (opened frames turn) ≡ length frames + calls turn
 length_opened frames (Ended outcome) = omega arith
-length_opened frames (Calls frame target) = length_push frames frame
+length_opened frames (Calls frame) = length_push frames frame
 
 last_push : (frames : List Frame) (frame : Frame) (other : Option Frame) → last_or other (frames ++ frame ∷ []) ≡ Some frame
 last_push [] frame other = refl
 last_push (first ∷ frames) frame other = last_push frames frame (Some first)
 
 -- the newest frame waits for the record that is requested
-pub turn_pushed : (frames : List Frame) (frame : Frame) (target : ℕ) → turn_of (frames ++ frame ∷ []) (Requests target) ≡ Calls frame target
-turn_pushed frames frame target = ap (λ (newest : Option Frame). waits_with newest target) (last_push frames frame Nothing_)
+pub turn_pushed : (frames : List Frame) (frame : Frame) → turn_of (frames ++ frame ∷ []) Requests ≡ Calls frame
+turn_pushed frames frame = ap (λ (newest : Option Frame). waits_with newest) (last_push frames frame Nothing_)
 
 -- a frame was opened
-pub opens_pushed : (frames after : List Frame) (frame : Frame) (target : ℕ) → after ≡ frames ++ frame ∷ [] → Opens frames after (Requests target)
-opens_pushed frames after frame target is = rw is (record { frames = rw (turn_pushed frames frame target) refl; next = rw (turn_pushed frames frame target) refl })
+pub opens_pushed : (frames after : List Frame) (frame : Frame) → after ≡ frames ++ frame ∷ [] → Opens frames after Requests
+opens_pushed frames after frame is = rw is (record { frames = rw (turn_pushed frames frame) refl; next = rw (turn_pushed frames frame) refl })
 
 -- none was
 pub opens_none : (frames after : List Frame) (outcome : Outcome) → after ≡ frames → Opens frames after (Ends outcome)
 opens_none frames after outcome is = record { frames = is; next = refl }
 
--- the record that is requested, if one is
-abbrev pub NextStands : {R : Type 0} → World R → Next → Type 0
-NextStands w (Ends outcome) = Unit {0}
-NextStands w (Requests target) = Has w target
+-- a frame is open where a record is requested
+abbrev pub NextOpens : List Frame → Next → Type 0
+NextOpens frames (Ends outcome) = Unit {0}
+NextOpens frames Requests = 1 ≤ length frames
 
-pub next_stands : {R : Type 0} (w : World R) (turn : Turn) → TurnStands w turn → NextStands w (next_of turn)
-next_stands w (Ended outcome) stands = tt
-next_stands w (Calls frame target) stands = stands.1
+pub next_opens : (frames : List Frame) (turn : Turn) → NextOpens (opened_first frames turn) (next_of turn)
+next_opens frames (Ended outcome) = tt
+next_opens frames (Calls frame) = omega arith
 
 pub all_stand : {R : Type 0} (w : World R) (frames : List Frame) (turn : Turn) → TurnStands w turn → AllStand w frames → AllStand w (opened_first frames turn)
 all_stand w frames (Ended outcome) stands all = all
-all_stand w frames (Calls frame target) stands all = (stands.0, all)
+all_stand w frames (Calls frame) stands all = (stands, all)
 
 module _ {R : Type 0} (k : RecordRules R) (answers : Answers) where
   -- what comes next leads to
   abbrev pub now : World R → List Frame → Next → Ran R
   now w frames (Ends outcome) = record { world = w; requests = None; outcome = outcome }
-  now w frames (Requests target) = called_by k answers w (newest_of frames) target
+  now w frames Requests = called_by k answers w (newest_of frames)
 
   pub turn_now : (w : World R) (frames : List Frame) (turn : Turn)
       → then_frames k answers (after_turn k answers w turn) frames ≡ then_frames k answers (now w (opened_first frames turn) (next_of turn)) (opened_first frames turn)
   unfolding after_turn
   turn_now w frames (Ended outcome) = refl
-  turn_now w frames (Calls frame target) = refl
+  turn_now w frames (Calls frame) = refl
 
 module _ {R : Type 0} (k : RecordRules R) (answers : Answers) where
   -- a turn that was taken where no frame was open

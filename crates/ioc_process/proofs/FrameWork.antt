@@ -29,7 +29,7 @@ frames_work n (frame ∷ frames) = place_work (n - suc (length frames)) frame.pl
 -- with the request that begins, if one does
 abbrev pub next_work : ℕ → ℕ → Next → ℕ
 next_work n open_frames (Ends outcome) = 0
-next_work n open_frames (Requests target) = cost (n - open_frames)
+next_work n open_frames Requests = cost (n - open_frames)
 
 abbrev pub work : ℕ → List Frame → Next → ℕ
 work n frames next = frames_work n frames + next_work n (length frames) next
@@ -43,14 +43,14 @@ within : (a b c : ℕ) → 1 + a ≤ b → (1 + a * (c + 1)) + c ≤ b * (c + 1)
 within a b c h = let m : (1 + a) * (c + 1) ≤ b * (c + 1) = mul-le-mul_right (c + 1) h in omega (arith, m)
 
 -- a request began, and its record came to a turn
-pub work-called : (n : ℕ) (frames : List Frame) (target : ℕ) (turn : Turn) → length frames + calls turn ≤ n → turn_left turn ≤ most_of_request
-    → work n (opened_first frames turn) (next_of turn) < work n frames (Requests target)
-work-called n frames target (Ended outcome) h left = omega (arith, cost-pos (n - length frames))
-work-called n frames target (Calls frame u) h left =
+pub work-called : (n : ℕ) (frames : List Frame) (turn : Turn) → length frames + calls turn ≤ n → turn_left turn ≤ most_of_request
+    → work n (opened_first frames turn) (next_of turn) < work n frames Requests
+work-called n frames (Ended outcome) h left = omega (arith, cost-pos (n - length frames))
+work-called n frames (Calls frame) h left =
     omega (arith, cost-less n (length frames) (omega arith), within (calls_left frame.place) most_of_request (cost (n - suc (length frames))) left)
 
 -- a frame was taken, and its body came to a turn
 pub work-went_on : (n : ℕ) (frames : List Frame) (frame : Frame) (outcome : Outcome) (turn : Turn) → turn_left turn ≤ calls_left frame.place
     → work n (opened_first frames turn) (next_of turn) < work n (frame ∷ frames) (Ends outcome)
 work-went_on n frames frame outcome (Ended other) h = omega arith
-work-went_on n frames frame outcome (Calls other u) h = omega (arith, within (calls_left other.place) (calls_left frame.place) (cost (n - suc (length frames))) h)
+work-went_on n frames frame outcome (Calls other) h = omega (arith, within (calls_left other.place) (calls_left frame.place) (cost (n - suc (length frames))) h)

@@ -21,6 +21,7 @@ mod LinkChanges
 mod QuietEvents
 mod LocalEvents
 mod FrameSteps
+mod Handing
 mod Needs
 mod Writing
 mod FrameTurns

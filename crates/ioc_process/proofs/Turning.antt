@@ -8,7 +8,7 @@ use Rattle.ioc_record.specs.RecordRules.{RecordRules}
 use Rattle.ioc_record.specs.Laws.{IsLawful}
 use Rattle.ioc_process.specs.declared.frames.Frame.{Frame}
 use Rattle.ioc_ledger.specs.declared.outcome.Outcome.{Outcome}
-use Rattle.ioc_process.specs.World.{World, Has, common_at, changed, idle, Keeps}
+use Rattle.ioc_process.specs.World.{World, common_at, changed, idle, Keeps}
 use Rattle.ioc_process.specs.Frames.{Turn, Ended, Calls, Turns, FrameStands, calls_left}
 use Rattle.ioc_process.proofs.Worlds.{idle-changed}
 use Rattle.ioc_process.proofs.Keeping.{keeps_on}
@@ -31,9 +31,9 @@ module _ {R : Type 0} (k : RecordRules R) where
   pub turns_ended : {w after : World R} {more most : ℕ} → Keeps k w after → idle k after ≤ idle k w + more → (outcome : Outcome) → Turns k w after more most (Ended outcome)
   turns_ended keeps fewer outcome = record { keeps = keeps; fewer = omega (arith, fewer); stands = tt; left = omega arith }
 
-  pub turns_calls : {w after : World R} {more most : ℕ} (frame : Frame) (target : ℕ) → Keeps k w after → idle k after + 1 ≤ idle k w + more
-      → FrameStands after frame → Has after target → calls_left frame.place + 1 ≤ most → Turns k w after more most (Calls frame target)
-  turns_calls frame target keeps fewer stands there left = record { keeps = keeps; fewer = omega (arith, fewer); stands = (stands, there); left = omega (arith, left) }
+  pub turns_calls : {w after : World R} {more most : ℕ} (frame : Frame) → Keeps k w after → idle k after + 1 ≤ idle k w + more
+      → FrameStands after frame → calls_left frame.place + 1 ≤ most → Turns k w after more most (Calls frame)
+  turns_calls frame keeps fewer stands left = record { keeps = keeps; fewer = omega (arith, fewer); stands = stands; left = omega (arith, left) }
 
   -- an idle record is one of those that are idle
   pub some_idle : IsLawful k → (w : World R) (s : ℕ) → (common_at k w s).active ≡ false → 1 ≤ idle k w

@@ -26,32 +26,40 @@ use Rattle.ioc_process.specs.Notifying.{passed_on}
 pub data Turn : Type 0 where
   -- its request is done, or its device answers later
   Ended : Outcome → Turn
-  -- it requests another record, and goes on at the frame afterwards
-  Calls : Frame → ℕ → Turn
+  -- it requests the record that the frame names, and goes on at the frame afterwards
+  Calls : Frame → Turn
+
+-- the record that is requested where a body waits at a place
+abbrev pub requested_at : Place → ℕ
+requested_at (ReadingDisable t) = t.number
+requested_at (Reading-place t) = t.number
+requested_at (Writing target) = target
+requested_at (FollowingEach links target next) = target
+requested_at (Following target) = target
 
 -- the newest of the frames that are open, where they stand in order from it on
 abbrev pub newest_of : List Frame → Option Frame
 newest_of [] = Nothing_
 newest_of (frame ∷ frames) = Some frame
 
--- the turn that was taken, by the frames that are open and what the code does next: the newest frame waits for the record that it asks
-abbrev pub waits_with : Option Frame → ℕ → Turn
-waits_with Nothing_ target = Ended Active
-waits_with (Some frame) target = Calls frame target
+-- the turn that was taken, by the frames that are open and what the code does next: the newest frame waits for a request
+abbrev pub waits_with : Option Frame → Turn
+waits_with Nothing_ = Ended Active
+waits_with (Some frame) = Calls frame
 
 abbrev pub turn_of : List Frame → Next → Turn
 turn_of frames (Ends outcome) = Ended outcome
-turn_of frames (Requests-next target) = waits_with (last_or Nothing_ frames) target
+turn_of frames Requests-next = waits_with (last_or Nothing_ frames)
 
 -- what the code does after a turn
 abbrev pub next_of : Turn → Next
 next_of (Ended outcome) = Ends outcome
-next_of (Calls frame target) = Requests-next target
+next_of (Calls frame) = Requests-next
 
 -- the frames that are open after a turn, the newest last
 abbrev pub opened : List Frame → Turn → List Frame
 opened frames (Ended outcome) = frames
-opened frames (Calls frame target) = frames ++ frame ∷ []
+opened frames (Calls frame) = frames ++ frame ∷ []
 
 -- a turn opened a frame where it requests a record, and none else
 pub record Opens (before after : List Frame) (result : Next) : Type 0 where
@@ -61,20 +69,20 @@ pub record Opens (before after : List Frame) (result : Next) : Type 0 where
 -- how many requests a turn makes at once
 abbrev pub calls : Turn → ℕ
 calls (Ended outcome) = 0
-calls (Calls frame target) = 1
+calls (Calls frame) = 1
 
 -- how many requests a body may still cause once it goes on at this place: sixteen links and the forward link at most
 abbrev pub calls_left : Place → ℕ
 calls_left (ReadingDisable t) = 18
 calls_left (Reading-place t) = 17
-calls_left Writing = 1
-calls_left (FollowingEach links next) = (16 - next) + 1
-calls_left Following = 0
+calls_left (Writing target) = 1
+calls_left (FollowingEach links target next) = (16 - next) + 1
+calls_left (Following target) = 0
 
 -- how many it may still cause after a turn, with the one that the turn makes
 abbrev pub turn_left : Turn → ℕ
 turn_left (Ended outcome) = 0
-turn_left (Calls frame target) = 1 + calls_left frame.place
+turn_left (Calls frame) = 1 + calls_left frame.place
 
 -- a body causes so many requests at most: of the record that it reads, of sixteen links, and of its forward link's
 abbrev pub most_calls : ℕ
@@ -84,18 +92,10 @@ most_calls = 18
 abbrev pub most_of_request : ℕ
 most_of_request = 19
 
--- the record that a place names is there
-abbrev pub PlaceStands : {R : Type 0} → World R → Place → Type 0
-PlaceStands w (ReadingDisable t) = Has w t.number
-PlaceStands w (Reading-place t) = Has w t.number
-PlaceStands w Writing = Unit {0}
-PlaceStands w (FollowingEach links next) = Unit {0}
-PlaceStands w Following = Unit {0}
-
 -- the records of a frame are there
 pub record FrameStands {R : Type 0} (w : World R) (frame : Frame) : Type 0 where
   pub source_there : Has w frame.source
-  pub place_stands : PlaceStands w frame.place
+  pub requested_there : Has w (requested_at frame.place)
 
 -- the records of all frames are there
 abbrev pub AllStand : {R : Type 0} → World R → List Frame → Type 0
@@ -104,7 +104,7 @@ AllStand w (frame ∷ frames) = FrameStands w frame × AllStand w frames
 
 abbrev pub TurnStands : {R : Type 0} → World R → Turn → Type 0
 TurnStands w (Ended outcome) = Unit {0}
-TurnStands w (Calls frame target) = FrameStands w frame × Has w target
+TurnStands w (Calls frame) = FrameStands w frame
 
 -- a turn keeps all records and their links. Each request that it makes at once has one idle record less before it; `more` may be
 -- idle that were not. Its body causes `most` requests more at most
@@ -133,10 +133,10 @@ module _ {R : Type 0} (k : RecordRules R) (answers : Answers) where
   went_on w s (Reading-place t) =
       let read = read_at k k.input_kind (changed k w s (with_active false)) s t in
       processed (completed k answers (request k answers) read.world s read.came)
-  went_on w s Writing = processed (finished k (request k answers) (changed k w s (with_active false)) s)
-  went_on w s (FollowingEach links next) =
+  went_on w s (Writing target) = processed (finished k (request k answers) (changed k w s (with_active false)) s)
+  went_on w s (FollowingEach links target next) =
       processed (then_finished s (followed_each k (request k answers) (changed k w s (with_active false)) s (remaining links next)))
-  went_on w s Following = processed (record { world = rested k (changed k w s (with_active true)) s; requests = None })
+  went_on w s (Following target) = processed (record { world = rested k (changed k w s (with_active true)) s; requests = None })
 
   -- what a body does after its input
   unfoldable pub after_reading : ℕ → Reading R → Done R
@@ -156,10 +156,10 @@ module _ {R : Type 0} (k : RecordRules R) (answers : Answers) where
       then record { world = changed k w t put_down; requests = None; outcome = Reprocess }
       else ran k answers (passed_on k (changed k w t (put_mark_passed by_put)) s t) t
 
-  -- the request of record t, by the frame that waits for it
-  abbrev pub called_by : World R → Option Frame → ℕ → Ran R
-  called_by w Nothing_ t = ran k answers w t
-  called_by w (Some frame) t = asked_ran w frame.source t
+  -- the request that the frame waits for
+  abbrev pub called_by : World R → Option Frame → Ran R
+  called_by w Nothing_ = record { world = w; requests = None; outcome = Active }
+  called_by w (Some frame) = asked_ran w frame.source (requested_at frame.place)
 
   -- a request that has read SDIS
   unfoldable pub after_disable : ℕ → Read R → Ran R
@@ -168,7 +168,7 @@ module _ {R : Type 0} (k : RecordRules R) (answers : Answers) where
   -- all that a turn leads to
   unfoldable pub after_turn : World R → Turn → Ran R
   after_turn w (Ended outcome) = record { world = w; requests = None; outcome = outcome }
-  after_turn w (Calls frame target) = then_frame (as_request (asked_ran w frame.source target)) frame
+  after_turn w (Calls frame) = then_frame (as_request (asked_ran w frame.source (requested_at frame.place))) frame
 
   -- and then all frames, the newest first
   abbrev pub then_frames : Ran R → List Frame → Ran R

@@ -47,9 +47,9 @@ pub fn finish<S: Store>(store: &mut S, frames: &mut Vec<Frame>, number: RecordNo
             set_active(store, number, true);
             frames.push_reserved(Frame {
                 source: number,
-                place: Place::Following,
+                place: Place::Following(target),
             });
-            Next::Requests(target)
+            Next::Requests
         }
         None => {
             rest(store, number);
@@ -103,9 +103,9 @@ pub fn write_record<S: Store>(
             set_active(store, number, true);
             frames.push_reserved(Frame {
                 source: number,
-                place: Place::Writing,
+                place: Place::Writing(called),
             });
-            Next::Requests(called)
+            Next::Requests
         }
     }
 }
@@ -166,9 +166,9 @@ pub fn follow_each<S: Store>(
                 set_active(store, number, true);
                 frames.push_reserved(Frame {
                     source: number,
-                    place: Place::FollowingEach(links, next),
+                    place: Place::FollowingEach(links, target, next),
                 });
-                return Next::Requests(target);
+                return Next::Requests;
             }
         }
     }
@@ -220,14 +220,14 @@ pub fn finish_body<S: Store>(
     store: &mut S,
     frames: &mut Vec<Frame>,
     number: RecordNo,
-    got: Got,
+    got: &Got,
 ) -> Next
     requires there { Has (S.world store.old) number }
     requires closed { IsClosed S.Record.rules (S.world store.old) }
     requires is_idle { (common_at S.Record.rules (S.world store.old) number).active ≡ false }
     requires room { vec_len frames.old < vec_capacity frames.old }
     ensures turn { ForAnswers (S.given store.new) (λ answers.
-        processed (completed S.Record.rules answers (request S.Record.rules answers) (S.world store.old) number got)
+        processed (completed S.Record.rules answers (request S.Record.rules answers) (S.world store.old) number got.now)
         ≡ after_turn S.Record.rules answers (S.world store.new) (turn_of frames.new.items result)) }
     ensures given { Begins S.Device.gives (S.given store.old) (S.given store.new) }
     ensures turns { Turns S.Record.rules (S.world store.old) (S.world store.new) 0 17 (turn_of frames.new.items result) }
@@ -235,7 +235,7 @@ pub fn finish_body<S: Store>(
     ensures room { vec_capacity frames.new ≡ vec_capacity frames.old }
 {
     let mut output = Output::NoOutput;
-    if take(store, number, &got, &mut output) {
+    if take(store, number, got, &mut output) {
         put_out(store, frames, number, &output)
     } else {
         finish(store, frames, number)
@@ -257,5 +257,5 @@ pub fn take_fault<S: Store>(store: &mut S, frames: &mut Vec<Frame>, number: Reco
     ensures room { vec_capacity frames.new ≡ vec_capacity frames.old }
 {
     let got = fault_link(store, number);
-    finish_body(store, frames, number, got)
+    finish_body(store, frames, number, &got)
 }

@@ -1,5 +1,5 @@
 //! Puts with notification, as they go from record to record and are told.
-ghost use Rattle.std.specs.Prelude.{◌≡◌};
+ghost use Rattle.std.specs.Prelude.{◌≡◌, Some};
 ghost use Rattle.ioc_common.specs.Steps.{with_notification};
 ghost use Rattle.ioc_process.specs.Notifying.{taken_over, holding, passed_on, notified_as, notified};
 ghost use Rattle.ioc_process.specs.World.{Has, common_at, changed};
@@ -33,9 +33,10 @@ fn hold<S: Store>(store: &mut S, number: RecordNo, notification: Option<NotifyId
     }
 }
 
-/// A record that is requested takes over the notification of the one that requests it, where it is idle and has none.
+// A record that is requested takes over the notification of the one that requests it, where it is idle and has none.
 #[tactic(auto, unfolding(crate::specs::Notifying::passed_on))]
-pub fn pass_notification<S: Store>(store: &mut S, source: RecordNo, target: RecordNo)
+#[inline(never)]
+fn take_over<S: Store>(store: &mut S, source: RecordNo, target: RecordNo)
     requires source { Has (S.world store.old) source }
     requires target { Has (S.world store.old) target }
     ensures world { S.world store.new ≡ passed_on S.Record.rules (S.world store.old) source target }
@@ -45,15 +46,41 @@ pub fn pass_notification<S: Store>(store: &mut S, source: RecordNo, target: Reco
     hold(store, target, notification);
 }
 
+/// A record that is requested takes over the notification of the one that requests it, if that has one, where it is idle and has none.
+#[tactic(auto, unfolding(crate::specs::Notifying::passed_on, crate::specs::Notifying::holding))]
+#[inline(always)]
+pub fn pass_notification<S: Store>(store: &mut S, source: RecordNo, target: RecordNo)
+    requires source { Has (S.world store.old) source }
+    requires target { Has (S.world store.old) target }
+    ensures world { S.world store.new ≡ passed_on S.Record.rules (S.world store.old) source target }
+    ensures given { S.given store.new ≡ S.given store.old }
+{
+    if common(store, source).notification.is_some() {
+        take_over(store, source, target);
+    }
+}
+
+// This notification of a record is told: the record has it no more.
+#[tactic(auto, unfolding(crate::specs::Notifying::notified_as))]
+#[inline(never)]
+fn tell_of<S: Store>(store: &mut S, number: RecordNo, notification: NotifyId)
+    requires { Has (S.world store.old) number }
+    ensures world { S.world store.new ≡ notified_as S.Record.rules (S.world store.old) number (Some notification) }
+    ensures given { S.given store.new ≡ S.given store.old }
+{
+    set_notification(store, number, None);
+    store.let_go(notification);
+}
+
 /// The notification of a record is told, if it has one: the record has it no more.
 #[tactic(auto, unfolding(crate::specs::Notifying::notified, crate::specs::Notifying::notified_as))]
+#[inline(always)]
 pub fn tell<S: Store>(store: &mut S, number: RecordNo)
     requires { Has (S.world store.old) number }
     ensures world { S.world store.new ≡ notified S.Record.rules (S.world store.old) number }
     ensures given { S.given store.new ≡ S.given store.old }
 {
     if let Some(notification) = common(store, number).notification {
-        set_notification(store, number, None);
-        store.let_go(notification);
+        tell_of(store, number, notification);
     }
 }

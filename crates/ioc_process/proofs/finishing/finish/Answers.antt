@@ -47,13 +47,12 @@ returns-in-Some-clause-turns g c =
     let closed = closed_on k lawful first c.requires.closed in
     let named = rw (c.record_named-named.ensures, c.common.ensures, c.show.ensures.world) at (sym c.passive_record.ensures ∙ c.in-Some.is) in
     rw (c.push_reserved.ensures.items, turn_pushed, c.set_active.ensures.world, c.show.ensures.world)
-    (turns_calls k _ _ keeps (omega (arith, ready-called k lawful w c.args.number c.requires.is_idle))
-    (record { source_there = keeps.has _ c.requires.there; place_stands = tt })
-    (active.has _ (passive_there k lawful (ready k lawful w c.args.number) _ c.in-Some.target (forward_stands k lawful _ c.args.number closed) named))
+    (turns_calls k _ keeps (omega (arith, ready-called k lawful w c.args.number c.requires.is_idle))
+    (record { source_there = keeps.has _ c.requires.there; requested_there = active.has _ (passive_there k lawful (ready k lawful w c.args.number) _ c.in-Some.target (forward_stands k lawful _ c.args.number closed) named) })
     (omega arith))
 
 pub returns-in-Some-clause-opens : goal.returns-in-Some-clause-opens
-returns-in-Some-clause-opens g c = opens_pushed _ _ _ _ c.push_reserved.ensures.items
+returns-in-Some-clause-opens g c = opens_pushed _ _ _ c.push_reserved.ensures.items
 
 pub returns-in-None-clause-turn : goal.returns-in-None-clause-turn
 returns-in-None-clause-turn g c = λ answers.

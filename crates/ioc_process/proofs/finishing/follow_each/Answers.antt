@@ -45,13 +45,12 @@ returns-in-Some-passive_target-clause-turns g c =
     let named = rw (c.link_at-link.ensures, i.world) at (sym c.passive_target.ensures ∙ c.in-Some-passive_target.is) in
     let keeps = keeps-active k lawful w s c.requires.there true in
     rw (c.push_reserved.ensures.items, turn_pushed, c.set_active.ensures.world, i.world)
-    (turns_calls k _ _ keeps (omega (arith, room-active k lawful w s, ap {A = Bool} {B = ℕ} (λ b. cond b 1 0) c.requires.is_idle))
-    (record { source_there = keeps.has _ c.requires.there; place_stands = tt })
-    (keeps.has _ (passive_there k lawful w (link_at k w s c.in-Some.slot) c.in-Some-passive_target.target (slot_stands k lawful w s c.in-Some.slot c.requires.closed) named))
+    (turns_calls k _ keeps (omega (arith, room-active k lawful w s, ap {A = Bool} {B = ℕ} (λ b. cond b 1 0) c.requires.is_idle))
+    (record { source_there = keeps.has _ c.requires.there; requested_there = keeps.has _ (passive_there k lawful w (link_at k w s c.in-Some.slot) c.in-Some-passive_target.target (slot_stands k lawful w s c.in-Some.slot c.requires.closed) named) })
     (omega (arith, i.onward, slot_below c.loop-slot.next c.in-Some.slot (sym c.from_index.ensures ∙ c.in-Some.is))))
 
 pub returns-in-Some-passive_target-clause-opens : goal.returns-in-Some-passive_target-clause-opens
-returns-in-Some-passive_target-clause-opens g c = opens_pushed _ _ _ _ (rw c.loop-slot.invariant.frames at c.push_reserved.ensures.items)
+returns-in-Some-passive_target-clause-opens g c = opens_pushed _ _ _ (rw c.loop-slot.invariant.frames at c.push_reserved.ensures.items)
 
 pub loop-slot-preserved-in_default-passive_target : goal.loop-slot-preserved-in_default-passive_target
 loop-slot-preserved-in_default-passive_target g c =

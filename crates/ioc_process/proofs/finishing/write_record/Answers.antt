@@ -118,8 +118,8 @@ returns-in-AndRequests-clause-turns g c =
     let active = keeps-active k lawful (wrote k w c.args.number c.args.target c.args.value).world c.args.number (keeps.has _ c.requires.there) true in
     let both = keeps_on k keeps active in
     rw (c.push_reserved.ensures.items, turn_pushed, c.set_active.ensures.world, c.write_value.ensures.world)
-    (turns_calls k _ _ both (omega (arith, stays.fewer, room-active k lawful (wrote k w c.args.number c.args.target c.args.value).world c.args.number, ap {A = Bool} {B = ℕ} (λ b. cond b 1 0) (stays.active ∙ c.requires.is_idle)))
-    (record { source_there = both.has _ c.requires.there; place_stands = tt }) (both.has _ c.requires.standing) (omega arith))
+    (turns_calls k _ both (omega (arith, stays.fewer, room-active k lawful (wrote k w c.args.number c.args.target c.args.value).world c.args.number, ap {A = Bool} {B = ℕ} (λ b. cond b 1 0) (stays.active ∙ c.requires.is_idle)))
+    (record { source_there = both.has _ c.requires.there; requested_there = both.has _ c.requires.standing }) (omega arith))
 
 pub returns-in-AndRequests-clause-opens : goal.returns-in-AndRequests-clause-opens
-returns-in-AndRequests-clause-opens g c = opens_pushed _ _ _ _ c.push_reserved.ensures.items
+returns-in-AndRequests-clause-opens g c = opens_pushed _ _ _ c.push_reserved.ensures.items

@@ -19,15 +19,15 @@ returns-then-passes_on-clause-turns g c =
     let s = c.args.number in
     let keeps = keeps-active k lawful w s c.requires.there true in
     rw (c.push_reserved.ensures.items, turn_pushed, c.set_active.ensures.world)
-    (turns_calls k _ _ keeps (omega (arith, room-active k lawful w s, ap {A = Bool} {B = ℕ} (λ b. cond b 1 0) c.requires.is_idle))
-    (record { source_there = keeps.has _ c.requires.there; place_stands = keeps.has _ c.requires.standing })
-    (keeps.has _ c.requires.standing) (omega arith))
+    (turns_calls k _ keeps (omega (arith, room-active k lawful w s, ap {A = Bool} {B = ℕ} (λ b. cond b 1 0) c.requires.is_idle))
+    (record { source_there = keeps.has _ c.requires.there; requested_there = keeps.has _ c.requires.standing })
+    (omega arith))
 
 pub returns-then-passes_on-clause-given : goal.returns-then-passes_on-clause-given
 returns-then-passes_on-clause-given g c = begins_same c.set_active.ensures.given
 
 pub returns-then-passes_on-clause-opens : goal.returns-then-passes_on-clause-opens
-returns-then-passes_on-clause-opens g c = opens_pushed _ _ _ _ c.push_reserved.ensures.items
+returns-then-passes_on-clause-opens g c = opens_pushed _ _ _ c.push_reserved.ensures.items
 
 pub returns-else-passes_on-clause-turn : goal.returns-else-passes_on-clause-turn
 returns-else-passes_on-clause-turn g c = λ answers begins.

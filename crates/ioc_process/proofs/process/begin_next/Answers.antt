@@ -4,12 +4,18 @@ use Rattle.ioc_process.specs.Frames.{called_by}
 use Rattle.ioc_process.proofs.FrameTurns.{last_is, one_stands}
 use Rattle.ioc_process.proofs.process.begin_next.Goals as goal
 
+pub begin_called-requires-clause-there : goal.begin_called-requires-clause-there
+begin_called-requires-clause-there g c =
+    let at = rw c.deref.ensures.value at (sym c.last.ensures.value ∙ ap option_copied c.in-Some.is) in
+    rw c.requested-target.ensures (one_stands (g.S.Store.world c.args.store.now) c.args.frames.now.items _ c.in-Some.frame.now c.requires.stands at).requested_there
+
 pub begin_called-requires-clause-source_there : goal.begin_called-requires-clause-source_there
 begin_called-requires-clause-source_there g c =
     let at = rw c.deref.ensures.value at (sym c.last.ensures.value ∙ ap option_copied c.in-Some.is) in
     (one_stands (g.S.Store.world c.args.store.now) c.args.frames.now.items _ c.in-Some.frame.now c.requires.stands at).source_there
 
-pub returns-in-Some-clause-turn : goal.returns-in-Some-clause-turn
-returns-in-Some-clause-turn g c = λ answers begins.
+pub returns-clause-turn : goal.returns-clause-turn
+returns-clause-turn g c = λ answers begins.
     let at = rw c.deref.ensures.value at (sym c.last.ensures.value ∙ ap option_copied c.in-Some.is) in
-    ap (λ frame. called_by g.S.Record.RecordKind.rules answers (g.S.Store.world c.args.store.now) frame c.args.target) (last_is c.args.frames.now.items c.in-Some.frame.now at) ∙ c.begin_called.ensures.turn answers begins
+    ap (λ frame. called_by g.S.Record.RecordKind.rules answers (g.S.Store.world c.args.store.now) frame) (last_is c.args.frames.now.items c.in-Some.frame.now at)
+    ∙ (rw c.requested-target.ensures at (c.begin_called.ensures.turn answers begins))

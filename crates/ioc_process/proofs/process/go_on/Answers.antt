@@ -41,7 +41,7 @@ take_disable-requires-clause-standing g c =
     let w = g.S.Store.world c.args.store.now in
     let s = c.args.frame.source in
     let keeps = keeps-active k lawful w s c.requires.stands.source_there false in
-    rw c.set_active.ensures.world (keeps.has _ (rw c.in-ReadingDisable.is at c.requires.stands.place_stands))
+    rw c.set_active.ensures.world (keeps.has _ (rw c.in-ReadingDisable.is at c.requires.stands.requested_there))
 
 pub returns-in-ReadingDisable-clause-turn : goal.returns-in-ReadingDisable-clause-turn
 unfolding went_on
@@ -94,7 +94,7 @@ take_value-requires-clause-standing g c =
     let w = g.S.Store.world c.args.store.now in
     let s = c.args.frame.source in
     let keeps = keeps-active k lawful w s c.requires.stands.source_there false in
-    rw c.set_active-in-Reading.ensures.world (keeps.has _ (rw c.in-Reading.is at c.requires.stands.place_stands))
+    rw c.set_active-in-Reading.ensures.world (keeps.has _ (rw c.in-Reading.is at c.requires.stands.requested_there))
 
 pub returns-in-Reading-clause-turn : goal.returns-in-Reading-clause-turn
 unfolding went_on

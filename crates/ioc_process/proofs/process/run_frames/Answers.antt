@@ -2,7 +2,7 @@ use Rattle.std.proofs.Common.{◌≡◌, ◌∷◌, [], reverse, length, refl, a
 use Rattle.std.proofs.lemmas.List.{length-reverse}
 use Rattle.ioc_process.specs.Frames.{turn_of, called_by, Goes, after_turn}
 use Rattle.ioc_process.proofs.FrameWork.{work-called, work-went_on}
-use Rattle.ioc_process.proofs.FrameTurns.{NextStands, begun_now, newest_reverse, reverse_push, length_opened, next_stands, all_stand, all_opened, all_forward}
+use Rattle.ioc_process.proofs.FrameTurns.{begun_now, newest_reverse, reverse_push, length_opened, next_opens, all_stand, all_opened, all_forward}
 use Rattle.ioc_process.proofs.FrameLoop.{goes_here, goes-called, goes-went_on, all-keep}
 use Rattle.ioc_process.proofs.Answering.{begins_same, begins_on, accords_before}
 use Rattle.ioc_process.proofs.Keeping.{keeps_all, keeps_on, closed_on}
@@ -22,7 +22,7 @@ loop-next-init g c =
       keeps = keeps_all k w;
       closed = c.requires.closed;
       stands = rw opened (all_stand w [] turn c.requires.stands tt);
-      there = subst (NextStands w) c.requires.opens.next (next_stands w turn c.requires.stands);
+      some_open = rw (← c.requires.opens.next, opened) (next_opens [] turn);
       few = omega arith;
       room = refl;
     }
@@ -40,14 +40,14 @@ loop-next-preserved-in-Requests g c =
     let opened = all_opened c.loop-next.frames.items c.begin_next-next.new.frames.items turn came.opens.frames in
     record {
       goes = λ answers begins. rw (← came.opens.next, opened)
-          (goes-called k lawful answers c.args.tally.now c.loop-next.tally _ (g.S.Store.world c.loop-next.store) _ (reverse c.loop-next.frames.items) turn c.in-Requests.target
+          (goes-called k lawful answers c.args.tally.now c.loop-next.tally _ (g.S.Store.world c.loop-next.store) _ (reverse c.loop-next.frames.items) turn
           (rw c.in-Requests.is at (i.goes answers (accords_before came.given begins)))
-          (ap (λ frame. called_by k answers (g.S.Store.world c.loop-next.store) frame c.in-Requests.target) (newest_reverse c.loop-next.frames.items) ∙ came.turn answers begins));
+          (ap (λ frame. called_by k answers (g.S.Store.world c.loop-next.store) frame) (newest_reverse c.loop-next.frames.items) ∙ came.turn answers begins));
       given = begins_on i.given came.given;
       keeps = keeps_on k i.keeps came.turns.keeps;
       closed = closed_on _ lawful came.turns.keeps i.closed;
       stands = rw opened (all_stand _ _ turn came.turns.stands (all-keep k _ _ _ came.turns.keeps i.stands));
-      there = rw (← came.opens.next) (next_stands _ turn came.turns.stands);
+      some_open = rw (← came.opens.next, opened) (next_opens _ turn);
       few = omega (arith, i.few, came.turns.fewer, ap length came.opens.frames, length_opened c.loop-next.frames.items turn, c.loop-next.frames.ok.0, c.begin_next-next.new.frames.ok.0);
       room = came.room ∙ i.room;
     }
@@ -58,7 +58,7 @@ loop-next-smaller-in-Requests g c =
     let came = c.begin_next-next.ensures in
     let turn = turn_of c.begin_next-next.new.frames.items c.begin_next-next.result in
     rw (← came.opens.next, all_opened c.loop-next.frames.items c.begin_next-next.new.frames.items turn came.opens.frames, c.in-Requests.is)
-    (work-called _ (reverse c.loop-next.frames.items) c.in-Requests.target turn
+    (work-called _ (reverse c.loop-next.frames.items) turn
     (omega (arith, i.few, came.turns.fewer, length-reverse c.loop-next.frames.items, c.loop-next.frames.ok.0)) came.turns.left)
 
 pub loop-next-preserved : goal.loop-next-preserved
@@ -79,7 +79,7 @@ loop-next-preserved g c =
       keeps = keeps_on k i.keeps came.turns.keeps;
       closed = closed_on _ lawful came.turns.keeps i.closed;
       stands = rw opened (all_stand _ _ turn came.turns.stands (all-keep k _ _ (reverse below) came.turns.keeps (rw taken at i.stands).1));
-      there = rw (← came.opens.next) (next_stands _ turn came.turns.stands);
+      some_open = rw (← came.opens.next, opened) (next_opens _ turn);
       few = omega (arith, i.few, came.turns.fewer, ap length came.opens.frames, length_opened below turn, c.in-Some.ensures.len, c.go_on.new.frames.ok.0, c.pop.new.self.ok.0);
       room = came.room ∙ c.pop.ensures.capacity ∙ i.room;
     }

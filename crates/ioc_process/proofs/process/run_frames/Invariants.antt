@@ -5,7 +5,7 @@ use Rattle.ioc_process.specs.World.{idle, IsClosed, Keeps}
 use Rattle.ioc_process.specs.Given.{Begins}
 use Rattle.ioc_process.specs.Runs.{ForAnswers}
 use Rattle.ioc_process.specs.Frames.{Goes, AllStand, after_turn, turn_of, then_frames}
-use Rattle.ioc_process.proofs.FrameTurns.{NextStands, now}
+use Rattle.ioc_process.proofs.FrameTurns.{NextOpens, now}
 use Rattle.ioc_process.proofs.FrameWork.{work}
 use Rattle.ioc_process.proofs.process.run_frames.Given as goal
 
@@ -21,7 +21,7 @@ invariant-loop-next g l =
       keeps : Keeps k w0 w;
       closed : IsClosed k w;
       stands : AllStand w (reverse l.frames.items);
-      there : NextStands w l.next;
+      some_open : NextOpens (reverse l.frames.items) l.next;
       few : vec_len l.frames + idle k w ≤ vec_len l.fn.frames + idle k w0;
       room : vec_capacity l.frames ≡ vec_capacity l.fn.frames;
     }

@@ -3,7 +3,7 @@ use Rattle.ioc_process.specs.Processing.{read_at}
 use Rattle.ioc_process.proofs.Keeping.{closed_on}
 use Rattle.ioc_process.proofs.FrameSteps.{read_at-stays, read_at-keeps, came_read, came-completed}
 use Rattle.ioc_process.proofs.Turning.{turns_on}
-use Rattle.ioc_process.proofs.process.take_value.Goals as goal
+use Rattle.ioc_process.proofs.reading.take_value.Goals as goal
 
 pub finish_body-requires-clause-there : goal.finish_body-requires-clause-there
 finish_body-requires-clause-there g c =

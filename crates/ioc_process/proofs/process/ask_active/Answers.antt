@@ -1,0 +1,104 @@
+use Rattle.std.proofs.Common.{ap, ◌∙◌, sym, arith, ℕ, Bool, ◌≤◌}
+use Rattle.ioc_common.specs.declared.common.Common.{Common}
+use Rattle.ioc_ledger.specs.declared.outcome.Outcome.TheVariants.{Reprocess}
+use Rattle.ioc_process.specs.Marks.{is_put_down, put_down, put_mark_passed}
+use Rattle.ioc_process.specs.World.{common_at, changed, World, Has, Keeps, idle}
+use Rattle.ioc_process.specs.Processing.{ran}
+use Rattle.ioc_process.proofs.StepFrames.{blocked-frame}
+use Rattle.ioc_process.proofs.Depth.{stays-changed, passed-active, passed_on-idle}
+use Rattle.ioc_process.proofs.Alongside.{passed-links}
+use Rattle.ioc_process.proofs.Keeping.{keeps-changed, closed_on, keeps_on, passed_on-keeps}
+use Rattle.ioc_process.proofs.Answering.{begins_same}
+use Rattle.ioc_process.proofs.Handing.{handed, handed-idle}
+use Rattle.ioc_process.proofs.FrameSteps.{asked_ran-later, asked_ran-now}
+use Rattle.ioc_process.proofs.Turning.{turns_on, turns_ended}
+use Rattle.ioc_process.proofs.process.ask_active.Goals as goal
+use Rattle.ioc_process.specs.Notifying.{passed_on}
+use Rattle.ioc_record.specs.RecordRules.{RecordRules}
+use Rattle.ioc_record.specs.Laws.{IsLawful}
+
+pub returns-then-is_put_down-clause-turn : goal.returns-then-is_put_down-clause-turn
+returns-then-is_put_down-clause-turn g c = λ answers begins.
+    let k = g.S.Record.RecordKind.rules in
+    let lawful = g.met.S.Record.RecordKind.lawful in
+    let w = g.S.Store.world c.args.store.now in
+    let s = c.args.source in
+    let t = c.args.target in
+    let by_put = ap (λ (it : Common). it.by_put) c.common.ensures in
+    rw c.put_down.ensures.world (asked_ran-later k lawful answers w s t (ap (λ b. is_put_down b (common_at k w t)) (sym by_put) ∙ sym c.is_put_down.ensures ∙ c.if-is_put_down.true))
+
+pub returns-then-is_put_down-clause-given : goal.returns-then-is_put_down-clause-given
+returns-then-is_put_down-clause-given g c = begins_same c.put_down.ensures.given
+
+pub returns-then-is_put_down-clause-turns : goal.returns-then-is_put_down-clause-turns
+returns-then-is_put_down-clause-turns g c =
+    let k = g.S.Record.RecordKind.rules in
+    let lawful = g.met.S.Record.RecordKind.lawful in
+    let w = g.S.Store.world c.args.store.now in
+    let s = c.args.source in
+    let t = c.args.target in
+    rw c.put_down.ensures.world (turns_ended k (keeps-changed k lawful w t c.requires.there put_down (λ it. (blocked-frame _).links))
+    (omega (arith, (stays-changed k lawful w t put_down (blocked-frame _).active).fewer)) Reprocess)
+
+pub begin_request-requires-clause-there : goal.begin_request-requires-clause-there
+begin_request-requires-clause-there g c =
+    let k = g.S.Record.RecordKind.rules in
+    let lawful = g.met.S.Record.RecordKind.lawful in
+    let w = g.S.Store.world c.args.store.now in
+    let s = c.args.source in
+    let t = c.args.target in
+    rw (c.pass_notification.ensures.world, c.pass_put_mark.ensures.world) ((handed k lawful w s t c.common.result.now.by_put c.requires.there).has _ c.requires.there)
+
+pub begin_request-requires-clause-closed : goal.begin_request-requires-clause-closed
+begin_request-requires-clause-closed g c =
+    let k = g.S.Record.RecordKind.rules in
+    let lawful = g.met.S.Record.RecordKind.lawful in
+    let w = g.S.Store.world c.args.store.now in
+    let s = c.args.source in
+    let t = c.args.target in
+    rw (c.pass_notification.ensures.world, c.pass_put_mark.ensures.world) (closed_on k lawful (handed k lawful w s t c.common.result.now.by_put c.requires.there) c.requires.closed)
+
+pub begin_request-requires-clause-room : goal.begin_request-requires-clause-room
+begin_request-requires-clause-room g c =
+    let k = g.S.Record.RecordKind.rules in
+    let lawful = g.met.S.Record.RecordKind.lawful in
+    let w = g.S.Store.world c.args.store.now in
+    let s = c.args.source in
+    let t = c.args.target in
+    rw (c.pass_notification.ensures.world, c.pass_put_mark.ensures.world) (omega (arith, c.requires.room, handed-idle k lawful w s t c.common.result.now.by_put))
+
+pub returns-else-is_put_down-clause-turn : goal.returns-else-is_put_down-clause-turn
+returns-else-is_put_down-clause-turn g c = λ answers begins.
+    let k = g.S.Record.RecordKind.rules in
+    let lawful = g.met.S.Record.RecordKind.lawful in
+    let w = g.S.Store.world c.args.store.now in
+    let s = c.args.source in
+    let t = c.args.target in
+    let by_put = ap (λ (it : Common). it.by_put) c.common.ensures in
+    asked_ran-now k lawful answers w s t (ap (λ b. is_put_down b (common_at k w t)) (sym by_put) ∙ sym c.is_put_down.ensures ∙ c.if-is_put_down.false)
+    ∙ ap (λ b. ran k answers (passed_on k (changed k w t (put_mark_passed b)) s t) t) (sym by_put) ∙ (rw (c.pass_notification.ensures.world, c.pass_put_mark.ensures.world) at (c.begin_request.ensures.turn answers begins))
+
+pub returns-else-is_put_down-clause-given : goal.returns-else-is_put_down-clause-given
+returns-else-is_put_down-clause-given g c = rw (c.pass_notification.ensures.given, c.pass_put_mark.ensures.given) at c.begin_request.ensures.given
+
+pub returns-else-is_put_down-clause-turns : goal.returns-else-is_put_down-clause-turns
+returns-else-is_put_down-clause-turns g c =
+    let k = g.S.Record.RecordKind.rules in
+    let lawful = g.met.S.Record.RecordKind.lawful in
+    let w = g.S.Store.world c.args.store.now in
+    let s = c.args.source in
+    let t = c.args.target in
+    turns_on k (handed k lawful w s t c.common.result.now.by_put c.requires.there) (omega (arith, handed-idle k lawful w s t c.common.result.now.by_put)) (omega arith)
+    (rw (c.pass_notification.ensures.world, c.pass_put_mark.ensures.world) at c.begin_request.ensures.turns)
+
+pub pass_notification-requires-clause-source : goal.pass_notification-requires-clause-source
+pass_notification-requires-clause-source g c =
+    let k = g.S.Record.RecordKind.rules in
+    let lawful = g.met.S.Record.RecordKind.lawful in
+    rw c.pass_put_mark.ensures.world ((keeps-changed k lawful (g.S.Store.world c.args.store.now) c.args.target c.requires.there _ (passed-links _)).has _ c.requires.source_there)
+
+pub pass_notification-requires-clause-target : goal.pass_notification-requires-clause-target
+pass_notification-requires-clause-target g c =
+    let k = g.S.Record.RecordKind.rules in
+    let lawful = g.met.S.Record.RecordKind.lawful in
+    rw c.pass_put_mark.ensures.world ((keeps-changed k lawful (g.S.Store.world c.args.store.now) c.args.target c.requires.there _ (passed-links _)).has _ c.requires.there)

@@ -1,0 +1,166 @@
+//! The input of a body: it reads a link or its device, or needs neither.
+ghost use Rattle.std.specs.Prelude.{◌≡◌, ◌<◌, ◌-◌, ℕ, List, [], false, vec_len};
+ghost use Rattle.std.specs.Vec.{vec_capacity};
+ghost use Rattle.ioc_common.specs.Wants.{need_of};
+ghost use Rattle.ioc_process.specs.World.{Has, at, common_at, IsClosed};
+ghost use Rattle.ioc_process.specs.Given.{Begins};
+ghost use Rattle.ioc_process.specs.Runs.{ForAnswers, IsStanding};
+ghost use Rattle.ioc_process.specs.Processing.{processed, request, read_at, completed, body, as_input, read_link, read_record};
+ghost use Rattle.ioc_process.specs.Frames.{after_reading, after_turn, turn_of, Opens, most_calls, Turns};
+
+use crate::finishing::{finish_body, take_fault};
+use crate::frames::{Frame, Next, Place};
+use crate::inputs::{ask_device, read_value};
+use crate::steps::{need, passes_on, set_active, wanted_link};
+use crate::store::Store;
+use ioc_common::{Got, LinkUse, Need, StandingLink};
+use ioc_ledger::Outcome;
+use ioc_names::RecordNo;
+use ioc_record::RecordKind;
+
+/// The body of a record begins.
+#[inline(always)]
+pub fn begin_body<S: Store>(store: &mut S, frames: &mut Vec<Frame>, number: RecordNo) -> Next
+    requires there { Has (S.world store.old) number }
+    requires closed { IsClosed S.Record.rules (S.world store.old) }
+    requires is_idle { (common_at S.Record.rules (S.world store.old) number).active ≡ false }
+    requires room { vec_len frames.old < vec_capacity frames.old }
+    ensures turn { ForAnswers (S.given store.new) (λ answers.
+        processed (body S.Record.rules answers (request S.Record.rules answers) (S.world store.old) number) ≡ after_turn S.Record.rules answers (S.world store.new) (turn_of frames.new.items result)) }
+    ensures given { Begins S.Device.gives (S.given store.old) (S.given store.new) }
+    ensures turns { Turns S.Record.rules (S.world store.old) (S.world store.new) 0 most_calls (turn_of frames.new.items result) }
+    ensures opens { Opens frames.old.items frames.new.items result }
+    ensures room { vec_capacity frames.new ≡ vec_capacity frames.old }
+{
+    match need(store, number) {
+        Need::Nothing => finish_body(store, frames, number, &Got::Nothing),
+        Need::Link => begin_wanted(store, frames, number),
+        Need::Device => begin_asking(store, frames, number),
+    }
+}
+
+/// A body begins that wants to read a link.
+#[inline(never)]
+fn begin_wanted<S: Store>(store: &mut S, frames: &mut Vec<Frame>, number: RecordNo) -> Next
+    requires there { Has (S.world store.old) number }
+    requires wants { need_of (S.Record.rules.begin (at S.Record.rules (S.world store.old) number)) ≡ Need.Link }
+    requires closed { IsClosed S.Record.rules (S.world store.old) }
+    requires is_idle { (common_at S.Record.rules (S.world store.old) number).active ≡ false }
+    requires room { vec_len frames.old < vec_capacity frames.old }
+    ensures turn { ForAnswers (S.given store.new) (λ answers.
+        processed (body S.Record.rules answers (request S.Record.rules answers) (S.world store.old) number) ≡ after_turn S.Record.rules answers (S.world store.new) (turn_of frames.new.items result)) }
+    ensures given { Begins S.Device.gives (S.given store.old) (S.given store.new) }
+    ensures turns { Turns S.Record.rules (S.world store.old) (S.world store.new) 0 most_calls (turn_of frames.new.items result) }
+    ensures opens { Opens frames.old.items frames.new.items result }
+    ensures room { vec_capacity frames.new ≡ vec_capacity frames.old }
+{
+    let link = wanted_link(store, number);
+    begin_reading(store, frames, number, link)
+}
+
+/// A body begins that wants to read its device.
+#[inline(never)]
+fn begin_asking<S: Store>(store: &mut S, frames: &mut Vec<Frame>, number: RecordNo) -> Next
+    requires there { Has (S.world store.old) number }
+    requires wants { need_of (S.Record.rules.begin (at S.Record.rules (S.world store.old) number)) ≡ Need.Device }
+    requires closed { IsClosed S.Record.rules (S.world store.old) }
+    requires is_idle { (common_at S.Record.rules (S.world store.old) number).active ≡ false }
+    requires room { vec_len frames.old < vec_capacity frames.old }
+    ensures turn { ForAnswers (S.given store.new) (λ answers.
+        processed (body S.Record.rules answers (request S.Record.rules answers) (S.world store.old) number) ≡ after_turn S.Record.rules answers (S.world store.new) (turn_of frames.new.items result)) }
+    ensures given { Begins S.Device.gives (S.given store.old) (S.given store.new) }
+    ensures turns { Turns S.Record.rules (S.world store.old) (S.world store.new) 0 most_calls (turn_of frames.new.items result) }
+    ensures opens { Opens frames.old.items frames.new.items result }
+    ensures room { vec_capacity frames.new ≡ vec_capacity frames.old }
+{
+    match ask_device(store, number) {
+        Some(got) => finish_body(store, frames, number, &got),
+        None => Next::Ends(Outcome::Processed),
+    }
+}
+
+/// A body begins with reading a link.
+#[tactic(auto, unfolding(crate::specs::Processing::read_link, crate::specs::Frames::after_reading))]
+fn begin_reading<S: Store>(
+    store: &mut S,
+    frames: &mut Vec<Frame>,
+    number: RecordNo,
+    link: LinkUse,
+) -> Next
+    requires there { Has (S.world store.old) number }
+    requires closed { IsClosed S.Record.rules (S.world store.old) }
+    requires is_idle { (common_at S.Record.rules (S.world store.old) number).active ≡ false }
+    requires room { vec_len frames.old < vec_capacity frames.old }
+    requires standing { IsStanding (S.world store.old) link }
+    ensures turn { ForAnswers (S.given store.new) (λ answers.
+        processed (after_reading S.Record.rules answers number (as_input (read_link S.Record.rules (request S.Record.rules answers) S.Record.rules.input_kind (S.world store.old) number link))) ≡ after_turn S.Record.rules answers (S.world store.new) (turn_of frames.new.items result)) }
+    ensures given { Begins S.Device.gives (S.given store.old) (S.given store.new) }
+    ensures turns { Turns S.Record.rules (S.world store.old) (S.world store.new) 0 most_calls (turn_of frames.new.items result) }
+    ensures opens { Opens frames.old.items frames.new.items result }
+    ensures room { vec_capacity frames.new ≡ vec_capacity frames.old }
+{
+    match link {
+        LinkUse::Unused => finish_body(store, frames, number, &Got::Nothing),
+        LinkUse::OwnDevice => take_fault(store, frames, number),
+        LinkUse::Absent => take_fault(store, frames, number),
+        LinkUse::Standing(target) => begin_target(store, frames, number, target),
+    }
+}
+
+/// A body begins with reading a record; before it reads a link with PP, it requests the record that the link names.
+#[inline(always)]
+fn begin_target<S: Store>(
+    store: &mut S,
+    frames: &mut Vec<Frame>,
+    number: RecordNo,
+    target: StandingLink,
+) -> Next
+    requires there { Has (S.world store.old) number }
+    requires closed { IsClosed S.Record.rules (S.world store.old) }
+    requires is_idle { (common_at S.Record.rules (S.world store.old) number).active ≡ false }
+    requires room { vec_len frames.old < vec_capacity frames.old }
+    requires standing { Has (S.world store.old) target.number }
+    ensures turn { ForAnswers (S.given store.new) (λ answers.
+        processed (after_reading S.Record.rules answers number (as_input (read_record S.Record.rules (request S.Record.rules answers) S.Record.rules.input_kind (S.world store.old) number target))) ≡ after_turn S.Record.rules answers (S.world store.new) (turn_of frames.new.items result)) }
+    ensures given { Begins S.Device.gives (S.given store.old) (S.given store.new) }
+    ensures turns { Turns S.Record.rules (S.world store.old) (S.world store.new) 0 most_calls (turn_of frames.new.items result) }
+    ensures opens { Opens frames.old.items frames.new.items result }
+    ensures room { vec_capacity frames.new ≡ vec_capacity frames.old }
+{
+    let called = target.number;
+    if passes_on(store, target.process_passive, called) {
+        set_active(store, number, true);
+        frames.push_reserved(Frame {
+            source: number,
+            place: Place::Reading(target),
+        });
+        Next::Requests
+    } else {
+        take_value(store, frames, number, target)
+    }
+}
+
+/// The body of a record has read another through a link, and goes on.
+#[inline(always)]
+pub fn take_value<S: Store>(
+    store: &mut S,
+    frames: &mut Vec<Frame>,
+    number: RecordNo,
+    target: StandingLink,
+) -> Next
+    requires there { Has (S.world store.old) number }
+    requires closed { IsClosed S.Record.rules (S.world store.old) }
+    requires is_idle { (common_at S.Record.rules (S.world store.old) number).active ≡ false }
+    requires room { vec_len frames.old < vec_capacity frames.old }
+    requires standing { Has (S.world store.old) target.number }
+    ensures turn { ForAnswers (S.given store.new) (λ answers.
+        processed (let read = read_at S.Record.rules S.Record.rules.input_kind (S.world store.old) number target in completed S.Record.rules answers (request S.Record.rules answers) read.world number read.came) ≡ after_turn S.Record.rules answers (S.world store.new) (turn_of frames.new.items result)) }
+    ensures given { Begins S.Device.gives (S.given store.old) (S.given store.new) }
+    ensures turns { Turns S.Record.rules (S.world store.old) (S.world store.new) 0 17 (turn_of frames.new.items result) }
+    ensures opens { Opens frames.old.items frames.new.items result }
+    ensures room { vec_capacity frames.new ≡ vec_capacity frames.old }
+{
+    let kind = store.record(number).input_kind();
+    let got = read_value(store, number, target, kind);
+    finish_body(store, frames, number, &got)
+}
