@@ -12,7 +12,7 @@ use Rattle.ioc_main.proofs.machine.Machine.new.Goals as goal
 
 pub invariant_of-result : goal.invariant_of-result
 invariant_of-result c = record {
-  settled = subst (λ (w : World Record). IsSettled record_rules w) (sym (first_is c.new-map.result c.args.records c.new-map.ensures.records (c.new-map.ensures.live ∙ c.in_ok-event.ensures.live) c.new-map.ensures.fresh)) c.requires;
+  settled = subst (λ (w : World Record). IsSettled record_rules w) (sym (first_is c.new-map.result c.args.records c.new-map.ensures.records (c.new-map.ensures.live ∙ c.in_ok-event.ensures.live) (c.new-map.ensures.waiting ∙ c.in_ok-event.ensures.waiting) c.new-map.ensures.fresh)) c.requires;
   empty = c.in_ok-frames.ensures.empty;
   room = c.in_ok-frames.ensures.room;
 }
@@ -21,5 +21,5 @@ pub returns : goal.returns
 unfolding first_machine
 returns c =
     let devices : c.in_ok-devices.devices.items ≡ map (first_queue record_rules) c.args.records.items = c.in_ok-devices.ensures ∙ ap (map (first_queue record_rules)) c.as_slice.ensures.value in
-    same_machine _ _ _ _ _ _ _ _ (first_is c.new-map.result c.args.records c.new-map.ensures.records (c.new-map.ensures.live ∙ c.in_ok-event.ensures.live) c.new-map.ensures.fresh)
+    same_machine _ _ _ _ _ _ _ _ (first_is c.new-map.result c.args.records c.new-map.ensures.records (c.new-map.ensures.live ∙ c.in_ok-event.ensures.live) (c.new-map.ensures.waiting ∙ c.in_ok-event.ensures.waiting) c.new-map.ensures.fresh)
     (ap (λ (v : Vec (Option (List Answer))). device_at v.items) c.new-map.ensures.devices ∙ ap device_at devices) (none_counted c.default.result c.default.ensures) c.in_ok-queues.ensures
