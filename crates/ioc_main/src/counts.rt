@@ -1,9 +1,10 @@
-//! The line that tells the counts of requests.
-ghost use Rattle.std.specs.Prelude.{◌≡◌, ◌+◌, ◌≤◌, ◌++◌, ◌∷◌, [], length, decimal};
+//! Lines that tell numbers: the counts of requests, and the number of a put with notification.
+ghost use Rattle.std.specs.Prelude.{◌≡◌, ◌+◌, ◌≤◌, ◌++◌, ◌∷◌, [], length, codes, decimal};
 ghost use Rattle.ioc_main.specs.Replay.{tally_words};
 
 use crate::session::LineReply;
 use ioc_ledger::Tally;
+use ioc_notify::NotifyId;
 use itoa::Buffer;
 
 // A count behind its word. A count has 20 digits at most.
@@ -14,6 +15,16 @@ fn add_count(line: &mut LineReply, word: &[u8], count: u64)
 {
     line.extend(word);
     line.extend(Buffer::new().format(count).as_bytes());
+}
+
+/// The number of a put with notification, with the line feed.
+pub fn notify_line(number: NotifyId) -> LineReply
+    ensures { result ≡ (codes "ok notify " ++ decimal number) ++ 10 ∷ [] }
+{
+    let mut line = LineReply::new();
+    add_count(&mut line, b"ok notify ", number.number());
+    line.push(b'\n');
+    line
 }
 
 /// The counts, and how many items were dropped, with the line feed.

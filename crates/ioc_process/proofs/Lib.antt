@@ -15,10 +15,15 @@ mod RulesAlone
 mod RulesAllowed
 mod RulesLaws
 mod Stepping
+mod Freeing
+mod StartRules
+mod Waitings
+mod StartCode
 mod StepLaws
 mod Quieting
 mod LinkChanges
 mod QuietEvents
+mod StartsLocal
 mod LocalEvents
 mod FrameSteps
 mod Needs

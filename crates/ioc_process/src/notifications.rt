@@ -1,7 +1,7 @@
 //! Puts with notification: those that are live, those that wait, and those that have ended in an event.
 ghost use Rattle.std.specs.Prelude.{◌≡◌, ◌≤◌, ◌<◌, ◌+◌, ◌&&◌, not, nat_lt, [], ◌∷◌, ◌++◌, length, if◌then◌else◌, IfOk};
 ghost use Rattle.std.specs.Vec.{vec_capacity};
-ghost use Rattle.ioc_notify.specs.Living.{begun, gained, lost, is_at_its_last, is_live};
+ghost use Rattle.ioc_notify.specs.Living.{begun, gained, lost, forgotten, is_at_its_last, is_live};
 ghost use Rattle.ioc_notify.specs.Waits.{without};
 
 use ioc_notify::{LiveNumbers, NotifyId, Waiting, WaitingLists};
@@ -106,6 +106,16 @@ impl Notifications {
         ensures ended { self.new.ended.items ≡ self.old.ended.items }
         ensures waiting { self.new.waiting.waiting ≡ without number self.old.waiting.waiting }
     {
+        let _waited = self.waiting.remove(number);
+    }
+
+    /// The one of this number is given up: it isn't live any more and waits no more, and hasn't ended.
+    pub fn forget(&mut self, number: NotifyId)
+        ensures live { self.new.live.live ≡ forgotten number self.old.live.live }
+        ensures ended { self.new.ended.items ≡ self.old.ended.items }
+        ensures waiting { self.new.waiting.waiting ≡ without number self.old.waiting.waiting }
+    {
+        let _live = self.live.forget(number);
         let _waited = self.waiting.remove(number);
     }
 
