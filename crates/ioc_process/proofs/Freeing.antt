@@ -1,5 +1,5 @@
 -- A notification that is taken from all records.
-use Rattle.std.proofs.Common.{◌≡◌, ℕ, zero, suc, ◌+◌, ◌<◌, ◌≤◌, Bool, true, false, cond, List, [], ◌∷◌, ◌++◌, map, length, take, drop, set, get_or, Option, Some, None, unwrap_or, is_some, T, refl, sym, ap, subst, ◌∙◌, append-nil, arith}
+use Rattle.std.proofs.Common.{◌≡◌, ℕ, zero, suc, ◌+◌, ◌<◌, ◌≤◌, Bool, true, false, cond, List, [], ◌∷◌, ◌++◌, map, length, take, drop, set, get_or, Option, Some, None, unwrap_or, is_some, IsTrue, T, refl, sym, ap, subst, ◌∙◌, append-nil, arith}
 use Rattle.std.specs.Prelude.{slice_get, ◌&&◌}
 use Rattle.std.proofs.lemmas.List.{take_all, drop_all, length-map}
 use Rattle.std.specs.Ordering.{nat_cmp, eq_by_cmp, is_lt}
@@ -10,7 +10,7 @@ use Rattle.ioc_common.specs.Steps.{with_notification}
 use Rattle.ioc_record.specs.RecordRules.{RecordRules}
 use Rattle.ioc_process.specs.OneMap.{numbered}
 use Rattle.ioc_process.specs.OneMapLaws.{get-numbered}
-use Rattle.ioc_process.specs.World.{World, at, freed, cancelled, is_notification}
+use Rattle.ioc_process.specs.World.{World, Has, at, freed, cancelled, is_notification}
 
 module _ {A : Type 0} (f : A → A) where
   -- one more item is mapped in its place
@@ -103,3 +103,13 @@ module _ {R : Type 0} (k : RecordRules R) (number : ℕ) where
         | false ↦ same r
       ] in
       subst (λ (o : Option R). P (unwrap_or (get w.records n) k.missing) (unwrap_or o k.missing)) (sym (get-cancelled w n)) (at_mapped-either P same either (get w.records n))
+
+  -- what holds of every freed record holds of those that are there
+  free_at : (P : R → Type 0) → ((r : R) → P (freed k number r)) → (o : Option R) → IsTrue (is_some (option_mapped (freed k number) o)) → P (unwrap_or (option_mapped (freed k number) o) k.missing)
+  free_at P free None has = cc
+  free_at P free (Some r) has = free r
+
+  pub cancelled-free_at : (w : World R) (P : R → Type 0) → ((r : R) → P (freed k number r)) → (n : ℕ) → Has (cancelled k number w) n → P (at k (cancelled k number w) n)
+  unfolding at
+  cancelled-free_at w P free n has =
+      subst (λ (o : Option R). P (unwrap_or o k.missing)) (sym (get-cancelled w n)) (free_at P free (get w.records n) (subst (λ (o : Option R). IsTrue (is_some o)) (get-cancelled w n) has))

@@ -25,6 +25,7 @@ mod LinkChanges
 mod QuietEvents
 mod StartsLocal
 mod LocalEvents
+mod NoneReady
 mod FrameSteps
 mod Needs
 mod Writing

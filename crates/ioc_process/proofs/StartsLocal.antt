@@ -51,10 +51,10 @@ module _ {R : Type 0} (k : RecordRules R) (lawful : IsLawful k) where
   missing-is w n isnt = none-there k lawful (get w.records n) isnt
 
   -- whether one may start is said of its record
-  abbrev idle_alone : R → Bool
+  abbrev pub idle_alone : R → Bool
   idle_alone r = not (k.common r).active && not (is_some (k.common r).notification)
 
-  ready-is : (w : World R) (x : Waiting) → is_ready k w x ≡ idle_alone (at k w x.target)
+  pub ready-is : (w : World R) (x : Waiting) → is_ready k w x ≡ idle_alone (at k w x.target)
   unfolding is_ready
   ready-is w x = elim (contains_key w.records x.target) as (λ b. contains_key w.records x.target ≡ b → b && idle_alone (at k w x.target) ≡ idle_alone (at k w x.target)) [
     | true ↦ λ there. refl

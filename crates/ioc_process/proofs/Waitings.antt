@@ -80,7 +80,7 @@ module _ {R : Type 0} (k : RecordRules R) (lawful : IsLawful k) where
   unfolding lost
   lost-waiting w = refl
 
-  put-waiting : (w : World R) (n : ℕ) (r : R) → (put w n r).waiting ≡ w.waiting
+  pub put-waiting : (w : World R) (n : ℕ) (r : R) → (put w n r).waiting ≡ w.waiting
   unfolding put
   put-waiting w n r = refl
 
@@ -139,7 +139,7 @@ module _ {R : Type 0} (k : RecordRules R) (lawful : IsLawful k) where
   unfolding after_completion
   completion-waiting answers w s x = (at_last-goes k lawful _ _ _ (guards w.waiting) answers (refl, refl) s tt x).inv.1
 
-  rewired-waiting : (before : List ℕ) (w : World R) (n : ℕ) → (rewired k before w n).waiting ≡ w.waiting
+  pub rewired-waiting : (before : List ℕ) (w : World R) (n : ℕ) → (rewired k before w n).waiting ≡ w.waiting
   rewired-waiting before w n =
       rewired-either k (λ v. v.waiting ≡ w.waiting) before w n refl (moved-either k (λ v. v.waiting ≡ w.waiting) w n (λ item. sent-waiting item _ ∙ marked-waiting w n _) (lost-waiting w))
 

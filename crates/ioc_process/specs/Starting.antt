@@ -1,6 +1,6 @@
 -- Puts with notification: which of them wait for their record, and how one starts.
 -- Application Developer's Guide, "Put with Notification" (dbPutNotify, the restart list).
-use Rattle.std.specs.Prelude.{◌≡◌, ℕ, zero, suc, ◌≤◌, ◌==◌, nat_le, Bool, true, false, ◌&&◌, ◌||◌, not, if◌then◌else◌, is_some, length, slice_get, List, [], ◌∷◌, Contains, Option, Some, Result, Ok, Err}
+use Rattle.std.specs.Prelude.{◌≡◌, ◌≢◌, ℕ, zero, suc, ◌≤◌, ◌==◌, nat_le, Bool, true, false, ◌&&◌, ◌||◌, not, if◌then◌else◌, is_some, length, slice_get, List, [], ◌∷◌, Contains, Option, Some, Result, Ok, Err}
 use Rattle.std.specs.Prelude.{None as Nothing_}
 use Rattle.std.specs.List.{list_any}
 use Rattle.std.specs.FinMap.{contains_key}
@@ -15,7 +15,7 @@ use Rattle.ioc_common.specs.Steps.{is_passive, with_put_mark, with_notification}
 use Rattle.ioc_ledger.specs.Requests.{None, followed_by}
 use Rattle.ioc_record.specs.RecordRules.{RecordRules}
 use Rattle.ioc_record.specs.Values.{put_tested, converted_for}
-use Rattle.ioc_process.specs.World.{World, at, common_at, put, changed, unqueued}
+use Rattle.ioc_process.specs.World.{World, Has, at, common_at, put, changed, unqueued}
 use Rattle.ioc_process.specs.Links.{is_proc}
 use Rattle.ioc_process.specs.Scanning.{rescanned}
 use Rattle.ioc_process.specs.Notifying.{notified}
@@ -100,3 +100,9 @@ module _ {R : Type 0} (k : RecordRules R) where
   -- none that waits may start
   pub record NoneReady (w : World R) : Type 0 where
     pub none : (x : Waiting) → Contains w.waiting x → is_ready k w x ≡ false
+
+-- this notification is given up: no record has it, it waits nowhere, and nothing has ended by that
+pub record IsGivenUp {R : Type 0} (k : RecordRules R) (number : ℕ) (before after : World R) : Type 0 where
+  pub records : (n : ℕ) → Has after n → (common_at k after n).notification ≢ Some number
+  pub waiting : (x : Waiting) → Contains after.waiting x → x.number ≢ number
+  pub ended : after.ended ≡ before.ended
