@@ -1,7 +1,7 @@
 -- How many notifications are live, as records take them on and let them go.
 use Rattle.std.proofs.lemmas.List.{length_push}
-use Rattle.std.proofs.Common.{◌≡◌, ℕ, suc, ◌+◌, ◌≤◌, Bool, true, false, cond, List, [], ◌∷◌, ◌++◌, length, ◌==◌, ◌&&◌, ◌||◌, not, refl, ap, subst, arith}
-use Rattle.std.specs.Prelude.{nat_lt, if◌then◌else◌, min, ◌^◌, ◌-◌}
+use Rattle.std.proofs.Common.{◌≡◌, ℕ, suc, ◌+◌, ◌≤◌, Bool, true, false, List, [], ◌∷◌, ◌++◌, length, ◌==◌, ◌&&◌, ◌||◌, not, refl, ap, subst, arith}
+use Rattle.std.specs.Prelude.{nat_lt, if◌then◌else◌, ◌-◌}
 use Rattle.std.specs.List.{list_any}
 use Rattle.ioc_notify.specs.declared.live_numbers.Live.{Live}
 use Rattle.ioc_notify.specs.Living.{gained, lost, forgotten, one_more, one_less, is_at_its_last, holders_of}

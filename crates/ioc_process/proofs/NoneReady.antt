@@ -1,10 +1,10 @@
 -- After an event none that waits may start, and a cancel leaves nobody with the notification.
-use Rattle.std.proofs.Common.{◌≡◌, ◌≢◌, ℕ, zero, suc, ◌<◌, Bool, true, false, cond, not, eqb, nat_eq, nat_lt, List, [], ◌∷◌, ◌++◌, length, Option, Some, None as Nothing_, is_some, refl, sym, ap, subst, ◌∙◌, inl, inr, arith}
+use Rattle.std.proofs.Common.{◌≡◌, ◌≢◌, ℕ, true, false, cond, not, eqb, nat_eq, nat_lt, List, [], ◌∷◌, ◌++◌, length, Some, None as Nothing_, is_some, refl, sym, ap, subst, ◌∙◌, inl, inr, arith}
 use Rattle.std.specs.Prelude.{Contains, ◌&&◌}
 use Rattle.std.proofs.lemmas.Grind.{common_steps}
 use Rattle.std.proofs.lemmas.List.Elements.{Contains-append_cases}
 use Rattle.ioc_fields.specs.declared.field_no.FieldNo.{FieldNo}
-use Rattle.ioc_ledger.specs.Requests.{Requests, None, more}
+use Rattle.ioc_ledger.specs.Requests.{Requests, more}
 use Rattle.ioc_notify.specs.declared.waiting_lists.Waiting.{Waiting}
 use Rattle.ioc_notify.specs.Waits.{without}
 use Rattle.ioc_notify.specs.Living.{is_live}
@@ -20,7 +20,7 @@ use Rattle.ioc_process.specs.declared.reply.Reply.{Reply}
 use Rattle.ioc_process.specs.World.{World, Has, at, common_at, put, changed, sent, lost, cancelled, freed, is_notification}
 use Rattle.ioc_process.specs.Given.{Answers}
 use Rattle.ioc_process.specs.Scanning.{device_of, moved, rewired}
-use Rattle.ioc_process.specs.Starting.{is_ready, NoneReady, IsGivenUp}
+use Rattle.ioc_process.specs.Starting.{NoneReady, IsGivenUp}
 use Rattle.ioc_process.specs.StepRules.{Does, Step, by_itself, then_others, StartsAll, no_more, next_starts, no_such_record, no_such_field, shows_field, processes_record, refuses_value, stores_alone, stores_while_active, stores_and_processes, not_awaited, completes_at_last, leads_to_no_record, no_link_field, keeps_its_link, takes_link, refuses_notified_value, no_place, waits_its_turn, starts_now, not_live, cancels, tells_if_live}
 use Rattle.ioc_process.proofs.Worlds.{at-put_same, at-put_other}
 use Rattle.ioc_process.proofs.ScanLaws.{moved-either, rewired-either}

@@ -1,7 +1,6 @@
 -- Events leave a quiet database quiet.
-use Rattle.std.proofs.Common.{◌≡◌, ◌≢◌, ℕ, true, false, eqb, Ok, IsSome, IsTrue, Option, is_some, None as Nothing_, Bool, refl, ap, subst, ◌∙◌, inl, inr, arith, cond, Some, length, [], ◌∷◌, ◌++◌, sym}
-use Rattle.std.specs.Prelude.{◌↔◌, Contains, nat_lt, ◌&&◌, not, List}
-use Rattle.std.specs.FinMap.{contains_key}
+use Rattle.std.proofs.Common.{◌≡◌, ◌≢◌, ℕ, true, false, eqb, Ok, IsSome, IsTrue, Option, None as Nothing_, Bool, refl, ap, subst, ◌∙◌, inl, inr, arith, cond, Some, length, [], ◌∷◌, ◌++◌, sym}
+use Rattle.std.specs.Prelude.{◌↔◌, Contains, nat_lt, ◌&&◌, List}
 use Rattle.std.proofs.lemmas.Grind.{common_steps}
 use Rattle.ioc_values.specs.declared.input.Input.{Input}
 use Rattle.ioc_values.specs.declared.value.Finished.{Finished}
@@ -17,7 +16,7 @@ use Rattle.ioc_record.specs.Laws.{IsLawful}
 use Rattle.ioc_process.specs.declared.reply.Reply.{Reply}
 use Rattle.ioc_process.specs.World.{World, Has, IsClosed, SameLinks, Keeps, at, common_at, put, changed, begun, begun_at, lost, sent, let_go, admitted, queued, unqueued, cancelled}
 use Rattle.ioc_process.specs.Notifying.{notified}
-use Rattle.ioc_process.specs.Starting.{is_ready, taken_and_stored, IsNext}
+use Rattle.ioc_process.specs.Starting.{is_ready, taken_and_stored}
 use Rattle.ioc_process.proofs.NotifyLaws.{notified-either}
 use Rattle.ioc_process.proofs.Freeing.{has-cancelled, len-cancelled, at_cancelled-either}
 use Rattle.ioc_notify.specs.declared.waiting_lists.Waiting.{Waiting}
@@ -31,13 +30,13 @@ use Rattle.ioc_process.specs.declared.event.Entry.{Entry}
 use Rattle.ioc_process.proofs.LinkChanges.{linked-names, there_of}
 use Rattle.ioc_process.proofs.Worlds.{at-put_same, at-put_other, has-put, has-put_back}
 use Rattle.ioc_process.proofs.Keeping.{same_links, keeps_all, keeps_on, closed_on, keeps-put, keeps-changed, request-keeps, at_last-keeps, rescanned-keeps, notified-keeps}
-use Rattle.ioc_process.proofs.StepFrames.{OwnLinks, links-set, links-stored, targets_same}
+use Rattle.ioc_process.proofs.StepFrames.{OwnLinks, links-set, links-stored}
 use Rattle.ioc_process.proofs.RulesLaws.{resumes-others, resumes-own}
 use Rattle.ioc_process.proofs.Stepping.{keeps-put_field, put_active, put_pending}
 use Rattle.ioc_process.proofs.RulesAlone.{request-is, at_last-is}
 use Rattle.ioc_process.proofs.Quieting.{request-quiet, left-quiet, settled_by}
 use Rattle.ioc_process.specs.Given.{Answers, listed}
-use Rattle.ioc_process.specs.Scanning.{device_of, moved, rescanned, rewired}
+use Rattle.ioc_process.specs.Scanning.{device_of, moved, rescanned}
 use Rattle.ioc_process.proofs.ScanLaws.{moved-either, rescanned-either, rewired-either}
 use Rattle.ioc_process.specs.declared.outbox.OutboxItem.{OutboxItem}
 

@@ -2,7 +2,7 @@
 use Rattle.std.proofs.Common.{◌≡◌, ◌≤◌, ℕ, zero, suc, true, false, Option, Some, refl, sym, ap, subst, ◌∙◌, arith}
 use Rattle.ioc_ledger.specs.declared.outcome.Outcome.{Outcome}
 use Rattle.ioc_ledger.specs.declared.tally.Tally.{Tally}
-use Rattle.ioc_ledger.specs.Requests.{None, followed_by, counted}
+use Rattle.ioc_ledger.specs.Requests.{None, counted}
 use Rattle.ioc_notify.specs.declared.waiting_lists.Waiting.{Waiting}
 use Rattle.ioc_common.specs.Steps.{with_put_mark}
 use Rattle.ioc_record.specs.RecordRules.{RecordRules}
@@ -10,13 +10,13 @@ use Rattle.ioc_record.specs.Laws.{IsLawful}
 use Rattle.ioc_process.specs.World.{World, Has, at, changed, admitted, unqueued}
 use Rattle.ioc_process.specs.Given.{Answers}
 use Rattle.ioc_process.specs.Notifying.{notified}
-use Rattle.ioc_process.specs.Processing.{Done, ran, request}
+use Rattle.ioc_process.specs.Processing.{Done, ran}
 use Rattle.ioc_process.specs.Runs.{Leaves}
 use Rattle.ioc_process.specs.Events.{Counts}
 use Rattle.ioc_process.specs.Starting.{processes, next_waiting, taken_and_stored, started, started_then, started_most}
 use Rattle.ioc_process.proofs.Bodies.{counted-followed_by}
 use Rattle.ioc_process.proofs.Depth.{request-rule}
-use Rattle.ioc_process.proofs.StartRules.{started-by, start-next, no-start, IsBest, best-next, is-next}
+use Rattle.ioc_process.proofs.StartRules.{started-by, start-next, IsBest, best-next, is-next}
 use Rattle.ioc_process.proofs.QuietEvents.{ready-has}
 
 pub admitted-waiting : {R : Type 0} (number : ℕ) (w : World R) → (admitted number w).waiting ≡ w.waiting

@@ -1,12 +1,9 @@
 -- Starts of puts with notification look at the records of U, and change these alone.
-use Rattle.std.proofs.Common.{◌≡◌, ℕ, zero, suc, ◌<◌, Bool, true, false, cond, not, nat_eq, List, [], ◌∷◌, ◌++◌, length, Option, Some, None as Nothing_, is_some, unwrap_or, refl, sym, ap, subst, ◌∙◌, inl, inr, arith}
-use Rattle.std.specs.Prelude.{Contains, ◌&&◌, Result, Ok, Err}
+use Rattle.std.proofs.Common.{◌≡◌, ℕ, zero, suc, Bool, true, false, cond, not, nat_eq, List, [], ◌∷◌, length, Option, Some, None as Nothing_, is_some, unwrap_or, refl, sym, ap, subst, ◌∙◌, inl, inr, arith}
+use Rattle.std.specs.Prelude.{Contains, ◌&&◌}
 use Rattle.std.specs.FinMap.{get, contains_key}
 use Rattle.std.proofs.lemmas.List.Elements.{Contains-append_cases}
-use Rattle.ioc_values.specs.declared.error.IocError.{IocError}
-use Rattle.ioc_values.specs.declared.input.Input.{Input}
 use Rattle.ioc_values.specs.declared.value.Value.{Value}
-use Rattle.ioc_values.specs.declared.value.Finished.{Finished}
 use Rattle.ioc_fields.specs.declared.field_no.FieldNo.{FieldNo}
 use Rattle.ioc_ledger.specs.Requests.{Requests, None, followed_by}
 use Rattle.ioc_notify.specs.declared.waiting_lists.Waiting.{Waiting}
@@ -14,14 +11,13 @@ use Rattle.ioc_notify.specs.Waits.{without}
 use Rattle.ioc_common.specs.Steps.{with_put_mark, with_notification}
 use Rattle.ioc_record.specs.RecordRules.{RecordRules}
 use Rattle.ioc_record.specs.Laws.{IsLawful}
-use Rattle.ioc_process.specs.World.{World, at, common_at, put, changed, admitted, queued, unqueued}
+use Rattle.ioc_process.specs.World.{World, at, common_at, put, changed, unqueued}
 use Rattle.ioc_process.specs.Given.{Answers}
-use Rattle.ioc_process.specs.Local.{Same}
 use Rattle.ioc_process.specs.Notifying.{notified}
 use Rattle.ioc_process.specs.Processing.{Done, request}
 use Rattle.ioc_process.specs.Starting.{processes, sooner, is_ready, next_from, next_waiting, taken_and_stored, started, started_then, started_most, all_started}
 use Rattle.ioc_process.proofs.Locality.{Within, Along, guards}
-use Rattle.ioc_process.proofs.Alongside.{Guards, Goes, changed-goes, rescanned-goes, notified-goes, request-goes}
+use Rattle.ioc_process.proofs.Alongside.{Goes, changed-goes, rescanned-goes, notified-goes, request-goes}
 use Rattle.ioc_process.proofs.StartRules.{IsBest, best-next, is-next, waits-there, one_item}
 use Rattle.ioc_process.proofs.Waitings.{started-waiting}
 

@@ -23,7 +23,7 @@ use Rattle.ioc_common.specs.Links.{use_of, named_by}
 use Rattle.ioc_process.specs.declared.reply.Reply.{Reply}
 use Rattle.ioc_process.specs.declared.reply.Reply.TheVariants.{Plain, Outcome as Outcome-reply, Shown, Notify as Notify-reply, Live as Live-reply}
 use Rattle.ioc_process.specs.World.{World, at, common_at, put, changed, has_place, admitted, queued, cancelled}
-use Rattle.ioc_process.specs.Starting.{value_to_put, must_wait, started, all_started}
+use Rattle.ioc_process.specs.Starting.{value_to_put, must_wait, started}
 use Rattle.ioc_process.proofs.StartRules.{starts-is, starts-allowed, starts_all-is, starts_all-allowed}
 use Rattle.ioc_process.specs.Scanning.{device_of, rescanned, rewired}
 use Rattle.ioc_process.specs.Rules.{Requested}
@@ -33,11 +33,10 @@ use Rattle.ioc_process.specs.declared.event.Event.TheVariants.{Get, Process, Put
 use Rattle.ioc_process.specs.Step.{Stepped, is_there, all_there, refused, relinked, told, awaits, after_put, after_completion, put_with, processes, begun_or_queued, notify_with, lets_start, done_there, done_alone, with_starts, stepped}
 use Rattle.ioc_process.specs.StepRules.{Does, Step, by_itself, then_others, no_such_record, no_such_field, shows_field, processes_record, refuses_value, stores_alone, stores_while_active, stores_and_processes, not_awaited, completes_at_last, leads_to_no_record, no_link_field, keeps_its_link, takes_link, refuses_notified_value, no_place, waits_its_turn, starts_now, not_live, cancels, tells_if_live, Replay, at_the_end, and_then}
 use Rattle.ioc_process.specs.declared.event.Entry.{Entry}
-use Rattle.ioc_process.proofs.Worlds.{at-put_same}
 use Rattle.ioc_process.proofs.RulesAlone.{request-is, at_last-is}
 use Rattle.ioc_process.proofs.RulesAllowed.{request-allowed, at_last-allowed}
 use Rattle.ioc_process.proofs.Depth.{request-rule}
-use Rattle.ioc_process.proofs.Stepping.{step-missing, step-there, step-process, step-put, step-put_refused, step-stale, step-complete, step-notify, step-no_place, step-let_in, step-cancel}
+use Rattle.ioc_process.proofs.Stepping.{step-missing, step-there, step-process, step-put, step-complete, step-notify, step-no_place, step-let_in, step-cancel}
 use Rattle.ioc_process.specs.Given.{Answers, listed}
 
 some_same : {X : Type 0} {x y : X} → Some x ≡ Some y → x ≡ y

@@ -1,5 +1,5 @@
 -- The cases of an event, as the code meets them.
-use Rattle.std.proofs.Common.{◌≡◌, ℕ, Bool, true, false, cond, eqb, List, [], ◌∷◌, length, drop, Option, Some, None as Nothing_, IsTrue, is_some, unwrap_or, refl, sym, ap, subst, ◌∙◌, arith, ◌++◌}
+use Rattle.std.proofs.Common.{◌≡◌, ℕ, Bool, true, false, cond, eqb, length, drop, Option, Some, None as Nothing_, IsTrue, is_some, unwrap_or, refl, sym, ap, subst, ◌∙◌, arith}
 use Rattle.std.specs.Prelude.{Result, Ok, Err, OnOk, OnErr, not}
 use Rattle.std.specs.Ordering.{nat_cmp, eq_by_cmp}
 use Rattle.std.specs.Cmp.{nat_cmp_total, unsigned_tied}
@@ -13,8 +13,6 @@ use Rattle.ioc_fields.specs.declared.field_no.FieldNo.{FieldNo}
 use Rattle.ioc_ledger.specs.declared.outcome.Outcome.{Outcome}
 use Rattle.ioc_ledger.specs.declared.tally.Tally.{Tally}
 use Rattle.ioc_ledger.specs.Requests.{Requests, None, Request, counted, counted_one, counted_started, counted_completion}
-use Rattle.ioc_common.specs.declared.common.Common.{Common}
-use Rattle.ioc_process.specs.declared.call.Call.{Call}
 use Rattle.ioc_process.specs.Given.{Answers, later_among}
 use Rattle.ioc_record.specs.RecordRules.{RecordRules, targets}
 use Rattle.ioc_record.specs.Values.{put_field, put_tested, put_once_tested, put_untested, converted_for}
@@ -25,7 +23,7 @@ use Rattle.ioc_process.proofs.Keeping.{keeps-put}
 use Rattle.ioc_process.specs.declared.reply.Reply.{Reply}
 use Rattle.ioc_process.specs.declared.reply.Reply.TheVariants.{Plain, Outcome as Outcome-reply, Refused}
 use Rattle.ioc_ledger.specs.declared.outcome.Outcome.TheVariants.{Processed, Reprocess}
-use Rattle.ioc_common.specs.Steps.{with_put_mark, with_reprocess_mark, change_numbered}
+use Rattle.ioc_common.specs.Steps.{with_put_mark, with_reprocess_mark}
 use Rattle.ioc_process.specs.World.{World, Has, at, common_at, put, changed, SameLinks, Keeps, has_place, cancelled}
 use Rattle.ioc_process.specs.Processing.{Done, ran, processed, went_on_at_last}
 use Rattle.ioc_process.specs.Runs.{Comes, Leaves}

@@ -1,5 +1,5 @@
 -- A request leaves alone who waits.
-use Rattle.std.proofs.Common.{◌≡◌, ℕ, zero, suc, ◌<◌, Bool, true, false, cond, List, [], ◌∷◌, ◌++◌, length, is_some, refl, sym, ap, subst, ◌∙◌, inl, inr, arith}
+use Rattle.std.proofs.Common.{◌≡◌, ℕ, zero, suc, Bool, true, false, cond, List, [], ◌∷◌, ◌++◌, length, is_some, refl, ap, subst, ◌∙◌, inl, inr, arith}
 use Rattle.std.specs.Prelude.{nat_lt, not, Contains, Result, Ok, Err}
 use Rattle.ioc_ledger.specs.Requests.{None, more}
 use Rattle.ioc_notify.specs.declared.waiting_lists.Waiting.{Waiting}
@@ -13,15 +13,13 @@ use Rattle.ioc_process.specs.World.{World, at, common_at, put, changed, called, 
 use Rattle.ioc_process.specs.Given.{Answers}
 use Rattle.ioc_process.specs.Scanning.{device_of, rescanned, rewired}
 use Rattle.ioc_process.specs.Notifying.{notified}
-use Rattle.ioc_process.specs.Processing.{Done, request, ran, went_on_at_last}
+use Rattle.ioc_process.specs.Processing.{request}
 use Rattle.ioc_process.specs.declared.event.Event.{Event}
 use Rattle.ioc_process.specs.declared.event.Event.TheVariants.{Get, Process, Put, Complete, Link, Notify, Cancel, IsLive}
 use Rattle.ioc_process.specs.declared.reply.Reply.TheVariants.{Plain, Outcome as Outcome-reply, Shown, Notify as Notify-reply}
 use Rattle.ioc_process.specs.Step.{Stepped, is_cancel, names, is_there, all_there, refused, told, after_put, after_completion, awaits, put_with, relinked, begun_or_queued, notify_with, done_there, done_alone}
-use Rattle.std.specs.FinMap.{contains_key}
 use Rattle.ioc_values.specs.declared.error.IocError.{IocError}
 use Rattle.ioc_values.specs.declared.error.IocError.TheVariants.{NoRecord, NoField, PutDisabled, Stale, QueueFull}
-use Rattle.ioc_values.specs.declared.input.Input.{Input}
 use Rattle.ioc_values.specs.declared.value.Value.{Value}
 use Rattle.ioc_values.specs.declared.value.Finished.{Finished}
 use Rattle.ioc_fields.specs.Table.{row_of}

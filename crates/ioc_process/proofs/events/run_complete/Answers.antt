@@ -2,7 +2,7 @@ use Rattle.std.proofs.Common.{Bool, cond, refl, ap, sym, ◌∙◌}
 use Rattle.ioc_ledger.specs.Requests.{counted_completion}
 use Rattle.ioc_process.specs.declared.event.Event.TheVariants.{Complete}
 use Rattle.ioc_process.proofs.Answering.{begins_on, accords_before}
-use Rattle.ioc_process.proofs.Keeping.{keeps_on, closed_on}
+use Rattle.ioc_process.proofs.Keeping.{closed_on}
 use Rattle.ioc_process.proofs.Stepping.{tells-event}
 use Rattle.ioc_process.proofs.events.run_complete.Goals as goal
 

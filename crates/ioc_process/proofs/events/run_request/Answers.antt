@@ -1,4 +1,4 @@
-use Rattle.std.proofs.Common.{refl, ap, ◌∙◌}
+use Rattle.std.proofs.Common.{refl}
 use Rattle.ioc_process.specs.declared.event.Event.TheVariants.{Process}
 use Rattle.ioc_process.proofs.Answering.{begins_on, accords_before}
 use Rattle.ioc_process.proofs.Keeping.{keeps_on, closed_on}

@@ -1,4 +1,4 @@
-use Rattle.std.proofs.Common.{◌∙◌, refl}
+use Rattle.std.proofs.Common.{◌∙◌}
 use Rattle.ioc_process.proofs.Answering.{begins_same}
 use Rattle.ioc_process.proofs.Keeping.{keeps_on, closed_on}
 use Rattle.ioc_process.proofs.QuietEvents.{admitted-keeps, queued-keeps}

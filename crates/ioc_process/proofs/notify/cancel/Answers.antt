@@ -1,4 +1,4 @@
-use Rattle.std.proofs.Common.{true, false, refl, sym, ◌∙◌}
+use Rattle.std.proofs.Common.{true, false, sym, ◌∙◌}
 use Rattle.ioc_process.proofs.Keeping.{keeps_all}
 use Rattle.ioc_process.proofs.QuietEvents.{cancelled-keeps}
 use Rattle.ioc_process.proofs.Stepping.{step-cancel}

@@ -1,4 +1,4 @@
-use Rattle.std.proofs.Common.{◌≡◌, ◌++◌, map, take, drop, length}
+use Rattle.std.proofs.Common.{◌≡◌, ◌++◌, map, take, drop}
 use Rattle.ioc_process.specs.World.{freed}
 use Rattle.ioc_process.proofs.one_map.free_all.Given as goal
 

@@ -1,6 +1,6 @@
-use Rattle.std.proofs.Common.{◌≡◌, ◌-◌, ℕ, suc, Some, length, refl, ap, sym, subst, ◌∙◌, arith}
+use Rattle.std.proofs.Common.{◌≡◌, ◌-◌, ℕ, suc, length, refl, ap, sym, subst, ◌∙◌, arith}
 use Rattle.ioc_device.specs.declared.Answer.TheVariants.{Fault}
-use Rattle.ioc_process.specs.Starting.{next_waiting, all_started}
+use Rattle.ioc_process.specs.Starting.{all_started}
 use Rattle.ioc_process.proofs.Answering.{begins_same, begins_on, accords_before}
 use Rattle.ioc_process.proofs.Keeping.{keeps_all, keeps_on, closed_on}
 use Rattle.ioc_process.proofs.QuietEvents.{unqueued-keeps}

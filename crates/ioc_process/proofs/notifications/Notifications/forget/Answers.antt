@@ -1,4 +1,4 @@
-use Rattle.std.proofs.Common.{arith, ap, length, ◌∙◌, sym}
+use Rattle.std.proofs.Common.{arith, ap, length}
 use Rattle.ioc_notify.specs.Living.{Living}
 use Rattle.ioc_notify.specs.Waits.{Waits}
 use Rattle.ioc_process.proofs.Living.{length-forgotten}

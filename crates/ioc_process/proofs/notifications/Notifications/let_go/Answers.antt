@@ -1,4 +1,4 @@
-use Rattle.std.proofs.Common.{◌∙◌, sym, ap, length}
+use Rattle.std.proofs.Common.{◌∙◌, sym, ap}
 use Rattle.ioc_notify.specs.Living.{Living}
 use Rattle.ioc_process.proofs.Living.{few-ended, few-left}
 use Rattle.ioc_process.proofs.notifications.Notifications.let_go.Goals as goal
