@@ -5,4 +5,4 @@ use Rattle.ioc_process.specs.World.{World}
 
 -- these records by their numbers, at the moment 0
 unfoldable pub first_world : {R : Type 0} → List R → World R
-first_world records = record { records = numbered records; moment = 0; calls = []; outbox = []; dropped = 0; live = []; ended = [] }
+first_world records = record { records = numbered records; moment = 0; calls = []; outbox = []; dropped = 0; live = []; ended = []; waiting = [] }

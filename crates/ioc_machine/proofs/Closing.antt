@@ -1,6 +1,7 @@
 -- Between events no link leaves the database, and it is quiet.
 use Rattle.std.proofs.Common.{◌≡◌, ℕ, ◌≤◌, List, [], subst, sym, ap, refl, ◌∙◌}
 use Rattle.ioc_notify.specs.declared.live_numbers.Live.{Live}
+use Rattle.ioc_notify.specs.declared.waiting_lists.Waiting.{Waiting}
 use Rattle.std.specs.Global.{Vec}
 use Rattle.std.specs.Prelude.{Contains}
 use Rattle.std.specs.FinMap.{len}
@@ -60,8 +61,9 @@ pub none_yet : {R D : Type 0} (map : OneMap R D) (w : World R) → world_of map 
 none_yet map w e = begun-none w (world_of map) e
 
 -- a map of records for which no event has begun
-pub first_is : {R D : Type 0} (map : OneMap R D) (records : Vec R) → map.records ≡ records → (world_of map).live ≡ [] → world_of map ≡ begun_at 0 (world_of map) → world_of map ≡ first_world records.items
+pub first_is : {R D : Type 0} (map : OneMap R D) (records : Vec R) → map.records ≡ records → (world_of map).live ≡ [] → (world_of map).waiting ≡ [] → world_of map ≡ begun_at 0 (world_of map) → world_of map ≡ first_world records.items
 unfolding begun begun_at first_world
-first_is {R} map records is none fresh =
-    fresh ∙ ap (λ (l : List Live). record { records = numbered map.records.items; moment = 0; calls = []; outbox = []; dropped = 0; live = l; ended = [] }) none
-    ∙ ap (λ (v : Vec R). record { records = numbered v.items; moment = 0; calls = []; outbox = []; dropped = 0; live = []; ended = [] }) is
+first_is {R} map records is none nobody fresh =
+    fresh ∙ ap (λ (l : List Live). record { records = numbered map.records.items; moment = 0; calls = []; outbox = []; dropped = 0; live = l; ended = []; waiting = (world_of map).waiting }) none
+    ∙ ap (λ (l : List Waiting). record { records = numbered map.records.items; moment = 0; calls = []; outbox = []; dropped = 0; live = []; ended = []; waiting = l }) nobody
+    ∙ ap (λ (v : Vec R). record { records = numbered v.items; moment = 0; calls = []; outbox = []; dropped = 0; live = []; ended = []; waiting = [] }) is

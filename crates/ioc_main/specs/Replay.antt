@@ -19,7 +19,7 @@ use Rattle.ioc_ledger.specs.declared.outcome.Outcome.TheVariants.{Processed, Dis
 use Rattle.ioc_ledger.specs.declared.tally.Tally.{Tally}
 use Rattle.ioc_record.specs.RecordRules.{RecordRules}
 use Rattle.ioc_process.specs.declared.reply.Reply.{Reply}
-use Rattle.ioc_process.specs.declared.reply.Reply.TheVariants.{Plain, Outcome as Outcome-reply, Shown, Refused}
+use Rattle.ioc_process.specs.declared.reply.Reply.TheVariants.{Plain, Outcome as Outcome-reply, Shown, Notify as Notify-reply, Live as Live-reply, Refused}
 use Rattle.ioc_process.specs.World.{World, at}
 use Rattle.ioc_process.specs.declared.event.Event.TheVariants.{Get as Get-event, Process as Process-event, Put as Put-event, Complete as Complete-event}
 use Rattle.ioc_process.specs.Step.{stepped}
@@ -35,11 +35,18 @@ outcome_words Disabled = codes "ok disabled"
 outcome_words Active = codes "ok active"
 outcome_words Reprocess = codes "ok reprocess"
 
+-- is a put with notification live?
+unfoldable pub live_words : Bool → List ℕ
+live_words true = codes "ok live"
+live_words false = codes "ok not live"
+
 -- a reply, without its line feed
 abbrev pub reply_words : Reply → List ℕ
 reply_words Plain = codes "ok"
 reply_words (Outcome-reply outcome) = outcome_words outcome
 reply_words (Shown text) = codes "= " ++ text
+reply_words (Notify-reply number) = codes "ok notify " ++ decimal number
+reply_words (Live-reply live) = live_words live
 reply_words (Refused e) = refusal_words e
 
 -- a number, without the line feed

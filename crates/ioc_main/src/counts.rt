@@ -1,9 +1,10 @@
-//! Lines that tell counts.
-ghost use Rattle.std.specs.Prelude.{◌≡◌, ◌+◌, ◌≤◌, ◌++◌, ◌∷◌, [], length, decimal};
+//! Lines that tell numbers: the counts of requests, a count, and the number of a put with notification.
+ghost use Rattle.std.specs.Prelude.{◌≡◌, ◌+◌, ◌≤◌, ◌++◌, ◌∷◌, [], length, codes, decimal};
 ghost use Rattle.ioc_main.specs.Replay.{count_words, tally_words};
 
 use crate::session::LineReply;
 use ioc_ledger::Tally;
+use ioc_notify::NotifyId;
 use itoa::Buffer;
 
 // A count behind its word. A count has 20 digits at most.
@@ -23,6 +24,16 @@ pub fn count_line(count: u64) -> LineReply
 {
     let mut line = LineReply::new();
     add_count(&mut line, b"ok ", count);
+    line.push(b'\n');
+    line
+}
+
+/// The number of a put with notification, with the line feed.
+pub fn notify_line(number: NotifyId) -> LineReply
+    ensures { result ≡ (codes "ok notify " ++ decimal number) ++ 10 ∷ [] }
+{
+    let mut line = LineReply::new();
+    add_count(&mut line, b"ok notify ", number.number());
     line.push(b'\n');
     line
 }

@@ -3,10 +3,9 @@ use Rattle.std.proofs.Common.{◌≡◌, ℕ, ◌<◌, ◌≤◌, Bool, true, fa
 use Rattle.std.specs.Prelude.{nat_lt, nat_le, All, Contains}
 use Rattle.std.specs.List.{filter}
 use Rattle.std.proofs.lemmas.Bool.{ltb-true, ltb-false, leb-true, leb-false}
-use Rattle.std.proofs.lemmas.List.Kept.{AllPairs-filter}
 use Rattle.std.proofs.lemmas.List.Elements.{All-push, All-weaker, Contains-append_left, Contains-push}
 use Rattle.ioc_notify.specs.declared.waiting_lists.Waiting.{Waiting}
-use Rattle.ioc_notify.specs.Waits.{at_record, without, AreRising, IsLowestFrom, Waits, lower}
+use Rattle.ioc_notify.specs.Waits.{at_record, without, IsLowestFrom, Waits, lower}
 
 -- two filters in either order
 by_tests : {X : Type 0} (p q : X → Bool) (x : X) (xs : List X) (b c : Bool) → p x ≡ b → q x ≡ c → filter p (filter q xs) ≡ filter q (filter p xs)
@@ -23,9 +22,6 @@ two_filters p q (x ∷ xs) = by_tests p q x xs (p x) (q x) refl refl (two_filter
 
 pub removed_from_each : (xs : List Waiting) (number target : ℕ) → at_record target (without number xs) ≡ without number (at_record target xs)
 removed_from_each xs number target = two_filters (λ w. nat_eq w.target target) (λ w. not (nat_eq w.number number)) xs
-
-pub rising_without : (xs : List Waiting) (number : ℕ) → AreRising xs → AreRising (without number xs)
-rising_without xs number up = AllPairs-filter (λ (x y : Waiting). x.number < y.number) (λ w. not (nat_eq w.number number)) xs up
 
 pub same_waits : (xs ys : List Waiting) (r s : ℕ) → xs ≡ ys → r ≡ s → ◌≡◌ {A = Waits} (record { waiting = xs; room = r }) (record { waiting = ys; room = s })
 same_waits xs ys r s e f = cc

@@ -4,18 +4,21 @@ use Rattle.std.specs.Prelude.{◌≡◌, ◌≢◌, ℕ, ◌+◌, ◌-◌, ◌<�
 use Rattle.std.specs.List.{list_any}
 use Rattle.ioc_notify.specs.declared.live_numbers.Live.{Live}
 
--- those that are live, by their numbers, and the number that was given at last
+-- those that are live, in the order in which they began
 pub record Living : Type 0 where
   pub live : List Live
-  pub last : ℕ
 
 -- before the first
 abbrev pub none_live : Living
-none_live = record { live = []; last = 0 }
+none_live = record { live = [] }
 
--- one begins, with the next number: one has it
-abbrev pub begun : Living → Living
-begun n = record { live = n.live ++ (record { number = n.last + 1; holders = 1 }) ∷ []; last = n.last + 1 }
+-- is the notification of this number live?
+abbrev pub is_live : ℕ → List Live → Bool
+is_live number ls = list_any (λ l. l.number == number) ls
+
+-- one begins: one record or waiting list has it
+abbrev pub begun : ℕ → List Live → List Live
+begun number ls = ls ++ (record { number = number; holders = 1 }) ∷ []
 
 -- others in the place of the one with this number, if there is one
 abbrev pub at_number : ℕ → (Live → List Live) → List Live → List Live

@@ -1,10 +1,10 @@
 -- Waiting lists of records: notifications that wait, first in, first out.
 -- Application Developer's Guide, "Put with Notification" (dbPutNotify).
 use Rattle.std.specs.Prelude.{◌≡◌, ℕ, ◌<◌, ◌≤◌, ◌==◌, not, Option, Some, None, MatchOption, List, [], ◌∷◌, ◌++◌, All, Contains, nat_lt, nat_le, if◌then◌else◌}
-use Rattle.std.specs.List.{filter, AllPairs}
+use Rattle.std.specs.List.{filter}
 use Rattle.ioc_notify.specs.declared.waiting_lists.Waiting.{Waiting}
 
--- all that wait, the lowest number first, and for how many there is room
+-- all that wait, in the order in which they were added, and for how many there is room
 pub record Waits : Type 0 where
   pub waiting : List Waiting
   pub room : ℕ
@@ -24,10 +24,6 @@ at_record target xs = filter (λ w. w.target == target) xs
 -- without the notification of this number
 abbrev pub without : ℕ → List Waiting → List Waiting
 without number xs = filter (λ w. not (w.number == number)) xs
-
--- numbers rise in the order of adding, so no two are the same
-abbrev pub AreRising : List Waiting → Type 0
-AreRising xs = AllPairs (λ x y. x.number < y.number) xs
 
 -- the lower of a record number and the lowest so far, if any, from one on
 abbrev pub lower : Option ℕ → ℕ → ℕ → Option ℕ

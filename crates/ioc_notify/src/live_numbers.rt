@@ -2,7 +2,7 @@
 ghost use Rattle.std.specs.Prelude.{◌≡◌, ◌↔◌, ◌+◌, ◌-◌, ◌<◌, ◌^◌, ◌==◌, length, IsTrue, IfOk};
 ghost use Rattle.std.specs.List.{list_any};
 ghost use Rattle.std.specs.Vec.{vec_capacity};
-ghost use Rattle.ioc_notify.specs.Living.{none_live, begun, gained, is_at_its_last, lost, forgotten, IsPlaceOf};
+ghost use Rattle.ioc_notify.specs.Living.{none_live, is_live, begun, gained, is_at_its_last, lost, forgotten, IsPlaceOf};
 
 use crate::notify_id::NotifyId;
 use std::alloc::{AllocError, Global};
@@ -15,12 +15,11 @@ pub struct Live {
     pub holders: u64,
 }
 
-/// The notifications that are live, at most 256, and the number that was given at last. All room is taken when it is
+/// The notifications that are live, at most 256, by the numbers that their callers gave. All room is taken when it is
 /// made. Each call looks through those that are live.
 #[derive(Drop)]
 pub struct LiveNumbers {
     items: Vec<Live>,
-    last: u64,
 }
 
 impl Model for LiveNumbers {
@@ -30,13 +29,13 @@ impl Model for LiveNumbers {
 
     ghost Value = { Living };
 
-    ghost view = { λ n. record { live = n.items.items; last = n.last } };
+    ghost view = { λ n. record { live = n.items.items } };
 
     ghost invariant = { λ n. vec_capacity n.items ≡ 256 };
 }
 
 impl LiveNumbers {
-    /// None is live, and no number was given.
+    /// None is live.
     ///
     /// # Errors
     ///
@@ -45,32 +44,27 @@ impl LiveNumbers {
         ensures { IfOk result (λ n. n ≡ none_live) }
     {
         let items = Vec::with_capacity(alloc, 256)?;
-        Ok(LiveNumbers { items, last: 0 })
+        Ok(LiveNumbers { items })
     }
 
-    /// May one more begin: are fewer than 256 live, and is there a number left?
-    pub fn can_begin(&self) -> bool
-        ensures { IsTrue result ↔ ((length self.now.live < 256) × (self.now.last < 2 ^ 64 - 1)) }
+    /// How many are live: 256 at most.
+    pub fn len(&self) -> usize
+        ensures { result ≡ length self.now.live }
     {
-        self.items.len() < 256 && self.last < u64::MAX
+        self.items.len()
     }
 
-    /// A notification begins, with the next number of 1, 2, 3, ..: one record or waiting list has it.
-    pub fn begin(&mut self) -> NotifyId
-        requires few { length self.old.live < 256 }
-        requires numbers { self.old.last < 2 ^ 64 - 1 }
-        ensures number { result ≡ self.old.last + 1 }
-        ensures begun { self.new ≡ begun self.old }
+    /// The notification of this number begins: one record or waiting list has it.
+    pub fn begin(&mut self, number: NotifyId)
+        requires { length self.old.live < 256 }
+        ensures { self.new ≡ record self.old { live = begun number self.old.live } }
     {
-        self.last += 1;
-        let number = NotifyId::new(self.last);
         self.items.push_reserved(Live { number, holders: 1 });
-        number
     }
 
     /// Is the notification of this number live?
     pub fn is_live(&self, number: NotifyId) -> bool
-        ensures { result ≡ list_any (λ l. l.number == number) self.now.live }
+        ensures { result ≡ is_live number self.now.live }
     {
         self.items.iter().any(|live| live.number == number)
     }
@@ -93,7 +87,7 @@ impl LiveNumbers {
 
     /// The notification of this number is cancelled; answers whether it was live.
     pub fn forget(&mut self, number: NotifyId) -> bool
-        ensures live { result ≡ list_any (λ l. l.number == number) self.old.live }
+        ensures live { result ≡ is_live number self.old.live }
         ensures forgotten { self.new ≡ record self.old { live = forgotten number self.old.live } }
     {
         forget(&mut self.items, number)

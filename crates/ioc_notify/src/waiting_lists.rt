@@ -1,7 +1,7 @@
 //! Notifications that wait for their record.
-ghost use Rattle.std.specs.Prelude.{◌≡◌, ◌↔◌, ◌+◌, ◌<◌, ◌≤◌, ◌==◌, length, All, IsTrue, IfOk, OnOk, OnErr, slice_get};
+ghost use Rattle.std.specs.Prelude.{◌≡◌, ◌↔◌, ◌+◌, ◌<◌, ◌≤◌, ◌==◌, length, IsTrue, IfOk, OnOk, OnErr, slice_get};
 ghost use Rattle.std.specs.List.{list_any};
-ghost use Rattle.ioc_notify.specs.Waits.{with_room, added, at_record, without, AreRising, IsLowestFrom, lower};
+ghost use Rattle.ioc_notify.specs.Waits.{with_room, added, at_record, without, IsLowestFrom, lower};
 
 use crate::notify_id::NotifyId;
 use ioc_fields::FieldNo;
@@ -30,13 +30,11 @@ pub struct WaitingLists {
 impl Model for WaitingLists {
     ghost use Rattle.std.specs.Prelude.{◌≡◌, ◌≤◌, length};
     ghost use Rattle.std.specs.Vec.{vec_len, vec_capacity};
-    ghost use Rattle.ioc_notify.specs.Waits.{Waits, AreRising};
+    ghost use Rattle.ioc_notify.specs.Waits.{Waits};
 
     ghost Value = { Waits };
 
     ghost view = { λ w. record { waiting = w.items.items; room = vec_capacity w.items } };
-
-    ghost invariant = { λ w. AreRising w.items.items };
 }
 
 impl WaitingLists {
@@ -66,10 +64,9 @@ impl WaitingLists {
         self.items.reserve(additional)
     }
 
-    /// All that wait, the lowest number first.
+    /// All that wait, in the order in which they were added.
     pub fn as_slice(&self) -> &[Waiting]
-        ensures waiting { result.now ≡ self.now.waiting }
-        ensures rising { AreRising self.now.waiting }
+        ensures { result.now ≡ self.now.waiting }
     {
         self.items.as_slice()
     }
@@ -81,20 +78,10 @@ impl WaitingLists {
         self.items.len() < self.items.capacity()
     }
 
-    /// Is this number higher than those of all that wait?
-    pub fn is_newer(&self, number: NotifyId) -> bool
-        ensures { IsTrue result ↔ All (λ w. w.number < number) self.now.waiting }
-    {
-        self.items
-            .iter()
-            .all(|waiting| waiting.number.number() < number.number())
-    }
-
     /// A put with notification waits from now on, behind those that wait for its record: its number, the record, the field,
-    /// and the value, converted for the field. It is newer than all that wait.
+    /// and the value, converted for the field.
     pub fn add(&mut self, number: NotifyId, target: RecordNo, field: FieldNo, value: Value)
-        requires room { length self.old.waiting < self.old.room }
-        requires newer { All (λ w. w.number < number) self.old.waiting }
+        requires { length self.old.waiting < self.old.room }
         ensures { self.new ≡ added self.old (record { number = number; target = target; field = field; value = value }) }
     {
         self.items.push_reserved(Waiting {

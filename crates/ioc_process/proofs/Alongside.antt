@@ -1,6 +1,6 @@
 -- Two worlds side by side, in which the same requests are made: what holds of both goes on to hold.
 use Rattle.std.proofs.Common.{◌≡◌, ℕ, zero, suc, ◌+◌, Bool, true, false, cond, eqb, List, [], ◌∷◌, length, Option, Some, None as Nothing_, refl, ap, subst, ◌∙◌, arith}
-use Rattle.std.specs.Prelude.{slice_get, unwrap_or, Result, Ok, Err, Contains, nat_lt, ◌&&◌, ◌||◌, ◌-◌, ◌^◌, nat_eq}
+use Rattle.std.specs.Prelude.{Result, Ok, Err, Contains, nat_lt, ◌&&◌, ◌||◌, ◌-◌, ◌^◌, nat_eq}
 use Rattle.ioc_common.specs.declared.common.Common.{Common}
 use Rattle.ioc_common.specs.declared.link_field.LinkUse.{LinkUse}
 use Rattle.ioc_common.specs.declared.link_field.LinkUse.TheVariants.{Unused, OwnDevice, Absent, Standing}

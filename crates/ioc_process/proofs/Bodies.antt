@@ -1,5 +1,5 @@
 -- The cases of a request and of a body, as the code meets them.
-use Rattle.std.proofs.Common.{◌≡◌, ℕ, true, false, List, refl, ap, ◌∙◌}
+use Rattle.std.proofs.Common.{◌≡◌, ℕ, true, false, refl, ap, ◌∙◌}
 use Rattle.ioc_ledger.specs.declared.tally.Tally.{Tally}
 use Rattle.ioc_common.specs.declared.body.Got.{Got}
 use Rattle.ioc_common.specs.declared.body.Want.TheVariants.{ReadLink}

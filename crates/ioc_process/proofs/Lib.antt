@@ -15,11 +15,17 @@ mod RulesAlone
 mod RulesAllowed
 mod RulesLaws
 mod Stepping
+mod Freeing
+mod StartRules
+mod Waitings
+mod StartCode
 mod StepLaws
 mod Quieting
 mod LinkChanges
 mod QuietEvents
+mod StartsLocal
 mod LocalEvents
+mod NoneReady
 mod FrameSteps
 mod Handing
 mod Needs

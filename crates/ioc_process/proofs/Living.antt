@@ -1,10 +1,10 @@
 -- How many notifications are live, as records take them on and let them go.
 use Rattle.std.proofs.lemmas.List.{length_push}
-use Rattle.std.proofs.Common.{◌≡◌, ℕ, suc, ◌+◌, ◌≤◌, Bool, true, false, cond, List, [], ◌∷◌, ◌++◌, length, ◌==◌, ◌&&◌, ◌||◌, not, refl, ap, subst, arith}
-use Rattle.std.specs.Prelude.{nat_lt, if◌then◌else◌, min, ◌^◌, ◌-◌}
+use Rattle.std.proofs.Common.{◌≡◌, ℕ, suc, ◌+◌, ◌≤◌, Bool, true, false, List, [], ◌∷◌, ◌++◌, length, ◌==◌, ◌&&◌, ◌||◌, not, refl, ap, subst, arith}
+use Rattle.std.specs.Prelude.{nat_lt, if◌then◌else◌, ◌-◌}
 use Rattle.std.specs.List.{list_any}
 use Rattle.ioc_notify.specs.declared.live_numbers.Live.{Live}
-use Rattle.ioc_notify.specs.Living.{gained, lost, one_more, one_less, is_at_its_last, holders_of}
+use Rattle.ioc_notify.specs.Living.{gained, lost, forgotten, one_more, one_less, is_at_its_last, holders_of}
 
 pub length-gained : (number : ℕ) (ls : List Live) → length (gained number ls) ≡ length ls
 length-gained number [] = refl
@@ -36,3 +36,12 @@ few-ended number ls after es ended is last pushed few =
 
 pub few-left : (number : ℕ) (ls after : List Live) (es : List ℕ) → after ≡ lost number ls → length ls + length es ≤ 256 → length after + length es ≤ 256
 few-left number ls after es is few = omega (arith, length-lost number ls, few, ap length is)
+
+pub length-forgotten : (number : ℕ) (ls : List Live) → length (forgotten number ls) ≤ length ls
+length-forgotten number [] = omega arith
+length-forgotten number (l ∷ ls) =
+    let rest = length-forgotten number ls in
+    elim (l.number == number) as (λ b. length (if b then [] ++ ls else l ∷ forgotten number ls) ≤ suc (length ls)) [
+      | true ↦ omega arith
+      | false ↦ omega (arith, rest)
+    ]

@@ -1,10 +1,10 @@
 -- Events look at the records that links lead to, and change these alone.
-use Rattle.std.proofs.Common.{◌≡◌, ℕ, Bool, true, false, cond, List, Ok, Err, is_some, refl, sym, ap, subst, ◌∙◌, inl, inr, [], ◌∷◌, arith}
+use Rattle.std.proofs.Common.{◌≡◌, ◌+◌, ◌++◌, ◌||◌, ◌&&◌, length, nat_lt, nat_eq, ℕ, Bool, true, false, cond, List, Ok, Err, is_some, refl, sym, ap, subst, ◌∙◌, inl, inr, [], ◌∷◌, arith}
 use Rattle.std.specs.Prelude.{Result, Contains, not}
 use Rattle.std.proofs.lemmas.List.Elements.{Contains-append_right}
 use Rattle.std.specs.FinMap.{contains_key}
 use Rattle.ioc_values.specs.declared.error.IocError.{IocError}
-use Rattle.ioc_values.specs.declared.error.IocError.TheVariants.{NoRecord, NoField, PutDisabled, Stale}
+use Rattle.ioc_values.specs.declared.error.IocError.TheVariants.{NoRecord, NoField, PutDisabled, Stale, QueueFull}
 use Rattle.ioc_values.specs.declared.input.Input.{Input}
 use Rattle.ioc_values.specs.declared.value.Finished.{Finished}
 use Rattle.ioc_common.specs.declared.common.Common.{Common}
@@ -20,13 +20,21 @@ use Rattle.ioc_common.specs.declared.link_field.LinkField.{LinkField}
 use Rattle.ioc_common.specs.Links.{use_of, named_by}
 use Rattle.ioc_record.specs.Laws.{IsLawful}
 use Rattle.ioc_process.specs.declared.reply.Reply.{Reply}
-use Rattle.ioc_process.specs.declared.reply.Reply.TheVariants.{Plain, Outcome as Outcome-reply, Shown}
-use Rattle.ioc_process.specs.World.{World, at, common_at, put, changed}
+use Rattle.ioc_process.specs.declared.reply.Reply.TheVariants.{Plain, Outcome as Outcome-reply, Shown, Notify as Notify-reply, Live as Live-reply}
+use Rattle.ioc_process.specs.World.{World, at, common_at, put, changed, has_place, admitted, queued}
 use Rattle.ioc_process.specs.Scanning.{device_of, rewired}
 use Rattle.ioc_process.specs.Local.{Shut, Same, AgreeEvent, EventIsLocal}
 use Rattle.ioc_process.specs.declared.event.Event.{Event}
-use Rattle.ioc_process.specs.declared.event.Event.TheVariants.{Get, Process, Put, Complete, Link}
-use Rattle.ioc_process.specs.Step.{Stepped, number_of, names, all_there, relinked, processes, awaits, refused, told, after_put, after_completion, put_with, stepped_there, stepped}
+use Rattle.ioc_process.specs.declared.event.Event.TheVariants.{Get, Process, Put, Complete, Link, Notify, Cancel, IsLive}
+use Rattle.ioc_process.specs.Step.{Stepped, is_there, is_cancel, names, all_there, relinked, processes, awaits, refused, told, after_put, after_completion, put_with, begun_or_queued, notify_with, lets_start, done_there, done_alone, with_starts, stepped}
+use Rattle.ioc_process.specs.Starting.{value_to_put, must_wait, started}
+use Rattle.ioc_process.proofs.StartsLocal.{both_followed, started-goes, all-goes}
+use Rattle.ioc_process.proofs.Waitings.{alone-within}
+use Rattle.ioc_notify.specs.declared.waiting_lists.Waiting.{Waiting}
+use Rattle.ioc_notify.specs.declared.live_numbers.Live.{Live}
+use Rattle.ioc_notify.specs.Living.{is_live, begun}
+use Rattle.std.specs.List.{list_any}
+use Rattle.ioc_values.specs.declared.value.Value.{Value}
 use Rattle.ioc_process.proofs.LinkChanges.{linked-names, all-alike}
 use Rattle.ioc_process.proofs.Locality.{Within, Along, guards, along}
 use Rattle.ioc_process.proofs.Alongside.{changed-goes, rescanned-goes, rewired-goes, ran-goes, at_last-goes}
@@ -102,8 +110,8 @@ module _ {R : Type 0} (k : RecordRules R) (lawful : IsLawful k) (U : ℕ → Typ
           | false ↦ unchanged _ _
         ]
 
-    get-local : (s : ℕ) (field : FieldNo) → U s → AgreeEvent k U w v (stepped_there k answers w (Get s field)) (stepped_there k answers v (Get s field))
-    unfolding stepped_there
+    get-local : (s : ℕ) (field : FieldNo) → U s → AgreeEvent k U w v (done_there k answers w (Get s field)) (done_there k answers v (Get s field))
+    unfolding done_there
     get-local s field u = subst (λ (r : R). AgreeEvent k U w v (shows field (at k w s) w) (shows field r v)) (same.records s u) (shows-local field (at k w s))
 
   module _ (w v : World R) (shut : Shut k U w) (same : Same k U w v) where
@@ -138,14 +146,14 @@ module _ {R : Type 0} (k : RecordRules R) (lawful : IsLawful k) (U : ℕ → Typ
         from-there w v _ _ _ _ first (after-local _ _ first.shut first.same s field u)
     put_with-local s field given (Err e) u is = unchanged w v shut same _ _
 
-    put-local : (s : ℕ) (field : FieldNo) (given : Input) → U s → AgreeEvent k U w v (stepped_there k answers w (Put s field given)) (stepped_there k answers v (Put s field given))
-    unfolding stepped_there
+    put-local : (s : ℕ) (field : FieldNo) (given : Input) → U s → AgreeEvent k U w v (done_there k answers w (Put s field given)) (done_there k answers v (Put s field given))
+    unfolding done_there
     put-local s field given u =
         subst (λ (r : R). AgreeEvent k U w v (put_with k answers w s field (put_field k (at k w s) field given)) (put_with k answers v s field (put_field k r field given)))
         (same.records s u) (put_with-local s field given _ u refl)
 
-    process-local : (s : ℕ) → U s → AgreeEvent k U w v (stepped_there k answers w (Process s)) (stepped_there k answers v (Process s))
-    unfolding stepped_there
+    process-local : (s : ℕ) → U s → AgreeEvent k U w v (done_there k answers w (Process s)) (done_there k answers v (Process s))
+    unfolding done_there
     process-local s u = told-local w v shut same s u
 
     -- a completion of this record
@@ -156,8 +164,8 @@ module _ {R : Type 0} (k : RecordRules R) (lawful : IsLawful k) (U : ℕ → Typ
     completes-local s x u true = completion-local w v shut same s x u
     completes-local s x u false = unchanged w v shut same _ _
 
-    complete-local : (s number : ℕ) (x : Finished) → U s → AgreeEvent k U w v (stepped_there k answers w (Complete s number x)) (stepped_there k answers v (Complete s number x))
-    unfolding stepped_there
+    complete-local : (s number : ℕ) (x : Finished) → U s → AgreeEvent k U w v (done_there k answers w (Complete s number x)) (done_there k answers v (Complete s number x))
+    unfolding done_there
     complete-local s number x u =
         subst (λ (r : R). AgreeEvent k U w v (completes-at s x (awaits (common_at k w s) number) w) (completes-at s x (awaits (k.common r) number) v)) (same.records s u) (completes-local s x u _)
 
@@ -186,28 +194,133 @@ module _ {R : Type 0} (k : RecordRules R) (lawful : IsLawful k) (U : ℕ → Typ
 
     link-local : (s : ℕ) (field : FieldNo) (link : LinkField) → U s → ((n : ℕ) → Contains (named_by (use_of link)) n → U n)
         → all_there w (named_by (use_of link)) ≡ all_there v (named_by (use_of link))
-        → AgreeEvent k U w v (stepped_there k answers w (Link s field link)) (stepped_there k answers v (Link s field link))
-    unfolding stepped_there relinked
+        → AgreeEvent k U w v (done_there k answers w (Link s field link)) (done_there k answers v (Link s field link))
+    unfolding done_there relinked
     link-local s field link u into alike =
         subst (λ (r : R). AgreeEvent k U w v (links-at s field link (all_there w (named_by (use_of link))) (at k w s) w) (links-at s field link (all_there v (named_by (use_of link))) r v)) (same.records s u)
         (subst (λ (b : Bool). AgreeEvent k U w v (links-at s field link (all_there w (named_by (use_of link))) (at k w s) w) (links-at s field link b (at k w s) v)) alike
         (links-local s field link u into _ _ _))
 
-    there-local : (event : Event) → ((n : ℕ) → Contains (names event) n → U n) → ((n : ℕ) → Contains (names event) n → contains_key w.records n ≡ contains_key v.records n)
-        → AgreeEvent k U w v (stepped_there k answers w event) (stepped_there k answers v event)
-    there-local (Get s field) within alike = get-local w v shut same s field (within s (0, omega arith, refl))
-    there-local (Process s) within alike = process-local s (within s (0, omega arith, refl))
-    there-local (Put s field given) within alike = put-local s field given (within s (0, omega arith, refl))
-    there-local (Complete s number x) within alike = complete-local s number x (within s (0, omega arith, refl))
-    there-local (Link s field link) within alike =
+    -- whether one is live
+    live-local : (number : ℕ) → AgreeEvent k U w v (done_there k answers w (IsLive number)) (done_there k answers v (IsLive number))
+    unfolding done_there
+    live-local number =
+        subst (λ (l : List Live). AgreeEvent k U w v (made w (Live-reply (is_live number w.live)) None) (made v (Live-reply (is_live number l)) None)) same.live (unchanged w v shut same _ _)
+
+    admitted-goes : (number : ℕ) → Along k U w v (admitted number w) (admitted number v)
+    unfolding at admitted
+    admitted-goes number = record {
+      same = record { moment = same.moment; calls = same.calls; outbox = same.outbox; dropped = same.dropped; live = ap (begun number) same.live; ended = same.ended; waiting = same.waiting; records = same.records };
+      shut = record { shut = shut.shut };
+      spares = record { spared = λ _ _. refl };
+      other_spares = record { spared = λ _ _. refl };
+    }
+
+    queued-goes : (x : Waiting) → Along k U w v (queued x (admitted x.number w)) (queued x (admitted x.number v))
+    unfolding at admitted queued
+    queued-goes x = record {
+      same = record { moment = same.moment; calls = same.calls; outbox = same.outbox; dropped = same.dropped; live = ap (begun x.number) same.live; ended = same.ended; waiting = ap (λ (l : List Waiting). l ++ x ∷ []) same.waiting; records = same.records };
+      shut = record { shut = shut.shut };
+      spares = record { spared = λ _ _. refl };
+      other_spares = record { spared = λ _ _. refl };
+    }
+
+    -- a put with notification that is let in, by whether it must wait
+    abbrev lets_in : Waiting → Bool → World R → Stepped R
+    lets_in x waits a =
+        cond {A = Stepped R} waits (made (queued x (admitted x.number a)) (Notify-reply x.number) None)
+        (made (started k answers (admitted x.number a) x).world (Notify-reply x.number) (started k answers (admitted x.number a) x).requests)
+
+    lets_in-local : (x : Waiting) → U x.target → (waits : Bool) → AgreeEvent k U w v (lets_in x waits w) (lets_in x waits v)
+    lets_in-local x u true =
+        let first = queued-goes x in
+        from-there w v _ _ _ _ first (unchanged _ _ first.shut first.same _ _)
+    lets_in-local x u false =
+        let done = started-goes k lawful U answers w v (admitted-goes x.number) x u in
+        record { same = done.inv.same; reply = refl; requests = done.requests; shut = done.inv.shut; spares = done.inv.spares; other_spares = done.inv.other_spares }
+
+    waits-same : (s : ℕ) → U s → must_wait k w s ≡ must_wait k v s
+    unfolding must_wait
+    waits-same s u =
+        ap (λ (r : R). (k.common r).active || (is_some (k.common r).notification || list_any (λ (x : Waiting). nat_eq x.target s) w.waiting)) (same.records s u)
+        ∙ ap (λ (l : List Waiting). (common_at k v s).active || (is_some (common_at k v s).notification || list_any (λ (x : Waiting). nat_eq x.target s) l)) same.waiting
+
+    let_in-local : (x : Waiting) → U x.target → AgreeEvent k U w v (begun_or_queued k answers w x) (begun_or_queued k answers v x)
+    unfolding begun_or_queued
+    let_in-local x u =
+        subst (λ (b : Bool). AgreeEvent k U w v (lets_in x (must_wait k w x.target) w) (lets_in x b v)) (waits-same x.target u) (lets_in-local x u _)
+
+    place-same : (number : ℕ) → has_place w number ≡ has_place v number
+    place-same number =
+        ap (λ (l : List Live). nat_lt (length l + length w.ended) 256 && (nat_lt (length w.waiting) 256 && not (is_live number l))) same.live
+        ∙ ap (λ (l : List ℕ). nat_lt (length v.live + length l) 256 && (nat_lt (length w.waiting) 256 && not (is_live number v.live))) same.ended
+        ∙ ap (λ (l : List Waiting). nat_lt (length v.live + length v.ended) 256 && (nat_lt (length l) 256 && not (is_live number v.live))) same.waiting
+
+    abbrev places : Waiting → Bool → World R → Stepped R
+    places x place a = cond {A = Stepped R} place (begun_or_queued k answers a x) (refused a QueueFull)
+
+    places-local : (x : Waiting) → U x.target → (place : Bool) → AgreeEvent k U w v (places x place w) (places x place v)
+    places-local x u true = let_in-local x u
+    places-local x u false = unchanged w v shut same _ _
+
+    notify_with-local : (s number : ℕ) (field : FieldNo) (value : Result Value IocError) → U s → AgreeEvent k U w v (notify_with k answers w s number field value) (notify_with k answers v s number field value)
+    notify_with-local s number field (Err e) u = unchanged w v shut same _ _
+    notify_with-local s number field (Ok value) u =
+        let x : Waiting = record { number = number; target = s; field = field; value = value } in
+        subst (λ (b : Bool). AgreeEvent k U w v (places x (has_place w number) w) (places x b v)) (place-same number) (places-local x u _)
+
+    notify-local : (s number : ℕ) (field : FieldNo) (given : Input) → U s → AgreeEvent k U w v (done_there k answers w (Notify s number field given)) (done_there k answers v (Notify s number field given))
+    unfolding done_there
+    notify-local s number field given u =
+        subst (λ (r : R). AgreeEvent k U w v (notify_with k answers w s number field (value_to_put k (at k w s) field given)) (notify_with k answers v s number field (value_to_put k r field given)))
+        (same.records s u) (notify_with-local s number field _ u)
+
+    there-local : (event : Event) → is_cancel event ≡ false → ((n : ℕ) → Contains (names event) n → U n) → ((n : ℕ) → Contains (names event) n → contains_key w.records n ≡ contains_key v.records n)
+        → AgreeEvent k U w v (done_there k answers w event) (done_there k answers v event)
+    there-local (Get s field) kept within alike = get-local w v shut same s field (within s (0, omega arith, refl))
+    there-local (Process s) kept within alike = process-local s (within s (0, omega arith, refl))
+    there-local (Put s field given) kept within alike = put-local s field given (within s (0, omega arith, refl))
+    there-local (Complete s number x) kept within alike = complete-local s number x (within s (0, omega arith, refl))
+    there-local (Link s field link) kept within alike =
         let led = named_by (use_of link) in
         link-local s field link (within s (0, omega arith, refl)) (λ n h. within n (Contains-append_right (s ∷ []) led n h)) (all-alike w v led (λ n h. alike n (Contains-append_right (s ∷ []) led n h)))
+    there-local (Notify s number field given) kept within alike = notify-local s number field given (within s (0, omega arith, refl))
+    there-local (Cancel number) kept within alike = cc
+    there-local (IsLive number) kept within alike = live-local number
+
+    -- the record of the event is there in both or in neither
+    there-alike : (event : Event) → ((n : ℕ) → Contains (names event) n → contains_key w.records n ≡ contains_key v.records n) → is_there w event ≡ is_there v event
+    there-alike (Get s field) alike = alike s (0, omega arith, refl)
+    there-alike (Process s) alike = alike s (0, omega arith, refl)
+    there-alike (Put s field given) alike = alike s (0, omega arith, refl)
+    there-alike (Complete s number x) alike = alike s (0, omega arith, refl)
+    there-alike (Link s field link) alike = alike s (0, omega arith, refl)
+    there-alike (Notify s number field given) alike = alike s (0, omega arith, refl)
+    there-alike (Cancel number) alike = refl
+    there-alike (IsLive number) alike = refl
+
+    alone-local : (event : Event) → is_cancel event ≡ false → ((n : ℕ) → Contains (names event) n → U n) → ((n : ℕ) → Contains (names event) n → contains_key w.records n ≡ contains_key v.records n)
+        → AgreeEvent k U w v (done_alone k answers w event) (done_alone k answers v event)
+    alone-local event kept within alike =
+        let both = there-alike event alike in
+        elim (is_there w event) as (λ b. is_there w event ≡ b → AgreeEvent k U w v (done_alone k answers w event) (done_alone k answers v event)) [
+          | true ↦ λ is. rw (step-there k answers w event is, step-there k answers v event (sym both ∙ is)) (there-local event kept within alike)
+          | false ↦ λ is. rw (step-missing k answers w event is, step-missing k answers v event (sym both ∙ is)) (unchanged w v shut same _ _)
+        ] refl
+
+    -- with the starts after it
+    starts-local : (first other : Stepped R) (b : Bool) → AgreeEvent k U w v first other → ((x : Waiting) → Contains first.world.waiting x → U x.target)
+        → AgreeEvent k U w v (cond {A = Stepped R} b (with_starts k answers first) first) (cond {A = Stepped R} b (with_starts k answers other) other)
+    starts-local first other true agree within =
+        let done = all-goes k lawful U answers w v first.world other.world (record { same = agree.same; shut = agree.shut; spares = agree.spares; other_spares = agree.other_spares }) within in
+        record { same = done.inv.same; reply = agree.reply; requests = both_followed agree.requests done.requests; shut = done.inv.shut; spares = done.inv.spares; other_spares = done.inv.other_spares }
+    starts-local first other false agree within = agree
 
   pub event-local : EventIsLocal k U answers
-  event-local w v event shut same within alike =
-      let first : Contains (names event) (number_of event) = (0, omega arith, refl) in
-      let both = alike (number_of event) first in
-      elim (contains_key w.records (number_of event)) as (λ b. contains_key w.records (number_of event) ≡ b → AgreeEvent k U w v (stepped k answers w event) (stepped k answers v event)) [
-        | true ↦ λ is. rw (step-there k answers w event is, step-there k answers v event (sym both ∙ is)) (there-local w v shut same event within alike)
-        | false ↦ λ is. rw (step-missing k answers w event is, step-missing k answers v event (sym both ∙ is)) (unchanged w v shut same _ _)
-      ] refl
+  unfolding stepped
+  event-local w v event kept shut same waits within alike =
+      let first = done_alone k answers w event in
+      let other = done_alone k answers v event in
+      let agree = alone-local w v shut same event kept within alike in
+      subst (λ (r : Reply). AgreeEvent k U w v (cond {A = Stepped R} (lets_start event first.reply) (with_starts k answers first) first) (cond {A = Stepped R} (lets_start event r) (with_starts k answers other) other)) agree.reply
+      (starts-local w v shut same first other (lets_start event first.reply) agree (alone-within k lawful answers U w event kept within waits.within))

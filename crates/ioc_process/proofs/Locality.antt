@@ -48,13 +48,13 @@ module _ {R : Type 0} (k : RecordRules R) (U : ℕ → Type 0) (w0 v0 : World R)
       (cond b (record v { outbox = v.outbox ++ item ∷ [] }) (record v { dropped = more v.dropped }))
   unfolding at
   sent_both w v item true inv = record {
-    same = record { moment = inv.same.moment; calls = inv.same.calls; outbox = ap (λ (l : List OutboxItem). l ++ item ∷ []) inv.same.outbox; dropped = inv.same.dropped; live = inv.same.live; ended = inv.same.ended; records = inv.same.records };
+    same = record { moment = inv.same.moment; calls = inv.same.calls; outbox = ap (λ (l : List OutboxItem). l ++ item ∷ []) inv.same.outbox; dropped = inv.same.dropped; live = inv.same.live; ended = inv.same.ended; waiting = inv.same.waiting; records = inv.same.records };
     shut = record { shut = inv.shut.shut };
     spares = record { spared = inv.spares.spared };
     other_spares = record { spared = inv.other_spares.spared };
   }
   sent_both w v item false inv = record {
-    same = record { moment = inv.same.moment; calls = inv.same.calls; outbox = inv.same.outbox; dropped = ap more inv.same.dropped; live = inv.same.live; ended = inv.same.ended; records = inv.same.records };
+    same = record { moment = inv.same.moment; calls = inv.same.calls; outbox = inv.same.outbox; dropped = ap more inv.same.dropped; live = inv.same.live; ended = inv.same.ended; waiting = inv.same.waiting; records = inv.same.records };
     shut = record { shut = inv.shut.shut };
     spares = record { spared = inv.spares.spared };
     other_spares = record { spared = inv.other_spares.spared };
@@ -69,7 +69,7 @@ module _ {R : Type 0} (k : RecordRules R) (U : ℕ → Type 0) (w0 v0 : World R)
   lost_along : (w v : World R) → Along w v → Along (lost w) (lost v)
   unfolding at lost
   lost_along w v inv = record {
-    same = record { moment = inv.same.moment; calls = inv.same.calls; outbox = inv.same.outbox; dropped = ap more inv.same.dropped; live = inv.same.live; ended = inv.same.ended; records = inv.same.records };
+    same = record { moment = inv.same.moment; calls = inv.same.calls; outbox = inv.same.outbox; dropped = ap more inv.same.dropped; live = inv.same.live; ended = inv.same.ended; waiting = inv.same.waiting; records = inv.same.records };
     shut = record { shut = inv.shut.shut };
     spares = record { spared = inv.spares.spared };
     other_spares = record { spared = inv.other_spares.spared };
@@ -78,7 +78,7 @@ module _ {R : Type 0} (k : RecordRules R) (U : ℕ → Type 0) (w0 v0 : World R)
   taken_on_along : (w v : World R) → Along w v → (number : ℕ) → Along (taken_on number w) (taken_on number v)
   unfolding at taken_on
   taken_on_along w v inv number = record {
-    same = record { moment = inv.same.moment; calls = inv.same.calls; outbox = inv.same.outbox; dropped = inv.same.dropped; live = ap (gained number) inv.same.live; ended = inv.same.ended; records = inv.same.records };
+    same = record { moment = inv.same.moment; calls = inv.same.calls; outbox = inv.same.outbox; dropped = inv.same.dropped; live = ap (gained number) inv.same.live; ended = inv.same.ended; waiting = inv.same.waiting; records = inv.same.records };
     shut = record { shut = inv.shut.shut };
     spares = record { spared = inv.spares.spared };
     other_spares = record { spared = inv.other_spares.spared };
@@ -95,6 +95,7 @@ module _ {R : Type 0} (k : RecordRules R) (U : ℕ → Type 0) (w0 v0 : World R)
       live = ap (lost_by number) inv.same.live;
       ended = ap (λ (l : List Live). if is_at_its_last number l then w.ended ++ number ∷ [] else w.ended) inv.same.live
           ∙ ap (λ (e : List ℕ). if is_at_its_last number v.live then e ++ number ∷ [] else e) inv.same.ended;
+      waiting = inv.same.waiting;
       records = inv.same.records;
     };
     shut = record { shut = inv.shut.shut };
@@ -115,7 +116,7 @@ module _ {R : Type 0} (k : RecordRules R) (U : ℕ → Type 0) (w0 v0 : World R)
     finished = λ good x target links. good target (subst (λ (l : List ℕ). Contains l target) (targets-finished k lawful _ x) links);
     stored = λ good f x target links. good target (subst (λ (l : List ℕ). Contains l target) (targets-stored k lawful _ f x) links);
     put = λ {w} {v} inv n may r good. record {
-      same = record { moment = inv.same.moment; calls = inv.same.calls; outbox = inv.same.outbox; dropped = inv.same.dropped; live = inv.same.live; ended = inv.same.ended; records = λ m. both_put w v n r m (inv.same.records m) };
+      same = record { moment = inv.same.moment; calls = inv.same.calls; outbox = inv.same.outbox; dropped = inv.same.dropped; live = inv.same.live; ended = inv.same.ended; waiting = inv.same.waiting; records = λ m. both_put w v n r m (inv.same.records m) };
       shut = record {
         shut = λ m target. by_put (λ m' x. U m' → Contains (targets k x) target → U target) w n r
             (λ u links. good target links) (λ m' _ u links. inv.shut.shut m' target u links) m;
@@ -124,7 +125,7 @@ module _ {R : Type 0} (k : RecordRules R) (U : ℕ → Type 0) (w0 v0 : World R)
       other_spares = record { spared = λ m. by_put (λ m' x. (U m' → ⊥) → x ≡ at k v0 m') v n r (λ out. absurd (out may)) (λ m' _ out. inv.other_spares.spared m' out) m };
     };
     call = λ inv one. record {
-      same = record { moment = inv.same.moment; calls = ap (λ (l : List Call). l ++ one ∷ []) inv.same.calls; outbox = inv.same.outbox; dropped = inv.same.dropped; live = inv.same.live; ended = inv.same.ended; records = inv.same.records };
+      same = record { moment = inv.same.moment; calls = ap (λ (l : List Call). l ++ one ∷ []) inv.same.calls; outbox = inv.same.outbox; dropped = inv.same.dropped; live = inv.same.live; ended = inv.same.ended; waiting = inv.same.waiting; records = inv.same.records };
       shut = record { shut = inv.shut.shut };
       spares = record { spared = inv.spares.spared };
       other_spares = record { spared = inv.other_spares.spared };

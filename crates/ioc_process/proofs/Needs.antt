@@ -1,5 +1,5 @@
 -- What a body needs first, what it puts out, and the record that a link names, as the code asks for them.
-use Rattle.std.proofs.Common.{◌≡◌, ℕ, Bool, true, false, List, Option, Some, refl, ap, subst, ◌∙◌}
+use Rattle.std.proofs.Common.{◌≡◌, ℕ, true, false, Some, refl, ap, subst, ◌∙◌}
 use Rattle.ioc_ledger.specs.Requests.{None}
 use Rattle.ioc_common.specs.declared.link_field.LinkUse.{LinkUse}
 use Rattle.ioc_common.specs.declared.link_field.LinkUse.TheVariants.{Unused, OwnDevice, Absent, Standing}

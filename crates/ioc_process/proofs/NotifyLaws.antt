@@ -1,9 +1,9 @@
 -- What a notification that is taken on or told leaves alone.
-use Rattle.std.proofs.Common.{◌≡◌, ℕ, Bool, true, false, cond, Option, Some, None as Nothing_, refl}
+use Rattle.std.proofs.Common.{ℕ, Option, Some, None as Nothing_}
 use Rattle.ioc_common.specs.Steps.{with_notification}
 use Rattle.ioc_record.specs.RecordRules.{RecordRules}
-use Rattle.ioc_process.specs.World.{World, common_at, changed, taken_on, let_go}
-use Rattle.ioc_process.specs.Notifying.{taken_over, holding, passed_on, notified_as, notified}
+use Rattle.ioc_process.specs.World.{World, changed, taken_on, let_go}
+use Rattle.ioc_process.specs.Notifying.{holding, passed_on, notified_as, notified}
 
 holding-either : {R : Type 0} (k : RecordRules R) (P : World R → Type 0) (w : World R) (t : ℕ) (number : Option ℕ)
     → P w → ((n : ℕ) → P (taken_on n (changed k w t (with_notification (Some n))))) → P (holding k w t number)

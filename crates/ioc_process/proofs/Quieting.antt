@@ -1,5 +1,5 @@
 -- A request leaves a quiet database quiet.
-use Rattle.std.proofs.Common.{◌≡◌, ℕ, List, IsSome, IsTrue, unwrap_or, sym, subst}
+use Rattle.std.proofs.Common.{◌≡◌, ℕ, IsSome, IsTrue, unwrap_or, sym, subst}
 use Rattle.std.specs.Prelude.{◌↔◌, Contains}
 use Rattle.std.specs.Ordering.{nat_cmp}
 use Rattle.std.specs.FinMap.{FinMap, get, contains_key}

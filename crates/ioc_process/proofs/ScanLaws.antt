@@ -1,17 +1,13 @@
 -- What a change of a record's place on its scan list leaves alone: it sends an item, and gives it a number.
-use Rattle.std.proofs.Common.{◌≡◌, ℕ, ◌+◌, ◌-◌, ◌^◌, ◌≤◌, Bool, true, false, cond, List, refl, sym, ap, subst, ◌∙◌, arith}
+use Rattle.std.proofs.Common.{ℕ, ◌+◌, ◌-◌, ◌^◌, true, false, cond, List}
 use Rattle.std.specs.Prelude.{nat_lt, nat_eq}
 use Rattle.std.specs.Cmp.Lexicographic.{pointwise}
-use Rattle.std.specs.FinMap.{contains_key, len}
 use Rattle.ioc_fields.specs.declared.field_no.FieldNo.{FieldNo}
-use Rattle.ioc_common.specs.declared.common.Common.{Common}
 use Rattle.ioc_common.specs.Steps.{change_numbered}
 use Rattle.ioc_record.specs.RecordRules.{RecordRules}
-use Rattle.ioc_record.specs.Laws.{IsLawful}
-use Rattle.ioc_process.specs.declared.call.Call.{Call}
 use Rattle.ioc_process.specs.declared.outbox.OutboxItem.{OutboxItem}
 use Rattle.ioc_process.specs.declared.outbox.OutboxItem.TheVariants.{Change}
-use Rattle.ioc_process.specs.World.{World, Has, Keeps, Stays, idle, at, common_at, put, changed, sent, lost}
+use Rattle.ioc_process.specs.World.{World, at, common_at, changed, sent, lost}
 use Rattle.ioc_process.specs.Scanning.{places_record, device_of, moved, rescanned, rewired}
 
 -- whatever holds of a world and of that with a place moved holds of both ways in which a put may go

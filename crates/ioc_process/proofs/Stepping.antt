@@ -1,20 +1,18 @@
 -- The cases of an event, as the code meets them.
-use Rattle.std.proofs.Common.{◌≡◌, ℕ, Bool, true, false, cond, eqb, List, [], ◌∷◌, length, drop, Option, Some, None as Nothing_, IsTrue, is_some, unwrap_or, refl, sym, ap, subst, ◌∙◌, arith, ◌++◌}
-use Rattle.std.specs.Prelude.{Result, Ok, Err, OnOk, OnErr, nat_lt}
+use Rattle.std.proofs.Common.{◌≡◌, ℕ, Bool, true, false, cond, eqb, length, drop, Option, Some, None as Nothing_, IsTrue, is_some, unwrap_or, refl, sym, ap, subst, ◌∙◌, arith}
+use Rattle.std.specs.Prelude.{Result, Ok, Err, OnOk, OnErr, not}
 use Rattle.std.specs.Ordering.{nat_cmp, eq_by_cmp}
 use Rattle.std.specs.Cmp.{nat_cmp_total, unsigned_tied}
 use Rattle.std.specs.FinMap.{FinMap, get, contains_key, same_map, get-insert, nat_cmp-IsAntisymmetric}
 use Rattle.std.proofs.lemmas.Grind.{common_steps}
 use Rattle.ioc_values.specs.declared.error.IocError.{IocError}
-use Rattle.ioc_values.specs.declared.error.IocError.TheVariants.{NoRecord, Stale}
+use Rattle.ioc_values.specs.declared.error.IocError.TheVariants.{NoRecord, Stale, QueueFull}
 use Rattle.ioc_values.specs.declared.input.Input.{Input}
 use Rattle.ioc_values.specs.declared.value.Finished.{Finished}
 use Rattle.ioc_fields.specs.declared.field_no.FieldNo.{FieldNo}
 use Rattle.ioc_ledger.specs.declared.outcome.Outcome.{Outcome}
 use Rattle.ioc_ledger.specs.declared.tally.Tally.{Tally}
-use Rattle.ioc_ledger.specs.Requests.{None, Request, counted, counted_one, counted_started, counted_completion, more}
-use Rattle.ioc_common.specs.declared.common.Common.{Common}
-use Rattle.ioc_process.specs.declared.call.Call.{Call}
+use Rattle.ioc_ledger.specs.Requests.{Requests, None, Request, counted, counted_one, counted_started, counted_completion}
 use Rattle.ioc_process.specs.Given.{Answers, later_among}
 use Rattle.ioc_record.specs.RecordRules.{RecordRules, targets}
 use Rattle.ioc_record.specs.Values.{put_field, put_tested, put_once_tested, put_untested, converted_for}
@@ -25,39 +23,18 @@ use Rattle.ioc_process.proofs.Keeping.{keeps-put}
 use Rattle.ioc_process.specs.declared.reply.Reply.{Reply}
 use Rattle.ioc_process.specs.declared.reply.Reply.TheVariants.{Plain, Outcome as Outcome-reply, Refused}
 use Rattle.ioc_ledger.specs.declared.outcome.Outcome.TheVariants.{Processed, Reprocess}
-use Rattle.ioc_common.specs.Steps.{with_put_mark, with_reprocess_mark, change_numbered}
-use Rattle.ioc_process.specs.World.{World, Has, at, common_at, put, changed, SameLinks, Keeps, sent, lost}
-use Rattle.ioc_process.specs.Processing.{ran, processed, went_on_at_last}
+use Rattle.ioc_common.specs.Steps.{with_put_mark, with_reprocess_mark}
+use Rattle.ioc_process.specs.World.{World, Has, at, common_at, put, changed, SameLinks, Keeps, has_place, cancelled}
+use Rattle.ioc_process.specs.Processing.{Done, ran, processed, went_on_at_last}
 use Rattle.ioc_process.specs.Runs.{Comes, Leaves}
 use Rattle.ioc_process.specs.declared.event.Event.{Event}
-use Rattle.ioc_process.specs.declared.event.Event.TheVariants.{Get, Process, Put, Complete, Link}
-use Rattle.ioc_process.specs.Step.{Stepped, refused, told, processes, awaits, after_put, after_completion, put_with, stepped_there, number_of, stepped, completes, calls_since, tallied}
-use Rattle.ioc_process.specs.Events.{Tells}
-use Rattle.ioc_process.specs.Scanning.{rescanned, moved}
-use Rattle.ioc_process.proofs.ScanLaws.{rescanned-either, moved-either}
-use Rattle.ioc_process.specs.declared.outbox.OutboxItem.{OutboxItem}
-
-drop_all : {X : Type 0} (xs : List X) → drop (length xs) xs ≡ []
-drop_all [] = refl
-drop_all (x ∷ xs) = drop_all xs
-
-refused-completes : (event : Event) (e : IocError) → completes event (Refused e) ≡ false
-refused-completes (Get s field) e = refl
-refused-completes (Process s) e = refl
-refused-completes (Put s field given) e = refl
-refused-completes (Complete s number x) e = refl
-refused-completes (Link s field link) e = refl
-
-sent_calls : {R : Type 0} (item : OutboxItem) (w : World R) → (sent item w).calls ≡ w.calls
-unfolding sent
-sent_calls item w = elim (nat_lt (length w.outbox) 256) as (λ b. (cond b (record w { outbox = w.outbox ++ item ∷ [] }) (record w { dropped = more w.dropped })).calls ≡ w.calls) [
-  | true ↦ refl
-  | false ↦ refl
-]
-
-lost_calls : {R : Type 0} (w : World R) → (lost w).calls ≡ w.calls
-unfolding lost
-lost_calls w = refl
+use Rattle.ioc_process.specs.declared.event.Event.TheVariants.{Process, Put, Complete, Notify, Cancel}
+use Rattle.ioc_process.specs.Step.{Stepped, is_there, is_refusal, lets_start, refused, told, processes, awaits, after_put, after_completion, put_with, begun_or_queued, notify_with, done_there, done_alone, with_starts, stepped, completes, calls_since, tallied}
+use Rattle.ioc_process.specs.Events.{Tells, Makes, ends, Ends}
+use Rattle.ioc_process.specs.Starting.{value_to_put, all_started}
+use Rattle.ioc_notify.specs.Living.{is_live}
+use Rattle.ioc_process.proofs.Bodies.{counted-followed_by}
+use Rattle.ioc_process.specs.Scanning.{rescanned}
 
 module _ {R : Type 0} (k : RecordRules R) where
   found : (o : Option R) → IsTrue (is_some o) → Some (unwrap_or o k.missing) ≡ o
@@ -77,50 +54,34 @@ module _ {R : Type 0} (k : RecordRules R) where
   put-at w n has = ap (λ (m : FinMap nat_cmp R). record w { records = m })
       (same_map nat_cmp_total nat_cmp-IsAntisymmetric _ _ (λ q. get-insert nat_cmp_total w.records n _ q ∙ found_at w.records n q has))
 
-  -- neither a put nor a change of place calls a device
-  rescanned-calls : (w : World R) (s : ℕ) (r : R) (field : FieldNo) → (rescanned k (put w s r) s field).calls ≡ w.calls
-  unfolding put changed
-  rescanned-calls w s r field =
-      rescanned-either k (λ v. v.calls ≡ w.calls) (put w s r) s field refl (moved-either k (λ v. v.calls ≡ w.calls) (put w s r) s (λ item. sent_calls item _) (lost_calls _))
-
   module _ (answers : Answers) where
-    pub step-missing : (w : World R) (event : Event) → contains_key w.records (number_of event) ≡ false → stepped k answers w event ≡ refused w NoRecord
-    unfolding stepped
+    pub step-missing : (w : World R) (event : Event) → is_there w event ≡ false → done_alone k answers w event ≡ refused w NoRecord
+    unfolding done_alone
     step-missing w event is = rw is refl
 
-    pub step-there : (w : World R) (event : Event) → contains_key w.records (number_of event) ≡ true → stepped k answers w event ≡ stepped_there k answers w event
-    unfolding stepped
+    pub step-there : (w : World R) (event : Event) → is_there w event ≡ true → done_alone k answers w event ≡ done_there k answers w event
+    unfolding done_alone
     step-there w event is = rw is refl
 
-    -- nothing was done
-    pub tallied-none : (t : Tally) (w : World R) (event : Event) (e : IocError) → tallied t w event (refused w e) ≡ t
-    unfolding tallied
-    tallied-none t w event e = rw (refused-completes event e, drop_all w.calls) refl
+    pub makes-refused : (w : World R) (event : Event) (counts : Tally) → is_there w event ≡ false → Makes w (Refused NoRecord) counts counts (done_alone k answers w event)
+    makes-refused w event counts is = rw (step-missing w event is) (record { world = refl; reply = refl; tally = refl })
 
-    pub tells-refused : (w : World R) (event : Event) (counts : Tally) → contains_key w.records (number_of event) ≡ false → Tells w w (Refused NoRecord) counts counts event (stepped k answers w event)
-    tells-refused w event counts is = rw (step-missing w event is) (record { world = refl; reply = refl; tally = sym (tallied-none counts w event NoRecord) })
-
-    pub tells-told : (w after : World R) (s : ℕ) (outcome : Outcome) (before between counts : Tally) → Leaves after before between outcome (ran k answers w s)
-        → counts ≡ counted_started between (later_among (calls_since w after)) → Tells w after (Outcome-reply outcome) before counts (Process s) (told k answers w s)
-    unfolding told tallied
-    tells-told w after s outcome before between counts leaves is = record {
-      world = leaves.world;
-      reply = ap Outcome-reply leaves.outcome;
-      tally = is ∙ ap (λ (t : Tally). counted_started t (later_among (calls_since w after))) leaves.tally
-          ∙ ap (λ (v : World R). counted_started (counted_one (counted before (ran k answers w s).requests) (ran k answers w s).outcome) (later_among (calls_since w v))) leaves.world;
-    }
+    pub makes-told : (w after : World R) (s : ℕ) (outcome : Outcome) (before counts : Tally) → Leaves after before counts outcome (ran k answers w s)
+        → Makes after (Outcome-reply outcome) before counts (told k answers w s)
+    unfolding told
+    makes-told w after s outcome before counts leaves = record { world = leaves.world; reply = ap Outcome-reply leaves.outcome; tally = leaves.tally }
 
     -- what follows a put
-    pub tells-plain : (w : World R) (s : ℕ) (field : FieldNo) (counts : Tally) → processes k (at k w s) field ≡ false → Tells w w Plain counts counts (Process s) (after_put k answers w s field)
-    unfolding after_put tallied
-    tells-plain w s field counts is = rw is (record { world = refl; reply = refl; tally = rw (drop_all w.calls) refl })
+    pub makes-plain : (w : World R) (s : ℕ) (field : FieldNo) (counts : Tally) → processes k (at k w s) field ≡ false → Makes w Plain counts counts (after_put k answers w s field)
+    unfolding after_put
+    makes-plain w s field counts is = rw is (record { world = refl; reply = refl; tally = refl })
 
-    pub tells-active : (w : World R) (s : ℕ) (field : FieldNo) (before counts : Tally) → processes k (at k w s) field ≡ true → (common_at k w s).active ≡ true → counts ≡ counted_one before Reprocess
-        → Tells w (changed k w s (with_reprocess_mark true)) (Outcome-reply Reprocess) before counts (Process s) (after_put k answers w s field)
-    unfolding after_put tallied changed put
-    tells-active w s field before counts is active one = rw (is, active) (record { world = refl; reply = refl; tally = rw (drop_all w.calls) one })
+    pub makes-active : (w : World R) (s : ℕ) (field : FieldNo) (before counts : Tally) → processes k (at k w s) field ≡ true → (common_at k w s).active ≡ true → counts ≡ counted_one before Reprocess
+        → Makes (changed k w s (with_reprocess_mark true)) (Outcome-reply Reprocess) before counts (after_put k answers w s field)
+    unfolding after_put
+    makes-active w s field before counts is active one = rw (is, active) (record { world = refl; reply = refl; tally = one })
 
-    after_put-idle : (w : World R) (s : ℕ) (field : FieldNo) → processes k (at k w s) field ≡ true → (common_at k w s).active ≡ false → after_put k answers w s field ≡ told k answers (changed k w s (with_put_mark true)) s
+    pub after_put-idle : (w : World R) (s : ℕ) (field : FieldNo) → processes k (at k w s) field ≡ true → (common_at k w s).active ≡ false → after_put k answers w s field ≡ told k answers (changed k w s (with_put_mark true)) s
     unfolding after_put
     after_put-idle w s field is idle =
         let down : Stepped R = record { world = changed k w s (with_reprocess_mark true); reply = Outcome-reply Reprocess; requests = Request Reprocess None None } in
@@ -128,71 +89,109 @@ module _ {R : Type 0} (k : RecordRules R) where
         ap (λ (b : Bool). cond {A = Stepped R} b (cond {A = Stepped R} (common_at k w s).active down on) (record { world = w; reply = Plain; requests = None })) is
         ∙ ap (λ (b : Bool). cond {A = Stepped R} b down on) idle
 
-    marked-calls : (w : World R) (s : ℕ) (f : Common → Common) → (changed k w s f).calls ≡ w.calls
-    unfolding changed put
-    marked-calls w s f = refl
-
-    pub tells-idle : (w after : World R) (s : ℕ) (field : FieldNo) (result : Reply) (before counts : Tally) → processes k (at k w s) field ≡ true → (common_at k w s).active ≡ false
-        → Tells (changed k w s (with_put_mark true)) after result before counts (Process s) (told k answers (changed k w s (with_put_mark true)) s) → Tells w after result before counts (Process s) (after_put k answers w s field)
-    unfolding tallied
-    tells-idle w after s field result before counts is idle tells =
-        let done = told k answers (changed k w s (with_put_mark true)) s in
-        let same : calls_since (changed k w s (with_put_mark true)) done.world ≡ calls_since w done.world = ap (λ (l : List Call). drop (length l) done.world.calls) (marked-calls w s (with_put_mark true)) in
-        rw (after_put-idle w s field is idle)
-        (record { world = tells.world; reply = tells.reply; tally = tells.tally ∙ ap (λ (l : List Call). counted_started (counted before done.requests) (later_among l)) same })
-
-    pub tells-put : (w after : World R) (s : ℕ) (field : FieldNo) (given : Input) (r : R) (result : Reply) (before counts : Tally) (done : Stepped R)
-        → Tells (rescanned k (put w s r) s field) after result before counts (Process s) done → Tells w after result before counts (Put s field given) done
-    unfolding tallied
-    tells-put w after s field given r result before counts done tells = record {
-      world = tells.world;
-      reply = tells.reply;
-      tally = tells.tally ∙ ap (λ (l : List Call). counted_started (counted before done.requests) (later_among (drop (length l) done.world.calls))) (rescanned-calls w s r field);
-    }
-
     -- a completion
-    pub tells-completion : (w after : World R) (s number : ℕ) (x : Finished) (before between counts : Tally) → Comes after before between Processed (processed (went_on_at_last k answers w s x))
-        → counts ≡ counted_completion (counted_started between (later_among (calls_since w after))) → Tells w after Plain before counts (Complete s number x) (after_completion k answers w s x)
-    unfolding after_completion tallied
-    tells-completion w after s number x before between counts comes is = record {
-      world = comes.world;
-      reply = refl;
-      tally = is ∙ ap (λ (t : Tally). counted_completion (counted_started t (later_among (calls_since w after)))) comes.tally
-          ∙ ap (λ (v : World R). counted_completion (counted_started (counted before (went_on_at_last k answers w s x).requests) (later_among (calls_since w v)))) comes.world;
-    }
+    pub makes-completion : (w after : World R) (s : ℕ) (x : Finished) (before counts : Tally) → Comes after before counts Processed (processed (went_on_at_last k answers w s x))
+        → Makes after Plain before counts (after_completion k answers w s x)
+    unfolding after_completion
+    makes-completion w after s x before counts comes = record { world = comes.world; reply = refl; tally = comes.tally }
 
-    -- which number it had plays no part
-    pub tells-numbered : (w after : World R) (s number other : ℕ) (x : Finished) (before counts : Tally) → Tells w after Plain before counts (Complete s number x) (after_completion k answers w s x)
-        → Tells w after Plain before counts (Complete s other x) (after_completion k answers w s x)
-    unfolding after_completion tallied
-    tells-numbered w after s number other x before counts tells = record { world = tells.world; reply = tells.reply; tally = tells.tally }
-
-    pub step-process : (w : World R) (s : ℕ) → contains_key w.records s ≡ true → stepped k answers w (Process s) ≡ told k answers w s
-    unfolding stepped_there
+    pub step-process : (w : World R) (s : ℕ) → contains_key w.records s ≡ true → done_alone k answers w (Process s) ≡ told k answers w s
+    unfolding done_there
     step-process w s is = step-there w (Process s) is
 
     -- a put that is refused
-    pub tells-put_refused : (w : World R) (s : ℕ) (field : FieldNo) (given : Input) (e : IocError) (counts : Tally) → contains_key w.records s ≡ true
-        → put_field k (at k w s) field given ≡ Err e → Tells w w (Refused e) counts counts (Put s field given) (stepped k answers w (Put s field given))
-    unfolding stepped_there
-    tells-put_refused w s field given e counts there is = rw (step-there w (Put s field given) there, is) (record { world = refl; reply = refl; tally = sym (tallied-none counts w (Put s field given) e) })
+    pub step-put_refused : (w : World R) (s : ℕ) (field : FieldNo) (given : Input) (e : IocError) → contains_key w.records s ≡ true
+        → put_field k (at k w s) field given ≡ Err e → done_alone k answers w (Put s field given) ≡ refused w e
+    unfolding done_there
+    step-put_refused w s field given e there is = step-there w (Put s field given) there ∙ ap (put_with k answers w s field) is
 
     -- a put that is done
     pub step-put : (w : World R) (s : ℕ) (field : FieldNo) (given : Input) (r : R) → contains_key w.records s ≡ true
-        → put_field k (at k w s) field given ≡ Ok r → stepped k answers w (Put s field given) ≡ after_put k answers (rescanned k (put w s r) s field) s field
-    unfolding stepped_there
+        → put_field k (at k w s) field given ≡ Ok r → done_alone k answers w (Put s field given) ≡ after_put k answers (rescanned k (put w s r) s field) s field
+    unfolding done_there
     step-put w s field given r there is = step-there w (Put s field given) there ∙ ap (put_with k answers w s field) is
 
     -- a completion that isn't awaited, and one that is
-    pub tells-stale : (w : World R) (s number : ℕ) (x : Finished) (counts : Tally) → contains_key w.records s ≡ true → awaits (common_at k w s) number ≡ false
-        → Tells w w (Refused Stale) counts counts (Complete s number x) (stepped k answers w (Complete s number x))
-    unfolding stepped_there
-    tells-stale w s number x counts there is = rw (step-there w (Complete s number x) there, is) (record { world = refl; reply = refl; tally = sym (tallied-none counts w (Complete s number x) Stale) })
+    pub step-stale : (w : World R) (s number : ℕ) (x : Finished) → contains_key w.records s ≡ true → awaits (common_at k w s) number ≡ false
+        → done_alone k answers w (Complete s number x) ≡ refused w Stale
+    unfolding done_there
+    step-stale w s number x there is = step-there w (Complete s number x) there ∙ rw is refl
 
     pub step-complete : (w : World R) (s number : ℕ) (x : Finished) → contains_key w.records s ≡ true → awaits (common_at k w s) number ≡ true
-        → stepped k answers w (Complete s number x) ≡ after_completion k answers w s x
-    unfolding stepped_there
+        → done_alone k answers w (Complete s number x) ≡ after_completion k answers w s x
+    unfolding done_there
     step-complete w s number x there is = step-there w (Complete s number x) there ∙ rw is refl
+
+    -- a put with notification that is refused, or has no place, and one that is let in
+    pub step-notify : (w : World R) (s number : ℕ) (field : FieldNo) (given : Input) (value : Result Value IocError) → contains_key w.records s ≡ true
+        → value_to_put k (at k w s) field given ≡ value → done_alone k answers w (Notify s number field given) ≡ notify_with k answers w s number field value
+    unfolding done_there
+    step-notify w s number field given value there is = step-there w (Notify s number field given) there ∙ ap (notify_with k answers w s number field) is
+
+    pub step-no_place : (w : World R) (s number : ℕ) (field : FieldNo) (given : Input) (v : Value) → contains_key w.records s ≡ true
+        → value_to_put k (at k w s) field given ≡ Ok v → has_place w number ≡ false → done_alone k answers w (Notify s number field given) ≡ refused w QueueFull
+    step-no_place w s number field given v there is full = step-notify w s number field given (Ok v) there is ∙ rw full refl
+
+    pub step-let_in : (w : World R) (s number : ℕ) (field : FieldNo) (given : Input) (v : Value) → contains_key w.records s ≡ true
+        → value_to_put k (at k w s) field given ≡ Ok v → has_place w number ≡ true
+        → done_alone k answers w (Notify s number field given) ≡ begun_or_queued k answers w (record { number = number; target = s; field = field; value = v })
+    step-let_in w s number field given v there is place = step-notify w s number field given (Ok v) there is ∙ rw place refl
+
+    -- a cancel
+    pub step-cancel : (w : World R) (number : ℕ) (b : Bool) → is_live number w.live ≡ b
+        → done_alone k answers w (Cancel number) ≡ cond {A = Stepped R} b (record { world = cancelled k number w; reply = Plain; requests = None }) (refused w Stale)
+    unfolding done_alone done_there
+    step-cancel w number b is = rw is refl
+
+    -- ---- what comes after an event by itself
+
+    same-first : (first : Stepped R) (w1 : World R) (reply : Reply) (t t1 : Tally) → Makes w1 reply t t1 first → record { world = w1; reply = reply; requests = first.requests } ≡ first
+    same-first first w1 reply t t1 makes i = record { world = makes.world i; reply = makes.reply i; requests = first.requests }
+
+    record IsStepped (w2 : World R) (asked : ℕ) (reply : Reply) (t t2 : Tally) (done : Stepped R) : Type 0 where
+      world : w2 ≡ done.world
+      reply_is : reply ≡ done.reply
+      tally : t2 ≡ counted_started (counted t done.requests) (later_among (drop asked w2.calls))
+
+    ended : (w1 w2 : World R) (event : Event) (reply : Reply) (requests : Requests) (asked : ℕ) (t t1 t2 : Tally) (b : Bool) → t1 ≡ counted t requests
+        → lets_start event reply ≡ not b → Ends w2 asked t1 t2 (cond {A = Done R} b (record { world = w1; requests = None }) (all_started k answers w1))
+        → let first : Stepped R = record { world = w1; reply = reply; requests = requests } in
+        IsStepped w2 asked reply t t2 (cond {A = Stepped R} (lets_start event reply) (with_starts k answers first) first)
+    ended w1 w2 event reply requests asked t t1 t2 true counts lets ends =
+        rw lets (record { world = ends.world; reply_is = refl; tally = ends.tally ∙ ap (λ (x : Tally). counted_started x (later_among (drop asked w2.calls))) counts })
+    ended w1 w2 event reply requests asked t t1 t2 false counts lets ends =
+        rw lets (record {
+          world = ends.world;
+          reply_is = refl;
+          tally = ends.tally ∙ ap (λ (x : Tally). counted_started (counted x (all_started k answers w1).requests) (later_among (drop asked w2.calls))) counts
+              ∙ ap (λ (x : Tally). counted_started x (later_among (drop asked w2.calls))) (sym (counted-followed_by t requests (all_started k answers w1).requests));
+        })
+
+    is_stepped : (w w1 w2 : World R) (event : Event) (reply : Reply) (asked : ℕ) (t t1 t2 : Tally) → Makes w1 reply t t1 (done_alone k answers w event)
+        → lets_start event reply ≡ not (is_refusal reply) → Ends w2 asked t1 t2 (ends k answers w1 reply) → IsStepped w2 asked reply t t2 (stepped k answers w event)
+    unfolding stepped
+    is_stepped w w1 w2 event reply asked t t1 t2 makes lets ends =
+        let first = done_alone k answers w event in
+        subst (λ (x : Stepped R). IsStepped w2 asked reply t t2 (cond {A = Stepped R} (lets_start event x.reply) (with_starts k answers x) x)) (same-first first w1 reply t t1 makes)
+        (ended w1 w2 event reply first.requests asked t t1 t2 (is_refusal reply) makes.tally lets ends)
+
+    tells-from : (w w2 : World R) (event : Event) (reply : Reply) (t t2 counts : Tally) (done : Stepped R) → IsStepped w2 (length w.calls) reply t t2 done
+        → counts ≡ cond (completes event reply) (counted_completion t2) t2 → Tells w w2 reply t counts event done
+    unfolding tallied
+    tells-from w w2 event reply t t2 counts done is counted_last = record {
+      world = is.world;
+      reply = is.reply_is;
+      tally = counted_last ∙ ap (λ (x : Tally). cond (completes event reply) (counted_completion x) x) is.tally
+          ∙ ap (λ (v : World R). let begun = counted_started (counted t done.requests) (later_among (calls_since w v)) in cond (completes event reply) (counted_completion begun) begun) is.world
+          ∙ ap (λ (r : Reply). let begun = counted_started (counted t done.requests) (later_among (calls_since w done.world)) in cond (completes event r) (counted_completion begun) begun) is.reply_is;
+    }
+
+    -- an event by itself, and what comes after it
+    pub tells-event : (w w1 w2 : World R) (event : Event) (reply : Reply) (asked : ℕ) (t t1 t2 counts : Tally) → asked ≡ length w.calls → Makes w1 reply t t1 (done_alone k answers w event)
+        → lets_start event reply ≡ not (is_refusal reply) → Ends w2 asked t1 t2 (ends k answers w1 reply) → counts ≡ cond (completes event reply) (counted_completion t2) t2
+        → Tells w w2 reply t counts event (stepped k answers w event)
+    tells-event w w1 w2 event reply asked t t1 t2 counts at_first makes lets ends counted_last =
+        tells-from w w2 event reply t t2 counts _ (subst (λ (n : ℕ). IsStepped w2 n reply t t2 (stepped k answers w event)) at_first (is_stepped w w1 w2 event reply asked t t1 t2 makes lets ends)) counted_last
 
 module _ {R : Type 0} (k : RecordRules R) (lawful : IsLawful k) where
   -- the record after is that before with some value stored in the field

@@ -10,7 +10,7 @@ use Rattle.ioc_fields.specs.declared.field_no.CommonField.TheVariants.{Proc}
 use Rattle.ioc_fields.specs.declared.field_no.Slot.{Slot}
 use Rattle.ioc_common.specs.declared.link_field.LinkField.{LinkField}
 use Rattle.ioc_common.specs.declared.link_field.LinkUse.{LinkUse}
-use Rattle.ioc_common.specs.declared.link_field.LinkUse.TheVariants.{Unused, Standing}
+use Rattle.ioc_common.specs.declared.link_field.LinkUse.TheVariants.{Unused}
 use Rattle.ioc_common.specs.declared.link_field.StandingLink.{StandingLink}
 use Rattle.ioc_common.specs.Links.{use_of, record_named}
 use Rattle.ioc_common.specs.Steps.{inherited, is_passive}

@@ -4,6 +4,7 @@ use ioc_common::LinkField;
 use ioc_device::Answer;
 use ioc_fields::FieldNo;
 use ioc_names::RecordNo;
+use ioc_notify::NotifyId;
 use ioc_values::{Finished, Input};
 
 /// An event of a database, with what its caller gives.
@@ -19,6 +20,12 @@ pub enum Event {
     Complete(RecordNo, u64, Finished),
     /// A link field gets another link.
     Link(RecordNo, FieldNo, LinkField),
+    /// A value is put into a field, and its caller is to know when the records that it processes are done.
+    Notify(RecordNo, NotifyId, FieldNo, Input),
+    /// A put with notification is given up.
+    Cancel(NotifyId),
+    /// It is asked whether a put with notification is live.
+    IsLive(NotifyId),
 }
 
 /// An event that was done: when, what devices answered in it, and the reply.

@@ -32,6 +32,7 @@ impl EventStore {
         ensures dropped { IfOk result (λ e. e.outbox.dropped ≡ 0) }
         ensures live { IfOk result (λ e. e.notifications.live.live ≡ []) }
         ensures ended { IfOk result (λ e. e.notifications.ended.items ≡ []) }
+        ensures waiting { IfOk result (λ e. e.notifications.waiting.waiting ≡ []) }
     {
         let outbox = Outbox::new(alloc)?;
         let notifications = Notifications::new(alloc)?;
@@ -51,6 +52,7 @@ impl EventStore {
         ensures dropped { self.new.outbox.dropped ≡ 0 }
         ensures live { self.new.notifications.live.live ≡ self.old.notifications.live.live }
         ensures ended { self.new.notifications.ended.items ≡ [] }
+        ensures waiting { self.new.notifications.waiting ≡ self.old.notifications.waiting }
     {
         self.moment = moment;
         self.calls.clear();

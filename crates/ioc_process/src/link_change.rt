@@ -42,7 +42,7 @@ fn set_link<S: Store>(store: &mut S, number: RecordNo, field: FieldNo, link: Kep
 ///
 /// The reply is a refusal, [`IocError::NoRecord`], [`IocError::NoField`] or [`IocError::PutDisabled`] in this order, where there
 /// is no such record, or none that the link leads to, the field is no link field, or DISP forbids it. Nothing is changed then.
-#[tactic(auto, unfolding(crate::specs::Step::stepped, crate::specs::Step::stepped_there, crate::specs::Step::relinked))]
+#[tactic(auto, unfolding(crate::specs::Step::stepped, crate::specs::Step::done_alone, crate::specs::Step::done_there, crate::specs::Step::relinked))]
 pub fn run_link<S: Store>(store: &mut S, number: RecordNo, field: FieldNo, link: KeptLink) -> Reply
     ensures step { (answers : Answers) →
         stepped S.Record.rules answers (S.world store.old) (Link number field link) ≡ record { world = S.world store.new; reply = result; requests = None } }

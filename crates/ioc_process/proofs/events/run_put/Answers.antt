@@ -1,60 +1,22 @@
-use Rattle.std.proofs.Common.{refl, sym, ◌∙◌}
-use Rattle.ioc_process.proofs.Answering.{begins_same}
+use Rattle.std.proofs.Common.{refl}
 use Rattle.ioc_process.specs.declared.event.Event.TheVariants.{Put}
-use Rattle.ioc_process.proofs.Worlds.{has-put}
+use Rattle.ioc_process.proofs.Answering.{begins_on, accords_before}
 use Rattle.ioc_process.proofs.Keeping.{keeps_on, closed_on}
-use Rattle.ioc_process.proofs.Stepping.{tells-refused, tells-put_refused, tells-put, step-put}
-use Rattle.ioc_process.proofs.QuietEvents.{stored-keeps}
+use Rattle.ioc_process.proofs.Stepping.{tells-event}
 use Rattle.ioc_process.proofs.events.run_put.Goals as goal
 
-pub returns-then-not-has-clause-step : goal.returns-then-not-has-clause-step
-returns-then-not-has-clause-step g c = λ answers begins.
-    tells-refused g.S.Record.RecordKind.rules answers _ (Put c.args.number c.args.field c.args.given) _ (sym c.has.ensures ∙ c.if-not-has.true)
+pub end_event-requires-clause-closed : goal.end_event-requires-clause-closed
+end_event-requires-clause-closed g c = closed_on g.S.Record.RecordKind.rules g.met.S.Record.RecordKind.lawful c.put-reply.ensures.keeps c.requires.closed
 
-pub process_after_put-requires-clause-there : goal.process_after_put-requires-clause-there
-process_after_put-requires-clause-there g c =
-    let k = g.S.Record.RecordKind.rules in
-    rw (c.rescan.ensures.world, c.in-Ok.ensures.stored) ((stored-keeps k g.met.S.Record.RecordKind.lawful (g.S.Store.world c.args.store.now) _ c.args.number c.args.field c.args.given _ (sym c.has.ensures ∙ c.if-not-has.false) c.in-Ok.ensures.ok refl).has _ (sym c.has.ensures ∙ c.if-not-has.false))
+pub end_event-requires-clause-room : goal.end_event-requires-clause-room
+end_event-requires-clause-room g c = rw (c.put-reply.ensures.keeps.count, c.put-reply.ensures.room) c.requires.room
 
-pub process_after_put-requires-clause-closed : goal.process_after_put-requires-clause-closed
-process_after_put-requires-clause-closed g c =
-    let k = g.S.Record.RecordKind.rules in
-    rw (c.rescan.ensures.world, c.in-Ok.ensures.stored) (closed_on k g.met.S.Record.RecordKind.lawful (stored-keeps k g.met.S.Record.RecordKind.lawful (g.S.Store.world c.args.store.now) _ c.args.number c.args.field c.args.given _ (sym c.has.ensures ∙ c.if-not-has.false) c.in-Ok.ensures.ok refl) c.requires.closed)
+pub returns-clause-step : goal.returns-clause-step
+returns-clause-step g c = λ answers begins.
+    tells-event g.S.Record.RecordKind.rules answers _ _ _ (Put c.args.number c.args.field c.args.given) _ _ _ _ _ _ c.asked-asked.ensures (c.put-reply.ensures.done answers (accords_before c.end_event.ensures.given begins)) refl (c.end_event.ensures.ends answers begins) refl
 
-pub process_after_put-requires-clause-room : goal.process_after_put-requires-clause-room
-process_after_put-requires-clause-room g c =
-    let k = g.S.Record.RecordKind.rules in
-    let kept = stored-keeps k g.met.S.Record.RecordKind.lawful (g.S.Store.world c.args.store.now) _ c.args.number c.args.field c.args.given _ (sym c.has.ensures ∙ c.if-not-has.false) c.in-Ok.ensures.ok refl in
-    rw (c.rescan.ensures.world, c.in-Ok.ensures.stored, kept.count) c.requires.room
+pub returns-clause-keeps : goal.returns-clause-keeps
+returns-clause-keeps g c = keeps_on g.S.Record.RecordKind.rules c.put-reply.ensures.keeps c.end_event.ensures.keeps
 
-pub returns-in-Ok-clause-step : goal.returns-in-Ok-clause-step
-returns-in-Ok-clause-step g c = λ answers begins.
-    let k = g.S.Record.RecordKind.rules in
-    let w = g.S.Store.world c.args.store.now in
-    let s = c.args.number in
-    rw (step-put k answers w s c.args.field c.args.given _ (sym c.has.ensures ∙ c.if-not-has.false) c.in-Ok.ensures.ok)
-    (tells-put k answers w _ s c.args.field c.args.given _ _ _ _ _ (rw (c.rescan.ensures.world, c.in-Ok.ensures.stored) at (c.process_after_put.ensures.after answers begins)))
-
-pub returns-then-not-has-clause-given : goal.returns-then-not-has-clause-given
-returns-then-not-has-clause-given g c = begins_same refl
-
-pub returns-in-Err-clause-given : goal.returns-in-Err-clause-given
-returns-in-Err-clause-given g c = begins_same c.in-Err.ensures.given
-
-pub returns-in-Ok-clause-given : goal.returns-in-Ok-clause-given
-returns-in-Ok-clause-given g c = rw (c.rescan.ensures.given, c.in-Ok.ensures.given) at c.process_after_put.ensures.given
-
-pub returns-in-Ok-clause-keeps : goal.returns-in-Ok-clause-keeps
-returns-in-Ok-clause-keeps g c =
-    let k = g.S.Record.RecordKind.rules in
-    keeps_on k (stored-keeps k g.met.S.Record.RecordKind.lawful (g.S.Store.world c.args.store.now) _ c.args.number c.args.field c.args.given _ (sym c.has.ensures ∙ c.if-not-has.false) c.in-Ok.ensures.ok refl)
-    (rw (c.rescan.ensures.world, c.in-Ok.ensures.stored) at c.process_after_put.ensures.keeps)
-
-pub returns-in-Err-clause-step : goal.returns-in-Err-clause-step
-returns-in-Err-clause-step g c = λ answers begins.
-    rw c.in-Err.ensures.same
-    (tells-put_refused g.S.Record.RecordKind.rules answers (g.S.Store.world c.args.store.now) c.args.number c.args.field c.args.given c.in-Err.refused c.args.tally.now (sym c.has.ensures ∙ c.if-not-has.false) c.in-Err.ensures.err)
-
-pub rescan-requires : goal.rescan-requires
-rescan-requires g c =
-    rw c.in-Ok.ensures.stored (has-put g.S.Record.RecordKind.rules (g.S.Store.world c.args.store.now) c.args.number c.args.number _ (sym c.has.ensures ∙ c.if-not-has.false))
+pub returns-clause-given : goal.returns-clause-given
+returns-clause-given g c = begins_on c.put-reply.ensures.given c.end_event.ensures.given

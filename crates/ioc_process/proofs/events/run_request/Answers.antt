@@ -1,16 +1,22 @@
-use Rattle.std.proofs.Common.{refl, sym, ◌∙◌}
-use Rattle.ioc_process.proofs.Answering.{begins_same}
+use Rattle.std.proofs.Common.{refl}
 use Rattle.ioc_process.specs.declared.event.Event.TheVariants.{Process}
-use Rattle.ioc_process.proofs.Stepping.{tells-refused, step-process}
+use Rattle.ioc_process.proofs.Answering.{begins_on, accords_before}
+use Rattle.ioc_process.proofs.Keeping.{keeps_on, closed_on}
+use Rattle.ioc_process.proofs.Stepping.{tells-event}
 use Rattle.ioc_process.proofs.events.run_request.Goals as goal
 
-pub returns-then-not-has-clause-step : goal.returns-then-not-has-clause-step
-returns-then-not-has-clause-step g c = λ answers begins.
-    tells-refused g.S.Record.RecordKind.rules answers _ (Process c.args.number) _ (sym c.has.ensures ∙ c.if-not-has.true)
+pub end_event-requires-clause-closed : goal.end_event-requires-clause-closed
+end_event-requires-clause-closed g c = closed_on g.S.Record.RecordKind.rules g.met.S.Record.RecordKind.lawful c.request-reply.ensures.keeps c.requires.closed
+
+pub end_event-requires-clause-room : goal.end_event-requires-clause-room
+end_event-requires-clause-room g c = rw (c.request-reply.ensures.keeps.count, c.request-reply.ensures.room) c.requires.room
 
 pub returns-clause-step : goal.returns-clause-step
 returns-clause-step g c = λ answers begins.
-    rw (step-process g.S.Record.RecordKind.rules answers (g.S.Store.world c.args.store.now) c.args.number (sym c.has.ensures ∙ c.if-not-has.false)) (c.tell.ensures.told answers begins)
+    tells-event g.S.Record.RecordKind.rules answers _ _ _ (Process c.args.number) _ _ _ _ _ _ c.asked-asked.ensures (c.request-reply.ensures.done answers (accords_before c.end_event.ensures.given begins)) refl (c.end_event.ensures.ends answers begins) refl
 
-pub returns-then-not-has-clause-given : goal.returns-then-not-has-clause-given
-returns-then-not-has-clause-given g c = begins_same refl
+pub returns-clause-keeps : goal.returns-clause-keeps
+returns-clause-keeps g c = keeps_on g.S.Record.RecordKind.rules c.request-reply.ensures.keeps c.end_event.ensures.keeps
+
+pub returns-clause-given : goal.returns-clause-given
+returns-clause-given g c = begins_on c.request-reply.ensures.given c.end_event.ensures.given

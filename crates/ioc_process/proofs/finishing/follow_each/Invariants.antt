@@ -1,4 +1,4 @@
-use Rattle.std.proofs.Common.{◌≡◌, ◌≤◌, ◌-◌, List}
+use Rattle.std.proofs.Common.{◌≡◌, ◌≤◌, ◌-◌}
 use Rattle.std.specs.Vec.{vec_capacity}
 use Rattle.ioc_process.specs.Processing.{request, followed_each}
 use Rattle.ioc_process.specs.Frames.{then_finished, remaining}

@@ -1,13 +1,8 @@
-use Rattle.std.proofs.Common.{◌≡◌, ap, ◌∙◌, sym, subst, rules, nat_eq, not}
+use Rattle.std.proofs.Common.{◌≡◌, ap, ◌∙◌, rules, nat_eq, not}
 use Rattle.std.proofs.lemmas.Fn.{filter_same}
-use Rattle.ioc_notify.specs.Waits.{Waits, without, AreRising}
-use Rattle.ioc_notify.proofs.Lists.{rising_without, same_waits}
+use Rattle.ioc_notify.specs.Waits.{Waits, without}
+use Rattle.ioc_notify.proofs.Lists.{same_waits}
 use Rattle.ioc_notify.proofs.waiting_lists.WaitingLists.remove.Goals as goal
-
-pub invariant_of-self : goal.invariant_of-self
-invariant_of-self c =
-    let kept : c.retain.new.self.items ≡ without c.args.number c.self.inside.items.items = filter_same _ (λ w. not (nat_eq w.number c.args.number)) _ (λ x b f k. search rules) _ _ c.retain.ensures.filtered in
-    subst AreRising (sym kept) (rising_without c.self.inside.items.items c.args.number c.self.invariant)
 
 pub returns-clause-removed : goal.returns-clause-removed
 returns-clause-removed c =

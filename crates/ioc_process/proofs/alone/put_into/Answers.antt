@@ -2,7 +2,7 @@ use Rattle.std.proofs.Common.{◌≡◌, refl, ap, ◌∙◌}
 use Rattle.ioc_process.specs.World.{put}
 use Rattle.ioc_process.proofs.Worlds.{at-put_same}
 use Rattle.ioc_process.proofs.Stepping.{on_ok, on_err_as, put-at}
-use Rattle.ioc_process.proofs.events.put_into.Goals as goal
+use Rattle.ioc_process.proofs.alone.put_into.Goals as goal
 
 pub returns-clause-ok : goal.returns-clause-ok
 returns-clause-ok g c =

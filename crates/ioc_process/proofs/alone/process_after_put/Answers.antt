@@ -1,11 +1,11 @@
 use Rattle.std.proofs.Common.{true, refl, ap, sym, ◌∙◌}
 use Rattle.ioc_common.specs.declared.common.Common.{Common}
 use Rattle.ioc_common.specs.Steps.{with_put_mark, with_reprocess_mark}
-use Rattle.ioc_process.specs.Step.{processes}
+use Rattle.ioc_process.specs.Starting.{processes}
 use Rattle.ioc_process.proofs.Keeping.{keeps_on, keeps-changed, closed_on}
 use Rattle.ioc_process.proofs.Answering.{begins_same}
-use Rattle.ioc_process.proofs.Stepping.{tells-plain, tells-active, tells-idle}
-use Rattle.ioc_process.proofs.events.process_after_put.Goals as goal
+use Rattle.ioc_process.proofs.Stepping.{makes-plain, makes-active, after_put-idle}
+use Rattle.ioc_process.proofs.alone.process_after_put.Goals as goal
 
 pub returns-then-not-processes-clause-after : goal.returns-then-not-processes-clause-after
 returns-then-not-processes-clause-after g c = λ answers begins.
@@ -13,7 +13,7 @@ returns-then-not-processes-clause-after g c = λ answers begins.
     let lawful = g.met.S.Record.RecordKind.lawful in
     let w = g.S.Store.world c.args.store.now in
     let s = c.args.number in
-    tells-plain k answers w s c.args.field c.args.tally.now (ap (λ r. processes k r c.args.field) (sym c.record.ensures) ∙ sym c.processes.ensures ∙ c.if-not-processes.true)
+    makes-plain k answers w s c.args.field c.args.tally.now (ap (λ r. processes k r c.args.field) (sym c.record.ensures) ∙ sym c.processes.ensures ∙ c.if-not-processes.true)
 
 pub returns-then-not-processes-clause-given : goal.returns-then-not-processes-clause-given
 returns-then-not-processes-clause-given g c = begins_same refl
@@ -24,7 +24,7 @@ returns-then-common-clause-after g c = λ answers begins.
     let lawful = g.met.S.Record.RecordKind.lawful in
     let w = g.S.Store.world c.args.store.now in
     let s = c.args.number in
-    rw c.mark_reprocess.ensures.world (tells-active k answers w s c.args.field c.args.tally.now _ (ap (λ r. processes k r c.args.field) (sym c.record.ensures) ∙ sym c.processes.ensures ∙ c.if-not-processes.false)
+    rw c.mark_reprocess.ensures.world (makes-active k answers w s c.args.field c.args.tally.now _ (ap (λ r. processes k r c.args.field) (sym c.record.ensures) ∙ sym c.processes.ensures ∙ c.if-not-processes.false)
     (ap (λ (it : Common). it.active) (ap k.common (sym c.record-2.ensures) ∙ sym c.common.ensures) ∙ c.if-common.true) c.count.ensures)
 
 pub returns-then-common-clause-keeps : goal.returns-then-common-clause-keeps
@@ -68,8 +68,8 @@ returns-clause-after g c = λ answers begins.
     let lawful = g.met.S.Record.RecordKind.lawful in
     let w = g.S.Store.world c.args.store.now in
     let s = c.args.number in
-    tells-idle k answers w _ s c.args.field _ _ _ (ap (λ r. processes k r c.args.field) (sym c.record.ensures) ∙ sym c.processes.ensures ∙ c.if-not-processes.false)
-    (ap (λ (it : Common). it.active) (ap k.common (sym c.record-2.ensures) ∙ sym c.common.ensures) ∙ c.if-common.false) (rw c.mark_put.ensures.world at (c.tell.ensures.told answers begins))
+    rw (after_put-idle k answers w s c.args.field (ap (λ r. processes k r c.args.field) (sym c.record.ensures) ∙ sym c.processes.ensures ∙ c.if-not-processes.false)
+    (ap (λ (it : Common). it.active) (ap k.common (sym c.record-2.ensures) ∙ sym c.common.ensures) ∙ c.if-common.false)) (rw c.mark_put.ensures.world at (c.tell.ensures.told answers begins))
 
 pub returns-clause-keeps : goal.returns-clause-keeps
 returns-clause-keeps g c =
