@@ -1,4 +1,5 @@
 pub mod WrittenLemmas
+pub mod Cutting
 pub mod ComingLemmas
 pub mod Feeding
 pub mod Reading
@@ -9,3 +10,4 @@ pub mod Serving
 pub mod Sending
 pub mod Words
 pub mod Beginning
+pub mod Getting
