@@ -1,5 +1,6 @@
 -- A piece of a script is cut at its first line feed.
 use Rattle.std.proofs.Common.{◌≡◌, ℕ, ◌<◌, Bool, true, false, cond, eqb, List, [], ◌∷◌, ◌++◌, length, Option, Some, None, refl, sym, ap, ◌∙◌, append_assoc, append-nil, arith}
+use Rattle.std.proofs.lemmas.Bool.{eqb-true}
 use Rattle.std.specs.Prelude.{option_map}
 use Rattle.std.specs.Borrow.{Bor}
 use Rattle.std.specs.List.{onto_first}
@@ -18,7 +19,7 @@ behind-shorter s (b ∷ bs) after e = step_shorter (eqb b s) s b bs after e (beh
 -- a list of no items
 pub none-left : (bs : List ℕ) → eqb (length bs) 0 ≡ true → bs ≡ []
 none-left [] e = refl
-none-left (b ∷ bs) e = absurd cc
+none-left (b ∷ bs) e = absurd (omega (arith, eqb-true (length (b ∷ bs)) 0 e))
 
 -- a part that isn't there
 pub none-there : (o : Option (Bor (List ℕ))) → ((r : Bor (List ℕ)) → o ≡ Some r → ⊥) → option_map (λ r. r.now) o ≡ None
