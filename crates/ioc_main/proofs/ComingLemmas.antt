@@ -1,23 +1,10 @@
--- The bytes of a script, one by one, give its lines.
-use Rattle.std.proofs.Common.{◌≡◌, ℕ, ◌≤◌, false, eqb, List, [], ◌∷◌, ◌++◌, length, take, refl, sym, ap, ◌∙◌, append_assoc, append-nil, inl, inr, arith}
-use Rattle.std.specs.List.{onto_first}
+-- The pieces of a script give its lines.
+use Rattle.std.proofs.Common.{◌≡◌, ℕ, ◌≤◌, List, [], ◌∷◌, ◌++◌, length, take, Option, Some, None, refl, sym, ap, ◌∙◌, append-nil, inl, inr, arith}
 use Rattle.std.proofs.lemmas.Bool.{cases_lt}
 use Rattle.std.proofs.lemmas.List.{length-take, take_all, take-append-le, take-take}
-use Rattle.std.proofs.lemmas.Grind.{common_steps}
-use Rattle.ioc_main.specs.Script.{lines_of, cut}
+use Rattle.ioc_main.specs.Script.{lines_of, cut, before, behind}
 use Rattle.ioc_main.specs.Coming.{onto, to_come, CutsLines}
-
-onto_nil : (ls : List (List ℕ)) → onto [] ls ≡ ls
-onto_nil [] = refl
-onto_nil (l ∷ ls) = refl
-
-onto_push : (p : List ℕ) (b : ℕ) (ls : List (List ℕ)) → onto p (onto_first b ls) ≡ onto (p ++ b ∷ []) ls
-onto_push [] b [] = refl
-onto_push (c ∷ cs) b [] = refl
-onto_push p b (l ∷ ls) = ap (λ x. x ∷ ls) (sym (append_assoc p (b ∷ []) l))
-
-onto_end : (p : List ℕ) (ls : List (List ℕ)) → onto p ([] ∷ ls) ≡ p ∷ ls
-onto_end p ls = ap (λ (x : List ℕ). x ∷ ls) (append-nil p)
+use Rattle.ioc_main.proofs.Cutting.{behind-lines, none-behind, onto-nil, onto-onto}
 
 cut_push : (p ys : List ℕ) → cut (cut p ++ ys) ≡ cut (p ++ ys)
 unfolding cut
@@ -27,8 +14,8 @@ cut_push p ys =
       | inr short ↦ rw (take_all 1025 p short) refl
     ]
 
-cut_cut : (p : List ℕ) → cut (cut p) ≡ cut p
-cut_cut p = ap cut (sym (append-nil (cut p))) ∙ cut_push p [] ∙ ap cut (append-nil p)
+pub cut-cut : (p : List ℕ) → cut (cut p) ≡ cut p
+cut-cut p = ap cut (sym (append-nil (cut p))) ∙ cut_push p [] ∙ ap cut (append-nil p)
 
 cut_none : cut [] ≡ []
 unfolding cut
@@ -38,17 +25,15 @@ cut_some : (c : ℕ) (cs : List ℕ) → (ds : List ℕ) × (cut (c ∷ cs) ≡ 
 unfolding cut
 cut_some c cs = (take 1024 cs, refl)
 
-is_other : (b : ℕ) → (b ≡ 10 → ⊥) → eqb b 10 ≡ false
-is_other b is = grind (arith, common_steps)
-
 module _ (t : List (List ℕ) → List ℕ) where
   pub starts : (bytes : List ℕ) → to_come t [] bytes ≡ t (lines_of bytes)
   unfolding to_come
-  starts bytes = ap t (onto_nil (lines_of bytes))
+  starts bytes = ap t (onto-nil (lines_of bytes))
 
-  pub at_end : (line : List ℕ) (b : ℕ) (rest : List ℕ) → b ≡ 10 → to_come t line (b ∷ rest) ≡ t (line ∷ lines_of rest)
+  -- a line ends in a piece
+  pub at_end : (line piece after rest : List ℕ) → behind 10 piece ≡ Some after → to_come t line (piece ++ rest) ≡ t ((line ++ before 10 piece) ∷ lines_of (after ++ rest))
   unfolding to_come
-  at_end line b rest is = rw (ap (λ n. eqb n 10) is) (ap t (onto_end line (lines_of rest)))
+  at_end line piece after rest is = ap (λ (ls : List (List ℕ)). t (onto line ls)) (behind-lines piece after rest is)
 
   last_some : (p : List ℕ) (d : ℕ) (ds : List ℕ) → p ≡ d ∷ ds → t (onto p []) ≡ t (p ∷ [])
   last_some p d ds e = rw e refl
@@ -56,13 +41,17 @@ module _ (t : List (List ℕ) → List ℕ) where
   module _ (cuts : CutsLines t) where
     onto_cut : (p : List ℕ) (ls : List (List ℕ)) → t (onto (cut p) ls) ≡ t (onto p ls)
     onto_cut [] [] = ap (λ (p : List ℕ). t (onto p [])) cut_none
-    onto_cut (c ∷ cs) [] = let k = cut_some c cs in last_some (cut (c ∷ cs)) c k.0 k.1 ∙ cuts (cut (c ∷ cs)) (c ∷ cs) [] (cut_cut (c ∷ cs))
+    onto_cut (c ∷ cs) [] = let k = cut_some c cs in last_some (cut (c ∷ cs)) c k.0 k.1 ∙ cuts (cut (c ∷ cs)) (c ∷ cs) [] (cut-cut (c ∷ cs))
     onto_cut p (l ∷ ls) = cuts (cut p ++ l) (p ++ l) ls (cut_push p l)
 
-    pub at_more : (line : List ℕ) (b : ℕ) (rest kept : List ℕ) → (b ≡ 10 → ⊥) → kept ≡ cut (line ++ b ∷ []) → to_come t line (b ∷ rest) ≡ to_come t kept rest
+    -- no line ends in a piece
+    pub at_more : (line piece rest kept : List ℕ) → behind 10 piece ≡ None → kept ≡ cut (line ++ piece) → to_come t line (piece ++ rest) ≡ to_come t kept rest
     unfolding to_come
-    at_more line b rest kept is e =
-        rw (is_other b is) (ap t (onto_push line b (lines_of rest)) ∙ sym (onto_cut (line ++ b ∷ []) (lines_of rest))) ∙ ap (λ (p : List ℕ). t (onto p (lines_of rest))) (sym e)
+    at_more line piece rest kept is e =
+        ap (λ (ls : List (List ℕ)). t (onto line ls)) (none-behind piece rest is)
+        ∙ ap t (onto-onto line piece (lines_of rest))
+        ∙ sym (onto_cut (line ++ piece) (lines_of rest))
+        ∙ ap (λ (p : List ℕ). t (onto p (lines_of rest))) (sym e)
 
   pub all_read : t [] ≡ [] → to_come t [] [] ≡ []
   unfolding to_come

@@ -1,47 +1,54 @@
 -- A script piece by piece.
-use Rattle.std.proofs.Common.{◌≡◌, ℕ, ◌+◌, ◌<◌, List, [], ◌∷◌, ◌++◌, length, get_or, drop, ◌≤◌, arith, Option, refl, sym, ap, subst, ◌∙◌, add-one}
-use Rattle.std.proofs.Math.Seq.{drop-cons}
-use Rattle.std.proofs.Math.ListN.{drop_of_length-le}
+use Rattle.std.proofs.Common.{◌≡◌, ℕ, ◌<◌, List, [], ◌∷◌, ◌++◌, length, take, ◌≤◌, arith, Option, Some, None, refl, sym, ap, subst, ◌∙◌}
 use Rattle.std.specs.Io.KnownBytes.{Appends}
-use Rattle.ioc_main.specs.Script.{lines_of}
-use Rattle.ioc_main.specs.Coming.{to_come}
+use Rattle.ioc_main.specs.Script.{lines_of, cut, before, behind}
+use Rattle.ioc_main.specs.Coming.{to_come, CutsLines}
 use Rattle.ioc_main.specs.Written.{Writes, StopsLine}
 use Rattle.ioc_main.specs.declared.fault.LineFault.{LineFault}
-use Rattle.ioc_main.proofs.ComingLemmas.{at_end, starts, all_read, last_line-of}
-use Rattle.ioc_main.proofs.WrittenLemmas.{writes_trans, writes_then_stops, appends_all, appends_empty}
+use Rattle.ioc_main.proofs.ComingLemmas.{at_end, at_more, starts, cut-cut, all_read, last_line-of}
+use Rattle.ioc_main.proofs.WrittenLemmas.{writes_same, writes_trans, writes_then_stops, appends_all, appends_empty}
 
--- a line feed came
-pub line_ends : (t u : List (List ℕ) → List ℕ) (w v : Option (List ℕ)) (line kept : List ℕ) (b : ℕ) → b ≡ 10
-    → (kept ≡ []) × ((lines : List (List ℕ)) → Writes w (t (line ∷ lines)) v (u lines))
-    → (rest : List ℕ) → Writes w (to_come t line (b ∷ rest)) v (to_come u kept rest)
-line_ends t u w v line kept b is p rest =
-    let e : to_come u kept rest ≡ u (lines_of rest) = ap (λ (k : List ℕ). to_come u k rest) p.0 ∙ starts u rest in
-    let q : Writes w (to_come t line (b ∷ rest)) v (u (lines_of rest)) = subst (λ (l : List ℕ). Writes w l v (u (lines_of rest))) (sym (at_end t line b rest is)) (p.1 (lines_of rest)) in
-    subst (λ (l : List ℕ). Writes w (to_come t line (b ∷ rest)) v l) (sym e) q
+-- a line ends in the piece
+module _ (t : List (List ℕ) → List ℕ) (w v : Option (List ℕ)) (line piece after last : List ℕ) (is : behind 10 piece ≡ Some after) (same : last ≡ before 10 piece) where
+  ends : (rest : List ℕ) → to_come t line (piece ++ rest) ≡ t ((line ++ last) ∷ lines_of (after ++ rest))
+  ends rest = at_end t line piece after rest is ∙ ap (λ (l : List ℕ). t ((line ++ l) ∷ lines_of (after ++ rest))) (sym same)
 
-pub line_fails : (fault : LineFault) (t : List (List ℕ) → List ℕ) (w v : Option (List ℕ)) (line : List ℕ) (b : ℕ) → b ≡ 10
-    → ((lines : List (List ℕ)) → StopsLine fault w (t (line ∷ lines)) v)
-    → (rest : List ℕ) → StopsLine fault w (to_come t line (b ∷ rest)) v
-line_fails fault t w v line b is p rest = subst (λ (l : List ℕ). StopsLine fault w l v) (sym (at_end t line b rest is)) (p (lines_of rest))
+  pub line_ends : (u : List (List ℕ) → List ℕ) (kept : List ℕ) → (kept ≡ []) × ((lines : List (List ℕ)) → Writes w (t ((line ++ last) ∷ lines)) v (u lines))
+      → (rest : List ℕ) → Writes w (to_come t line (piece ++ rest)) v (to_come u kept (after ++ rest))
+  line_ends u kept p rest =
+      let e : to_come u kept (after ++ rest) ≡ u (lines_of (after ++ rest)) = ap (λ (k : List ℕ). to_come u k (after ++ rest)) p.0 ∙ starts u (after ++ rest) in
+      let q : Writes w (to_come t line (piece ++ rest)) v (u (lines_of (after ++ rest))) = subst (λ (l : List ℕ). Writes w l v (u (lines_of (after ++ rest)))) (sym (ends rest)) (p.1 (lines_of (after ++ rest))) in
+      subst (λ (l : List ℕ). Writes w (to_come t line (piece ++ rest)) v l) (sym e) q
 
-next_byte : (piece : List ℕ) (i : ℕ) → i < length piece → drop i piece ≡ get_or piece i 0 ∷ drop (i + 1) piece
-next_byte piece i h = rw (add-one, drop-cons piece i 0) refl
+  pub line_fails : (fault : LineFault) → ((lines : List (List ℕ)) → StopsLine fault w (t ((line ++ last) ∷ lines)) v)
+      → (rest : List ℕ) → StopsLine fault w (to_come t line (piece ++ rest)) v
+  line_fails fault p rest = subst (λ (l : List ℕ). StopsLine fault w l v) (sym (ends rest)) (p (lines_of (after ++ rest)))
 
--- the bytes of a piece from here on
-pub at_byte : (piece : List ℕ) (i b : ℕ) (rest : List ℕ) → i < length piece → b ≡ get_or piece i 0 → drop i piece ++ rest ≡ b ∷ (drop (i + 1) piece ++ rest)
-at_byte piece i b rest h is = ap (λ l. l ++ rest) (next_byte piece i h ∙ ap (λ c. c ∷ drop (i + 1) piece) (sym is))
+-- no line ends in the piece
+pub kept_on : (t : List (List ℕ) → List ℕ) → CutsLines t → (w : Option (List ℕ)) (line piece kept last : List ℕ) → behind 10 piece ≡ None → last ≡ piece → kept ≡ take 1025 (line ++ last)
+    → (rest : List ℕ) → Writes w (to_come t line (piece ++ rest)) w (to_come t kept rest)
+unfolding cut
+kept_on t cuts w line piece kept last is same e rest =
+    writes_same w (to_come t line (piece ++ rest)) (to_come t kept rest) (at_more t cuts line piece rest kept is (e ∙ ap (λ (l : List ℕ). cut (line ++ l)) same))
 
-module _ (w0 w v : Option (List ℕ)) (all : List ℕ) (come : List ℕ → List ℕ) (piece : List ℕ) (i b : ℕ) (rest : List ℕ) (within : i < length piece) (is : b ≡ get_or piece i 0) where
-  pub feed_step : (more : List ℕ) → Writes w (come (b ∷ (drop (i + 1) piece ++ rest))) v more → Writes w0 all w (come (drop i piece ++ rest)) → Writes w0 all v more
-  feed_step more p inv = writes_trans w0 w v all _ more inv (subst (λ (l : List ℕ). Writes w (come l) v more) (sym (at_byte piece i b rest within is)) p)
+-- what was written before, and then more
+pub feed_step : (w0 w v : Option (List ℕ)) (all come more : List ℕ) → Writes w come v more → Writes w0 all w come → Writes w0 all v more
+feed_step w0 w v all come more p inv = writes_trans w0 w v all come more inv p
 
-  pub feed_fails : (fault : LineFault) → StopsLine fault w (come (b ∷ (drop (i + 1) piece ++ rest))) v → Writes w0 all w (come (drop i piece ++ rest)) → StopsLine fault w0 all v
-  feed_fails fault p inv = writes_then_stops fault w0 w v all _ inv (subst (λ (l : List ℕ). StopsLine fault w (come l) v) (sym (at_byte piece i b rest within is)) p)
+pub feed_fails : (fault : LineFault) (w0 w v : Option (List ℕ)) (all come : List ℕ) → StopsLine fault w come v → Writes w0 all w come → StopsLine fault w0 all v
+feed_fails fault w0 w v all come p inv = writes_then_stops fault w0 w v all come inv p
 
--- a piece is at its end
-pub feed_ends : (w0 w : Option (List ℕ)) (all : List ℕ) (come : List ℕ → List ℕ) (piece : List ℕ) (i : ℕ) (rest : List ℕ) → length piece ≤ i
-    → Writes w0 all w (come (drop i piece ++ rest)) → Writes w0 all w (come rest)
-feed_ends w0 w all come piece i rest past p = subst (λ (l : List ℕ). Writes w0 all w (come (l ++ rest))) (drop_of_length-le piece past) p
+-- a line that came in one piece
+pub came_whole : (t u : List (List ℕ) → List ℕ) (w v : Option (List ℕ)) (line last : List ℕ) → line ≡ [] → ((lines : List (List ℕ)) → Writes w (t (last ∷ lines)) v (u lines))
+    → (line ≡ []) × ((lines : List (List ℕ)) → Writes w (t ((line ++ last) ∷ lines)) v (u lines))
+came_whole t u w v line last e p = (e, λ lines. subst (λ (l : List ℕ). Writes w (t ((l ++ last) ∷ lines)) v (u lines)) (sym e) (p lines))
+
+-- a line of several pieces: what is past its 1,025th byte plays no part
+pub came_in_pieces : (t : List (List ℕ) → List ℕ) → CutsLines t → (line last kept slice : List ℕ) → kept ≡ take 1025 (line ++ last) → slice ≡ kept → (lines : List (List ℕ))
+    → t (slice ∷ lines) ≡ t ((line ++ last) ∷ lines)
+unfolding cut
+came_in_pieces t cuts line last kept slice e f lines =
+    ap (λ (l : List ℕ). t (l ∷ lines)) (f ∙ e) ∙ cuts (cut (line ++ last)) (line ++ last) lines (cut-cut (line ++ last))
 
 -- a last line that no line feed ends
 module _ (t : List (List ℕ) → List ℕ) where
@@ -57,12 +64,14 @@ module _ (t : List (List ℕ) → List ℕ) where
   last_is : (line slice : List ℕ) → slice ≡ line → 1 ≤ length slice → to_come t line [] ≡ t (line ∷ [])
   last_is line slice e h = last_line-of t line (subst (λ (l : List ℕ). 1 ≤ length l) e h)
 
-  pub last_ends : (u : List (List ℕ) → List ℕ) (w v : Option (List ℕ)) (line slice : List ℕ) → slice ≡ line → 1 ≤ length slice → u [] ≡ []
-      → Writes w (t (line ∷ [])) v (u []) → Appends w v (to_come t line [])
-  last_ends u w v line slice e h none p =
-      let q : Writes w (t (line ∷ [])) v [] = subst (λ (l : List ℕ). Writes w (t (line ∷ [])) v l) none p in
+  pub last_ends : (u : List (List ℕ) → List ℕ) (w v : Option (List ℕ)) (line slice said : List ℕ) → slice ≡ line → 1 ≤ length slice → said ≡ line → u [] ≡ []
+      → Writes w (t (said ∷ [])) v (u []) → Appends w v (to_come t line [])
+  last_ends u w v line slice said e h same none p =
+      let r : Writes w (t (line ∷ [])) v (u []) = subst (λ (l : List ℕ). Writes w (t (l ∷ [])) v (u [])) same p in
+      let q : Writes w (t (line ∷ [])) v [] = subst (λ (l : List ℕ). Writes w (t (line ∷ [])) v l) none r in
       subst (λ (l : List ℕ). Appends w v l) (sym (last_is line slice e h)) (appends_all w v _ q)
 
-  pub last_fails : (fault : LineFault) (w v : Option (List ℕ)) (line slice : List ℕ) → slice ≡ line → 1 ≤ length slice
-      → StopsLine fault w (t (line ∷ [])) v → StopsLine fault w (to_come t line []) v
-  last_fails fault w v line slice e h p = subst (λ (l : List ℕ). StopsLine fault w l v) (sym (last_is line slice e h)) p
+  pub last_fails : (fault : LineFault) (w v : Option (List ℕ)) (line slice said : List ℕ) → slice ≡ line → 1 ≤ length slice → said ≡ line
+      → StopsLine fault w (t (said ∷ [])) v → StopsLine fault w (to_come t line []) v
+  last_fails fault w v line slice said e h same p =
+      subst (λ (l : List ℕ). StopsLine fault w l v) (ap (λ (l : List ℕ). t (l ∷ [])) same ∙ sym (last_is line slice e h)) p

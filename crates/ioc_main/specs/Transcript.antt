@@ -34,11 +34,22 @@ transcript_of macros text script = transcript_by (loaded macros text) script
 abbrev pub IsDatabase : List Defined → List ℕ → Type 0
 IsDatabase macros text = (database : Loading Record) × (loaded macros text ≡ Ok database)
 
--- a refused text is told by its first fault, and nothing is written; else a beginning of the transcript was written, and after a
--- failed write not all of it
+-- memory was wanting where the database was made, and nothing was written; or in a line: then the text is that of a database, and a
+-- beginning of the transcript was written
+pub data RunsOut : List Defined → List ℕ → Option (List ℕ) → Option (List ℕ) → Option (List ℕ) → Type 0 where
+  in_the_load : {macros : List Defined} {text : List ℕ} {script old new : Option (List ℕ)}
+      → Keeps old new
+      → RunsOut macros text script old new
+  in_a_line : {macros : List Defined} {text : List ℕ} {script old new : Option (List ℕ)}
+      → IsDatabase macros text
+      → IfSome script (λ given. WritesFront old (transcript_of macros text given) new)
+      → RunsOut macros text script old new
+
+-- a refused text is told by its first fault, and nothing is written; where the script stopped, a beginning of the transcript was
+-- written, and after a failed write not all of it
 abbrev pub StopsWith : RunFault → List Defined → List ℕ → Option (List ℕ) → Option (List ℕ) → Option (List ℕ) → Type 0
 StopsWith (BadDb fault) macros text script old new = (loaded macros text ≡ Err fault) × Keeps old new
-StopsWith Memory macros text script old new = IfSome script (λ script. WritesFront old (transcript_of macros text script) new)
+StopsWith Memory macros text script old new = RunsOut macros text script old new
 StopsWith Read macros text script old new = IsDatabase macros text × IfSome script (λ script. WritesFront old (transcript_of macros text script) new)
 StopsWith Write macros text script old new = IsDatabase macros text × IfSome script (λ script. WritesPart old (transcript_of macros text script) new)
 StopsWith _ macros text script old new = ⊥

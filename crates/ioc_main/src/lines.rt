@@ -6,63 +6,69 @@ ghost use Rattle.ioc_main.specs.Coming.{to_come};
 ghost use Rattle.ioc_main.specs.Written.{Writes, StopsLine, StopsScript};
 
 use crate::fault::{LineFault, ScriptFault};
-use crate::session::Session;
+use crate::parts::cut_at;
+use crate::session::{LineReply, Session};
 use crate::writing::write_text;
-use ioc_values::Short;
+use ioc_values::Room;
 use std::io::{Read, Write};
 
 // What came of the line that is under way: enough of it to see that it is too long.
-type Line = Short<1025>;
+type Line = Room<1025>;
 
-// Answers the line that came in, and begins another.
-fn end_line<S: Session, W: Write>(
+// Answers a line, and writes what is said of it.
+fn say<S: Session, W: Write>(
     session: &mut S,
-    line: &mut Line,
+    reply: &mut LineReply,
     out: &mut W,
+    line: &[u8],
 ) -> Result<(), LineFault>
-    ensures ok { OnOk result ((line.new ≡ []) × ((lines : List (List ℕ)) → Writes (W.contents out.old) (S.transcript session.old (line.old ∷ lines)) (W.contents out.new) (S.transcript session.new lines))) }
-    ensures err { IfErr result (λ fault. (lines : List (List ℕ)) → StopsLine fault (W.contents out.old) (S.transcript session.old (line.old ∷ lines)) (W.contents out.new)) }
+    ensures ok { OnOk result ((lines : List (List ℕ)) → Writes (W.contents out.old) (S.transcript session.old (line.now ∷ lines)) (W.contents out.new) (S.transcript session.new lines)) }
+    ensures err { IfErr result (λ fault. (lines : List (List ℕ)) → StopsLine fault (W.contents out.old) (S.transcript session.old (line.now ∷ lines)) (W.contents out.new)) }
 {
-    let reply = session.answer(line.as_slice())?;
+    session.answer(line, reply)?;
     write_text(out, reply.as_slice())?;
-    line.clear();
     Ok(())
 }
 
-#[tactic(auto, unfolding(crate::specs::Script::cut))]
-fn keep(line: &mut Line, b: u8)
-    ensures { line.new ≡ cut (line.old ++ b ∷ []) }
-{
-    line.push_cut(b);
-}
-
-fn take_byte<S: Session, W: Write>(
+// Answers the line that ends with this, and begins another.
+fn end_line<S: Session, W: Write>(
     session: &mut S,
     line: &mut Line,
+    reply: &mut LineReply,
     out: &mut W,
-    b: u8,
+    last: &[u8],
 ) -> Result<(), LineFault>
-    ensures ok { OnOk result ((rest : List ℕ) → Writes (W.contents out.old) (to_come (S.transcript session.old) line.old (b ∷ rest)) (W.contents out.new) (to_come (S.transcript session.new) line.new rest)) }
-    ensures err { IfErr result (λ fault. (rest : List ℕ) → StopsLine fault (W.contents out.old) (to_come (S.transcript session.old) line.old (b ∷ rest)) (W.contents out.new)) }
+    ensures ok { OnOk result ((line.new ≡ []) × ((lines : List (List ℕ)) → Writes (W.contents out.old) (S.transcript session.old ((line.old ++ last.now) ∷ lines)) (W.contents out.new) (S.transcript session.new lines))) }
+    ensures err { IfErr result (λ fault. (lines : List (List ℕ)) → StopsLine fault (W.contents out.old) (S.transcript session.old ((line.old ++ last.now) ∷ lines)) (W.contents out.new)) }
 {
-    if b == b'\n' {
-        return end_line(session, line, out);
+    if line.is_empty() {
+        return say(session, reply, out, last);
     }
-    keep(line, b);
+    line.extend_cut(last);
+    say(session, reply, out, line.as_slice())?;
+    line.clear();
     Ok(())
 }
 
 fn feed<S: Session, W: Write>(
     session: &mut S,
     line: &mut Line,
+    reply: &mut LineReply,
     out: &mut W,
     piece: &[u8],
 ) -> Result<(), LineFault>
     ensures ok { OnOk result ((rest : List ℕ) → Writes (W.contents out.old) (to_come (S.transcript session.old) line.old (piece.now ++ rest)) (W.contents out.new) (to_come (S.transcript session.new) line.new rest)) }
     ensures err { IfErr result (λ fault. (rest : List ℕ) → StopsLine fault (W.contents out.old) (to_come (S.transcript session.old) line.old (piece.now ++ rest)) (W.contents out.new)) }
 {
-    for b in piece {
-        take_byte(session, line, out, *b)?;
+    let mut rest = piece;
+    while !rest.is_empty() {
+        let (last, more) = cut_at(rest, b'\n');
+        let Some(more) = more else {
+            line.extend_cut(last);
+            return Ok(());
+        };
+        end_line(session, line, reply, out, last)?;
+        rest = more;
     }
     Ok(())
 }
@@ -71,6 +77,7 @@ fn feed<S: Session, W: Write>(
 fn finish<S: Session, W: Write>(
     session: &mut S,
     line: &mut Line,
+    reply: &mut LineReply,
     out: &mut W,
 ) -> Result<(), LineFault>
     ensures ok { OnOk result (Appends (W.contents out.old) (W.contents out.new) (to_come (S.transcript session.old) line.old [])) }
@@ -78,7 +85,7 @@ fn finish<S: Session, W: Write>(
 {
     match line.as_slice() {
         [] => Ok(()),
-        [_, ..] => end_line(session, line, out),
+        [_, ..] => say(session, reply, out, line.as_slice()),
     }
 }
 
@@ -97,14 +104,17 @@ pub fn run_script<S: Session, R: Read + Drop, W: Write>(
     ensures err { IfErr result (λ fault. IfSome (R.remaining script) (λ text. StopsScript fault (W.contents out.old) (S.transcript session.old (lines_of text)) (W.contents out.new))) }
 {
     let mut line = Line::new();
+    let mut reply = LineReply::new();
     let mut buffer = [0u8; 512];
     for _ in 0..u64::MAX {
         match script.read(&mut buffer) {
             Ok(0) => {
-                finish(session, &mut line, out)?;
+                finish(session, &mut line, &mut reply, out)?;
                 return Ok(());
             }
-            Ok(n) => feed(session, &mut line, out, buffer.split_at(n).0)?,
+            Ok(n) => {
+                feed(session, &mut line, &mut reply, out, buffer.split_at(n).0)?;
+            }
             Err(_) => return Err(ScriptFault::Read),
         }
     }

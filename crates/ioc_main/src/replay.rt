@@ -1,25 +1,27 @@
 //! A loaded database, to which a script is done.
-ghost use Rattle.std.specs.Prelude.{◌≡◌, ◌∷◌, ◌++◌, List, ℕ, IfOk, OnOk};
+ghost use Rattle.std.specs.Prelude.{◌≡◌, ◌∷◌, ◌++◌, [], List, ℕ, IsSome, IfOk, OnOk};
 ghost use Rattle.ioc_names.specs.NameTable.{number_of};
 ghost use Rattle.ioc_types.specs.Record.{record_rules};
+ghost use Rattle.ioc_fields.specs.Table.{row_of};
 ghost use Rattle.ioc_process.specs.Rules.{IsSettled};
+ghost use Rattle.ioc_process.specs.World.{Has, at};
 ghost use Rattle.ioc_dbfile.specs.FirstWorld.{first_world};
-ghost use Rattle.ioc_machine.specs.Machine.{first_machine};
+ghost use Rattle.ioc_machine.specs.Machine.{first_machine, queued_on, scanned};
 ghost use Rattle.ioc_machine.specs.SeenMachine.{machine_of};
-ghost use Rattle.ioc_main.specs.Replay.{Answered, channel, processed, got, were_put, answers_next, were_completed, given_value, carried_out, answered};
+ghost use Rattle.ioc_main.specs.Replay.{Answered, channel, processed, got, were_put, answers_next, were_completed, given_value, carried_out, answered, reply_words, tally_words, count_words};
 ghost use Rattle.ioc_main.specs.Script.{command_of};
 ghost use Rattle.ioc_main.specs.Seen.{seen};
 
 use crate::command::Command;
 use crate::counts::{count_line, tally_line};
-use crate::reply_line::reply_line;
+use crate::reply_line::{say_refusal, say_reply};
 use crate::session::{LineReply, Session};
 use ioc_device::Answer;
 use ioc_fields::{FieldNo, field};
 use ioc_machine::{Machine, event_list, interrupt_list};
 use ioc_names::{Names, RecordNo};
 use ioc_process::{Reply, Store};
-use ioc_record::RecordKind;
+use ioc_record::{RecordKind, add_text};
 use ioc_scan::ListName;
 use ioc_types::Record;
 use ioc_values::{Finished, Input, IocError, Text, Value};
@@ -41,7 +43,7 @@ fn given_value(text: &[u8]) -> Value
 
 impl Replay {
     /// A database of these names and records. All room that events want is taken here: of the lines of a script, those that
-    /// queue an answer or change a scan list want memory.
+    /// queue an answer, walk a scan list or put a record on another want memory.
     ///
     /// # Errors
     ///
@@ -62,7 +64,8 @@ impl Replay {
         record_name: &[u8],
         field_name: &[u8],
     ) -> Result<(RecordNo, FieldNo), IocError>
-        ensures { result ≡ channel record_rules self.now.names (machine_of self.now.machine).world record_name.now field_name.now }
+        ensures value { result ≡ channel record_rules self.now.names (machine_of self.now.machine).world record_name.now field_name.now }
+        ensures there { IfOk result (λ c. Has (machine_of self.now.machine).world c.0 × IsSome (row_of (record_rules.record_type (at record_rules (machine_of self.now.machine).world c.0)) c.1)) }
     {
         let Some(number) = self.names.find(record_name) else {
             return Err(IocError::NoRecord);
@@ -78,94 +81,174 @@ impl Replay {
         }
     }
 
-    fn process(&mut self, name: &[u8]) -> Result<Reply, AllocError>
+    // What follows says its reply where it is wanted. None of it is inlined, so that what one command has in hand isn't cleared
+    // for the others.
+    #[inline(never)]
+    fn process(&mut self, name: &[u8], reply: &mut LineReply) -> Result<(), AllocError>
+        requires { reply.old ≡ [] }
         ensures names { self.new.names ≡ self.old.names }
         ensures machine { OnOk result (machine_of self.new.machine ≡ (processed record_rules self.old.names (machine_of self.old.machine) (number_of self.old.names name.now)).machine) }
-        ensures reply { IfOk result (λ reply. reply ≡ (processed record_rules self.old.names (machine_of self.old.machine) (number_of self.old.names name.now)).reply) }
+        ensures said { OnOk result (reply.new ≡ reply_words (processed record_rules self.old.names (machine_of self.old.machine) (number_of self.old.names name.now)).reply ++ 10 ∷ []) }
     {
         match self.names.find(name) {
-            Some(number) => self.machine.process(number),
-            None => Ok(Reply::Refused(IocError::NoRecord)),
+            Some(number) => say_reply(reply, &self.machine.process(number)?),
+            None => say_refusal(reply, IocError::NoRecord),
         }
+        Ok(())
     }
 
-    fn get(&self, record_name: &[u8], field_name: &[u8]) -> Reply
-        ensures { result ≡ (got record_rules self.now.names (machine_of self.now.machine) (channel record_rules self.now.names (machine_of self.now.machine).world record_name.now field_name.now)).reply }
+    // The text of the field is written where the reply is. No event is wanted, since a get changes nothing.
+    #[inline(never)]
+    #[tactic(auto, using(crate::proofs::Getting::shown_there))]
+    fn get(&self, record_name: &[u8], field_name: &[u8], reply: &mut LineReply)
+        requires { reply.old ≡ [] }
+        ensures { reply.new ≡ reply_words (got record_rules self.now.names (machine_of self.now.machine) (channel record_rules self.now.names (machine_of self.now.machine).world record_name.now field_name.now)).reply ++ 10 ∷ [] }
     {
         match self.channel(record_name, field_name) {
-            Ok((number, field)) => self.machine.get(number, field),
-            Err(refused) => Reply::Refused(refused),
+            Ok((number, field)) => {
+                reply.extend(b"= ");
+                add_text(reply, self.machine.map().record(number), field);
+                reply.push(b'\n');
+            }
+            Err(refused) => say_refusal(reply, refused),
         }
     }
 
-    fn put(&mut self, record_name: &[u8], field_name: &[u8], text: &[u8]) -> Result<Reply, AllocError>
+    #[inline(never)]
+    fn put(&mut self, record_name: &[u8], field_name: &[u8], text: &[u8], reply: &mut LineReply) -> Result<(), AllocError>
+        requires { reply.old ≡ [] }
         ensures names { self.new.names ≡ self.old.names }
         ensures machine { OnOk result (machine_of self.new.machine ≡ (were_put record_rules self.old.names (machine_of self.old.machine) text.now (channel record_rules self.old.names (machine_of self.old.machine).world record_name.now field_name.now)).machine) }
-        ensures reply { IfOk result (λ reply. reply ≡ (were_put record_rules self.old.names (machine_of self.old.machine) text.now (channel record_rules self.old.names (machine_of self.old.machine).world record_name.now field_name.now)).reply) }
+        ensures said { OnOk result (reply.new ≡ reply_words (were_put record_rules self.old.names (machine_of self.old.machine) text.now (channel record_rules self.old.names (machine_of self.old.machine).world record_name.now field_name.now)).reply ++ 10 ∷ []) }
     {
         match self.channel(record_name, field_name) {
-            Ok((number, field)) => self.machine.put(number, field, Input::from_text(text)),
-            Err(refused) => Ok(Reply::Refused(refused)),
+            Ok((number, field)) => {
+                say_reply(reply, &self.machine.put(number, field, Input::from_text(text))?);
+            }
+            Err(refused) => say_refusal(reply, refused),
         }
+        Ok(())
     }
 
-    fn queue(&mut self, name: &[u8], answer: Answer) -> Result<Reply, AllocError>
+    #[inline(never)]
+    fn queue(
+        &mut self,
+        name: &[u8],
+        answer: Answer,
+        reply: &mut LineReply,
+    ) -> Result<(), AllocError>
+        requires { reply.old ≡ [] }
         ensures names { self.new.names ≡ self.old.names }
-        ensures told { IfOk result (λ reply. record { machine = machine_of self.new.machine; reply = reply } ≡ answers_next record_rules self.old.names (machine_of self.old.machine) answer (number_of self.old.names name.now)) }
+        ensures machine { OnOk result (machine_of self.new.machine ≡ (answers_next record_rules self.old.names (machine_of self.old.machine) answer (number_of self.old.names name.now)).machine) }
+        ensures said { OnOk result (reply.new ≡ reply_words (answers_next record_rules self.old.names (machine_of self.old.machine) answer (number_of self.old.names name.now)).reply ++ 10 ∷ []) }
     {
         match self.names.find(name) {
-            Some(number) => self.machine.queue(number, answer),
-            None => Ok(Reply::Refused(IocError::NoRecord)),
+            Some(number) => say_reply(reply, &self.machine.queue(number, answer)?),
+            None => say_refusal(reply, IocError::NoRecord),
         }
+        Ok(())
     }
 
-    fn complete(&mut self, name: &[u8], wait: u64, finished: Finished) -> Result<Reply, AllocError>
+    #[inline(never)]
+    fn queue_done(
+        &mut self,
+        name: &[u8],
+        text: &[u8],
+        reply: &mut LineReply,
+    ) -> Result<(), AllocError>
+        requires { reply.old ≡ [] }
+        ensures names { self.new.names ≡ self.old.names }
+        ensures machine { OnOk result (machine_of self.new.machine ≡ (answers_next record_rules self.old.names (machine_of self.old.machine) (Answer.Done (given_value text.now)) (number_of self.old.names name.now)).machine) }
+        ensures said { OnOk result (reply.new ≡ reply_words (answers_next record_rules self.old.names (machine_of self.old.machine) (Answer.Done (given_value text.now)) (number_of self.old.names name.now)).reply ++ 10 ∷ []) }
+    {
+        self.queue(name, Answer::Done(given_value(text)), reply)
+    }
+
+    #[inline(never)]
+    fn complete(&mut self, name: &[u8], wait: u64, finished: Finished, reply: &mut LineReply) -> Result<(), AllocError>
+        requires { reply.old ≡ [] }
         ensures names { self.new.names ≡ self.old.names }
         ensures machine { OnOk result (machine_of self.new.machine ≡ (were_completed record_rules self.old.names (machine_of self.old.machine) wait finished (number_of self.old.names name.now)).machine) }
-        ensures reply { IfOk result (λ reply. reply ≡ (were_completed record_rules self.old.names (machine_of self.old.machine) wait finished (number_of self.old.names name.now)).reply) }
+        ensures said { OnOk result (reply.new ≡ reply_words (were_completed record_rules self.old.names (machine_of self.old.machine) wait finished (number_of self.old.names name.now)).reply ++ 10 ∷ []) }
     {
         match self.names.find(name) {
-            Some(number) => self.machine.complete(number, wait, finished),
-            None => Ok(Reply::Refused(IocError::NoRecord)),
+            Some(number) => say_reply(reply, &self.machine.complete(number, wait, finished)?),
+            None => say_refusal(reply, IocError::NoRecord),
         }
+        Ok(())
     }
 
-    // Does what a line asks for.
-    #[tactic(auto, unfolding(crate::specs::Replay::carried_out))]
-    fn carry_out(&mut self, command: Command<'_>) -> Result<LineReply, AllocError>
+    #[inline(never)]
+    fn complete_done(&mut self, name: &[u8], wait: u64, text: &[u8], reply: &mut LineReply) -> Result<(), AllocError>
+        requires { reply.old ≡ [] }
         ensures names { self.new.names ≡ self.old.names }
-        ensures machine { IfOk result (λ said. machine_of self.new.machine ≡ (carried_out record_rules self.old.names (machine_of self.old.machine) (seen command.entry)).machine) }
-        ensures said { IfOk result (λ said. said ≡ (carried_out record_rules self.old.names (machine_of self.old.machine) (seen command.entry)).said) }
+        ensures machine { OnOk result (machine_of self.new.machine ≡ (were_completed record_rules self.old.names (machine_of self.old.machine) wait (Finished.Done (given_value text.now)) (number_of self.old.names name.now)).machine) }
+        ensures said { OnOk result (reply.new ≡ reply_words (were_completed record_rules self.old.names (machine_of self.old.machine) wait (Finished.Done (given_value text.now)) (number_of self.old.names name.now)).reply ++ 10 ∷ []) }
     {
-        match command {
-            Command::Silent => Ok(LineReply::new()),
-            Command::Bad => Ok(LineReply::cut(b"bad\n")),
-            Command::Process(record) => Ok(reply_line(self.process(record)?)),
-            Command::Put(record, field, text) => Ok(reply_line(self.put(record, field, text)?)),
-            Command::Get(record, field) => Ok(reply_line(self.get(record, field))),
+        self.complete(name, wait, Finished::Done(given_value(text)), reply)
+    }
+
+    #[inline(never)]
+    fn call(&mut self, list: Option<ListName>, reply: &mut LineReply) -> Result<(), AllocError>
+        requires { reply.old ≡ [] }
+        ensures names { self.new.names ≡ self.old.names }
+        ensures machine { OnOk result (machine_of self.new.machine ≡ (queued_on (machine_of self.old.machine) list).machine) }
+        ensures said { OnOk result (reply.new ≡ count_words (queued_on (machine_of self.old.machine) list).count ++ 10 ∷ []) }
+    {
+        let count = self.machine.call(list)?;
+        reply.extend(count_line(count).as_slice());
+        Ok(())
+    }
+
+    #[inline(never)]
+    fn scan(&mut self, list: &ListName, reply: &mut LineReply) -> Result<(), AllocError>
+        requires { reply.old ≡ [] }
+        ensures names { self.new.names ≡ self.old.names }
+        ensures machine { OnOk result (machine_of self.new.machine ≡ (scanned record_rules (machine_of self.old.machine) list.now).machine) }
+        ensures said { OnOk result (reply.new ≡ count_words (scanned record_rules (machine_of self.old.machine) list.now).count ++ 10 ∷ []) }
+    {
+        let count = self.machine.scan(list)?;
+        reply.extend(count_line(count).as_slice());
+        Ok(())
+    }
+
+    #[inline(never)]
+    fn tally(&self, reply: &mut LineReply)
+        requires { reply.old ≡ [] }
+        ensures { reply.new ≡ tally_words (machine_of self.now.machine).tally (machine_of self.now.machine).scanner.queues.dropped ++ 10 ∷ [] }
+    {
+        reply.extend(tally_line(self.machine.tally(), self.machine.dropped()).as_slice());
+    }
+
+    // Does what a line asks for, and says it.
+    #[tactic(auto, unfolding(crate::specs::Replay::carried_out))]
+    fn carry_out(&mut self, command: &Command<'_>, reply: &mut LineReply) -> Result<(), AllocError>
+        requires { reply.old ≡ [] }
+        ensures names { self.new.names ≡ self.old.names }
+        ensures machine { OnOk result (machine_of self.new.machine ≡ (carried_out record_rules self.old.names (machine_of self.old.machine) (seen command.now)).machine) }
+        ensures said { OnOk result (reply.new ≡ (carried_out record_rules self.old.names (machine_of self.old.machine) (seen command.now)).said) }
+    {
+        match *command {
+            Command::Silent => {}
+            Command::Bad => reply.extend(b"bad\n"),
+            Command::Process(record) => self.process(record, reply)?,
+            Command::Put(record, field, text) => self.put(record, field, text, reply)?,
+            Command::Get(record, field) => self.get(record, field, reply),
             Command::At(moment) => {
                 self.machine.set_moment(moment);
-                Ok(LineReply::cut(b"ok\n"))
+                reply.extend(b"ok\n");
             }
-            Command::NextDone(record, text) => {
-                Ok(reply_line(self.queue(record, Answer::Done(given_value(text)))?))
-            }
-            Command::NextFault(record) => Ok(reply_line(self.queue(record, Answer::Fault)?)),
-            Command::NextLater(record) => Ok(reply_line(self.queue(record, Answer::Later)?)),
-            Command::Done(record, wait, text) => {
-                let finished = Finished::Done(given_value(text));
-                Ok(reply_line(self.complete(record, wait, finished)?))
-            }
-            Command::Fault(record, wait) => {
-                Ok(reply_line(self.complete(record, wait, Finished::Fault)?))
-            }
-            Command::Event(name) => Ok(count_line(self.machine.call(event_list(Text::cut(name)))?)),
-            Command::Interrupt(word) => Ok(count_line(self.machine.call(interrupt_list(word))?)),
-            Command::Scan(period) => {
-                Ok(count_line(self.machine.scan(&ListName::Period(period))?))
-            }
-            Command::Tally => Ok(tally_line(self.machine.tally(), self.machine.dropped())),
+            Command::NextDone(record, text) => self.queue_done(record, text, reply)?,
+            Command::NextFault(record) => self.queue(record, Answer::Fault, reply)?,
+            Command::NextLater(record) => self.queue(record, Answer::Later, reply)?,
+            Command::Done(record, wait, text) => self.complete_done(record, wait, text, reply)?,
+            Command::Fault(record, wait) => self.complete(record, wait, Finished::Fault, reply)?,
+            Command::Event(name) => self.call(event_list(Text::cut(name)), reply)?,
+            Command::Interrupt(word) => self.call(interrupt_list(word), reply)?,
+            Command::Scan(period) => self.scan(&ListName::Period(period), reply)?,
+            Command::Tally => self.tally(reply),
         }
+        Ok(())
     }
 }
 
@@ -180,13 +263,13 @@ impl Session for Replay {
 
     /// Answers a line, and then serves the requests that wait.
     #[tactic(auto, unfolding(crate::specs::Replay::answered))]
-    fn answer(&mut self, line: &[u8]) -> Result<LineReply, AllocError> {
+    fn answer(&mut self, line: &[u8], reply: &mut LineReply) -> Result<(), AllocError> {
+        reply.clear();
         let command = Command::from_line(line);
-        let is_silent = command.is_silent();
-        let said = self.carry_out(command)?;
-        if !is_silent {
+        self.carry_out(&command, reply)?;
+        if !command.is_silent() {
             self.machine.serve()?;
         }
-        Ok(said)
+        Ok(())
     }
 }

@@ -1,11 +1,13 @@
 //! The line that tells a reply.
 ghost use Rattle.std.specs.Prelude.{◌≡◌, ◌+◌, ◌<◌, ◌++◌, ◌∷◌, [], length};
+ghost use Rattle.ioc_values.specs.Words.{refusal_words};
 ghost use Rattle.ioc_main.specs.Replay.{outcome_words, live_words, reply_words};
 
 use crate::counts::notify_line;
 use crate::session::LineReply;
 use ioc_ledger::Outcome;
 use ioc_process::Reply;
+use ioc_values::IocError;
 
 /// What the outcome of a request is called.
 #[tactic(auto, unfolding(crate::specs::Replay::outcome_words))]
@@ -28,29 +30,40 @@ fn live_words(live: bool) -> &'static str
     if live { "ok live" } else { "ok not live" }
 }
 
-// A line of words with something before them.
-fn line_of(front: &[u8], words: &[u8]) -> LineReply
-    requires { length front.now + length words.now < 128 }
-    ensures { result ≡ front.now ++ words.now ++ 10 ∷ [] }
+// A line of words.
+fn say_words(out: &mut LineReply, words: &[u8])
+    requires { length out.old + length words.now < 256 }
+    ensures { out.new ≡ out.old ++ words.now ++ 10 ∷ [] }
 {
-    let mut line = LineReply::new();
-    line.extend(front);
-    line.extend(words);
-    line.push(b'\n');
-    line
+    out.extend(words);
+    out.push(b'\n');
 }
 
-/// The line that tells a reply, its line feed included.
+/// Says a reply in a line, its line feed included.
 #[tactic(auto, using(crate::proofs::Words::outcome_short, crate::proofs::Words::live_short, crate::proofs::Words::refusal_short))]
-pub fn reply_line(reply: Reply) -> LineReply
-    ensures { result ≡ reply_words reply ++ 10 ∷ [] }
+pub fn say_reply(out: &mut LineReply, reply: &Reply)
+    requires { out.old ≡ [] }
+    ensures { out.new ≡ reply_words reply.now ++ 10 ∷ [] }
 {
     match reply {
-        Reply::Plain => line_of(b"", b"ok"),
-        Reply::Outcome(outcome) => line_of(b"", outcome_words(outcome).as_bytes()),
-        Reply::Shown(text) => line_of(b"= ", text.as_slice()),
-        Reply::Notify(number) => notify_line(number),
-        Reply::Live(live) => line_of(b"", live_words(live).as_bytes()),
-        Reply::Refused(refused) => line_of(b"", refused.words().as_bytes()),
+        Reply::Plain => say_words(out, b"ok"),
+        Reply::Outcome(outcome) => say_words(out, outcome_words(*outcome).as_bytes()),
+        Reply::Shown(text) => {
+            out.extend(b"= ");
+            say_words(out, text.as_slice());
+        }
+        Reply::Notify(number) => out.extend(notify_line(*number).as_slice()),
+        Reply::Live(live) => say_words(out, live_words(*live).as_bytes()),
+        Reply::Refused(refused) => say_refusal(out, *refused),
     }
+}
+
+/// Says a refusal in a line, its line feed included.
+#[inline(never)]
+#[tactic(auto, using(crate::proofs::Words::refusal_short))]
+pub fn say_refusal(out: &mut LineReply, refused: IocError)
+    requires { out.old ≡ [] }
+    ensures { out.new ≡ refusal_words refused ++ 10 ∷ [] }
+{
+    say_words(out, refused.words().as_bytes());
 }

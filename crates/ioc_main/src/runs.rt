@@ -16,9 +16,9 @@ use std::io::{Read, Write};
 /// # Errors
 ///
 /// [`RunFault::BadDb`] with the first fault of the database text; nothing is written then.
-/// [`RunFault::Memory`] where a growth was refused, [`RunFault::Read`] where a read of the script failed and [`RunFault::Write`]
-/// where a write did, be it that the writer took no byte; then what was written is a beginning of the transcript, and nothing more
-/// is written.
+/// [`RunFault::Memory`] where a growth was refused: in the load, and then nothing was written, or in a line of the script.
+/// [`RunFault::Read`] where a read of the script failed and [`RunFault::Write`] where a write did, be it that the writer took no
+/// byte. Where the script stopped, what was written is a beginning of the transcript, and nothing more is written.
 pub fn run<R: Read + Drop, W: Write>(
     alloc: Global,
     db: &[u8],

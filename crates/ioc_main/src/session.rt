@@ -1,25 +1,25 @@
 //! Who answers the lines of a script.
-ghost use Rattle.std.specs.Prelude.{◌≡◌, ◌∷◌, ◌++◌, [], List, ℕ, IfOk};
+ghost use Rattle.std.specs.Prelude.{◌≡◌, ◌∷◌, ◌++◌, [], List, ℕ, OnOk};
 ghost use Rattle.ioc_main.specs.Script.{cut};
 
-use ioc_values::Short;
+use ioc_values::Room;
 use std::alloc::AllocError;
 
 /// What is printed for one line, its line feed included: the counts of requests, of at most 20 digits each, are the longest.
-pub type LineReply = Short<256>;
+pub type LineReply = Room<256>;
 
 /// Who answers the lines of a script, one after the other.
 pub trait Session {
     /// What is printed for these lines.
     ghost transcript: { Self → List (List ℕ) → List ℕ };
 
-    /// Answers a line, which comes without its line feed.
+    /// Answers a line, which comes without its line feed: what was in the reply before is gone.
     ///
     /// # Errors
     ///
     /// [`AllocError`] where a growth was refused: nothing more may be asked then.
-    fn answer(&mut self, line: &[u8]) -> Result<LineReply, AllocError>
-        ensures { IfOk result (λ reply. (lines : List (List ℕ)) → transcript self.old (line.now ∷ lines) ≡ reply ++ transcript self.new lines) };
+    fn answer(&mut self, line: &[u8], reply: &mut LineReply) -> Result<(), AllocError>
+        ensures { OnOk result ((lines : List (List ℕ)) → transcript self.old (line.now ∷ lines) ≡ reply.new ++ transcript self.new lines) };
 
     ghost no_lines: { (s : Self) → transcript s [] ≡ [] };
 

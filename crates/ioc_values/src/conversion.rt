@@ -100,7 +100,9 @@ fn found_or_numbered(count: usize, found: Option<usize>, text: &[u8]) -> Option<
     }
 }
 
-/// A number in a field; none where it is out of range or no choice has it.
+/// A number in a field; none where it is out of range or no choice has it. This isn't inlined, so that the conversion of a text
+/// doesn't clear what a number wants.
+#[inline(never)]
 #[tactic(auto, unfolding(crate::specs::Conversion::of_number, crate::specs::Conversion::sort_of))]
 pub fn of_number(kind: Kind<'_>, number: i64) -> Option<Value>
     ensures { result ≡ of_number (sort_of kind.entry) number }

@@ -6,6 +6,7 @@ pub mod error;
 pub mod input;
 pub mod kind;
 pub mod number;
+pub mod room;
 pub mod short;
 pub mod trim;
 pub mod value;
@@ -14,6 +15,7 @@ pub use conversion::{convert, of_number};
 pub use error::{BadDbKind, DbFault, IocError};
 pub use input::{Input, convert_input, convert_text};
 pub use kind::{Kind, Range};
+pub use room::Room;
 pub use short::{
     FieldName, MAX_FIELD_NAME_BYTES, MAX_NAME_BYTES, MAX_TEXT_BYTES, Name, Short, Text,
 };

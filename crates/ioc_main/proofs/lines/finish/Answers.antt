@@ -9,8 +9,8 @@ returns-in-empty-clause-ok g c =
 
 pub returns-in-len1-up-clause-ok : goal.returns-in-len1-up-clause-ok
 returns-in-len1-up-clause-ok g c =
-    on_ok_weaker c.end_line.result (λ p. last_ends (g.S.Session.transcript c.args.session.now) (g.S.Session.transcript c.end_line.new.session) _ _ c.args.line.now c.as_slice.result.now c.as_slice.ensures.value c.in-len1-up.len_at_least (g.met.S.Session.no_lines c.end_line.new.session) (p.1 [])) c.end_line.ensures.ok
+    on_ok_weaker c.say.result (λ p. last_ends (g.S.Session.transcript c.args.session.now) (g.S.Session.transcript c.say.new.session) _ _ c.args.line.now c.as_slice.result.now c.as_slice-in-len1-up.result.now c.as_slice.ensures.value c.in-len1-up.len_at_least c.as_slice-in-len1-up.ensures.value (g.met.S.Session.no_lines c.say.new.session) (p [])) c.say.ensures.ok
 
 pub returns-in-len1-up-clause-err : goal.returns-in-len1-up-clause-err
 returns-in-len1-up-clause-err g c =
-    IfErr-weaker c.end_line.result _ _ (λ fault p. last_fails (g.S.Session.transcript c.args.session.now) fault _ _ c.args.line.now c.as_slice.result.now c.as_slice.ensures.value c.in-len1-up.len_at_least (p [])) c.end_line.ensures.err
+    IfErr-weaker c.say.result _ _ (λ fault p. last_fails (g.S.Session.transcript c.args.session.now) fault _ _ c.args.line.now c.as_slice.result.now c.as_slice-in-len1-up.result.now c.as_slice.ensures.value c.in-len1-up.len_at_least c.as_slice-in-len1-up.ensures.value (p [])) c.say.ensures.err
