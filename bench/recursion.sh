@@ -49,7 +49,9 @@ for name in frames recursion; do
 done
 process="$folder/recursion/crates/ioc_process/src"
 cp "$bench/recursion.txt" "$process/process.rt"
-echo '//! Nothing: what a body does once it has its input stands in process.rt.' > "$process/finishing.rt"
+for file in disabling reading finishing; do
+  echo '//! Nothing: it stands in process.rt.' > "$process/$file.rt"
+done
 for name in frames recursion; do
   build "$name"
   count "$name"

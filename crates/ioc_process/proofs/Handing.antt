@@ -28,7 +28,6 @@ pub handed-idle : {R : Type 0} (k : RecordRules R) → IsLawful k → (w : World
 handed-idle k lawful w s t by_put =
     omega (arith, passed_on-idle k lawful (changed k w t (put_mark_passed by_put)) s t, (stays-changed k lawful w t (put_mark_passed by_put) (passed-active by_put _)).fewer)
 
-
 taken_on-common : {R : Type 0} (k : RecordRules R) (number : ℕ) (w : World R) (m : ℕ) → common_at k (taken_on number w) m ≡ common_at k w m
 unfolding at taken_on
 taken_on-common k number w m = refl

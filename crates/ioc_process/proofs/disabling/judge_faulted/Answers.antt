@@ -2,7 +2,7 @@ use Rattle.std.proofs.Common.{◌∙◌, arith}
 use Rattle.ioc_process.proofs.Depth.{faulted-stays}
 use Rattle.ioc_process.proofs.Keeping.{faulted-keeps, closed_on}
 use Rattle.ioc_process.proofs.Turning.{turns_on}
-use Rattle.ioc_process.proofs.process.judge_faulted.Goals as goal
+use Rattle.ioc_process.proofs.disabling.judge_faulted.Goals as goal
 
 pub judge-requires-clause-there : goal.judge-requires-clause-there
 judge-requires-clause-there g c =

@@ -5,7 +5,7 @@ use Rattle.ioc_process.proofs.Depth.{stays_on, disable_came-stays}
 use Rattle.ioc_process.proofs.Keeping.{closed_on, keeps_on, disable_came-keeps}
 use Rattle.ioc_process.proofs.FrameSteps.{read_at-stays, read_at-keeps, came_read, came-judged}
 use Rattle.ioc_process.proofs.Turning.{turns_on}
-use Rattle.ioc_process.proofs.process.take_disable.Goals as goal
+use Rattle.ioc_process.proofs.disabling.take_disable.Goals as goal
 
 pub take_disable_input-requires : goal.take_disable_input-requires
 take_disable_input-requires g c =

@@ -5,7 +5,7 @@ use Rattle.ioc_process.proofs.Answering.{begins_same}
 use Rattle.ioc_process.proofs.FrameSteps.{after_disable-calls, after_disable-plain}
 use Rattle.ioc_process.proofs.FrameTurns.{turn_pushed, opens_pushed}
 use Rattle.ioc_process.proofs.Turning.{turns_on, turns_calls}
-use Rattle.ioc_process.proofs.process.begin_disable.Goals as goal
+use Rattle.ioc_process.proofs.disabling.begin_disable.Goals as goal
 
 pub returns-then-passes_on-clause-turn : goal.returns-then-passes_on-clause-turn
 returns-then-passes_on-clause-turn g c = λ answers begins.

@@ -7,7 +7,7 @@ use Rattle.ioc_process.proofs.Alongside.{disabled-links}
 use Rattle.ioc_process.proofs.Answering.{begins_same}
 use Rattle.ioc_process.proofs.FrameSteps.{judged-off, judged-on}
 use Rattle.ioc_process.proofs.Turning.{turns_ended}
-use Rattle.ioc_process.proofs.process.judge.Goals as goal
+use Rattle.ioc_process.proofs.disabling.judge.Goals as goal
 use Rattle.ioc_process.specs.Notifying.{notified}
 
 pub returns-then-is_disabled-clause-turn : goal.returns-then-is_disabled-clause-turn

@@ -1,0 +1,144 @@
+//! SDIS: a request reads it before anything else, and leaves a record alone that is disabled.
+ghost use Rattle.std.specs.Prelude.{◌≡◌, ◌<◌, ℕ, List, [], true, false, vec_len};
+ghost use Rattle.std.specs.Vec.{vec_capacity};
+ghost use Rattle.ioc_common.specs.Steps.{disable_kind};
+ghost use Rattle.ioc_process.specs.World.{Has, common_at, IsClosed};
+ghost use Rattle.ioc_process.specs.Given.{Begins};
+ghost use Rattle.ioc_process.specs.Runs.{ForAnswers, IsStanding};
+ghost use Rattle.ioc_process.specs.Processing.{faulted, request, judged, read_at, disable_came, read_link, read_record};
+ghost use Rattle.ioc_process.specs.Frames.{after_disable, after_turn, turn_of, Opens, most_calls, most_of_request, Turns};
+
+use crate::frames::{Frame, Next, Place};
+use crate::inputs::{fault_link, read_value};
+use crate::notifying::tell;
+use crate::reading::begin_body;
+use crate::steps::{disable, is_disabled, passes_on, set_active, take_disable_input};
+use crate::store::Store;
+use ioc_common::{LinkUse, StandingLink, disable_kind};
+use ioc_ledger::Outcome;
+use ioc_names::RecordNo;
+
+/// A request reads SDIS.
+#[tactic(auto, unfolding(crate::specs::Processing::read_link, crate::specs::Processing::ran_after, crate::specs::Processing::disable_came, crate::specs::Frames::after_disable))]
+#[inline(always)]
+pub fn read_disable<S: Store>(
+    store: &mut S,
+    frames: &mut Vec<Frame>,
+    number: RecordNo,
+    link: LinkUse,
+) -> Next
+    requires there { Has (S.world store.old) number }
+    requires closed { IsClosed S.Record.rules (S.world store.old) }
+    requires is_idle { (common_at S.Record.rules (S.world store.old) number).active ≡ false }
+    requires room { vec_len frames.old < vec_capacity frames.old }
+    requires standing { IsStanding (S.world store.old) link }
+    ensures turn { ForAnswers (S.given store.new) (λ answers.
+        after_disable S.Record.rules answers number (read_link S.Record.rules (request S.Record.rules answers) (λ _. disable_kind) (S.world store.old) number link) ≡ after_turn S.Record.rules answers (S.world store.new) (turn_of frames.new.items result)) }
+    ensures given { Begins S.Device.gives (S.given store.old) (S.given store.new) }
+    ensures turns { Turns S.Record.rules (S.world store.old) (S.world store.new) 0 most_of_request (turn_of frames.new.items result) }
+    ensures opens { Opens frames.old.items frames.new.items result }
+    ensures room { vec_capacity frames.new ≡ vec_capacity frames.old }
+{
+    match link {
+        LinkUse::Unused => judge(store, frames, number),
+        LinkUse::OwnDevice => judge_faulted(store, frames, number),
+        LinkUse::Absent => judge_faulted(store, frames, number),
+        LinkUse::Standing(target) => begin_disable(store, frames, number, target),
+    }
+}
+
+// A request has read SDIS by a link that gave a fault.
+fn judge_faulted<S: Store>(store: &mut S, frames: &mut Vec<Frame>, number: RecordNo) -> Next
+    requires there { Has (S.world store.old) number }
+    requires closed { IsClosed S.Record.rules (S.world store.old) }
+    requires is_idle { (common_at S.Record.rules (S.world store.old) number).active ≡ false }
+    requires room { vec_len frames.old < vec_capacity frames.old }
+    ensures turn { ForAnswers (S.given store.new) (λ answers.
+        judged S.Record.rules answers (request S.Record.rules answers) (faulted S.Record.rules (S.world store.old) number) number ≡ after_turn S.Record.rules answers (S.world store.new) (turn_of frames.new.items result)) }
+    ensures given { Begins S.Device.gives (S.given store.old) (S.given store.new) }
+    ensures turns { Turns S.Record.rules (S.world store.old) (S.world store.new) 0 most_calls (turn_of frames.new.items result) }
+    ensures opens { Opens frames.old.items frames.new.items result }
+    ensures room { vec_capacity frames.new ≡ vec_capacity frames.old }
+{
+    fault_link(store, number);
+    judge(store, frames, number)
+}
+
+/// A request reads SDIS from a record; before it reads a link with PP, it requests the record that the link names.
+fn begin_disable<S: Store>(
+    store: &mut S,
+    frames: &mut Vec<Frame>,
+    number: RecordNo,
+    target: StandingLink,
+) -> Next
+    requires there { Has (S.world store.old) number }
+    requires closed { IsClosed S.Record.rules (S.world store.old) }
+    requires is_idle { (common_at S.Record.rules (S.world store.old) number).active ≡ false }
+    requires room { vec_len frames.old < vec_capacity frames.old }
+    requires standing { Has (S.world store.old) target.number }
+    ensures turn { ForAnswers (S.given store.new) (λ answers.
+        after_disable S.Record.rules answers number (read_record S.Record.rules (request S.Record.rules answers) (λ _. disable_kind) (S.world store.old) number target) ≡ after_turn S.Record.rules answers (S.world store.new) (turn_of frames.new.items result)) }
+    ensures given { Begins S.Device.gives (S.given store.old) (S.given store.new) }
+    ensures turns { Turns S.Record.rules (S.world store.old) (S.world store.new) 0 most_of_request (turn_of frames.new.items result) }
+    ensures opens { Opens frames.old.items frames.new.items result }
+    ensures room { vec_capacity frames.new ≡ vec_capacity frames.old }
+{
+    let called = target.number;
+    if passes_on(store, target.process_passive, called) {
+        set_active(store, number, true);
+        frames.push_reserved(Frame {
+            source: number,
+            place: Place::ReadingDisable(target),
+        });
+        Next::Requests
+    } else {
+        take_disable(store, frames, number, target)
+    }
+}
+
+/// The request of a record has read SDIS, and goes on.
+pub fn take_disable<S: Store>(
+    store: &mut S,
+    frames: &mut Vec<Frame>,
+    number: RecordNo,
+    target: StandingLink,
+) -> Next
+    requires there { Has (S.world store.old) number }
+    requires closed { IsClosed S.Record.rules (S.world store.old) }
+    requires is_idle { (common_at S.Record.rules (S.world store.old) number).active ≡ false }
+    requires room { vec_len frames.old < vec_capacity frames.old }
+    requires standing { Has (S.world store.old) target.number }
+    ensures turn { ForAnswers (S.given store.new) (λ answers.
+        (let read = read_at S.Record.rules (λ _. disable_kind) (S.world store.old) number target in judged S.Record.rules answers (request S.Record.rules answers) (disable_came S.Record.rules read.world number read.came) number) ≡ after_turn S.Record.rules answers (S.world store.new) (turn_of frames.new.items result)) }
+    ensures given { Begins S.Device.gives (S.given store.old) (S.given store.new) }
+    ensures turns { Turns S.Record.rules (S.world store.old) (S.world store.new) 0 most_calls (turn_of frames.new.items result) }
+    ensures opens { Opens frames.old.items frames.new.items result }
+    ensures room { vec_capacity frames.new ≡ vec_capacity frames.old }
+{
+    let got = read_value(store, number, target, disable_kind());
+    take_disable_input(store, number, got);
+    judge(store, frames, number)
+}
+
+/// A request has read SDIS: a record that is disabled is left alone, and else its body begins.
+#[inline(always)]
+fn judge<S: Store>(store: &mut S, frames: &mut Vec<Frame>, number: RecordNo) -> Next
+    requires there { Has (S.world store.old) number }
+    requires closed { IsClosed S.Record.rules (S.world store.old) }
+    requires is_idle { (common_at S.Record.rules (S.world store.old) number).active ≡ false }
+    requires room { vec_len frames.old < vec_capacity frames.old }
+    ensures turn { ForAnswers (S.given store.new) (λ answers.
+        judged S.Record.rules answers (request S.Record.rules answers) (S.world store.old) number ≡ after_turn S.Record.rules answers (S.world store.new) (turn_of frames.new.items result)) }
+    ensures given { Begins S.Device.gives (S.given store.old) (S.given store.new) }
+    ensures turns { Turns S.Record.rules (S.world store.old) (S.world store.new) 0 most_calls (turn_of frames.new.items result) }
+    ensures opens { Opens frames.old.items frames.new.items result }
+    ensures room { vec_capacity frames.new ≡ vec_capacity frames.old }
+{
+    if is_disabled(store, number) {
+        tell(store, number);
+        disable(store, number);
+        Next::Ends(Outcome::Disabled)
+    } else {
+        begin_body(store, frames, number)
+    }
+}
