@@ -113,3 +113,22 @@ module _ {R : Type 0} (k : RecordRules R) (number : ℕ) where
   unfolding at
   cancelled-free_at w P free n has =
       subst (λ (o : Option R). P (unwrap_or o k.missing)) (sym (get-cancelled w n)) (free_at P free (get w.records n) (subst (λ (o : Option R). IsTrue (is_some o)) (get-cancelled w n) has))
+
+  -- the record at a place: freed, where there is one
+  mapped_at : (o : Option R) (b : Bool) → is_some o ≡ b → unwrap_or (option_mapped (freed k number) o) k.missing ≡ cond b (freed k number (unwrap_or o k.missing)) k.missing
+  mapped_at None true is = cc
+  mapped_at None false is = refl
+  mapped_at (Some r) true is = refl
+  mapped_at (Some r) false is = cc
+
+  pub at_cancelled-is : (w : World R) (n : ℕ) (b : Bool) → contains_key w.records n ≡ b → at k (cancelled k number w) n ≡ cond b (freed k number (at k w n)) k.missing
+  unfolding at
+  at_cancelled-is w n b is = ap (λ (o : Option R). unwrap_or o k.missing) (get-cancelled w n) ∙ mapped_at (get w.records n) b is
+
+  missing_at : (o : Option R) → is_some o ≡ false → unwrap_or o k.missing ≡ k.missing
+  missing_at None is = refl
+  missing_at (Some r) is = cc
+
+  pub at_missing : (w : World R) (n : ℕ) → contains_key w.records n ≡ false → at k w n ≡ k.missing
+  unfolding at
+  at_missing w n is = missing_at (get w.records n) is

@@ -23,6 +23,7 @@ mod StepLaws
 mod Quieting
 mod LinkChanges
 mod QuietEvents
+mod KeptRecords
 mod StartsLocal
 mod LocalEvents
 mod NoneReady

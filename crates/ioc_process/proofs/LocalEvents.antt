@@ -8,7 +8,7 @@ use Rattle.ioc_values.specs.declared.error.IocError.TheVariants.{NoRecord, NoFie
 use Rattle.ioc_values.specs.declared.input.Input.{Input}
 use Rattle.ioc_values.specs.declared.value.Finished.{Finished}
 use Rattle.ioc_common.specs.declared.common.Common.{Common}
-use Rattle.ioc_common.specs.Steps.{with_put_mark, with_reprocess_mark}
+use Rattle.ioc_common.specs.Steps.{with_put_mark, with_reprocess_mark, with_notification}
 use Rattle.ioc_ledger.specs.declared.outcome.Outcome.{Outcome}
 use Rattle.ioc_fields.specs.declared.field_no.FieldNo.{FieldNo}
 use Rattle.ioc_fields.specs.Table.{row_of}
@@ -21,24 +21,27 @@ use Rattle.ioc_common.specs.Links.{use_of, named_by}
 use Rattle.ioc_record.specs.Laws.{IsLawful}
 use Rattle.ioc_process.specs.declared.reply.Reply.{Reply}
 use Rattle.ioc_process.specs.declared.reply.Reply.TheVariants.{Plain, Outcome as Outcome-reply, Shown, Notify as Notify-reply, Live as Live-reply}
-use Rattle.ioc_process.specs.World.{World, at, common_at, put, changed, has_place, admitted, queued}
+use Rattle.ioc_process.specs.World.{World, at, common_at, put, changed, has_place, admitted, queued, cancelled, freed, is_notification}
+use Rattle.std.specs.Prelude.{None as Nothing_}
 use Rattle.ioc_process.specs.Scanning.{device_of, rewired}
-use Rattle.ioc_process.specs.Local.{Shut, Same, AgreeEvent, EventIsLocal}
+use Rattle.ioc_process.specs.Local.{Shut, Same, CancelsWithin, AgreeEvent, EventIsLocal}
+use Rattle.ioc_notify.specs.Waits.{without}
+use Rattle.ioc_process.proofs.Freeing.{at_cancelled-is, at_missing, at_cancelled-either}
 use Rattle.ioc_process.specs.declared.event.Event.{Event}
 use Rattle.ioc_process.specs.declared.event.Event.TheVariants.{Get, Process, Put, Complete, Link, Notify, Cancel, IsLive}
-use Rattle.ioc_process.specs.Step.{Stepped, is_there, is_cancel, names, all_there, relinked, processes, awaits, refused, told, after_put, after_completion, put_with, begun_or_queued, notify_with, lets_start, done_there, done_alone, with_starts, stepped}
+use Rattle.ioc_process.specs.Step.{Stepped, is_there, names, all_there, relinked, processes, awaits, refused, told, after_put, after_completion, put_with, begun_or_queued, notify_with, lets_start, done_there, done_alone, with_starts, stepped}
 use Rattle.ioc_process.specs.Starting.{value_to_put, must_wait, started}
 use Rattle.ioc_process.proofs.StartsLocal.{both_followed, started-goes, all-goes}
 use Rattle.ioc_process.proofs.Waitings.{alone-within}
 use Rattle.ioc_notify.specs.declared.waiting_lists.Waiting.{Waiting}
 use Rattle.ioc_notify.specs.declared.live_numbers.Live.{Live}
-use Rattle.ioc_notify.specs.Living.{is_live, begun}
+use Rattle.ioc_notify.specs.Living.{is_live, begun, forgotten}
 use Rattle.std.specs.List.{list_any}
 use Rattle.ioc_values.specs.declared.value.Value.{Value}
 use Rattle.ioc_process.proofs.LinkChanges.{linked-names, all-alike}
 use Rattle.ioc_process.proofs.Locality.{Within, Along, guards, along}
 use Rattle.ioc_process.proofs.Alongside.{changed-goes, rescanned-goes, rewired-goes, ran-goes, at_last-goes}
-use Rattle.ioc_process.proofs.StepFrames.{OwnLinks}
+use Rattle.ioc_process.proofs.StepFrames.{OwnLinks, targets-set}
 use Rattle.ioc_process.specs.Processing.{ran}
 use Rattle.ioc_process.proofs.Stepping.{step-there, step-missing, put_targets}
 use Rattle.ioc_process.specs.Given.{Answers}
@@ -275,18 +278,76 @@ module _ {R : Type 0} (k : RecordRules R) (lawful : IsLawful k) (U : ℕ → Typ
         subst (λ (r : R). AgreeEvent k U w v (notify_with k answers w s number field (value_to_put k (at k w s) field given)) (notify_with k answers v s number field (value_to_put k r field given)))
         (same.records s u) (notify_with-local s number field _ u)
 
-    there-local : (event : Event) → is_cancel event ≡ false → ((n : ℕ) → Contains (names event) n → U n) → ((n : ℕ) → Contains (names event) n → contains_key w.records n ≡ contains_key v.records n)
+    -- a cancel
+    same-cancelled : (number n : ℕ) → contains_key w.records n ≡ contains_key v.records n → at k w n ≡ at k v n → at k (cancelled k number w) n ≡ at k (cancelled k number v) n
+    same-cancelled number n there is =
+        at_cancelled-is k number w n (contains_key v.records n) there ∙ ap (λ (r : R). cond {A = R} (contains_key v.records n) (freed k number r) k.missing) is
+        ∙ sym (at_cancelled-is k number v n (contains_key v.records n) refl)
+
+    spared-cancelled : (a : World R) (number n : ℕ) → (is_notification number (common_at k a n).notification ≡ true → ⊥) → at k (cancelled k number a) n ≡ at k a n
+    spared-cancelled a number n none =
+        elim (contains_key a.records n) as (λ b. contains_key a.records n ≡ b → at k (cancelled k number a) n ≡ at k a n) [
+          | true ↦ λ there. at_cancelled-is k number a n true there
+              ∙ elim (is_notification number (common_at k a n).notification) as (λ b. is_notification number (common_at k a n).notification ≡ b
+              → cond b (k.with_common (at k a n) (with_notification Nothing_ (common_at k a n))) (at k a n) ≡ at k a n) [
+                | true ↦ λ held. absurd (none held)
+                | false ↦ λ _. refl
+              ] refl
+          | false ↦ λ missing. at_cancelled-is k number a n false missing ∙ sym (at_missing k number a n missing)
+        ] refl
+
+    shut-cancelled : (number n target : ℕ) → Contains (targets k (at k (cancelled k number w) n)) target → Contains (targets k (at k w n)) target
+    shut-cancelled number n target =
+        at_cancelled-either k number (λ r r'. Contains (targets k r') target → Contains (targets k r) target) (λ r h. h)
+        (λ r h. subst (λ (l : List ℕ). Contains l target) (targets-set k lawful r (with_notification Nothing_ (k.common r)) (refl, refl)) h) w n
+
+    cancelled-same : (number : ℕ) → ((n : ℕ) → U n → at k (cancelled k number w) n ≡ at k (cancelled k number v) n) → Same k U (cancelled k number w) (cancelled k number v)
+    unfolding cancelled
+    cancelled-same number records = record {
+      moment = same.moment;
+      calls = same.calls;
+      outbox = same.outbox;
+      dropped = same.dropped;
+      live = ap (forgotten number) same.live;
+      ended = same.ended;
+      waiting = ap (without number) same.waiting;
+      records = records;
+    }
+
+    cancel-agrees : (number : ℕ) → CancelsWithin k U w v (Cancel number) → AgreeEvent k U w v (made (cancelled k number w) Plain None) (made (cancelled k number v) Plain None)
+    cancel-agrees number cancels = record {
+      same = cancelled-same number (λ n u. same-cancelled number n (cancels.there number n refl u) (same.records n u));
+      reply = refl;
+      requests = refl;
+      shut = record { shut = λ n target u h. shut.shut n target u (shut-cancelled number n target h) };
+      spares = record { spared = λ n out. spared-cancelled w number n (λ held. out (cancels.holders number n refl held)) };
+      other_spares = record { spared = λ n out. spared-cancelled v number n (λ held. out (cancels.other_holders number n refl held)) };
+    }
+
+    abbrev cancels-at : ℕ → Bool → World R → Stepped R
+    cancels-at number live a = cond {A = Stepped R} live (made (cancelled k number a) Plain None) (refused a Stale)
+
+    cancels-local : (number : ℕ) → CancelsWithin k U w v (Cancel number) → (live : Bool) → AgreeEvent k U w v (cancels-at number live w) (cancels-at number live v)
+    cancels-local number cancels true = cancel-agrees number cancels
+    cancels-local number cancels false = unchanged w v shut same _ _
+
+    cancel-local : (number : ℕ) → CancelsWithin k U w v (Cancel number) → AgreeEvent k U w v (done_there k answers w (Cancel number)) (done_there k answers v (Cancel number))
+    unfolding done_there
+    cancel-local number cancels =
+        subst (λ (l : List Live). AgreeEvent k U w v (cancels-at number (is_live number w.live) w) (cancels-at number (is_live number l) v)) same.live (cancels-local number cancels _)
+
+    there-local : (event : Event) → CancelsWithin k U w v event → ((n : ℕ) → Contains (names event) n → U n) → ((n : ℕ) → Contains (names event) n → contains_key w.records n ≡ contains_key v.records n)
         → AgreeEvent k U w v (done_there k answers w event) (done_there k answers v event)
-    there-local (Get s field) kept within alike = get-local w v shut same s field (within s (0, omega arith, refl))
-    there-local (Process s) kept within alike = process-local s (within s (0, omega arith, refl))
-    there-local (Put s field given) kept within alike = put-local s field given (within s (0, omega arith, refl))
-    there-local (Complete s number x) kept within alike = complete-local s number x (within s (0, omega arith, refl))
-    there-local (Link s field link) kept within alike =
+    there-local (Get s field) _ within alike = get-local w v shut same s field (within s (0, omega arith, refl))
+    there-local (Process s) _ within alike = process-local s (within s (0, omega arith, refl))
+    there-local (Put s field given) _ within alike = put-local s field given (within s (0, omega arith, refl))
+    there-local (Complete s number x) _ within alike = complete-local s number x (within s (0, omega arith, refl))
+    there-local (Link s field link) _ within alike =
         let led = named_by (use_of link) in
         link-local s field link (within s (0, omega arith, refl)) (λ n h. within n (Contains-append_right (s ∷ []) led n h)) (all-alike w v led (λ n h. alike n (Contains-append_right (s ∷ []) led n h)))
-    there-local (Notify s number field given) kept within alike = notify-local s number field given (within s (0, omega arith, refl))
-    there-local (Cancel number) kept within alike = cc
-    there-local (IsLive number) kept within alike = live-local number
+    there-local (Notify s number field given) _ within alike = notify-local s number field given (within s (0, omega arith, refl))
+    there-local (Cancel number) cancels within alike = cancel-local number cancels
+    there-local (IsLive number) _ within alike = live-local number
 
     -- the record of the event is there in both or in neither
     there-alike : (event : Event) → ((n : ℕ) → Contains (names event) n → contains_key w.records n ≡ contains_key v.records n) → is_there w event ≡ is_there v event
@@ -299,12 +360,12 @@ module _ {R : Type 0} (k : RecordRules R) (lawful : IsLawful k) (U : ℕ → Typ
     there-alike (Cancel number) alike = refl
     there-alike (IsLive number) alike = refl
 
-    alone-local : (event : Event) → is_cancel event ≡ false → ((n : ℕ) → Contains (names event) n → U n) → ((n : ℕ) → Contains (names event) n → contains_key w.records n ≡ contains_key v.records n)
+    alone-local : (event : Event) → CancelsWithin k U w v event → ((n : ℕ) → Contains (names event) n → U n) → ((n : ℕ) → Contains (names event) n → contains_key w.records n ≡ contains_key v.records n)
         → AgreeEvent k U w v (done_alone k answers w event) (done_alone k answers v event)
-    alone-local event kept within alike =
+    alone-local event cancels within alike =
         let both = there-alike event alike in
         elim (is_there w event) as (λ b. is_there w event ≡ b → AgreeEvent k U w v (done_alone k answers w event) (done_alone k answers v event)) [
-          | true ↦ λ is. rw (step-there k answers w event is, step-there k answers v event (sym both ∙ is)) (there-local event kept within alike)
+          | true ↦ λ is. rw (step-there k answers w event is, step-there k answers v event (sym both ∙ is)) (there-local event cancels within alike)
           | false ↦ λ is. rw (step-missing k answers w event is, step-missing k answers v event (sym both ∙ is)) (unchanged w v shut same _ _)
         ] refl
 
@@ -318,9 +379,9 @@ module _ {R : Type 0} (k : RecordRules R) (lawful : IsLawful k) (U : ℕ → Typ
 
   pub event-local : EventIsLocal k U answers
   unfolding stepped
-  event-local w v event kept shut same waits within alike =
+  event-local w v event shut same waits cancels within alike =
       let first = done_alone k answers w event in
       let other = done_alone k answers v event in
-      let agree = alone-local w v shut same event kept within alike in
+      let agree = alone-local w v shut same event cancels within alike in
       subst (λ (r : Reply). AgreeEvent k U w v (cond {A = Stepped R} (lets_start event first.reply) (with_starts k answers first) first) (cond {A = Stepped R} (lets_start event r) (with_starts k answers other) other)) agree.reply
-      (starts-local w v shut same first other (lets_start event first.reply) agree (alone-within k lawful answers U w event kept within waits.within))
+      (starts-local w v shut same first other (lets_start event first.reply) agree (alone-within k lawful answers U w event within waits.within))

@@ -1,8 +1,7 @@
 -- Starts of puts with notification look at the records of U, and change these alone.
-use Rattle.std.proofs.Common.{◌≡◌, ℕ, zero, suc, Bool, true, false, cond, not, nat_eq, List, [], ◌∷◌, length, Option, Some, None as Nothing_, is_some, unwrap_or, refl, sym, ap, subst, ◌∙◌, inl, inr, arith}
+use Rattle.std.proofs.Common.{◌≡◌, ℕ, zero, suc, Bool, true, false, cond, not, List, [], ◌∷◌, length, Option, Some, None as Nothing_, is_some, unwrap_or, refl, sym, ap, subst, ◌∙◌, arith}
 use Rattle.std.specs.Prelude.{Contains, ◌&&◌}
 use Rattle.std.specs.FinMap.{get, contains_key}
-use Rattle.std.proofs.lemmas.List.Elements.{Contains-append_cases}
 use Rattle.ioc_values.specs.declared.value.Value.{Value}
 use Rattle.ioc_fields.specs.declared.field_no.FieldNo.{FieldNo}
 use Rattle.ioc_ledger.specs.Requests.{Requests, None, followed_by}
@@ -18,24 +17,11 @@ use Rattle.ioc_process.specs.Processing.{Done, request}
 use Rattle.ioc_process.specs.Starting.{processes, sooner, is_ready, next_from, next_waiting, taken_and_stored, started, started_then, started_most, all_started}
 use Rattle.ioc_process.proofs.Locality.{Within, Along, guards}
 use Rattle.ioc_process.proofs.Alongside.{Goes, changed-goes, rescanned-goes, notified-goes, request-goes}
-use Rattle.ioc_process.proofs.StartRules.{IsBest, best-next, is-next, waits-there, one_item}
-use Rattle.ioc_process.proofs.Waitings.{started-waiting}
+use Rattle.ioc_process.proofs.StartRules.{IsBest, best-next, is-next, waits-there}
+use Rattle.ioc_process.proofs.Waitings.{waited, started-waiting}
 
 pub both_followed : {a b c d : Requests} → a ≡ b → c ≡ d → followed_by a c ≡ followed_by b d
 both_followed {a} {b} {c} {d} one two = ap (λ (x : Requests). followed_by x c) one ∙ ap (followed_by b) two
-
--- those that wait without one of them all waited
-pub waited : (number : ℕ) (xs : List Waiting) (x : Waiting) → Contains (without number xs) x → Contains xs x
-waited number [] x h = h
-waited number (y ∷ xs) x h =
-    let later : Contains (without number xs) x → Contains (y ∷ xs) x = λ c. let i = waited number xs x c in (suc i.0, omega (arith, i.1), i.2) in
-    elim (not (nat_eq y.number number)) as (λ b. Contains (cond b (y ∷ without number xs) (without number xs)) x → Contains (y ∷ xs) x) [
-      | true ↦ λ c. elim (Contains-append_cases (y ∷ []) (without number xs) x c) [
-        | inl here ↦ (0, omega arith, one_item y x here)
-        | inr there ↦ later there
-      ]
-      | false ↦ later
-    ] h
 
 none-there : {R : Type 0} (k : RecordRules R) → IsLawful k → (o : Option R) → is_some o ≡ false → (k.common (unwrap_or o k.missing)).active ≡ true
 none-there k lawful Nothing_ isnt = lawful.missing_is_active

@@ -1,5 +1,5 @@
 -- A request leaves alone who waits.
-use Rattle.std.proofs.Common.{◌≡◌, ℕ, zero, suc, Bool, true, false, cond, List, [], ◌∷◌, ◌++◌, length, is_some, refl, ap, subst, ◌∙◌, inl, inr, arith}
+use Rattle.std.proofs.Common.{◌≡◌, nat_eq, ℕ, zero, suc, Bool, true, false, cond, List, [], ◌∷◌, ◌++◌, length, is_some, refl, ap, subst, ◌∙◌, inl, inr, arith}
 use Rattle.std.specs.Prelude.{nat_lt, not, Contains, Result, Ok, Err}
 use Rattle.ioc_ledger.specs.Requests.{None, more}
 use Rattle.ioc_notify.specs.declared.waiting_lists.Waiting.{Waiting}
@@ -9,7 +9,9 @@ use Rattle.ioc_record.specs.Laws.{IsLawful}
 use Rattle.ioc_common.specs.declared.common.Common.{Common}
 use Rattle.ioc_common.specs.Steps.{with_put_mark, with_reprocess_mark}
 use Rattle.ioc_process.specs.declared.outbox.OutboxItem.{OutboxItem}
-use Rattle.ioc_process.specs.World.{World, at, common_at, put, changed, called, sent, lost, taken_on, let_go, has_place, admitted, queued}
+use Rattle.ioc_process.specs.World.{World, at, common_at, put, changed, called, sent, lost, taken_on, let_go, has_place, admitted, queued, cancelled}
+use Rattle.ioc_notify.specs.Waits.{without}
+use Rattle.ioc_notify.specs.Living.{is_live}
 use Rattle.ioc_process.specs.Given.{Answers}
 use Rattle.ioc_process.specs.Scanning.{device_of, rescanned, rewired}
 use Rattle.ioc_process.specs.Notifying.{notified}
@@ -17,7 +19,7 @@ use Rattle.ioc_process.specs.Processing.{request}
 use Rattle.ioc_process.specs.declared.event.Event.{Event}
 use Rattle.ioc_process.specs.declared.event.Event.TheVariants.{Get, Process, Put, Complete, Link, Notify, Cancel, IsLive}
 use Rattle.ioc_process.specs.declared.reply.Reply.TheVariants.{Plain, Outcome as Outcome-reply, Shown, Notify as Notify-reply}
-use Rattle.ioc_process.specs.Step.{Stepped, is_cancel, names, is_there, all_there, refused, told, after_put, after_completion, awaits, put_with, relinked, begun_or_queued, notify_with, done_there, done_alone}
+use Rattle.ioc_process.specs.Step.{Stepped, names, is_there, all_there, refused, told, after_put, after_completion, awaits, put_with, relinked, begun_or_queued, notify_with, done_there, done_alone}
 use Rattle.ioc_values.specs.declared.error.IocError.{IocError}
 use Rattle.ioc_values.specs.declared.error.IocError.TheVariants.{NoRecord, NoField, PutDisabled, Stale, QueueFull}
 use Rattle.ioc_values.specs.declared.value.Value.{Value}
@@ -34,6 +36,23 @@ use Rattle.ioc_process.specs.Starting.{processes, taken_and_stored, started}
 use Rattle.ioc_process.proofs.Alongside.{Guards, request-goes, ran-goes, at_last-goes}
 use Rattle.ioc_process.proofs.ScanLaws.{moved-either, rescanned-either, rewired-either}
 use Rattle.ioc_process.proofs.NotifyLaws.{notified-either}
+
+last-item : (x y : Waiting) → Contains (x ∷ []) y → x ≡ y
+last-item x y (zero, lt, is) = is
+last-item x y (suc i, lt, is) = absurd (omega arith)
+
+-- those that wait without one of them all waited
+pub waited : (number : ℕ) (xs : List Waiting) (x : Waiting) → Contains (without number xs) x → Contains xs x
+waited number [] x h = h
+waited number (y ∷ xs) x h =
+    let later : Contains (without number xs) x → Contains (y ∷ xs) x = λ c. let i = waited number xs x c in (suc i.0, omega (arith, i.1), i.2) in
+    elim (not (nat_eq y.number number)) as (λ b. Contains (cond b (y ∷ without number xs) (without number xs)) x → Contains (y ∷ xs) x) [
+      | true ↦ λ c. elim (Contains-append_cases (y ∷ []) (without number xs) x c) [
+        | inl here ↦ (0, omega arith, last-item y x here)
+        | inr there ↦ later there
+      ]
+      | false ↦ later
+    ] h
 
 sent-waiting : {R : Type 0} (item : OutboxItem) (w : World R) → (sent item w).waiting ≡ w.waiting
 unfolding sent
@@ -165,10 +184,6 @@ module _ {R : Type 0} (k : RecordRules R) (lawful : IsLawful k) where
   unfolding Within
   within-same U w v same within x h = within x (subst (λ (l : List Waiting). Contains l x) same h)
 
-  last-item : (x y : Waiting) → Contains (x ∷ []) y → x ≡ y
-  last-item x y (zero, lt, is) = is
-  last-item x y (suc i, lt, is) = absurd (omega arith)
-
   let_in-within : (answers : Answers) (U : ℕ → Type 0) (w : World R) (x : Waiting) → U x.target → Within U w → Within U (begun_or_queued k answers w x).world
   unfolding begun_or_queued Within admitted queued
   let_in-within answers U w x u within =
@@ -190,30 +205,39 @@ module _ {R : Type 0} (k : RecordRules R) (lawful : IsLawful k) where
         | false ↦ within
       ]
 
-  there-within : (answers : Answers) (U : ℕ → Type 0) (w : World R) (event : Event) → is_cancel event ≡ false → ((n : ℕ) → Contains (names event) n → U n) → Within U w → Within U (done_there k answers w event).world
+  cancel-within : (U : ℕ → Type 0) (w : World R) (number : ℕ) → Within U w
+      → Within U (cond {A = Stepped R} (is_live number w.live) (record { world = cancelled k number w; reply = Plain; requests = None }) (refused w Stale)).world
+  unfolding Within cancelled
+  cancel-within U w number within =
+      elim (is_live number w.live) as (λ b. (x : Waiting) → Contains (cond {A = Stepped R} b (record { world = cancelled k number w; reply = Plain; requests = None }) (refused w Stale)).world.waiting x → U x.target) [
+        | true ↦ λ x h. within x (waited number w.waiting x h)
+        | false ↦ within
+      ]
+
+  there-within : (answers : Answers) (U : ℕ → Type 0) (w : World R) (event : Event) → ((n : ℕ) → Contains (names event) n → U n) → Within U w → Within U (done_there k answers w event).world
   unfolding done_there
-  there-within answers U w (Get s field) kept named within =
+  there-within answers U w (Get s field) named within =
       within-same U w _ (elim (is_some (row_of (k.record_type (at k w s)) field)) as (λ b. (cond {A = Stepped R} b (record { world = w; reply = Shown (text_of k (at k w s) field); requests = None }) (refused w NoField)).world.waiting ≡ w.waiting) [
         | true ↦ refl
         | false ↦ refl
       ]) within
-  there-within answers U w (Process s) kept named within = within-same U w _ (told-waiting answers w s) within
-  there-within answers U w (Put s field given) kept named within = within-same U w _ (put_with-waiting answers w s field (put_field k (at k w s) field given)) within
-  there-within answers U w (Complete s number x) kept named within =
+  there-within answers U w (Process s) named within = within-same U w _ (told-waiting answers w s) within
+  there-within answers U w (Put s field given) named within = within-same U w _ (put_with-waiting answers w s field (put_field k (at k w s) field given)) within
+  there-within answers U w (Complete s number x) named within =
       within-same U w _ (elim (awaits (common_at k w s) number) as (λ b. (cond {A = Stepped R} b (after_completion k answers w s x) (refused w Stale)).world.waiting ≡ w.waiting) [
         | true ↦ completion-waiting answers w s x
         | false ↦ refl
       ]) within
-  there-within answers U w (Link s field link) kept named within = within-same U w _ (linked-waiting answers w s field link) within
-  there-within answers U w (Notify s number field given) kept named within = notify-within answers U w s number field (value_to_put k (at k w s) field given) (named s (0, omega arith, refl)) within
-  there-within answers U w (Cancel number) kept named within = cc
-  there-within answers U w (IsLive number) kept named within = within
+  there-within answers U w (Link s field link) named within = within-same U w _ (linked-waiting answers w s field link) within
+  there-within answers U w (Notify s number field given) named within = notify-within answers U w s number field (value_to_put k (at k w s) field given) (named s (0, omega arith, refl)) within
+  there-within answers U w (Cancel number) named within = cancel-within U w number within
+  there-within answers U w (IsLive number) named within = within
 
-  pub alone-within : (answers : Answers) (U : ℕ → Type 0) (w : World R) (event : Event) → is_cancel event ≡ false → ((n : ℕ) → Contains (names event) n → U n)
+  pub alone-within : (answers : Answers) (U : ℕ → Type 0) (w : World R) (event : Event) → ((n : ℕ) → Contains (names event) n → U n)
       → ((x : Waiting) → Contains w.waiting x → U x.target) → (x : Waiting) → Contains (done_alone k answers w event).world.waiting x → U x.target
   unfolding done_alone Within
-  alone-within answers U w event kept named within =
+  alone-within answers U w event named within =
       elim (is_there w event) as (λ b. (x : Waiting) → Contains (cond {A = Stepped R} b (done_there k answers w event) (refused w NoRecord)).world.waiting x → U x.target) [
-        | true ↦ there-within answers U w event kept named within
+        | true ↦ there-within answers U w event named within
         | false ↦ within
       ]
