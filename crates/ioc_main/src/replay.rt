@@ -120,7 +120,10 @@ impl Replay {
     {
         match self.channel(record_name, field_name) {
             Ok((number, field)) => {
-                say_reply(reply, &self.machine.put(number, field, Input::from_text(text)));
+                say_reply(
+                    reply,
+                    &self.machine.put(number, field, Input::from_text(text)),
+                );
             }
             Err(refused) => say_refusal(reply, refused),
         }
