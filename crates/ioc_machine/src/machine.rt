@@ -17,9 +17,7 @@ use ioc_device::Answer;
 use ioc_fields::FieldNo;
 use ioc_ledger::Tally;
 use ioc_names::RecordNo;
-use ioc_process::{
-    EventStore, Frame, OneMap, Reply, Store, run_complete, run_get, run_put, run_request,
-};
+use ioc_process::{EventStore, Frame, OneMap, Reply, run_complete, run_put, run_request};
 use ioc_scan::{ListName, Listed};
 use ioc_types::Record;
 use ioc_values::{Finished, Input, IocError};
@@ -60,11 +58,10 @@ fn devices_of(alloc: Global, records: &[Record]) -> Result<Vec<Option<Scripted>>
 
 impl Machine {
     ghost use Rattle.std.specs.Prelude.{length};
-    ghost use Rattle.ioc_process.specs.Step.{stepped};
-    ghost use Rattle.ioc_process.specs.declared.event.Event.TheVariants.{Get, Process, Put, Complete};
+    ghost use Rattle.ioc_process.specs.declared.event.Event.TheVariants.{Process, Put, Complete};
     ghost use Rattle.ioc_scan.specs.Walked.{walked};
     ghost use Rattle.ioc_machine.specs.FirstLists.{starters};
-    ghost use Rattle.ioc_machine.specs.Machine.{loaded_machine, first_machine, answers_from, stepped_on, done, with_sent, each_requested, queued_on, scanned, serve, most_served, queued_at, at_moment};
+    ghost use Rattle.ioc_machine.specs.Machine.{loaded_machine, first_machine, stepped_on, done, with_sent, each_requested, queued_on, scanned, serve, most_served, queued_at, at_moment};
     ghost use Rattle.ioc_machine.specs.SeenMachine.{machine_of};
 
     // These records before any event. All room that events want, but for scan lists, is taken here.
@@ -197,7 +194,12 @@ impl Machine {
     /// # Errors
     ///
     /// [`AllocError`] where memory is wanting: what the event sent isn't all done then.
-    pub fn put(&mut self, number: RecordNo, field: FieldNo, given: Input) -> Result<Reply, AllocError>
+    pub fn put(
+        &mut self,
+        number: RecordNo,
+        field: FieldNo,
+        given: Input,
+    ) -> Result<Reply, AllocError>
         ensures machine { OnOk result (machine_of self.new ≡ (done record_rules (machine_of self.old) (Put number field given)).machine) }
         ensures reply { IfOk result (λ reply. reply ≡ (done record_rules (machine_of self.old) (Put number field given)).reply) }
     {
@@ -211,20 +213,18 @@ impl Machine {
     /// # Errors
     ///
     /// [`AllocError`] where memory is wanting: what the event sent isn't all done then.
-    pub fn complete(&mut self, number: RecordNo, wait: u64, finished: Finished) -> Result<Reply, AllocError>
+    pub fn complete(
+        &mut self,
+        number: RecordNo,
+        wait: u64,
+        finished: Finished,
+    ) -> Result<Reply, AllocError>
         ensures machine { OnOk result (machine_of self.new ≡ (done record_rules (machine_of self.old) (Complete number wait finished)).machine) }
         ensures reply { IfOk result (λ reply. reply ≡ (done record_rules (machine_of self.old) (Complete number wait finished)).reply) }
     {
         let reply = self.finish(number, wait, finished);
         self.send()?;
         Ok(reply)
-    }
-
-    /// The text of a field.
-    pub fn get(&self, number: RecordNo, field: FieldNo) -> Reply
-        ensures { result ≡ (stepped record_rules (answers_from (machine_of self.now).queued) (machine_of self.now).world (Get number field)).reply }
-    {
-        run_get(&self.map, number, field)
     }
 
     /// Queues an answer for the device of a record; a record without one is refused.

@@ -115,7 +115,13 @@ impl Replay {
     }
 
     #[inline(never)]
-    fn put(&mut self, record_name: &[u8], field_name: &[u8], text: &[u8], reply: &mut LineReply) -> Result<(), AllocError>
+    fn put(
+        &mut self,
+        record_name: &[u8],
+        field_name: &[u8],
+        text: &[u8],
+        reply: &mut LineReply,
+    ) -> Result<(), AllocError>
         requires { reply.old ≡ [] }
         ensures names { self.new.names ≡ self.old.names }
         ensures machine { OnOk result (machine_of self.new.machine ≡ (were_put record_rules self.old.names (machine_of self.old.machine) text.now (channel record_rules self.old.names (machine_of self.old.machine).world record_name.now field_name.now)).machine) }
@@ -123,7 +129,10 @@ impl Replay {
     {
         match self.channel(record_name, field_name) {
             Ok((number, field)) => {
-                say_reply(reply, &self.machine.put(number, field, Input::from_text(text))?);
+                say_reply(
+                    reply,
+                    &self.machine.put(number, field, Input::from_text(text))?,
+                );
             }
             Err(refused) => say_refusal(reply, refused),
         }
@@ -165,7 +174,13 @@ impl Replay {
     }
 
     #[inline(never)]
-    fn complete(&mut self, name: &[u8], wait: u64, finished: Finished, reply: &mut LineReply) -> Result<(), AllocError>
+    fn complete(
+        &mut self,
+        name: &[u8],
+        wait: u64,
+        finished: Finished,
+        reply: &mut LineReply,
+    ) -> Result<(), AllocError>
         requires { reply.old ≡ [] }
         ensures names { self.new.names ≡ self.old.names }
         ensures machine { OnOk result (machine_of self.new.machine ≡ (were_completed record_rules self.old.names (machine_of self.old.machine) wait finished (number_of self.old.names name.now)).machine) }
@@ -179,7 +194,13 @@ impl Replay {
     }
 
     #[inline(never)]
-    fn complete_done(&mut self, name: &[u8], wait: u64, text: &[u8], reply: &mut LineReply) -> Result<(), AllocError>
+    fn complete_done(
+        &mut self,
+        name: &[u8],
+        wait: u64,
+        text: &[u8],
+        reply: &mut LineReply,
+    ) -> Result<(), AllocError>
         requires { reply.old ≡ [] }
         ensures names { self.new.names ≡ self.old.names }
         ensures machine { OnOk result (machine_of self.new.machine ≡ (were_completed record_rules self.old.names (machine_of self.old.machine) wait (Finished.Done (given_value text.now)) (number_of self.old.names name.now)).machine) }
