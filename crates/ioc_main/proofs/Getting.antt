@@ -8,9 +8,9 @@ use Rattle.ioc_process.specs.declared.reply.Reply.TheVariants.{Shown}
 use Rattle.ioc_process.specs.declared.event.Event.TheVariants.{Get}
 use Rattle.ioc_process.specs.Given.{Answers}
 use Rattle.ioc_process.specs.World.{World, Has, at}
-use Rattle.ioc_process.specs.Step.{stepped, stepped_there}
+use Rattle.ioc_process.specs.Step.{stepped, done_alone, done_there}
 
 pub shown_there : {R : Type 0} (k : RecordRules R) (answers : Answers) (w : World R) (n : ℕ) (field : FieldNo)
     → Has w n → IsSome (row_of (k.record_type (at k w n)) field) → (stepped k answers w (Get n field)).reply ≡ Shown (text_of k (at k w n) field)
-unfolding stepped stepped_there
+unfolding stepped done_alone done_there
 shown_there k answers w n field has is = rw (has, is) refl
