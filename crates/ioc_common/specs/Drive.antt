@@ -1,5 +1,5 @@
 -- The fields by which the output types are driven, and drive. Record Reference Manual, "Output Specification" and "Invalid Output Action".
-use Rattle.std.proofs.Common.{◌≡◌, ℕ, Bool, true, false, Option, Some, None, refl, ap, ◌⊎◌, inl, inr}
+use Rattle.std.proofs.Common.{◌≡◌, ◌≢◌, ℕ, Bool, true, false, Option, Some, None, refl, ap, ◌⊎◌, inl, inr}
 use Rattle.std.specs.Prelude.{◌<◌, unwrap_or, is_some}
 use Rattle.ioc_values.specs.declared.value.Value.{Value}
 use Rattle.ioc_values.specs.declared.value.Value.TheVariants as value
@@ -130,6 +130,17 @@ drive_set_there d Dol Dol l = inl refl
 drive_set_there d Dol Out l = inr refl
 drive_set_there d Dol _ l = inr refl
 drive_set_there d _ g l = inr refl
+
+pub drive_set_others : (d : Drive) (f g : OwnField) (l : LinkField) → g ≢ f
+    → drive_link (drive_with_link d f l).output (drive_with_link d f l).desired g ≡ drive_link d.output d.desired g
+unfolding drive_with_link
+drive_set_others d Out Out l apart = absurd (apart refl)
+drive_set_others d Out Dol l apart = refl
+drive_set_others d Out _ l apart = refl
+drive_set_others d Dol Dol l apart = absurd (apart refl)
+drive_set_others d Dol Out l apart = refl
+drive_set_others d Dol _ l apart = refl
+drive_set_others d _ g l apart = refl
 
 pub drive_set_values : (d : Drive) (f : OwnField) (l : LinkField) (g : OwnField) → drive_get (drive_with_link d f l) g ≡ drive_get d g
 unfolding drive_get drive_with_link

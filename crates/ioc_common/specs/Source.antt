@@ -1,5 +1,5 @@
 -- The field by which the input types are fed. Record Reference Manual, "Input Specification".
-use Rattle.std.proofs.Common.{◌≡◌, true, Option, Some, None, refl, ◌⊎◌, inl, inr}
+use Rattle.std.proofs.Common.{◌≡◌, ◌≢◌, true, Option, Some, None, refl, ◌⊎◌, inl, inr}
 use Rattle.std.specs.Prelude.{is_some}
 use Rattle.ioc_fields.specs.declared.field_no.OwnField.{OwnField}
 use Rattle.ioc_fields.specs.declared.field_no.OwnField.TheVariants.{Inp}
@@ -45,6 +45,12 @@ unfolding source_with_link
 source_set_there s Inp Inp l = inl refl
 source_set_there s Inp _ l = inr refl
 source_set_there s _ g l = inr refl
+
+pub source_set_others : (s : Source) (f g : OwnField) (l : LinkField) → g ≢ f → source_link (source_with_link s f l).input g ≡ source_link s.input g
+unfolding source_with_link
+source_set_others s Inp Inp l apart = absurd (apart refl)
+source_set_others s Inp _ l apart = refl
+source_set_others s _ g l apart = refl
 
 begins_with : (in_use : LinkUse) (t : StandingLink) → begin_by in_use ≡ ReadLink (Standing t) → in_use ≡ Standing t
 begins_with Unused t is = cc

@@ -20,8 +20,8 @@ use Rattle.ioc_types.specs.RecordLaws.{record_lawful}
 use Rattle.ioc_fields.specs.LinkFields.{link_fields, link_fields_are, stands_among_links}
 use Rattle.ioc_types.specs.Record.{Record, record_rules}
 use Rattle.ioc_dbfile.specs.FirstWorld.{first_world}
-use Rattle.ioc_process.specs.OneMapLaws.{get-numbered, contains-numbered}
-use Rattle.ioc_process.specs.World.{at, IsClosed}
+use Rattle.ioc_store.specs.OneMapLaws.{get-numbered, contains-numbered}
+use Rattle.ioc_store.specs.World.{at, IsClosed}
 use Rattle.ioc_dbfile.specs.Finished.{target_field, target_in, target_at, standing_of, lead_of, leads_to, with_standing, linked, linked_all, finished, by_place, Owner}
 use Rattle.ioc_dbfile.specs.Owners.{owner_of, device_lead}
 

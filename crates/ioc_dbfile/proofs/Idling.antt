@@ -23,8 +23,8 @@ use Rattle.ioc_record.specs.RecordRules.{RecordRules}
 use Rattle.ioc_types.specs.Record.{Record, record_rules, new_record}
 use Rattle.ioc_types.specs.RecordLaws.{record_lawful}
 use Rattle.ioc_dbfile.specs.FirstWorld.{first_world}
-use Rattle.ioc_process.specs.OneMapLaws.{get-numbered}
-use Rattle.ioc_process.specs.World.{at, common_at}
+use Rattle.ioc_store.specs.OneMapLaws.{get-numbered}
+use Rattle.ioc_store.specs.World.{at, common_at}
 use Rattle.ioc_process.specs.Rules.{IsQuiet}
 use Rattle.ioc_dbfile.specs.Finished.{with_standing, linked, linked_all, finished, by_place, Owner}
 use Rattle.ioc_dbfile.specs.Loader.{set_at}

@@ -1,7 +1,7 @@
 -- A loaded database before its first event.
 use Rattle.std.specs.Prelude.{List, []}
-use Rattle.ioc_process.specs.OneMap.{numbered}
-use Rattle.ioc_process.specs.World.{World}
+use Rattle.ioc_store.specs.OneMap.{numbered}
+use Rattle.ioc_store.specs.World.{World}
 
 -- these records by their numbers, at the moment 0
 unfoldable pub first_world : {R : Type 0} → List R → World R

@@ -1,7 +1,7 @@
 //! Loaded databases.
 ghost use Rattle.ioc_types.specs.Record.{record_rules};
 ghost use Rattle.ioc_dbfile.specs.FirstWorld.{first_world};
-ghost use Rattle.ioc_process.specs.World.{IsClosed};
+ghost use Rattle.ioc_store.specs.World.{IsClosed};
 ghost use Rattle.ioc_process.specs.Rules.{IsQuiet};
 
 use crate::finish::finish_all;

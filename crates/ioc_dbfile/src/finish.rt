@@ -1,8 +1,8 @@
 //! The end of a load: where links lead, and what constants put.
-ghost use Rattle.std.specs.Prelude.{◌≡◌, IfOk, OnOk, map};
+ghost use Rattle.std.specs.Prelude.{◌≡◌, Some, IfOk, OnOk, map};
 ghost use Rattle.ioc_types.specs.Record.{record_rules};
 ghost use Rattle.ioc_fields.specs.Table.{is_link_kind};
-ghost use Rattle.ioc_dbfile.specs.Finished.{standing_of, leads_to, linked, linked_all, finished, by_place};
+ghost use Rattle.ioc_dbfile.specs.Finished.{target_in, standing_of, leads_to, linked, linked_all, finished, by_place};
 ghost use Rattle.ioc_dbfile.specs.Owners.{owner_of};
 ghost use Rattle.ioc_dbfile.specs.OwnerTable.{owner_in};
 
@@ -28,6 +28,18 @@ fn is_link(kind: Option<FieldKind>) -> bool
     matches!(kind, Some(FieldKind::Link(_)))
 }
 
+/// The field of this name, in a record of this type and number, that a link can lead to: none, if there is no such field or it is a link
+/// field itself.
+pub fn target_field(number: RecordNo, record_type: RecordType, name: &[u8]) -> Option<FieldAddress>
+    ensures { result ≡ target_in number name.now (Some record_type) }
+{
+    let field = field(record_type, name)?;
+    if is_link(kind_of(record_type, field)) {
+        return None;
+    }
+    Some(FieldAddress { number, field })
+}
+
 /// Where a database link leads: nowhere, if its record or field isn't there or the field is a link field.
 #[tactic(auto, unfolding(crate::specs::Finished::standing_of))]
 fn standing_of(names: &Names, types: &[RecordType], target: &Target) -> Option<FieldAddress>
@@ -35,11 +47,7 @@ fn standing_of(names: &Names, types: &[RecordType], target: &Target) -> Option<F
 {
     let number = names.find(target.record_name.as_slice())?;
     let record_type = types.get(number.index()).copied()?;
-    let field = field(record_type, target.field.as_slice())?;
-    if is_link(kind_of(record_type, field)) {
-        return None;
-    }
-    Some(FieldAddress { number, field })
+    target_field(number, record_type, target.field.as_slice())
 }
 
 fn leads_to(names: &Names, whole: &Whole, number: RecordNo, link: &Link) -> Lead

@@ -40,8 +40,11 @@ fn add_record(owners: &mut Owners, number: RecordNo, item: &Record) -> Result<()
 {
     let mut rest = item.link_fields();
     while let [field, others @ ..] = rest {
+        // A link field is large: only one that names a device is looked at as a whole.
         if let Some(kept) = item.link(*field) {
-            add_link(owners, number, &kept.get().link)?;
+            if kept.is_device() {
+                add_link(owners, number, &kept.get().link)?;
+            }
         }
         rest = others;
     }

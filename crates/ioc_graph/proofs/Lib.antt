@@ -3,3 +3,4 @@ pub mod Numbered
 mod All
 mod Leading
 pub mod Searching
+pub mod Following

@@ -2,6 +2,7 @@
 ghost use Rattle.std.specs.Prelude.{◌≡◌, ◌<◌, length, slice_index, All, Contains, IfOk, IsTrue, ◌↔◌};
 ghost use Rattle.std.specs.List.Sorted.{IsStrictlyIncreasing};
 ghost use Rattle.ioc_graph.specs.Parts.{ArePartsOf, all_below};
+ghost use Rattle.ioc_graph.specs.Members.{part_numbers};
 
 use crate::forest::{each_alone, join, settle};
 use ioc_names::RecordNo;
@@ -66,7 +67,8 @@ pub fn parts(alloc: Global, edges: &[Edge], nodes: &[RecordNo]) -> Result<Vec<us
 /// [`AllocError`] where memory is wanting. The one list that is answered is all that is allocated.
 pub fn parts_of_all(alloc: Global, edges: &[Edge], count: usize) -> Result<Vec<usize>, AllocError>
     requires ends { All (λ e. (e.from < count) × (e.to < count)) edges.now }
-    ensures { IfOk result (λ numbers. ArePartsOf edges.now (all_below count) numbers.items) }
+    ensures parts { IfOk result (λ numbers. ArePartsOf edges.now (all_below count) numbers.items) }
+    ensures numbers { IfOk result (λ numbers. numbers.items ≡ part_numbers edges.now count) }
 {
     let mut numbers = each_alone(alloc, count)?;
     let parents = numbers.as_mut_slice();

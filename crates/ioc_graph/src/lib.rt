@@ -4,5 +4,7 @@
 
 pub mod edges;
 pub mod forest;
+pub mod members;
 
 pub use edges::{Edge, are_below, parts, parts_of_all};
+pub use members::followers;

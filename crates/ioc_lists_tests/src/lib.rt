@@ -1,4 +1,4 @@
-//! Tests of devices, completions, notifications, connected parts, queues and scan lists, each on its own.
+//! Tests of devices, completions, notifications, connected parts, queues, scan lists and tickets, each on its own.
 #![tactic(auto)]
 
 #[cfg(test)]
@@ -13,3 +13,5 @@ mod notifications;
 mod parts;
 #[cfg(test)]
 mod scans;
+#[cfg(test)]
+mod tickets;

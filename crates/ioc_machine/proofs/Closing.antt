@@ -6,10 +6,10 @@ use Rattle.std.specs.Global.{Vec}
 use Rattle.std.specs.Prelude.{Contains}
 use Rattle.std.specs.FinMap.{len}
 use Rattle.ioc_record.specs.RecordRules.{RecordRules, targets}
-use Rattle.ioc_process.specs.OneMap.{numbered, world_of, given_of}
+use Rattle.ioc_store.specs.OneMap.{numbered, world_of, given_of}
 use Rattle.ioc_dbfile.specs.FirstWorld.{first_world}
-use Rattle.ioc_process.specs.declared.one_map.OneMap.{OneMap}
-use Rattle.ioc_process.specs.World.{World, IsClosed, Has, at, begun, begun_at}
+use Rattle.ioc_store.specs.declared.one_map.OneMap.{OneMap}
+use Rattle.ioc_store.specs.World.{World, IsClosed, Has, at, begun, begun_at}
 use Rattle.ioc_process.specs.Rules.{IsQuiet, IsSettled}
 
 at_begun : {R : Type 0} (k : RecordRules R) (w : World R) (n : ℕ) → at k (begun w) n ≡ at k w n
@@ -52,7 +52,7 @@ pub room_same : {R : Type 0} (w v : World R) (room : ℕ) → v ≡ begun w → 
 unfolding begun
 room_same w v room e few = rw e few
 
-begun-none : {R : Type 0} (w v : World R) → v ≡ begun w → v.calls ≡ []
+pub begun-none : {R : Type 0} (w v : World R) → v ≡ begun w → v.calls ≡ []
 unfolding begun
 begun-none w v e = ap (λ (x : World _). x.calls) e
 

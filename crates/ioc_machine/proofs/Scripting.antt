@@ -1,17 +1,16 @@
 -- Devices whose answers are queued give them one after another.
-use Rattle.std.proofs.Common.{◌≡◌, ℕ, zero, suc, ◌+◌, Bool, true, false, cond, eqb, Option, Some, List, [], ◌∷◌, ◌++◌, drop, set, get_or, length, ◌<◌, arith, refl, sym, ap, subst, ◌∙◌}
+use Rattle.std.proofs.Common.{◌≡◌, ℕ, zero, suc, Bool, true, false, cond, eqb, Option, Some, List, [], ◌∷◌, ◌++◌, drop, set, get_or, length, ◌<◌, arith, refl, sym, ap, subst, ◌∙◌}
 use Rattle.std.proofs.Common.{None as Nothing_}
 use Rattle.std.specs.Prelude.{option_map, slice_get}
 use Rattle.std.proofs.lemmas.Bool.{eqb-true}
 use Rattle.ioc_values.specs.declared.error.IocError.TheVariants.{NoField}
-use Rattle.ioc_process.specs.declared.reply.Reply.TheVariants.{Plain, Refused}
-use Rattle.ioc_process.specs.OneMap.{device_at}
-use Rattle.ioc_process.specs.OneMapLaws.{device-set}
+use Rattle.ioc_events.specs.declared.reply.Reply.TheVariants.{Plain, Refused}
+use Rattle.ioc_store.specs.OneMap.{device_at}
+use Rattle.ioc_store.specs.OneMapLaws.{device-set}
 use Rattle.ioc_device.specs.declared.Answer.{Answer}
-use Rattle.ioc_device.specs.declared.Answer.TheVariants.{Fault}
-use Rattle.ioc_process.specs.declared.call.Call.{Call}
-use Rattle.ioc_process.specs.Given.{Given, Answers, Accords, with_device, DeviceGives, its_device, no_device, DevicesWork, no_call, and_then, Begins}
-use Rattle.ioc_machine.specs.Machine.{Machine, Told, queued_at, Queued, TakesAnswer, first_answer, next_answer, times_asked, left_after, answers_from}
+use Rattle.ioc_store.specs.declared.call.Call.{Call}
+use Rattle.ioc_store.specs.Given.{Given, Accords, with_device, DeviceGives, its_device, no_device, DevicesWork, no_call, and_then, Begins}
+use Rattle.ioc_machine.specs.Machine.{Machine, Told, queued_at, Queued, TakesAnswer, next_answer, times_asked, left_after, answers_from}
 
 drop-drop1 : (n : ℕ) (answers : List Answer) → drop n (drop 1 answers) ≡ drop (suc n) answers
 drop-drop1 zero [] = refl

@@ -1,11 +1,11 @@
 -- Requests that wait are served one after another.
-use Rattle.std.proofs.Common.{◌≡◌, ℕ, zero, suc, ◌<◌, Option, Some, List, [], ◌∷◌, ◌++◌, length, refl, sym, ap, ◌∙◌, arith}
+use Rattle.std.proofs.Common.{◌≡◌, ℕ, zero, suc, ◌<◌, Option, Some, List, [], ◌∷◌, ◌++◌, length, refl, ap, ◌∙◌, arith}
 use Rattle.std.proofs.Common.{None as Nothing_}
 use Rattle.std.specs.Prelude.{slice_get, option_to_list, IsSome, ◌↔◌}
 use Rattle.ioc_callback.specs.declared.queues.Queues.{Queues}
 use Rattle.ioc_callback.specs.Serving.{in_turn, served}
 use Rattle.ioc_record.specs.RecordRules.{RecordRules}
-use Rattle.ioc_process.specs.declared.event.Event.TheVariants.{Process}
+use Rattle.ioc_events.specs.declared.event.Event.TheVariants.{Process}
 use Rattle.ioc_machine.specs.Machine.{Machine, with_queues, served_one, serve, done}
 
 -- the first of those that wait

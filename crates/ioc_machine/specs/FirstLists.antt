@@ -1,5 +1,5 @@
 -- The scan lists of a loaded database. Application Developer's Guide, "Scanning Specification": scanInit, and records with PINI.
-use Rattle.std.specs.Prelude.{ℕ, ◌+◌, if◌then◌else◌, List, [], ◌∷◌, length, Option, Some}
+use Rattle.std.specs.Prelude.{ℕ, ◌+◌, List, [], ◌∷◌, length, Option, Some}
 use Rattle.std.specs.Prelude.{None as Nothing_}
 use Rattle.ioc_menus.specs.declared.pini.Pini.{Pini}
 use Rattle.ioc_menus.specs.declared.pini.Pini.TheVariants.{Yes, No}
@@ -10,7 +10,7 @@ use Rattle.ioc_scan.specs.Scanned.{Scanned, new_lists, placed}
 use Rattle.ioc_scan.specs.Walked.{walked}
 use Rattle.ioc_common.specs.declared.scanning.Scanning.{Scanning}
 use Rattle.ioc_record.specs.RecordRules.{RecordRules}
-use Rattle.ioc_process.specs.Scanning.{device_of}
+use Rattle.ioc_store.specs.Scanning.{device_of}
 use Rattle.ioc_machine.specs.declared.first_lists.Occasion.{Occasion}
 use Rattle.ioc_machine.specs.declared.first_lists.Occasion.TheVariants.{Scanning as When-scanned, Starting as When-starting}
 use Rattle.ioc_machine.specs.Scanner.{place_by}

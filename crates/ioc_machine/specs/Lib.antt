@@ -2,3 +2,5 @@ pub mod Scanner
 pub mod FirstLists
 pub mod Machine
 pub mod SeenMachine
+pub mod Leads
+pub mod Sets

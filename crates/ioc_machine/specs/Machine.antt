@@ -1,31 +1,34 @@
 -- What a script works on: a database with devices whose answers are queued, the counts of requests, its scan lists, and the requests that
 -- wait. What an event does to it. Application Developer's Guide, "Device Support" and "Scanning Specification": scanOnce.
-use Rattle.std.specs.Prelude.{◌≡◌, ℕ, zero, suc, ◌==◌, if◌then◌else◌, List, [], ◌∷◌, ◌++◌, length, map, filter, drop, option_map, slice_get, Option, Some}
+use Rattle.std.specs.Prelude.{◌≡◌, ℕ, zero, suc, ◌==◌, if◌then◌else◌, List, [], ◌∷◌, ◌++◌, length, map, drop, option_map, slice_get, Option, Some}
 use Rattle.std.specs.Prelude.{None as Nothing_}
-use Rattle.ioc_values.specs.declared.value.Finished.{Finished}
+use Rattle.ioc_values.specs.declared.input.Input.{Input}
 use Rattle.ioc_values.specs.declared.error.IocError.{IocError}
 use Rattle.ioc_values.specs.declared.error.IocError.TheVariants.{NoField}
+use Rattle.ioc_fields.specs.declared.field_no.FieldNo.{FieldNo}
 use Rattle.ioc_device.specs.declared.Ask.{Ask}
 use Rattle.ioc_device.specs.declared.Answer.{Answer}
 use Rattle.ioc_device.specs.declared.Answer.TheVariants.{Fault, Later}
 use Rattle.ioc_ledger.specs.declared.tally.Tally.{Tally}
+use Rattle.ioc_ledger.specs.Requests.{more}
 use Rattle.ioc_callback.specs.declared.queues.Queues.{Queues}
 use Rattle.ioc_callback.specs.Serving.{no_items, in_turn, served}
 use Rattle.ioc_scan.specs.declared.list_name.ListName.{ListName}
 use Rattle.ioc_scan.specs.declared.position.Listed.{Listed}
 use Rattle.ioc_scan.specs.Walked.{walked}
 use Rattle.ioc_record.specs.RecordRules.{RecordRules}
-use Rattle.ioc_process.specs.declared.call.Call.{Call}
-use Rattle.ioc_process.specs.declared.event.Event.{Event}
-use Rattle.ioc_process.specs.declared.event.Event.TheVariants.{Process}
-use Rattle.ioc_process.specs.declared.reply.Reply.{Reply}
-use Rattle.ioc_process.specs.declared.reply.Reply.TheVariants.{Plain, Refused}
-use Rattle.ioc_process.specs.Given.{Answers, Devices, with_device}
-use Rattle.ioc_process.specs.OneMap.{device_at}
-use Rattle.ioc_process.specs.World.{World, begun, begun_at}
-use Rattle.ioc_process.specs.Step.{stepped, tallied}
+use Rattle.ioc_store.specs.declared.call.Call.{Call}
+use Rattle.ioc_events.specs.declared.event.Event.{Event}
+use Rattle.ioc_events.specs.declared.event.Event.TheVariants.{Process, Notify, Cancel}
+use Rattle.ioc_events.specs.declared.reply.Reply.{Reply}
+use Rattle.ioc_events.specs.declared.reply.Reply.TheVariants.{Plain, Refused}
+use Rattle.ioc_store.specs.Given.{Answers, Devices, with_device}
+use Rattle.ioc_store.specs.OneMap.{device_at}
+use Rattle.ioc_store.specs.World.{World, begun, begun_at}
+use Rattle.ioc_events.specs.Step.{stepped, tallied, is_refusal}
 use Rattle.ioc_dbfile.specs.FirstWorld.{first_world}
-use Rattle.ioc_dbfile.specs.Owners.{owns_device}
+use Rattle.ioc_dbfile.specs.Finished.{Owner}
+use Rattle.ioc_dbfile.specs.Owners.{owner_of, owns_device}
 use Rattle.ioc_machine.specs.declared.first_lists.Occasion.TheVariants.{Scanning as When-scanned}
 use Rattle.ioc_machine.specs.Scanner.{Scanner, called_on, with_outbox}
 use Rattle.ioc_machine.specs.FirstLists.{first_lists, starters}
@@ -68,6 +71,12 @@ pub record Machine (R : Type 0) : Type 0 where
   pub tally : Tally
   -- the scan lists, and the requests that wait
   pub scanner : Scanner
+  -- which record each device belongs to
+  pub owner : Owner
+  -- the number of the next put with notification: 1, 2, 3, ..
+  pub next : ℕ
+  -- the puts with notification that have ended since this was told last, in order
+  pub ended : List ℕ
 
 -- what is left, and what the caller is answered
 pub record Told (R : Type 0) : Type 0 where
@@ -91,9 +100,17 @@ at_moment moment m = record m { world = begun_at moment m.world }
 abbrev pub with_queues : {R : Type 0} → Machine R → Queues ℕ → Machine R
 with_queues m queues = record m { scanner = record m.scanner { queues = queues } }
 
--- what an event sent is done
+-- what an event sent is done, and what ended in it is kept
 abbrev pub with_sent : {R : Type 0} → Machine R → Machine R
-with_sent m = record m { scanner = with_outbox m.scanner m.world }
+with_sent m = record m { scanner = with_outbox m.scanner m.world; ended = m.ended ++ m.world.ended }
+
+-- what ended was told
+abbrev pub with_none_ended : {R : Type 0} → Machine R → Machine R
+with_none_ended m = record m { ended = [] }
+
+-- a put with notification took its number; a refused one took none
+abbrev pub with_number : {R : Type 0} → Told R → Told R
+with_number told = record told { machine = record told.machine { next = if is_refusal told.reply then told.machine.next else more told.machine.next } }
 
 -- a machine, and a number that its caller is told
 pub record Counted (R : Type 0) : Type 0 where
@@ -127,6 +144,9 @@ module _ {R : Type 0} (k : RecordRules R) where
           queued = left_after m.queued step.world.calls;
           tally = tallied m.tally (begun m.world) event step;
           scanner = m.scanner;
+          owner = m.owner;
+          next = m.next;
+          ended = m.ended;
         };
         reply = step.reply;
       }
@@ -134,6 +154,14 @@ module _ {R : Type 0} (k : RecordRules R) where
   -- an event, and then what it sent
   abbrev pub done : Machine R → Event → Told R
   done m event = let told = stepped_on m event in record { machine = with_sent told.machine; reply = told.reply }
+
+  -- a value is put into a field, with a notification under the next number
+  abbrev pub notified : Machine R → ℕ → FieldNo → Input → Told R
+  notified m n field given = with_number (done m (Notify n m.next field given))
+
+  -- a put with notification is given up
+  abbrev pub given_up : Machine R → ℕ → Told R
+  given_up m number = done m (Cancel number)
 
   -- these records are requested, each by an event of its own
   abbrev pub each_requested : Machine R → List Listed → Machine R
@@ -148,6 +176,9 @@ module _ {R : Type 0} (k : RecordRules R) where
         queued = device_at (map first_queue records);
         tally = no_counts;
         scanner = record { lists = first_lists k When-scanned records; queues = no_items };
+        owner = owner_of k records;
+        next = 1;
+        ended = [];
       }
 
   -- before the first line the records with PINI are processed

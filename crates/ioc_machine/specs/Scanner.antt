@@ -14,10 +14,10 @@ use Rattle.ioc_scan.specs.Lists.{list_of}
 use Rattle.ioc_scan.specs.Scanned.{Scanned, changed}
 use Rattle.ioc_scan.specs.Walked.{walked}
 use Rattle.ioc_common.specs.declared.scanning.Scanning.{Scanning}
-use Rattle.ioc_process.specs.declared.scan_change.ScanChange.{ScanChange}
-use Rattle.ioc_process.specs.declared.outbox.OutboxItem.{OutboxItem}
-use Rattle.ioc_process.specs.declared.outbox.OutboxItem.TheVariants.{Once, Post, Change}
-use Rattle.ioc_process.specs.World.{World}
+use Rattle.ioc_store.specs.declared.scan_change.ScanChange.{ScanChange}
+use Rattle.ioc_store.specs.declared.outbox.OutboxItem.{OutboxItem}
+use Rattle.ioc_store.specs.declared.outbox.OutboxItem.TheVariants.{Once, Post, Change}
+use Rattle.ioc_store.specs.World.{World}
 
 -- where each record stands, and the requests that wait, with how many items were dropped
 pub record Scanner : Type 0 where

@@ -1,16 +1,16 @@
 //! The scan lists of a loaded database.
-ghost use Rattle.std.specs.Prelude.{◌≡◌, ◌<◌, ◌≤◌, ◌-◌, ◌^◌, length, IfOk};
+ghost use Rattle.std.specs.Prelude.{◌≡◌, ◌<◌, ◌≤◌, ◌-◌, ◌^◌, false, length, None, IfOk, OnOk};
 ghost use Rattle.ioc_types.specs.Record.{record_rules};
 ghost use Rattle.ioc_machine.specs.Scanner.{place_by};
-ghost use Rattle.ioc_machine.specs.FirstLists.{place_of, start_place, first_lists};
+ghost use Rattle.ioc_machine.specs.FirstLists.{added, place_of, start_place, first_lists};
 
 use ioc_common::Scanning as ScanFields;
 use ioc_links::MAX_DEVICE_BYTES;
-use ioc_menus::Pini;
+use ioc_menus::{Pini, Scan};
 use ioc_names::RecordNo;
-use ioc_process::device_of;
 use ioc_record::RecordKind;
 use ioc_scan::{ListName, Place, ScanLists};
+use ioc_store::device_of;
 use ioc_types::Record;
 use ioc_values::Short;
 use std::alloc::{AllocError, Global};
@@ -66,6 +66,35 @@ fn place_of(item: &Record, occasion: Occasion) -> Option<Place>
     }
 }
 
+// May a record stand on a list? Most don't, and a place is large.
+fn may_be_listed(item: &Record, occasion: Occasion) -> bool
+    ensures { result ≡ false → place_of record_rules occasion item.now ≡ None }
+{
+    let fields = &item.common().scanning;
+    match occasion {
+        Occasion::Scanning => fields.scan != Scan::Passive,
+        Occasion::Starting => fields.at_start == Pini::Yes,
+    }
+}
+
+// Adds a record where it stands, if it stands on a list.
+#[inline(never)]
+fn add_record(
+    lists: &mut ScanLists,
+    number: RecordNo,
+    item: &Record,
+    occasion: Occasion,
+) -> Result<(), AllocError>
+    requires known { number < length lists.old.entries }
+    requires room { lists.old.last < 2 ^ 64 - 1 }
+    ensures { OnOk result (lists.new ≡ added lists.old number (place_of record_rules occasion item.now)) }
+{
+    if let Some(place) = place_of(item, occasion) {
+        lists.add(number, place)?;
+    }
+    Ok(())
+}
+
 /// The lists with all records, in the order of their numbers.
 ///
 /// # Errors
@@ -83,8 +112,8 @@ pub fn first_lists(
     let mut rest = records;
     let mut number = 0;
     while let [item, others @ ..] = rest {
-        if let Some(place) = place_of(item, occasion) {
-            lists.add(RecordNo::new(number), place)?;
+        if may_be_listed(item, occasion) {
+            add_record(&mut lists, RecordNo::new(number), item, occasion)?;
         }
         number += 1;
         rest = others;

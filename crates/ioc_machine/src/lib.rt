@@ -2,9 +2,11 @@
 #![tactic(auto)]
 
 pub mod first_lists;
+mod leads;
 pub mod machine;
 pub mod scanner;
 pub mod scripted;
+pub mod sets;
 pub mod settled;
 
 pub use machine::Machine;

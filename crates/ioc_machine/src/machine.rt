@@ -3,22 +3,29 @@ ghost use Rattle.std.specs.Prelude.{◌≡◌, ◌≤◌, [], ◌++◌, map, IfO
 ghost use Rattle.std.specs.FinMap.{len};
 ghost use Rattle.std.specs.Vec.{vec_capacity};
 ghost use Rattle.ioc_types.specs.Record.{record_rules};
-ghost use Rattle.ioc_process.specs.OneMap.{world_of};
+ghost use Rattle.ioc_store.specs.OneMap.{world_of};
 ghost use Rattle.ioc_process.specs.Rules.{IsSettled};
 ghost use Rattle.ioc_dbfile.specs.FirstWorld.{first_world};
 ghost use Rattle.ioc_machine.specs.Machine.{first_queue};
 
 use crate::first_lists::{Occasion, first_lists};
+use crate::leads::lead_among;
 use crate::scanner::Scanner;
 use crate::scripted::Scripted;
-use crate::settled::event_leaves_settled;
-use ioc_dbfile::owns_device;
+use crate::sets::links_of;
+use crate::settled::{event_keeps_count, event_leaves_settled};
+use ioc_common::{KeptLink, LinkField};
+use ioc_dbfile::{Owners, owners_of, owns_device};
 use ioc_device::Answer;
+use ioc_events::{Reply, run_cancel, run_complete, run_link, run_notify, run_put, run_request};
 use ioc_fields::FieldNo;
+use ioc_graph::parts_of_all;
 use ioc_ledger::Tally;
-use ioc_names::RecordNo;
-use ioc_process::{EventStore, Frame, OneMap, Reply, run_complete, run_put, run_request};
+use ioc_links::Link;
+use ioc_names::{Names, RecordNo};
+use ioc_notify::NotifyId;
 use ioc_scan::{ListName, Listed};
+use ioc_store::{EventStore, Frame, OneMap};
 use ioc_types::Record;
 use ioc_values::{Finished, Input, IocError};
 use std::alloc::{AllocError, Global};
@@ -32,6 +39,11 @@ pub struct Machine {
     frames: Vec<Frame>,
     tally: Tally,
     scanner: Scanner,
+    owners: Owners,
+    // The number of the next put with notification.
+    next: u64,
+    // Those that have ended since this was told last. Room for all that are live at once is taken at the load.
+    ended: Vec<NotifyId>,
     alloc: Global,
     ghost settled: { IsSettled record_rules (world_of map) },
     ghost empty: { frames.items ≡ [] },
@@ -58,10 +70,13 @@ fn devices_of(alloc: Global, records: &[Record]) -> Result<Vec<Option<Scripted>>
 
 impl Machine {
     ghost use Rattle.std.specs.Prelude.{length};
-    ghost use Rattle.ioc_process.specs.declared.event.Event.TheVariants.{Process, Put, Complete};
+    ghost use Rattle.ioc_events.specs.declared.event.Event.TheVariants.{Process, Put, Complete, Link as Link_event, Notify, Cancel};
     ghost use Rattle.ioc_scan.specs.Walked.{walked};
     ghost use Rattle.ioc_machine.specs.FirstLists.{starters};
-    ghost use Rattle.ioc_machine.specs.Machine.{loaded_machine, first_machine, stepped_on, done, with_sent, each_requested, queued_on, scanned, serve, most_served, queued_at, at_moment};
+    ghost use Rattle.ioc_machine.specs.Leads.{field_of_link};
+    ghost use Rattle.ioc_machine.specs.Machine.{loaded_machine, first_machine, stepped_on, done, with_sent, each_requested, queued_on, scanned, serve, most_served, queued_at, at_moment, with_none_ended, notified, given_up};
+    ghost use Rattle.ioc_graph.specs.Members.{AreFirsts};
+    ghost use Rattle.ioc_machine.specs.Sets.{parts_of};
     ghost use Rattle.ioc_machine.specs.SeenMachine.{machine_of};
 
     // These records before any event. All room that events want, but for scan lists, is taken here.
@@ -72,14 +87,19 @@ impl Machine {
         let devices = devices_of(alloc, records.as_slice())?;
         let lists = first_lists(alloc, Occasion::Scanning, records.as_slice())?;
         let scanner = Scanner::new(alloc, lists)?;
+        let owners = owners_of(alloc, records.as_slice())?;
         let event = EventStore::new(alloc)?;
         let map = OneMap::new(records, devices, event);
         let frames = map.frames(alloc)?;
+        let ended = Vec::with_capacity(alloc, 256)?;
         Ok(Machine {
             map,
             frames,
             tally: Tally::default(),
             scanner,
+            owners,
+            next: 1,
+            ended,
             alloc,
         })
     }
@@ -167,12 +187,64 @@ impl Machine {
         )
     }
 
-    // Does what an event has sent.
+    // Gives a link field another link; what that sent is still to be done.
+    fn relink(&mut self, number: RecordNo, field: FieldNo, link: KeptLink) -> Reply
+        ensures machine { machine_of self.new ≡ (stepped_on record_rules (machine_of self.old) (Link_event number field link)).machine }
+        ensures reply { result ≡ (stepped_on record_rules (machine_of self.old) (Link_event number field link)).reply }
+    {
+        event_leaves_settled();
+        event_keeps_count();
+        self.map.begin();
+        run_link(&mut self.map, number, field, link)
+    }
+
+    // Puts a value into a field with a notification; what that sent is still to be done.
+    fn begin_notify(
+        &mut self,
+        number: RecordNo,
+        notification: NotifyId,
+        field: FieldNo,
+        given: Input,
+    ) -> Reply
+        ensures machine { machine_of self.new ≡ (stepped_on record_rules (machine_of self.old) (Notify number notification field given)).machine }
+        ensures reply { result ≡ (stepped_on record_rules (machine_of self.old) (Notify number notification field given)).reply }
+    {
+        event_leaves_settled();
+        self.map.begin();
+        run_notify(
+            &mut self.map,
+            &mut self.frames,
+            number,
+            notification,
+            field,
+            given,
+            &mut self.tally,
+        )
+    }
+
+    // A put with notification is given up; what that sent is still to be done.
+    fn give_up(&mut self, notification: NotifyId) -> Reply
+        ensures machine { machine_of self.new ≡ (stepped_on record_rules (machine_of self.old) (Cancel notification)).machine }
+        ensures reply { result ≡ (stepped_on record_rules (machine_of self.old) (Cancel notification)).reply }
+    {
+        event_leaves_settled();
+        self.map.begin();
+        run_cancel(
+            &mut self.map,
+            &mut self.frames,
+            notification,
+            &mut self.tally,
+        )
+    }
+
+    // Does what an event has sent, and keeps which notifications ended in it.
     #[tactic(auto, unfolding(crate::specs::Scanner::with_outbox))]
     fn send(&mut self) -> Result<(), AllocError>
         ensures { OnOk result (machine_of self.new ≡ with_sent (machine_of self.old)) }
     {
-        self.scanner.do_outbox(&self.map.event.outbox)
+        self.scanner.do_outbox(&self.map.event.outbox)?;
+        self.ended
+            .extend_from_slice(self.map.event.notifications.ended())
     }
 
     /// Requests a record.
@@ -225,6 +297,94 @@ impl Machine {
         let reply = self.finish(number, wait, finished);
         self.send()?;
         Ok(reply)
+    }
+
+    /// Gives a link field this link, which leads where these names and the owners of devices say.
+    ///
+    /// # Errors
+    ///
+    /// [`AllocError`] where memory is wanting: for the link, and nothing is changed then, or for what the event sent.
+    pub fn link(
+        &mut self,
+        names: &Names,
+        number: RecordNo,
+        field: FieldNo,
+        link: &Link,
+    ) -> Result<Reply, AllocError>
+        ensures machine { OnOk result (machine_of self.new ≡ (done record_rules (machine_of self.old) (Link_event number field (field_of_link record_rules names.now (machine_of self.old).owner (machine_of self.old).world number link.now))).machine) }
+        ensures reply { IfOk result (λ reply. reply ≡ (done record_rules (machine_of self.old) (Link_event number field (field_of_link record_rules names.now (machine_of self.old).owner (machine_of self.old).world number link.now))).reply) }
+    {
+        let lead = lead_among(names, &self.map, &self.owners, number, link);
+        let kept = KeptLink::new(self.alloc, LinkField { link: *link, lead })?;
+        let reply = self.relink(number, field, kept);
+        self.send()?;
+        Ok(reply)
+    }
+
+    /// Puts a value into a field with a notification, under the next number: 1, 2, 3, .. A refused one uses none.
+    ///
+    /// # Errors
+    ///
+    /// [`AllocError`] where memory is wanting: what the event sent isn't all done then.
+    pub fn notify(
+        &mut self,
+        number: RecordNo,
+        field: FieldNo,
+        given: Input,
+    ) -> Result<Reply, AllocError>
+        ensures machine { OnOk result (machine_of self.new ≡ (notified record_rules (machine_of self.old) number field given).machine) }
+        ensures reply { IfOk result (λ reply. reply ≡ (notified record_rules (machine_of self.old) number field given).reply) }
+    {
+        let reply = self.begin_notify(number, NotifyId::new(self.next), field, given);
+        self.send()?;
+        if !matches!(reply, Reply::Refused(_)) {
+            self.next = self.next.saturating_add(1);
+        }
+        Ok(reply)
+    }
+
+    /// A put with notification is given up: it doesn't end.
+    ///
+    /// # Errors
+    ///
+    /// [`AllocError`] where memory is wanting: what the event sent isn't all done then.
+    pub fn cancel(&mut self, notification: NotifyId) -> Result<Reply, AllocError>
+        ensures machine { OnOk result (machine_of self.new ≡ (given_up record_rules (machine_of self.old) notification).machine) }
+        ensures reply { IfOk result (λ reply. reply ≡ (given_up record_rules (machine_of self.old) notification).reply) }
+    {
+        let reply = self.give_up(notification);
+        self.send()?;
+        Ok(reply)
+    }
+
+    /// The puts with notification that have ended since they were forgotten last, in order.
+    pub fn ended(&self) -> &[NotifyId]
+        ensures { result.now ≡ (machine_of self.now).ended }
+    {
+        self.ended.as_slice()
+    }
+
+    /// Forgets those that have ended.
+    pub fn forget_ended(&mut self)
+        ensures { machine_of self.new ≡ with_none_ended (machine_of self.old) }
+    {
+        self.ended.clear();
+    }
+
+    /// For each record the number of the part that standing links join it to, which is that of the part's first record. Cost: near the
+    /// number of records and links.
+    ///
+    /// # Errors
+    ///
+    /// [`AllocError`] where memory is wanting.
+    pub fn parts(&self) -> Result<Vec<usize>, AllocError>
+        ensures parts { IfOk result (λ numbers. numbers.items ≡ parts_of record_rules (machine_of self.now).world) }
+        ensures firsts { IfOk result (λ numbers. AreFirsts numbers.items) }
+        ensures all { IfOk result (λ numbers. length numbers.items ≡ length self.now.map.records.items) }
+    {
+        let records = self.map.records.as_slice();
+        let links = links_of(self.alloc, records)?;
+        parts_of_all(self.alloc, links.as_slice(), records.len())
     }
 
     /// Queues an answer for the device of a record; a record without one is refused.

@@ -2,15 +2,15 @@
 ghost use Rattle.std.specs.Prelude.{◌≡◌, ◌≤◌, ◌+◌, ◌∷◌, [], length, IfOk, OnOk};
 ghost use Rattle.ioc_types.specs.Record.{record_rules};
 ghost use Rattle.ioc_callback.specs.Serving.{no_items};
-ghost use Rattle.ioc_process.specs.Outbox.{items_of};
+ghost use Rattle.ioc_store.specs.Outbox.{items_of};
 ghost use Rattle.ioc_machine.specs.Scanner.{with_each_called, count_called, called_on, event_list, interrupt_list, with_change, with_item, with_items, with_more_dropped};
 
 use crate::first_lists::place_by;
 use ioc_callback::Queues;
 use ioc_names::RecordNo;
-use ioc_process::outbox::Outbox;
-use ioc_process::{OutboxItem, ScanChange};
 use ioc_scan::{ListName, Listed, ScanLists, Word};
+use ioc_store::outbox::Outbox;
+use ioc_store::{OutboxItem, ScanChange};
 use ioc_values::Text;
 use std::alloc::{AllocError, Global};
 use std::marker::Model;
@@ -65,7 +65,7 @@ pub fn interrupt_list(word: &[u8]) -> Option<ListName>
 impl Scanner {
     ghost use Rattle.std.specs.Prelude.{◌++◌, option_to_list, IsSome, ◌↔◌, ◌<◌};
     ghost use Rattle.ioc_callback.specs.Serving.{in_turn, served};
-    ghost use Rattle.ioc_process.specs.declared.outbox.OutboxItem.TheVariants.{Once};
+    ghost use Rattle.ioc_store.specs.declared.outbox.OutboxItem.TheVariants.{Once};
     ghost use Rattle.ioc_scan.specs.Walked.{walked};
 
     /// These lists, with no request waiting.

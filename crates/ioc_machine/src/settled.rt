@@ -1,12 +1,14 @@
 //! What an event leaves of a database.
 ghost use Rattle.ioc_types.specs.Record.{Record, record_rules};
-ghost use Rattle.ioc_process.specs.World.{World};
+ghost use Rattle.std.specs.Prelude.{◌≡◌};
+ghost use Rattle.std.specs.FinMap.{len};
+ghost use Rattle.ioc_store.specs.World.{World, IsClosed};
 ghost use Rattle.ioc_process.specs.Rules.{IsSettled};
-ghost use Rattle.ioc_process.specs.declared.event.Event.{Event};
-ghost use Rattle.ioc_process.specs.Step.{stepped};
-ghost use Rattle.ioc_process.specs.Given.{Answers};
+ghost use Rattle.ioc_events.specs.declared.event.Event.{Event};
+ghost use Rattle.ioc_events.specs.Step.{stepped};
+ghost use Rattle.ioc_store.specs.Given.{Answers};
 
-use ioc_process::rules::{events_leave_settled, rules_are_steps};
+use ioc_events::event_rules::{events_keep_records, events_leave_settled, rules_are_steps};
 use ioc_types::Record;
 
 /// An event leaves a database of this program so that no link leaves it and a record is active exactly where its completion
@@ -15,5 +17,13 @@ pub fn event_leaves_settled()
     ensures { (answers : Answers) (w : World Record) (event : Event) → IsSettled record_rules w → IsSettled record_rules (stepped record_rules answers w event).world }
 {
     events_leave_settled::<Record>();
+    rules_are_steps::<Record>();
+}
+
+/// An event leaves as many records as there were.
+pub fn event_keeps_count()
+    ensures { (answers : Answers) (w : World Record) (event : Event) → IsClosed record_rules w → len (stepped record_rules answers w event).world.records ≡ len w.records }
+{
+    events_keep_records::<Record>();
     rules_are_steps::<Record>();
 }

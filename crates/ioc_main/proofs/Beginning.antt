@@ -18,7 +18,7 @@ use Rattle.ioc_main.specs.Script.{lines_of}
 use Rattle.ioc_machine.specs.Machine.{Machine, first_machine}
 use Rattle.ioc_main.specs.Replay.{transcript}
 use Rattle.ioc_main.specs.Written.{WritesFront, WritesPart, StopsScript}
-use Rattle.ioc_main.specs.Transcript.{loaded, transcript_by, transcript_of, IsDatabase, RunsOut, in_the_load, in_a_line, StopsWith}
+use Rattle.ioc_main.specs.Transcript.{loaded, transcript_by, transcript_of, IsDatabase, in_the_load, in_a_line, StopsWith}
 
 module _ (macros : List Defined) (text : List ℕ) (database : Loading Record) (names : NameTable) (machine : Machine Record)
     (reads : loaded macros text ≡ Ok database) (named : names ≡ database.names) (is : machine ≡ first_machine record_rules database.records) where

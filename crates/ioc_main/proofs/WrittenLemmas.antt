@@ -7,7 +7,7 @@ use Rattle.ioc_main.specs.declared.fault.LineFault.{LineFault}
 use Rattle.ioc_main.specs.declared.fault.LineFault.TheVariants as line
 use Rattle.ioc_main.specs.Faults.{script_fault_of}
 
-appends_trans : (a b c : Option (List ℕ)) (bs cs : List ℕ) → Appends a b bs → Appends b c cs → Appends a c (bs ++ cs)
+pub appends_trans : (a b c : Option (List ℕ)) (bs cs : List ℕ) → Appends a b bs → Appends b c cs → Appends a c (bs ++ cs)
 appends_trans None b c bs cs p q = tt
 appends_trans (Some x) None c bs cs p q = absurd p
 appends_trans (Some x) (Some y) None bs cs p q = absurd q
@@ -86,3 +86,7 @@ pub said_fails : (a b : Option (List ℕ)) (x slice said more : List ℕ) → sl
 said_fails a b x slice said more e f p =
     let q : WritesPart a said b = subst (λ (l : List ℕ). WritesPart a l b) e p in
     subst (λ (l : List ℕ). WritesPart a l b) (sym f) (part_more a b said more q)
+
+-- a second text isn't taken whole behind a first one
+pub all_then_part : (a b c : Option (List ℕ)) (x y : List ℕ) → Appends a b x → WritesPart b y c → WritesPart a (x ++ y) c
+all_then_part a b c x y p q = writes_then_part a b c (x ++ y) y (writes_all a b x y p) q

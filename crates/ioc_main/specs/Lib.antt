@@ -2,6 +2,8 @@ pub mod Script
 pub mod Coming
 pub mod Written
 pub mod Seen
+pub mod Relink
+pub mod Sets
 pub mod Replay
 pub mod ReplayLaws
 pub mod Faults

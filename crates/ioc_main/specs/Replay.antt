@@ -18,15 +18,17 @@ use Rattle.ioc_ledger.specs.declared.outcome.Outcome.{Outcome}
 use Rattle.ioc_ledger.specs.declared.outcome.Outcome.TheVariants.{Processed, Disabled, Active, Reprocess}
 use Rattle.ioc_ledger.specs.declared.tally.Tally.{Tally}
 use Rattle.ioc_record.specs.RecordRules.{RecordRules}
-use Rattle.ioc_process.specs.declared.reply.Reply.{Reply}
-use Rattle.ioc_process.specs.declared.reply.Reply.TheVariants.{Plain, Outcome as Outcome-reply, Shown, Notify as Notify-reply, Live as Live-reply, Refused}
-use Rattle.ioc_process.specs.World.{World, at}
-use Rattle.ioc_process.specs.declared.event.Event.TheVariants.{Get as Get-event, Process as Process-event, Put as Put-event, Complete as Complete-event}
-use Rattle.ioc_process.specs.Step.{stepped}
-use Rattle.ioc_main.specs.Script.{Command, Silent, Bad, Process, Put, Get, At, Next-done, Next-fault, Next-later, Done, Fault, Event, Interrupt, Scan, Tally as Tally-command, command_of}
+use Rattle.ioc_events.specs.declared.reply.Reply.{Reply}
+use Rattle.ioc_events.specs.declared.reply.Reply.TheVariants.{Plain, Outcome as Outcome-reply, Shown, Notify as Notify-reply, Live as Live-reply, Refused}
+use Rattle.ioc_store.specs.World.{World, at}
+use Rattle.ioc_events.specs.declared.event.Event.TheVariants.{Get as Get-event, Process as Process-event, Put as Put-event, Complete as Complete-event}
+use Rattle.ioc_events.specs.Step.{stepped}
+use Rattle.ioc_main.specs.Script.{Command, Silent, Bad, Process, Put, Get, At, Next-done, Next-fault, Next-later, Done, Fault, Event, Interrupt, Scan, Link, Tally as Tally-command, command_of, Notify, Cancel, Sets}
 use Rattle.ioc_scan.specs.declared.list_name.ListName.TheVariants.{Period as Period-list}
+use Rattle.ioc_main.specs.Sets.{sets_line}
 use Rattle.ioc_machine.specs.Scanner.{event_list, interrupt_list}
-use Rattle.ioc_machine.specs.Machine.{Machine, Told, Counted, answers_from, refused, queued_at, queued_on, at_moment, most_served, done, scanned, serve}
+use Rattle.ioc_main.specs.Relink.{were_linked}
+use Rattle.ioc_machine.specs.Machine.{Machine, Told, Counted, answers_from, refused, queued_at, queued_on, at_moment, most_served, done, scanned, serve, with_none_ended, notified, given_up}
 
 -- what the outcome of a request is called
 unfoldable pub outcome_words : Outcome → List ℕ
@@ -59,6 +61,11 @@ tally_words t dropped =
     codes "tally begun=" ++ decimal t.begun ++ codes " processed=" ++ decimal t.processed ++ codes " disabled=" ++ decimal t.disabled ++ codes " active=" ++ decimal t.active
     ++ codes " reprocess=" ++ decimal t.reprocess ++ codes " started=" ++ decimal t.started ++ codes " completed=" ++ decimal t.completed ++ codes " dropped=" ++ decimal dropped
 
+-- a line for each put with notification that has ended
+abbrev pub ended_lines : List ℕ → List ℕ
+ended_lines [] = []
+ended_lines (number ∷ numbers) = (codes "ended " ++ decimal number ++ 10 ∷ []) ++ ended_lines numbers
+
 -- what a line leaves, and what is printed for it
 pub record Answered (R : Type 0) : Type 0 where
   pub machine : Machine R
@@ -80,6 +87,10 @@ given_value text = Text (take 39 text)
 abbrev pub is_silent : Command → Bool
 is_silent Silent = true
 is_silent _ = false
+
+-- requests that wait are served, and the puts with notification that have ended since are told
+unfoldable pub attended : {R : Type 0} → RecordRules R → Machine R → Answered R
+attended k m = let after = serve k most_served m in record { machine = with_none_ended after; said = ended_lines after.ended }
 
 module _ {R : Type 0} (k : RecordRules R) (names : NameTable) where
   -- the field of this name of the record of this name
@@ -108,6 +119,10 @@ module _ {R : Type 0} (k : RecordRules R) (names : NameTable) where
   were_put m text (Ok c) = done k m (Put-event c.0 c.1 (input_of text))
   were_put m text (Err e) = refused m e
 
+  abbrev pub were_notified : Machine R → List ℕ → Result (ℕ × FieldNo) IocError → Told R
+  were_notified m text (Ok c) = notified k m c.0 c.1 (input_of text)
+  were_notified m text (Err e) = refused m e
+
   -- an answer is queued for the device of a record
   abbrev pub answers_next : Machine R → Answer → Option ℕ → Told R
   answers_next m answer None = refused m NoRecord
@@ -133,13 +148,17 @@ module _ {R : Type 0} (k : RecordRules R) (names : NameTable) where
   carried_out m (Event name) = counted (queued_on m (event_list (take 39 name)))
   carried_out m (Interrupt word) = counted (queued_on m (interrupt_list word))
   carried_out m (Scan period) = counted (scanned k m (Period-list period))
+  carried_out m (Link name field text) = replied (were_linked k names m text (channel m.world name field))
   carried_out m Tally-command = record { machine = m; said = tally_words m.tally m.scanner.queues.dropped ++ 10 ∷ [] }
+  carried_out m (Notify name field text) = replied (were_notified m text (channel m.world name field))
+  carried_out m (Cancel number) = replied (given_up k m number)
+  carried_out m Sets = record { machine = m; said = sets_line k m.world }
 
-  -- after a line that is answered, requests that wait are served
+  -- after a line that is answered, what waits is attended to
   unfoldable pub answered : Machine R → Command → Answered R
   answered m command =
       let did = carried_out m command in
-      if is_silent command then did else record { machine = serve k most_served did.machine; said = did.said }
+      if is_silent command then did else (let later = attended k did.machine in record { machine = later.machine; said = did.said ++ later.said })
 
   -- what is printed for these lines
   abbrev pub transcript : Machine R → List (List ℕ) → List ℕ

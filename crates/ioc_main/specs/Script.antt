@@ -1,6 +1,6 @@
 -- The lines of a script, and what each asks for: `process REC`, `put REC.F TEXT`, `get REC.F`, `at N`, `next REC done TEXT`,
--- `next REC fault`, `next REC later`, `done REC N TEXT`, `fault REC N`, `event NAME`, `io WORD`, `scan CHOICE`,
--- `tally`. This project's own, after the commands dbtr, dbpf and
+-- `next REC fault`, `next REC later`, `done REC N TEXT`, `fault REC N`, `event NAME`, `io WORD`, `scan CHOICE`, `link REC.F TEXT`,
+-- `tally`, `notify REC.F TEXT`, `cancel N`, `sets`. This project's own, after the commands dbtr, dbpf and
 -- dbgf of an IOC's shell: Application Developer's Guide, "IOC Test Facilities".
 use Rattle.std.specs.Prelude.{ℕ, ◌^◌, List, [], ◌∷◌, take, length, codes, nat_lt, nat_eq, ◌==◌, if◌then◌else◌, unwrap_or, slice_get, Option, Some, None}
 use Rattle.std.specs.List.{onto_first}
@@ -54,8 +54,16 @@ pub data Command : Type 0 where
   Interrupt : (word : List ℕ) → Command
   -- the list of a period is scanned
   Scan : (period : Period) → Command
+  -- a link field gets the link of this text
+  Link : (name : List ℕ) → (field : List ℕ) → (text : List ℕ) → Command
   -- the counts of requests
   Tally : Command
+  -- a text is put into a field, with a notification
+  Notify : (name : List ℕ) → (field : List ℕ) → (text : List ℕ) → Command
+  -- the put with notification of this number is given up
+  Cancel : (number : ℕ) → Command
+  -- the connected parts
+  Sets : Command
 
 -- one word, and nothing behind it
 abbrev pub process_of : List ℕ → Option (List ℕ) → Command
@@ -153,12 +161,48 @@ scan_at (Some period) = Scan period
 abbrev pub scan_of : List ℕ → Command
 scan_of text = scan_at (period_named text)
 
+-- the text may be missing
+abbrev pub link_at : List ℕ → Option (List ℕ) → Option (List ℕ) → Command
+link_at name None text = Bad
+link_at name (Some field) text = Link name field (unwrap_or text [])
+
+abbrev pub link_of : List ℕ → Option (List ℕ) → Command
+link_of word text = link_at (before 46 word) (behind 46 word) text
+
+-- what changes how records are joined
+abbrev pub by_link_verb : List ℕ → List ℕ → Command
+by_link_verb verb words = if pointwise nat_eq verb (codes "link") then link_of (before 32 words) (behind 32 words) else Bad
+
+-- the text may be missing
+abbrev pub notify_at : List ℕ → Option (List ℕ) → Option (List ℕ) → Command
+notify_at name None text = Bad
+notify_at name (Some field) text = Notify name field (unwrap_or text [])
+
+-- the word is cut at its first dot
+abbrev pub notify_of : List ℕ → Option (List ℕ) → Command
+notify_of word text = notify_at (before 46 word) (behind 46 word) text
+
+abbrev pub cancel_at : Option ℕ → Command
+cancel_at None = Bad
+cancel_at (Some number) = Cancel number
+
+-- one number alone
+abbrev pub cancel_of : List ℕ → Option (List ℕ) → Command
+cancel_of word (Some words) = Bad
+cancel_of word None = cancel_at (below (2 ^ 64) (numeral 10 word))
+
+-- puts with notification
+abbrev pub by_notify_verb : List ℕ → List ℕ → Command
+by_notify_verb verb words =
+    if pointwise nat_eq verb (codes "notify") then notify_of (before 32 words) (behind 32 words)
+    else (if pointwise nat_eq verb (codes "cancel") then cancel_of (before 32 words) (behind 32 words) else by_link_verb verb words)
+
 -- what has records on scan lists processed
 abbrev pub by_scan_verb : List ℕ → List ℕ → Command
 by_scan_verb verb words =
     if pointwise nat_eq verb (codes "event") then Event words
     else (if pointwise nat_eq verb (codes "io") then interrupt_of (before 32 words) (behind 32 words)
-    else (if pointwise nat_eq verb (codes "scan") then scan_of words else Bad))
+    else (if pointwise nat_eq verb (codes "scan") then scan_of words else by_notify_verb verb words))
 
 -- what a script does as a record's device
 abbrev pub by_device_verb : List ℕ → List ℕ → Command
@@ -178,7 +222,7 @@ by_verb verb words =
     else by_device_verb verb words)))
 
 abbrev pub with_words : List ℕ → Option (List ℕ) → Command
-with_words verb None = if pointwise nat_eq verb (codes "tally") then Tally else (if pointwise nat_eq verb (codes "event") then Event [] else Bad)
+with_words verb None = if pointwise nat_eq verb (codes "tally") then Tally else (if pointwise nat_eq verb (codes "event") then Event [] else (if pointwise nat_eq verb (codes "sets") then Sets else Bad))
 with_words verb (Some words) = by_verb verb words
 
 -- words are parted by one space

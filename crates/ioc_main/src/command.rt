@@ -1,6 +1,6 @@
 //! What a line of a script asks for.
 ghost use Rattle.std.specs.Prelude.{◌≡◌, option_map};
-ghost use Rattle.ioc_main.specs.Script.{command_of, worded, by_verb, process_of, put_of, get_of, at_of, next_by, next_of, done_of, fault_of, by_device_verb, by_scan_verb, interrupt_of, period_named, scan_of};
+ghost use Rattle.ioc_main.specs.Script.{command_of, worded, by_verb, process_of, put_of, get_of, at_of, next_by, next_of, done_of, fault_of, by_device_verb, by_scan_verb, by_link_verb, link_of, interrupt_of, period_named, scan_of, by_notify_verb, notify_of, cancel_of};
 ghost use Rattle.ioc_main.specs.Seen.{seen, bytes};
 ghost use Rattle.ioc_main.specs.Replay.{is_silent};
 
@@ -40,8 +40,16 @@ pub enum Command<'a> {
     Interrupt(&'a [u8]),
     /// The list of a period is scanned.
     Scan(Period),
+    /// A record, a link field of it, and the text of its new link.
+    Link(&'a [u8], &'a [u8], &'a [u8]),
     /// The counts of requests.
     Tally,
+    /// A record, a field of it, and the text to put there with a notification.
+    Notify(&'a [u8], &'a [u8], &'a [u8]),
+    /// The put with notification of this number is given up.
+    Cancel(u64),
+    /// The connected parts.
+    Sets,
 }
 
 #[tactic(auto, unfolding(crate::specs::Script::command_of))]
@@ -77,6 +85,7 @@ fn worded(line: &[u8]) -> Command<'_>
         Some(words) => by_verb(verb, words),
         None if verb == b"tally".as_slice() => Command::Tally,
         None if verb == b"event".as_slice() => Command::Event(b""),
+        None if verb == b"sets".as_slice() => Command::Sets,
         None => Command::Bad,
     }
 }
@@ -126,7 +135,62 @@ fn by_scan_verb<'a>(verb: &'a [u8], words: &'a [u8]) -> Command<'a>
     } else if verb == b"scan".as_slice() {
         scan(words)
     } else {
+        by_notify_verb(verb, words)
+    }
+}
+
+// Puts with notification.
+fn by_notify_verb<'a>(verb: &'a [u8], words: &'a [u8]) -> Command<'a>
+    ensures { seen result ≡ by_notify_verb verb.now words.now }
+{
+    let (word, more) = cut_at(words, b' ');
+    if verb == b"notify".as_slice() {
+        notify(word, more)
+    } else if verb == b"cancel".as_slice() {
+        cancel(word, more)
+    } else {
+        by_link_verb(verb, words)
+    }
+}
+
+// What changes how records are joined.
+fn by_link_verb<'a>(verb: &'a [u8], words: &'a [u8]) -> Command<'a>
+    ensures { seen result ≡ by_link_verb verb.now words.now }
+{
+    let (word, text) = cut_at(words, b' ');
+    if verb == b"link".as_slice() {
+        link(word, text)
+    } else {
         Command::Bad
+    }
+}
+
+fn link<'a>(word: &'a [u8], text: Option<&'a [u8]>) -> Command<'a>
+    ensures { seen result ≡ link_of word.now (option_map bytes text.entry) }
+{
+    let (record, field) = cut_at(word, b'.');
+    match field {
+        Some(field) => Command::Link(record, field, text.unwrap_or(b"")),
+        None => Command::Bad,
+    }
+}
+
+fn notify<'a>(word: &'a [u8], text: Option<&'a [u8]>) -> Command<'a>
+    ensures { seen result ≡ notify_of word.now (option_map bytes text.entry) }
+{
+    let (record, field) = cut_at(word, b'.');
+    match field {
+        Some(field) => Command::Notify(record, field, text.unwrap_or(b"")),
+        None => Command::Bad,
+    }
+}
+
+fn cancel<'a>(word: &'a [u8], more: Option<&'a [u8]>) -> Command<'a>
+    ensures { seen result ≡ cancel_of word.now (option_map bytes more.entry) }
+{
+    match (decimal(word), more) {
+        (Some(number), None) => Command::Cancel(number),
+        (None, _) | (Some(_), Some(_)) => Command::Bad,
     }
 }
 

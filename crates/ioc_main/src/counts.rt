@@ -38,6 +38,17 @@ pub fn notify_line(number: NotifyId) -> LineReply
     line
 }
 
+/// Tells that a put with notification has ended, with the line feed.
+#[inline(never)]
+pub fn ended_line(number: NotifyId) -> LineReply
+    ensures { result ≡ codes "ended " ++ decimal number ++ 10 ∷ [] }
+{
+    let mut line = LineReply::new();
+    add_count(&mut line, b"ended ", number.number());
+    line.push(b'\n');
+    line
+}
+
 /// The counts, and how many items were dropped, with the line feed.
 #[tactic(auto, unfolding(crate::specs::Replay::tally_words))]
 pub fn tally_line(tally: &Tally, dropped: u64) -> LineReply

@@ -12,6 +12,7 @@ mod replay;
 mod reply_line;
 mod runs;
 mod session;
+mod sets;
 mod writing;
 
 pub use arguments::Arguments;
@@ -21,4 +22,4 @@ pub use fault::{LineFault, RunFault, ScriptFault, WriteFault};
 pub use lines::run_script;
 pub use replay::Replay;
 pub use runs::run;
-pub use session::{LineReply, Session};
+pub use session::{LineReply, Said, Session};

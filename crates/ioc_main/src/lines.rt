@@ -1,32 +1,42 @@
 //! The lines of a script, from any reader, each answered as it ends.
-ghost use Rattle.std.specs.Prelude.{◌≡◌, ◌∷◌, ◌++◌, [], List, ℕ, OnOk, IfSome, IfErr};
+ghost use Rattle.std.specs.Prelude.{◌≡◌, ◌∷◌, ◌++◌, [], List, ℕ, OnOk, OnErr, IfSome, IfErr};
 ghost use Rattle.std.specs.Io.KnownBytes.{Appends};
 ghost use Rattle.ioc_main.specs.Script.{lines_of, cut};
 ghost use Rattle.ioc_main.specs.Coming.{to_come};
-ghost use Rattle.ioc_main.specs.Written.{Writes, StopsLine, StopsScript};
+ghost use Rattle.ioc_main.specs.Written.{Writes, WritesPart, StopsLine, StopsScript};
 
-use crate::fault::{LineFault, ScriptFault};
+use crate::fault::{LineFault, ScriptFault, WriteFault};
 use crate::parts::cut_at;
-use crate::session::{LineReply, Session};
+use crate::session::{Said, Session};
 use crate::writing::write_text;
 use ioc_values::Room;
+use std::alloc::Global;
 use std::io::{Read, Write};
 
 // What came of the line that is under way: enough of it to see that it is too long.
 type Line = Room<1025>;
 
+// Writes what is said of a line.
+fn write_said<W: Write>(said: &Said, out: &mut W) -> Result<(), WriteFault>
+    ensures ok { OnOk result (Appends (W.contents out.old) (W.contents out.new) (said.now.reply ++ said.now.more.items)) }
+    ensures err { OnErr result (WritesPart (W.contents out.old) (said.now.reply ++ said.now.more.items) (W.contents out.new)) }
+{
+    write_text(out, said.reply.as_slice())?;
+    write_text(out, said.more.as_slice())
+}
+
 // Answers a line, and writes what is said of it.
 fn say<S: Session, W: Write>(
     session: &mut S,
-    reply: &mut LineReply,
+    said: &mut Said,
     out: &mut W,
     line: &[u8],
 ) -> Result<(), LineFault>
     ensures ok { OnOk result ((lines : List (List ℕ)) → Writes (W.contents out.old) (S.transcript session.old (line.now ∷ lines)) (W.contents out.new) (S.transcript session.new lines)) }
     ensures err { IfErr result (λ fault. (lines : List (List ℕ)) → StopsLine fault (W.contents out.old) (S.transcript session.old (line.now ∷ lines)) (W.contents out.new)) }
 {
-    session.answer(line, reply)?;
-    write_text(out, reply.as_slice())?;
+    session.answer(line, said)?;
+    write_said(said, out)?;
     Ok(())
 }
 
@@ -34,7 +44,7 @@ fn say<S: Session, W: Write>(
 fn end_line<S: Session, W: Write>(
     session: &mut S,
     line: &mut Line,
-    reply: &mut LineReply,
+    said: &mut Said,
     out: &mut W,
     last: &[u8],
 ) -> Result<(), LineFault>
@@ -42,10 +52,10 @@ fn end_line<S: Session, W: Write>(
     ensures err { IfErr result (λ fault. (lines : List (List ℕ)) → StopsLine fault (W.contents out.old) (S.transcript session.old ((line.old ++ last.now) ∷ lines)) (W.contents out.new)) }
 {
     if line.is_empty() {
-        return say(session, reply, out, last);
+        return say(session, said, out, last);
     }
     line.extend_cut(last);
-    say(session, reply, out, line.as_slice())?;
+    say(session, said, out, line.as_slice())?;
     line.clear();
     Ok(())
 }
@@ -53,7 +63,7 @@ fn end_line<S: Session, W: Write>(
 fn feed<S: Session, W: Write>(
     session: &mut S,
     line: &mut Line,
-    reply: &mut LineReply,
+    said: &mut Said,
     out: &mut W,
     piece: &[u8],
 ) -> Result<(), LineFault>
@@ -67,7 +77,7 @@ fn feed<S: Session, W: Write>(
             line.extend_cut(last);
             return Ok(());
         };
-        end_line(session, line, reply, out, last)?;
+        end_line(session, line, said, out, last)?;
         rest = more;
     }
     Ok(())
@@ -77,7 +87,7 @@ fn feed<S: Session, W: Write>(
 fn finish<S: Session, W: Write>(
     session: &mut S,
     line: &mut Line,
-    reply: &mut LineReply,
+    said: &mut Said,
     out: &mut W,
 ) -> Result<(), LineFault>
     ensures ok { OnOk result (Appends (W.contents out.old) (W.contents out.new) (to_come (S.transcript session.old) line.old [])) }
@@ -85,7 +95,7 @@ fn finish<S: Session, W: Write>(
 {
     match line.as_slice() {
         [] => Ok(()),
-        [_, ..] => say(session, reply, out, line.as_slice()),
+        [_, ..] => say(session, said, out, line.as_slice()),
     }
 }
 
@@ -96,6 +106,7 @@ fn finish<S: Session, W: Write>(
 /// [`ScriptFault::Read`] where a read failed, [`ScriptFault::Write`] where a write did, [`ScriptFault::Memory`] where a growth was
 /// refused. Then what was written is a beginning of the transcript (after a failed write not all of it), and nothing more is written.
 pub fn run_script<S: Session, R: Read + Drop, W: Write>(
+    alloc: Global,
     session: &mut S,
     mut script: R,
     out: &mut W,
@@ -104,16 +115,16 @@ pub fn run_script<S: Session, R: Read + Drop, W: Write>(
     ensures err { IfErr result (λ fault. IfSome (R.remaining script) (λ text. StopsScript fault (W.contents out.old) (S.transcript session.old (lines_of text)) (W.contents out.new))) }
 {
     let mut line = Line::new();
-    let mut reply = LineReply::new();
+    let mut said = Said::new(alloc);
     let mut buffer = [0u8; 512];
     for _ in 0..u64::MAX {
         match script.read(&mut buffer) {
             Ok(0) => {
-                finish(session, &mut line, &mut reply, out)?;
+                finish(session, &mut line, &mut said, out)?;
                 return Ok(());
             }
             Ok(n) => {
-                feed(session, &mut line, &mut reply, out, buffer.split_at(n).0)?;
+                feed(session, &mut line, &mut said, out, buffer.split_at(n).0)?;
             }
             Err(_) => return Err(ScriptFault::Read),
         }

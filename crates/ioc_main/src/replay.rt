@@ -2,27 +2,33 @@
 ghost use Rattle.std.specs.Prelude.{◌≡◌, ◌∷◌, ◌++◌, [], List, ℕ, IsSome, IfOk, OnOk};
 ghost use Rattle.ioc_names.specs.NameTable.{number_of};
 ghost use Rattle.ioc_types.specs.Record.{record_rules};
-ghost use Rattle.ioc_fields.specs.Table.{row_of};
+ghost use Rattle.ioc_fields.specs.Table.{row_of, kind_of};
 ghost use Rattle.ioc_process.specs.Rules.{IsSettled};
-ghost use Rattle.ioc_process.specs.World.{Has, at};
+ghost use Rattle.ioc_store.specs.World.{Has, at};
 ghost use Rattle.ioc_dbfile.specs.FirstWorld.{first_world};
-ghost use Rattle.ioc_machine.specs.Machine.{first_machine, queued_on, scanned};
+ghost use Rattle.ioc_machine.specs.Machine.{first_machine, queued_on, with_none_ended, given_up, scanned};
 ghost use Rattle.ioc_machine.specs.SeenMachine.{machine_of};
-ghost use Rattle.ioc_main.specs.Replay.{Answered, channel, processed, got, were_put, answers_next, were_completed, given_value, carried_out, answered, reply_words, tally_words, count_words};
+ghost use Rattle.ioc_main.specs.Replay.{Answered, channel, processed, got, were_put, answers_next, were_completed, given_value, carried_out, answered, reply_words, tally_words, count_words, were_notified, attended, ended_lines};
+ghost use Rattle.ioc_main.specs.Relink.{linked_in, were_linked};
 ghost use Rattle.ioc_main.specs.Script.{command_of};
 ghost use Rattle.ioc_main.specs.Seen.{seen};
+ghost use Rattle.ioc_main.specs.Sets.{sets_line};
 
 use crate::command::Command;
-use crate::counts::{count_line, tally_line};
+use crate::counts::{count_line, ended_line, tally_line};
 use crate::reply_line::{say_refusal, say_reply};
-use crate::session::{LineReply, Session};
+use crate::session::{LineReply, Said, Session};
+use crate::sets::say_sets;
 use ioc_device::Answer;
-use ioc_fields::{FieldNo, field};
+use ioc_events::Reply;
+use ioc_fields::{FieldKind, FieldNo, field, kind_of};
+use ioc_links::parse;
 use ioc_machine::{Machine, event_list, interrupt_list};
 use ioc_names::{Names, RecordNo};
-use ioc_process::{Reply, Store};
-use ioc_record::{RecordKind, add_text};
+use ioc_notify::NotifyId;
+use ioc_record::{RecordKind, add_text, stops_put};
 use ioc_scan::ListName;
+use ioc_store::Store;
 use ioc_types::Record;
 use ioc_values::{Finished, Input, IocError, Text, Value};
 use std::alloc::{AllocError, Global};
@@ -32,6 +38,7 @@ use std::alloc::{AllocError, Global};
 pub struct Replay {
     names: Names,
     machine: Machine,
+    alloc: Global,
 }
 
 // The value that a text gives: its first 39 bytes.
@@ -54,7 +61,11 @@ impl Replay {
         ensures machine { IfOk result (λ r. machine_of r.machine ≡ first_machine record_rules records.items) }
     {
         let machine = Machine::new(alloc, records)?;
-        Ok(Replay { names, machine })
+        Ok(Replay {
+            names,
+            machine,
+            alloc,
+        })
     }
 
     // The field of this name of the record of this name.
@@ -233,6 +244,46 @@ impl Replay {
         Ok(())
     }
 
+    // Gives a field of a record the link of this text.
+    fn relink(&mut self, number: RecordNo, field: FieldNo, text: &[u8]) -> Result<Reply, AllocError>
+        requires { Has (machine_of self.old.machine).world number }
+        ensures names { self.new.names ≡ self.old.names }
+        ensures machine { OnOk result (machine_of self.new.machine ≡ (linked_in record_rules self.old.names (machine_of self.old.machine) number field text.now (kind_of (record_rules.record_type (at record_rules (machine_of self.old.machine).world number)) field)).machine) }
+        ensures reply { IfOk result (λ reply. reply ≡ (linked_in record_rules self.old.names (machine_of self.old.machine) number field text.now (kind_of (record_rules.record_type (at record_rules (machine_of self.old.machine).world number)) field)).reply) }
+    {
+        let item = self.machine.map().record(number);
+        let Some(FieldKind::Link(role)) = kind_of(item.record_type(), field) else {
+            return Ok(Reply::Refused(IocError::NoField));
+        };
+        if stops_put(item.common(), field) {
+            return Ok(Reply::Refused(IocError::PutDisabled));
+        }
+        match parse(role.link_kind(), text) {
+            Ok(link) => self.machine.link(&self.names, number, field, &link),
+            Err(refused) => Ok(Reply::Refused(refused)),
+        }
+    }
+
+    #[inline(never)]
+    fn link(
+        &mut self,
+        record_name: &[u8],
+        field_name: &[u8],
+        text: &[u8],
+        reply: &mut LineReply,
+    ) -> Result<(), AllocError>
+        requires { reply.old ≡ [] }
+        ensures names { self.new.names ≡ self.old.names }
+        ensures machine { OnOk result (machine_of self.new.machine ≡ (were_linked record_rules self.old.names (machine_of self.old.machine) text.now (channel record_rules self.old.names (machine_of self.old.machine).world record_name.now field_name.now)).machine) }
+        ensures said { OnOk result (reply.new ≡ reply_words (were_linked record_rules self.old.names (machine_of self.old.machine) text.now (channel record_rules self.old.names (machine_of self.old.machine).world record_name.now field_name.now)).reply ++ 10 ∷ []) }
+    {
+        match self.channel(record_name, field_name) {
+            Ok((number, field)) => say_reply(reply, &self.relink(number, field, text)?),
+            Err(refused) => say_refusal(reply, refused),
+        }
+        Ok(())
+    }
+
     #[inline(never)]
     fn tally(&self, reply: &mut LineReply)
         requires { reply.old ≡ [] }
@@ -241,35 +292,128 @@ impl Replay {
         reply.extend(tally_line(self.machine.tally(), self.machine.dropped()).as_slice());
     }
 
-    // Does what a line asks for, and says it.
-    #[tactic(auto, unfolding(crate::specs::Replay::carried_out))]
-    fn carry_out(&mut self, command: &Command<'_>, reply: &mut LineReply) -> Result<(), AllocError>
+    #[inline(never)]
+    fn notify(
+        &mut self,
+        record_name: &[u8],
+        field_name: &[u8],
+        text: &[u8],
+        reply: &mut LineReply,
+    ) -> Result<(), AllocError>
         requires { reply.old ≡ [] }
         ensures names { self.new.names ≡ self.old.names }
+        ensures machine { OnOk result (machine_of self.new.machine ≡ (were_notified record_rules self.old.names (machine_of self.old.machine) text.now (channel record_rules self.old.names (machine_of self.old.machine).world record_name.now field_name.now)).machine) }
+        ensures said { OnOk result (reply.new ≡ reply_words (were_notified record_rules self.old.names (machine_of self.old.machine) text.now (channel record_rules self.old.names (machine_of self.old.machine).world record_name.now field_name.now)).reply ++ 10 ∷ []) }
+    {
+        match self.channel(record_name, field_name) {
+            Ok((number, field)) => {
+                say_reply(
+                    reply,
+                    &self.machine.notify(number, field, Input::from_text(text))?,
+                );
+            }
+            Err(refused) => say_refusal(reply, refused),
+        }
+        Ok(())
+    }
+
+    #[inline(never)]
+    fn cancel(&mut self, number: u64, reply: &mut LineReply) -> Result<(), AllocError>
+        requires { reply.old ≡ [] }
+        ensures names { self.new.names ≡ self.old.names }
+        ensures machine { OnOk result (machine_of self.new.machine ≡ (given_up record_rules (machine_of self.old.machine) number).machine) }
+        ensures said { OnOk result (reply.new ≡ reply_words (given_up record_rules (machine_of self.old.machine) number).reply ++ 10 ∷ []) }
+    {
+        say_reply(reply, &self.machine.cancel(NotifyId::new(number))?);
+        Ok(())
+    }
+
+    // The whole of the reply is too long for a line of its own kind.
+    #[inline(never)]
+    fn sets(&self, more: &mut Vec<u8>) -> Result<(), AllocError>
+        requires { more.old.items ≡ [] }
+        ensures { OnOk result (more.new.items ≡ sets_line record_rules (machine_of self.now.machine).world) }
+    {
+        say_sets(self.alloc, &self.machine, more)
+    }
+
+    // Does what a line asks for, and says it.
+    #[tactic(auto, unfolding(crate::specs::Replay::carried_out), using(crate::proofs::Getting::said_shortly))]
+    fn carry_out(&mut self, command: &Command<'_>, said: &mut Said) -> Result<(), AllocError>
+        requires reply { said.old.reply ≡ [] }
+        requires more { said.old.more.items ≡ [] }
+        ensures names { self.new.names ≡ self.old.names }
         ensures machine { OnOk result (machine_of self.new.machine ≡ (carried_out record_rules self.old.names (machine_of self.old.machine) (seen command.now)).machine) }
-        ensures said { OnOk result (reply.new ≡ (carried_out record_rules self.old.names (machine_of self.old.machine) (seen command.now)).said) }
+        ensures said { OnOk result (said.new.reply ++ said.new.more.items ≡ (carried_out record_rules self.old.names (machine_of self.old.machine) (seen command.now)).said) }
     {
         match *command {
             Command::Silent => {}
-            Command::Bad => reply.extend(b"bad\n"),
-            Command::Process(record) => self.process(record, reply)?,
-            Command::Put(record, field, text) => self.put(record, field, text, reply)?,
-            Command::Get(record, field) => self.get(record, field, reply),
+            Command::Bad => said.reply.extend(b"bad\n"),
+            Command::Process(record) => self.process(record, &mut said.reply)?,
+            Command::Put(record, field, text) => self.put(record, field, text, &mut said.reply)?,
+            Command::Get(record, field) => self.get(record, field, &mut said.reply),
             Command::At(moment) => {
                 self.machine.set_moment(moment);
-                reply.extend(b"ok\n");
+                said.reply.extend(b"ok\n");
             }
-            Command::NextDone(record, text) => self.queue_done(record, text, reply)?,
-            Command::NextFault(record) => self.queue(record, Answer::Fault, reply)?,
-            Command::NextLater(record) => self.queue(record, Answer::Later, reply)?,
-            Command::Done(record, wait, text) => self.complete_done(record, wait, text, reply)?,
-            Command::Fault(record, wait) => self.complete(record, wait, Finished::Fault, reply)?,
-            Command::Event(name) => self.call(event_list(Text::cut(name)), reply)?,
-            Command::Interrupt(word) => self.call(interrupt_list(word), reply)?,
-            Command::Scan(period) => self.scan(&ListName::Period(period), reply)?,
-            Command::Tally => self.tally(reply),
+            Command::NextDone(record, text) => self.queue_done(record, text, &mut said.reply)?,
+            Command::NextFault(record) => self.queue(record, Answer::Fault, &mut said.reply)?,
+            Command::NextLater(record) => self.queue(record, Answer::Later, &mut said.reply)?,
+            Command::Done(record, wait, text) => self.complete_done(
+                record,
+                wait,
+                text,
+                &mut said.reply,
+            )?,
+            Command::Fault(record, wait) => self.complete(
+                record,
+                wait,
+                Finished::Fault,
+                &mut said.reply,
+            )?,
+            Command::Event(name) => self.call(event_list(Text::cut(name)), &mut said.reply)?,
+            Command::Interrupt(word) => self.call(interrupt_list(word), &mut said.reply)?,
+            Command::Scan(period) => self.scan(&ListName::Period(period), &mut said.reply)?,
+            Command::Link(record, field, text) => {
+                self.link(record, field, text, &mut said.reply)?;
+            }
+            Command::Tally => self.tally(&mut said.reply),
+            Command::Notify(record, field, text) => self.notify(
+                record,
+                field,
+                text,
+                &mut said.reply,
+            )?,
+            Command::Cancel(number) => self.cancel(number, &mut said.reply)?,
+            Command::Sets => self.sets(&mut said.more)?,
         }
         Ok(())
+    }
+
+    // Tells which puts with notification have ended, each in a line, and forgets them.
+    fn tell_ended(&mut self, more: &mut Vec<u8>) -> Result<(), AllocError>
+        ensures names { self.new.names ≡ self.old.names }
+        ensures machine { OnOk result (machine_of self.new.machine ≡ with_none_ended (machine_of self.old.machine)) }
+        ensures said { OnOk result (more.new.items ≡ more.old.items ++ ended_lines (machine_of self.old.machine).ended) }
+    {
+        let mut rest = self.machine.ended();
+        while let [number, others @ ..] = rest {
+            more.extend_from_slice(ended_line(*number).as_slice())?;
+            rest = others;
+        }
+        self.machine.forget_ended();
+        Ok(())
+    }
+
+    // Serves the requests that wait, and tells which puts with notification have ended.
+    #[tactic(auto, unfolding(crate::specs::Replay::attended))]
+    fn attend(&mut self, more: &mut Vec<u8>) -> Result<(), AllocError>
+        ensures names { self.new.names ≡ self.old.names }
+        ensures machine { OnOk result (machine_of self.new.machine ≡ (attended record_rules (machine_of self.old.machine)).machine) }
+        ensures said { OnOk result (more.new.items ≡ more.old.items ++ (attended record_rules (machine_of self.old.machine)).said) }
+    {
+        self.machine.serve()?;
+        self.tell_ended(more)
     }
 }
 
@@ -282,14 +426,14 @@ impl Session for Replay {
 
     ghost long_lines = { long-lines };
 
-    /// Answers a line, and then serves the requests that wait.
+    /// Answers a line, then serves the requests that wait, and tells which puts with notification have ended since.
     #[tactic(auto, unfolding(crate::specs::Replay::answered))]
-    fn answer(&mut self, line: &[u8], reply: &mut LineReply) -> Result<(), AllocError> {
-        reply.clear();
+    fn answer(&mut self, line: &[u8], said: &mut Said) -> Result<(), AllocError> {
+        said.clear();
         let command = Command::from_line(line);
-        self.carry_out(&command, reply)?;
+        self.carry_out(&command, said)?;
         if !command.is_silent() {
-            self.machine.serve()?;
+            self.attend(&mut said.more)?;
         }
         Ok(())
     }

@@ -5,8 +5,8 @@ ghost use Rattle.ioc_main.specs.Replay.{outcome_words, live_words, reply_words};
 
 use crate::counts::notify_line;
 use crate::session::LineReply;
+use ioc_events::Reply;
 use ioc_ledger::Outcome;
-use ioc_process::Reply;
 use ioc_values::IocError;
 
 /// What the outcome of a request is called.

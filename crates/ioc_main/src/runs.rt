@@ -32,6 +32,6 @@ pub fn run<R: Read + Drop, W: Write>(
 {
     let Database { names, records } = load(alloc, db, macros)?;
     let mut replay = Replay::new(alloc, names, records)?;
-    run_script(&mut replay, script, out)?;
+    run_script(alloc, &mut replay, script, out)?;
     Ok(())
 }

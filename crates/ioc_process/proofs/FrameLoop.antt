@@ -3,17 +3,17 @@ use Rattle.std.proofs.Common.{◌≡◌, List, [], ◌∷◌, length, refl, sym,
 use Rattle.ioc_ledger.specs.declared.tally.Tally.{Tally}
 use Rattle.ioc_record.specs.RecordRules.{RecordRules}
 use Rattle.ioc_record.specs.Laws.{IsLawful}
-use Rattle.ioc_process.specs.declared.frames.Frame.{Frame}
-use Rattle.ioc_process.specs.World.{World, Keeps}
+use Rattle.ioc_store.specs.declared.frames.Frame.{Frame}
+use Rattle.ioc_store.specs.World.{World, Keeps}
 use Rattle.ioc_process.specs.Processing.{Ran}
 use Rattle.ioc_process.specs.Frames.{Turn, newest_of, next_of, called_by, went_on, then_frames, after_turn, Goes, FrameStands, AllStand}
-use Rattle.ioc_process.specs.declared.frames.Next.TheVariants.{Requests, Ends}
+use Rattle.ioc_store.specs.declared.frames.Next.TheVariants.{Requests, Ends}
 use Rattle.ioc_ledger.specs.declared.outcome.Outcome.{Outcome}
 use Rattle.ioc_ledger.specs.Requests.{counted_one}
 use Rattle.ioc_process.specs.Runs.{Comes}
 use Rattle.ioc_process.proofs.FrameTurns.{opened_first, now, turn_now}
 use Rattle.ioc_process.proofs.FrameSteps.{goes-on, goes-popped}
-use Rattle.ioc_process.specs.Given.{Answers}
+use Rattle.ioc_store.specs.Given.{Answers}
 
 pub goes_here : {R : Type 0} (before : Tally) (done : Ran R) → Goes before before done done
 goes_here before done = record { world = refl; outcome = refl; tally = refl }

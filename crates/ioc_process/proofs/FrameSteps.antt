@@ -20,23 +20,24 @@ use Rattle.ioc_common.specs.Steps.{with_active, shown, unblocked, is_passive, di
 use Rattle.ioc_record.specs.Values.{read_as}
 use Rattle.ioc_record.specs.RecordRules.{RecordRules}
 use Rattle.ioc_record.specs.Laws.{IsLawful}
-use Rattle.ioc_process.specs.declared.frames.Frame.{Frame}
-use Rattle.ioc_process.specs.declared.frames.Place.TheVariants.{ReadingDisable, Following, FollowingEach, Writing, Reading as Reading-place}
+use Rattle.ioc_store.specs.declared.frames.Frame.{Frame}
+use Rattle.ioc_store.specs.declared.frames.Place.TheVariants.{ReadingDisable, Following, FollowingEach, Writing, Reading as Reading-place}
 use Rattle.ioc_process.specs.Frames.{Ended, Calls}
-use Rattle.ioc_process.specs.World.{World, Has, at, common_at, put, changed, sent, idle, Stays, Keeps, IsClosed}
-use Rattle.ioc_process.specs.Marks.{is_put_down, put_down, put_mark_passed, at_rest, is_disabled, resumed}
-use Rattle.ioc_process.specs.declared.outbox.OutboxItem.TheVariants.{Once}
+use Rattle.ioc_store.specs.World.{World, Has, at, common_at, put, changed, sent, idle, Stays, Keeps, IsClosed}
+use Rattle.ioc_store.specs.Marks.{is_put_down, put_down, put_mark_passed, at_rest, is_disabled, resumed}
+use Rattle.ioc_store.specs.declared.outbox.OutboxItem.TheVariants.{Once}
 use Rattle.ioc_common.specs.declared.body.InputKind.{InputKind}
 use Rattle.ioc_common.specs.declared.body.Got.TheVariants.{Fault as Got-fault}
-use Rattle.ioc_process.specs.Processing.{Done, Came, Reading, PutOut, request, completed, completed_if, finished, finished_if, after_output, put_out, followed, followed_each, caused, value_came, body, input, read_record, prepared, Ran, Read, as_request, as_input, ran_after, processed, asked, rested, disable_came, judged, begun_idle, ran, read_link, faulted, read_at}
-use Rattle.ioc_process.specs.Links.{is_chosen, chosen_links, link_at, requests_first, passive_named}
+use Rattle.ioc_process.specs.Processing.{Done, Came, Reading, PutOut, request, completed, completed_if, finished, finished_if, after_output, put_out, followed, followed_each, caused, value_came, body, input, read_record, prepared, Ran, Read, as_request, as_input, ran_after, processed, asked, judged, begun_idle, ran, read_link, faulted, read_at}
+use Rattle.ioc_store.specs.Rests.{rested, disable_came}
+use Rattle.ioc_store.specs.Links.{is_chosen, chosen_links, link_at, requests_first, passive_named}
 use Rattle.ioc_process.specs.Frames.{asked_ran, after_disable, went_on, then_finished, remaining, then_frame, then_frames, after_turn, after_reading, Goes}
 use Rattle.ioc_process.specs.Runs.{HasCome, IsStanding}
-use Rattle.ioc_process.proofs.Worlds.{idle-changed, common_at-changed, at-put_same}
-use Rattle.ioc_process.proofs.Depth.{request-rule, rested-idle, room-shown, shown-active, value_came-stays}
-use Rattle.ioc_process.proofs.Keeping.{keeps_on, keeps-changed, sent-keeps, value_came-keeps, notified-keeps}
-use Rattle.ioc_process.specs.Given.{Answers}
-use Rattle.ioc_process.specs.Notifying.{passed_on, notified}
+use Rattle.ioc_store.specs.Worlds.{idle-changed, common_at-changed, at-put_same}
+use Rattle.ioc_process.specs.Depth.{request-rule, rested-idle, room-shown, shown-active, value_came-stays}
+use Rattle.ioc_process.specs.Keeping.{keeps_on, keeps-changed, sent-keeps, value_came-keeps, notified-keeps}
+use Rattle.ioc_store.specs.Given.{Answers}
+use Rattle.ioc_store.specs.Notifying.{passed_on, notified}
 
 followed_by-assoc : (a b c : Requests) → followed_by (followed_by a b) c ≡ followed_by a (followed_by b c)
 followed_by-assoc None b c = refl

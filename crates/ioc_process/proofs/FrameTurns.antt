@@ -5,14 +5,14 @@ use Rattle.std.specs.List.{last_or}
 use Rattle.std.specs.Prelude.{slice_get, ◌-◌}
 use Rattle.ioc_ledger.specs.Requests.{None}
 use Rattle.ioc_record.specs.RecordRules.{RecordRules}
-use Rattle.ioc_process.specs.declared.frames.Frame.{Frame}
-use Rattle.ioc_process.specs.World.{World}
+use Rattle.ioc_store.specs.declared.frames.Frame.{Frame}
+use Rattle.ioc_store.specs.World.{World}
 use Rattle.ioc_process.specs.Processing.{Ran}
-use Rattle.ioc_process.specs.declared.frames.Next.{Next}
-use Rattle.ioc_process.specs.declared.frames.Next.TheVariants.{Requests, Ends}
+use Rattle.ioc_store.specs.declared.frames.Next.{Next}
+use Rattle.ioc_store.specs.declared.frames.Next.TheVariants.{Requests, Ends}
 use Rattle.ioc_ledger.specs.declared.outcome.Outcome.{Outcome}
 use Rattle.ioc_process.specs.Frames.{Turn, Ended, Calls, newest_of, waits_with, turn_of, next_of, opened, Opens, calls, called_by, after_turn, then_frames, FrameStands, AllStand, TurnStands}
-use Rattle.ioc_process.specs.Given.{Answers}
+use Rattle.ioc_store.specs.Given.{Answers}
 
 -- the open frames after a turn, the newest first
 abbrev pub opened_first : List Frame → Turn → List Frame

@@ -1,11 +1,11 @@
 -- What is left to do by frames, as a number that falls with each turn.
 use Rattle.std.proofs.Common.{◌≡◌, ℕ, zero, suc, ◌+◌, ◌-◌, ◌*◌, ◌<◌, ◌≤◌, List, [], ◌∷◌, length, refl, arith}
 use Rattle.std.proofs.Math.Nat.{mul-le-mul_right}
-use Rattle.ioc_process.specs.declared.frames.Place.{Place}
-use Rattle.ioc_process.specs.declared.frames.Frame.{Frame}
+use Rattle.ioc_store.specs.declared.frames.Place.{Place}
+use Rattle.ioc_store.specs.declared.frames.Frame.{Frame}
 use Rattle.ioc_process.specs.Frames.{Turn, Ended, Calls, next_of, calls_left, turn_left, calls, most_of_request}
-use Rattle.ioc_process.specs.declared.frames.Next.{Next}
-use Rattle.ioc_process.specs.declared.frames.Next.TheVariants.{Requests, Ends}
+use Rattle.ioc_store.specs.declared.frames.Next.{Next}
+use Rattle.ioc_store.specs.declared.frames.Next.TheVariants.{Requests, Ends}
 use Rattle.ioc_ledger.specs.declared.outcome.Outcome.{Outcome}
 use Rattle.ioc_process.proofs.FrameTurns.{opened_first}
 

@@ -2,19 +2,19 @@
 use Rattle.std.proofs.Common.{◌≡◌, ap, ◌∙◌, sym, arith, refl, ℕ, Bool, true, false, ◌≤◌, Some}
 use Rattle.ioc_common.specs.declared.common.Common.{Common}
 use Rattle.ioc_common.specs.Steps.{with_put_mark, with_notification}
-use Rattle.ioc_process.specs.Marks.{is_put_down, put_mark_passed}
-use Rattle.ioc_process.specs.World.{common_at, changed, taken_on, at, World, Has, Keeps, idle}
-use Rattle.ioc_process.specs.Given.{Answers}
+use Rattle.ioc_store.specs.Marks.{is_put_down, put_mark_passed}
+use Rattle.ioc_store.specs.World.{common_at, changed, taken_on, at, World, Has, Keeps, idle}
+use Rattle.ioc_store.specs.Given.{Answers}
 use Rattle.ioc_process.specs.Processing.{ran, request, begun_idle}
 use Rattle.ioc_process.specs.Frames.{asked_ran}
-use Rattle.ioc_process.proofs.Bodies.{ran-idle}
-use Rattle.ioc_process.proofs.Worlds.{common_at-changed}
-use Rattle.ioc_process.proofs.Depth.{stays-changed, passed-active, passed_on-idle}
-use Rattle.ioc_process.proofs.Alongside.{passed-links}
-use Rattle.ioc_process.proofs.Keeping.{keeps-changed, keeps_on, passed_on-keeps}
-use Rattle.ioc_process.proofs.NotifyLaws.{passed-either}
+use Rattle.ioc_process.specs.Bodies.{ran-idle}
+use Rattle.ioc_store.specs.Worlds.{common_at-changed}
+use Rattle.ioc_process.specs.Depth.{stays-changed, passed-active, passed_on-idle}
+use Rattle.ioc_process.specs.Alongside.{passed-links}
+use Rattle.ioc_process.specs.Keeping.{keeps-changed, keeps_on, passed_on-keeps}
+use Rattle.ioc_store.specs.NotifyLaws.{passed-either}
 use Rattle.ioc_process.proofs.FrameSteps.{asked_ran-now}
-use Rattle.ioc_process.specs.Notifying.{passed_on}
+use Rattle.ioc_store.specs.Notifying.{passed_on}
 use Rattle.ioc_record.specs.RecordRules.{RecordRules}
 use Rattle.ioc_record.specs.Laws.{IsLawful}
 

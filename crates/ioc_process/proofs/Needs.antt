@@ -13,8 +13,8 @@ use Rattle.ioc_common.specs.Links.{record_named}
 use Rattle.ioc_common.specs.Wants.{need_of, link_wanted, puts_out, puts_none}
 use Rattle.ioc_record.specs.RecordRules.{RecordRules}
 use Rattle.ioc_record.specs.Laws.{IsLawful}
-use Rattle.ioc_process.specs.World.{World, Has, at, put}
-use Rattle.ioc_process.specs.Given.{Answers}
+use Rattle.ioc_store.specs.World.{World, Has, at, put}
+use Rattle.ioc_store.specs.Given.{Answers}
 use Rattle.ioc_process.specs.Processing.{Ran, Reading, request, body, input, read_link, completed, finished, put_out, processed}
 use Rattle.ioc_process.specs.Frames.{after_reading}
 use Rattle.ioc_process.specs.Runs.{IsStanding}

@@ -6,12 +6,12 @@ use Rattle.ioc_process.specs.Processing.{faulted}
 use Rattle.ioc_common.specs.Steps.{with_active, raised}
 use Rattle.ioc_record.specs.RecordRules.{RecordRules}
 use Rattle.ioc_record.specs.Laws.{IsLawful}
-use Rattle.ioc_process.specs.declared.frames.Frame.{Frame}
+use Rattle.ioc_store.specs.declared.frames.Frame.{Frame}
 use Rattle.ioc_ledger.specs.declared.outcome.Outcome.{Outcome}
-use Rattle.ioc_process.specs.World.{World, common_at, changed, idle, Keeps}
+use Rattle.ioc_store.specs.World.{World, common_at, changed, idle, Keeps}
 use Rattle.ioc_process.specs.Frames.{Turn, Ended, Calls, Turns, FrameStands, calls_left}
-use Rattle.ioc_process.proofs.Worlds.{idle-changed}
-use Rattle.ioc_process.proofs.Keeping.{keeps_on}
+use Rattle.ioc_store.specs.Worlds.{idle-changed}
+use Rattle.ioc_process.specs.Keeping.{keeps_on}
 
 module _ {R : Type 0} (k : RecordRules R) where
   pub faulted_is : (w : World R) (s : ℕ) → faulted k w s ≡ changed k w s (raised LinkAlarm Invalid)

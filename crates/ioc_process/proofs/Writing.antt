@@ -5,8 +5,8 @@ use Rattle.ioc_common.specs.declared.link_field.StandingLink.{StandingLink}
 use Rattle.ioc_record.specs.RecordRules.{RecordRules}
 use Rattle.ioc_process.specs.declared.outputs.Written.{Written as Written-result}
 use Rattle.ioc_process.specs.declared.outputs.Written.TheVariants.{InVain, Alone, AndRequests}
-use Rattle.ioc_process.specs.World.{World}
-use Rattle.ioc_process.specs.Links.{requests_after}
+use Rattle.ioc_store.specs.World.{World}
+use Rattle.ioc_store.specs.Links.{requests_after}
 use Rattle.ioc_process.specs.Processing.{Done, Written, caused, faulted, after_writing}
 use Rattle.ioc_process.specs.Runs.{how_written}
 

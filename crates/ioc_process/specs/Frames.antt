@@ -10,17 +10,19 @@ use Rattle.ioc_fields.specs.Names.{all_slots}
 use Rattle.ioc_fields.specs.declared.field_no.Slot.{Slot}
 use Rattle.ioc_common.specs.Steps.{with_active, disable_kind}
 use Rattle.ioc_record.specs.RecordRules.{RecordRules}
-use Rattle.ioc_process.specs.declared.frames.Place.{Place}
-use Rattle.ioc_process.specs.declared.frames.Place.TheVariants.{ReadingDisable, Reading as Reading-place, Writing, FollowingEach, Following}
-use Rattle.ioc_process.specs.declared.frames.Frame.{Frame}
-use Rattle.ioc_process.specs.declared.frames.Next.{Next}
-use Rattle.ioc_process.specs.declared.frames.Next.TheVariants.{Requests as Requests-next, Ends}
-use Rattle.ioc_process.specs.World.{World, Has, common_at, changed, idle, Keeps}
-use Rattle.ioc_process.specs.Marks.{is_put_down, put_down, put_mark_passed}
-use Rattle.ioc_process.specs.Links.{is_chosen}
-use Rattle.ioc_process.specs.Processing.{Done, Ran, Read, Reading, as_request, processed, ran_after, completed_if, request, ran, read_at, disable_came, judged, completed, finished, rested, followed_each}
-use Rattle.ioc_process.specs.Given.{Answers}
-use Rattle.ioc_process.specs.Notifying.{passed_on}
+use Rattle.ioc_store.specs.declared.frames.Place.{Place}
+use Rattle.ioc_store.specs.declared.frames.Place.TheVariants.{ReadingDisable, Reading as Reading-place, Writing, FollowingEach, Following}
+use Rattle.ioc_store.specs.declared.frames.Frame.{Frame}
+use Rattle.ioc_store.specs.declared.frames.Next.{Next}
+use Rattle.ioc_store.specs.declared.frames.Next.TheVariants.{Requests as Requests-next, Ends}
+use Rattle.ioc_store.specs.World.{World, Has, common_at, changed, idle, Keeps}
+use Rattle.ioc_store.specs.Marks.{is_put_down, put_down, put_mark_passed}
+use Rattle.ioc_store.specs.Links.{is_chosen}
+use Rattle.ioc_process.specs.Processing.{Done, Ran, Read, Reading, as_request, processed, ran_after, completed_if, request, ran, read_at, judged, completed, finished, followed_each}
+use Rattle.ioc_store.specs.Given.{Answers}
+use Rattle.ioc_store.specs.Notifying.{passed_on}
+use Rattle.ioc_store.specs.Places.{requested_at}
+use Rattle.ioc_store.specs.Rests.{rested, disable_came}
 
 -- what a record came to when it began or went on
 pub data Turn : Type 0 where
@@ -28,14 +30,6 @@ pub data Turn : Type 0 where
   Ended : Outcome → Turn
   -- it requests the record that the frame names, and goes on at the frame afterwards
   Calls : Frame → Turn
-
--- the record that is requested where a body waits at a place
-abbrev pub requested_at : Place → ℕ
-requested_at (ReadingDisable t) = t.number
-requested_at (Reading-place t) = t.number
-requested_at (Writing target) = target
-requested_at (FollowingEach links target next) = target
-requested_at (Following target) = target
 
 -- the newest of the frames that are open, where they stand in order from it on
 abbrev pub newest_of : List Frame → Option Frame

@@ -2,24 +2,25 @@
 ghost use Rattle.std.specs.Prelude.{◌≡◌, ◌<◌, ℕ, List, [], true, false, vec_len};
 ghost use Rattle.std.specs.Vec.{vec_capacity};
 ghost use Rattle.ioc_common.specs.Steps.{disable_kind};
-ghost use Rattle.ioc_process.specs.World.{Has, common_at, IsClosed};
-ghost use Rattle.ioc_process.specs.Given.{Begins};
+ghost use Rattle.ioc_store.specs.World.{Has, common_at, IsClosed};
+ghost use Rattle.ioc_store.specs.Given.{Begins};
 ghost use Rattle.ioc_process.specs.Runs.{ForAnswers, IsStanding};
-ghost use Rattle.ioc_process.specs.Processing.{faulted, request, judged, read_at, disable_came, read_link, read_record};
+ghost use Rattle.ioc_process.specs.Processing.{faulted, request, judged, read_at, read_link, read_record};
+ghost use Rattle.ioc_store.specs.Rests.{disable_came};
 ghost use Rattle.ioc_process.specs.Frames.{after_disable, after_turn, turn_of, Opens, most_calls, most_of_request, Turns};
 
-use crate::frames::{Frame, Next, Place};
 use crate::inputs::{fault_link, read_value};
-use crate::notifying::tell;
 use crate::reading::begin_body;
-use crate::steps::{disable, is_disabled, passes_on, set_active, take_disable_input};
-use crate::store::Store;
 use ioc_common::{LinkUse, StandingLink, disable_kind};
 use ioc_ledger::Outcome;
 use ioc_names::RecordNo;
+use ioc_store::frames::{Frame, Next, Place};
+use ioc_store::notifying::tell;
+use ioc_store::steps::{disable, is_disabled, passes_on, set_active, take_disable_input};
+use ioc_store::store::Store;
 
 /// A request reads SDIS.
-#[tactic(auto, unfolding(crate::specs::Processing::read_link, crate::specs::Processing::ran_after, crate::specs::Processing::disable_came, crate::specs::Frames::after_disable))]
+#[tactic(auto, unfolding(crate::specs::Processing::read_link, crate::specs::Processing::ran_after, ioc_store::specs::Rests::disable_came, crate::specs::Frames::after_disable))]
 #[inline(always)]
 pub fn read_disable<S: Store>(
     store: &mut S,

@@ -2,28 +2,28 @@
 ghost use Rattle.std.specs.Prelude.{◌≡◌, ◌≤◌, ◌<◌, ◌+◌, ◌-◌, ℕ, List, [], Some, false, vec_len};
 ghost use Rattle.std.specs.FinMap.{len};
 ghost use Rattle.std.specs.Vec.{vec_capacity};
-ghost use Rattle.ioc_process.specs.World.{Has, common_at, IsClosed};
-ghost use Rattle.ioc_process.specs.Given.{Answers, Begins};
+ghost use Rattle.ioc_store.specs.World.{Has, common_at, IsClosed};
+ghost use Rattle.ioc_store.specs.Given.{Answers, Begins};
 ghost use Rattle.ioc_process.specs.Runs.{ForAnswers, IsStanding};
 ghost use Rattle.ioc_common.specs.declared.body.Output.TheVariants.{WriteLink};
 ghost use Rattle.ioc_common.specs.declared.link_field.LinkUse.TheVariants.{Standing};
 ghost use Rattle.ioc_process.specs.Processing.{processed, request, completed, faulted, finished, after_output, put_out, write_link, wrote, after_writing, followed_each};
 ghost use Rattle.ioc_process.specs.Frames.{then_finished, remaining, after_turn, turn_of, Opens, Turns};
 
-use crate::frames::{Frame, Next, Place};
 use crate::inputs::fault_link;
-use crate::outbox::OutboxItem;
 use crate::outputs::{
     Written, is_chosen, link_at, passive_record, passive_target, write_device, write_value,
 };
-use crate::steps::{common, raise, rest, set_active, show, take};
-use crate::store::Store;
 use ioc_common::{Got, LinkUse, Output, StandingLink};
 use ioc_fields::Slot;
 use ioc_ledger::Outcome;
 use ioc_menus::{Severity, Status};
 use ioc_names::RecordNo;
 use ioc_record::RecordKind;
+use ioc_store::frames::{Frame, Next, Place};
+use ioc_store::outbox::OutboxItem;
+use ioc_store::steps::{common, raise, rest, set_active, show, take};
+use ioc_store::store::Store;
 use ioc_values::Value;
 
 /// A record shows its alarms, and goes on to its forward link: the answer is what comes next.

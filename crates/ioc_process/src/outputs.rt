@@ -3,22 +3,22 @@ ghost use Rattle.std.specs.Prelude.{◌≡◌, ◌<◌, ◌-◌, ◌^◌, ℕ, L
 ghost use Rattle.ioc_record.specs.Values.{put_untested};
 ghost use Rattle.ioc_values.specs.declared.input.Input.TheVariants.{Value as InputValue};
 ghost use Rattle.ioc_device.specs.declared.Answer.{Answer};
-ghost use Rattle.ioc_process.specs.World.{Has, at, put, common_at, Keeps, Stays};
-ghost use Rattle.ioc_process.specs.Given.{Begins};
+ghost use Rattle.ioc_store.specs.World.{Has, at, put, common_at, Keeps, Stays};
+ghost use Rattle.ioc_store.specs.Given.{Begins};
 ghost use Rattle.ioc_process.specs.Runs.{ForAnswers, HasWritten, HasPutOut, IsStanding, how_written};
-ghost use Rattle.ioc_process.specs.Links.{is_chosen, is_proc, link_at, passive_named, passive_record};
+ghost use Rattle.ioc_store.specs.Links.{is_chosen, is_proc, link_at, passive_named, passive_record};
 ghost use Rattle.ioc_process.specs.Processing.{stored_at, wrote, acknowledged, write_device};
 
 use crate::inputs::can_ask;
-use crate::scan_change::rescan;
-use crate::steps::{common, inherit, passes_on, passive, raise, wait};
-use crate::store::Store;
 use ioc_common::{LinkUse, StandingLink};
 use ioc_device::{Answer, Ask};
 use ioc_fields::{CommonField, FieldNo, OwnField, Slot};
 use ioc_menus::{Severity, Status};
 use ioc_names::RecordNo;
 use ioc_record::{RecordKind, put_untested};
+use ioc_store::scan_change::rescan;
+use ioc_store::steps::{common, inherit, passes_on, passive, raise, wait};
+use ioc_store::store::Store;
 use ioc_values::{Input, IocError, Value};
 
 /// Is the field PROC? A put to it processes the record.
@@ -113,7 +113,7 @@ fn place_value<S: Store>(store: &mut S, target: StandingLink, value: Value) -> b
 }
 
 // Puts a value into a field, and hands on the alarm that another record raises; no, where the value doesn't fit.
-#[tactic(auto, unfolding(crate::specs::Processing::wrote, crate::specs::Links::handed_on))]
+#[tactic(auto, unfolding(crate::specs::Processing::wrote, ioc_store::specs::Links::handed_on))]
 fn store_value<S: Store>(
     store: &mut S,
     number: RecordNo,

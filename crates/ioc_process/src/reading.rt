@@ -2,21 +2,21 @@
 ghost use Rattle.std.specs.Prelude.{◌≡◌, ◌<◌, ◌-◌, ℕ, List, [], false, vec_len};
 ghost use Rattle.std.specs.Vec.{vec_capacity};
 ghost use Rattle.ioc_common.specs.Wants.{need_of};
-ghost use Rattle.ioc_process.specs.World.{Has, at, common_at, IsClosed};
-ghost use Rattle.ioc_process.specs.Given.{Begins};
+ghost use Rattle.ioc_store.specs.World.{Has, at, common_at, IsClosed};
+ghost use Rattle.ioc_store.specs.Given.{Begins};
 ghost use Rattle.ioc_process.specs.Runs.{ForAnswers, IsStanding};
 ghost use Rattle.ioc_process.specs.Processing.{processed, request, read_at, completed, body, as_input, read_link, read_record};
 ghost use Rattle.ioc_process.specs.Frames.{after_reading, after_turn, turn_of, Opens, most_calls, Turns};
 
 use crate::finishing::{finish_body, take_fault};
-use crate::frames::{Frame, Next, Place};
 use crate::inputs::{ask_device, read_value};
-use crate::steps::{need, passes_on, set_active, wanted_link};
-use crate::store::Store;
 use ioc_common::{Got, LinkUse, Need, StandingLink};
 use ioc_ledger::Outcome;
 use ioc_names::RecordNo;
 use ioc_record::RecordKind;
+use ioc_store::frames::{Frame, Next, Place};
+use ioc_store::steps::{need, passes_on, set_active, wanted_link};
+use ioc_store::store::Store;
 
 /// The body of a record begins.
 #[inline(always)]

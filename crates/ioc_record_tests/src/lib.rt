@@ -17,6 +17,8 @@ mod longin;
 #[cfg(test)]
 mod longout;
 #[cfg(test)]
+mod members;
+#[cfg(test)]
 mod multi;
 #[cfg(test)]
 mod records;

@@ -18,7 +18,13 @@ mod lines;
 #[cfg(test)]
 mod loads;
 #[cfg(test)]
+mod lock_sets;
+#[cfg(test)]
 mod macros;
+#[cfg(test)]
+mod notifications;
+#[cfg(test)]
+mod relinks;
 #[cfg(test)]
 mod rows;
 #[cfg(test)]

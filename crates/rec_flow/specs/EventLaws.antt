@@ -15,7 +15,7 @@ use Rattle.ioc_common.specs.declared.body.Got.{Got}
 use Rattle.ioc_common.specs.declared.body.Got.TheVariants as got
 use Rattle.ioc_common.specs.Links.{no_link, use_of, named_by_field}
 use Rattle.ioc_record.specs.Values.{field_sort, sort_in}
-use Rattle.ioc_common.specs.Source.{new_source, source_link, source_set_here, source_set_there, source_begin_leads}
+use Rattle.ioc_common.specs.Source.{new_source, source_link, source_set_here, source_set_there, source_set_others, source_begin_leads}
 use Rattle.ioc_record.specs.BodyRules.{Held}
 use Rattle.ioc_record.specs.BodyLaws.{IsLawfulBody, IsNewBody}
 use Rattle.rec_text.specs.TextInput.{new_text_input, text_input_get, text_input_stored, stored-source, put-source}
@@ -58,6 +58,7 @@ event_lawful = record {
   stored_links = λ h f v. ap (λ (s : Source). source_link s.input) (stored-source (inner h) f v);
   set_here = λ b f l is. source_set_here b.text.source f l is;
   set_there = λ b f g l. source_set_there b.text.source f g l;
+  set_others = λ b f g l apart. source_set_others b.text.source f g l apart;
   set_type = λ b f l. refl;
   set_values = λ b f l g. refl;
   loaded_type = λ h. refl;

@@ -6,6 +6,7 @@ use Rattle.ioc_graph.specs.Forest.{renumbered}
 use Rattle.ioc_graph.specs.Parts.{ArePartsOf, all_below}
 use Rattle.ioc_graph.proofs.All.{count_of, itself, apart_below}
 use Rattle.ioc_graph.proofs.Leading.{alone_leads}
+use Rattle.ioc_graph.proofs.Following.{all_alone, one_more, all_joined, whole}
 use Rattle.ioc_graph.proofs.Numbered.{none, more}
 use Rattle.ioc_graph.proofs.edges.parts_of_all.Goals as goal
 
@@ -17,7 +18,7 @@ loop-edge-init c =
     let many : length nodes ≡ c.args.count = count_of c.args.count in
     let len : length ps ≡ length nodes = omega (arith, c.as_mut_slice-parents.ensures.len, made.0) in
     let at : (i : ℕ) → i < length nodes → slice_index ps i ≡ i = λ i l. ap (λ (v : List ℕ). slice_index v i) c.as_mut_slice-parents.ensures.value ∙ made.1 i (omega arith) in
-    (ps, none nodes ps (apart_below c.args.count) len at, alone_leads ps (λ i l. at i (omega arith)))
+    (ps, none nodes ps (apart_below c.args.count) len at, alone_leads ps (λ i l. at i (omega arith)), all_alone c.args.count ps (len ∙ many) (λ i l. at i (omega arith)))
 
 pub loop-edge-preserved : goal.loop-edge-preserved
 loop-edge-preserved c =
@@ -40,4 +41,15 @@ loop-edge-preserved c =
           (more (take k edges) e (all_below n) i.0 (renumbered i.0 a b) a b (omega arith) (omega arith)
           (itself n a la ∙ c.index.ensures) (itself n b lb ∙ c.index-in-loop-edge.ensures) i.1 refl),
       c.join.ensures.joined i.0 i.2,
+      one_more (all_below n) (take k edges) (take (k + 1) edges) i.0 e a b is i.3 c.index.ensures c.index-in-loop-edge.ensures,
     )
+
+pub returns-clause-numbers : goal.returns-clause-numbers
+returns-clause-numbers c =
+    let i = c.loop-edge.invariant in
+    let all = all_joined c.args.edges.now i.0 c.loop-edge.edge-index c.args.count i.3 (omega (arith, c.loop-edge-test.false)) in
+    let same = c.settle.ensures i.0 i.2 in
+    let parents = c.loop-edge.auto.parents in
+    let made = c.as_mut_slice-parents.ensures in
+    let many : length c.settle.new.parents ≡ c.in_ok-numbers.numbers.len = ap (λ (l : List ℕ). length l) same ∙ sym i.2.one_each ∙ parents ∙ made.len in
+    whole c.settle.new.parents c.in_ok-numbers.numbers.items c.in_ok-numbers.numbers.len many (sym (ap (λ (l : List ℕ). length l) made.value) ∙ made.len) ∙ same ∙ all

@@ -1,11 +1,10 @@
 use Rattle.std.proofs.Common.{◌≡◌, ℕ, List, [], ◌++◌, Some, None, sym, ap, subst, ◌∙◌}
 use Rattle.std.specs.Prelude.{option_map}
 use Rattle.std.proofs.lemmas.Result.{err_from_is_err_and}
-use Rattle.ioc_main.specs.Script.{before, behind}
+use Rattle.ioc_main.specs.Script.{behind}
 use Rattle.ioc_main.specs.Coming.{to_come}
 use Rattle.ioc_main.specs.Written.{Writes}
 use Rattle.ioc_main.proofs.Cutting.{behind-shorter, none-left, none-there, all-before}
-use Rattle.ioc_main.proofs.ComingLemmas.{at_more}
 use Rattle.ioc_main.proofs.Feeding.{line_ends, line_fails, kept_on, feed_step, feed_fails}
 use Rattle.ioc_main.proofs.lines.feed.Goals as goal
 

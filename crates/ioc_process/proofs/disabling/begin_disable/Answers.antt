@@ -1,7 +1,7 @@
 use Rattle.std.proofs.Common.{ℕ, true, ap, sym, ◌∙◌, arith, Bool, cond}
-use Rattle.ioc_process.proofs.Worlds.{room-active}
-use Rattle.ioc_process.proofs.Keeping.{keeps-active, keeps_all}
-use Rattle.ioc_process.proofs.Answering.{begins_same}
+use Rattle.ioc_store.specs.Worlds.{room-active}
+use Rattle.ioc_process.specs.Keeping.{keeps-active, keeps_all}
+use Rattle.ioc_process.specs.Answering.{begins_same}
 use Rattle.ioc_process.proofs.FrameSteps.{after_disable-calls, after_disable-plain}
 use Rattle.ioc_process.proofs.FrameTurns.{turn_pushed, opens_pushed}
 use Rattle.ioc_process.proofs.Turning.{turns_on, turns_calls}

@@ -1,14 +1,14 @@
 use Rattle.std.proofs.Common.{sym, ◌∙◌, arith}
 use Rattle.ioc_common.specs.Steps.{disabled}
 use Rattle.ioc_ledger.specs.declared.outcome.Outcome.TheVariants.{Disabled}
-use Rattle.ioc_process.proofs.Depth.{stays-changed, disabled-active, notified-idle}
-use Rattle.ioc_process.proofs.Keeping.{keeps-changed, keeps_on, notified-keeps}
-use Rattle.ioc_process.proofs.Alongside.{disabled-links}
-use Rattle.ioc_process.proofs.Answering.{begins_same}
+use Rattle.ioc_process.specs.Depth.{stays-changed, disabled-active, notified-idle}
+use Rattle.ioc_process.specs.Keeping.{keeps-changed, keeps_on, notified-keeps}
+use Rattle.ioc_process.specs.Alongside.{disabled-links}
+use Rattle.ioc_process.specs.Answering.{begins_same}
 use Rattle.ioc_process.proofs.FrameSteps.{judged-off, judged-on}
 use Rattle.ioc_process.proofs.Turning.{turns_ended}
 use Rattle.ioc_process.proofs.disabling.judge.Goals as goal
-use Rattle.ioc_process.specs.Notifying.{notified}
+use Rattle.ioc_store.specs.Notifying.{notified}
 
 pub returns-then-is_disabled-clause-turn : goal.returns-then-is_disabled-clause-turn
 returns-then-is_disabled-clause-turn g c = λ answers begins.

@@ -1,8 +1,8 @@
 use Rattle.std.proofs.Common.{◌∙◌, arith}
 use Rattle.ioc_common.specs.Steps.{disable_kind}
 use Rattle.ioc_process.specs.Processing.{read_at}
-use Rattle.ioc_process.proofs.Depth.{stays_on, disable_came-stays}
-use Rattle.ioc_process.proofs.Keeping.{closed_on, keeps_on, disable_came-keeps}
+use Rattle.ioc_process.specs.Depth.{stays_on, disable_came-stays}
+use Rattle.ioc_process.specs.Keeping.{closed_on, keeps_on, disable_came-keeps}
 use Rattle.ioc_process.proofs.FrameSteps.{read_at-stays, read_at-keeps, came_read, came-judged}
 use Rattle.ioc_process.proofs.Turning.{turns_on}
 use Rattle.ioc_process.proofs.disabling.take_disable.Goals as goal

@@ -1,7 +1,7 @@
 use Rattle.std.proofs.Common.{true, ◌∙◌, sym, arith}
 use Rattle.ioc_ledger.specs.declared.outcome.Outcome.TheVariants.{Processed}
-use Rattle.ioc_process.proofs.Keeping.{keeps-active, keeps_on, closed_on}
-use Rattle.ioc_process.proofs.Bodies.{forward_stands}
+use Rattle.ioc_process.specs.Keeping.{keeps-active, keeps_on, closed_on}
+use Rattle.ioc_process.specs.Bodies.{forward_stands}
 use Rattle.ioc_process.proofs.FrameSteps.{ready, ready-keeps, ready-called, ready-ended, passive_there, finished-calls, finished-ends, rested-keeps}
 use Rattle.ioc_process.proofs.Needs.{named_there}
 use Rattle.ioc_process.proofs.FrameTurns.{turn_pushed, opens_pushed}

@@ -1,8 +1,8 @@
 use Rattle.std.proofs.Common.{sym, ◌∙◌, arith}
-use Rattle.ioc_process.proofs.Answering.{begins_same}
-use Rattle.ioc_process.proofs.Depth.{taken-stays}
-use Rattle.ioc_process.proofs.Keeping.{keeps-taken, closed_on}
-use Rattle.ioc_process.proofs.Bodies.{output_stands}
+use Rattle.ioc_process.specs.Answering.{begins_same}
+use Rattle.ioc_process.specs.Depth.{taken-stays}
+use Rattle.ioc_process.specs.Keeping.{keeps-taken, closed_on}
+use Rattle.ioc_process.specs.Bodies.{output_stands}
 use Rattle.ioc_process.proofs.FrameSteps.{completed-taken}
 use Rattle.ioc_process.proofs.Needs.{completed-nothing}
 use Rattle.ioc_process.proofs.Turning.{turns_on}

@@ -1,6 +1,6 @@
 use Rattle.std.proofs.Common.{◌∙◌, arith}
-use Rattle.ioc_process.proofs.Depth.{faulted-stays}
-use Rattle.ioc_process.proofs.Keeping.{faulted-keeps, closed_on}
+use Rattle.ioc_process.specs.Depth.{faulted-stays}
+use Rattle.ioc_process.specs.Keeping.{faulted-keeps, closed_on}
 use Rattle.ioc_process.proofs.Turning.{turns_on, faulted_is}
 use Rattle.ioc_process.proofs.finishing.finish_with_fault.Goals as goal
 

@@ -1,10 +1,10 @@
 use Rattle.std.proofs.Common.{◌+◌, Bool, ℕ, true, cond, ap, sym, ◌∙◌, arith}
-use Rattle.ioc_process.specs.Links.{link_at}
+use Rattle.ioc_store.specs.Links.{link_at}
 use Rattle.ioc_process.specs.Processing.{request, followed_each, processed}
 use Rattle.ioc_process.specs.Frames.{then_finished, remaining}
-use Rattle.ioc_process.proofs.Worlds.{room-active}
-use Rattle.ioc_process.proofs.Keeping.{keeps-active}
-use Rattle.ioc_process.proofs.Bodies.{slot_stands}
+use Rattle.ioc_store.specs.Worlds.{room-active}
+use Rattle.ioc_process.specs.Keeping.{keeps-active}
+use Rattle.ioc_process.specs.Bodies.{slot_stands}
 use Rattle.ioc_process.proofs.FrameSteps.{then_finished-none, remaining-chosen, remaining-other, remaining-none, each-none, each-calls, passive_there, slot_below, none_of}
 use Rattle.ioc_process.proofs.FrameTurns.{turn_pushed, opens_pushed}
 use Rattle.ioc_process.proofs.Turning.{turns_calls}

@@ -3,7 +3,7 @@ use Rattle.std.specs.Vec.{vec_capacity}
 use Rattle.ioc_process.specs.Processing.{request, followed_each}
 use Rattle.ioc_process.specs.Frames.{then_finished, remaining}
 use Rattle.ioc_process.proofs.finishing.follow_each.Given as goal
-use Rattle.ioc_process.specs.Given.{Answers}
+use Rattle.ioc_store.specs.Given.{Answers}
 
 abbrev pub invariant-loop-slot : goal.invariant-loop-slot
 invariant-loop-slot g l =

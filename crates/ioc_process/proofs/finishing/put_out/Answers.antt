@@ -1,13 +1,13 @@
 use Rattle.std.proofs.Common.{true, ap, sym, ◌∙◌, refl, arith}
 use Rattle.ioc_ledger.specs.Requests.{None}
 use Rattle.ioc_ledger.specs.declared.outcome.Outcome.TheVariants.{Processed}
-use Rattle.ioc_process.specs.Given.{answers_of, listed}
-use Rattle.ioc_process.specs.declared.outbox.OutboxItem.TheVariants.{Post}
+use Rattle.ioc_store.specs.Given.{answers_of, listed}
+use Rattle.ioc_store.specs.declared.outbox.OutboxItem.TheVariants.{Post}
 use Rattle.ioc_process.specs.Processing.{request, finished, write_device, put_out, processed}
 use Rattle.ioc_process.specs.Frames.{then_finished, after_turn, Ended}
-use Rattle.ioc_process.proofs.Answering.{listed-accords, write_device-requests, begins_same}
-use Rattle.ioc_process.proofs.Depth.{sent-stays, write_device-outs}
-use Rattle.ioc_process.proofs.Keeping.{sent-keeps, closed_on}
+use Rattle.ioc_process.specs.Answering.{listed-accords, write_device-requests, begins_same}
+use Rattle.ioc_process.specs.Depth.{sent-stays, write_device-outs}
+use Rattle.ioc_process.specs.Keeping.{sent-keeps, closed_on}
 use Rattle.ioc_process.proofs.FrameSteps.{then_finished-none, output-on, output-waits, remaining-all}
 use Rattle.ioc_process.proofs.Turning.{turns_on, turns_ended}
 use Rattle.ioc_process.proofs.finishing.put_out.Goals as goal

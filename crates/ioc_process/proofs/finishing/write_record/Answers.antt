@@ -1,9 +1,9 @@
 use Rattle.std.proofs.Common.{Bool, ℕ, true, cond, ap, sym, ◌∙◌, arith}
 use Rattle.ioc_process.specs.Processing.{wrote, request, processed}
 use Rattle.ioc_process.specs.Frames.{then_finished}
-use Rattle.ioc_process.proofs.Worlds.{room-active}
-use Rattle.ioc_process.proofs.Depth.{wrote-stays}
-use Rattle.ioc_process.proofs.Keeping.{wrote-keeps, keeps-active, keeps_on, closed_on}
+use Rattle.ioc_store.specs.Worlds.{room-active}
+use Rattle.ioc_process.specs.Depth.{wrote-stays}
+use Rattle.ioc_process.specs.Keeping.{wrote-keeps, keeps-active, keeps_on, closed_on}
 use Rattle.ioc_process.proofs.Writing.{written-vain, written-alone, written-requests}
 use Rattle.ioc_process.proofs.FrameSteps.{then_finished-none, writing-calls}
 use Rattle.ioc_process.proofs.FrameTurns.{turn_pushed, opens_pushed}

@@ -1,10 +1,10 @@
 use Rattle.std.proofs.Common.{ap, sym, ◌∙◌}
 use Rattle.ioc_device.specs.declared.Ask.TheVariants.{Read as Read-ask}
-use Rattle.ioc_process.specs.Given.{Given}
-use Rattle.ioc_process.specs.World.{Keeps, called}
-use Rattle.ioc_process.proofs.Answering.{by_world, answer-given, read_device-asked, read_device-not_asked, can_ask-more, stays_if_read, begins_call, begins_same}
-use Rattle.ioc_process.proofs.Depth.{read_device-reads}
-use Rattle.ioc_process.proofs.Keeping.{read_device-keeps}
+use Rattle.ioc_store.specs.Given.{Given}
+use Rattle.ioc_store.specs.World.{Keeps, called}
+use Rattle.ioc_process.specs.Answering.{by_world, answer-given, read_device-asked, read_device-not_asked, can_ask-more, stays_if_read, begins_call, begins_same}
+use Rattle.ioc_process.specs.Depth.{read_device-reads}
+use Rattle.ioc_process.specs.Keeping.{read_device-keeps}
 use Rattle.ioc_process.proofs.inputs.ask_device.Goals as goal
 
 pub receive-requires-clause-more : goal.receive-requires-clause-more

@@ -1,4 +1,4 @@
-use Rattle.ioc_process.proofs.Worlds.{has-put}
+use Rattle.ioc_store.specs.Worlds.{has-put}
 use Rattle.ioc_process.proofs.outputs.place_value.Goals as goal
 
 pub rescan-requires : goal.rescan-requires

@@ -1,7 +1,7 @@
 use Rattle.std.proofs.Common.{◌≡◌, refl, ap, ◌∙◌}
-use Rattle.ioc_process.specs.World.{put}
-use Rattle.ioc_process.proofs.Worlds.{at-put_same}
-use Rattle.ioc_process.proofs.Stepping.{on_ok, on_err_as, put-at}
+use Rattle.ioc_store.specs.World.{put}
+use Rattle.ioc_store.specs.Worlds.{at-put_same}
+use Rattle.ioc_store.specs.PutBack.{on_ok, on_err_as, put-at}
 use Rattle.ioc_process.proofs.outputs.put_through.Goals as goal
 
 pub returns-clause-ok : goal.returns-clause-ok

@@ -1,4 +1,4 @@
-use Rattle.ioc_process.proofs.Depth.{written_has}
+use Rattle.ioc_process.specs.Depth.{written_has}
 use Rattle.ioc_process.proofs.outputs.store_value.Goals as goal
 
 pub common-requires : goal.common-requires

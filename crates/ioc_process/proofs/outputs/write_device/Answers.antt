@@ -1,10 +1,10 @@
 use Rattle.std.proofs.Common.{ap, sym, ◌∙◌}
 use Rattle.ioc_device.specs.declared.Ask.TheVariants.{Write as Write-ask}
-use Rattle.ioc_process.specs.Given.{Given}
-use Rattle.ioc_process.specs.World.{Keeps, called}
-use Rattle.ioc_process.proofs.Answering.{by_world, answer-given, write_device-asked, write_device-not_asked, can_ask-more, stays_if_out, begins_call, begins_same}
-use Rattle.ioc_process.proofs.Depth.{write_device-outs}
-use Rattle.ioc_process.proofs.Keeping.{write_device-keeps}
+use Rattle.ioc_store.specs.Given.{Given}
+use Rattle.ioc_store.specs.World.{Keeps, called}
+use Rattle.ioc_process.specs.Answering.{by_world, answer-given, write_device-asked, write_device-not_asked, can_ask-more, stays_if_out, begins_call, begins_same}
+use Rattle.ioc_process.specs.Depth.{write_device-outs}
+use Rattle.ioc_process.specs.Keeping.{write_device-keeps}
 use Rattle.ioc_process.proofs.outputs.write_device.Goals as goal
 
 pub acknowledge-requires-clause-there : goal.acknowledge-requires-clause-there

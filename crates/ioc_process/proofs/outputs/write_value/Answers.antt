@@ -1,4 +1,4 @@
-use Rattle.ioc_process.proofs.Keeping.{wrote-has}
+use Rattle.ioc_process.specs.Keeping.{wrote-has}
 use Rattle.ioc_process.proofs.outputs.write_value.Goals as goal
 
 pub passes_on-requires : goal.passes_on-requires

@@ -1,21 +1,19 @@
-use Rattle.std.proofs.Common.{ap, ◌∙◌, sym, arith, ℕ, Bool, ◌≤◌}
+use Rattle.std.proofs.Common.{ap, ◌∙◌, sym, arith}
 use Rattle.ioc_common.specs.declared.common.Common.{Common}
 use Rattle.ioc_ledger.specs.declared.outcome.Outcome.TheVariants.{Reprocess}
-use Rattle.ioc_process.specs.Marks.{is_put_down, put_down, put_mark_passed}
-use Rattle.ioc_process.specs.World.{common_at, changed, World, Has, Keeps, idle}
+use Rattle.ioc_store.specs.Marks.{is_put_down, put_down, put_mark_passed}
+use Rattle.ioc_store.specs.World.{common_at, changed}
 use Rattle.ioc_process.specs.Processing.{ran}
-use Rattle.ioc_process.proofs.StepFrames.{blocked-frame}
-use Rattle.ioc_process.proofs.Depth.{stays-changed, passed-active, passed_on-idle}
-use Rattle.ioc_process.proofs.Alongside.{passed-links}
-use Rattle.ioc_process.proofs.Keeping.{keeps-changed, closed_on, keeps_on, passed_on-keeps}
-use Rattle.ioc_process.proofs.Answering.{begins_same}
+use Rattle.ioc_store.specs.StepFrames.{blocked-frame}
+use Rattle.ioc_process.specs.Depth.{stays-changed}
+use Rattle.ioc_process.specs.Alongside.{passed-links}
+use Rattle.ioc_process.specs.Keeping.{keeps-changed, closed_on}
+use Rattle.ioc_process.specs.Answering.{begins_same}
 use Rattle.ioc_process.proofs.Handing.{handed, handed-idle}
 use Rattle.ioc_process.proofs.FrameSteps.{asked_ran-later, asked_ran-now}
 use Rattle.ioc_process.proofs.Turning.{turns_on, turns_ended}
 use Rattle.ioc_process.proofs.process.ask_active.Goals as goal
-use Rattle.ioc_process.specs.Notifying.{passed_on}
-use Rattle.ioc_record.specs.RecordRules.{RecordRules}
-use Rattle.ioc_record.specs.Laws.{IsLawful}
+use Rattle.ioc_store.specs.Notifying.{passed_on}
 
 pub returns-then-is_put_down-clause-turn : goal.returns-then-is_put_down-clause-turn
 returns-then-is_put_down-clause-turn g c = λ answers begins.

@@ -1,8 +1,8 @@
 use Rattle.std.proofs.Common.{refl, ◌∙◌, arith}
 use Rattle.ioc_common.specs.Steps.{unblocked}
-use Rattle.ioc_process.proofs.Depth.{stays-changed}
-use Rattle.ioc_process.proofs.Keeping.{keeps-changed, closed_on}
-use Rattle.ioc_process.proofs.Bodies.{disable_stands}
+use Rattle.ioc_process.specs.Depth.{stays-changed}
+use Rattle.ioc_process.specs.Keeping.{keeps-changed, closed_on}
+use Rattle.ioc_process.specs.Bodies.{disable_stands}
 use Rattle.ioc_process.proofs.FrameSteps.{begun-reads}
 use Rattle.ioc_process.proofs.Turning.{turns_on}
 use Rattle.ioc_process.proofs.process.begin_idle.Goals as goal

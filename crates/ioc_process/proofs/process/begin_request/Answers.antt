@@ -3,11 +3,11 @@ use Rattle.ioc_common.specs.declared.common.Common.{Common}
 use Rattle.ioc_common.specs.Steps.{blocked}
 use Rattle.ioc_ledger.specs.declared.outcome.Outcome.TheVariants.{Active}
 use Rattle.ioc_process.specs.Frames.{after_turn}
-use Rattle.ioc_process.proofs.StepFrames.{blocked-frame}
-use Rattle.ioc_process.proofs.Depth.{stays-changed}
-use Rattle.ioc_process.proofs.Keeping.{keeps-changed}
-use Rattle.ioc_process.proofs.Bodies.{ran-turned_away, ran-idle}
-use Rattle.ioc_process.proofs.Answering.{begins_same}
+use Rattle.ioc_store.specs.StepFrames.{blocked-frame}
+use Rattle.ioc_process.specs.Depth.{stays-changed}
+use Rattle.ioc_process.specs.Keeping.{keeps-changed}
+use Rattle.ioc_process.specs.Bodies.{ran-turned_away, ran-idle}
+use Rattle.ioc_process.specs.Answering.{begins_same}
 use Rattle.ioc_process.proofs.Turning.{turns_ended, some_idle}
 use Rattle.ioc_process.proofs.process.begin_request.Goals as goal
 

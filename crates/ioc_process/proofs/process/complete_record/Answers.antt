@@ -1,14 +1,14 @@
 use Rattle.std.proofs.Common.{length, refl, ap, sym, ◌∙◌, arith}
-use Rattle.ioc_process.specs.World.{at, put, changed}
-use Rattle.ioc_process.specs.Marks.{resumed}
+use Rattle.ioc_store.specs.World.{at, put, changed}
+use Rattle.ioc_store.specs.Marks.{resumed}
 use Rattle.ioc_process.specs.Processing.{Ran, went_on_at_last}
 use Rattle.ioc_ledger.specs.Requests.{counted}
 use Rattle.ioc_process.specs.Frames.{turn_of}
-use Rattle.ioc_process.proofs.Answering.{begins_on, accords_before}
-use Rattle.ioc_process.proofs.Worlds.{idle_few}
-use Rattle.ioc_process.proofs.Keeping.{keeps-put, keeps_on, closed_on, resumed-keeps}
-use Rattle.ioc_process.proofs.StepFrames.{links-finished}
-use Rattle.ioc_process.proofs.Bodies.{last_output_stands}
+use Rattle.ioc_process.specs.Answering.{begins_on, accords_before}
+use Rattle.ioc_store.specs.Worlds.{idle_few}
+use Rattle.ioc_process.specs.Keeping.{keeps-put, keeps_on, closed_on, resumed-keeps}
+use Rattle.ioc_store.specs.StepFrames.{links-finished}
+use Rattle.ioc_process.specs.Bodies.{last_output_stands}
 use Rattle.ioc_process.proofs.FrameTurns.{length_opened}
 use Rattle.ioc_process.proofs.FrameSteps.{resumed-idle}
 use Rattle.ioc_process.proofs.Turning.{some_idle}

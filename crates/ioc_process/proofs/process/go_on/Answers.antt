@@ -1,8 +1,8 @@
 use Rattle.std.proofs.Common.{true, false, refl, ◌∙◌, arith}
 use Rattle.ioc_ledger.specs.declared.outcome.Outcome.TheVariants.{Processed}
 use Rattle.ioc_process.specs.Frames.{went_on, after_turn}
-use Rattle.ioc_process.proofs.Keeping.{keeps-active, keeps_on, closed_on}
-use Rattle.ioc_process.proofs.Answering.{begins_same}
+use Rattle.ioc_process.specs.Keeping.{keeps-active, keeps_on, closed_on}
+use Rattle.ioc_process.specs.Answering.{begins_same}
 use Rattle.ioc_process.proofs.FrameSteps.{back-idle, back-inactive, rested-keeps, twice-rested}
 use Rattle.ioc_process.proofs.Turning.{turns_on, turns_ended}
 use Rattle.ioc_process.proofs.process.go_on.Goals as goal

@@ -1,8 +1,8 @@
 use Rattle.std.proofs.Common.{length, ap, arith}
 use Rattle.ioc_process.specs.Frames.{turn_of}
-use Rattle.ioc_process.proofs.Answering.{begins_on}
-use Rattle.ioc_process.proofs.Worlds.{idle_few}
-use Rattle.ioc_process.proofs.Keeping.{keeps_on, closed_on}
+use Rattle.ioc_process.specs.Answering.{begins_on}
+use Rattle.ioc_store.specs.Worlds.{idle_few}
+use Rattle.ioc_process.specs.Keeping.{keeps_on, closed_on}
 use Rattle.ioc_process.proofs.FrameTurns.{length_opened}
 use Rattle.ioc_process.proofs.process.request_record.Goals as goal
 

@@ -4,8 +4,8 @@ use Rattle.ioc_process.specs.Frames.{turn_of, called_by, Goes, after_turn}
 use Rattle.ioc_process.proofs.FrameWork.{work-called, work-went_on}
 use Rattle.ioc_process.proofs.FrameTurns.{begun_now, newest_reverse, reverse_push, length_opened, next_opens, all_stand, all_opened, all_forward}
 use Rattle.ioc_process.proofs.FrameLoop.{goes_here, goes-called, goes-went_on, all-keep}
-use Rattle.ioc_process.proofs.Answering.{begins_same, begins_on, accords_before}
-use Rattle.ioc_process.proofs.Keeping.{keeps_all, keeps_on, closed_on}
+use Rattle.ioc_process.specs.Answering.{begins_same, begins_on, accords_before}
+use Rattle.ioc_process.specs.Keeping.{keeps_all, keeps_on, closed_on}
 use Rattle.ioc_process.proofs.process.run_frames.Goals as goal
 
 pub loop-next-init : goal.loop-next-init

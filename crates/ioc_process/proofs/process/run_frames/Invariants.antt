@@ -1,8 +1,8 @@
 use Rattle.std.proofs.Common.{◌≡◌, ◌+◌, ◌≤◌, reverse}
 use Rattle.std.specs.Prelude.{vec_len}
 use Rattle.std.specs.Vec.{vec_capacity}
-use Rattle.ioc_process.specs.World.{idle, IsClosed, Keeps}
-use Rattle.ioc_process.specs.Given.{Begins}
+use Rattle.ioc_store.specs.World.{idle, IsClosed, Keeps}
+use Rattle.ioc_store.specs.Given.{Begins}
 use Rattle.ioc_process.specs.Runs.{ForAnswers}
 use Rattle.ioc_process.specs.Frames.{Goes, AllStand, after_turn, turn_of, then_frames}
 use Rattle.ioc_process.proofs.FrameTurns.{NextOpens, now}

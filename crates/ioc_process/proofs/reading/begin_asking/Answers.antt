@@ -1,12 +1,12 @@
 use Rattle.std.proofs.Common.{ap, ◌∙◌, sym, refl, arith}
 use Rattle.ioc_ledger.specs.declared.outcome.Outcome.TheVariants.{Processed}
-use Rattle.ioc_process.specs.Given.{answers_of, listed}
+use Rattle.ioc_store.specs.Given.{answers_of, listed}
 use Rattle.ioc_process.specs.Processing.{request, completed, input, read_device, processed}
 use Rattle.ioc_process.specs.Frames.{after_turn}
 use Rattle.ioc_process.specs.Frames.{Ended}
-use Rattle.ioc_process.proofs.Answering.{listed-accords, begins_on, accords_before, read_device-requests}
-use Rattle.ioc_process.proofs.Depth.{read_device-reads}
-use Rattle.ioc_process.proofs.Keeping.{closed_on}
+use Rattle.ioc_process.specs.Answering.{listed-accords, begins_on, accords_before, read_device-requests}
+use Rattle.ioc_process.specs.Depth.{read_device-reads}
+use Rattle.ioc_process.specs.Keeping.{closed_on}
 use Rattle.ioc_process.proofs.FrameSteps.{body-input, after_reading-came, after_reading-none}
 use Rattle.ioc_process.proofs.Needs.{needs-device}
 use Rattle.ioc_process.proofs.Turning.{turns_on, turns_ended}

@@ -1,7 +1,7 @@
 use Rattle.std.proofs.Common.{ap, ◌∙◌, sym}
 use Rattle.ioc_common.specs.declared.body.Want.TheVariants.{ReadLink}
 use Rattle.ioc_process.specs.Processing.{input, processed}
-use Rattle.ioc_process.proofs.Bodies.{input_stands}
+use Rattle.ioc_process.specs.Bodies.{input_stands}
 use Rattle.ioc_process.proofs.FrameSteps.{body-input}
 use Rattle.ioc_process.proofs.Needs.{needs-link}
 use Rattle.ioc_process.proofs.reading.begin_wanted.Goals as goal

@@ -1,6 +1,6 @@
 use Rattle.std.proofs.Common.{ap, ◌∙◌, arith}
 use Rattle.ioc_process.specs.Processing.{read_at}
-use Rattle.ioc_process.proofs.Keeping.{closed_on}
+use Rattle.ioc_process.specs.Keeping.{closed_on}
 use Rattle.ioc_process.proofs.FrameSteps.{read_at-stays, read_at-keeps, came_read, came-completed}
 use Rattle.ioc_process.proofs.Turning.{turns_on}
 use Rattle.ioc_process.proofs.reading.take_value.Goals as goal

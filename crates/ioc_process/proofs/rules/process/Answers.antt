@@ -2,7 +2,7 @@ use Rattle.std.proofs.Common.{Some, ap, sym, subst}
 use Rattle.ioc_ledger.specs.Requests.{Request, None}
 use Rattle.ioc_process.specs.Processing.{ran}
 use Rattle.ioc_process.specs.Rules.{Requested}
-use Rattle.ioc_process.proofs.StepLaws.{ran-allowed}
+use Rattle.ioc_process.specs.RulesAllowed.{ran-allowed}
 use Rattle.ioc_process.proofs.rules.process.Goals as goal
 
 pub returns-clause-made : goal.returns-clause-made

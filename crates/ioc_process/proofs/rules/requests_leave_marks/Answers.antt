@@ -1,4 +1,4 @@
-use Rattle.ioc_process.proofs.RulesLaws.{requested-leaves}
+use Rattle.ioc_process.specs.RulesLaws.{requested-leaves}
 use Rattle.ioc_process.proofs.rules.requests_leave_marks.Goals as goal
 
 pub returns : goal.returns

@@ -1,4 +1,4 @@
-use Rattle.ioc_process.proofs.Quieting.{request-quiet}
+use Rattle.ioc_process.specs.Quieting.{request-quiet}
 use Rattle.ioc_process.proofs.rules.requests_leave_quiet.Goals as goal
 
 pub returns : goal.returns

@@ -1,6 +1,6 @@
 use Rattle.std.proofs.Common.{Bool, ℕ, cond, ap, arith}
-use Rattle.ioc_process.proofs.Worlds.{room-active}
-use Rattle.ioc_process.proofs.Depth.{request-fewer}
+use Rattle.ioc_store.specs.Worlds.{room-active}
+use Rattle.ioc_process.specs.Depth.{request-fewer}
 use Rattle.ioc_process.proofs.rules.requests_nest_within_idle.Goals as goal
 
 pub returns-clause-source : goal.returns-clause-source

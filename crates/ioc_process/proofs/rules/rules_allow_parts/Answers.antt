@@ -1,4 +1,4 @@
-use Rattle.ioc_process.proofs.RulesAllowed.{cause-allowed, follow-allowed, reads-allowed, gets-allowed, puts_out-allowed, finish-allowed, proceed-allowed, run-allowed}
+use Rattle.ioc_process.specs.RulesAllowed.{cause-allowed, follow-allowed, reads-allowed, gets-allowed, puts_out-allowed, finish-allowed, proceed-allowed, run-allowed}
 use Rattle.ioc_process.proofs.rules.rules_allow_parts.Goals as goal
 
 pub returns-clause-causes : goal.returns-clause-causes

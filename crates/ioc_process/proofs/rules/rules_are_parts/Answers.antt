@@ -1,4 +1,4 @@
-use Rattle.ioc_process.proofs.RulesAlone.{caused-is, read_link-is, write_link-is, followed-is, put_out-is, input-is, finished-is, completed-is, body-is}
+use Rattle.ioc_process.specs.RulesAlone.{caused-is, read_link-is, write_link-is, followed-is, put_out-is, input-is, finished-is, completed-is, body-is}
 use Rattle.ioc_process.proofs.rules.rules_are_parts.Goals as goal
 
 pub returns-clause-causes : goal.returns-clause-causes

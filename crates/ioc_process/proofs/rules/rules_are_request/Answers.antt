@@ -1,5 +1,5 @@
-use Rattle.ioc_process.proofs.RulesAllowed.{request-allowed}
-use Rattle.ioc_process.proofs.RulesAlone.{request-is}
+use Rattle.ioc_process.specs.RulesAllowed.{request-allowed}
+use Rattle.ioc_process.specs.RulesAlone.{request-is}
 use Rattle.ioc_process.proofs.rules.rules_are_request.Goals as goal
 
 pub returns-clause-allowed : goal.returns-clause-allowed

@@ -1,7 +1,7 @@
 use Rattle.std.proofs.Common.{ap, sym, ◌∙◌}
 use Rattle.ioc_process.specs.Processing.{Done, request}
-use Rattle.ioc_process.proofs.RulesAllowed.{request-allowed}
-use Rattle.ioc_process.proofs.RulesAlone.{request-is}
+use Rattle.ioc_process.specs.RulesAllowed.{request-allowed}
+use Rattle.ioc_process.specs.RulesAlone.{request-is}
 use Rattle.ioc_process.proofs.rules.rules_give_one_result.Goals as goal
 
 pub returns-clause-some : goal.returns-clause-some

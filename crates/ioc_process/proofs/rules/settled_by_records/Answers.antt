@@ -1,4 +1,4 @@
-use Rattle.ioc_process.proofs.Quieting.{settled_by}
+use Rattle.ioc_process.specs.Quieting.{settled_by}
 use Rattle.ioc_process.proofs.rules.settled_by_records.Goals as goal
 
 pub returns : goal.returns

@@ -1,4 +1,4 @@
-use Rattle.std.proofs.Common.{◌≡◌, ◌<◌, length, refl, arith}
+use Rattle.std.proofs.Common.{◌<◌, length, refl, arith}
 use Rattle.ioc_machine.specs.SeenMachine.{machine_of}
 use Rattle.ioc_machine.proofs.Scripting.{item_there, queue_there, queue_none}
 use Rattle.ioc_machine.proofs.machine.Machine.queue.Goals as goal

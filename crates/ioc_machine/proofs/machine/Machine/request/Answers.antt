@@ -2,9 +2,9 @@ use Rattle.std.specs.Global.{Vec}
 use Rattle.std.proofs.Common.{List, Option, refl, ap}
 use Rattle.ioc_device.specs.declared.Answer.{Answer}
 use Rattle.ioc_types.specs.Record.{record_rules}
-use Rattle.ioc_process.specs.OneMap.{world_of, given_of, device_at}
-use Rattle.ioc_process.specs.World.{begun}
-use Rattle.ioc_process.specs.declared.event.Event.TheVariants.{Process}
+use Rattle.ioc_store.specs.OneMap.{world_of, given_of, device_at}
+use Rattle.ioc_store.specs.World.{begun}
+use Rattle.ioc_events.specs.declared.event.Event.TheVariants.{Process}
 use Rattle.ioc_machine.specs.SeenMachine.{machine_of}
 use Rattle.ioc_machine.proofs.Closing.{settled_same, room_same, none_yet}
 use Rattle.ioc_machine.proofs.Eventing.{event_is}

@@ -1,5 +1,5 @@
 use Rattle.ioc_types.specs.Record.{record_rules}
-use Rattle.ioc_process.specs.OneMap.{world_of}
+use Rattle.ioc_store.specs.OneMap.{world_of}
 use Rattle.ioc_machine.proofs.Closing.{settled_at, room_at}
 use Rattle.ioc_machine.proofs.machine.Machine.set_moment.Goals as goal
 

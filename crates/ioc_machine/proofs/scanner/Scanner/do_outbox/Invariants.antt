@@ -1,5 +1,5 @@
 use Rattle.std.proofs.Common.{◌≡◌, length}
-use Rattle.ioc_process.specs.Outbox.{items_of}
+use Rattle.ioc_store.specs.Outbox.{items_of}
 use Rattle.ioc_machine.specs.Scanner.{with_items}
 use Rattle.ioc_machine.proofs.scanner.Scanner.do_outbox.Given as goal
 

@@ -1,0 +1,252 @@
+-- A request leaves alone who waits.
+use Rattle.std.proofs.Common.{◌≡◌, nat_eq, ℕ, zero, suc, Bool, true, false, cond, List, [], ◌∷◌, ◌++◌, length, is_some, refl, ap, subst, ◌∙◌, inl, inr, arith}
+use Rattle.std.specs.Prelude.{nat_lt, not, Contains, Result, Ok, Err}
+use Rattle.ioc_ledger.specs.Requests.{None, more}
+use Rattle.ioc_notify.specs.declared.waiting_lists.Waiting.{Waiting}
+use Rattle.ioc_fields.specs.declared.field_no.FieldNo.{FieldNo}
+use Rattle.ioc_record.specs.RecordRules.{RecordRules}
+use Rattle.ioc_record.specs.Laws.{IsLawful}
+use Rattle.ioc_common.specs.declared.common.Common.{Common}
+use Rattle.ioc_common.specs.Steps.{with_put_mark, with_reprocess_mark, with_notification}
+use Rattle.ioc_store.specs.declared.outbox.OutboxItem.{OutboxItem}
+use Rattle.ioc_store.specs.World.{World, at, common_at, put, changed, called, sent, lost, taken_on, let_go, has_place, admitted, queued, cancelled}
+use Rattle.ioc_notify.specs.Waits.{without}
+use Rattle.ioc_notify.specs.Living.{is_live}
+use Rattle.ioc_store.specs.Given.{Answers}
+use Rattle.ioc_store.specs.Scanning.{device_of, rescanned, rewired}
+use Rattle.ioc_store.specs.Notifying.{notified}
+use Rattle.ioc_process.specs.Processing.{request}
+use Rattle.ioc_events.specs.declared.event.Event.{Event}
+use Rattle.ioc_events.specs.declared.event.Event.TheVariants.{Get, Process, Put, Complete, Link, Notify, Cancel, IsLive}
+use Rattle.ioc_events.specs.declared.reply.Reply.TheVariants.{Plain, Outcome as Outcome-reply, Shown, Notify as Notify-reply}
+use Rattle.ioc_events.specs.Step.{Stepped, names, is_there, all_there, refused, told, after_put, after_completion, awaits, put_with, relinked, begun_or_queued, notify_with, done_there, done_alone}
+use Rattle.ioc_values.specs.declared.error.IocError.{IocError}
+use Rattle.ioc_values.specs.declared.error.IocError.TheVariants.{NoRecord, NoField, PutDisabled, Stale, QueueFull}
+use Rattle.ioc_values.specs.declared.value.Value.{Value}
+use Rattle.ioc_values.specs.declared.value.Finished.{Finished}
+use Rattle.ioc_fields.specs.Table.{row_of}
+use Rattle.ioc_ledger.specs.Requests.{Request}
+use Rattle.ioc_ledger.specs.declared.outcome.Outcome.TheVariants.{Reprocess}
+use Rattle.ioc_common.specs.declared.link_field.LinkField.{LinkField}
+use Rattle.ioc_common.specs.Links.{use_of, named_by}
+use Rattle.ioc_record.specs.Values.{text_of, put_field, stops_put}
+use Rattle.std.proofs.lemmas.List.Elements.{Contains-append_cases}
+use Rattle.ioc_events.specs.Starting.{value_to_put, must_wait}
+use Rattle.ioc_events.specs.Starting.{processes, taken_and_stored, started}
+use Rattle.ioc_process.specs.Alongside.{Guards, HolderGuards, pass-goes, tell-goes, request-goes, ran-goes, at_last-goes}
+use Rattle.ioc_store.specs.ScanLaws.{moved-either, rescanned-either, rewired-either}
+use Rattle.ioc_store.specs.NotifyLaws.{notified-either}
+
+last-item : (x y : Waiting) → Contains (x ∷ []) y → x ≡ y
+last-item x y (zero, lt, is) = is
+last-item x y (suc i, lt, is) = absurd (omega arith)
+
+-- those that wait without one of them all waited
+pub waited : (number : ℕ) (xs : List Waiting) (x : Waiting) → Contains (without number xs) x → Contains xs x
+waited number [] x h = h
+waited number (y ∷ xs) x h =
+    let later : Contains (without number xs) x → Contains (y ∷ xs) x = λ c. let i = waited number xs x c in (suc i.0, omega (arith, i.1), i.2) in
+    elim (not (nat_eq y.number number)) as (λ b. Contains (cond b (y ∷ without number xs) (without number xs)) x → Contains (y ∷ xs) x) [
+      | true ↦ λ c. elim (Contains-append_cases (y ∷ []) (without number xs) x c) [
+        | inl here ↦ (0, omega arith, last-item y x here)
+        | inr there ↦ later there
+      ]
+      | false ↦ later
+    ] h
+
+sent-waiting : {R : Type 0} (item : OutboxItem) (w : World R) → (sent item w).waiting ≡ w.waiting
+unfolding sent
+sent-waiting item w = elim (nat_lt (length w.outbox) 256) as (λ b. (cond b (record w { outbox = w.outbox ++ item ∷ [] }) (record w { dropped = more w.dropped })).waiting ≡ w.waiting) [
+  | true ↦ refl
+  | false ↦ refl
+]
+
+module _ {R : Type 0} (k : RecordRules R) (lawful : IsLawful k) where
+  -- the same world, with these that wait
+  abbrev Waits : List Waiting → World R → World R → Type 0
+  Waits waiting w v = (w ≡ v) × (w.waiting ≡ waiting)
+
+  holder_guards : (waiting : List Waiting) → HolderGuards k (λ n. Unit {0}) (Waits waiting)
+  unfolding put changed taken_on let_go
+  holder_guards waiting = record {
+    same = λ inv n _. ap (λ (w : World R). at k w n) inv.0;
+    hold = λ inv n may held. (ap (λ (w : World R). changed k w n (with_notification held)) inv.0, inv.1);
+    take_on = λ inv number. (ap (taken_on number) inv.0, inv.1);
+    lets_go = λ inv number. (ap (let_go number) inv.0, inv.1);
+  }
+
+  guards : (waiting : List Waiting) → Guards k (λ n. Unit {0}) (λ n r. Unit {0}) (Waits waiting)
+  unfolding put called lost
+  guards waiting = record {
+    same = λ inv n _. ap (λ (w : World R). at k w n) inv.0;
+    good = λ inv n may. tt;
+    calls = λ inv. ap (λ (w : World R). w.calls) inv.0;
+    moment = λ inv. ap (λ (w : World R). w.moment) inv.0;
+    link = λ good target links. tt;
+    common = λ good c same. tt;
+    taken = λ good got. tt;
+    finished = λ good x. tt;
+    stored = λ good f v. tt;
+    put = λ inv n may r good _. (ap (λ (w : World R). put w n r) inv.0, inv.1);
+    call = λ inv one. (ap (called one) inv.0, inv.1);
+    send = λ inv item. (ap (sent item) inv.0, sent-waiting item _ ∙ inv.1);
+    lose = λ inv. (ap lost inv.0, inv.1);
+    pass = pass-goes k _ _ (holder_guards waiting);
+    tell = tell-goes k _ _ (holder_guards waiting);
+  }
+
+  pub request-waiting : (answers : Answers) (w : World R) (s : ℕ) → (request k answers w s).world.waiting ≡ w.waiting
+  request-waiting answers w s = (request-goes k lawful _ _ _ (guards w.waiting) answers (refl, refl) s tt).inv.1
+
+  marked-waiting : (w : World R) (n : ℕ) (f : Common → Common) → (changed k w n f).waiting ≡ w.waiting
+  unfolding changed put
+  marked-waiting w n f = refl
+
+  lost-waiting : (w : World R) → (lost w).waiting ≡ w.waiting
+  unfolding lost
+  lost-waiting w = refl
+
+  pub put-waiting : (w : World R) (n : ℕ) (r : R) → (put w n r).waiting ≡ w.waiting
+  unfolding put
+  put-waiting w n r = refl
+
+  rescanned-waiting : (w : World R) (n : ℕ) (field : FieldNo) → (rescanned k w n field).waiting ≡ w.waiting
+  rescanned-waiting w n field =
+      rescanned-either k (λ v. v.waiting ≡ w.waiting) w n field refl (moved-either k (λ v. v.waiting ≡ w.waiting) w n (λ item. sent-waiting item _ ∙ marked-waiting w n _) (lost-waiting w))
+
+  let_go-waiting : (number : ℕ) (w : World R) → (let_go number w).waiting ≡ w.waiting
+  unfolding let_go
+  let_go-waiting number w = refl
+
+  notified-waiting : (w : World R) (s : ℕ) → (notified k w s).waiting ≡ w.waiting
+  notified-waiting w s = notified-either k (λ v. v.waiting ≡ w.waiting) w s refl (λ n. let_go-waiting n _ ∙ marked-waiting w s _)
+
+  stored-waiting : (w : World R) (x : Waiting) → (taken_and_stored k w x).waiting ≡ w.waiting
+  unfolding taken_and_stored
+  stored-waiting w x = rescanned-waiting _ _ _ ∙ put-waiting _ _ _ ∙ marked-waiting w x.target _
+
+  pub started-waiting : (answers : Answers) (w : World R) (x : Waiting) → (started k answers w x).world.waiting ≡ w.waiting
+  unfolding started
+  started-waiting answers w x =
+      let stored = taken_and_stored k w x in
+      elim (processes k (at k stored x.target) x.field) as (λ b.
+      (cond b (request k answers (changed k stored x.target (with_put_mark true)) x.target) (record { world = notified k stored x.target; requests = None })).world.waiting ≡ w.waiting) [
+        | true ↦ request-waiting answers _ _ ∙ marked-waiting stored x.target _ ∙ stored-waiting w x
+        | false ↦ notified-waiting stored x.target ∙ stored-waiting w x
+      ]
+
+  -- ---- an event by itself
+
+  refused-waiting : (w : World R) (e : IocError) → (refused w e).world.waiting ≡ w.waiting
+  refused-waiting w e = refl
+
+  told-waiting : (answers : Answers) (w : World R) (s : ℕ) → (told k answers w s).world.waiting ≡ w.waiting
+  unfolding told
+  told-waiting answers w s = (ran-goes k lawful _ _ _ (guards w.waiting) answers (refl, refl) s tt).inv.1
+
+  after-waiting : (answers : Answers) (w : World R) (s : ℕ) (field : FieldNo) → (after_put k answers w s field).world.waiting ≡ w.waiting
+  unfolding after_put
+  after-waiting answers w s field =
+      elim (processes k (at k w s) field) as (λ p. (cond {A = Stepped R} p (cond {A = Stepped R} (common_at k w s).active (record { world = changed k w s (with_reprocess_mark true); reply = Outcome-reply Reprocess; requests = Request Reprocess None None })
+      (told k answers (changed k w s (with_put_mark true)) s)) (record { world = w; reply = Plain; requests = None })).world.waiting ≡ w.waiting) [
+        | true ↦ elim (common_at k w s).active as (λ p. (cond {A = Stepped R} p (record { world = changed k w s (with_reprocess_mark true); reply = Outcome-reply Reprocess; requests = Request Reprocess None None })
+            (told k answers (changed k w s (with_put_mark true)) s)).world.waiting ≡ w.waiting) [
+              | true ↦ marked-waiting w s (with_reprocess_mark true)
+              | false ↦ told-waiting answers _ s ∙ marked-waiting w s (with_put_mark true)
+            ]
+        | false ↦ refl
+      ]
+
+  put_with-waiting : (answers : Answers) (w : World R) (s : ℕ) (field : FieldNo) (result : Result R IocError) → (put_with k answers w s field result).world.waiting ≡ w.waiting
+  put_with-waiting answers w s field (Ok r) = after-waiting answers _ s field ∙ rescanned-waiting _ s field ∙ put-waiting w s r
+  put_with-waiting answers w s field (Err e) = refl
+
+  completion-waiting : (answers : Answers) (w : World R) (s : ℕ) (x : Finished) → (after_completion k answers w s x).world.waiting ≡ w.waiting
+  unfolding after_completion
+  completion-waiting answers w s x = (at_last-goes k lawful _ _ _ (guards w.waiting) answers (refl, refl) s tt x).inv.1
+
+  pub rewired-waiting : (before : List ℕ) (w : World R) (n : ℕ) → (rewired k before w n).waiting ≡ w.waiting
+  rewired-waiting before w n =
+      rewired-either k (λ v. v.waiting ≡ w.waiting) before w n refl (moved-either k (λ v. v.waiting ≡ w.waiting) w n (λ item. sent-waiting item _ ∙ marked-waiting w n _) (lost-waiting w))
+
+  linked-waiting : (answers : Answers) (w : World R) (s : ℕ) (field : FieldNo) (link : LinkField) → (relinked k answers w s field link).world.waiting ≡ w.waiting
+  unfolding relinked
+  linked-waiting answers w s field link =
+      let done : Stepped R = record { world = rewired k (device_of k (at k w s)) (put w s (k.with_link (at k w s) field link)) s; reply = Plain; requests = None } in
+      let last : Bool → Stepped R = λ b. cond {A = Stepped R} b (refused w PutDisabled) done in
+      elim (not (all_there w (named_by (use_of link)))) as (λ a. (cond {A = Stepped R} a (refused w NoRecord) (cond {A = Stepped R} (not (is_some (k.link (at k w s) field))) (refused w NoField) (last (stops_put (common_at k w s) field)))).world.waiting ≡ w.waiting) [
+        | true ↦ refl
+        | false ↦ elim (not (is_some (k.link (at k w s) field))) as (λ a. (cond {A = Stepped R} a (refused w NoField) (last (stops_put (common_at k w s) field))).world.waiting ≡ w.waiting) [
+          | true ↦ refl
+          | false ↦ elim (stops_put (common_at k w s) field) as (λ a. (cond {A = Stepped R} a (refused w PutDisabled) done).world.waiting ≡ w.waiting) [
+            | true ↦ refl
+            | false ↦ rewired-waiting _ _ s ∙ put-waiting w s _
+          ]
+        ]
+      ]
+
+  -- who waits after it waited before, or it is a put with notification and waits for its record
+  Within : (ℕ → Type 0) → World R → Type 0
+  Within U w = (x : Waiting) → Contains w.waiting x → U x.target
+
+  within-same : (U : ℕ → Type 0) (w v : World R) → v.waiting ≡ w.waiting → Within U w → Within U v
+  unfolding Within
+  within-same U w v same within x h = within x (subst (λ (l : List Waiting). Contains l x) same h)
+
+  let_in-within : (answers : Answers) (U : ℕ → Type 0) (w : World R) (x : Waiting) → U x.target → Within U w → Within U (begun_or_queued k answers w x).world
+  unfolding begun_or_queued Within admitted queued
+  let_in-within answers U w x u within =
+      elim (must_wait k w x.target) as (λ b. (y : Waiting) → Contains (cond {A = Stepped R} b (record { world = queued x (admitted x.number w); reply = Notify-reply x.number; requests = None })
+      (record { world = (started k answers (admitted x.number w) x).world; reply = Notify-reply x.number; requests = (started k answers (admitted x.number w) x).requests })).world.waiting y → U y.target) [
+        | true ↦ λ y h. elim (Contains-append_cases w.waiting (x ∷ []) y h) [
+          | inl before ↦ within y before
+          | inr new ↦ subst (λ (z : Waiting). U z.target) (last-item x y new) u
+        ]
+        | false ↦ λ y h. within y (subst (λ (l : List Waiting). Contains l y) (started-waiting answers (admitted x.number w) x) h)
+      ]
+
+  notify-within : (answers : Answers) (U : ℕ → Type 0) (w : World R) (s number : ℕ) (field : FieldNo) (value : Result Value IocError) → U s → Within U w → Within U (notify_with k answers w s number field value).world
+  unfolding Within
+  notify-within answers U w s number field (Err e) u within = within
+  notify-within answers U w s number field (Ok x) u within =
+      elim (has_place w number) as (λ b. (y : Waiting) → Contains (cond {A = Stepped R} b (begun_or_queued k answers w (record { number = number; target = s; field = field; value = x })) (refused w QueueFull)).world.waiting y → U y.target) [
+        | true ↦ let_in-within answers U w _ u within
+        | false ↦ within
+      ]
+
+  cancel-within : (U : ℕ → Type 0) (w : World R) (number : ℕ) → Within U w
+      → Within U (cond {A = Stepped R} (is_live number w.live) (record { world = cancelled k number w; reply = Plain; requests = None }) (refused w Stale)).world
+  unfolding Within cancelled
+  cancel-within U w number within =
+      elim (is_live number w.live) as (λ b. (x : Waiting) → Contains (cond {A = Stepped R} b (record { world = cancelled k number w; reply = Plain; requests = None }) (refused w Stale)).world.waiting x → U x.target) [
+        | true ↦ λ x h. within x (waited number w.waiting x h)
+        | false ↦ within
+      ]
+
+  there-within : (answers : Answers) (U : ℕ → Type 0) (w : World R) (event : Event) → ((n : ℕ) → Contains (names event) n → U n) → Within U w → Within U (done_there k answers w event).world
+  unfolding done_there
+  there-within answers U w (Get s field) named within =
+      within-same U w _ (elim (is_some (row_of (k.record_type (at k w s)) field)) as (λ b. (cond {A = Stepped R} b (record { world = w; reply = Shown (text_of k (at k w s) field); requests = None }) (refused w NoField)).world.waiting ≡ w.waiting) [
+        | true ↦ refl
+        | false ↦ refl
+      ]) within
+  there-within answers U w (Process s) named within = within-same U w _ (told-waiting answers w s) within
+  there-within answers U w (Put s field given) named within = within-same U w _ (put_with-waiting answers w s field (put_field k (at k w s) field given)) within
+  there-within answers U w (Complete s number x) named within =
+      within-same U w _ (elim (awaits (common_at k w s) number) as (λ b. (cond {A = Stepped R} b (after_completion k answers w s x) (refused w Stale)).world.waiting ≡ w.waiting) [
+        | true ↦ completion-waiting answers w s x
+        | false ↦ refl
+      ]) within
+  there-within answers U w (Link s field link) named within = within-same U w _ (linked-waiting answers w s field link) within
+  there-within answers U w (Notify s number field given) named within = notify-within answers U w s number field (value_to_put k (at k w s) field given) (named s (0, omega arith, refl)) within
+  there-within answers U w (Cancel number) named within = cancel-within U w number within
+  there-within answers U w (IsLive number) named within = within
+
+  pub alone-within : (answers : Answers) (U : ℕ → Type 0) (w : World R) (event : Event) → ((n : ℕ) → Contains (names event) n → U n)
+      → ((x : Waiting) → Contains w.waiting x → U x.target) → (x : Waiting) → Contains (done_alone k answers w event).world.waiting x → U x.target
+  unfolding done_alone Within
+  alone-within answers U w event named within =
+      elim (is_there w event) as (λ b. (x : Waiting) → Contains (cond {A = Stepped R} b (done_there k answers w event) (refused w NoRecord)).world.waiting x → U x.target) [
+        | true ↦ there-within answers U w event named within
+        | false ↦ within
+      ]

@@ -1,0 +1,22 @@
+use Rattle.std.proofs.Common.{refl}
+use Rattle.ioc_events.specs.declared.event.Event.TheVariants.{Process}
+use Rattle.ioc_process.specs.Answering.{begins_on, accords_before}
+use Rattle.ioc_process.specs.Keeping.{keeps_on, closed_on}
+use Rattle.ioc_events.proofs.Stepping.{tells-event}
+use Rattle.ioc_events.proofs.events.run_request.Goals as goal
+
+pub end_event-requires-clause-closed : goal.end_event-requires-clause-closed
+end_event-requires-clause-closed g c = closed_on g.S.Record.RecordKind.rules g.met.S.Record.RecordKind.lawful c.request-reply.ensures.keeps c.requires.closed
+
+pub end_event-requires-clause-room : goal.end_event-requires-clause-room
+end_event-requires-clause-room g c = rw (c.request-reply.ensures.keeps.count, c.request-reply.ensures.room) c.requires.room
+
+pub returns-clause-step : goal.returns-clause-step
+returns-clause-step g c = λ answers begins.
+    tells-event g.S.Record.RecordKind.rules answers _ _ _ (Process c.args.number) _ _ _ _ _ _ c.asked-asked.ensures (c.request-reply.ensures.done answers (accords_before c.end_event.ensures.given begins)) refl (c.end_event.ensures.ends answers begins) refl
+
+pub returns-clause-keeps : goal.returns-clause-keeps
+returns-clause-keeps g c = keeps_on g.S.Record.RecordKind.rules c.request-reply.ensures.keeps c.end_event.ensures.keeps
+
+pub returns-clause-given : goal.returns-clause-given
+returns-clause-given g c = begins_on c.request-reply.ensures.given c.end_event.ensures.given

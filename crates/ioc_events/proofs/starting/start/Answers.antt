@@ -1,0 +1,76 @@
+use Rattle.std.proofs.Common.{true, refl, ap, sym, ◌∙◌}
+use Rattle.ioc_common.specs.Steps.{with_put_mark}
+use Rattle.ioc_events.specs.Starting.{processes}
+use Rattle.ioc_process.specs.Answering.{begins_same}
+use Rattle.ioc_process.specs.Keeping.{keeps_on, keeps-changed, closed_on, notified-keeps}
+use Rattle.ioc_events.proofs.QuietEvents.{taken-keeps}
+use Rattle.ioc_events.proofs.StartCode.{counts-told, counts-processed}
+use Rattle.ioc_events.proofs.starting.start.Goals as goal
+
+pub record-requires : goal.record-requires
+record-requires g c = rw c.take_and_store.ensures.world ((taken-keeps g.S.Record.RecordKind.rules g.met.S.Record.RecordKind.lawful (g.S.Store.world c.args.store.now) c.args.waiting.now c.requires.there).has _ c.requires.there)
+
+pub tell-requires : goal.tell-requires
+tell-requires g c = rw c.take_and_store.ensures.world ((taken-keeps g.S.Record.RecordKind.rules g.met.S.Record.RecordKind.lawful (g.S.Store.world c.args.store.now) c.args.waiting.now c.requires.there).has _ c.requires.there)
+
+pub mark_put-requires : goal.mark_put-requires
+mark_put-requires g c = rw c.take_and_store.ensures.world ((taken-keeps g.S.Record.RecordKind.rules g.met.S.Record.RecordKind.lawful (g.S.Store.world c.args.store.now) c.args.waiting.now c.requires.there).has _ c.requires.there)
+
+pub returns-then-not-processes-clause-started : goal.returns-then-not-processes-clause-started
+returns-then-not-processes-clause-started g c = λ answers begins.
+    let k = g.S.Record.RecordKind.rules in
+    let x = c.args.waiting.now in
+    counts-told k g.met.S.Record.RecordKind.lawful answers (g.S.Store.world c.args.store.now) _ x c.args.tally.now
+    (rw (← c.take_and_store.ensures.world) (ap (λ r. processes k r x.field) (sym c.record.ensures) ∙ sym c.processes.ensures ∙ c.if-not-processes.true))
+    (rw (← c.take_and_store.ensures.world) c.tell.ensures.world)
+
+pub returns-then-not-processes-clause-keeps : goal.returns-then-not-processes-clause-keeps
+returns-then-not-processes-clause-keeps g c =
+    let k = g.S.Record.RecordKind.rules in
+    let lawful = g.met.S.Record.RecordKind.lawful in
+    let taken = taken-keeps k lawful (g.S.Store.world c.args.store.now) c.args.waiting.now c.requires.there in
+    rw (c.tell.ensures.world, c.take_and_store.ensures.world) (keeps_on k taken (notified-keeps k lawful _ c.args.waiting.now.target (taken.has _ c.requires.there)))
+
+pub returns-then-not-processes-clause-given : goal.returns-then-not-processes-clause-given
+returns-then-not-processes-clause-given g c = begins_same (c.tell.ensures.given ∙ c.take_and_store.ensures.given)
+
+pub request_record-outcome-requires-clause-there : goal.request_record-outcome-requires-clause-there
+request_record-outcome-requires-clause-there g c =
+    let k = g.S.Record.RecordKind.rules in
+    let lawful = g.met.S.Record.RecordKind.lawful in
+    let taken = taken-keeps k lawful (g.S.Store.world c.args.store.now) c.args.waiting.now c.requires.there in
+    let there = taken.has _ c.requires.there in
+    rw (c.mark_put.ensures.world, c.take_and_store.ensures.world) ((keeps-changed k lawful _ c.args.waiting.now.target there (with_put_mark true) (λ it. (refl, refl))).has _ there)
+
+pub request_record-outcome-requires-clause-closed : goal.request_record-outcome-requires-clause-closed
+request_record-outcome-requires-clause-closed g c =
+    let k = g.S.Record.RecordKind.rules in
+    let lawful = g.met.S.Record.RecordKind.lawful in
+    let taken = taken-keeps k lawful (g.S.Store.world c.args.store.now) c.args.waiting.now c.requires.there in
+    let there = taken.has _ c.requires.there in
+    rw (c.mark_put.ensures.world, c.take_and_store.ensures.world) (closed_on k lawful (keeps_on k taken (keeps-changed k lawful _ c.args.waiting.now.target there (with_put_mark true) (λ it. (refl, refl)))) c.requires.closed)
+
+pub request_record-outcome-requires-clause-room : goal.request_record-outcome-requires-clause-room
+request_record-outcome-requires-clause-room g c =
+    let k = g.S.Record.RecordKind.rules in
+    let lawful = g.met.S.Record.RecordKind.lawful in
+    let taken = taken-keeps k lawful (g.S.Store.world c.args.store.now) c.args.waiting.now c.requires.there in
+    let there = taken.has _ c.requires.there in
+    rw (c.mark_put.ensures.world, c.take_and_store.ensures.world, (keeps_on k taken (keeps-changed k lawful _ c.args.waiting.now.target there (with_put_mark true) (λ it. (refl, refl)))).count) c.requires.room
+
+pub returns-clause-started : goal.returns-clause-started
+returns-clause-started g c = λ answers begins.
+    let k = g.S.Record.RecordKind.rules in
+    let x = c.args.waiting.now in
+    counts-processed k g.met.S.Record.RecordKind.lawful answers (g.S.Store.world c.args.store.now) _ x _ c.args.tally.now _
+    (rw (← c.take_and_store.ensures.world) (ap (λ r. processes k r x.field) (sym c.record.ensures) ∙ sym c.processes.ensures ∙ c.if-not-processes.false))
+    (rw (c.mark_put.ensures.world, c.take_and_store.ensures.world) at (c.request_record-outcome.ensures.request answers begins))
+
+pub returns-clause-keeps : goal.returns-clause-keeps
+returns-clause-keeps g c =
+    let k = g.S.Record.RecordKind.rules in
+    let lawful = g.met.S.Record.RecordKind.lawful in
+    let taken = taken-keeps k lawful (g.S.Store.world c.args.store.now) c.args.waiting.now c.requires.there in
+    let there = taken.has _ c.requires.there in
+    keeps_on k (keeps_on k taken (keeps-changed k lawful _ c.args.waiting.now.target there (with_put_mark true) (λ it. (refl, refl))))
+    (rw (c.mark_put.ensures.world, c.take_and_store.ensures.world) at c.request_record-outcome.ensures.keeps)

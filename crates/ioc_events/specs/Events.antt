@@ -1,0 +1,38 @@
+-- What the code of an event does, by what the event does.
+use Rattle.std.specs.Prelude.{◌≡◌, ℕ, drop, if◌then◌else◌}
+use Rattle.ioc_ledger.specs.declared.tally.Tally.{Tally}
+use Rattle.ioc_ledger.specs.Requests.{None, counted, counted_started}
+use Rattle.ioc_record.specs.RecordRules.{RecordRules}
+use Rattle.ioc_events.specs.declared.event.Event.{Event}
+use Rattle.ioc_events.specs.declared.reply.Reply.{Reply}
+use Rattle.ioc_store.specs.World.{World}
+use Rattle.ioc_store.specs.Given.{Answers, later_among}
+use Rattle.ioc_process.specs.Processing.{Done}
+use Rattle.ioc_events.specs.Starting.{all_started}
+use Rattle.ioc_events.specs.Step.{Stepped, is_refusal, tallied}
+
+-- the database, the reply and the tally after this event
+pub record Tells {R : Type 0} (w after : World R) (result : Reply) (before counts : Tally) (event : Event) (done : Stepped R) : Type 0 where
+  pub world : after ≡ done.world
+  pub reply : result ≡ done.reply
+  pub tally : counts ≡ tallied before w event done
+
+-- the database and the reply after an event by itself, and the tally with its requests
+pub record Makes {R : Type 0} (after : World R) (result : Reply) (before counts : Tally) (done : Stepped R) : Type 0 where
+  pub world : after ≡ done.world
+  pub reply : result ≡ done.reply
+  pub tally : counts ≡ counted before done.requests
+
+-- the database after requests, and the tally with them
+pub record Counts {R : Type 0} (after : World R) (before counts : Tally) (done : Done R) : Type 0 where
+  pub world : after ≡ done.world
+  pub tally : counts ≡ counted before done.requests
+
+-- what comes after an event by itself: those that wait start where they can, unless it was refused
+abbrev pub ends : {R : Type 0} → RecordRules R → Answers → World R → Reply → Done R
+ends k answers w reply = if is_refusal reply then record { world = w; requests = None } else all_started k answers w
+
+-- the database after that, and the tally with its requests and with the answers, from this call on, that come later
+pub record Ends {R : Type 0} (after : World R) (asked : ℕ) (before counts : Tally) (done : Done R) : Type 0 where
+  pub world : after ≡ done.world
+  pub tally : counts ≡ counted_started (counted before done.requests) (later_among (drop asked after.calls))

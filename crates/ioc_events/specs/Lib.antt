@@ -1,0 +1,7 @@
+pub mod Beside
+pub mod Local
+pub mod Starting
+pub mod Step
+pub mod Events
+pub mod StepRules
+pub mod Holding

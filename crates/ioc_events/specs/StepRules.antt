@@ -1,0 +1,192 @@
+-- What one event does to a database, as rules over whole databases: one for each way in which an event can go.
+-- Application Developer's Guide, "Runtime Database Access": dbGetField, dbPutField, dbProcess, dbPutNotify, dbNotifyCancel.
+use Rattle.std.specs.Prelude.{◌≡◌, ℕ, true, false, List, [], ◌∷◌, Some, Ok, Err, is_some}
+use Rattle.std.specs.FinMap.{contains_key, len}
+use Rattle.ioc_values.specs.declared.error.IocError.{IocError}
+use Rattle.ioc_values.specs.declared.error.IocError.TheVariants.{NoRecord, NoField, PutDisabled, Stale, QueueFull}
+use Rattle.ioc_values.specs.declared.input.Input.{Input}
+use Rattle.ioc_values.specs.declared.value.Value.{Value}
+use Rattle.ioc_values.specs.declared.value.Finished.{Finished}
+use Rattle.ioc_fields.specs.declared.field_no.FieldNo.{FieldNo}
+use Rattle.ioc_fields.specs.Table.{row_of}
+use Rattle.ioc_ledger.specs.declared.outcome.Outcome.{Outcome}
+use Rattle.ioc_ledger.specs.declared.outcome.Outcome.TheVariants.{Reprocess}
+use Rattle.ioc_ledger.specs.Requests.{Requests, None, Request, first_outcome, followed_by}
+use Rattle.ioc_record.specs.RecordRules.{RecordRules}
+use Rattle.ioc_common.specs.Steps.{with_put_mark, with_reprocess_mark}
+use Rattle.ioc_common.specs.declared.link_field.LinkField.{LinkField}
+use Rattle.ioc_common.specs.Links.{use_of, named_by}
+use Rattle.ioc_record.specs.Values.{text_of, put_field, stops_put}
+use Rattle.ioc_events.specs.declared.event.Entry.{Entry}
+use Rattle.ioc_events.specs.declared.reply.Reply.{Reply}
+use Rattle.ioc_events.specs.declared.reply.Reply.TheVariants.{Plain, Outcome as Outcome-reply, Shown, Notify as Notify-reply, Live as Live-reply, Refused}
+use Rattle.ioc_notify.specs.declared.waiting_lists.Waiting.{Waiting}
+use Rattle.ioc_notify.specs.Living.{is_live}
+use Rattle.ioc_store.specs.World.{World, Has, at, common_at, put, changed, begun_at, has_place, admitted, queued, unqueued, cancelled}
+use Rattle.ioc_store.specs.Notifying.{notified}
+use Rattle.ioc_events.specs.Starting.{value_to_put, must_wait, taken_and_stored, IsNext, NoneReady}
+use Rattle.ioc_store.specs.Scanning.{device_of, rescanned, rewired}
+use Rattle.ioc_process.specs.Rules.{Requested, Resumes}
+use Rattle.ioc_events.specs.declared.event.Event.{Event}
+use Rattle.ioc_events.specs.declared.event.Event.TheVariants.{Get, Process, Put, Complete, Link, Notify, Cancel, IsLive}
+use Rattle.ioc_events.specs.Step.{is_there, all_there, processes, awaits, lets_start}
+use Rattle.ioc_store.specs.Given.{Answers, answers_of, listed}
+
+module _ {R : Type 0} (k : RecordRules R) (answers : Answers) where
+  -- a put with notification starts: its record takes it, the value is stored, and the record is processed as after a put. Where nothing is
+  -- processed it is told at once
+  pub data Starts : World R → Waiting → World R → Requests → Type 0 where
+    to_be_processed : {w stored w' : World R} {x : Waiting} {requests : Requests}
+        → stored ≡ taken_and_stored k w x
+        → processes k (at k stored x.target) x.field ≡ true
+        → Requested k answers (changed k stored x.target (with_put_mark true)) x.target w' requests
+        → Starts w x w' requests
+    at_once_told : {w stored : World R} {x : Waiting}
+        → stored ≡ taken_and_stored k w x
+        → processes k (at k stored x.target) x.field ≡ false
+        → Starts w x (notified k stored x.target) None
+
+  -- those that wait start where they can, one after another, until there is none
+  pub data StartsAll : World R → World R → Requests → Type 0 where
+    no_more : {w : World R}
+        → NoneReady k w
+        → StartsAll w w None
+    next_starts : {w w' w'' : World R} {x : Waiting} {first rest : Requests}
+        → IsNext k w x
+        → Starts (unqueued x.number w) x w' first
+        → StartsAll w' w'' rest
+        → StartsAll w w'' (followed_by first rest)
+
+  -- an event by itself leads from one database to another, with this reply and these requests
+  pub data Does : World R → Event → World R → Reply → Requests → Type 0 where
+    no_such_record : {w : World R} {event : Event}
+        → is_there w event ≡ false
+        → Does w event w (Refused NoRecord) None
+    no_such_field : {w : World R} {s : ℕ} {field : FieldNo}
+        → contains_key w.records s ≡ true
+        → is_some (row_of (k.record_type (at k w s)) field) ≡ false
+        → Does w (Get s field) w (Refused NoField) None
+    shows_field : {w : World R} {s : ℕ} {field : FieldNo}
+        → contains_key w.records s ≡ true
+        → is_some (row_of (k.record_type (at k w s)) field) ≡ true
+        → Does w (Get s field) w (Shown (text_of k (at k w s) field)) None
+    processes_record : {w w' : World R} {s : ℕ} {outcome : Outcome} {requests : Requests}
+        → contains_key w.records s ≡ true
+        → Requested k answers w s w' requests
+        → first_outcome requests ≡ Some outcome
+        → Does w (Process s) w' (Outcome-reply outcome) requests
+    refuses_value : {w : World R} {s : ℕ} {field : FieldNo} {given : Input} {e : IocError}
+        → contains_key w.records s ≡ true
+        → put_field k (at k w s) field given ≡ Err e
+        → Does w (Put s field given) w (Refused e) None
+    stores_alone : {w w' : World R} {s : ℕ} {field : FieldNo} {given : Input} {r : R}
+        → contains_key w.records s ≡ true
+        → put_field k (at k w s) field given ≡ Ok r
+        → w' ≡ rescanned k (put w s r) s field
+        → processes k (at k w' s) field ≡ false
+        → Does w (Put s field given) w' Plain None
+    stores_while_active : {w w' : World R} {s : ℕ} {field : FieldNo} {given : Input} {r : R}
+        → contains_key w.records s ≡ true
+        → put_field k (at k w s) field given ≡ Ok r
+        → w' ≡ rescanned k (put w s r) s field
+        → processes k (at k w' s) field ≡ true
+        → (common_at k w' s).active ≡ true
+        → Does w (Put s field given) (changed k w' s (with_reprocess_mark true)) (Outcome-reply Reprocess) (Request Reprocess None None)
+    stores_and_processes : {w w' w'' : World R} {s : ℕ} {field : FieldNo} {given : Input} {r : R} {outcome : Outcome} {requests : Requests}
+        → contains_key w.records s ≡ true
+        → put_field k (at k w s) field given ≡ Ok r
+        → w' ≡ rescanned k (put w s r) s field
+        → processes k (at k w' s) field ≡ true
+        → (common_at k w' s).active ≡ false
+        → Requested k answers (changed k w' s (with_put_mark true)) s w'' requests
+        → first_outcome requests ≡ Some outcome
+        → Does w (Put s field given) w'' (Outcome-reply outcome) requests
+    not_awaited : {w : World R} {s number : ℕ} {x : Finished}
+        → contains_key w.records s ≡ true
+        → awaits (common_at k w s) number ≡ false
+        → Does w (Complete s number x) w (Refused Stale) None
+    completes_at_last : {w w' : World R} {s number : ℕ} {x : Finished} {requests : Requests}
+        → contains_key w.records s ≡ true
+        → awaits (common_at k w s) number ≡ true
+        → Resumes k answers w s x w' requests
+        → Does w (Complete s number x) w' Plain requests
+    leads_to_no_record : {w : World R} {s : ℕ} {field : FieldNo} {link : LinkField}
+        → contains_key w.records s ≡ true
+        → all_there w (named_by (use_of link)) ≡ false
+        → Does w (Link s field link) w (Refused NoRecord) None
+    no_link_field : {w : World R} {s : ℕ} {field : FieldNo} {link : LinkField}
+        → contains_key w.records s ≡ true
+        → all_there w (named_by (use_of link)) ≡ true
+        → is_some (k.link (at k w s) field) ≡ false
+        → Does w (Link s field link) w (Refused NoField) None
+    keeps_its_link : {w : World R} {s : ℕ} {field : FieldNo} {link : LinkField}
+        → contains_key w.records s ≡ true
+        → all_there w (named_by (use_of link)) ≡ true
+        → is_some (k.link (at k w s) field) ≡ true
+        → stops_put (common_at k w s) field ≡ true
+        → Does w (Link s field link) w (Refused PutDisabled) None
+    takes_link : {w : World R} {s : ℕ} {field : FieldNo} {link : LinkField}
+        → contains_key w.records s ≡ true
+        → all_there w (named_by (use_of link)) ≡ true
+        → is_some (k.link (at k w s) field) ≡ true
+        → stops_put (common_at k w s) field ≡ false
+        → Does w (Link s field link) (rewired k (device_of k (at k w s)) (put w s (k.with_link (at k w s) field link)) s) Plain None
+    refuses_notified_value : {w : World R} {s number : ℕ} {field : FieldNo} {given : Input} {e : IocError}
+        → contains_key w.records s ≡ true
+        → value_to_put k (at k w s) field given ≡ Err e
+        → Does w (Notify s number field given) w (Refused e) None
+    no_place : {w : World R} {s number : ℕ} {field : FieldNo} {given : Input} {v : Value}
+        → contains_key w.records s ≡ true
+        → value_to_put k (at k w s) field given ≡ Ok v
+        → has_place w number ≡ false
+        → Does w (Notify s number field given) w (Refused QueueFull) None
+    waits_its_turn : {w : World R} {s number : ℕ} {field : FieldNo} {given : Input} {v : Value}
+        → contains_key w.records s ≡ true
+        → value_to_put k (at k w s) field given ≡ Ok v
+        → has_place w number ≡ true
+        → must_wait k w s ≡ true
+        → Does w (Notify s number field given) (queued (record { number = number; target = s; field = field; value = v }) (admitted number w)) (Notify-reply number) None
+    starts_now : {w w' : World R} {s number : ℕ} {field : FieldNo} {given : Input} {v : Value} {requests : Requests}
+        → contains_key w.records s ≡ true
+        → value_to_put k (at k w s) field given ≡ Ok v
+        → has_place w number ≡ true
+        → must_wait k w s ≡ false
+        → Starts (admitted number w) (record { number = number; target = s; field = field; value = v }) w' requests
+        → Does w (Notify s number field given) w' (Notify-reply number) requests
+    not_live : {w : World R} {number : ℕ}
+        → is_live number w.live ≡ false
+        → Does w (Cancel number) w (Refused Stale) None
+    cancels : {w : World R} {number : ℕ}
+        → is_live number w.live ≡ true
+        → Does w (Cancel number) (cancelled k number w) Plain None
+    tells_if_live : {w : World R} {number : ℕ}
+        → Does w (IsLive number) w (Live-reply (is_live number w.live)) None
+
+  -- an event, after which those that wait start where they can, leads from one database to another
+  pub data Step : World R → Event → World R → Reply → Requests → Type 0 where
+    by_itself : {w w' : World R} {event : Event} {reply : Reply} {requests : Requests}
+        → Does w event w' reply requests
+        → lets_start event reply ≡ false
+        → Step w event w' reply requests
+    then_others : {w w' w'' : World R} {event : Event} {reply : Reply} {first rest : Requests}
+        → Does w event w' reply first
+        → lets_start event reply ≡ true
+        → StartsAll w' w'' rest
+        → Step w event w'' reply (followed_by first rest)
+
+module _ {R : Type 0} (k : RecordRules R) where
+  -- the events of a list, one after another, lead from one database to another, each at its moment, with the reply kept beside it
+  -- and all its answers used
+  pub data Replay : World R → List Entry → World R → Type 0 where
+    at_the_end : {w : World R} → Replay w [] w
+    and_then : {w w' w'' : World R} {entry : Entry} {entries : List Entry} {requests : Requests}
+        → Step k (listed entry.answers) (begun_at entry.moment w) entry.event w' entry.reply requests
+        → answers_of w'.calls ≡ entry.answers
+        → Replay w' entries w''
+        → Replay w (entry ∷ entries) w''
+
+-- no record comes or goes
+pub record KeepsRecords {R : Type 0} (before after : World R) : Type 0 where
+  pub has : (n : ℕ) → Has before n → Has after n
+  pub only : (n : ℕ) → Has after n → Has before n
+  pub count : len after.records ≡ len before.records

@@ -1,0 +1,199 @@
+//! What an event does by itself: a request, a put, a completion.
+ghost use Rattle.std.specs.FinMap.{len};
+ghost use Rattle.std.specs.Vec.{vec_capacity};
+ghost use Rattle.std.specs.Prelude.{◌≡◌, ◌≤◌, [], OnOk, OnErr, IfErr, Ok, Err};
+ghost use Rattle.ioc_record.specs.Values.{put_field};
+ghost use Rattle.ioc_store.specs.World.{Has, at, put, common_at, IsClosed, Keeps};
+ghost use Rattle.ioc_store.specs.Given.{Begins};
+ghost use Rattle.ioc_process.specs.Runs.{ForAnswers};
+ghost use Rattle.ioc_events.specs.declared.event.Event.TheVariants.{Process, Put, Complete};
+ghost use Rattle.ioc_events.specs.Step.{processes, awaits, told, after_put, done_alone};
+ghost use Rattle.ioc_events.specs.Events.{Makes};
+
+use crate::reply::Reply;
+use ioc_common::Common;
+use ioc_fields::{FieldNo, is_process_passive};
+use ioc_ledger::{Outcome, Tally};
+use ioc_names::RecordNo;
+use ioc_process::outputs::is_proc;
+use ioc_process::process::{complete_record, request_record};
+use ioc_record::{RecordKind, put_field};
+use ioc_store::frames::Frame;
+use ioc_store::scan_change::rescan;
+use ioc_store::steps::{mark_put, mark_reprocess};
+use ioc_store::store::Store;
+use ioc_values::{Finished, Input, IocError};
+
+/// Does a put to the field process the record?
+#[tactic(auto, unfolding(crate::specs::Starting::processes))]
+pub fn processes<K: RecordKind>(record: &K, field: FieldNo) -> bool
+    ensures { result ≡ processes K.rules record.now field }
+{
+    is_proc(field)
+        || (is_process_passive(record.record_type(), field) && record.common().is_passive())
+}
+
+// Requests a record that is there, and tells the outcome.
+fn tell<S: Store>(
+    store: &mut S,
+    frames: &mut Vec<Frame>,
+    number: RecordNo,
+    tally: &mut Tally,
+) -> Reply
+    requires there { Has (S.world store.old) number }
+    requires closed { IsClosed S.Record.rules (S.world store.old) }
+    requires empty { frames.old.items ≡ [] }
+    requires room { len (S.world store.old).records ≤ vec_capacity frames.old }
+    ensures told { ForAnswers (S.given store.new) (λ answers.
+        Makes (S.world store.new) result tally.old tally.new (told S.Record.rules answers (S.world store.old) number)) }
+    ensures keeps { Keeps S.Record.rules (S.world store.old) (S.world store.new) }
+    ensures given { Begins S.Device.gives (S.given store.old) (S.given store.new) }
+    ensures empty { frames.new.items ≡ [] }
+    ensures room { vec_capacity frames.new ≡ vec_capacity frames.old }
+{
+    let outcome = request_record(store, frames, number, tally);
+    Reply::Outcome(outcome)
+}
+
+/// Requests a record.
+pub fn request<S: Store>(
+    store: &mut S,
+    frames: &mut Vec<Frame>,
+    number: RecordNo,
+    tally: &mut Tally,
+) -> Reply
+    requires closed { IsClosed S.Record.rules (S.world store.old) }
+    requires empty { frames.old.items ≡ [] }
+    requires room { len (S.world store.old).records ≤ vec_capacity frames.old }
+    ensures done { ForAnswers (S.given store.new) (λ answers.
+        Makes (S.world store.new) result tally.old tally.new (done_alone S.Record.rules answers (S.world store.old) (Process number))) }
+    ensures keeps { Keeps S.Record.rules (S.world store.old) (S.world store.new) }
+    ensures given { Begins S.Device.gives (S.given store.old) (S.given store.new) }
+    ensures empty { frames.new.items ≡ [] }
+    ensures room { vec_capacity frames.new ≡ vec_capacity frames.old }
+{
+    if !store.has(number) {
+        return Reply::Refused(IocError::NoRecord);
+    }
+    tell(store, frames, number, tally)
+}
+
+// Puts a value into a field of a record that is there.
+fn put_into<S: Store>(
+    store: &mut S,
+    number: RecordNo,
+    field: FieldNo,
+    given: Input,
+) -> Result<(), IocError>
+    requires { Has (S.world store.old) number }
+    ensures ok { OnOk result (put_field S.Record.rules (at S.Record.rules (S.world store.old) number) field given ≡ Ok (at S.Record.rules (S.world store.new) number)) }
+    ensures stored { OnOk result (S.world store.new ≡ put (S.world store.old) number (at S.Record.rules (S.world store.new) number)) }
+    ensures err { IfErr result (λ e. put_field S.Record.rules (at S.Record.rules (S.world store.old) number) field given ≡ Err e) }
+    ensures same { OnErr result (S.world store.new ≡ S.world store.old) }
+    ensures given { S.given store.new ≡ S.given store.old }
+{
+    let record = store.record_mut(number);
+    put_field(record, field, given)
+}
+
+// The record was put to, and is processed if the field says so; one that is active is put down for another processing.
+#[tactic(auto, unfolding(crate::specs::Step::after_put))]
+fn process_after_put<S: Store>(
+    store: &mut S,
+    frames: &mut Vec<Frame>,
+    number: RecordNo,
+    field: FieldNo,
+    tally: &mut Tally,
+) -> Reply
+    requires there { Has (S.world store.old) number }
+    requires closed { IsClosed S.Record.rules (S.world store.old) }
+    requires empty { frames.old.items ≡ [] }
+    requires room { len (S.world store.old).records ≤ vec_capacity frames.old }
+    ensures after { ForAnswers (S.given store.new) (λ answers.
+        Makes (S.world store.new) result tally.old tally.new (after_put S.Record.rules answers (S.world store.old) number field)) }
+    ensures keeps { Keeps S.Record.rules (S.world store.old) (S.world store.new) }
+    ensures given { Begins S.Device.gives (S.given store.old) (S.given store.new) }
+    ensures empty { frames.new.items ≡ [] }
+    ensures room { vec_capacity frames.new ≡ vec_capacity frames.old }
+{
+    if !processes(store.record(number), field) {
+        return Reply::Plain;
+    }
+    if store.record(number).common().active {
+        mark_reprocess(store, number);
+        tally.count(Outcome::Reprocess);
+        return Reply::Outcome(Outcome::Reprocess);
+    }
+    mark_put(store, number);
+    tell(store, frames, number, tally)
+}
+
+/// Puts a value into a field, and processes the record where the field says so.
+pub fn put<S: Store>(
+    store: &mut S,
+    frames: &mut Vec<Frame>,
+    number: RecordNo,
+    field: FieldNo,
+    given: Input,
+    tally: &mut Tally,
+) -> Reply
+    requires closed { IsClosed S.Record.rules (S.world store.old) }
+    requires empty { frames.old.items ≡ [] }
+    requires room { len (S.world store.old).records ≤ vec_capacity frames.old }
+    ensures done { ForAnswers (S.given store.new) (λ answers.
+        Makes (S.world store.new) result tally.old tally.new (done_alone S.Record.rules answers (S.world store.old) (Put number field given))) }
+    ensures keeps { Keeps S.Record.rules (S.world store.old) (S.world store.new) }
+    ensures given { Begins S.Device.gives (S.given store.old) (S.given store.new) }
+    ensures empty { frames.new.items ≡ [] }
+    ensures room { vec_capacity frames.new ≡ vec_capacity frames.old }
+{
+    if !store.has(number) {
+        return Reply::Refused(IocError::NoRecord);
+    }
+    match put_into(store, number, field, given) {
+        Ok(()) => {
+            rescan(store, number, field);
+            process_after_put(store, frames, number, field, tally)
+        }
+        Err(refused) => Reply::Refused(refused),
+    }
+}
+
+// Does the record await the completion of this number?
+fn awaits(common: &Common, wait: u64) -> bool
+    ensures { result ≡ awaits common.now wait }
+{
+    match common.pending {
+        Some(pending) => pending == wait,
+        None => false,
+    }
+}
+
+/// The device of a record has answered at last, to the wait of this number.
+pub fn complete<S: Store>(
+    store: &mut S,
+    frames: &mut Vec<Frame>,
+    number: RecordNo,
+    wait: u64,
+    finished: Finished,
+    tally: &mut Tally,
+) -> Reply
+    requires closed { IsClosed S.Record.rules (S.world store.old) }
+    requires empty { frames.old.items ≡ [] }
+    requires room { len (S.world store.old).records ≤ vec_capacity frames.old }
+    ensures done { ForAnswers (S.given store.new) (λ answers.
+        Makes (S.world store.new) result tally.old tally.new (done_alone S.Record.rules answers (S.world store.old) (Complete number wait finished))) }
+    ensures keeps { Keeps S.Record.rules (S.world store.old) (S.world store.new) }
+    ensures given { Begins S.Device.gives (S.given store.old) (S.given store.new) }
+    ensures empty { frames.new.items ≡ [] }
+    ensures room { vec_capacity frames.new ≡ vec_capacity frames.old }
+{
+    if !store.has(number) {
+        return Reply::Refused(IocError::NoRecord);
+    }
+    if !awaits(store.record(number).common(), wait) {
+        return Reply::Refused(IocError::Stale);
+    }
+    complete_record(store, frames, number, finished, tally);
+    Reply::Plain
+}

@@ -1,0 +1,252 @@
+//! One event of a database: a get, a request, a put, a completion, a put with notification, a cancel. Each of the functions that takes
+//! frames finds them empty and leaves them so; they have room for all records.
+ghost use Rattle.std.specs.FinMap.{len};
+ghost use Rattle.std.specs.Vec.{vec_capacity};
+ghost use Rattle.std.specs.Prelude.{◌≡◌, ◌≤◌, ℕ, [], drop};
+ghost use Rattle.ioc_store.specs.World.{IsClosed, Keeps};
+ghost use Rattle.ioc_store.specs.Given.{Answers, Begins, later_among};
+ghost use Rattle.ioc_process.specs.Runs.{ForAnswers};
+ghost use Rattle.ioc_events.specs.declared.event.Event.TheVariants.{Get, Process, Put, Complete, Notify, Cancel, IsLive};
+ghost use Rattle.ioc_events.specs.Step.{is_refusal, completes, stepped};
+ghost use Rattle.ioc_values.specs.declared.value.Finished.{Finished};
+ghost use Rattle.ioc_ledger.specs.Requests.{counted_started};
+ghost use Rattle.ioc_events.specs.Events.{Tells, ends, Ends};
+
+use crate::reply::Reply;
+use crate::starting::start_all;
+use crate::{alone, notify};
+use ioc_fields::{FieldNo, row_of};
+use ioc_ledger::Tally;
+use ioc_names::RecordNo;
+use ioc_notify::NotifyId;
+use ioc_record::{RecordKind, text_of};
+use ioc_store::frames::Frame;
+use ioc_store::store::Store;
+use ioc_values::{Finished, Input, IocError};
+
+/// The text of a field.
+///
+/// # Errors
+///
+/// The reply is a refusal, [`IocError::NoRecord`] or [`IocError::NoField`] in this order, where there is no such record
+/// or field. Nothing is changed.
+#[tactic(auto, unfolding(crate::specs::Step::stepped, crate::specs::Step::done_alone, crate::specs::Step::done_there))]
+pub fn run_get<S: Store>(store: &S, number: RecordNo, field: FieldNo) -> Reply
+    ensures { (answers : Answers) → result ≡ (stepped S.Record.rules answers (S.world store.now) (Get number field)).reply }
+{
+    if !store.has(number) {
+        return Reply::Refused(IocError::NoRecord);
+    }
+    let record = store.record(number);
+    match row_of(record.record_type(), field) {
+        Some(_) => Reply::Shown(text_of(record, field)),
+        None => Reply::Refused(IocError::NoField),
+    }
+}
+
+/// Whether a put with notification is live.
+#[tactic(auto, unfolding(crate::specs::Step::stepped, crate::specs::Step::done_alone, crate::specs::Step::done_there))]
+pub fn run_live<S: Store>(store: &S, number: NotifyId) -> Reply
+    ensures { (answers : Answers) → result ≡ (stepped S.Record.rules answers (S.world store.now) (IsLive number)).reply }
+{
+    Reply::Live(store.is_live(number))
+}
+
+// Counts the answers, from this call on, that are to come later.
+fn count_started<S: Store>(store: &S, start: usize, tally: &mut Tally)
+    ensures { tally.new ≡ counted_started tally.old (later_among (drop start (S.world store.now).calls)) }
+{
+    tally.count_started(store.later_from(start) as u64);
+}
+
+// Is it a refusal?
+fn is_refusal(reply: &Reply) -> bool
+    ensures { result ≡ is_refusal reply.now }
+{
+    matches!(reply, Reply::Refused(_))
+}
+
+// Does the reply tell that a completion was taken?
+fn is_done(reply: &Reply) -> bool
+    ensures { (s wait : ℕ) (finished : Finished) → result ≡ completes (Complete s wait finished) reply.now }
+{
+    matches!(reply, Reply::Plain)
+}
+
+// What comes after an event by itself: those that wait start where they can, unless it was refused, and the answers, from this call on,
+// that are to come later are counted.
+fn end_event<S: Store>(
+    store: &mut S,
+    frames: &mut Vec<Frame>,
+    asked: usize,
+    reply: &Reply,
+    tally: &mut Tally,
+)
+    requires closed { IsClosed S.Record.rules (S.world store.old) }
+    requires empty { frames.old.items ≡ [] }
+    requires room { len (S.world store.old).records ≤ vec_capacity frames.old }
+    ensures ends { ForAnswers (S.given store.new) (λ answers.
+        Ends (S.world store.new) asked tally.old tally.new (ends S.Record.rules answers (S.world store.old) reply.now)) }
+    ensures keeps { Keeps S.Record.rules (S.world store.old) (S.world store.new) }
+    ensures given { Begins S.Device.gives (S.given store.old) (S.given store.new) }
+    ensures empty { frames.new.items ≡ [] }
+    ensures room { vec_capacity frames.new ≡ vec_capacity frames.old }
+{
+    if !is_refusal(reply) {
+        start_all(store, frames, tally);
+    }
+    count_started(store, asked, tally);
+}
+
+/// Requests a record.
+///
+/// # Errors
+///
+/// The reply is a refusal, [`IocError::NoRecord`], where there is no such record.
+pub fn run_request<S: Store>(
+    store: &mut S,
+    frames: &mut Vec<Frame>,
+    number: RecordNo,
+    tally: &mut Tally,
+) -> Reply
+    requires closed { IsClosed S.Record.rules (S.world store.old) }
+    requires empty { frames.old.items ≡ [] }
+    requires room { len (S.world store.old).records ≤ vec_capacity frames.old }
+    ensures step { ForAnswers (S.given store.new) (λ answers.
+        Tells (S.world store.old) (S.world store.new) result tally.old tally.new (Process number) (stepped S.Record.rules answers (S.world store.old) (Process number))) }
+    ensures keeps { Keeps S.Record.rules (S.world store.old) (S.world store.new) }
+    ensures given { Begins S.Device.gives (S.given store.old) (S.given store.new) }
+    ensures empty { frames.new.items ≡ [] }
+    ensures room { vec_capacity frames.new ≡ vec_capacity frames.old }
+{
+    let asked = store.asked();
+    let reply = alone::request(store, frames, number, tally);
+    end_event(store, frames, asked, &reply, tally);
+    reply
+}
+
+/// Puts a value into a field, and processes the record where the field is PROC, or is process-passive and the record
+/// passive. A record that is active is put down for another processing.
+///
+/// # Errors
+///
+/// The reply is a refusal, [`IocError::NoRecord`], [`IocError::NoField`], [`IocError::NoMod`],
+/// [`IocError::PutDisabled`] or [`IocError::BadValue`] in this order, where there is no such record or field, the field can't
+/// be put, DISP forbids it, or the value doesn't convert. Nothing is changed then.
+pub fn run_put<S: Store>(
+    store: &mut S,
+    frames: &mut Vec<Frame>,
+    number: RecordNo,
+    field: FieldNo,
+    given: Input,
+    tally: &mut Tally,
+) -> Reply
+    requires closed { IsClosed S.Record.rules (S.world store.old) }
+    requires empty { frames.old.items ≡ [] }
+    requires room { len (S.world store.old).records ≤ vec_capacity frames.old }
+    ensures step { ForAnswers (S.given store.new) (λ answers.
+        Tells (S.world store.old) (S.world store.new) result tally.old tally.new (Put number field given) (stepped S.Record.rules answers (S.world store.old) (Put number field given))) }
+    ensures keeps { Keeps S.Record.rules (S.world store.old) (S.world store.new) }
+    ensures given { Begins S.Device.gives (S.given store.old) (S.given store.new) }
+    ensures empty { frames.new.items ≡ [] }
+    ensures room { vec_capacity frames.new ≡ vec_capacity frames.old }
+{
+    let asked = store.asked();
+    let reply = alone::put(store, frames, number, field, given, tally);
+    end_event(store, frames, asked, &reply, tally);
+    reply
+}
+
+/// The device of a record has answered at last, to the wait of this number: the record goes on with what it gave. What the device of an
+/// output gives is not looked at, but for a fault.
+///
+/// # Errors
+///
+/// The reply is a refusal, [`IocError::NoRecord`] or [`IocError::Stale`] in this order, where there is no such record, or it doesn't
+/// await the completion of this number. Nothing is changed then.
+pub fn run_complete<S: Store>(
+    store: &mut S,
+    frames: &mut Vec<Frame>,
+    number: RecordNo,
+    wait: u64,
+    finished: Finished,
+    tally: &mut Tally,
+) -> Reply
+    requires closed { IsClosed S.Record.rules (S.world store.old) }
+    requires empty { frames.old.items ≡ [] }
+    requires room { len (S.world store.old).records ≤ vec_capacity frames.old }
+    ensures step { ForAnswers (S.given store.new) (λ answers.
+        Tells (S.world store.old) (S.world store.new) result tally.old tally.new (Complete number wait finished) (stepped S.Record.rules answers (S.world store.old) (Complete number wait finished))) }
+    ensures keeps { Keeps S.Record.rules (S.world store.old) (S.world store.new) }
+    ensures given { Begins S.Device.gives (S.given store.old) (S.given store.new) }
+    ensures empty { frames.new.items ≡ [] }
+    ensures room { vec_capacity frames.new ≡ vec_capacity frames.old }
+{
+    let asked = store.asked();
+    let reply = alone::complete(store, frames, number, wait, finished, tally);
+    end_event(store, frames, asked, &reply, tally);
+    if is_done(&reply) {
+        tally.count_completion();
+    }
+    reply
+}
+
+/// Puts a value into a field as [`run_put`] does, with a notification: it passes to the records that are processed for it, and ends with
+/// the last of them. Where the record is active, has a notification or has one waiting, the put waits; it is tested and its value
+/// converted at once. The caller gives each number to one put.
+///
+/// # Errors
+///
+/// The reply is a refusal, those of [`run_put`] and then [`IocError::QueueFull`], where 256 are live, or the number is that of one that
+/// is live. Nothing is changed then.
+pub fn run_notify<S: Store>(
+    store: &mut S,
+    frames: &mut Vec<Frame>,
+    target: RecordNo,
+    number: NotifyId,
+    field: FieldNo,
+    given: Input,
+    tally: &mut Tally,
+) -> Reply
+    requires closed { IsClosed S.Record.rules (S.world store.old) }
+    requires empty { frames.old.items ≡ [] }
+    requires room { len (S.world store.old).records ≤ vec_capacity frames.old }
+    ensures step { ForAnswers (S.given store.new) (λ answers.
+        Tells (S.world store.old) (S.world store.new) result tally.old tally.new (Notify target number field given) (stepped S.Record.rules answers (S.world store.old) (Notify target number field given))) }
+    ensures keeps { Keeps S.Record.rules (S.world store.old) (S.world store.new) }
+    ensures given { Begins S.Device.gives (S.given store.old) (S.given store.new) }
+    ensures empty { frames.new.items ≡ [] }
+    ensures room { vec_capacity frames.new ≡ vec_capacity frames.old }
+{
+    let asked = store.asked();
+    let reply = notify::notify(store, frames, target, number, field, given, tally);
+    end_event(store, frames, asked, &reply, tally);
+    reply
+}
+
+/// A put with notification is given up: no record has it any more, it waits nowhere, and it doesn't end.
+///
+/// # Errors
+///
+/// The reply is a refusal, [`IocError::Stale`], where it isn't live. Nothing is changed then.
+pub fn run_cancel<S: Store>(
+    store: &mut S,
+    frames: &mut Vec<Frame>,
+    number: NotifyId,
+    tally: &mut Tally,
+) -> Reply
+    requires closed { IsClosed S.Record.rules (S.world store.old) }
+    requires empty { frames.old.items ≡ [] }
+    requires room { len (S.world store.old).records ≤ vec_capacity frames.old }
+    ensures step { ForAnswers (S.given store.new) (λ answers.
+        Tells (S.world store.old) (S.world store.new) result tally.old tally.new (Cancel number) (stepped S.Record.rules answers (S.world store.old) (Cancel number))) }
+    ensures keeps { Keeps S.Record.rules (S.world store.old) (S.world store.new) }
+    ensures given { Begins S.Device.gives (S.given store.old) (S.given store.new) }
+    ensures empty { frames.new.items ≡ [] }
+    ensures room { vec_capacity frames.new ≡ vec_capacity frames.old }
+{
+    let asked = store.asked();
+    let reply = notify::cancel(store, number);
+    end_event(store, frames, asked, &reply, tally);
+    reply
+}

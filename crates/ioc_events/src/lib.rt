@@ -1,0 +1,18 @@
+//! What one event does to a database: requests, puts, puts with notification, completions and link changes.
+#![tactic(auto)]
+
+pub mod alone;
+pub mod event;
+pub mod event_rules;
+pub mod events;
+pub mod link_change;
+pub mod local;
+pub mod notification_rules;
+pub mod notify;
+pub mod reply;
+pub mod starting;
+
+pub use event::{Entry, Event, KeptAnswers};
+pub use events::{run_cancel, run_complete, run_get, run_live, run_notify, run_put, run_request};
+pub use link_change::run_link;
+pub use reply::Reply;

@@ -1,0 +1,65 @@
+//! A change of a link.
+ghost use Rattle.std.specs.Prelude.{◌≡◌, ◌&&◌, true, is_some};
+ghost use Rattle.ioc_common.specs.Links.{named_by};
+ghost use Rattle.ioc_ledger.specs.Requests.{None};
+ghost use Rattle.ioc_record.specs.Values.{stops_put};
+ghost use Rattle.ioc_events.specs.declared.event.Event.TheVariants.{Link};
+ghost use Rattle.ioc_store.specs.Given.{Answers};
+ghost use Rattle.ioc_events.specs.Step.{all_there, stepped};
+ghost use Rattle.ioc_store.specs.World.{Has, at, common_at, put};
+
+use crate::reply::Reply;
+use ioc_common::{KeptLink, LinkUse};
+use ioc_fields::FieldNo;
+use ioc_names::RecordNo;
+use ioc_record::{RecordKind, stops_put};
+use ioc_store::scan_change::{device_of, rewire};
+use ioc_store::store::Store;
+use ioc_values::IocError;
+
+// Is the record there that a link leads to, if it leads to any?
+fn leads_within<S: Store>(store: &S, link: LinkUse) -> bool
+    ensures { result ≡ all_there (S.world store.now) (named_by link) }
+{
+    match link {
+        LinkUse::Standing(target) => store.has(target.number),
+        LinkUse::Unused | LinkUse::OwnDevice | LinkUse::Absent => true,
+    }
+}
+
+// Sets a link field.
+fn set_link<S: Store>(store: &mut S, number: RecordNo, field: FieldNo, link: KeptLink)
+    requires { Has (S.world store.old) number }
+    ensures world { S.world store.new ≡ put (S.world store.old) number (S.Record.rules.with_link (at S.Record.rules (S.world store.old) number) field link) }
+    ensures given { S.given store.new ≡ S.given store.old }
+{
+    store.record_mut(number).set_link(field, link);
+}
+
+/// A link field gets another link, and nothing is processed. The room for the link was taken before.
+///
+/// # Errors
+///
+/// The reply is a refusal, [`IocError::NoRecord`], [`IocError::NoField`] or [`IocError::PutDisabled`] in this order, where there
+/// is no such record, or none that the link leads to, the field is no link field, or DISP forbids it. Nothing is changed then.
+#[tactic(auto, unfolding(crate::specs::Step::stepped, crate::specs::Step::done_alone, crate::specs::Step::done_there, crate::specs::Step::relinked))]
+pub fn run_link<S: Store>(store: &mut S, number: RecordNo, field: FieldNo, link: KeptLink) -> Reply
+    ensures step { (answers : Answers) →
+        stepped S.Record.rules answers (S.world store.old) (Link number field link) ≡ record { world = S.world store.new; reply = result; requests = None } }
+    ensures given { S.given store.new ≡ S.given store.old }
+{
+    if !store.has(number) || !leads_within(store, link.in_use()) {
+        return Reply::Refused(IocError::NoRecord);
+    }
+    let this = store.record(number);
+    if this.link(field).is_none() {
+        return Reply::Refused(IocError::NoField);
+    }
+    if stops_put(this.common(), field) {
+        return Reply::Refused(IocError::PutDisabled);
+    }
+    let before = device_of(this);
+    set_link(store, number, field, link);
+    rewire(store, number, before);
+    Reply::Plain
+}

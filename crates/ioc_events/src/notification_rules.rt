@@ -1,0 +1,66 @@
+//! Laws of puts with notification. Each function's contract is a law; its body is empty.
+ghost use Rattle.std.specs.Prelude.{◌≡◌, ◌<◌, ◌^◌, ◌↔◌, ℕ, true, List, [], ◌∷◌, None};
+ghost use Rattle.std.specs.FinMap.{len};
+ghost use Rattle.ioc_ledger.specs.Requests.{Requests};
+ghost use Rattle.ioc_notify.specs.Living.{is_live};
+ghost use Rattle.ioc_store.specs.World.{World, Has, IsClosed, common_at};
+ghost use Rattle.ioc_store.specs.Given.{Answers};
+ghost use Rattle.ioc_process.specs.Rules.{IsSettled};
+ghost use Rattle.ioc_events.specs.Starting.{NoneReady, IsGivenUp};
+ghost use Rattle.ioc_events.specs.Holding.{HoldersAwait, IsCounted, IsHeld, EndsExactly, IsOver, NoneBegins};
+ghost use Rattle.ioc_events.specs.StepRules.{Does, Step, Replay};
+ghost use Rattle.ioc_events.specs.declared.event.Entry.{Entry};
+ghost use Rattle.ioc_events.specs.declared.event.Event.{Event};
+ghost use Rattle.ioc_events.specs.declared.event.Event.TheVariants.{Cancel};
+ghost use Rattle.ioc_events.specs.declared.reply.Reply.{Reply};
+
+use ioc_record::RecordKind;
+
+/// After an event no put with notification waits whose record is idle and has none, if there was none before it.
+pub fn events_leave_none_ready<K: RecordKind>()
+    ensures { (answers : Answers) (w after : World K) (event : Event) (reply : Reply) (requests : Requests) →
+        Step K.rules answers w event after reply requests → NoneReady K.rules w → NoneReady K.rules after }
+{}
+
+/// A cancel of a put with notification that is live takes it from every record and from the waiting list, and by that nothing ends.
+pub fn cancels_give_up<K: RecordKind>()
+    ensures { (answers : Answers) (w after : World K) (number : ℕ) (reply : Reply) (requests : Requests) →
+        Does K.rules answers w (Cancel number) after reply requests → is_live number w.live ≡ true → IsGivenUp K.rules number w after }
+{}
+
+/// Whatever events come, between them those puts with notification are live that a record or a waiting list has, each with
+/// the count of these. So it is where there is none, as after a load.
+pub fn events_count_holders<K: RecordKind>()
+    ensures first { (w : World K) → IsClosed K.rules w → len w.records < 2 ^ 63 → w.live ≡ [] → w.waiting ≡ []
+        → ((n : ℕ) → Has w n → (common_at K.rules w n).notification ≡ None) → IsCounted K.rules w }
+    ensures event { (answers : Answers) (w after : World K) (event : Event) (reply : Reply) (requests : Requests) →
+        Step K.rules answers w event after reply requests → IsCounted K.rules w → IsCounted K.rules after }
+    ensures events { (w after : World K) (entries : List Entry) → Replay K.rules w entries after → IsCounted K.rules w → IsCounted K.rules after }
+    ensures live { (w : World K) (n : ℕ) → IsCounted K.rules w → (is_live n w.live ≡ true) ↔ IsHeld K.rules w n }
+{}
+
+/// A put with notification ends by exactly the event after which no record and no waiting list has it: one had it before, or it
+/// began by this event, and it wasn't cancelled. It ends once.
+pub fn events_end_what_nobody_has<K: RecordKind>()
+    ensures { (answers : Answers) (w after : World K) (event : Event) (reply : Reply) (requests : Requests) →
+        Step K.rules answers w event after reply requests → IsCounted K.rules w → w.ended ≡ [] → EndsExactly K.rules w event reply after }
+{}
+
+/// One that was cancelled, or that nobody has, ends by no event that follows, unless one of its number begins anew. So none
+/// ends twice.
+pub fn those_over_never_end<K: RecordKind>()
+    ensures cancelled { (answers : Answers) (w mid after : World K) (number : ℕ) (reply : Reply) (requests : Requests) (entries : List Entry) →
+        Step K.rules answers w (Cancel number) mid reply requests → Replay K.rules mid entries after → IsCounted K.rules w → w.ended ≡ [] →
+        NoneBegins entries number → IsOver K.rules after number }
+    ensures not_held { (w after : World K) (number : ℕ) (entry : Entry) (entries : List Entry) → Replay K.rules w (entry ∷ entries) after →
+        IsCounted K.rules w → (IsHeld K.rules w number → ⊥) → NoneBegins (entry ∷ entries) number → IsOver K.rules after number }
+{}
+
+/// Whatever events come, between them a record that has a notification awaits a completion, and so does one for which a put
+/// with notification waits: so nothing has a notification that no answer of a device would tell.
+pub fn events_leave_holders_awaiting<K: RecordKind>()
+    ensures event { (answers : Answers) (w after : World K) (event : Event) (reply : Reply) (requests : Requests) →
+        Step K.rules answers w event after reply requests → IsSettled K.rules w → HoldersAwait K.rules w → HoldersAwait K.rules after }
+    ensures events { (w after : World K) (entries : List Entry) → Replay K.rules w entries after → IsSettled K.rules w → HoldersAwait K.rules w →
+        HoldersAwait K.rules after }
+{}

@@ -1,0 +1,135 @@
+//! A put with notification by itself, and a cancel.
+ghost use Rattle.std.specs.FinMap.{len};
+ghost use Rattle.std.specs.Vec.{vec_capacity};
+ghost use Rattle.std.specs.Prelude.{◌≡◌, ◌≤◌, ◌==◌, ◌+◌, ◌<◌, [], length};
+ghost use Rattle.ioc_ledger.specs.Requests.{None};
+ghost use Rattle.std.specs.List.{list_any};
+ghost use Rattle.ioc_store.specs.World.{Has, at, IsClosed, Keeps, has_place};
+ghost use Rattle.ioc_store.specs.Given.{Answers, Begins};
+ghost use Rattle.ioc_process.specs.Runs.{ForAnswers};
+ghost use Rattle.ioc_events.specs.Starting.{value_to_put, must_wait};
+ghost use Rattle.ioc_events.specs.declared.event.Event.TheVariants.{Notify, Cancel};
+ghost use Rattle.ioc_events.specs.Step.{begun_or_queued, done_alone};
+ghost use Rattle.ioc_events.specs.Events.{Makes};
+
+use crate::reply::Reply;
+use crate::starting::start;
+use ioc_fields::FieldNo;
+use ioc_ledger::Tally;
+use ioc_names::RecordNo;
+use ioc_notify::{NotifyId, Waiting};
+use ioc_record::{RecordKind, convert_for, test_put};
+use ioc_store::frames::Frame;
+use ioc_store::steps::common;
+use ioc_store::store::Store;
+use ioc_values::{Input, IocError, Value};
+
+// What a client's put stores: tested and converted.
+#[tactic(auto, unfolding(crate::specs::Starting::value_to_put))]
+fn value_to_put<K: RecordKind>(record: &K, field: FieldNo, given: Input) -> Result<Value, IocError>
+    ensures { result ≡ value_to_put K.rules record.now field given }
+{
+    test_put(record, field)?;
+    convert_for(record, field, given)
+}
+
+// Does one wait for this record?
+fn has_waiting(waiting: &[Waiting], number: RecordNo) -> bool
+    ensures { result ≡ list_any (λ x. x.target == number) waiting.now }
+{
+    waiting.iter().any(|one| one.target == number)
+}
+
+// Must a put with notification wait for this record?
+#[tactic(auto, unfolding(crate::specs::Starting::must_wait))]
+fn must_wait<S: Store>(store: &S, number: RecordNo) -> bool
+    requires { Has (S.world store.now) number }
+    ensures { result ≡ must_wait S.Record.rules (S.world store.now) number }
+{
+    let common = common(store, number);
+    common.active || (common.notification.is_some() || has_waiting(store.waiting(), number))
+}
+
+// A put with notification whose value was tested and converted waits for its record, or starts.
+#[tactic(auto, unfolding(crate::specs::Step::begun_or_queued))]
+fn begin_or_queue<S: Store>(
+    store: &mut S,
+    frames: &mut Vec<Frame>,
+    waiting: &Waiting,
+    tally: &mut Tally,
+)
+    requires there { Has (S.world store.old) waiting.now.target }
+    requires place { length (S.world store.old).live + length (S.world store.old).ended < 256 }
+    requires waits { length (S.world store.old).waiting < 256 }
+    requires closed { IsClosed S.Record.rules (S.world store.old) }
+    requires empty { frames.old.items ≡ [] }
+    requires room { len (S.world store.old).records ≤ vec_capacity frames.old }
+    ensures done { ForAnswers (S.given store.new) (λ answers.
+        Makes (S.world store.new) (Reply.Notify waiting.now.number) tally.old tally.new (begun_or_queued S.Record.rules answers (S.world store.old) waiting.now)) }
+    ensures keeps { Keeps S.Record.rules (S.world store.old) (S.world store.new) }
+    ensures given { Begins S.Device.gives (S.given store.old) (S.given store.new) }
+    ensures empty { frames.new.items ≡ [] }
+    ensures room { vec_capacity frames.new ≡ vec_capacity frames.old }
+{
+    let waits = must_wait(store, waiting.target);
+    store.admit(waiting.number);
+    if waits {
+        store.queue(waiting);
+    } else {
+        start(store, frames, waiting, tally);
+    }
+}
+
+/// A put with notification is tested and converted, and starts or waits for its record.
+pub fn notify<S: Store>(
+    store: &mut S,
+    frames: &mut Vec<Frame>,
+    target: RecordNo,
+    number: NotifyId,
+    field: FieldNo,
+    given: Input,
+    tally: &mut Tally,
+) -> Reply
+    requires closed { IsClosed S.Record.rules (S.world store.old) }
+    requires empty { frames.old.items ≡ [] }
+    requires room { len (S.world store.old).records ≤ vec_capacity frames.old }
+    ensures done { ForAnswers (S.given store.new) (λ answers.
+        Makes (S.world store.new) result tally.old tally.new (done_alone S.Record.rules answers (S.world store.old) (Notify target number field given))) }
+    ensures keeps { Keeps S.Record.rules (S.world store.old) (S.world store.new) }
+    ensures given { Begins S.Device.gives (S.given store.old) (S.given store.new) }
+    ensures empty { frames.new.items ≡ [] }
+    ensures room { vec_capacity frames.new ≡ vec_capacity frames.old }
+{
+    if !store.has(target) {
+        return Reply::Refused(IocError::NoRecord);
+    }
+    let value = match value_to_put(store.record(target), field, given) {
+        Ok(value) => value,
+        Err(refused) => return Reply::Refused(refused),
+    };
+    if !store.has_place(number) {
+        return Reply::Refused(IocError::QueueFull);
+    }
+    let waiting = Waiting {
+        number,
+        target,
+        field,
+        value,
+    };
+    begin_or_queue(store, frames, &waiting, tally);
+    Reply::Notify(number)
+}
+
+/// A put with notification is given up: it is taken from all records and from the waiting list, and doesn't end.
+pub fn cancel<S: Store>(store: &mut S, number: NotifyId) -> Reply
+    ensures done { (answers : Answers) →
+        done_alone S.Record.rules answers (S.world store.old) (Cancel number) ≡ record { world = S.world store.new; reply = result; requests = None } }
+    ensures keeps { Keeps S.Record.rules (S.world store.old) (S.world store.new) }
+    ensures given { S.given store.new ≡ S.given store.old }
+{
+    if !store.is_live(number) {
+        return Reply::Refused(IocError::Stale);
+    }
+    store.cancel(number);
+    Reply::Plain
+}

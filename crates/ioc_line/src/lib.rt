@@ -1,0 +1,13 @@
+//! One list that only grows, passes that each know a beginning of it, and keys that each belong to one pass.
+//!
+//! Who holds a set of records holds a pass that owns the keys of these records: what others add to the list meanwhile is about
+//! other records, and no two passes are about one. Passes have no bytes, and the cell that ties them is never written to.
+#![tactic(auto)]
+
+pub mod entry;
+pub mod pass;
+pub mod relink;
+pub mod room;
+
+pub use entry::JournalEntry;
+pub use room::{Cell, Keys, Room, Said, Token};

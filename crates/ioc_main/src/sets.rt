@@ -1,0 +1,112 @@
+//! The line `sets`.
+ghost use Rattle.std.specs.Prelude.{◌≡◌, ◌<◌, ◌+◌, ◌-◌, ◌++◌, ◌∷◌, [], codes, length, slice_index, OnOk};
+ghost use Rattle.ioc_types.specs.Record.{record_rules};
+ghost use Rattle.ioc_store.specs.OneMap.{world_of};
+ghost use Rattle.ioc_graph.specs.Parts.{all_below};
+ghost use Rattle.ioc_graph.specs.Members.{AreFirsts, AreFollowers};
+ghost use Rattle.ioc_machine.specs.SeenMachine.{machine_of};
+ghost use Rattle.ioc_main.specs.Sets.{name_at, part_words, first_words, parts_words, sets_line};
+
+use ioc_graph::followers;
+use ioc_machine::{Machine, Scripted};
+use ioc_names::RecordNo;
+use ioc_record::RecordKind;
+use ioc_store::{OneMap, Store};
+use ioc_types::Record;
+use std::alloc::{AllocError, Global};
+
+// Adds the name of a record, behind a text.
+fn add_name(
+    line: &mut Vec<u8>,
+    before: &[u8],
+    map: &OneMap<Record, Scripted>,
+    number: usize,
+) -> Result<(), AllocError>
+    requires { number < length map.now.records.items }
+    ensures { OnOk result (line.new.items ≡ line.old.items ++ before.now ++ name_at record_rules (world_of map.now) number) }
+{
+    line.extend_from_slice(before)?;
+    let record = map.record(RecordNo::new(number));
+    line.extend_from_slice(record.common().name.as_slice())
+}
+
+// Adds the names of a part, by its first record and by the record that follows on each.
+fn add_part(
+    line: &mut Vec<u8>,
+    map: &OneMap<Record, Scripted>,
+    numbers: &[usize],
+    next: &[usize],
+    first: usize,
+) -> Result<(), AllocError>
+    requires there { first < length numbers.now }
+    requires is_first { slice_index numbers.now first ≡ first }
+    requires all { length numbers.now ≡ length map.now.records.items }
+    requires follow { AreFollowers numbers.now next.now }
+    ensures { OnOk result (line.new.items ≡ line.old.items ++ part_words record_rules (world_of map.now) numbers.now first) }
+{
+    add_name(line, b" {", map, first)?;
+    let mut number = next[first];
+    while number < next.len() {
+        add_name(line, b" ", map, number)?;
+        number = next[number];
+    }
+    line.push(b'}')?;
+    Ok(())
+}
+
+// Adds the names of the part that begins with a record, if one does.
+fn add_part_of(
+    line: &mut Vec<u8>,
+    map: &OneMap<Record, Scripted>,
+    numbers: &[usize],
+    next: &[usize],
+    number: usize,
+) -> Result<(), AllocError>
+    requires there { number < length numbers.now }
+    requires all { length numbers.now ≡ length map.now.records.items }
+    requires follow { AreFollowers numbers.now next.now }
+    ensures { OnOk result (line.new.items ≡ line.old.items ++ first_words record_rules (world_of map.now) numbers.now number) }
+{
+    if numbers[number] != number {
+        return Ok(());
+    }
+    add_part(line, map, numbers, next, number)
+}
+
+// Adds the parts, each by its first record.
+fn add_parts(
+    line: &mut Vec<u8>,
+    map: &OneMap<Record, Scripted>,
+    numbers: &[usize],
+    next: &[usize],
+) -> Result<(), AllocError>
+    requires all { length numbers.now ≡ length map.now.records.items }
+    requires follow { AreFollowers numbers.now next.now }
+    ensures { OnOk result (line.new.items ≡ line.old.items ++ parts_words record_rules (world_of map.now) numbers.now (all_below (length numbers.now))) }
+{
+    let mut number = 0;
+    while number < numbers.len() {
+        add_part_of(line, map, numbers, next, number)?;
+        number += 1;
+    }
+    Ok(())
+}
+
+/// Says the connected parts of a database, line feed included. Cost: near the number of its records and links, and of the bytes that
+/// are said.
+///
+/// # Errors
+///
+/// [`AllocError`] where memory is wanting.
+#[tactic(auto, unfolding(crate::specs::Sets::sets_line))]
+pub fn say_sets(alloc: Global, machine: &Machine, line: &mut Vec<u8>) -> Result<(), AllocError>
+    requires { line.old.items ≡ [] }
+    ensures { OnOk result (line.new.items ≡ sets_line record_rules (machine_of machine.now).world) }
+{
+    let numbers = machine.parts()?;
+    let next = followers(alloc, numbers.as_slice())?;
+    line.extend_from_slice(b"sets")?;
+    add_parts(line, machine.map(), numbers.as_slice(), next.as_slice())?;
+    line.push(b'\n')?;
+    Ok(())
+}

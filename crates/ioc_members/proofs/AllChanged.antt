@@ -1,0 +1,89 @@
+-- All records of a set changed in their places.
+use Rattle.std.proofs.Common.{◌≡◌, ℕ, zero, suc, ◌+◌, ◌<◌, ◌≤◌, List, [], ◌∷◌, ◌++◌, Option, Some, Bool, true, false, length, map, take, drop, set, get_or, cond, refl, sym, ap, ◌∙◌, append-nil, arith}
+use Rattle.std.specs.Prelude.{◌==◌}
+use Rattle.std.specs.Ordering.{nat_cmp}
+use Rattle.std.specs.FinMap.{entries, entries_sorted, from_sorted, entries-from_sorted, same_entries_map}
+use Rattle.std.proofs.lemmas.List.{take_all, drop_all}
+use Rattle.ioc_members.specs.declared.slots.Slot.{Slot}
+use Rattle.ioc_members.specs.Changed.{slot_changed, all_changed}
+use Rattle.ioc_members.specs.Contents.{Records}
+use Rattle.ioc_members.specs.Slots.{record_entry, records_of, devices_of, IsBelow, AreAscending}
+use Rattle.std.proofs.Math.ListN.{length-map}
+use Rattle.ioc_members.proofs.MapLaws.{one_map}
+use Rattle.ioc_members.proofs.Merged.{written_over}
+use Rattle.ioc_members.proofs.Slotted.{slot_at}
+use Rattle.ioc_members.proofs.Seen.{device_in, get_device}
+use Rattle.ioc_members.proofs.Ordered.{entries_are}
+
+module _ {A : Type 0} (f : A → A) where
+  -- one item more is changed in its place
+  pub map_more : (xs : List A) (i : ℕ) (d : A) → i < length xs → set (map f (take i xs) ++ drop i xs) i (f (get_or xs i d)) ≡ map f (take (i + 1) xs) ++ drop (i + 1) xs
+  map_more [] i d lt = absurd (omega arith)
+  map_more (x ∷ xs) zero d lt = refl
+  map_more (x ∷ xs) (suc i) d lt =
+      let e : suc i + 1 ≡ suc (i + 1) = omega arith in
+      let below : i < length xs = omega arith in
+      rw e (ap (λ ys. f x ∷ ys) (map_more xs i d below))
+
+  -- the item at the first place that isn't changed yet
+  pub get_more : (xs : List A) (i : ℕ) (d : A) → i < length xs → get_or (map f (take i xs) ++ drop i xs) i d ≡ get_or xs i d
+  get_more [] i d lt = absurd (omega arith)
+  get_more (x ∷ xs) zero d lt = refl
+  get_more (x ∷ xs) (suc i) d lt = let below : i < length xs = omega arith in get_more xs i d below
+
+  pub all_mapped : (xs : List A) (i : ℕ) → length xs ≤ i → map f (take i xs) ++ drop i xs ≡ map f xs
+  all_mapped xs i past = rw (take_all i xs past, drop_all i xs past) (append-nil (map f xs))
+
+-- a map is that of its own entries
+sorted_again : {R : Type 0} (m : Records R) → m ≡ from_sorted (entries m)
+sorted_again m = same_entries_map m (from_sorted (entries m)) (sym (entries-from_sorted nat_cmp (entries m) (entries_sorted m)))
+
+module _ {R D : Type 0} (f : R → R) where
+  abbrev changed : List (Slot R D) → List (Slot R D)
+  changed ss = map (slot_changed f) ss
+
+  below_changed : (n : ℕ) (ss : List (Slot R D)) → IsBelow n ss → IsBelow n (changed ss)
+  below_changed n [] b = b
+  below_changed n (s ∷ ss) b = (b.0, below_changed n ss b.1)
+
+  pub ascending_changed : (ss : List (Slot R D)) → AreAscending ss → AreAscending (changed ss)
+  ascending_changed [] up = up
+  ascending_changed (s ∷ ss) up = (below_changed s.number ss up.0, ascending_changed ss up.1)
+
+  entries_changed : (ss : List (Slot R D)) → map record_entry (changed ss) ≡ map (λ (e : ℕ × R). (e.0, f e.1)) (map record_entry ss)
+  entries_changed [] = refl
+  entries_changed (s ∷ ss) = ap (λ z. (s.number, f s.fields) ∷ z) (entries_changed ss)
+
+  pub records_changed : (ss : List (Slot R D)) → AreAscending ss → records_of (changed ss) ≡ all_changed f (records_of ss)
+  records_changed ss up =
+      sorted_again (records_of (changed ss))
+      ∙ ap from_sorted (entries_are (changed ss) (ascending_changed ss up) ∙ entries_changed ss ∙ ap (map (λ (e : ℕ × R). (e.0, f e.1))) (sym (entries_are ss up)))
+
+  device_chosen : (b : Bool) (s : Slot R D) (o p : Option (Slot R D)) → device_in o ≡ device_in p → device_in (cond b (Some (slot_changed f s)) o) ≡ device_in (cond b (Some s) p)
+  device_chosen true s o p e = refl
+  device_chosen false s o p e = e
+
+  same_device : (ss : List (Slot R D)) (q : ℕ) → device_in (slot_at (changed ss) q) ≡ device_in (slot_at ss q)
+  same_device [] q = refl
+  same_device (s ∷ ss) q = device_chosen (q == s.number) s (slot_at (changed ss) q) (slot_at ss q) (same_device ss q)
+
+  pub devices_stay : (ss : List (Slot R D)) → AreAscending ss → devices_of (changed ss) ≡ devices_of ss
+  devices_stay ss up = one_map _ _ (λ q. get_device (changed ss) q (ascending_changed ss up) ∙ same_device ss q ∙ sym (get_device ss q up))
+
+  -- what the code writes over the whole list
+  pub whole_list : (ss us new : List (Slot R D)) (n : ℕ) → us ≡ ss → new ≡ map (slot_changed f) us → n ≡ length ss → take n (new ++ drop (length new) ss) ≡ changed ss
+  whole_list ss us new n same is len =
+      let all : length new ≡ length ss = ap length is ∙ length-map us (slot_changed f) ∙ ap length same in
+      written_over new ss n (omega arith) (omega arith) ∙ is ∙ ap (map (slot_changed f)) same
+
+  abbrev with_fields : Slot R D → R → Slot R D
+  with_fields s r = record { number = s.number; fields = r; device = s.device }
+
+  -- one slot more is changed in its place
+  pub one_changed : (all slots : List (Slot R D)) (i : ℕ) (x : Slot R D) (r : R) → i < length all → slots ≡ map (slot_changed f) (take i all) ++ drop i all → x ≡ get_or slots i x → r ≡ f (get_or slots i x).fields
+      → set slots i (record { number = (get_or slots i x).number; fields = r; device = (get_or slots i x).device }) ≡ map (slot_changed f) (take (i + 1) all) ++ drop (i + 1) all
+  one_changed all slots i x r l was at is =
+      let here : x ≡ get_or all i x = at ∙ ap (λ z. get_or z i x) was ∙ get_more (slot_changed f) all i x l in
+      let changed_here : with_fields (get_or slots i x) r ≡ slot_changed f (get_or all i x) =
+      ap (with_fields (get_or slots i x)) is ∙ ap (λ s. with_fields s (f s.fields)) (sym at ∙ here) in
+      ap (set slots i) changed_here ∙ ap (λ z. set z i (slot_changed f (get_or all i x))) was ∙ map_more (slot_changed f) all i x l

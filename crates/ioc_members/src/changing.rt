@@ -1,0 +1,23 @@
+//! One change of all records.
+ghost use Rattle.std.specs.Prelude.{◌≡◌, map};
+ghost use Rattle.ioc_members.specs.Changed.{slot_changed};
+
+use crate::slots::Slot;
+
+/// A change of a record.
+pub trait Change<K> {
+    ghost changed: { Self → K → K };
+
+    /// Makes the change.
+    fn apply(&self, item: &mut K)
+        ensures { item.new ≡ changed self.now item.old };
+}
+
+/// Changes each record.
+pub fn change_slots<K, D, C: Change<K>>(slots: &mut [Slot<K, D>], by: &C)
+    ensures { slots.new ≡ map (slot_changed (C.changed by.now)) slots.old }
+{
+    for slot in slots.iter_mut() {
+        by.apply(&mut slot.fields);
+    }
+}

@@ -1,0 +1,39 @@
+//! Slots dealt out to two sets.
+ghost use Rattle.std.specs.Prelude.{◌≡◌, ◌+◌, ◌≤◌, ◌==◌, [], filter, length, not, vec_len, vec_capacity};
+ghost use Rattle.ioc_members.specs.Dealt.{dealt};
+
+use crate::slots::Slot;
+
+/// How many of these numbers are the one given.
+pub fn count_of(numbers: &[usize], number: usize) -> usize
+    ensures { result ≡ length (filter (λ n. n == number) numbers.now) }
+{
+    numbers.iter().filter(|n| **n == number).count()
+}
+
+/// Each slot goes to those that stay, where its number is the one given, or else to the rest. Both have room.
+pub fn deal<K: Drop, D: Drop>(
+    slots: Vec<Slot<K, D>>,
+    numbers: &[usize],
+    number: usize,
+    stay: &mut Vec<Slot<K, D>>,
+    rest: &mut Vec<Slot<K, D>>,
+)
+    requires one_each { length slots.items ≡ length numbers.now }
+    requires stay { (stay.old.items ≡ []) × (vec_len stay.old + length (filter (λ n. n == number) numbers.now) ≤ vec_capacity stay.old) }
+    requires rest { (rest.old.items ≡ []) × (vec_len rest.old + length (filter (λ n. not (n == number)) numbers.now) ≤ vec_capacity rest.old) }
+    ensures stay { stay.new.items ≡ dealt (λ n. n == number) numbers.now slots.items }
+    ensures rest { rest.new.items ≡ dealt (λ n. not (n == number)) numbers.now slots.items }
+{
+    let mut left = slots.into_iter();
+    for n in numbers {
+        let Some(slot) = left.next() else {
+            unreachable!()
+        };
+        if *n == number {
+            stay.push_reserved(slot);
+        } else {
+            rest.push_reserved(slot);
+        }
+    }
+}

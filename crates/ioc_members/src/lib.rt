@@ -1,0 +1,16 @@
+//! The records of one lock set, each with its device, and how a link change joins two sets or parts one.
+//! Application Developer's Guide, "Database Locking, Scanning, and Processing": records that links join are in one lock set.
+#![tactic(auto)]
+
+pub mod changing;
+pub mod connected;
+pub mod dealing;
+pub mod joining;
+pub mod links;
+pub mod members;
+pub mod parting;
+pub mod slots;
+
+pub use changing::Change;
+pub use members::Members;
+pub use slots::Slot;

@@ -1,0 +1,331 @@
+//! The records of a lock set, and their devices.
+ghost use Rattle.std.specs.Prelude.{◌≡◌, ◌<◌, ◌≤◌, ℕ, ◌↔◌, IsTrue, IsSome, is_some, IfOk, IfSome, IfNone, OnOk, OnErr, Contains, [], ◌∷◌, None, slice_get, Some};
+ghost use Rattle.std.specs.Borrow.{Lends, sem};
+ghost use Rattle.std.specs.FinMap as map;
+ghost use Rattle.ioc_members.specs.contracts.members.Members.{the_row};
+ghost use Rattle.ioc_common.specs.Links.{use_of, named_by};
+ghost use Rattle.ioc_members.specs.Answers.{Gives, GivesAt};
+ghost use Rattle.ioc_members.specs.Changed.{all_changed};
+ghost use Rattle.ioc_members.specs.Contents.{nothing, record_at, with_device, DevicesAreOwned};
+ghost use Rattle.ioc_members.specs.Joined.{links_of, IsPart, HasLink, HasFreeLink, AreShared, relinked};
+
+use crate::changing::{Change, change_slots};
+use crate::connected::are_one_part;
+use crate::joining::join_slots;
+use crate::parting::part_slots;
+use crate::slots::{Slot, are_apart, place_of};
+use ioc_common::KeptLink;
+use ioc_device::{Answer, Ask, Device, answer_of};
+use ioc_fields::FieldNo;
+use ioc_names::RecordNo;
+use ioc_record::RecordKind;
+use std::alloc::{AllocError, Global};
+use std::marker::Model;
+
+/// The records of a lock set, by ascending numbers, each with its device if it has one. Contracts see two maps from
+/// numbers: to records, and to devices.
+#[derive(Drop)]
+pub struct Members<K, D> {
+    slots: Vec<Slot<K, D>>,
+}
+
+impl<K, D> Model for Members<K, D> {
+    ghost use Rattle.ioc_members.specs.Contents.{Contents, contents_code};
+
+    ghost Value = { Contents K D };
+
+    ghost coded = { contents_code K.code D.code };
+
+    ghost use Rattle.ioc_members.specs.Slots.{contents_of, AreAscending};
+
+    ghost view = { λ m. contents_of m.slots.items };
+
+    ghost invariant = { λ m. AreAscending m.slots.items };
+}
+
+impl<K, D> Members<K, D> {
+    /// No records.
+    pub fn new(alloc: Global) -> Self
+        ensures { result ≡ nothing }
+    {
+        Members {
+            slots: Vec::new(alloc),
+        }
+    }
+
+    /// No records, with room for so many.
+    ///
+    /// # Errors
+    ///
+    /// [`AllocError`] where memory is wanting.
+    pub fn with_room(alloc: Global, count: usize) -> Result<Self, AllocError>
+        ensures { IfOk result (λ m. m ≡ nothing) }
+    {
+        let slots = Vec::with_capacity(alloc, count)?;
+        Ok(Members { slots })
+    }
+
+    /// How many records there are.
+    pub fn len(&self) -> usize
+        ensures { result ≡ map.len self.now.records }
+    {
+        self.slots.len()
+    }
+
+    /// Is there no record?
+    pub fn is_empty(&self) -> bool
+        ensures { IsTrue result ↔ self.now ≡ nothing }
+    {
+        self.slots.is_empty()
+    }
+
+    /// Is there a record of this number?
+    pub fn has(&self, number: RecordNo) -> bool
+        ensures { result ≡ map.contains_key self.now.records number }
+    {
+        place_of(&self.slots, number).is_some()
+    }
+
+    /// The number of the record at a place, from 0 on, in the order of their numbers; none past the last.
+    pub fn number_at(&self, place: usize) -> Option<RecordNo>
+        ensures { result ≡ slice_get (map.keys self.now.records) place }
+    {
+        let slot = self.slots.get(place)?;
+        Some(slot.number)
+    }
+
+    /// The lowest number of a record; none where there is no record.
+    pub fn lowest(&self) -> Option<RecordNo>
+        ensures { result ≡ slice_get (map.keys self.now.records) 0 }
+    {
+        self.number_at(0)
+    }
+
+    /// Are all records below this number?
+    pub fn is_below(&self, number: RecordNo) -> bool
+        ensures { IsTrue result ↔ ((q : ℕ) → IsSome (map.get self.now.records q) → q < number) }
+    {
+        match self.slots.last() {
+            Some(slot) => slot.number.index() < number.index(),
+            None => true,
+        }
+    }
+
+    /// Is no record in both?
+    pub fn is_apart(&self, other: &Self) -> bool
+        ensures { IsTrue result ↔ ((q : ℕ) → IsSome (map.get self.now.records q) → map.get other.now.records q ≡ None) }
+    {
+        are_apart(&self.slots, &other.slots)
+    }
+
+    /// Does the link name no record but one that is there?
+    pub fn leads_within(&self, link: &KeptLink) -> bool
+        ensures { IsTrue result ↔ ((t : ℕ) → Contains (named_by (use_of link.now)) t → IsSome (map.get self.now.records t)) }
+    {
+        match link.record_named() {
+            Some(target) => self.has(target),
+            None => true,
+        }
+    }
+
+    /// Does the link name a record that is there?
+    pub fn leads_into(&self, link: &KeptLink) -> bool
+        ensures { IsTrue result ↔ ((t : ℕ) × (named_by (use_of link.now) ≡ t ∷ []) × IsSome (map.get self.now.records t)) }
+    {
+        match link.record_named() {
+            Some(target) => self.has(target),
+            None => false,
+        }
+    }
+
+    /// Each device is that of a record that is there.
+    pub fn devices_are_owned(&self)
+        ensures { DevicesAreOwned self.now }
+    {
+        let _ = &self.slots;
+    }
+}
+
+impl<K: Drop, D: Drop> Members<K, D> {
+    /// Adds a record, with its device if it has one, whose number is above those of all others.
+    ///
+    /// # Errors
+    ///
+    /// [`AllocError`] where memory is wanting: nothing has changed then.
+    pub fn add(&mut self, number: RecordNo, fields: K, device: Option<D>) -> Result<(), AllocError>
+        requires above { (q : ℕ) → IsSome (map.get self.old.records q) → q < number }
+        ensures records { OnOk result (self.new.records ≡ map.insert self.old.records number fields) }
+        ensures devices { OnOk result (self.new.devices ≡ with_device self.old.devices number device) }
+        ensures err { OnErr result (self.new ≡ self.old) }
+    {
+        self.slots.push(Slot {
+            number,
+            fields,
+            device,
+        })?;
+        Ok(())
+    }
+}
+
+impl<K: RecordKind, D> Members<K, D> {
+    /// Is there a record of this number, and is the field one of its link fields?
+    pub fn has_link(&self, number: RecordNo, field: FieldNo) -> bool
+        ensures { IsTrue result ↔ HasLink K.rules self.now.records number field }
+    {
+        if !self.has(number) {
+            return false;
+        }
+        self.record(number).link(field).is_some()
+    }
+
+    /// The same, and does the link of the field stand nowhere?
+    pub fn has_free_link(&self, number: RecordNo, field: FieldNo) -> bool
+        ensures { IsTrue result ↔ HasFreeLink K.rules self.now.records number field }
+    {
+        if !self.has(number) {
+            return false;
+        }
+        match self.record(number).link(field) {
+            Some(link) => link.record_named().is_none(),
+            None => false,
+        }
+    }
+
+    /// Are the records one connected part, or none, and does no link leave them? Cost: near the number of records and links.
+    ///
+    /// # Errors
+    ///
+    /// [`AllocError`] where memory is wanting.
+    pub fn is_part(&self, alloc: Global) -> Result<bool, AllocError>
+        ensures { IfOk result (λ is. IsTrue is ↔ IsPart (links_of K.rules self.now.records)) }
+    {
+        let one_part = are_one_part(alloc, &self.slots)?;
+        Ok(one_part)
+    }
+
+    /// A record that is there.
+    pub fn record(&self, number: RecordNo) -> &K
+        requires { IsTrue (map.contains_key self.now.records number) }
+        ensures { result.now ≡ record_at K.rules self.now.records number }
+    {
+        let Some(place) = place_of(&self.slots, number) else {
+            unreachable!()
+        };
+        &self.slots[place].fields
+    }
+
+    /// The same, to be changed.
+    pub fn record_mut(&mut self, number: RecordNo) -> &mut K
+        requires { IsTrue (map.contains_key self.old.records number) }
+        ensures* lends { sem 𝓛 (Lends (the_row K.row D.row) K.row self.entry result (λ r. record self.old { records = map.insert self.old.records number r })) }
+        ensures value { result.now ≡ record_at K.rules self.old.records number }
+    {
+        let Some(place) = place_of(&self.slots, number) else {
+            unreachable!()
+        };
+        &mut self.slots[place].fields
+    }
+}
+
+impl<K, D> Members<K, D> {
+    /// Changes each record. The devices are as they were.
+    pub fn change_all<C: Change<K>>(&mut self, by: &C)
+        ensures records { self.new.records ≡ all_changed (C.changed by.now) self.old.records }
+        ensures devices { self.new.devices ≡ self.old.devices }
+    {
+        change_slots(&mut self.slots, by);
+    }
+}
+
+// What a device answers, if there is one.
+fn gives<D: Device>(device: &mut Option<D>, ask: &Ask, moment: u64) -> Answer
+    ensures { Gives D.gives device.old ask.now moment result device.new }
+{
+    match device {
+        Some(device) => answer_of(device, ask, moment),
+        None => Answer::Fault,
+    }
+}
+
+impl<K, D: Device> Members<K, D> {
+    /// What the device of a record answers; a fault, where it has none. Every other device keeps its state.
+    pub fn device_gives(&mut self, number: RecordNo, ask: &Ask, moment: u64) -> Answer
+        ensures gives { GivesAt D.gives self.old.devices number ask.now moment result self.new.devices }
+        ensures records { self.new.records ≡ self.old.records }
+    {
+        let Some(place) = place_of(&self.slots, number) else {
+            return Answer::Fault;
+        };
+        gives(&mut self.slots[place].device, ask, moment)
+    }
+}
+
+impl<K: RecordKind + Drop, D: Drop> Members<K, D> {
+    /// Sets a link of a record: to nowhere, or to a record of this set. The set keeps the record's part, and the records
+    /// that no link joins to it any more come back with their devices: one part too, or none. Cost: near the number of
+    /// records and links.
+    ///
+    /// # Errors
+    ///
+    /// [`AllocError`] where memory is wanting: nothing has changed then.
+    pub fn part(
+        &mut self,
+        alloc: Global,
+        number: RecordNo,
+        field: FieldNo,
+        link: KeptLink,
+    ) -> Result<Members<K, D>, AllocError>
+        requires one_part { IsPart (links_of K.rules self.old.records) }
+        requires field { HasLink K.rules self.old.records number field }
+        requires within { (t : ℕ) → Contains (named_by (use_of link)) t → IsSome (map.get self.old.records t) }
+
+        // Each record is in one of the two, unchanged but for the one link, and so is each device.
+        ensures shared { IfOk result (λ rest. AreShared (map.get (relinked K.rules self.old.records number field link)) (map.get self.new.records) (map.get rest.records)) }
+        ensures devices { IfOk result (λ rest. AreShared (map.get self.old.devices) (map.get self.new.devices) (map.get rest.devices)) }
+        ensures own { OnOk result (IsSome (map.get self.new.records number)) }
+        ensures stay { OnOk result (IsPart (links_of K.rules self.new.records)) }
+        ensures rest { IfOk result (λ rest. IsPart (links_of K.rules rest.records)) }
+        ensures err { OnErr result (self.new ≡ self.old) }
+    {
+        let Some(place) = place_of(&self.slots, number) else {
+            unreachable!()
+        };
+        let rest = part_slots(alloc, &mut self.slots, place, field, link)?;
+        Ok(Members { slots: rest })
+    }
+}
+
+impl<K: RecordKind, D> Members<K, D> {
+    /// Sets a link of a record, which stood nowhere, to a record of another set, and takes over that set with its devices.
+    /// The other has no records then. Cost: n log n of the records of both.
+    ///
+    /// # Errors
+    ///
+    /// [`AllocError`] where memory is wanting: nothing has changed then.
+    pub fn join(
+        &mut self,
+        other: &mut Members<K, D>,
+        number: RecordNo,
+        field: FieldNo,
+        link: KeptLink,
+    ) -> Result<(), AllocError>
+        requires apart { (q : ℕ) → IsSome (map.get self.old.records q) → map.get other.old.records q ≡ None }
+        requires one_part { IsPart (links_of K.rules self.old.records) }
+        requires other_part { IsPart (links_of K.rules other.old.records) }
+        requires free { HasFreeLink K.rules self.old.records number field }
+        requires to { (t : ℕ) × (named_by (use_of link) ≡ t ∷ []) × IsSome (map.get other.old.records t) }
+
+        // The records are those of both, each once, unchanged but for the one link, and so are the devices.
+        ensures shared { OnOk result (AreShared (map.get self.new.records) (map.get (relinked K.rules self.old.records number field link)) (map.get other.old.records)) }
+        ensures devices { OnOk result (AreShared (map.get self.new.devices) (map.get self.old.devices) (map.get other.old.devices)) }
+        ensures part { OnOk result (IsPart (links_of K.rules self.new.records)) }
+        ensures emptied { OnOk result (other.new ≡ nothing) }
+        ensures err { OnErr result ((self.new ≡ self.old) × (other.new ≡ other.old)) }
+    {
+        let Some(place) = place_of(&self.slots, number) else {
+            unreachable!()
+        };
+        join_slots(&mut self.slots, &mut other.slots, place, field, link)?;
+        Ok(())
+    }
+}

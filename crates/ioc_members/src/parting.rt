@@ -1,0 +1,52 @@
+//! A set falls apart.
+ghost use Rattle.std.specs.Prelude.{◌≡◌, ◌<◌, length, true, is_some, IfOk, OnErr, slice_index_or};
+ghost use Rattle.ioc_members.specs.declared.slots.Slot.{Slot};
+ghost use Rattle.ioc_members.specs.Edges.{slots_relinked};
+ghost use Rattle.ioc_members.specs.Joined.{links_of, IsClosed};
+ghost use Rattle.ioc_members.specs.Parted.{IsParted};
+ghost use Rattle.ioc_members.specs.Slots.{AreAscending, records_of};
+
+use crate::dealing::{count_of, deal};
+use crate::links::parts_with;
+use crate::slots::Slot;
+use ioc_common::KeptLink;
+use ioc_fields::FieldNo;
+use ioc_record::RecordKind;
+use std::alloc::{AllocError, Global};
+use std::mem;
+
+/// Sets a link of the record at a place. The slots of that record's part stay, and the others come back. Where all are of
+/// that part, none is moved.
+///
+/// # Errors
+///
+/// [`AllocError`] where memory is wanting: nothing has changed then.
+pub fn part_slots<K: RecordKind + Drop, D: Drop>(
+    alloc: Global,
+    slots: &mut Vec<Slot<K, D>>,
+    place: usize,
+    field: FieldNo,
+    link: KeptLink,
+) -> Result<Vec<Slot<K, D>>, AllocError>
+    requires ascending { AreAscending slots.old.items }
+    requires there { place < length slots.old.items }
+    requires field { (s : Slot K D) → place < length slots.old.items → s ≡ slice_index_or slots.old.items place s → is_some (K.rules.link s.fields field) ≡ true }
+    requires closed { IsClosed (links_of K.rules (records_of (slots_relinked K.rules slots.old.items place field link))) }
+    ensures ok { IfOk result (λ rest. IsParted K.rules (slots_relinked K.rules slots.old.items place field link) place slots.new.items rest.items) }
+    ensures err { OnErr result (slots.new.items ≡ slots.old.items) }
+{
+    let numbers = parts_with(alloc, slots, place, field, &link)?;
+    let number = numbers[place];
+    let staying = count_of(&numbers, number);
+    if staying == numbers.len() {
+        slots[place].fields.set_link(field, link);
+        return Ok(Vec::new(alloc));
+    }
+    let mut stay = Vec::with_capacity(alloc, staying)?;
+    let mut rest = Vec::with_capacity(alloc, numbers.len() - staying)?;
+    slots[place].fields.set_link(field, link);
+    let all = mem::replace(slots, Vec::new(alloc));
+    deal(all, &numbers, number, &mut stay, &mut rest);
+    *slots = stay;
+    Ok(rest)
+}

@@ -1,0 +1,52 @@
+//! The places of a set's records, by ascending numbers.
+ghost use Rattle.std.specs.Prelude.{◌≡◌, ◌≢◌, ◌<◌, ◌↔◌, ℕ, None, length, IfSome, IfNone, IsSome, IsTrue, slice_index};
+ghost use Rattle.std.specs.FinMap.{get};
+ghost use Rattle.ioc_members.specs.Slots.{AreAscending, numbers_of, records_of};
+
+use ioc_names::RecordNo;
+
+/// A record's place in its set: the record, and its device if it has one.
+#[derive(Drop)]
+pub struct Slot<K, D> {
+    pub number: RecordNo,
+    pub fields: K,
+    pub device: Option<D>,
+}
+
+/// The place of a record, by binary search.
+pub fn place_of<K, D>(slots: &[Slot<K, D>], number: RecordNo) -> Option<usize>
+    requires { AreAscending slots.now }
+    ensures found { IfSome result (λ i. (i < length slots.now) × (slice_index (numbers_of slots.now) i ≡ number)) }
+    ensures absent { IfNone result ((i : ℕ) → i < length slots.now → slice_index (numbers_of slots.now) i ≢ number) }
+{
+    let mut low = 0;
+    let mut high = slots.len();
+    'halve: while low + 1 < high {
+        let middle = low + (high - low) / 2;
+        if slots[middle].number.index() <= number.index() {
+            low = middle;
+        } else {
+            high = middle;
+        }
+    }
+    if low >= slots.len() {
+        return None;
+    }
+    if slots[low].number.index() != number.index() {
+        return None;
+    }
+    Some(low)
+}
+
+/// Is no record in both?
+pub fn are_apart<K, D>(slots: &[Slot<K, D>], others: &[Slot<K, D>]) -> bool
+    requires ascending { AreAscending slots.now × AreAscending others.now }
+    ensures { IsTrue result ↔ ((q : ℕ) → IsSome (get (records_of slots.now) q) → get (records_of others.now) q ≡ None) }
+{
+    for slot in slots {
+        if let Some(_place) = place_of(others, slot.number) {
+            return false;
+        }
+    }
+    true
+}

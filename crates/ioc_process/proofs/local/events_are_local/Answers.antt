@@ -1,6 +1,0 @@
-use Rattle.std.specs.Prelude.{Contains}
-use Rattle.ioc_process.proofs.LocalEvents.{event-local}
-use Rattle.ioc_process.proofs.local.events_are_local.Goals as goal
-
-pub returns : goal.returns
-returns g c records answers = event-local g.K.RecordKind.rules g.met.K.RecordKind.lawful (Contains records) answers

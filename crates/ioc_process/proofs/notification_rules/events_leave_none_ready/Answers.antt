@@ -1,5 +1,0 @@
-use Rattle.ioc_process.proofs.NoneReady.{step-none}
-use Rattle.ioc_process.proofs.notification_rules.events_leave_none_ready.Goals as goal
-
-pub returns : goal.returns
-returns g c = λ answers w after event reply requests r none. step-none g.K.RecordKind.rules g.met.K.RecordKind.lawful answers r none

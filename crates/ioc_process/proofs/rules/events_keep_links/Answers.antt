@@ -1,5 +1,0 @@
-use Rattle.ioc_process.proofs.QuietEvents.{step-keeps}
-use Rattle.ioc_process.proofs.rules.events_keep_links.Goals as goal
-
-pub returns : goal.returns
-returns g c = λ answers w after event reply requests r other closed. step-keeps g.K.RecordKind.rules g.met.K.RecordKind.lawful answers r other closed

@@ -1,7 +1,0 @@
--- What an event has sent.
-use Rattle.std.specs.Prelude.{List}
-use Rattle.ioc_process.specs.declared.outbox.Outbox.{Outbox}
-use Rattle.ioc_process.specs.declared.outbox.OutboxItem.{OutboxItem}
-
-abbrev pub items_of : Outbox → List OutboxItem
-items_of s = s.items.items

@@ -1,0 +1,67 @@
+//! The calls of devices in an event.
+ghost use Rattle.std.specs.Prelude.{◌≡◌, ◌<◌, ◌≤◌, ◌++◌, [], ◌∷◌, length, drop};
+
+use crate::call::Call;
+use ioc_device::{Answer, Ask};
+use ioc_names::RecordNo;
+
+/// At most 256 calls, with room for all from the start.
+#[derive(Drop)]
+pub struct Calls {
+    calls: [Call; 256],
+    count: usize,
+    ghost in_range: { count ≤ 256 },
+    ghost whole: { length calls ≡ 256 },
+}
+
+impl Calls {
+    ghost use Rattle.ioc_store.specs.Given.{calls_of, later_among};
+
+    /// No call yet.
+    pub fn new() -> Self
+        ensures { calls_of result ≡ [] }
+    {
+        Calls {
+            calls: [Call {
+                target: RecordNo::new(0),
+                ask: Ask::Read,
+                answer: Answer::Fault,
+            }; 256],
+            count: 0,
+        }
+    }
+
+    /// Forgets all calls.
+    pub fn clear(&mut self)
+        ensures { calls_of self.new ≡ [] }
+    {
+        self.count = 0;
+    }
+
+    /// Adds a call.
+    pub fn push(&mut self, call: &Call)
+        requires { length (calls_of self.old) < 256 }
+        ensures { calls_of self.new ≡ calls_of self.old ++ call.now ∷ [] }
+    {
+        self.calls[self.count] = *call;
+        self.count += 1;
+    }
+
+    /// How many there are.
+    pub fn len(&self) -> usize
+        ensures { result ≡ length (calls_of self.now) }
+    {
+        self.count
+    }
+
+    /// How many of them, from this one on, are to be answered later.
+    pub fn later_from(&self, start: usize) -> usize
+        ensures { result ≡ later_among (drop start (calls_of self.now)) }
+    {
+        self.calls[..self.count]
+            .iter()
+            .skip(start)
+            .filter(|call| call.is_later())
+            .count()
+    }
+}

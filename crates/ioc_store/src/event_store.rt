@@ -1,0 +1,62 @@
+//! What an event has come to, beside the records.
+ghost use Rattle.std.specs.Prelude.{◌≡◌, [], IfOk};
+ghost use Rattle.ioc_store.specs.Given.{calls_of};
+ghost use Rattle.ioc_store.specs.Outbox.{items_of};
+
+use crate::calls::Calls;
+use crate::notifications::Notifications;
+use crate::outbox::Outbox;
+use std::alloc::{AllocError, Global};
+
+/// The keeper of an event: its moment, the calls of devices in it, and what it sends. One of it serves any
+/// number of events, one after another.
+#[derive(Drop)]
+pub struct EventStore {
+    /// Nanoseconds since 1970-01-01 00:00 UTC.
+    pub moment: u64,
+    pub calls: Calls,
+    pub outbox: Outbox,
+    pub notifications: Notifications,
+}
+
+impl EventStore {
+    /// Nothing has come yet, at the moment 0.
+    ///
+    /// # Errors
+    ///
+    /// [`AllocError`] where memory is wanting.
+    pub fn new(alloc: Global) -> Result<Self, AllocError>
+        ensures moment { IfOk result (λ e. e.moment ≡ 0) }
+        ensures calls { IfOk result (λ e. calls_of e.calls ≡ []) }
+        ensures items { IfOk result (λ e. items_of e.outbox ≡ []) }
+        ensures dropped { IfOk result (λ e. e.outbox.dropped ≡ 0) }
+        ensures live { IfOk result (λ e. e.notifications.live.live ≡ []) }
+        ensures ended { IfOk result (λ e. e.notifications.ended.items ≡ []) }
+        ensures waiting { IfOk result (λ e. e.notifications.waiting.waiting ≡ []) }
+    {
+        let outbox = Outbox::new(alloc)?;
+        let notifications = Notifications::new(alloc)?;
+        Ok(EventStore {
+            moment: 0,
+            calls: Calls::new(),
+            outbox,
+            notifications,
+        })
+    }
+
+    /// Begins an event.
+    pub fn begin(&mut self, moment: u64)
+        ensures moment { self.new.moment ≡ moment }
+        ensures calls { calls_of self.new.calls ≡ [] }
+        ensures items { items_of self.new.outbox ≡ [] }
+        ensures dropped { self.new.outbox.dropped ≡ 0 }
+        ensures live { self.new.notifications.live.live ≡ self.old.notifications.live.live }
+        ensures ended { self.new.notifications.ended.items ≡ [] }
+        ensures waiting { self.new.notifications.waiting ≡ self.old.notifications.waiting }
+    {
+        self.moment = moment;
+        self.calls.clear();
+        self.outbox.clear();
+        self.notifications.clear_ended();
+    }
+}

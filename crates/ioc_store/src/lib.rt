@@ -1,0 +1,24 @@
+//! Keepers of records and of an event, and the changes of one record that the rules are made of.
+#![tactic(auto)]
+
+pub mod call;
+pub mod calls;
+pub mod event_store;
+pub mod frames;
+pub mod notifications;
+pub mod notifying;
+pub mod one_map;
+pub mod outbox;
+pub mod scan_change;
+pub mod steps;
+pub mod store;
+pub mod unwired;
+
+pub use call::Call;
+pub use event_store::EventStore;
+pub use frames::Frame;
+pub use one_map::OneMap;
+pub use outbox::OutboxItem;
+pub use scan_change::{ScanChange, device_of};
+pub use store::Store;
+pub use unwired::Unwired;

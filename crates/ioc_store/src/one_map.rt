@@ -1,0 +1,219 @@
+//! All records on one map, by their numbers from 0 on.
+ghost use Rattle.std.specs.Prelude.{◌≡◌, ◌≤◌, [], List, map, true, IfOk};
+ghost use Rattle.ioc_store.specs.World.{freed};
+ghost use Rattle.std.specs.FinMap.{len};
+ghost use Rattle.std.specs.Vec.{vec_capacity};
+
+use crate::call::Call;
+use crate::event_store::EventStore;
+use crate::frames::Frame;
+use crate::outbox::OutboxItem;
+use crate::store::Store;
+use ioc_device::{Answer, Ask, Device, answer_of};
+use ioc_names::RecordNo;
+use ioc_notify::{NotifyId, Waiting};
+use ioc_record::RecordKind;
+use std::alloc::{AllocError, Global};
+
+/// The records, each at its number, the devices of those that have one, and what the event has come to.
+#[derive(Drop)]
+pub struct OneMap<K, D> {
+    pub records: Vec<K>,
+    /// Each at the number of its record. A record past the end has none.
+    pub devices: Vec<Option<D>>,
+    pub event: EventStore,
+}
+
+impl<K: RecordKind, D: Device> OneMap<K, D> {
+    ghost use Rattle.ioc_store.specs.OneMap.{given_of, world_of};
+    ghost use Rattle.ioc_store.specs.World.{begun, begun_at};
+    ghost use Rattle.ioc_store.specs.Given.{DeviceGives};
+
+    /// These records, numbered from 0 on, with these devices, and a keeper of events; no event has begun.
+    pub fn new(records: Vec<K>, devices: Vec<Option<D>>, event: EventStore) -> Self
+        ensures records { result.records ≡ records }
+        ensures devices { result.devices ≡ devices }
+        ensures fresh { world_of result ≡ begun_at 0 (world_of result) }
+        ensures live { (world_of result).live ≡ event.notifications.live.live }
+        ensures waiting { (world_of result).waiting ≡ event.notifications.waiting.waiting }
+    {
+        let mut map = OneMap {
+            records,
+            devices,
+            event,
+        };
+        map.event.begin(0);
+        map
+    }
+
+    /// No open frame, with room for all records: what the requests of an event are made with, and of every event after it.
+    pub fn frames(&self, alloc: Global) -> Result<Vec<Frame>, AllocError>
+        ensures empty { IfOk result (λ f. f.items ≡ []) }
+        ensures room { IfOk result (λ f. len (world_of self.now).records ≤ vec_capacity f) }
+    {
+        let frames = Vec::with_capacity(alloc, self.records.len())?;
+        Ok(frames)
+    }
+
+    // What the device of a record answers; a fault, where it has none.
+    fn device_gives(&mut self, number: RecordNo, ask: &Ask) -> Answer
+        ensures gives { DeviceGives D.gives (given_of self.old).devices (given_of self.old).moment
+            (record { target = number; ask = ask.now; answer = result }) (given_of self.new).devices }
+        ensures records { self.new.records ≡ self.old.records }
+        ensures event { self.new.event ≡ self.old.event }
+    {
+        let moment = self.event.moment;
+        let place = number.index();
+        if place >= self.devices.len() {
+            return Answer::Fault;
+        }
+        match &mut self.devices[place] {
+            Some(device) => answer_of(device, ask, moment),
+            None => Answer::Fault,
+        }
+    }
+
+    /// Begins an event at the moment of the last one: no device was called in it yet, and nothing was sent.
+    pub fn begin(&mut self)
+        ensures world { world_of self.new ≡ begun (world_of self.old) }
+        ensures devices { self.new.devices ≡ self.old.devices }
+    {
+        let moment = self.event.moment;
+        self.event.begin(moment);
+    }
+
+    /// Begins an event at a moment, in nanoseconds since 1970-01-01 00:00 UTC.
+    pub fn begin_at(&mut self, moment: u64)
+        ensures world { world_of self.new ≡ begun_at moment (world_of self.old) }
+        ensures devices { self.new.devices ≡ self.old.devices }
+    {
+        self.event.begin(moment);
+    }
+}
+
+// A record has this notification no more, if it had it.
+fn free<K: RecordKind>(record: &mut K, notification: NotifyId)
+    ensures { record.new ≡ freed K.rules notification record.old }
+{
+    if record.common().notification == Some(notification) {
+        record.common_mut().notification = None;
+    }
+}
+
+// This notification is taken from all records.
+fn free_all<K: RecordKind>(records: &mut Vec<K>, notification: NotifyId)
+    ensures { records.new.items ≡ map (freed K.rules notification) records.old.items }
+{
+    for record in records.iter_mut() {
+        free(record, notification);
+    }
+}
+
+impl<K: RecordKind, D: Device> Store for OneMap<K, D> {
+    type Record = K;
+
+    type Device = D;
+
+    ghost use Rattle.ioc_store.specs.OneMap.{world_of, given_of, with_record};
+    ghost use Rattle.ioc_store.specs.OneMapLaws.{with_record-world, with_record-given, calls-given, moment-given};
+
+    ghost world = { world_of };
+
+    ghost given = { given_of };
+
+    ghost with_record = { with_record };
+
+    ghost with_record_world = { with_record-world };
+
+    ghost with_record_given = { with_record-given };
+
+    ghost calls_given = { calls-given };
+
+    ghost moment_given = { moment-given };
+
+    fn has(&self, number: RecordNo) -> bool {
+        let place = number.index();
+        place < self.records.len()
+    }
+
+    fn record(&self, number: RecordNo) -> &K {
+        let place = number.index();
+        &self.records[place]
+    }
+
+    fn record_mut(&mut self, number: RecordNo) -> &mut K {
+        let place = number.index();
+        &mut self.records[place]
+    }
+
+    #[tactic(auto, unfolding(crate::specs::World::called))]
+    fn ask(&mut self, number: RecordNo, ask: Ask) -> Answer {
+        let answer = self.device_gives(number, &ask);
+        let call = Call::new(number, ask, answer);
+        self.event.calls.push(&call);
+        call.answer
+    }
+
+    fn moment(&self) -> u64 {
+        self.event.moment
+    }
+
+    fn send(&mut self, item: OutboxItem) {
+        self.event.outbox.send(item);
+    }
+
+    fn lose(&mut self) {
+        self.event.outbox.lose();
+    }
+
+    #[tactic(auto, unfolding(crate::specs::World::taken_on))]
+    fn take_on(&mut self, notification: NotifyId) {
+        self.event.notifications.take_on(notification);
+    }
+
+    #[tactic(auto, unfolding(crate::specs::World::let_go))]
+    fn let_go(&mut self, notification: NotifyId) {
+        self.event.notifications.let_go(notification);
+    }
+
+    fn has_place(&self, notification: NotifyId) -> bool {
+        self.event.notifications.has_place(notification)
+    }
+
+    fn is_live(&self, notification: NotifyId) -> bool {
+        self.event.notifications.is_live(notification)
+    }
+
+    #[tactic(auto, unfolding(crate::specs::World::admitted))]
+    fn admit(&mut self, notification: NotifyId) {
+        self.event.notifications.admit(notification);
+    }
+
+    #[tactic(auto, unfolding(crate::specs::World::cancelled))]
+    fn cancel(&mut self, notification: NotifyId) {
+        free_all(&mut self.records, notification);
+        self.event.notifications.forget(notification);
+    }
+
+    fn waiting(&self) -> &[Waiting] {
+        self.event.notifications.waiting()
+    }
+
+    #[tactic(auto, unfolding(crate::specs::World::queued))]
+    fn queue(&mut self, item: &Waiting) {
+        self.event.notifications.queue(item);
+    }
+
+    #[tactic(auto, unfolding(crate::specs::World::unqueued))]
+    fn unqueue(&mut self, notification: NotifyId) {
+        self.event.notifications.unqueue(notification);
+    }
+
+    fn asked(&self) -> usize {
+        self.event.calls.len()
+    }
+
+    fn later_from(&self, start: usize) -> usize {
+        self.event.calls.later_from(start)
+    }
+}

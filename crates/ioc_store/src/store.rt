@@ -1,0 +1,127 @@
+//! Who keeps the records.
+ghost use Rattle.std.specs.Prelude.{◌≡◌, ◌<◌, ◌+◌, ℕ, List, [], ◌∷◌, ◌++◌, length, drop};
+ghost use Rattle.std.specs.Borrow.{Lends, sem};
+ghost use Rattle.std.specs.FinMap.{contains_key};
+ghost use Rattle.ioc_store.specs.World.{World, Has, at, put, called, sent, lost, taken_on, let_go, has_place, admitted, queued, unqueued, cancelled};
+ghost use Rattle.ioc_notify.specs.Living.{is_live};
+ghost use Rattle.ioc_store.specs.Given.{Given, DeviceGives, later_among};
+
+use crate::outbox::OutboxItem;
+use ioc_device::{Answer, Ask, Device};
+use ioc_names::RecordNo;
+use ioc_notify::{NotifyId, Waiting};
+use ioc_record::RecordKind;
+
+/// A keeper of records by their numbers, each beside its device.
+pub trait Store {
+    type Record: RecordKind;
+
+    type Device: Device;
+
+    ghost world: { Self → World Self.Record };
+
+    /// What devices have done in this event.
+    ghost given: { Self → Given Self.Device };
+
+    /// The store with one record set.
+    ghost with_record: { Self → ℕ → Self.Record → Self };
+
+    /// Is there a record of this number?
+    fn has(&self, number: RecordNo) -> bool
+        ensures { result ≡ contains_key (world self.now).records number };
+
+    fn record(&self, number: RecordNo) -> &Self::Record
+        requires { Has (world self.now) number }
+        ensures { result.now ≡ at Self.Record.rules (world self.now) number };
+
+    fn record_mut(&mut self, number: RecordNo) -> &mut Self::Record
+        requires { Has (world self.old) number }
+        ensures* lends { sem 𝓛 (Lends Self.row Self.Record.row self.entry result (with_record self.old number)) }
+        ensures value { result.now ≡ at Self.Record.rules (world self.old) number };
+
+    /// Asks the record's device, and answers what it gives; a record that has none gets a fault. Every other device keeps its state.
+    fn ask(&mut self, number: RecordNo, ask: Ask) -> Answer
+        requires there { Has (world self.old) number }
+        requires room { length (world self.old).calls < 256 }
+        ensures world { world self.new ≡ called (record { target = number; ask = ask; answer = result }) (world self.old) }
+        ensures calls { (given self.new).calls ≡ (given self.old).calls ++ (record { target = number; ask = ask; answer = result }) ∷ [] }
+        ensures moment { (given self.new).moment ≡ (given self.old).moment }
+        ensures gives { DeviceGives Self.Device.gives (given self.old).devices (given self.old).moment
+            (record { target = number; ask = ask; answer = result }) (given self.new).devices };
+
+    /// The moment of the event, in nanoseconds since 1970-01-01 00:00 UTC.
+    fn moment(&self) -> u64
+        ensures { result ≡ (world self.now).moment };
+
+    /// Sends an item, or counts it as dropped where 256 were sent.
+    fn send(&mut self, item: OutboxItem)
+        ensures world { world self.new ≡ sent item (world self.old) }
+        ensures given { given self.new ≡ given self.old };
+
+    /// Counts an item as dropped.
+    fn lose(&mut self)
+        ensures world { world self.new ≡ lost (world self.old) }
+        ensures given { given self.new ≡ given self.old };
+
+    /// One record more has this put with notification.
+    fn take_on(&mut self, notification: NotifyId)
+        ensures world { world self.new ≡ taken_on notification (world self.old) }
+        ensures given { given self.new ≡ given self.old };
+
+    /// One record has this put with notification no more: with the last one it ends.
+    fn let_go(&mut self, notification: NotifyId)
+        ensures world { world self.new ≡ let_go notification (world self.old) }
+        ensures given { given self.new ≡ given self.old };
+
+    /// May one more put with notification begin, under this number? At most 256 are live, and the number is free.
+    fn has_place(&self, notification: NotifyId) -> bool
+        ensures { result ≡ has_place (world self.now) notification };
+
+    /// Is this put with notification live?
+    fn is_live(&self, notification: NotifyId) -> bool
+        ensures { result ≡ is_live notification (world self.now).live };
+
+    /// A put with notification begins: a record or a waiting list has it.
+    fn admit(&mut self, notification: NotifyId)
+        requires { length (world self.old).live + length (world self.old).ended < 256 }
+        ensures world { world self.new ≡ admitted notification (world self.old) }
+        ensures given { given self.new ≡ given self.old };
+
+    /// The puts with notification that wait for their record, in the order in which they came.
+    fn waiting(&self) -> &[Waiting]
+        ensures { result.now ≡ (world self.now).waiting };
+
+    /// A put with notification waits for its record, behind all that wait.
+    fn queue(&mut self, item: &Waiting)
+        requires { length (world self.old).waiting < 256 }
+        ensures world { world self.new ≡ queued item.now (world self.old) }
+        ensures given { given self.new ≡ given self.old };
+
+    /// The put with notification of this number waits no more.
+    fn unqueue(&mut self, notification: NotifyId)
+        ensures world { world self.new ≡ unqueued notification (world self.old) }
+        ensures given { given self.new ≡ given self.old };
+
+    /// This put with notification is taken from all records and from the waiting list: it isn't live any more, and hasn't ended.
+    fn cancel(&mut self, notification: NotifyId)
+        ensures world { world self.new ≡ cancelled Self.Record.rules notification (world self.old) }
+        ensures given { given self.new ≡ given self.old };
+
+    /// How many calls of devices were made in this event.
+    fn asked(&self) -> usize
+        ensures { result ≡ length (world self.now).calls };
+
+    /// How many of them, from this one on, are to be answered later.
+    fn later_from(&self, start: usize) -> usize
+        ensures { result ≡ later_among (drop start (world self.now).calls) };
+
+    ghost with_record_world: { (s : Self) (n : ℕ) (r : Self.Record)
+        → Has (world s) n → world (with_record s n r) ≡ put (world s) n r };
+
+    ghost with_record_given: { (s : Self) (n : ℕ) (r : Self.Record)
+        → Has (world s) n → given (with_record s n r) ≡ given s };
+
+    ghost calls_given: { (s : Self) → (given s).calls ≡ (world s).calls };
+
+    ghost moment_given: { (s : Self) → (given s).moment ≡ (world s).moment };
+}
