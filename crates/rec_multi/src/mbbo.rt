@@ -214,8 +214,8 @@ impl RecordBody for Mbbo {
     }
 
     fn copy_from(&mut self, other: &Self) {
+        match_drive(&mut self.drive, &other.drive);
         self.states = other.states;
         self.invalid_value = other.invalid_value;
-        match_drive(&mut self.drive, &other.drive);
     }
 }

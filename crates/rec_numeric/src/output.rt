@@ -207,10 +207,10 @@ impl<N: Number> RecordBody for NumericOutput<N> {
     }
 
     fn copy_from(&mut self, other: &Self) {
+        match_drive(&mut self.drive, &other.drive);
         self.numbers = other.numbers;
         self.drive_high = other.drive_high;
         self.drive_low = other.drive_low;
         self.invalid_value = other.invalid_value;
-        match_drive(&mut self.drive, &other.drive);
     }
 }

@@ -157,8 +157,8 @@ impl RecordBody for Stringout {
     }
 
     fn copy_from(&mut self, other: &Self) {
+        match_drive(&mut self.drive, &other.drive);
         self.value = other.value;
         self.invalid_value = other.invalid_value;
-        match_drive(&mut self.drive, &other.drive);
     }
 }

@@ -1,4 +1,4 @@
-use Rattle.ioc_record.proofs.SameLinks.{same_disable, same_forward, same_own}
+use Rattle.ioc_record.specs.SameLinks.{same_disable, same_forward, same_own}
 use Rattle.ioc_record.proofs.record.RecordRecordKind.copy_from.Goals as goal
 
 pub match_common-requires-clause-disable_link : goal.match_common-requires-clause-disable_link
