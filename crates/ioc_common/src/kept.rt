@@ -35,7 +35,20 @@ impl<B> Kept<B> {
         B: Fresh + Drop,
         ensures { IfOk result (λ k. k ≡ B.new_one) }
     {
-        let place = Box::new(alloc, B::fresh())?;
+        Kept::new(alloc, B::fresh())
+    }
+
+    /// That of a body.
+    ///
+    /// # Errors
+    ///
+    /// [`AllocError`] where memory is wanting.
+    pub fn new(alloc: Global, body: B) -> Result<Self, AllocError>
+    where
+        B: Drop,
+        ensures { IfOk result (λ k. k ≡ body) }
+    {
+        let place = Box::new(alloc, body)?;
         Ok(Kept { place })
     }
 

@@ -1,7 +1,7 @@
 //! A bi record by itself.
 use crate::steps::Step::{
-    Answer, AnswerFault, Begin, Converts, Has, Lists, Load, OwnsDevice, Put, PutNumber, PutRefused,
-    Raised, Set, SetRefused, Stands, Take, Test,
+    Answer, AnswerFault, Begin, Converts, Copied, Has, Lists, Load, OwnsDevice, Put, PutNumber,
+    PutRefused, Raised, Set, SetRefused, Stands, Take, Test,
 };
 use crate::steps::{Came, Does, SHOW, Step, Wants, follow};
 use ioc_common::InputKind;
@@ -16,7 +16,7 @@ const TAKE_NOTHING: Step<'static> = Take(Came::Nothing, Does::Nothing);
 
 const TAKE_FAULT: Step<'static> = Take(Came::Fault, Does::Nothing);
 
-static TESTS: [Step<'static>; 138] = [
+static TESTS: [Step<'static>; 139] = [
     Test("texts of states"),
     Set("ZNAM", "shut"),
     Set("ONAM", "open"),
@@ -24,6 +24,7 @@ static TESTS: [Step<'static>; 138] = [
     Has("VAL", "shut"),
     Has("UDF", "1"),
     Put("VAL", "open"),
+    Copied,
     Has("VAL", "open"),
     Has("UDF", "0"),
     PutRefused("VAL", "2", IocError::BadValue),

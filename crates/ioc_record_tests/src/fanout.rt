@@ -1,6 +1,6 @@
 //! A fanout record by itself.
 use crate::steps::Step::{
-    Begin, Converts, Has, Load, Put, PutRefused, Set, SetRefused, Stands, Take, Test,
+    Begin, Converts, Copied, Has, Load, Put, PutRefused, Set, SetRefused, Stands, Take, Test,
 };
 use crate::steps::{Came, Does, Step, Wants, follow};
 use ioc_common::{InputKind, Kept};
@@ -11,7 +11,7 @@ use ioc_values::{IocError, Range, Value};
 use rec_flow::Fanout;
 use std::test::Fail;
 
-static TESTS: [Step<'static>; 52] = [
+static TESTS: [Step<'static>; 53] = [
     // UDF becomes 0, and no alarm of an undefined value is raised.
     Test("new"),
     Load,
@@ -65,6 +65,7 @@ static TESTS: [Step<'static>; 52] = [
     PutRefused("LNK0", "a", IocError::NoMod),
     PutRefused("OFFS", "32768", IocError::BadValue),
     Put("VAL", "-5"),
+    Copied,
     Has("UDF", "0"),
 ];
 

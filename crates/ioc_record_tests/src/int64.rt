@@ -1,6 +1,6 @@
 //! An int64in and an int64out record by themselves.
 use crate::steps::Step::{
-    Begin, Converts, Has, Lists, Load, Put, PutRefused, Raised, Set, Shows, Take, Test,
+    Begin, Converts, Copied, Has, Lists, Load, Put, PutRefused, Raised, Set, Shows, Take, Test,
 };
 use crate::steps::{Came, Does, Step, Wants, follow};
 use ioc_common::InputKind;
@@ -9,9 +9,10 @@ use rec_numeric::{Int64in, Int64out};
 
 const TAKE_NOTHING: Step<'static> = Take(Came::Nothing, Does::Nothing);
 
-static INPUT: [Step<'static>; 56] = [
+static INPUT: [Step<'static>; 57] = [
     Test("numbers of 64 bits"),
     Put("VAL", "9223372036854775807"),
+    Copied,
     Has("VAL", "9223372036854775807"),
     PutRefused("VAL", "9223372036854775808", IocError::BadValue),
     Put("VAL", "-9223372036854775808"),
@@ -69,12 +70,13 @@ static INPUT: [Step<'static>; 56] = [
     Lists(3, 0),
 ];
 
-static OUTPUT: [Step<'static>; 27] = [
+static OUTPUT: [Step<'static>; 28] = [
     Test("drive limits past 32 bits"),
     Set("DRVH", "5000000000"),
     Set("DRVL", "-5000000000"),
     Set("OUT", "x"),
     Load,
+    Copied,
     Take(
         Came::Int64(6_000_000_000),
         Does::WriteAbsentInt64(5_000_000_000),

@@ -1,7 +1,7 @@
 //! A longin record by itself.
 use crate::steps::Step::{
-    Answer, AnswerFault, Begin, Converts, Do, Has, Load, OwnsDevice, Put, Raised, Set, Shows, Take,
-    Test,
+    Answer, AnswerFault, Begin, Converts, Copied, Do, Has, Load, OwnsDevice, Put, Raised, Set,
+    Shows, Take, Test,
 };
 use crate::steps::{Act, Came, Does, SHOW, Step, Wants, follow};
 use ioc_common::InputKind;
@@ -14,7 +14,7 @@ const TAKE_NOTHING: Step<'static> = Take(Came::Nothing, Does::Nothing);
 
 const TAKE_FAULT: Step<'static> = Take(Came::Fault, Does::Nothing);
 
-static TESTS: [Step<'static>; 129] = [
+static TESTS: [Step<'static>; 130] = [
     Test("limit alarms"),
     Set("HIHI", "100"),
     Set("HIGH", "50"),
@@ -87,6 +87,7 @@ static TESTS: [Step<'static>; 129] = [
     Set("VAL", "60"),
     Load,
     Put("VAL", "70"),
+    Copied,
     Do(Act::Raise(Status::Link, Severity::Invalid)),
     // The limit is reached without effect, and LALM stays.
     TAKE_FAULT,

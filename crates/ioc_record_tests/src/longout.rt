@@ -1,7 +1,7 @@
 //! A longout record by itself.
 use crate::steps::Step::{
-    AnswerFault, Begin, Converts, Has, Lists, Load, OwnsDevice, Put, PutRefused, Raised, Set,
-    SetRefused, Stands, Take, Test,
+    AnswerFault, Begin, Converts, Copied, Has, Lists, Load, OwnsDevice, Put, PutRefused, Raised,
+    Set, SetRefused, Stands, Take, Test,
 };
 use crate::steps::{Came, Does, Step, Wants, follow};
 use ioc_common::InputKind;
@@ -14,7 +14,7 @@ const OUT: FieldNo = FieldNo::Own(OwnField::Out);
 
 const DOL: FieldNo = FieldNo::Own(OwnField::Dol);
 
-static TESTS: [Step<'static>; 114] = [
+static TESTS: [Step<'static>; 115] = [
     Test("drive limits"),
     Set("DRVH", "10"),
     Set("DRVL", "-10"),
@@ -69,6 +69,7 @@ static TESTS: [Step<'static>; 114] = [
     Raised("NO_ALARM", "NO_ALARM"),
     Has("LALM", "9"),
     Put("DRVH", "20"),
+    Copied,
     Take(Came::Long(15), Does::Nothing),
     Raised("HIGH", "MINOR"),
     Has("LALM", "10"),

@@ -1,7 +1,7 @@
 //! An mbbi and an mbbo record by themselves.
 use crate::steps::Step::{
-    Answer, AnswerFault, Begin, Converts, Has, Lists, Load, OwnsDevice, Put, PutRefused, Raised,
-    ReadAsNumber, Set, SetRefused, Stands, Take, Test,
+    Answer, AnswerFault, Begin, Converts, Copied, Has, Lists, Load, OwnsDevice, Put, PutRefused,
+    Raised, ReadAsNumber, Set, SetRefused, Stands, Take, Test,
 };
 use crate::steps::{Came, Does, SHOW, Step, Wants, follow};
 use ioc_common::InputKind;
@@ -18,7 +18,7 @@ const TAKE_NOTHING: Step<'static> = Take(Came::Nothing, Does::Nothing);
 
 const TAKE_FAULT: Step<'static> = Take(Came::Fault, Does::Nothing);
 
-static INPUT: [Step<'static>; 173] = [
+static INPUT: [Step<'static>; 174] = [
     // MASK is made at load, where it is 0: the NOBT lowest bits, shifted left by SHFT and cut to 32 bits; all 32 where NOBT is 0.
     Test("MASK of NOBT 4, SHFT 8"),
     Set("NOBT", "4"),
@@ -53,6 +53,7 @@ static INPUT: [Step<'static>; 173] = [
     Load,
     Has("MASK", "7"),
     Put("NOBT", "2"),
+    Copied,
     Put("SHFT", "1"),
     Has("MASK", "7"),
     PutRefused("MASK", "1", IocError::NoMod),
@@ -198,7 +199,7 @@ static INPUT: [Step<'static>; 173] = [
     Lists(3, 16),
 ];
 
-static OUTPUT: [Step<'static>; 98] = [
+static OUTPUT: [Step<'static>; 99] = [
     // RVAL is the value of the state, shifted left by SHFT; of it the bits of MASK are written.
     Test("state written"),
     Set("ZRVL", "5"),
@@ -211,6 +212,7 @@ static OUTPUT: [Step<'static>; 98] = [
     Take(Came::Nothing, Does::WriteAbsent(1)),
     Has("RVAL", "96"),
     Put("DTYP", "Raw Soft Channel"),
+    Copied,
     Take(Came::Nothing, Does::WriteAbsentRaw(96)),
     Take(Came::UShort(16), Does::WriteAbsentRaw(96)),
     Has("VAL", "16"),

@@ -97,6 +97,8 @@ pub enum Step<'a> {
     SetRefused(&'a str, &'a str, IocError),
     /// The load ends.
     Load,
+    /// The record gives way to a copy of it.
+    Copied,
     /// A script puts a field.
     Put(&'a str, &'a str),
     PutRefused(&'a str, &'a str, IocError),
@@ -296,7 +298,7 @@ fn is_read(found: Result<Value, IocError>, wanted: Value) -> bool {
 }
 
 // A step on fields, or on what every record has.
-fn holds<K: RecordKind>(alloc: Global, item: &mut K, step: &Step<'_>) -> bool {
+fn holds<K: RecordKind + Drop>(alloc: Global, item: &mut K, step: &Step<'_>) -> bool {
     match step {
         Step::Test(_) => true,
         Step::Set(name, text) => set(alloc, item, name, text).is_ok(),
@@ -354,13 +356,24 @@ fn ends<K: RecordKind>(item: &mut K, finished: Finished) -> bool {
     output == Output::NoOutput
 }
 
+// The record gives way to a copy, which has become the same as it once more.
+fn copied<K: RecordKind + Drop>(alloc: Global, item: &mut K) -> bool {
+    let Ok(mut copy) = item.copy(alloc) else {
+        return false;
+    };
+    copy.copy_from(item);
+    *item = copy;
+    true
+}
+
 // A step of the record's type.
-fn type_holds<K: RecordKind>(alloc: Global, item: &mut K, step: &Step<'_>) -> bool {
+fn type_holds<K: RecordKind + Drop>(alloc: Global, item: &mut K, step: &Step<'_>) -> bool {
     match step {
         Step::Load => {
             item.load();
             true
         }
+        Step::Copied => copied(alloc, item),
         Step::Stands(field) => lead_on(alloc, item, *field, there()),
         Step::OwnsDevice(field) => lead_on(alloc, item, *field, Lead::OwnDevice),
         Step::Begin(wants) => begins(item, want(*wants)),

@@ -1,6 +1,7 @@
 //! A stringin, a stringout and an event record by themselves.
 use crate::steps::Step::{
-    Begin, Converts, Has, Lists, Load, OwnsDevice, Put, Raised, Set, SetRefused, Stands, Take, Test,
+    Begin, Converts, Copied, Has, Lists, Load, OwnsDevice, Put, Raised, Set, SetRefused, Stands,
+    Take, Test,
 };
 use crate::steps::{Came, Does, Step, Wants, follow};
 use ioc_common::InputKind;
@@ -16,7 +17,7 @@ const OUT: FieldNo = FieldNo::Own(OwnField::Out);
 
 const DOL: FieldNo = FieldNo::Own(OwnField::Dol);
 
-static STRINGIN: [Step<'static>; 42] = [
+static STRINGIN: [Step<'static>; 43] = [
     // The alarm of an undefined value, until a text comes.
     Test("new"),
     Has("VAL", ""),
@@ -56,6 +57,7 @@ static STRINGIN: [Step<'static>; 42] = [
     Raised("NO_ALARM", "NO_ALARM"),
     Test("puts"),
     Put("VAL", "a text of more than 39 bytes is cut there"),
+    Copied,
     Has("VAL", "a text of more than 39 bytes is cut the"),
     Has("UDF", "0"),
     Set("VAL", ""),
@@ -68,7 +70,7 @@ fn stringin(rt: HostRuntime) {
     follow::<Stringin>(&rt, rt.alloc(), "text", &STRINGIN);
 }
 
-static STRINGOUT: [Step<'static>; 56] = [
+static STRINGOUT: [Step<'static>; 57] = [
     Test("new"),
     Has("VAL", ""),
     Has("IVOV", ""),
@@ -86,6 +88,7 @@ static STRINGOUT: [Step<'static>; 56] = [
     Load,
     Begin(Wants::Nothing),
     Put("OMSL", "closed_loop"),
+    Copied,
     Begin(Wants::Absent),
     Stands(DOL),
     Begin(Wants::Link(false, Mode::Nms)),
@@ -134,12 +137,13 @@ fn stringout(rt: HostRuntime) {
     follow::<Stringout>(&rt, rt.alloc(), "text", &STRINGOUT);
 }
 
-static EVENT: [Step<'static>; 25] = [
+static EVENT: [Step<'static>; 26] = [
     // UDF becomes 0 where nothing came, and no alarm is raised.
     Test("new"),
     Has("VAL", ""),
     Lists(3, 0),
     Load,
+    Copied,
     Begin(Wants::Unused),
     Converts(InputKind::Text),
     Take(Came::Nothing, Does::Post("")),

@@ -11,8 +11,9 @@ use ioc_common::{
 };
 use ioc_fields::{OwnField, RecordType};
 use ioc_links::Link;
-use ioc_record::RecordBody;
+use ioc_record::{RecordBody, copy_source};
 use ioc_values::{Range, Text, Value};
+use std::alloc::{AllocError, Global};
 
 /// The own fields of a bi. Record Reference Manual, "Binary Input Record".
 #[derive(Drop)]
@@ -178,5 +179,17 @@ impl RecordBody for Bi {
             self.put_constant(condition, constant);
         }
         self.states.last_alarmed = self.states.value;
+    }
+
+    fn copy(&self, alloc: Global) -> Result<Self, AllocError> {
+        let source = copy_source(alloc, &self.source)?;
+        Ok(Bi {
+            states: self.states,
+            source,
+        })
+    }
+
+    fn copy_from(&mut self, other: &Self) {
+        self.states = other.states;
     }
 }

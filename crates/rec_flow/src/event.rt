@@ -8,6 +8,7 @@ use ioc_fields::{OwnField, RecordType};
 use ioc_record::RecordBody;
 use ioc_values::{Text, Value};
 use rec_text::TextInput;
+use std::alloc::{AllocError, Global};
 
 /// The own fields of an event. Record Reference Manual, "Event Record".
 #[derive(Drop)]
@@ -104,5 +105,14 @@ impl RecordBody for Event {
     #[tactic(auto, unfolding(crate::specs::Event::event_loaded))]
     fn load(&mut self, condition: &mut Condition) {
         self.text.put_constant(condition);
+    }
+
+    fn copy(&self, alloc: Global) -> Result<Self, AllocError> {
+        let text = self.text.copy(alloc)?;
+        Ok(Event { text })
+    }
+
+    fn copy_from(&mut self, other: &Self) {
+        self.text.copy_from(&other.text);
     }
 }

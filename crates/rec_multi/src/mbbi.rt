@@ -12,8 +12,9 @@ use ioc_common::{
 };
 use ioc_fields::{OwnField, RecordType};
 use ioc_links::Link;
-use ioc_record::RecordBody;
+use ioc_record::{RecordBody, copy_source};
 use ioc_values::{Range, Text, Value};
+use std::alloc::{AllocError, Global};
 
 /// The own fields of an mbbi. Record Reference Manual, "Multi-Bit Binary Input Record".
 #[derive(Drop)]
@@ -180,5 +181,17 @@ impl RecordBody for Mbbi {
             self.put_constant(condition, constant);
         }
         self.states.last_alarmed = self.states.value;
+    }
+
+    fn copy(&self, alloc: Global) -> Result<Self, AllocError> {
+        let source = copy_source(alloc, &self.source)?;
+        Ok(Mbbi {
+            states: self.states,
+            source,
+        })
+    }
+
+    fn copy_from(&mut self, other: &Self) {
+        self.states = other.states;
     }
 }

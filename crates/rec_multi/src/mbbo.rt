@@ -11,8 +11,9 @@ use ioc_common::{
 };
 use ioc_fields::{OwnField, RecordType};
 use ioc_links::Link;
-use ioc_record::RecordBody;
+use ioc_record::{RecordBody, copy_drive, match_drive};
 use ioc_values::{Kind, Range, Text, Value, of_number};
+use std::alloc::{AllocError, Global};
 
 /// The own fields of an mbbo. Record Reference Manual, "Multi-Bit Binary Output Record".
 #[derive(Drop)]
@@ -201,5 +202,20 @@ impl RecordBody for Mbbo {
             }
         }
         self.states.last_alarmed = self.states.value;
+    }
+
+    fn copy(&self, alloc: Global) -> Result<Self, AllocError> {
+        let drive = copy_drive(alloc, &self.drive)?;
+        Ok(Mbbo {
+            states: self.states,
+            invalid_value: self.invalid_value,
+            drive,
+        })
+    }
+
+    fn copy_from(&mut self, other: &Self) {
+        match_drive(&mut self.drive, &other.drive);
+        self.states = other.states;
+        self.invalid_value = other.invalid_value;
     }
 }

@@ -8,8 +8,9 @@ use crate::numeric::Numeric;
 use ioc_common::{Condition, Fresh, Got, InputKind, KeptLink, LinkUse, Need, Output, Source};
 use ioc_fields::{OwnField, RecordType};
 use ioc_links::Link;
-use ioc_record::RecordBody;
+use ioc_record::{RecordBody, copy_source};
 use ioc_values::{Kind, Text, Value, of_number};
+use std::alloc::{AllocError, Global};
 
 /// The own fields of a numeric input. Record Reference Manual, "Long Input Record" and "64bit Integer Input Record".
 #[derive(Drop)]
@@ -122,5 +123,17 @@ impl<N: Number> RecordBody for NumericInput<N> {
             }
         }
         self.numbers.last_alarmed = self.numbers.value;
+    }
+
+    fn copy(&self, alloc: Global) -> Result<Self, AllocError> {
+        let source = copy_source(alloc, &self.source)?;
+        Ok(NumericInput {
+            numbers: self.numbers,
+            source,
+        })
+    }
+
+    fn copy_from(&mut self, other: &Self) {
+        self.numbers = other.numbers;
     }
 }

@@ -9,8 +9,9 @@ use crate::numeric::Numeric;
 use ioc_common::{Condition, Drive, Fresh, Got, InputKind, KeptLink, LinkUse, Need, Output};
 use ioc_fields::{OwnField, RecordType};
 use ioc_links::Link;
-use ioc_record::RecordBody;
+use ioc_record::{RecordBody, copy_drive, match_drive};
 use ioc_values::{Kind, Text, Value, of_number};
+use std::alloc::{AllocError, Global};
 
 /// The own fields of a numeric output. Record Reference Manual, "Long Output Record" and "64bit Integer Output Record".
 #[derive(Drop)]
@@ -192,5 +193,24 @@ impl<N: Number> RecordBody for NumericOutput<N> {
             }
         }
         self.numbers.last_alarmed = self.numbers.value;
+    }
+
+    fn copy(&self, alloc: Global) -> Result<Self, AllocError> {
+        let drive = copy_drive(alloc, &self.drive)?;
+        Ok(NumericOutput {
+            numbers: self.numbers,
+            drive_high: self.drive_high,
+            drive_low: self.drive_low,
+            invalid_value: self.invalid_value,
+            drive,
+        })
+    }
+
+    fn copy_from(&mut self, other: &Self) {
+        match_drive(&mut self.drive, &other.drive);
+        self.numbers = other.numbers;
+        self.drive_high = other.drive_high;
+        self.drive_low = other.drive_low;
+        self.invalid_value = other.invalid_value;
     }
 }

@@ -8,6 +8,7 @@ use ioc_common::{Condition, Fresh, Got, InputKind, KeptLink, LinkUse, Need, Outp
 use ioc_fields::{OwnField, RecordType};
 use ioc_record::RecordBody;
 use ioc_values::{Text, Value};
+use std::alloc::{AllocError, Global};
 
 /// The own fields of a stringin. Record Reference Manual, "String Input Record".
 #[derive(Drop)]
@@ -100,5 +101,14 @@ impl RecordBody for Stringin {
     #[tactic(auto, unfolding(crate::specs::Stringin::stringin_loaded))]
     fn load(&mut self, condition: &mut Condition) {
         self.text.put_constant(condition);
+    }
+
+    fn copy(&self, alloc: Global) -> Result<Self, AllocError> {
+        let text = self.text.copy(alloc)?;
+        Ok(Stringin { text })
+    }
+
+    fn copy_from(&mut self, other: &Self) {
+        self.text.copy_from(&other.text);
     }
 }

@@ -9,8 +9,9 @@ use ioc_common::{
 };
 use ioc_fields::{OwnField, RecordType};
 use ioc_links::Link;
-use ioc_record::RecordBody;
+use ioc_record::{RecordBody, copy_drive, match_drive};
 use ioc_values::{Kind, Text, Value, of_number};
+use std::alloc::{AllocError, Global};
 
 /// The own fields of a stringout. Record Reference Manual, "String Output Record".
 #[derive(Drop)]
@@ -144,5 +145,20 @@ impl RecordBody for Stringout {
                 self.store(condition, OwnField::Val, value);
             }
         }
+    }
+
+    fn copy(&self, alloc: Global) -> Result<Self, AllocError> {
+        let drive = copy_drive(alloc, &self.drive)?;
+        Ok(Stringout {
+            value: self.value,
+            invalid_value: self.invalid_value,
+            drive,
+        })
+    }
+
+    fn copy_from(&mut self, other: &Self) {
+        match_drive(&mut self.drive, &other.drive);
+        self.value = other.value;
+        self.invalid_value = other.invalid_value;
     }
 }

@@ -1,12 +1,14 @@
 //! The fields of the types that read a text.
-ghost use Rattle.std.specs.Prelude.{◌≡◌};
+ghost use Rattle.std.specs.Prelude.{◌≡◌, IfOk};
 ghost use Rattle.ioc_record.specs.BodyRules.{Held};
 ghost use Rattle.rec_text.specs.TextInput.{new_text_input, text_input_get, text_input_stored, came, constant_put};
 
 use ioc_common::{Condition, Got, Source, text_in};
 use ioc_fields::OwnField;
 use ioc_links::Link;
+use ioc_record::copy_source;
 use ioc_values::{Kind, Text, Value, of_number};
+use std::alloc::{AllocError, Global};
 
 /// VAL, a text, and INP. Record Reference Manual, "String Input Record" and "Event Record".
 #[derive(Drop)]
@@ -69,5 +71,28 @@ impl TextInput {
                 self.store(condition, OwnField::Val, value);
             }
         }
+    }
+
+    /// The same fields.
+    ///
+    /// # Errors
+    ///
+    /// [`AllocError`] where memory is wanting.
+    pub fn copy(&self, alloc: Global) -> Result<Self, AllocError>
+        ensures { IfOk result (λ copy. copy ≡ self.now) }
+    {
+        let source = copy_source(alloc, &self.source)?;
+        Ok(TextInput {
+            value: self.value,
+            source,
+        })
+    }
+
+    /// They become the same as others with the same link.
+    pub fn copy_from(&mut self, other: &Self)
+        requires { self.old.source.input ≡ other.now.source.input }
+        ensures { self.new ≡ other.now }
+    {
+        self.value = other.value;
     }
 }

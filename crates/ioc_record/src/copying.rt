@@ -1,0 +1,112 @@
+//! Copies of what records are made of, and how one becomes the same as another with the same links without taking room.
+ghost use Rattle.std.specs.Prelude.{◌≡◌, IfOk};
+
+use ioc_common::{Common, Drive, KeptLink, Source};
+use std::alloc::{AllocError, Global};
+
+/// The same link.
+///
+/// # Errors
+///
+/// [`AllocError`] where memory is wanting.
+pub fn copy_link(alloc: Global, link: &KeptLink) -> Result<KeptLink, AllocError>
+    ensures { IfOk result (λ copy. copy ≡ link.now) }
+{
+    KeptLink::new(alloc, link.get())
+}
+
+/// The same source.
+///
+/// # Errors
+///
+/// [`AllocError`] where memory is wanting.
+pub fn copy_source(alloc: Global, source: &Source) -> Result<Source, AllocError>
+    ensures { IfOk result (λ copy. copy ≡ source.now) }
+{
+    let input = copy_link(alloc, &source.input)?;
+    Ok(Source { input })
+}
+
+/// The same drive.
+///
+/// # Errors
+///
+/// [`AllocError`] where memory is wanting.
+pub fn copy_drive(alloc: Global, drive: &Drive) -> Result<Drive, AllocError>
+    ensures { IfOk result (λ copy. copy ≡ drive.now) }
+{
+    let output = copy_link(alloc, &drive.output)?;
+    let desired = copy_link(alloc, &drive.desired)?;
+    Ok(Drive {
+        output,
+        desired,
+        mode: drive.mode,
+        on_invalid: drive.on_invalid,
+    })
+}
+
+/// A drive becomes the same as another with the same links.
+pub fn match_drive(drive: &mut Drive, other: &Drive)
+    requires output { drive.old.output ≡ other.now.output }
+    requires desired { drive.old.desired ≡ other.now.desired }
+    ensures { drive.new ≡ other.now }
+{
+    drive.mode = other.mode;
+    drive.on_invalid = other.on_invalid;
+}
+
+/// The same fields.
+///
+/// # Errors
+///
+/// [`AllocError`] where memory is wanting.
+pub fn copy_common(alloc: Global, common: &Common) -> Result<Common, AllocError>
+    ensures { IfOk result (λ copy. copy ≡ common.now) }
+{
+    let disable_link = copy_link(alloc, &common.disable_link)?;
+    let forward_link = copy_link(alloc, &common.forward_link)?;
+    Ok(Common {
+        name: common.name,
+        description: common.description,
+        access_group: common.access_group,
+        condition: common.condition,
+        scanning: common.scanning,
+        disabling: common.disabling,
+        disable_link,
+        forward_link,
+        process: common.process,
+        lock_count: common.lock_count,
+        active: common.active,
+        by_put: common.by_put,
+        reprocess: common.reprocess,
+        time: common.time,
+        pending: common.pending,
+        last_pending: common.last_pending,
+        last_change: common.last_change,
+        notification: common.notification,
+    })
+}
+
+/// The fields that every record has become the same as those of another with the same links.
+pub fn match_common(common: &mut Common, other: &Common)
+    requires disable_link { common.old.disable_link ≡ other.now.disable_link }
+    requires forward_link { common.old.forward_link ≡ other.now.forward_link }
+    ensures { common.new ≡ other.now }
+{
+    common.name = other.name;
+    common.description = other.description;
+    common.access_group = other.access_group;
+    common.condition = other.condition;
+    common.scanning = other.scanning;
+    common.disabling = other.disabling;
+    common.process = other.process;
+    common.lock_count = other.lock_count;
+    common.active = other.active;
+    common.by_put = other.by_put;
+    common.reprocess = other.reprocess;
+    common.time = other.time;
+    common.pending = other.pending;
+    common.last_pending = other.last_pending;
+    common.last_change = other.last_change;
+    common.notification = other.notification;
+}

@@ -1,0 +1,6 @@
+use Rattle.std.proofs.Common.{◌≡◌, take, length}
+use Rattle.rec_flow.proofs.fanout.copy_links.Given as goal
+
+-- those so far are the same
+abbrev pub invariant-loop-i : goal.invariant-loop-i
+invariant-loop-i l = (take l.i l.copies ≡ take l.i l.links) × (length l.copies ≡ 16)
