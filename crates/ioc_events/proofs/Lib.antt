@@ -1,5 +1,5 @@
 mod Besides
-mod Locality
+mod RecordLists
 mod Stepping
 mod StartRules
 mod Waitings
