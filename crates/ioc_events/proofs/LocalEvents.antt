@@ -1,6 +1,6 @@
 -- Events look at the records that links lead to, and change these alone.
-use Rattle.std.proofs.Common.{◌≡◌, ◌≢◌, ◌++◌, ◌||◌, ℕ, Bool, true, false, cond, List, Ok, Err, is_some, Option, Some, refl, sym, ap, subst, ◌∙◌, nat_eq, inl, inr, [], ◌∷◌, arith}
-use Rattle.std.specs.Prelude.{Result, Contains, not, IsTrue}
+use Rattle.std.proofs.Common.{◌≡◌, ◌≢◌, ◌||◌, ℕ, Bool, true, false, cond, List, Ok, Err, is_some, Option, Some, refl, sym, ap, subst, ◌∙◌, nat_eq, inl, inr, [], ◌∷◌, arith}
+use Rattle.std.specs.Prelude.{Result, Contains, not}
 use Rattle.std.specs.Prelude.{None as Nothing_}
 use Rattle.std.specs.FinMap.{contains_key}
 use Rattle.std.specs.List.{list_any}
@@ -37,7 +37,7 @@ use Rattle.ioc_events.specs.declared.event.Event.TheVariants.{Get, Process, Put,
 use Rattle.ioc_events.specs.declared.reply.Reply.{Reply}
 use Rattle.ioc_events.specs.declared.reply.Reply.TheVariants.{Plain, Outcome as Outcome-reply, Shown, Notify as Notify-reply, Live as Live-reply}
 use Rattle.ioc_events.specs.Beside.{Same, Spares}
-use Rattle.ioc_events.specs.Local.{AskAlike, KeepsApart, IsWithin, AgreeEvent, EventIsLocal}
+use Rattle.ioc_events.specs.Local.{AskAlike, KeepsApart, IsWithin, EventIsLocal}
 use Rattle.ioc_events.specs.Starting.{value_to_put, must_wait, started}
 use Rattle.ioc_events.specs.Step.{Stepped, is_there, names, all_there, relinked, processes, awaits, refused, told, after_put, after_completion, put_with, begun_or_queued, notify_with, lets_start, done_there, done_alone, with_starts, stepped}
 use Rattle.ioc_events.proofs.Besides.{not_both, Within, Along, put_along, guards, along}
@@ -403,34 +403,45 @@ module _ {R : Type 0} (k : RecordRules R) (lawful : IsLawful k) (mine : ℕ → 
   starts-local first other false agrees apart other_apart = agrees
 
 module _ {R : Type 0} (k : RecordRules R) (lawful : IsLawful k) (mine : ℕ → Bool) (answers : Answers) where
+  -- the number of one that waits in U after an event by itself is none of those that waited outside
+  alone-numbers : (w : World R) (event : Event) → KeepsApart k mine w → IsWithin k mine w event
+      → (x : Waiting) → Contains (done_alone k answers w event).world.waiting x → mine x.target ≡ true → (y : Waiting) → Contains w.waiting y → mine y.target ≡ false → x.number ≢ y.number
+  alone-numbers w event apart within =
+      alone-within k lawful answers (λ x. mine x.target ≡ true → (y : Waiting) → Contains w.waiting y → mine y.target ≡ false → x.number ≢ y.number) w event
+      (λ x own u y waits out e. within.waiting y waits out (own ∙ ap Some e))
+      (λ x waits u y other_waits out. apart.numbers x y waits other_waits u out)
+
   -- those outside stay apart in an event by itself
   alone-apart : (w : World R) (event : Event) → KeepsApart k mine w → IsWithin k mine w event → Spares k mine w (done_alone k answers w event).world
       → KeepsApart k mine (done_alone k answers w event).world
   alone-apart w event apart within spares =
       let after = (done_alone k answers w event).world in
       let before : (y : Waiting) → Contains after.waiting y → mine y.target ≡ false → Contains w.waiting y = λ y waits out. waits-too after.waiting w.waiting y (spares.waiting y.target out) waits in
-      let numbers : (x : Waiting) → Contains after.waiting x → mine x.target ≡ true → (y : Waiting) → Contains w.waiting y → mine y.target ≡ false → x.number ≢ y.number =
-          alone-within k lawful answers (λ x. mine x.target ≡ true → (y : Waiting) → Contains w.waiting y → mine y.target ≡ false → x.number ≢ y.number) w event
-              (λ x own u y waits out e. within.waiting y waits out (own ∙ ap Some e))
-              (λ x there u y waits out. apart.numbers x y there waits u out) in
       record {
         none_ready = λ x waits out. ready-by k lawful after w x (spares.spared x.target out) ∙ apart.none_ready x (before x waits out) out;
-        numbers = λ x y waits other_waits u out. numbers x waits u y (before y other_waits out) out;
+        numbers = λ x y waits other_waits u out. alone-numbers w event apart within x waits u y (before y other_waits out) out;
       }
 
-  pub event-local : EventIsLocal k mine answers
+  -- an event with the starts after it
+  stepped-local : (w v : World R) (event : Event) → (goes : GoesEvent k mine w v (done_alone k answers w event) (done_alone k answers v event))
+      → KeepsApart k mine (done_alone k answers w event).world → KeepsApart k mine (done_alone k answers v event).world
+      → GoesEvent k mine w v (stepped k answers w event) (stepped k answers v event)
   unfolding stepped
-  event-local w v event shut alike apart other_apart within other_within asks =
+  stepped-local w v event goes apart other_apart =
       let first = done_alone k answers w event in
       let other = done_alone k answers v event in
+      subst (λ (r : Reply). GoesEvent k mine w v (cond {A = Stepped R} (lets_start event first.reply) (with_starts k answers first) first) (cond {A = Stepped R} (lets_start event r) (with_starts k answers other) other)) goes.reply
+      (starts-local k lawful mine answers w v first other (lets_start event first.reply) goes apart other_apart)
+
+  pub event-local : EventIsLocal k mine answers
+  event-local w v event shut alike apart other_apart within other_within asks =
       let goes = alone-local k lawful mine answers w v (along k mine w v shut alike.same) alike.there event within other_within asks in
-      let all = subst (λ (r : Reply). GoesEvent k mine w v (cond {A = Stepped R} (lets_start event first.reply) (with_starts k answers first) first) (cond {A = Stepped R} (lets_start event r) (with_starts k answers other) other)) goes.reply
-          (starts-local k lawful mine answers w v first other (lets_start event first.reply) goes (alone-apart w event apart within goes.inv.spares) (alone-apart v event other_apart other_within goes.inv.other_spares)) in
+      let done = stepped-local w v event goes (alone-apart w event apart within goes.inv.spares) (alone-apart v event other_apart other_within goes.inv.other_spares) in
       record {
-        alike = record { same = all.inv.same; there = λ n u. all.inv.there n u (alike.there n u) };
-        reply = all.reply;
-        requests = all.requests;
-        shut = all.inv.shut;
-        spares = all.inv.spares;
-        other_spares = all.inv.other_spares;
+        alike = record { same = done.inv.same; there = λ n u. done.inv.there n u (alike.there n u) };
+        reply = done.reply;
+        requests = done.requests;
+        shut = done.inv.shut;
+        spares = done.inv.spares;
+        other_spares = done.inv.other_spares;
       }

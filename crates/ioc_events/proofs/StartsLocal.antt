@@ -1,5 +1,5 @@
 -- Starts of puts with notification look at the records of U, and change these alone.
-use Rattle.std.proofs.Common.{◌≡◌, ◌≢◌, ℕ, Bool, true, false, cond, not, List, [], ◌∷◌, Option, Some, None as Nothing_, is_some, unwrap_or, refl, sym, ap, subst, ◌∙◌}
+use Rattle.std.proofs.Common.{◌≡◌, ◌≢◌, ℕ, Bool, true, false, cond, not, List, Option, Some, None as Nothing_, is_some, unwrap_or, refl, sym, ap, subst, ◌∙◌}
 use Rattle.std.specs.Prelude.{Contains, ◌&&◌, slice_get}
 use Rattle.std.specs.FinMap.{get, contains_key}
 use Rattle.ioc_values.specs.declared.value.Value.{Value}
@@ -177,10 +177,8 @@ module _ {R : Type 0} (k : RecordRules R) (lawful : IsLawful k) (mine : ℕ → 
       let done = started k answers (unqueued x.number a) x in
       let other = started k answers (unqueued x.number b) x in
       let begun = start-goes both apart other_apart x next also.0 also.1 in
-      let left : KeepsApart k mine done.world =
-          fewer-apart k lawful mine a done.world (λ n out. begun.inv.spares.spared n out ∙ sym (both.spares.spared n out)) (waited-before a x) apart in
-      let other_left : KeepsApart k mine other.world =
-          fewer-apart k lawful mine b other.world (λ n out. begun.inv.other_spares.spared n out ∙ sym (both.other_spares.spared n out)) (waited-before b x) other_apart in
+      let left : KeepsApart k mine done.world = fewer-apart k lawful mine a done.world (λ n out. begun.inv.spares.spared n out ∙ sym (both.spares.spared n out)) (waited-before a x) apart in
+      let other_left : KeepsApart k mine other.world = fewer-apart k lawful mine b other.world (λ n out. begun.inv.other_spares.spared n out ∙ sym (both.other_spares.spared n out)) (waited-before b x) other_apart in
       let is : done ≡ record { world = a'; requests = first } = starts-is k lawful answers one in
       let more = starts-go others other.world (subst (λ (d : Done R). Both d.world other.world) is begun.inv) (subst (λ (d : Done R). KeepsApart k mine d.world) is left) other_left in
       subst (λ (d : Done R). Goes Both (record { world = a''; requests = followed_by first rest }) d) (sym (all-next b x also.0))

@@ -24,13 +24,13 @@ module _ {R : Type 0} (k : RecordRules R) (mine : ℕ → Bool) where
     pub waiting : (n : ℕ) → mine n ≡ true → at_record n w.waiting ≡ at_record n v.waiting
     pub records : (n : ℕ) → mine n ≡ true → at k w n ≡ at k v n
 
-  -- every record outside U is as it was, and so is its waiting list
+  -- outside U every record is as it was, none came or went, and each waiting list is as it was
   pub record Spares (before after : World R) : Type 0 where
     pub spared : (n : ℕ) → mine n ≡ false → at k after n ≡ at k before n
     pub there : (n : ℕ) → mine n ≡ false → contains_key after.records n ≡ contains_key before.records n
     pub waiting : (n : ℕ) → mine n ≡ false → at_record n after.waiting ≡ at_record n before.waiting
 
-  -- The two lead to the same in U, by the same requests, and change nothing outside, nor who waits; U stays shut
+  -- The two lead to the same in U, by the same requests, and change nothing outside, and not who waits; U stays shut
   pub record Agree (w v : World R) (done other : Done R) : Type 0 where
     pub same : Same done.world other.world
     pub requests : done.requests ≡ other.requests
