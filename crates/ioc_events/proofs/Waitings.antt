@@ -1,5 +1,5 @@
 -- A request leaves alone who waits.
-use Rattle.std.proofs.Common.{◌≡◌, nat_eq, ℕ, zero, suc, Bool, true, false, cond, List, [], ◌∷◌, ◌++◌, length, Some, is_some, refl, sym, ap, subst, ◌∙◌, inl, inr, arith}
+use Rattle.std.proofs.Common.{◌≡◌, nat_eq, ℕ, zero, suc, Bool, true, false, cond, List, [], ◌∷◌, ◌++◌, length, Option, Some, None as Nothing_, is_some, refl, ap, subst, ◌∙◌, inl, inr, arith}
 use Rattle.std.specs.Prelude.{nat_lt, not, Contains, Result, Ok, Err}
 use Rattle.ioc_ledger.specs.Requests.{None, more}
 use Rattle.ioc_notify.specs.declared.waiting_lists.Waiting.{Waiting}
@@ -206,15 +206,18 @@ module _ {R : Type 0} (k : RecordRules R) (lawful : IsLawful k) where
         | false ↦ λ y h. within y (subst (λ (l : List Waiting). Contains l y) (started-waiting answers (admitted x.number w) x) h)
       ]
 
-  notify-within : (answers : Answers) (P : Waiting → Type 0) (w : World R) (s number : ℕ) (field : FieldNo) (value : Result Value IocError) → ((x : Waiting) → x.number ≡ number → P x) → Within P w
+  notify-within : (answers : Answers) (P : Waiting → Type 0) (w : World R) (s number : ℕ) (field : FieldNo) (value : Result Value IocError)
+      → ((x : Waiting) → cond {A = Option ℕ} (has_place w number) (Some number) Nothing_ ≡ Some x.number → P x) → Within P w
       → Within P (notify_with k answers w s number field value).world
   unfolding Within
   notify-within answers P w s number field (Err e) own within = within
-  notify-within answers P w s number field (Ok x) own within =
-      elim (has_place w number) as (λ b. (y : Waiting) → Contains (cond {A = Stepped R} b (begun_or_queued k answers w (record { number = number; target = s; field = field; value = x })) (refused w QueueFull)).world.waiting y → P y) [
-        | true ↦ let_in-within answers P w _ (own _ refl) within
-        | false ↦ within
-      ]
+  notify-within answers P w s number field (Ok v) own within =
+      let x : Waiting = record { number = number; target = s; field = field; value = v } in
+      elim (has_place w number) as (λ b. ((y : Waiting) → cond {A = Option ℕ} b (Some number) Nothing_ ≡ Some y.number → P y)
+      → (y : Waiting) → Contains (cond {A = Stepped R} b (begun_or_queued k answers w x) (refused w QueueFull)).world.waiting y → P y) [
+        | true ↦ λ begins. let_in-within answers P w x (begins x refl) within
+        | false ↦ λ _. within
+      ] own
 
   cancel-within : (P : Waiting → Type 0) (w : World R) (number : ℕ) → Within P w
       → Within P (cond {A = Stepped R} (is_live number w.live) (record { world = cancelled k number w; reply = Plain; requests = None }) (refused w Stale)).world
@@ -225,7 +228,7 @@ module _ {R : Type 0} (k : RecordRules R) (lawful : IsLawful k) where
         | false ↦ within
       ]
 
-  there-within : (answers : Answers) (P : Waiting → Type 0) (w : World R) (event : Event) → ((x : Waiting) → number_of event ≡ Some x.number → P x) → Within P w → Within P (done_there k answers w event).world
+  there-within : (answers : Answers) (P : Waiting → Type 0) (w : World R) (event : Event) → ((x : Waiting) → number_of w event ≡ Some x.number → P x) → Within P w → Within P (done_there k answers w event).world
   unfolding done_there
   there-within answers P w (Get s field) own within =
       within-same P w _ (elim (is_some (row_of (k.record_type (at k w s)) field)) as (λ b. (cond {A = Stepped R} b (record { world = w; reply = Shown (text_of k (at k w s) field); requests = None }) (refused w NoField)).world.waiting ≡ w.waiting) [
@@ -240,11 +243,11 @@ module _ {R : Type 0} (k : RecordRules R) (lawful : IsLawful k) where
         | false ↦ refl
       ]) within
   there-within answers P w (Link s field link) own within = within-same P w _ (linked-waiting answers w s field link) within
-  there-within answers P w (Notify s number field given) own within = notify-within answers P w s number field (value_to_put k (at k w s) field given) (λ x e. own x (ap Some (sym e))) within
+  there-within answers P w (Notify s number field given) own within = notify-within answers P w s number field (value_to_put k (at k w s) field given) own within
   there-within answers P w (Cancel number) own within = cancel-within P w number within
   there-within answers P w (IsLive number) own within = within
 
-  pub alone-within : (answers : Answers) (P : Waiting → Type 0) (w : World R) (event : Event) → ((x : Waiting) → number_of event ≡ Some x.number → P x)
+  pub alone-within : (answers : Answers) (P : Waiting → Type 0) (w : World R) (event : Event) → ((x : Waiting) → number_of w event ≡ Some x.number → P x)
       → ((x : Waiting) → Contains w.waiting x → P x) → (x : Waiting) → Contains (done_alone k answers w event).world.waiting x → P x
   unfolding done_alone Within
   alone-within answers P w event own within =

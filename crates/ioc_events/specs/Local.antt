@@ -1,6 +1,6 @@
 -- What an event does to the records of some numbers, whatever stands beside them, whichever notifications those have, and whatever waits for them.
 -- Application Developer's Guide, "Database Locking, Scanning, and Processing": records of other lock sets play no part.
-use Rattle.std.specs.Prelude.{◌≡◌, ◌≢◌, ℕ, Bool, true, false, Contains, Option, Some}
+use Rattle.std.specs.Prelude.{◌≡◌, ◌≢◌, ℕ, Bool, true, false, if◌then◌else◌, Contains, Option, Some}
 use Rattle.std.specs.Prelude.{None as Nothing_}
 use Rattle.std.specs.FinMap.{contains_key}
 use Rattle.ioc_record.specs.RecordRules.{RecordRules}
@@ -14,11 +14,11 @@ use Rattle.ioc_events.specs.Beside.{Shut, Same, Spares}
 use Rattle.ioc_events.specs.Starting.{is_ready}
 use Rattle.ioc_events.specs.Step.{Stepped, names, stepped}
 
--- the number of the put with notification that an event begins or gives up
-abbrev pub number_of : Event → Option ℕ
-number_of (Notify s number field given) = Some number
-number_of (Cancel number) = Some number
-number_of _ = Nothing_
+-- the number of the put with notification that an event gives up, or that it begins if there is a place for one more
+abbrev pub number_of : {R : Type 0} → World R → Event → Option ℕ
+number_of w (Notify s number field given) = if has_place w number then Some number else Nothing_
+number_of w (Cancel number) = Some number
+number_of w _ = Nothing_
 
 -- what an event asks of all puts with notification comes out the same in both: whether there is a place for one more, and whether one is live
 abbrev pub AskAlike : {R : Type 0} → World R → World R → Event → Type 0
@@ -43,7 +43,7 @@ module _ {R : Type 0} (k : RecordRules R) (mine : ℕ → Bool) where
   -- the notification that a cancel gives up are in U
   pub record IsWithin (w : World R) (event : Event) : Type 0 where
     pub named : (n : ℕ) → Contains (names event) n → mine n ≡ true
-    pub waiting : (x : Waiting) → Contains w.waiting x → mine x.target ≡ false → number_of event ≢ Some x.number
+    pub waiting : (x : Waiting) → Contains w.waiting x → mine x.target ≡ false → number_of w event ≢ Some x.number
     pub holders : (number n : ℕ) → event ≡ Cancel number → Has w n → (common_at k w n).notification ≡ Some number → mine n ≡ true
 
   -- The two lead to the same in U, by the same requests, with the same reply, and change nothing outside; U stays shut

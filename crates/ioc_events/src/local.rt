@@ -13,11 +13,11 @@ pub fn requests_are_local<K: RecordKind>()
     ensures { (mine : ℕ → Bool) (answers : Answers) → RequestIsLocal K.rules mine answers }
 {}
 
-/// The same of an event that names such records alone, with the starts of those that wait: its reply is the same too, and the
-/// waiting list of every other record is as it was. Which notifications are live or have ended may differ, and what waits for other
-/// records, where what the event asks of all notifications comes out the same, none that waits for another record may
-/// start, and none of these has the number of the event or of one that waits for one of these records. The records that have
-/// the notification of a cancel are among these.
+/// The same of an event that names such records alone, with the starts after it: its reply is the same too, and the waiting list of
+/// every other record is as it was. Which notifications are live or have ended, and what waits for other records, may differ, where
+/// what the event asks of all notifications comes out the same, none that waits for another record may start or has the
+/// number of one that waits for one of these records, and the event is done within these: none that waits for another has its number,
+/// and the records that have the notification of a cancel are among them.
 pub fn events_are_local<K: RecordKind>()
     ensures { (mine : ℕ → Bool) (answers : Answers) → EventIsLocal K.rules mine answers }
 {}
