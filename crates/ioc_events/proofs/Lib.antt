@@ -18,3 +18,4 @@ mod HeldStarts
 mod HeldSteps
 mod Ended
 mod ToldEvents
+mod Apart

@@ -1,7 +1,13 @@
 //! Requests and events depend on the records that links lead to, and change these alone.
-ghost use Rattle.std.specs.Prelude.{ℕ, Bool};
+ghost use Rattle.std.specs.Prelude.{◌≡◌, ◌≢◌, ℕ, Bool, true, Contains};
+ghost use Rattle.ioc_events.specs.declared.event.Event.{Event};
+ghost use Rattle.ioc_events.specs.declared.event.Event.TheVariants.{Cancel};
 ghost use Rattle.ioc_events.specs.Beside.{RequestIsLocal};
-ghost use Rattle.ioc_events.specs.Local.{EventIsLocal};
+ghost use Rattle.ioc_events.specs.Holding.{IsCounted};
+ghost use Rattle.ioc_events.specs.Local.{KeepsApart, IsWithin, EventIsLocal};
+ghost use Rattle.ioc_events.specs.Starting.{NoneReady};
+ghost use Rattle.ioc_events.specs.Step.{names};
+ghost use Rattle.ioc_store.specs.World.{World};
 ghost use Rattle.ioc_store.specs.Given.{Answers};
 
 use ioc_record::RecordKind;
@@ -20,4 +26,12 @@ pub fn requests_are_local<K: RecordKind>()
 /// and the records that have the notification of a cancel are among them.
 pub fn events_are_local<K: RecordKind>()
     ensures { (mine : ℕ → Bool) (answers : Answers) → EventIsLocal K.rules mine answers }
+{}
+
+/// Between events, where those that have a notification are counted and none that waits may start, what waits for other records
+/// keeps apart from what waits for some, whichever these are; and an event but a cancel is done within the records that it names.
+pub fn counted_waits_keep_apart<K: RecordKind>()
+    ensures apart { (mine : ℕ → Bool) (w : World K) → IsCounted K.rules w → NoneReady K.rules w → KeepsApart K.rules mine w }
+    ensures within { (mine : ℕ → Bool) (w : World K) (event : Event) → IsCounted K.rules w →
+        ((n : ℕ) → Contains (names event) n → mine n ≡ true) → ((number : ℕ) → event ≢ Cancel number) → IsWithin K.rules mine w event }
 {}
