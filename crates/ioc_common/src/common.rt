@@ -88,7 +88,7 @@ impl Common {
         }
         let before = self.lock_count;
         self.lock_count = before.saturating_add(1);
-        if before < 11 {
+        if before < 10 {
             return;
         }
         if let Severity::Invalid = self.condition.alarms.severity {
