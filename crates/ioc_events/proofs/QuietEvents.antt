@@ -296,15 +296,15 @@ module _ {R : Type 0} (k : RecordRules R) (lawful : IsLawful k) where
 
   pub unqueued-keeps : (number : ℕ) (w : World R) → Keeps k w (unqueued number w)
   unfolding at unqueued
-  unqueued-keeps number w = record { has = λ _ h. h; only = λ _ h. h; count = refl; links = λ n. record { fields = refl; links = refl } }
+  unqueued-keeps number w = record { has = λ _ h. h; only = λ _ h. h; count = refl; links = λ n. record { record_type = refl; fields = refl; links = refl } }
 
   pub admitted-keeps : (number : ℕ) (w : World R) → Keeps k w (admitted number w)
   unfolding at admitted
-  admitted-keeps number w = record { has = λ _ h. h; only = λ _ h. h; count = refl; links = λ n. record { fields = refl; links = refl } }
+  admitted-keeps number w = record { has = λ _ h. h; only = λ _ h. h; count = refl; links = λ n. record { record_type = refl; fields = refl; links = refl } }
 
   pub queued-keeps : (x : Waiting) (w : World R) → Keeps k w (queued x w)
   unfolding at queued
-  queued-keeps x w = record { has = λ _ h. h; only = λ _ h. h; count = refl; links = λ n. record { fields = refl; links = refl } }
+  queued-keeps x w = record { has = λ _ h. h; only = λ _ h. h; count = refl; links = λ n. record { record_type = refl; fields = refl; links = refl } }
 
   starts_all-keeps : (answers : Answers) {w w' : World R} {requests : Requests} → StartsAll k answers w w' requests → IsClosed k w → Keeps k w w'
   starts_all-keeps answers (no_more {w} _) closed = keeps_all k w

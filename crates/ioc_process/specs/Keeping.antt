@@ -36,10 +36,10 @@ use Rattle.ioc_store.specs.NotifyLaws.{passed-either, notified-either}
 
 -- the same record has the same links, and so has one after another
 pub same_links : {R : Type 0} (k : RecordRules R) (r : R) → SameLinks k r r
-same_links k r = record { fields = refl; links = refl }
+same_links k r = record { record_type = refl; fields = refl; links = refl }
 
 pub links_on : {R : Type 0} (k : RecordRules R) {r s t : R} → SameLinks k r s → SameLinks k s t → SameLinks k r t
-links_on k one two = record { fields = two.fields ∙ one.fields; links = two.links ∙ one.links }
+links_on k one two = record { record_type = two.record_type ∙ one.record_type; fields = two.fields ∙ one.fields; links = two.links ∙ one.links }
 
 module _ {R : Type 0} (k : RecordRules R) where
   pub keeps_all : (w : World R) → Keeps k w w
@@ -103,27 +103,27 @@ module _ {R : Type 0} (k : RecordRules R) (lawful : IsLawful k) where
 
   called-keeps : (call : Call) (w : World R) → Keeps k w (called call w)
   unfolding at called
-  called-keeps call w = record { has = λ _ h. h; only = λ _ h. h; count = refl; links = λ n. record { fields = refl; links = refl } }
+  called-keeps call w = record { has = λ _ h. h; only = λ _ h. h; count = refl; links = λ n. record { record_type = refl; fields = refl; links = refl } }
 
   pub sent-keeps : (item : OutboxItem) (w : World R) → Keeps k w (sent item w)
   unfolding at sent
   sent-keeps item w =
       elim (nat_lt (length w.outbox) 256) as (λ b. Keeps k w (cond b (record w { outbox = w.outbox ++ item ∷ [] }) (record w { dropped = more w.dropped }))) [
-        | true ↦ record { has = λ _ h. h; only = λ _ h. h; count = refl; links = λ n. record { fields = refl; links = refl } }
-        | false ↦ record { has = λ _ h. h; only = λ _ h. h; count = refl; links = λ n. record { fields = refl; links = refl } }
+        | true ↦ record { has = λ _ h. h; only = λ _ h. h; count = refl; links = λ n. record { record_type = refl; fields = refl; links = refl } }
+        | false ↦ record { has = λ _ h. h; only = λ _ h. h; count = refl; links = λ n. record { record_type = refl; fields = refl; links = refl } }
       ]
 
   pub lost-keeps : (w : World R) → Keeps k w (lost w)
   unfolding at lost
-  lost-keeps w = record { has = λ _ h. h; only = λ _ h. h; count = refl; links = λ n. record { fields = refl; links = refl } }
+  lost-keeps w = record { has = λ _ h. h; only = λ _ h. h; count = refl; links = λ n. record { record_type = refl; fields = refl; links = refl } }
 
   taken_on-keeps : (number : ℕ) (w : World R) → Keeps k w (taken_on number w)
   unfolding at taken_on
-  taken_on-keeps number w = record { has = λ _ h. h; only = λ _ h. h; count = refl; links = λ n. record { fields = refl; links = refl } }
+  taken_on-keeps number w = record { has = λ _ h. h; only = λ _ h. h; count = refl; links = λ n. record { record_type = refl; fields = refl; links = refl } }
 
   let_go-keeps : (number : ℕ) (w : World R) → Keeps k w (let_go number w)
   unfolding at let_go
-  let_go-keeps number w = record { has = λ _ h. h; only = λ _ h. h; count = refl; links = λ n. record { fields = refl; links = refl } }
+  let_go-keeps number w = record { has = λ _ h. h; only = λ _ h. h; count = refl; links = λ n. record { record_type = refl; fields = refl; links = refl } }
 
   pub passed_on-keeps : (w : World R) (s t : ℕ) → Has w t → Keeps k w (passed_on k w s t)
   passed_on-keeps w s t there = passed-either k (Keeps k w) w s t (keeps_all k w) (λ n. keeps_on k (keeps-changed w t there (with_notification (Some n)) (λ c. (refl, refl))) (taken_on-keeps n _))

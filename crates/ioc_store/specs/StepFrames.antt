@@ -61,16 +61,16 @@ module _ {R : Type 0} (k : RecordRules R) (lawful : IsLawful k) where
   targets_same {r} {r'} same = ap (λ (l : FieldNo → Option LinkField). named_by_all l (k.link_fields r')) same.links ∙ ap (named_by_all (k.link r)) same.fields
 
   pub links-set : (r : R) (c : Common) → OwnLinks (k.common r) c → SameLinks k r (k.with_common r c)
-  links-set r c same = record { fields = lawful.link_fields_set r c; links = lawful.links_set r c same.0 same.1 }
+  links-set r c same = record { record_type = lawful.type_set r c; fields = lawful.link_fields_set r c; links = lawful.links_set r c same.0 same.1 }
 
   pub links-taken : (r : R) (got : Got) → SameLinks k r (k.taken r got)
-  links-taken r got = record { fields = lawful.taken_link_fields r got; links = lawful.taken_links r got }
+  links-taken r got = record { record_type = lawful.taken_type r got; fields = lawful.taken_link_fields r got; links = lawful.taken_links r got }
 
   pub links-finished : (r : R) (x : Finished) → SameLinks k r (k.finished r x)
-  links-finished r x = record { fields = lawful.finished_link_fields r x; links = lawful.finished_links r x }
+  links-finished r x = record { record_type = lawful.finished_type r x; fields = lawful.finished_link_fields r x; links = lawful.finished_links r x }
 
   pub links-stored : (r : R) (f : FieldNo) (v : Value) → SameLinks k r (k.stored r f v)
-  links-stored r f v = record { fields = lawful.stored_link_fields r f v; links = lawful.stored_links r f v }
+  links-stored r f v = record { record_type = lawful.stored_type r f v; fields = lawful.stored_link_fields r f v; links = lawful.stored_links r f v }
 
   pub targets-set : (r : R) (c : Common) → OwnLinks (k.common r) c → targets k (k.with_common r c) ≡ targets k r
   targets-set r c same = targets_same (links-set r c same)

@@ -128,12 +128,14 @@ module _ {R : Type 0} (k : RecordRules R) where
   pub record IsClosed (w : World R) : Type 0 where
     pub closed : (n target : ℕ) → Contains (targets k (at w n)) target → Has w target
 
--- a record has the link fields that it had, and in each the same link, which leads to the same field of the same record
+-- a record is of the type that it was and has the link fields that it had, and in each the same link, which leads to the same field of the
+-- same record
 pub record SameLinks {R : Type 0} (k : RecordRules R) (before after : R) : Type 0 where
+  pub record_type : k.record_type after ≡ k.record_type before
   pub fields : k.link_fields after ≡ k.link_fields before
   pub links : k.link after ≡ k.link before
 
--- no record comes or goes, and each has the links that it had
+-- no record comes or goes, and each is of the type that it was, with the links that it had
 pub record Keeps {R : Type 0} (k : RecordRules R) (before after : World R) : Type 0 where
   pub has : (n : ℕ) → Has before n → Has after n
   pub only : (n : ℕ) → Has after n → Has before n
