@@ -1,0 +1,6 @@
+mod Basics
+mod Lists
+mod Lasting
+mod Doing
+mod Sharing
+mod Replaying
