@@ -1,5 +1,5 @@
 -- An event of held records is the same event of all.
-use Rattle.std.proofs.Common.{◌≡◌, ◌≢◌, ℕ, Bool, true, false, List, [], ◌∷◌, ◌++◌, Option, Some, None as Nothing_, length, refl, sym, ap, subst, ◌∙◌, arith}
+use Rattle.std.proofs.Common.{◌≡◌, ◌≢◌, ℕ, Bool, true, false, List, [], ◌∷◌, Option, Some, refl, sym, ap, subst, ◌∙◌, arith}
 use Rattle.std.specs.Prelude.{is_some, unwrap_or, Contains}
 use Rattle.std.specs.FinMap.{get, contains_key}
 use Rattle.ioc_ledger.specs.Requests.{Requests}
@@ -7,19 +7,19 @@ use Rattle.ioc_notify.specs.declared.waiting_lists.Waiting.{Waiting}
 use Rattle.ioc_notify.specs.Waits.{at_record}
 use Rattle.ioc_record.specs.RecordRules.{RecordRules, targets}
 use Rattle.ioc_record.specs.Laws.{IsLawful}
-use Rattle.ioc_store.specs.World.{World, Has, IsClosed, at, common_at, begun, begun_at}
+use Rattle.ioc_store.specs.World.{World, Has, IsClosed, at, begun, begun_at}
 use Rattle.ioc_store.specs.Given.{Answers, listed, answers_of}
 use Rattle.ioc_events.specs.declared.event.Event.{Event}
 use Rattle.ioc_events.specs.declared.event.Event.TheVariants.{Get, Process, Put, Complete, Link, Notify, Cancel, IsLive}
 use Rattle.ioc_events.specs.declared.reply.Reply.{Reply}
 use Rattle.ioc_events.specs.Beside.{Shut}
-use Rattle.ioc_events.specs.Holding.{IsCounted, HoldersCounted, holders}
-use Rattle.ioc_events.specs.Local.{AskAlike, Alike, KeepsApart, IsWithin, AgreeEvent, EventIsLocal}
+use Rattle.ioc_events.specs.Holding.{IsCounted, holders}
+use Rattle.ioc_events.specs.Local.{Alike, KeepsApart, IsWithin, AgreeEvent, EventIsLocal}
 use Rattle.ioc_events.specs.Starting.{NoneReady, is_ready}
-use Rattle.ioc_events.specs.Step.{Stepped, stepped, names}
+use Rattle.ioc_events.specs.Step.{stepped, names}
 use Rattle.ioc_events.specs.StepRules.{Step, KeepsRecords}
 use Rattle.ioc_line.specs.declared.entry.Note.{Note}
-use Rattle.ioc_holding.specs.Legal.{entry_of, done, map_of, IsUntouched, Fits, IsLegal, IsSound}
+use Rattle.ioc_holding.specs.Legal.{entry_of, done, map_of, Fits, IsSound}
 use Rattle.ioc_holding.specs.Held.{Holds, IsDone, IsOf, CancelsWithin}
 use Rattle.ioc_holding.specs.Laws.{OneMore}
 use Rattle.ioc_holding.proofs.Basics.{not_both, not_true, same_option, waits-too, missing-names}

@@ -1,16 +1,15 @@
 -- A legal list replays by the rules of events, and parted and joined records are held.
-use Rattle.std.proofs.Common.{◌≡◌, ℕ, List, [], ◌∷◌, ◌++◌, sym, subst}
+use Rattle.std.proofs.Common.{List, [], ◌∷◌, ◌++◌, sym, subst}
 use Rattle.ioc_record.specs.RecordRules.{RecordRules}
 use Rattle.ioc_record.specs.Laws.{IsLawful}
 use Rattle.ioc_store.specs.World.{World, begun_at}
 use Rattle.ioc_store.specs.Given.{Answers, listed}
 use Rattle.ioc_events.specs.declared.event.Event.{Event}
 use Rattle.ioc_events.specs.declared.reply.Reply.{Reply}
-use Rattle.ioc_events.specs.Step.{Stepped, stepped}
+use Rattle.ioc_events.specs.Step.{stepped}
 use Rattle.ioc_events.specs.StepRules.{Step, Replay, at_the_end, and_then}
 use Rattle.ioc_line.specs.declared.entry.Note.{Note}
 use Rattle.ioc_holding.specs.Legal.{entry_of, entries_of, done, map_of, Fits, IsLegal}
-use Rattle.ioc_holding.specs.Held.{Holds}
 use Rattle.ioc_holding.specs.Laws.{Parts, Joins, Replays}
 use Rattle.ioc_holding.proofs.Doing.{EventLaws, one-more}
 use Rattle.ioc_holding.proofs.Sharing.{falls, gathers}

@@ -1,5 +1,5 @@
 -- Held records that fall apart, and held records together.
-use Rattle.std.proofs.Common.{◌≡◌, ◌⊎◌, ℕ, Bool, true, false, List, Option, Some, None, refl, sym, ap, subst, ◌∙◌, inl, inr, ⊎_elim}
+use Rattle.std.proofs.Common.{◌≡◌, ◌⊎◌, ℕ, true, false, Option, Some, None, refl, sym, ap, subst, ◌∙◌, inl, inr, ⊎_elim}
 use Rattle.std.specs.Prelude.{is_some, unwrap_or, Contains}
 use Rattle.std.specs.FinMap.{get, contains_key, same_map, nat_cmp-IsAntisymmetric}
 use Rattle.std.specs.Cmp.{nat_cmp_total}
@@ -7,10 +7,9 @@ use Rattle.ioc_notify.specs.Waits.{at_record}
 use Rattle.ioc_record.specs.RecordRules.{RecordRules, targets}
 use Rattle.ioc_record.specs.Laws.{IsLawful}
 use Rattle.ioc_store.specs.World.{World, Has, IsClosed, at}
-use Rattle.ioc_members.specs.Joined.{AreShared}
-use Rattle.ioc_holding.specs.Held.{Holds, IsPartOf, AreHalves, WaitsWithin}
+use Rattle.ioc_holding.specs.Held.{Holds, AreHalves}
 use Rattle.ioc_holding.specs.Laws.{Falls, Opens, Gathers, HoldsAll}
-use Rattle.ioc_holding.proofs.Basics.{not_both, not_true, missing-names}
+use Rattle.ioc_holding.proofs.Basics.{not_both, missing-names}
 
 none-there : {X : Type 0} (o : Option X) → o ≡ None → is_some o ≡ true → ⊥
 none-there o none there = not_both there (ap (λ (p : Option _). is_some p) none)
@@ -61,18 +60,19 @@ module _ {R : Type 0} (k : RecordRules R) (all one other : World R) (halves : Ar
     shut = closed;
     apart = λ a q out there named. elim (contains_key all.records a) as (λ b. contains_key all.records a ≡ b → ⊥) [
       | true ↦ λ has.
-      let in_other = from-other a has out in
-      let same : at k m a ≡ at k other a = ap (λ (o : Option R). unwrap_or o k.missing) (records a has ∙ in_other.0) in
-      none-there (get other.records q) (from-one q there).1 (other_closed.closed a q (subst (λ (x : R). Contains (targets k x) q) same named))
+          let in_other = from-other a has out in
+          let same : at k m a ≡ at k other a = ap (λ (o : Option R). unwrap_or o k.missing) (records a has ∙ in_other.0) in
+          none-there (get other.records q) (from-one q there).1 (other_closed.closed a q (subst (λ (x : R). Contains (targets k x) q) same named))
       | false ↦ λ isnt. apart a q (λ has. not_both has isnt) (one-in q there) named
     ] refl;
   }
 
 module _ {R : Type 0} (k : RecordRules R) where
   pub falls : Falls k
-  falls m all one other holds halves closed other_closed =
-      (falls-as k all one other halves m holds.records holds.waiting holds.apart closed other_closed,
-      falls-as k all other one (turned all one other halves) m holds.records holds.waiting holds.apart other_closed closed)
+  falls m all one other holds halves closed other_closed = (
+    falls-as k all one other halves m holds.records holds.waiting holds.apart closed other_closed,
+    falls-as k all other one (turned all one other halves) m holds.records holds.waiting holds.apart other_closed closed,
+  )
 
   module _ (lawful : IsLawful k) where
     -- no link leaves what two have that no link leaves
@@ -86,9 +86,9 @@ module _ {R : Type 0} (k : RecordRules R) where
     both-shut all one other halves closed other_closed = record {
       closed = λ a q named. elim (contains_key all.records a) as (λ b. contains_key all.records a ≡ b → Has all q) [
         | true ↦ λ has. ⊎_elim
-        (λ there. half-shut all one other halves closed a q there named)
-        (λ there. half-shut all other one (turned all one other halves) other_closed a q there named)
-        (either k all one other halves a has)
+            (λ there. half-shut all one other halves closed a q there named)
+            (λ there. half-shut all other one (turned all one other halves) other_closed a q there named)
+            (either k all one other halves a has)
         | false ↦ λ isnt. absurd (missing-names k lawful all a q isnt named)
       ] refl;
     }
@@ -124,8 +124,10 @@ module _ {R : Type 0} (k : RecordRules R) where
     }
 
   pub holds-all : HoldsAll k
-  holds-all m v holds every = same_map nat_cmp_total nat_cmp-IsAntisymmetric v.records m.records (λ q.
-  elim (contains_key v.records q) as (λ b. contains_key v.records q ≡ b → get v.records q ≡ get m.records q) [
-    | true ↦ λ there. sym (holds.records q there)
-    | false ↦ λ isnt. is-none (get v.records q) (λ there. not_both there isnt) ∙ sym (is-none (get m.records q) (λ there. not_both (every q there) isnt))
-  ] refl)
+  holds-all m v holds every = same_map nat_cmp_total nat_cmp-IsAntisymmetric v.records m.records same
+    where
+      same : (q : ℕ) → get v.records q ≡ get m.records q
+      same q = elim (contains_key v.records q) as (λ b. contains_key v.records q ≡ b → get v.records q ≡ get m.records q) [
+        | true ↦ λ there. sym (holds.records q there)
+        | false ↦ λ isnt. is-none (get v.records q) (λ there. not_both there isnt) ∙ sym (is-none (get m.records q) (λ there. not_both (every q there) isnt))
+      ] refl

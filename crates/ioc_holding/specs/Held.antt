@@ -1,6 +1,6 @@
 -- What the holder of some records knows of the world of all.
 -- Application Developer's Guide, "Database Locking, Scanning, and Processing": a lock set has every record that its links lead to.
-use Rattle.std.specs.Prelude.{◌≡◌, ◌≢◌, ℕ, List, [], Contains, Some}
+use Rattle.std.specs.Prelude.{◌≡◌, ℕ, List, Contains, Some}
 use Rattle.std.specs.FinMap.{get}
 use Rattle.ioc_notify.specs.Waits.{at_record}
 use Rattle.ioc_notify.specs.declared.waiting_lists.Waiting.{Waiting}
