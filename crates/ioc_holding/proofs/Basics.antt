@@ -27,7 +27,7 @@ same_option d (Some x) (Some y) s e = ap Some e
 
 -- ---- lists that are filtered
 
-one-there : {X : Type 0} (x y : X) → Contains (x ∷ []) y → x ≡ y
+pub one-there : {X : Type 0} (x y : X) → Contains (x ∷ []) y → x ≡ y
 one-there x y (zero, lt, is) = is
 one-there x y (suc i, lt, is) = absurd (omega arith)
 

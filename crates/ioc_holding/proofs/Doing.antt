@@ -21,7 +21,7 @@ use Rattle.ioc_events.specs.StepRules.{Step, KeepsRecords}
 use Rattle.ioc_line.specs.declared.entry.Note.{Note}
 use Rattle.ioc_holding.specs.Legal.{entry_of, done, map_of, Fits, IsSound}
 use Rattle.ioc_holding.specs.Held.{Holds, IsDone, IsOf, CancelsWithin}
-use Rattle.ioc_holding.specs.Laws.{OneMore}
+use Rattle.ioc_holding.specs.Laws.{OneMore, StaysSound}
 use Rattle.ioc_holding.proofs.Basics.{not_both, not_true, same_option, waits-too, missing-names}
 use Rattle.ioc_holding.proofs.Lists.{goes-on}
 
@@ -246,3 +246,13 @@ module _ {R : Type 0} (k : RecordRules R) (lawful : IsLawful k) (laws : EventLaw
       let known = sound-on k laws log base sound in
       goes-on k base log n (λ (m : World R). Holds k m w) legal (event-fits k lawful laws m v n known holds of w is)
       (subst (λ (x : World R). Holds k (done k m n).world x) is.world (done-held k lawful laws m v n known holds of))
+
+  kept-on : (notes : List Note) (m : World R) → IsSound k m → KeepsRecords m (map_of k m notes)
+  kept-on [] m sound = record { has = λ n h. h; only = λ n h. h; count = refl }
+  kept-on (n ∷ notes) m sound =
+      let first = done-kept k laws m n sound.counted.closed in
+      let rest = kept-on notes (done k m n).world (done-sound k laws m n sound) in
+      record { has = λ r h. rest.has r (first.has r h); only = λ r h. first.only r (rest.only r h); count = rest.count ∙ first.count }
+
+  pub stays-sound : StaysSound k
+  stays-sound base log sound = (sound-on k laws log base sound, kept-on log base sound)

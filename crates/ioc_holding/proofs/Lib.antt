@@ -4,3 +4,6 @@ mod Lasting
 mod Doing
 mod Sharing
 mod Replaying
+mod Rewiring
+mod Linking
+mod Rescanning

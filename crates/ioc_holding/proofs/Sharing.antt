@@ -31,10 +31,10 @@ turned all one other halves = record {
 
 module _ {R : Type 0} (k : RecordRules R) (all one other : World R) (halves : AreHalves all one other) where
   -- a record of the one is in all, as it is there, and not in the other
-  from-one : (q : ℕ) → Has one q → (get all.records q ≡ get one.records q) × (get other.records q ≡ None)
+  pub from-one : (q : ℕ) → Has one q → (get all.records q ≡ get one.records q) × (get other.records q ≡ None)
   from-one q there = ⊎_elim (λ p. (sym p.0, p.1)) (λ p. absurd (none-there (get one.records q) p.0 there)) (halves.records q)
 
-  one-in : (q : ℕ) → Has one q → Has all q
+  pub one-in : (q : ℕ) → Has one q → Has all q
   one-in q there = there-as (get one.records q) (get all.records q) (sym (from-one q there).0) there
 
   from-other : (q : ℕ) → Has all q → (Has one q → ⊥) → (get all.records q ≡ get other.records q) × Has other q
@@ -43,7 +43,7 @@ module _ {R : Type 0} (k : RecordRules R) (all one other : World R) (halves : Ar
       (λ p. (sym p.1, there-as (get all.records q) (get other.records q) (sym p.1) there))
       (halves.records q)
 
-  either : (q : ℕ) → Has all q → Has one q ⊎ Has other q
+  pub either : (q : ℕ) → Has all q → Has one q ⊎ Has other q
   either q there = ⊎_elim
       (λ p. inl (there-as (get all.records q) (get one.records q) (sym p.0) there))
       (λ p. inr (there-as (get all.records q) (get other.records q) (sym p.1) there))
