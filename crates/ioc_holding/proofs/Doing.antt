@@ -1,0 +1,258 @@
+-- An event of held records is the same event of all.
+use Rattle.std.proofs.Common.{◌≡◌, ◌≢◌, ℕ, Bool, true, false, List, [], ◌∷◌, Option, Some, refl, sym, ap, subst, ◌∙◌, arith}
+use Rattle.std.specs.Prelude.{is_some, unwrap_or, Contains}
+use Rattle.std.specs.FinMap.{get, contains_key}
+use Rattle.ioc_ledger.specs.Requests.{Requests}
+use Rattle.ioc_notify.specs.declared.waiting_lists.Waiting.{Waiting}
+use Rattle.ioc_notify.specs.Waits.{at_record}
+use Rattle.ioc_record.specs.RecordRules.{RecordRules, targets}
+use Rattle.ioc_record.specs.Laws.{IsLawful}
+use Rattle.ioc_store.specs.World.{World, Has, IsClosed, at, begun, begun_at}
+use Rattle.ioc_store.specs.Given.{Answers, listed, answers_of}
+use Rattle.ioc_events.specs.declared.event.Event.{Event}
+use Rattle.ioc_events.specs.declared.event.Event.TheVariants.{Get, Process, Put, Complete, Link, Notify, Cancel, IsLive}
+use Rattle.ioc_events.specs.declared.reply.Reply.{Reply}
+use Rattle.ioc_events.specs.Beside.{Shut}
+use Rattle.ioc_events.specs.Holding.{IsCounted, holders}
+use Rattle.ioc_events.specs.Local.{Alike, KeepsApart, IsWithin, AgreeEvent, EventIsLocal}
+use Rattle.ioc_events.specs.Starting.{NoneReady, is_ready}
+use Rattle.ioc_events.specs.Step.{stepped, names}
+use Rattle.ioc_events.specs.StepRules.{Step, KeepsRecords}
+use Rattle.ioc_line.specs.declared.entry.Note.{Note}
+use Rattle.ioc_holding.specs.Legal.{entry_of, done, map_of, Fits, IsSound}
+use Rattle.ioc_holding.specs.Held.{Holds, IsDone, IsOf, CancelsWithin}
+use Rattle.ioc_holding.specs.Laws.{OneMore, StaysSound}
+use Rattle.ioc_holding.proofs.Basics.{not_both, not_true, same_option, waits-too, missing-names}
+use Rattle.ioc_holding.proofs.Lists.{goes-on}
+
+-- the laws of events
+pub record EventLaws {R : Type 0} (k : RecordRules R) : Type 0 where
+  pub allowed : (answers : Answers) (w : World R) (event : Event) → Step k answers w event (stepped k answers w event).world (stepped k answers w event).reply (stepped k answers w event).requests
+  pub kept : (answers : Answers) (w after : World R) (event : Event) (reply : Reply) (requests : Requests) → Step k answers w event after reply requests → IsClosed k w → KeepsRecords w after
+  pub counted : (answers : Answers) (w after : World R) (event : Event) (reply : Reply) (requests : Requests) → Step k answers w event after reply requests → IsCounted k w → IsCounted k after
+  pub none_ready : (answers : Answers) (w after : World R) (event : Event) (reply : Reply) (requests : Requests) → Step k answers w event after reply requests → NoneReady k w → NoneReady k after
+  pub local : (mine : ℕ → Bool) (answers : Answers) → EventIsLocal k mine answers
+  pub apart : (mine : ℕ → Bool) (w : World R) → IsCounted k w → NoneReady k w → KeepsApart k mine w
+  pub within : (mine : ℕ → Bool) (w : World R) (event : Event) → IsCounted k w → ((n : ℕ) → Contains (names event) n → mine n ≡ true) → ((number : ℕ) → event ≢ Cancel number) → IsWithin k mine w event
+
+module _ {R : Type 0} (k : RecordRules R) where
+  -- ---- as an event begins
+
+  begun-counted : (moment : ℕ) (m : World R) → IsCounted k m → IsCounted k (begun_at moment m)
+  unfolding at begun begun_at holders
+  begun-counted moment m counted = record {
+    closed = record { closed = counted.closed.closed };
+    few = counted.few;
+    counted = record { counted = counted.counted.counted; live = counted.counted.live; waits_once = counted.counted.waits_once };
+  }
+
+  begun-none : (moment : ℕ) (m : World R) → NoneReady k m → NoneReady k (begun_at moment m)
+  unfolding at begun begun_at is_ready
+  begun-none moment m none = record { none = none.none }
+
+  begun-closed : (moment : ℕ) (v : World R) → IsClosed k v → IsClosed k (begun_at moment v)
+  unfolding at begun begun_at
+  begun-closed moment v closed = record { closed = closed.closed }
+
+  -- ---- a sound world stays sound
+
+  module _ (laws : EventLaws k) where
+    pub done-sound : (m : World R) (n : Note) → IsSound k m → IsSound k (done k m n).world
+    unfolding done
+    done-sound m n sound =
+        let answers = listed (entry_of n).answers in
+        let w = begun_at (entry_of n).moment m in
+        let event = (entry_of n).event in
+        let d = stepped k answers w event in
+        let step = laws.allowed answers w event in
+        record {
+          counted = laws.counted answers w d.world event d.reply d.requests step (begun-counted (entry_of n).moment m sound.counted);
+          none_ready = laws.none_ready answers w d.world event d.reply d.requests step (begun-none (entry_of n).moment m sound.none_ready);
+        }
+
+    pub sound-on : (notes : List Note) (m : World R) → IsSound k m → IsSound k (map_of k m notes)
+    sound-on [] m sound = sound
+    sound-on (n ∷ notes) m sound = sound-on notes (done k m n).world (done-sound m n sound)
+
+    done-kept : (v : World R) (n : Note) → IsClosed k v → KeepsRecords v (done k v n).world
+    unfolding begun begun_at done
+    done-kept v n closed =
+        let answers = listed (entry_of n).answers in
+        let w = begun_at (entry_of n).moment v in
+        let event = (entry_of n).event in
+        let d = stepped k answers w event in
+        let kept = laws.kept answers w d.world event d.reply d.requests (laws.allowed answers w event) (begun-closed (entry_of n).moment v closed) in
+        record { has = kept.has; only = kept.only; count = kept.count }
+
+  -- ---- a set among all records
+
+  module _ (lawful : IsLawful k) (laws : EventLaws k) (m v : World R) (n : Note) (sound : IsSound k m) (holds : Holds k m v) (of : IsOf k m v n) where
+    abbrev mine : ℕ → Bool
+    mine = λ r. contains_key v.records r
+
+    abbrev first : World R
+    first = begun_at (entry_of n).moment v
+
+    abbrev second : World R
+    second = begun_at (entry_of n).moment m
+
+    shut : Shut k mine first
+    unfolding at begun begun_at
+    shut = record { shut = λ r target u c. holds.shut.closed r target c }
+
+    alike : Alike k mine first second
+    unfolding at begun begun_at
+    alike = record {
+      same = record {
+        moment = refl;
+        calls = refl;
+        outbox = refl;
+        dropped = refl;
+        waiting = λ r u. sym (holds.waiting r u);
+        records = λ r u. ap (λ (o : Option R). unwrap_or o k.missing) (sym (holds.records r u));
+      };
+      there = λ r u. ap (λ (o : Option R). is_some o) (sym (holds.records r u));
+    }
+
+    own-apart : KeepsApart k mine first
+    unfolding begun begun_at
+    own-apart = record {
+      none_ready = λ x waits out. absurd (not_both (holds.within x waits) out);
+      numbers = λ x y waits other_waits may out. absurd (not_both (holds.within y other_waits) out);
+    }
+
+    own-within : IsWithin k mine first (entry_of n).event
+    unfolding at begun begun_at
+    own-within = record {
+      named = of.named;
+      waiting = λ x waits out. absurd (not_both (holds.within x waits) out);
+      holders = λ number r is there has. there;
+    }
+
+    cancel-within : (number : ℕ) → CancelsWithin k m v (Cancel number) → IsWithin k mine second (Cancel number)
+    unfolding at begun begun_at
+    cancel-within number within = record {
+      named = λ r c. absurd (omega (arith, c.1));
+      waiting = λ x waits out is. not_both (within.1 x waits (same_number is)) out;
+      holders = λ other r is there has. within.0 r there (has ∙ ap Some (sym (same_cancel is)));
+    }
+      where
+        same_number : {a b : ℕ} → Some a ≡ Some b → b ≡ a
+        same_number is = cc
+
+        same_cancel : {a b : ℕ} → Cancel a ≡ Cancel b → a ≡ b
+        same_cancel is = cc
+
+    all-within : (event : Event) → ((r : ℕ) → Contains (names event) r → Has v r) → CancelsWithin k m v event → IsWithin k mine second event
+    all-within (Cancel number) named cancels = cancel-within number cancels
+    all-within (Get s field) named cancels = laws.within mine second (Get s field) (begun-counted (entry_of n).moment m sound.counted) named (λ number is. cc)
+    all-within (Process s) named cancels = laws.within mine second (Process s) (begun-counted (entry_of n).moment m sound.counted) named (λ number is. cc)
+    all-within (Put s field given) named cancels = laws.within mine second (Put s field given) (begun-counted (entry_of n).moment m sound.counted) named (λ number is. cc)
+    all-within (Complete s number x) named cancels = laws.within mine second (Complete s number x) (begun-counted (entry_of n).moment m sound.counted) named (λ number is. cc)
+    all-within (Link s field link) named cancels = laws.within mine second (Link s field link) (begun-counted (entry_of n).moment m sound.counted) named (λ number is. cc)
+    all-within (Notify s number field given) named cancels = laws.within mine second (Notify s number field given) (begun-counted (entry_of n).moment m sound.counted) named (λ number is. cc)
+    all-within (IsLive number) named cancels = laws.within mine second (IsLive number) (begun-counted (entry_of n).moment m sound.counted) named (λ number is. cc)
+
+    agree : AgreeEvent k mine first second (done k v n) (done k m n)
+    unfolding done
+    agree =
+        laws.local mine (listed (entry_of n).answers) first second (entry_of n).event shut alike own-apart
+        (laws.apart mine second (begun-counted (entry_of n).moment m sound.counted) (begun-none (entry_of n).moment m sound.none_ready))
+        own-within (all-within (entry_of n).event of.named of.cancels) of.asks
+
+    outside : (r : ℕ) → (Has v r → ⊥) → contains_key v.records r ≡ false
+    outside r out = not_true (contains_key v.records r) out
+
+    -- a record outside v is as it was, and so is its waiting list
+    same-outside : (r : ℕ) → (Has v r → ⊥) → get (done k m n).world.records r ≡ get m.records r
+    unfolding at begun begun_at
+    same-outside r out =
+        same_option k.missing (get (done k m n).world.records r) (get m.records r)
+        (agree.other_spares.there r (outside r out)) (agree.other_spares.spared r (outside r out))
+
+    at-outside : (r : ℕ) → (Has v r → ⊥) → at k (done k m n).world r ≡ at k m r
+    unfolding at
+    at-outside r out = ap (λ (o : Option R). unwrap_or o k.missing) (same-outside r out)
+
+    waiting-outside : (r : ℕ) → (Has v r → ⊥) → at_record r (done k m n).world.waiting ≡ at_record r m.waiting
+    unfolding begun begun_at
+    waiting-outside r out = agree.other_spares.waiting r (outside r out)
+
+    own-waiting-outside : (r : ℕ) → (Has v r → ⊥) → at_record r (done k v n).world.waiting ≡ at_record r v.waiting
+    unfolding begun begun_at
+    own-waiting-outside r out = agree.spares.waiting r (outside r out)
+
+    -- a record of v is in the one as in the other, and names records of v
+    same-inside : (r : ℕ) → Has v r → get (done k m n).world.records r ≡ get (done k v n).world.records r
+    unfolding at
+    same-inside r there =
+        same_option k.missing (get (done k m n).world.records r) (get (done k v n).world.records r)
+        (sym (agree.alike.there r there)) (sym (agree.alike.same.records r there))
+
+    targets-inside : (a r : ℕ) → Has v a → Contains (targets k (at k (done k m n).world a)) r → Has v r
+    targets-inside a r there named = agree.shut.shut a r there (subst (λ (x : R). Contains (targets k x) r) (sym (agree.alike.same.records a there)) named)
+
+    -- no link comes to name a record outside v
+    named-outside : (r : ℕ) → (Has v r → ⊥) → (a : ℕ) → Contains (targets k (at k (done k m n).world a)) r → Contains (targets k (at k m a)) r
+    named-outside r out a named =
+        elim (contains_key v.records a) as (λ b. contains_key v.records a ≡ b → Contains (targets k (at k m a)) r) [
+          | true ↦ λ there. absurd (out (targets-inside a r there named))
+          | false ↦ λ isnt. subst (λ (x : R). Contains (targets k x) r) (at-outside a (λ there. not_both there isnt)) named
+        ] refl
+
+    kept : KeepsRecords v (done k v n).world
+    kept = done-kept laws v n holds.shut
+
+    pub event-fits : (w : World R) → IsDone k v n w → Fits k m n
+    event-fits w is = record {
+      reply = sym is.reply ∙ agree.reply;
+      used = sym (ap answers_of agree.alike.same.calls) ∙ is.used;
+      untouched = λ r out. record {
+        same = same-outside r (λ there. out (of.covers r there));
+        waiting = waiting-outside r (λ there. out (of.covers r there));
+        named = named-outside r (λ there. out (of.covers r there));
+      };
+    }
+
+    done-within : (x : Waiting) → Contains (done k v n).world.waiting x → Has (done k v n).world x.target
+    done-within x waits =
+        elim (contains_key v.records x.target) as (λ b. contains_key v.records x.target ≡ b → Has (done k v n).world x.target) [
+          | true ↦ λ there. kept.has x.target there
+          | false ↦ λ isnt. absurd (not_both (holds.within x (waits-too (done k v n).world.waiting v.waiting x (own-waiting-outside x.target (λ there. not_both there isnt)) waits)) isnt)
+        ] refl
+
+    done-shut : (r target : ℕ) → Contains (targets k (at k (done k v n).world r)) target → Has (done k v n).world target
+    done-shut r target named =
+        elim (contains_key (done k v n).world.records r) as (λ b. contains_key (done k v n).world.records r ≡ b → Has (done k v n).world target) [
+          | true ↦ λ there. kept.has target (agree.shut.shut r target (kept.only r there) named)
+          | false ↦ λ isnt. absurd (missing-names k lawful (done k v n).world r target isnt named)
+        ] refl
+
+    pub done-held : Holds k (done k m n).world (done k v n).world
+    done-held = record {
+      records = λ r there. same-inside r (kept.only r there);
+      waiting = λ r there. sym (agree.alike.same.waiting r (kept.only r there));
+      within = done-within;
+      shut = record { closed = done-shut };
+      apart = λ a r out there named.
+          let not_there : Has v a → ⊥ = λ has. out (kept.has a has) in
+          holds.apart a r not_there (kept.only r there) (subst (λ (x : R). Contains (targets k x) r) (at-outside a not_there) named);
+    }
+
+module _ {R : Type 0} (k : RecordRules R) (lawful : IsLawful k) (laws : EventLaws k) where
+  pub one-more : OneMore k
+  one-more base v w log n sound legal holds of is =
+      let m = map_of k base log in
+      let known = sound-on k laws log base sound in
+      goes-on k base log n (λ (m : World R). Holds k m w) legal (event-fits k lawful laws m v n known holds of w is)
+      (subst (λ (x : World R). Holds k (done k m n).world x) is.world (done-held k lawful laws m v n known holds of))
+
+  kept-on : (notes : List Note) (m : World R) → IsSound k m → KeepsRecords m (map_of k m notes)
+  kept-on [] m sound = record { has = λ n h. h; only = λ n h. h; count = refl }
+  kept-on (n ∷ notes) m sound =
+      let first = done-kept k laws m n sound.counted.closed in
+      let rest = kept-on notes (done k m n).world (done-sound k laws m n sound) in
+      record { has = λ r h. rest.has r (first.has r h); only = λ r h. first.only r (rest.only r h); count = rest.count ∙ first.count }
+
+  pub stays-sound : StaysSound k
+  stays-sound base log sound = (sound-on k laws log base sound, kept-on log base sound)

@@ -1,0 +1,9 @@
+mod Basics
+mod Lists
+mod Lasting
+mod Doing
+mod Sharing
+mod Replaying
+mod Rewiring
+mod Linking
+mod Rescanning

@@ -1,0 +1,15 @@
+use Rattle.ioc_holding.proofs.Doing.{stays-sound}
+use Rattle.ioc_holding.proofs.laws.lists_leave_sound.Goals as goal
+
+pub returns : goal.returns
+returns g c =
+    stays-sound g.K.RecordKind.rules g.met.K.RecordKind.lawful
+    (record {
+      allowed = c.rules_are_steps.ensures.allowed;
+      kept = c.events_keep_records.ensures;
+      counted = c.events_count_holders.ensures.event;
+      none_ready = c.events_leave_none_ready.ensures;
+      local = c.events_are_local.ensures;
+      apart = c.counted_waits_keep_apart.ensures.apart;
+      within = c.counted_waits_keep_apart.ensures.within;
+    })

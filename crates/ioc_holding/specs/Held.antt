@@ -1,0 +1,71 @@
+-- What the holder of some records knows of the world of all.
+-- Application Developer's Guide, "Database Locking, Scanning, and Processing": a lock set has every record that its links lead to.
+use Rattle.std.specs.Prelude.{◌≡◌, ℕ, List, Contains, Some}
+use Rattle.std.specs.FinMap.{get}
+use Rattle.ioc_notify.specs.Waits.{at_record}
+use Rattle.ioc_notify.specs.declared.waiting_lists.Waiting.{Waiting}
+use Rattle.ioc_record.specs.RecordRules.{RecordRules, targets}
+use Rattle.ioc_store.specs.World.{World, Has, IsClosed, at, common_at, begun_at}
+use Rattle.ioc_store.specs.Given.{answers_of}
+use Rattle.ioc_events.specs.declared.event.Event.{Event}
+use Rattle.ioc_events.specs.declared.event.Event.TheVariants.{Cancel}
+use Rattle.ioc_events.specs.Local.{AskAlike}
+use Rattle.ioc_events.specs.Step.{names}
+use Rattle.ioc_members.specs.Joined.{AreShared}
+use Rattle.ioc_line.specs.declared.entry.Note.{Note}
+use Rattle.ioc_line.specs.Key.{Key, Has as Has_key}
+use Rattle.ioc_line.specs.Line.{Spares}
+use Rattle.ioc_holding.specs.Legal.{entry_of, key_of, done}
+
+-- all that waits waits for records that are there
+abbrev pub WaitsWithin : {R : Type 0} → World R → Type 0
+WaitsWithin v = (x : Waiting) → Contains v.waiting x → Has v x.target
+
+-- what the holder of the records of v knows of the world of all: each of these records is there as it is in v, with the same waiting list;
+-- nothing in v waits for others, no link of v leaves v, and no link of a record outside names one of v
+pub record Holds {R : Type 0} (k : RecordRules R) (m v : World R) : Type 0 where
+  pub records : (n : ℕ) → Has v n → get m.records n ≡ get v.records n
+  pub waiting : (n : ℕ) → Has v n → at_record n m.waiting ≡ at_record n v.waiting
+  pub within : WaitsWithin v
+  pub shut : IsClosed k v
+  pub apart : (a n : ℕ) → (Has v a → ⊥) → Has v n → Contains (targets k (at k m a)) n → ⊥
+
+-- no note has the key of one of these records
+abbrev pub AreSpared : {R : Type 0} → World R → List Note → Type 0
+AreSpared v notes = (n : ℕ) → Has v n → Spares (key_of n) notes
+
+-- the keys are those of these records, and maybe others
+abbrev pub Cover : {R : Type 0} → List Key → World R → Type 0
+Cover keys v = (n : ℕ) → Has v n → Has_key (key_of n) keys
+
+-- the event of the note is done on v with its reply and all its answers, and leaves w
+pub record IsDone {R : Type 0} (k : RecordRules R) (v : World R) (n : Note) (w : World R) : Type 0 where
+  pub world : (done k v n).world ≡ w
+  pub reply : (done k v n).reply ≡ (entry_of n).reply
+  pub used : answers_of (done k v n).world.calls ≡ (entry_of n).answers
+
+-- the records that have the notification of a cancel are in v, and those that wait under its number wait for records of v
+abbrev pub CancelsWithin : {R : Type 0} → RecordRules R → World R → World R → Event → Type 0
+CancelsWithin k m v (Cancel number) =
+    ((n : ℕ) → Has m n → (common_at k m n).notification ≡ Some number → Has v n)
+    × ((x : Waiting) → Contains m.waiting x → x.number ≡ number → Has v x.target)
+CancelsWithin k m v _ = Unit {0}
+
+-- the event of the note concerns v alone: it names records of v, what it cancels is in v, and what it asks of all puts with notification
+-- comes out in v as in the world of all. Its keys cover v
+pub record IsOf {R : Type 0} (k : RecordRules R) (m v : World R) (n : Note) : Type 0 where
+  pub named : (r : ℕ) → Contains (names (entry_of n).event) r → Has v r
+  pub cancels : CancelsWithin k m v (entry_of n).event
+  pub asks : AskAlike (begun_at (entry_of n).moment v) (begun_at (entry_of n).moment m) (entry_of n).event
+  pub covers : Cover n.keys v
+
+-- one has records of all with their waiting lists, and nothing else waits in it
+pub record IsPartOf {R : Type 0} (one all : World R) : Type 0 where
+  pub waiting : (n : ℕ) → Has one n → at_record n one.waiting ≡ at_record n all.waiting
+  pub within : WaitsWithin one
+
+-- each record of all is in exactly one of the two, as it is in all and with its waiting list, and neither has anything else
+pub record AreHalves {R : Type 0} (all one other : World R) : Type 0 where
+  pub records : AreShared (get all.records) (get one.records) (get other.records)
+  pub first : IsPartOf one all
+  pub second : IsPartOf other all

@@ -1,0 +1,86 @@
+-- The laws of held records: what lasts, what an event does, how records are parted and joined, and where a legal list leads.
+-- Application Developer's Guide, "Database Locking, Scanning, and Processing".
+use Rattle.std.specs.Prelude.{◌≡◌, ℕ, List, [], ◌∷◌, ◌++◌, Contains}
+use Rattle.ioc_fields.specs.declared.field_no.FieldNo.{FieldNo}
+use Rattle.ioc_common.specs.declared.link_field.LinkField.{LinkField}
+use Rattle.ioc_common.specs.Links.{use_of, named_by}
+use Rattle.ioc_record.specs.RecordRules.{RecordRules}
+use Rattle.ioc_store.specs.World.{World, Has, IsClosed}
+use Rattle.ioc_store.specs.Scanning.{rewired}
+use Rattle.ioc_line.specs.declared.entry.Note.{Note}
+use Rattle.ioc_line.specs.Key.{Key}
+use Rattle.ioc_events.specs.StepRules.{Replay, KeepsRecords}
+use Rattle.ioc_holding.specs.Legal.{IsLegal, IsSound, entries_of, map_of}
+use Rattle.ioc_holding.specs.Held.{Holds, AreSpared, IsDone, IsOf, Cover, AreHalves, WaitsWithin}
+use Rattle.ioc_holding.specs.LinkChange.{TakesLink, with_link_changed, link_note}
+
+module _ {R : Type 0} (k : RecordRules R) where
+  -- what is held of a world is held after notes that spare it
+  abbrev pub Lasts : Type 0
+  Lasts = (base v : World R) (seen rest : List Note) → Holds k (map_of k base seen) v → AreSpared v rest → IsLegal k base (seen ++ rest) → Holds k (map_of k base (seen ++ rest)) v
+
+  -- the list with this note is legal, and leads to a sound world of which this is known
+  pub record GoesOn (base : World R) (log : List Note) (n : Note) (Known : World R → Type 0) : Type 0 where
+    pub legal : IsLegal k base (log ++ n ∷ [])
+    pub known : Known (map_of k base (log ++ n ∷ []))
+
+  -- an event of held records is the event of all, and what it leaves is held
+  abbrev pub OneMore : Type 0
+  OneMore = (base v w : World R) (log : List Note) (n : Note) → IsSound k base → IsLegal k base log → Holds k (map_of k base log) v
+      → IsOf k (map_of k base log) v n → IsDone k v n w → GoesOn base log n (λ m. Holds k m w)
+
+  -- held records that fall apart into two that no link leaves: both are held
+  abbrev pub Falls : Type 0
+  Falls = (m all one other : World R) → Holds k m all → AreHalves all one other → IsClosed k one → IsClosed k other → Holds k m one × Holds k m other
+
+  -- what two hold, together
+  abbrev pub Gathers : Type 0
+  Gathers = (m all one other : World R) → Holds k m one → Holds k m other → AreHalves all one other → WaitsWithin all → Holds k m all
+
+  -- a part of a world that no link leaves or enters is held
+  abbrev pub Opens : Type 0
+  Opens = (m v others : World R) → AreHalves m v others → IsClosed k v → IsClosed k others → Holds k m v
+
+  -- who holds every record has those of the world
+  abbrev pub HoldsAll : Type 0
+  HoldsAll = (m v : World R) → Holds k m v → ((n : ℕ) → Has m n → Has v n) → v.records ≡ m.records
+
+  -- an event of held records, a link change for one, after which they fall apart: it is the event of all, and both parts are held
+  abbrev pub Parts : Type 0
+  Parts = (base v w stay rest : World R) (log : List Note) (n : Note) → IsSound k base → IsLegal k base log → Holds k (map_of k base log) v
+      → IsOf k (map_of k base log) v n → IsDone k v n w → AreHalves w stay rest → IsClosed k stay → IsClosed k rest
+      → GoesOn base log n (λ m. Holds k m stay × Holds k m rest)
+
+  -- an event of two that are held, a link change from one to the other for one: it is the event of all, and what it leaves is held
+  abbrev pub Joins : Type 0
+  Joins = (base v o both w : World R) (log : List Note) (n : Note) → IsSound k base → IsLegal k base log
+      → Holds k (map_of k base log) v → Holds k (map_of k base log) o → AreHalves both v o → WaitsWithin both
+      → IsOf k (map_of k base log) both n → IsDone k both n w → GoesOn base log n (λ m. Holds k m w)
+
+  -- a link change of a record of v to a record of v, or to none, after which v falls apart or not
+  abbrev pub LinkParts : Type 0
+  LinkParts = (base v stay rest : World R) (log : List Note) (desk call moment s : ℕ) (field : FieldNo) (link : LinkField) (keys : List Key)
+      → IsSound k base → IsLegal k base log → Holds k (map_of k base log) v → Cover keys v
+      → TakesLink k v s field → ((t : ℕ) → Contains (named_by (use_of link)) t → Has v t)
+      → AreHalves (with_link_changed k v s field link) stay rest → IsClosed k stay → IsClosed k rest
+      → GoesOn base log (link_note desk call moment s field link keys) (λ m. Holds k m stay × Holds k m rest)
+
+  -- a link change of a record of v to a record of o, after which they are one: v with its link changed, and o
+  abbrev pub LinkJoins : Type 0
+  LinkJoins = (base v o all : World R) (log : List Note) (desk call moment s : ℕ) (field : FieldNo) (link : LinkField) (keys : List Key)
+      → IsSound k base → IsLegal k base log → Holds k (map_of k base log) v → Holds k (map_of k base log) o → Cover keys v → Cover keys o
+      → TakesLink k v s field → ((t : ℕ) → Contains (named_by (use_of link)) t → Has all t)
+      → AreHalves all (with_link_changed k v s field link) o → WaitsWithin all
+      → GoesOn base log (link_note desk call moment s field link keys) (λ m. Holds k m all)
+
+  -- a change of a record's scan list may be sent by the part that has the record, or before the parts were two
+  abbrev pub RescansApart : Type 0
+  RescansApart = (all one other : World R) (device : List ℕ) (s : ℕ) → AreHalves all one other → Has one s → AreHalves (rewired k device all s) (rewired k device one s) other
+
+  -- the world that a list leads to is sound if that before it was, and has the same records
+  abbrev pub StaysSound : Type 0
+  StaysSound = (base : World R) (log : List Note) → IsSound k base → IsSound k (map_of k base log) × KeepsRecords base (map_of k base log)
+
+  -- a legal list is a run by the rules of events, each with its moment, its answers and its reply
+  abbrev pub Replays : Type 0
+  Replays = (base : World R) (log : List Note) → IsLegal k base log → Replay k base (entries_of log) (map_of k base log)

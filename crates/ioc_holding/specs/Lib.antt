@@ -1,0 +1,4 @@
+pub mod Legal
+pub mod Held
+pub mod LinkChange
+pub mod Laws
