@@ -12,7 +12,7 @@ use Rattle.ioc_members.specs.Edges.{edges_in, slot_relinked, slots_relinked}
 use Rattle.ioc_members.specs.Dealt.{dealt}
 use Rattle.ioc_members.specs.Parted.{IsParted}
 use Rattle.ioc_members.specs.Twins.{AreFolded}
-use Rattle.ioc_members.proofs.EdgeLaws.{relinked_set, length-relinked}
+use Rattle.ioc_members.proofs.EdgeLaws.{relinked_set}
 use Rattle.ioc_members.proofs.DealtLaws.{all_dealt, none_dealt_away}
 use Rattle.ioc_members.proofs.JoinLaws.{numbers_relinked}
 use Rattle.ioc_members.proofs.Slotted.{length-numbers}

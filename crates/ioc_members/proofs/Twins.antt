@@ -1,6 +1,6 @@
 -- The slots with their bases: what they stand for, and what is changed or folded of them.
-use Rattle.std.proofs.Common.{◌≡◌, ◌≢◌, ◌⊎◌, ℕ, zero, suc, ◌<◌, ◌≤◌, ◌+◌, List, [], ◌∷◌, ◌++◌, Option, Some, None, Bool, true, false, length, map, set, get_or, cond, filter_map, refl, sym, ap, ◌∙◌, subst, inl, inr, ⊎_elim, arith}
-use Rattle.std.specs.Prelude.{Result, Ok, Err, OnErr, slice_index, IsSome, is_some, unwrap_or, ◌==◌, Contains, if◌then◌else◌}
+use Rattle.std.proofs.Common.{◌≡◌, ◌≢◌, ℕ, zero, suc, ◌<◌, ◌≤◌, ◌+◌, List, [], ◌∷◌, ◌++◌, Option, Some, None, Bool, true, false, length, map, set, get_or, cond, filter_map, refl, sym, ap, ◌∙◌, subst, ⊎_elim, arith}
+use Rattle.std.specs.Prelude.{Result, Ok, Err, OnErr, slice_index, IsSome, is_some, unwrap_or, ◌==◌, Contains}
 use Rattle.std.specs.List.{sum_by, cons_option, range_with_len}
 use Rattle.std.specs.Ordering.{nat_cmp}
 use Rattle.std.specs.FinMap.{get, insert, find, from_entries}
@@ -16,13 +16,13 @@ use Rattle.ioc_record.specs.RecordRules.{RecordRules}
 use Rattle.ioc_fields.specs.declared.field_no.FieldNo.{FieldNo}
 use Rattle.ioc_common.specs.declared.link_field.LinkField.{LinkField}
 use Rattle.ioc_members.specs.declared.slots.Slot.{Slot}
-use Rattle.ioc_members.specs.Contents.{Records, Contents, record_at, AreLike, RecordsAreLikeTheirBase, BaseHasTheSame}
+use Rattle.ioc_members.specs.Contents.{Records, Contents, record_at, RecordsAreLikeTheirBase, BaseHasTheSame}
 use Rattle.ioc_members.specs.Slots.{record_entry, device_entry, base_entry, records_of, devices_of, bases_of, contents_of, numbers_of, IsBelow, AreAscending}
 use Rattle.ioc_members.specs.Twins.{slot_folded, slot_marked, slots_marked, one_if_unmarked, AreFolded, AreTracked, AreKept, AllLikeTheirBases}
 use Rattle.ioc_members.specs.Edges.{slots_relinked}
 use Rattle.ioc_members.specs.Dealt.{dealt}
 use Rattle.ioc_members.proofs.MapLaws.{tied, get_made, one_map, get_inserted}
-use Rattle.ioc_members.proofs.Slotted.{slot_at, slot_there, slot_push, number_at}
+use Rattle.ioc_members.proofs.Slotted.{slot_at, slot_there, slot_push}
 use Rattle.ioc_members.proofs.Seen.{record_in, record_there, get_record}
 
 at_most : (b : Bool) → cond b 0 1 ≤ 1
@@ -36,6 +36,10 @@ lone_in i j c = sym (sym (ap (λ q. get_or (i ∷ []) q j) (let l = c.1 in let z
 pub where_refused : {T E P : Type 0} (r : Result T E) → P → OnErr r P
 where_refused (Ok x) p = tt
 where_refused (Err e) p = p
+
+pub empty_by : {X : Type 0} (xs : List X) → length xs ≡ 0 → xs ≡ []
+empty_by [] e = refl
+empty_by (x ∷ xs) e = absurd (omega arith)
 
 -- one number more
 pub range_more : (a n : ℕ) → range_with_len a (n + 1) ≡ range_with_len a n ++ (a + n) ∷ []
@@ -348,6 +352,15 @@ module _ {R D : Type 0} where
   -- folded slots are kept with an empty list
   pub folded_kept : (ss : List (Slot R D)) (changed : List ℕ) (capacity : ℕ) → AreAscending ss → AreFolded ss → changed ≡ [] → length ss ≤ capacity → AreKept ss changed capacity
   folded_kept ss changed capacity up f none l = record { ascending = up; tracked = subst (λ (p : List ℕ). AreTracked ss p) (sym none) (folded_tracked ss f); room = l }
+
+  -- where none is listed, none is marked
+  pub none_listed : (ss : List (Slot R D)) (changed : List ℕ) → AreTracked ss changed → changed ≡ [] → AreFolded ss
+  none_listed ss changed tracked none =
+      all_folded ss (λ s c.
+      elim s.is_changed as (λ b. s.is_changed ≡ b → (s.base ≡ s.fields) × (b ≡ false)) [
+        | true ↦ λ e. absurd (let d = subst (λ (p : List ℕ). Contains p c.0) none (tracked.listed c.0 s c.1 (sym c.2) e) in let l : d.0 < 0 = d.1 in omega arith)
+        | false ↦ λ e. (tracked.same c.0 s c.1 (sym c.2) e, refl)
+      ] refl)
 
   -- the record of each slot and its base, where the maps are alike
   pub alike_slots : (k : RecordRules R) (ss : List (Slot R D)) (c : Contents R D) → AreAscending ss → contents_of ss ≡ c → RecordsAreLikeTheirBase k c → AllLikeTheirBases k ss

@@ -87,6 +87,15 @@ impl<K, D> Members<K, D> {
         self.slots.is_empty()
     }
 
+    /// Is each record its own base? Where it is, this answers no all the same if a record was lent to be changed since the last
+    /// [`Members::fold`].
+    pub fn is_folded(&self) -> bool
+        ensures folded { IsTrue result → self.now.base ≡ self.now.records }
+        ensures empty { self.now ≡ nothing → IsTrue result }
+    {
+        self.changed.is_empty()
+    }
+
     /// Is there a record of this number?
     pub fn has(&self, number: RecordNo) -> bool
         ensures { result ≡ map.contains_key self.now.records number }

@@ -1,8 +1,6 @@
 use Rattle.std.proofs.Common.{◌≡◌, ◌<◌, ◌+◌, ℕ, List, [], ◌∷◌, length, drop, get_or, false, ap, sym, subst, ◌∙◌, arith, drop-cons, add-one}
-use Rattle.std.specs.Prelude.{slice_index_or, Contains}
-use Rattle.std.proofs.lemmas.List.{drop_all, get_or_default}
-use Rattle.ioc_members.specs.declared.slots.Slot.{Slot}
-use Rattle.ioc_members.specs.Twins.{slot_folded}
+use Rattle.std.specs.Prelude.{slice_index_or}
+use Rattle.std.proofs.lemmas.List.{drop_all}
 use Rattle.ioc_members.proofs.Folding.{AreFolding, folding_next, folding_last, folding_like, placed}
 use Rattle.ioc_members.proofs.marks.fold_slots.Goals as goal
 

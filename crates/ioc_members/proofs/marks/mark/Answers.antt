@@ -1,6 +1,5 @@
 use Rattle.std.proofs.Common.{◌≡◌, ℕ, List, false, sym, ap, subst, ◌∙◌}
 use Rattle.std.proofs.lemmas.List.{get_or_default}
-use Rattle.std.specs.Prelude.{◌++◌, ◌∷◌, []}
 use Rattle.ioc_members.specs.declared.slots.Slot.{Slot}
 use Rattle.ioc_members.specs.Twins.{AreTracked, slots_marked}
 use Rattle.ioc_members.proofs.Twins.{marked_already, marked_set, marked_tracked}

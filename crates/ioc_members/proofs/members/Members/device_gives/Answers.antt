@@ -1,4 +1,4 @@
-use Rattle.std.proofs.Common.{◌≡◌, ◌≤◌, Option, None, length, refl, sym, ap, subst, arith}
+use Rattle.std.proofs.Common.{Option, None, refl, sym, ap, subst, arith}
 use Rattle.std.proofs.lemmas.List.{length-set}
 use Rattle.ioc_members.specs.declared.slots.Slot.{Slot}
 use Rattle.ioc_members.proofs.Twins.{set_tracked}

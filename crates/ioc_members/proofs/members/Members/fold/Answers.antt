@@ -1,4 +1,4 @@
-use Rattle.std.proofs.Common.{◌≡◌, ◌≤◌, length, ap, ◌∙◌, arith}
+use Rattle.std.proofs.Common.{ap, ◌∙◌, arith}
 use Rattle.ioc_members.specs.Contents.{Contents}
 use Rattle.ioc_members.specs.Slots.{contents_of}
 use Rattle.ioc_members.proofs.Twins.{alike_slots, folded_contents, fold_up, fold_folded, fold_len, folded_kept}

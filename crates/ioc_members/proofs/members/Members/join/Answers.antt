@@ -1,4 +1,4 @@
-use Rattle.std.proofs.Common.{◌≡◌, ◌≤◌, ◌+◌, ◌++◌, List, [], length, sym, ap, subst, ◌∙◌, arith, length-append}
+use Rattle.std.proofs.Common.{◌++◌, List, [], sym, ap, subst, ◌∙◌, arith, length-append}
 use Rattle.std.specs.Prelude.{is_some, vec_capacity}
 use Rattle.std.proofs.lemmas.List.Sorted.{length_permutation}
 use Rattle.ioc_members.specs.declared.slots.Slot.{Slot}

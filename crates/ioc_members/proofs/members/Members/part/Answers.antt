@@ -1,4 +1,4 @@
-use Rattle.std.proofs.Common.{◌≡◌, ◌≤◌, List, length, sym, ap, subst, ◌∙◌, arith}
+use Rattle.std.proofs.Common.{List, sym, ap, subst, ◌∙◌, arith}
 use Rattle.std.specs.Prelude.{is_some, vec_capacity}
 use Rattle.ioc_members.specs.declared.slots.Slot.{Slot}
 use Rattle.ioc_members.specs.Edges.{slots_relinked}

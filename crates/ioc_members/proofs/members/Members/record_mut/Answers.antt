@@ -1,9 +1,9 @@
-use Rattle.std.proofs.Common.{◌≡◌, ◌<◌, ◌≤◌, List, length, true, false, refl, sym, ap, subst, ◌∙◌, arith}
+use Rattle.std.proofs.Common.{◌≡◌, List, length, true, false, refl, sym, ap, subst, ◌∙◌, arith}
 use Rattle.std.proofs.lemmas.List.{length-set}
 use Rattle.ioc_members.specs.declared.slots.Slot.{Slot}
 use Rattle.ioc_members.specs.Slots.{contents_of, AreAscending}
 use Rattle.ioc_members.proofs.Seats.{there_not, seat_record, seat_ascending, seat_contents}
-use Rattle.ioc_members.proofs.Twins.{marked_there, marked_kept, marked_at, ascending_marked, contents_marked, length-marked, set_tracked}
+use Rattle.ioc_members.proofs.Twins.{marked_there, marked_kept, ascending_marked, contents_marked, length-marked, set_tracked}
 use Rattle.ioc_members.proofs.members.Members.record_mut.Goals as goal
 
 pub unreachable-requires : goal.unreachable-requires
