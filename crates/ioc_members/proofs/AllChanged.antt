@@ -2,12 +2,16 @@
 use Rattle.std.proofs.Common.{◌≡◌, ℕ, zero, suc, ◌+◌, ◌<◌, ◌≤◌, List, [], ◌∷◌, ◌++◌, Option, Some, Bool, true, false, length, map, take, drop, set, get_or, cond, refl, sym, ap, ◌∙◌, append-nil, arith}
 use Rattle.std.specs.Prelude.{◌==◌}
 use Rattle.std.specs.Ordering.{nat_cmp}
-use Rattle.std.specs.FinMap.{entries, entries_sorted, from_sorted, entries-from_sorted, same_entries_map}
+use Rattle.std.specs.FinMap.{from_entries, entries, entries_sorted, from_sorted, entries-from_sorted, same_entries_map}
 use Rattle.std.proofs.lemmas.List.{take_all, drop_all}
 use Rattle.ioc_members.specs.declared.slots.Slot.{Slot}
 use Rattle.ioc_members.specs.Changed.{slot_changed, all_changed}
 use Rattle.ioc_members.specs.Contents.{Records}
-use Rattle.ioc_members.specs.Slots.{record_entry, records_of, devices_of, IsBelow, AreAscending}
+use Rattle.ioc_members.specs.Twins.{one_if_unmarked, AreTracked}
+use Rattle.std.specs.List.{sum_by, range_with_len}
+use Rattle.std.proofs.lemmas.List.FromFn.{length-range_with_len, get_or-range_with_len}
+use Rattle.std.proofs.lemmas.List.Sums.{sum_by-cons}
+use Rattle.ioc_members.specs.Slots.{record_entry, base_entry, records_of, devices_of, bases_of, IsBelow, AreAscending}
 use Rattle.std.proofs.Math.ListN.{length-map}
 use Rattle.ioc_members.proofs.MapLaws.{one_map}
 use Rattle.ioc_members.proofs.Merged.{written_over}
@@ -70,6 +74,35 @@ module _ {R D : Type 0} (f : R → R) where
   pub devices_stay : (ss : List (Slot R D)) → AreAscending ss → devices_of (changed ss) ≡ devices_of ss
   devices_stay ss up = one_map _ _ (λ q. get_device (changed ss) q (ascending_changed ss up) ∙ same_device ss q ∙ sym (get_device ss q up))
 
+  base_entries : (ss : List (Slot R D)) → map base_entry (changed ss) ≡ map base_entry ss
+  base_entries [] = refl
+  base_entries (s ∷ ss) = ap (λ z. base_entry s ∷ z) (base_entries ss)
+
+  pub bases_stay : (ss : List (Slot R D)) → bases_of (changed ss) ≡ bases_of ss
+  bases_stay ss = ap (λ (es : List (ℕ × R)). from_entries {R = nat_cmp} es) (base_entries ss)
+
+  all_marked : (ss : List (Slot R D)) (j : ℕ) (s : Slot R D) → j < length (changed ss) → s ≡ get_or (changed ss) j s → s.is_changed ≡ true
+  all_marked [] j s l at = absurd (omega arith)
+  all_marked (t ∷ ss) zero s l at = ap (λ (z : Slot R D). z.is_changed) at
+  all_marked (t ∷ ss) (suc j) s l at = all_marked ss j s (omega arith) at
+
+  none_unmarked : (ss : List (Slot R D)) → sum_by one_if_unmarked (changed ss) ≡ 0
+  none_unmarked [] = refl
+  none_unmarked (s ∷ ss) = omega (arith, sum_by-cons one_if_unmarked (slot_changed f s) (changed ss), none_unmarked ss)
+
+  -- all are marked, and all places are listed
+  pub changed_tracked : (ss : List (Slot R D)) → AreTracked (changed ss) (range_with_len 0 (length ss))
+  changed_tracked ss =
+      let n = length ss in
+      let len : length (changed ss) ≡ n = length-map ss (slot_changed f) in
+      let places = length-range_with_len 0 n in
+      record {
+        within = λ j c. let l = c.1 in let e = get_or-range_with_len 0 n c.0 j (omega arith) in let is = c.2 in omega arith;
+        listed = λ j s l at e. (j, omega arith, get_or-range_with_len 0 n j j (omega arith) ∙ omega arith);
+        same = λ j s l at e. absurd (let h : true ≡ false = sym (all_marked ss j s l at) ∙ e in cc);
+        few = omega (arith, none_unmarked ss, places, len);
+      }
+
   -- what the code writes over the whole list
   pub whole_list : (ss us new : List (Slot R D)) (n : ℕ) → us ≡ ss → new ≡ map (slot_changed f) us → n ≡ length ss → take n (new ++ drop (length new) ss) ≡ changed ss
   whole_list ss us new n same is len =
@@ -77,11 +110,11 @@ module _ {R D : Type 0} (f : R → R) where
       written_over new ss n (omega arith) (omega arith) ∙ is ∙ ap (map (slot_changed f)) same
 
   abbrev with_fields : Slot R D → R → Slot R D
-  with_fields s r = record { number = s.number; fields = r; device = s.device }
+  with_fields s r = record { number = s.number; fields = r; base = s.base; is_changed = true; device = s.device }
 
   -- one slot more is changed in its place
   pub one_changed : (all slots : List (Slot R D)) (i : ℕ) (x : Slot R D) (r : R) → i < length all → slots ≡ map (slot_changed f) (take i all) ++ drop i all → x ≡ get_or slots i x → r ≡ f (get_or slots i x).fields
-      → set slots i (record { number = (get_or slots i x).number; fields = r; device = (get_or slots i x).device }) ≡ map (slot_changed f) (take (i + 1) all) ++ drop (i + 1) all
+      → set slots i (with_fields (get_or slots i x) r) ≡ map (slot_changed f) (take (i + 1) all) ++ drop (i + 1) all
   one_changed all slots i x r l was at is =
       let here : x ≡ get_or all i x = at ∙ ap (λ z. get_or z i x) was ∙ get_more (slot_changed f) all i x l in
       let changed_here : with_fields (get_or slots i x) r ≡ slot_changed f (get_or all i x) =

@@ -1,5 +1,5 @@
 -- A set whose link changes, seen as the map of its records.
-use Rattle.std.proofs.Common.{◌≡◌, ◌⊎◌, ℕ, ◌<◌, List, None, true, length, get_or, refl, sym, ap, ◌∙◌, subst, arith}
+use Rattle.std.proofs.Common.{◌≡◌, ◌⊎◌, ℕ, ◌<◌, List, None, true, false, length, get_or, refl, sym, ap, ◌∙◌, subst, arith}
 use Rattle.std.specs.Prelude.{slice_index, IsSome, is_some, Contains}
 use Rattle.std.specs.FinMap.{get, insert}
 use Rattle.std.proofs.lemmas.List.{get_or_default}
@@ -12,12 +12,12 @@ use Rattle.ioc_record.specs.Laws.{IsLawful}
 use Rattle.ioc_members.specs.declared.slots.Slot.{Slot}
 use Rattle.ioc_members.specs.Contents.{Records, Devices, record_at}
 use Rattle.ioc_members.specs.Slots.{records_of, devices_of, numbers_of, AreAscending}
-use Rattle.ioc_members.specs.Edges.{slots_relinked}
+use Rattle.ioc_members.specs.Edges.{slot_relinked, slots_relinked}
 use Rattle.ioc_members.specs.Joined.{Links, links_of, Joined, IsClosed, IsPart, HasLink, AreShared, relinked}
 use Rattle.ioc_members.specs.Parted.{IsParted}
 use Rattle.ioc_members.proofs.Slotted.{same_Some, number_at}
-use Rattle.ioc_members.proofs.Seen.{devices_same, device_there}
-use Rattle.ioc_members.proofs.Seats.{seat_within, seat_get, seat_record, seat_put}
+use Rattle.ioc_members.proofs.Seen.{devices_same, device_there, records_set}
+use Rattle.ioc_members.proofs.Seats.{seat_within, seat_number, seat_get, seat_record}
 use Rattle.ioc_members.proofs.EdgeLaws.{relinked_set, length-relinked}
 use Rattle.ioc_members.proofs.JoinLaws.{numbers_relinked, ascending_relinked}
 use Rattle.ioc_members.proofs.Relinking.{get_own, closed_after, former, reach}
@@ -39,11 +39,11 @@ module _ {R D : Type 0} (k : RecordRules R) (lawful : IsLawful k) (ss us : List 
 
   -- what the code reads at the place
   slot : Slot R D
-  slot = get_or ss place (record { number = n; fields = x; device = None })
+  slot = get_or ss place (record { number = n; fields = x; base = x; is_changed = false; device = None })
 
   at : slot ≡ get_or ss place slot
   unfolding slot
-  at = get_or_default ss place (record { number = n; fields = x; device = None }) slot l
+  at = get_or_default ss place (record { number = n; fields = x; base = x; is_changed = false; device = None }) slot l
 
   fields_are : slot.fields ≡ record_at k m n
   fields_are = seat_record ss us m up is same n place there k slot at
@@ -59,14 +59,16 @@ module _ {R D : Type 0} (k : RecordRules R) (lawful : IsLawful k) (ss us : List 
 
   pub zs_is : records_of zs ≡ after
   zs_is =
-      ap records_of (relinked_set k ss place slot field link l at) ∙ seat_put ss us m up is same n place there slot at (k.with_link slot.fields field link)
+      ap records_of (relinked_set k ss place slot field link l at)
+      ∙ records_set ss place (slot_relinked k slot field link) n up l (number_at ss place slot l at) (sym (seat_number ss us m up is same n place there) ∙ sym (number_at ss place slot l at))
+      ∙ ap (λ (r : Records R). insert r n (k.with_link slot.fields field link)) is
       ∙ ap (λ (y : R). insert m n (k.with_link y field link)) fields_are
 
   -- a link changes no device
   pub zs_devices : devices_of zs ≡ devices_of ss
   zs_devices =
       ap devices_of (relinked_set k ss place slot field link l at)
-      ∙ devices_same ss place (record slot { fields = k.with_link slot.fields field link }) slot.number up l (number_at ss place slot l at) refl
+      ∙ devices_same ss place (slot_relinked k slot field link) slot.number up l (number_at ss place slot l at) refl
       (ap (λ (s : Slot R D). s.device) at ∙ sym (device_there ss place slot.number slot up l (sym (number_at ss place slot l at))))
 
   zs_number : slice_index (numbers_of zs) place ≡ n

@@ -1,6 +1,8 @@
 mod MapLaws
 mod Slotted
 mod Seen
+mod Twins
+mod Folding
 mod Seats
 mod EdgeLaws
 mod JoinLaws

@@ -9,7 +9,8 @@ use Rattle.ioc_record.specs.RecordRules.{RecordRules}
 use Rattle.ioc_members.specs.declared.slots.Slot.{Slot}
 use Rattle.ioc_members.specs.Contents.{Records, Devices, Contents, record_at, with_device}
 use Rattle.ioc_members.specs.Answers.{Gives}
-use Rattle.ioc_members.specs.Slots.{records_of, devices_of, contents_of, numbers_of, AreAscending}
+use Rattle.ioc_members.specs.Slots.{records_of, devices_of, bases_of, contents_of, numbers_of, AreAscending}
+use Rattle.ioc_members.proofs.Twins.{bases_set, base_there}
 use Rattle.ioc_members.proofs.Slotted.{none_some, number_at, ascending_set}
 use Rattle.ioc_members.proofs.Seen.{record_there, device_there, record_absent, device_absent, records_set, devices_set, devices_same, records_same}
 
@@ -81,8 +82,8 @@ module _ {R D : Type 0} (ss us : List (Slot R D)) (m : Records R) (up : AreAscen
       told (z ∷ zs) j l e = seat_here i found (get_or ss i z) (get_or_default ss i z (get_or ss i z) (seat_within i found))
 
 -- two sets are one whose maps are
-pub same_contents : {R D : Type 0} (a b : Contents R D) → a.records ≡ b.records → a.devices ≡ b.devices → a ≡ b
-same_contents a b p q = λ i. record { records = p i; devices = q i }
+pub same_contents : {R D : Type 0} (a b : Contents R D) → a.records ≡ b.records → a.devices ≡ b.devices → a.base ≡ b.base → a ≡ b
+same_contents a b p q r = λ i. record { records = p i; devices = q i; base = r i }
 
 module _ {R D : Type 0} (ss us : List (Slot R D)) (m : Contents R D) (up : AreAscending ss) (is : contents_of ss ≡ m) (same : us ≡ ss) (n i : ℕ) (there : (i < length us) × (slice_index (numbers_of us) i ≡ n)) where
   records_are : records_of ss ≡ m.records
@@ -91,10 +92,14 @@ module _ {R D : Type 0} (ss us : List (Slot R D)) (m : Contents R D) (up : AreAs
   devices_are : devices_of ss ≡ m.devices
   devices_are = ap (λ (c : Contents R D). c.devices) is
 
+  bases_are : bases_of ss ≡ m.base
+  bases_are = ap (λ (c : Contents R D). c.base) is
+
   -- another record there
   pub seat_contents : (s : Slot R D) → s ≡ get_or ss i s → (r : R) → contents_of (set ss i (record s { fields = r })) ≡ record m { records = insert m.records n r }
   seat_contents s at r =
       same_contents _ _ (seat_put ss us m.records up records_are same n i there s at r) (seat_devices ss us m.records up records_are same n i there s at r ∙ devices_are)
+      (bases_set ss i (record s { fields = r }) s at refl refl ∙ bases_are)
 
   -- another device there
   pub refit : (s : Slot R D) → s ≡ get_or ss i s → (o : Option D) → (o ≡ None → s.device ≡ None) → devices_of (set ss i (record s { device = o })) ≡ with_device m.devices n o
@@ -103,6 +108,15 @@ module _ {R D : Type 0} (ss us : List (Slot R D)) (m : Contents R D) (up : AreAs
 
   pub refit_leaves : (s : Slot R D) → s ≡ get_or ss i s → (o : Option D) → records_of (set ss i (record s { device = o })) ≡ m.records
   refit_leaves s at o = refit_records ss us m.records up records_are same n i there s at o
+
+  -- its base
+  pub seat_base : (k : RecordRules R) (s : Slot R D) → s ≡ get_or ss i s → s.base ≡ record_at k m.base n
+  seat_base k s at =
+      sym (ap (λ o. unwrap_or o k.missing) (ap (λ b. get b n) (sym bases_are)
+      ∙ base_there ss i n s up (seat_within ss us m.records up records_are same n i there) (seat_number ss us m.records up records_are same n i there) ∙ ap (λ (t : Slot R D). Some t.base) (sym at)))
+
+  pub refit_base : (s : Slot R D) → s ≡ get_or ss i s → (o : Option D) → bases_of (set ss i (record s { device = o })) ≡ m.base
+  refit_base s at o = bases_set ss i (record s { device = o }) s at refl refl ∙ bases_are
 
   pub device_of_seat : (s : Slot R D) → s ≡ get_or ss i s → get m.devices n ≡ s.device
   device_of_seat s at = ap (λ (ds : Devices D). get ds n) (sym devices_are) ∙ seat_device ss us m.records up records_are same n i there s at

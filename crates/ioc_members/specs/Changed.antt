@@ -1,13 +1,13 @@
 -- One change of all records of a set.
-use Rattle.std.specs.Prelude.{map}
+use Rattle.std.specs.Prelude.{map, true}
 use Rattle.std.specs.FinMap.{entries, from_sorted}
 use Rattle.ioc_members.specs.declared.slots.Slot.{Slot}
 use Rattle.ioc_members.specs.Contents.{Records}
 
 module _ {R : Type 0} (f : R → R) where
-  -- a slot with its record changed
+  -- a slot with its record changed, and marked so
   abbrev pub slot_changed : {D : Type 0} → Slot R D → Slot R D
-  slot_changed s = record s { fields = f s.fields }
+  slot_changed s = record s { fields = f s.fields; is_changed = true }
 
   -- each record, changed
   abbrev pub all_changed : Records R → Records R

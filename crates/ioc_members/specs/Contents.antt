@@ -1,5 +1,5 @@
 -- What a lock set holds, by the numbers of its records.
-use Rattle.std.specs.Prelude.{ℕ, Option, Some, None, IsSome, unwrap_or, refl}
+use Rattle.std.specs.Prelude.{◌≡◌, ℕ, Option, Some, None, IsSome, is_some, unwrap_or, refl}
 use Rattle.std.specs.Ordering.{nat_cmp}
 use Rattle.std.specs.FinMap.{FinMap, get, insert, empty}
 use Rattle.std.specs.FinMap as map
@@ -12,18 +12,20 @@ Records R = FinMap nat_cmp R
 abbrev pub Devices : Type 0 → Type 0
 Devices D = FinMap nat_cmp D
 
--- the records, and the devices of those that have one
+-- the records, the devices of those that have one, and the base: the records as they were before the first of the events that are kept
 pub record Contents (R D : Type 0) : Type 0 where
   pub records : Records R
   pub devices : Devices D
+  pub base : Records R
 
 abbrev pub contents_code : {R D : Type 0} → Coded R → Coded D → Coded (Contents R D)
 contents_code {R} {D} r d =
-    code_by (Records R × Devices D) (coded× (map.code coded_ℕ r) (map.code coded_ℕ d)) (λ c. (c.records, c.devices)) (λ p. record { records = p.0; devices = p.1 }) (λ _. refl)
+    code_by (Records R × (Devices D × Records R)) (coded× (map.code coded_ℕ r) (coded× (map.code coded_ℕ d) (map.code coded_ℕ r)))
+    (λ c. (c.records, (c.devices, c.base))) (λ p. record { records = p.0; devices = p.1.0; base = p.1.1 }) (λ _. refl)
 
 -- no record, and no device
 abbrev pub nothing : {R D : Type 0} → Contents R D
-nothing = record { records = empty; devices = empty }
+nothing = record { records = empty; devices = empty; base = empty }
 
 -- the record of this number
 abbrev pub record_at : {R : Type 0} → RecordRules R → Records R → ℕ → R
@@ -37,3 +39,16 @@ with_device ds n (Some d) = insert ds n d
 -- each device is that of a record that is there
 abbrev pub DevicesAreOwned : {R D : Type 0} → Contents R D → Type 0
 DevicesAreOwned c = (q : ℕ) → IsSome (get c.devices q) → IsSome (get c.records q)
+
+-- the base has the same records: each is there in both or in neither
+abbrev pub BaseHasTheSame : {R D : Type 0} → Contents R D → Type 0
+BaseHasTheSame c = (q : ℕ) → is_some (get c.base q) ≡ is_some (get c.records q)
+
+-- two records of one type with the same links
+pub record AreLike {R : Type 0} (k : RecordRules R) (one other : R) : Type 0 where
+  pub same_type : k.record_type one ≡ k.record_type other
+  pub same_links : k.link one ≡ k.link other
+
+-- each record is of the type that its base has, with the same links
+abbrev pub RecordsAreLikeTheirBase : {R D : Type 0} → RecordRules R → Contents R D → Type 0
+RecordsAreLikeTheirBase k c = (q : ℕ) → IsSome (get c.records q) → AreLike k (record_at k c.base q) (record_at k c.records q)

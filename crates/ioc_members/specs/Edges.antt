@@ -16,9 +16,9 @@ module _ {R D : Type 0} (k : RecordRules R) where
   edges_in [] = []
   edges_in (s ∷ ss) = edges_from s.number (targets k s.fields) ++ edges_in ss
 
-  -- with one link set
+  -- with one link set, of its base too
   abbrev pub slot_relinked : Slot R D → FieldNo → LinkField → Slot R D
-  slot_relinked s field link = record s { fields = k.with_link s.fields field link }
+  slot_relinked s field link = record s { fields = k.with_link s.fields field link; base = k.with_link s.base field link }
 
   -- the slots with one link of the slot at a place set
   abbrev pub slots_relinked : List (Slot R D) → ℕ → FieldNo → LinkField → List (Slot R D)

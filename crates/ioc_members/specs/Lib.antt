@@ -1,5 +1,6 @@
 pub mod Contents
 pub mod Slots
+pub mod Twins
 pub mod Answers
 pub mod Joined
 pub mod Edges

@@ -12,6 +12,9 @@ module _ {R D : Type 0} where
   abbrev pub device_entry : Slot R D → Option (ℕ × D)
   device_entry s = option_map (λ d. (s.number, d)) s.device
 
+  abbrev pub base_entry : Slot R D → ℕ × R
+  base_entry s = (s.number, s.base)
+
   -- the map of the records
   abbrev pub records_of : List (Slot R D) → Records R
   records_of slots = from_entries (map record_entry slots)
@@ -20,8 +23,12 @@ module _ {R D : Type 0} where
   abbrev pub devices_of : List (Slot R D) → Devices D
   devices_of slots = from_entries (filter_map device_entry slots)
 
+  -- and the map of their bases
+  abbrev pub bases_of : List (Slot R D) → Records R
+  bases_of slots = from_entries (map base_entry slots)
+
   abbrev pub contents_of : List (Slot R D) → Contents R D
-  contents_of slots = record { records = records_of slots; devices = devices_of slots }
+  contents_of slots = record { records = records_of slots; devices = devices_of slots; base = bases_of slots }
 
   abbrev pub numbers_of : List (Slot R D) → List ℕ
   numbers_of slots = map (λ s. s.number) slots

@@ -13,11 +13,12 @@ pub trait Change<K> {
         ensures { item.new ≡ changed self.now item.old };
 }
 
-/// Changes each record.
+/// Changes each record, and marks it as changed.
 pub fn change_slots<K, D, C: Change<K>>(slots: &mut [Slot<K, D>], by: &C)
     ensures { slots.new ≡ map (slot_changed (C.changed by.now)) slots.old }
 {
     for slot in slots.iter_mut() {
         by.apply(&mut slot.fields);
+        slot.is_changed = true;
     }
 }

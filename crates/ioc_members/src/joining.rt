@@ -3,6 +3,7 @@ ghost use Rattle.std.specs.Prelude.{◌≡◌, ◌<◌, ◌++◌, length, OnOk, 
 ghost use Rattle.std.specs.List.Sorted.{IsNonDecreasingBy, IsPermutation};
 ghost use Rattle.ioc_members.specs.Edges.{slots_relinked};
 
+use crate::marks::relink;
 use crate::slots::Slot;
 use ioc_common::KeptLink;
 use ioc_fields::FieldNo;
@@ -18,7 +19,7 @@ fn sort<K, D>(slots: &mut Vec<Slot<K, D>>)
     slots.sort_unstable_by_key(|slot| slot.number.index());
 }
 
-/// Takes over the slots of another set, and sets a link of the record at a place.
+/// Takes over the slots of another set, and sets a link of the record at a place, and of its base: `link` and `twin` are alike.
 ///
 /// # Errors
 ///
@@ -29,15 +30,17 @@ pub fn join_slots<K: RecordKind, D>(
     place: usize,
     field: FieldNo,
     link: KeptLink,
+    twin: KeptLink,
 ) -> Result<(), AllocError>
-    requires { place < length slots.old.items }
+    requires there { place < length slots.old.items }
+    requires twin { twin ≡ link }
     ensures permutation { OnOk result (IsPermutation (slots_relinked K.rules slots.old.items place field link ++ other.old.items) slots.new.items) }
     ensures sorted { OnOk result (IsNonDecreasingBy (λ s. s.number) slots.new.items) }
     ensures emptied { OnOk result (other.new.items ≡ []) }
     ensures err { OnErr result ((slots.new.items ≡ slots.old.items) × (other.new.items ≡ other.old.items)) }
 {
     slots.append(other)?;
-    slots[place].fields.set_link(field, link);
+    relink(&mut slots[place], field, link, twin);
     sort(slots);
     Ok(())
 }

@@ -7,6 +7,7 @@ pub mod connected;
 pub mod dealing;
 pub mod joining;
 pub mod links;
+pub mod marks;
 pub mod members;
 pub mod parting;
 pub mod slots;

@@ -6,12 +6,13 @@ ghost use Rattle.ioc_members.specs.contracts.members.Members.{the_row};
 ghost use Rattle.ioc_common.specs.Links.{use_of, named_by};
 ghost use Rattle.ioc_members.specs.Answers.{Gives, GivesAt};
 ghost use Rattle.ioc_members.specs.Changed.{all_changed};
-ghost use Rattle.ioc_members.specs.Contents.{nothing, record_at, with_device, DevicesAreOwned};
+ghost use Rattle.ioc_members.specs.Contents.{nothing, record_at, with_device, DevicesAreOwned, BaseHasTheSame, RecordsAreLikeTheirBase};
 ghost use Rattle.ioc_members.specs.Joined.{links_of, IsPart, HasLink, HasFreeLink, AreShared, relinked};
 
 use crate::changing::{Change, change_slots};
 use crate::connected::are_one_part;
 use crate::joining::join_slots;
+use crate::marks::{fold_slots, list_all, mark};
 use crate::parting::part_slots;
 use crate::slots::{Slot, are_apart, place_of};
 use ioc_common::KeptLink;
@@ -22,11 +23,14 @@ use ioc_record::RecordKind;
 use std::alloc::{AllocError, Global};
 use std::marker::Model;
 
-/// The records of a lock set, by ascending numbers, each with its device if it has one. Contracts see two maps from
-/// numbers: to records, and to devices.
+/// The records of a lock set, by ascending numbers, each with its device if it has one, and beside each its base: what it
+/// was before the first of the events that are kept. Contracts see three maps from numbers: to records, to devices, and to
+/// bases.
 #[derive(Drop)]
 pub struct Members<K, D> {
     slots: Vec<Slot<K, D>>,
+    // The places of the records that may differ from their bases. There is room for all, so that no event wants memory.
+    changed: Vec<usize>,
 }
 
 impl<K, D> Model for Members<K, D> {
@@ -36,11 +40,13 @@ impl<K, D> Model for Members<K, D> {
 
     ghost coded = { contents_code K.code D.code };
 
-    ghost use Rattle.ioc_members.specs.Slots.{contents_of, AreAscending};
+    ghost use Rattle.std.specs.Vec.{vec_capacity};
+    ghost use Rattle.ioc_members.specs.Slots.{contents_of};
+    ghost use Rattle.ioc_members.specs.Twins.{AreKept};
 
     ghost view = { λ m. contents_of m.slots.items };
 
-    ghost invariant = { λ m. AreAscending m.slots.items };
+    ghost invariant = { λ m. AreKept m.slots.items m.changed.items (vec_capacity m.changed) };
 }
 
 impl<K, D> Members<K, D> {
@@ -50,6 +56,7 @@ impl<K, D> Members<K, D> {
     {
         Members {
             slots: Vec::new(alloc),
+            changed: Vec::new(alloc),
         }
     }
 
@@ -61,8 +68,9 @@ impl<K, D> Members<K, D> {
     pub fn with_room(alloc: Global, count: usize) -> Result<Self, AllocError>
         ensures { IfOk result (λ m. m ≡ nothing) }
     {
+        let changed = Vec::with_capacity(alloc, count)?;
         let slots = Vec::with_capacity(alloc, count)?;
-        Ok(Members { slots })
+        Ok(Members { slots, changed })
     }
 
     /// How many records there are.
@@ -77,6 +85,15 @@ impl<K, D> Members<K, D> {
         ensures { IsTrue result ↔ self.now ≡ nothing }
     {
         self.slots.is_empty()
+    }
+
+    /// Is each record its own base? Where it is, this answers no all the same if a record was lent to be changed since the last
+    /// [`Members::fold`].
+    pub fn is_folded(&self) -> bool
+        ensures folded { IsTrue result → self.now.base ≡ self.now.records }
+        ensures empty { self.now ≡ nothing → IsTrue result }
+    {
+        self.changed.is_empty()
     }
 
     /// Is there a record of this number?
@@ -138,29 +155,42 @@ impl<K, D> Members<K, D> {
         }
     }
 
-    /// Each device is that of a record that is there.
+    /// Each device is that of a record that is there, and each record has a base.
     pub fn devices_are_owned(&self)
-        ensures { DevicesAreOwned self.now }
+        ensures devices { DevicesAreOwned self.now }
+        ensures base { BaseHasTheSame self.now }
     {
         let _ = &self.slots;
     }
 }
 
 impl<K: Drop, D: Drop> Members<K, D> {
-    /// Adds a record, with its device if it has one, whose number is above those of all others.
+    /// Adds a record whose number is above those of all others, with its device if it has one. Its base is the same as the record.
     ///
     /// # Errors
     ///
     /// [`AllocError`] where memory is wanting: nothing has changed then.
-    pub fn add(&mut self, number: RecordNo, fields: K, device: Option<D>) -> Result<(), AllocError>
+    pub fn add(
+        &mut self,
+        number: RecordNo,
+        fields: K,
+        base: K,
+        device: Option<D>,
+    ) -> Result<(), AllocError>
         requires above { (q : ℕ) → IsSome (map.get self.old.records q) → q < number }
+        requires same { base ≡ fields }
         ensures records { OnOk result (self.new.records ≡ map.insert self.old.records number fields) }
         ensures devices { OnOk result (self.new.devices ≡ with_device self.old.devices number device) }
+        ensures base { OnOk result (self.new.base ≡ map.insert self.old.base number fields) }
         ensures err { OnErr result (self.new ≡ self.old) }
     {
+        let wanted = self.slots.len() + 1 - self.changed.len();
+        self.changed.reserve(wanted)?;
         self.slots.push(Slot {
             number,
             fields,
+            base,
+            is_changed: false,
             device,
         })?;
         Ok(())
@@ -214,7 +244,18 @@ impl<K: RecordKind, D> Members<K, D> {
         &self.slots[place].fields
     }
 
-    /// The same, to be changed.
+    /// The base of a record that is there.
+    pub fn base(&self, number: RecordNo) -> &K
+        requires { IsTrue (map.contains_key self.now.records number) }
+        ensures { result.now ≡ record_at K.rules self.now.base number }
+    {
+        let Some(place) = place_of(&self.slots, number) else {
+            unreachable!()
+        };
+        &self.slots[place].base
+    }
+
+    /// A record that is there, to be changed. Its base stays.
     pub fn record_mut(&mut self, number: RecordNo) -> &mut K
         requires { IsTrue (map.contains_key self.old.records number) }
         ensures* lends { sem 𝓛 (Lends (the_row K.row D.row) K.row self.entry result (λ r. record self.old { records = map.insert self.old.records number r })) }
@@ -223,16 +264,27 @@ impl<K: RecordKind, D> Members<K, D> {
         let Some(place) = place_of(&self.slots, number) else {
             unreachable!()
         };
+        mark(&mut self.slots, &mut self.changed, place);
         &mut self.slots[place].fields
+    }
+
+    /// Each record is its own base from now on. Cost: the records that were lent to be changed since this was done last.
+    pub fn fold(&mut self)
+        requires like { RecordsAreLikeTheirBase K.rules self.old }
+        ensures { self.new ≡ record self.old { base = self.old.records } }
+    {
+        fold_slots(&mut self.slots, &mut self.changed);
     }
 }
 
 impl<K, D> Members<K, D> {
-    /// Changes each record. The devices are as they were.
+    /// Changes each record. The devices and the bases are as they were.
     pub fn change_all<C: Change<K>>(&mut self, by: &C)
         ensures records { self.new.records ≡ all_changed (C.changed by.now) self.old.records }
         ensures devices { self.new.devices ≡ self.old.devices }
+        ensures base { self.new.base ≡ self.old.base }
     {
+        list_all(&mut self.changed, self.slots.len());
         change_slots(&mut self.slots, by);
     }
 }
@@ -252,6 +304,7 @@ impl<K, D: Device> Members<K, D> {
     pub fn device_gives(&mut self, number: RecordNo, ask: &Ask, moment: u64) -> Answer
         ensures gives { GivesAt D.gives self.old.devices number ask.now moment result self.new.devices }
         ensures records { self.new.records ≡ self.old.records }
+        ensures base { self.new.base ≡ self.old.base }
     {
         let Some(place) = place_of(&self.slots, number) else {
             return Answer::Fault;
@@ -262,8 +315,8 @@ impl<K, D: Device> Members<K, D> {
 
 impl<K: RecordKind + Drop, D: Drop> Members<K, D> {
     /// Sets a link of a record: to nowhere, or to a record of this set. The set keeps the record's part, and the records
-    /// that no link joins to it any more come back with their devices: one part too, or none. Cost: near the number of
-    /// records and links.
+    /// that no link joins to it any more come back with their devices: one part too, or none. Each record is its own base, before
+    /// and after; so its base gets the link too, `twin`, which is the same as `link`. Cost: near the number of records and links.
     ///
     /// # Errors
     ///
@@ -274,7 +327,10 @@ impl<K: RecordKind + Drop, D: Drop> Members<K, D> {
         number: RecordNo,
         field: FieldNo,
         link: KeptLink,
+        twin: KeptLink,
     ) -> Result<Members<K, D>, AllocError>
+        requires folded { self.old.base ≡ self.old.records }
+        requires twin { twin ≡ link }
         requires one_part { IsPart (links_of K.rules self.old.records) }
         requires field { HasLink K.rules self.old.records number field }
         requires within { (t : ℕ) → Contains (named_by (use_of link)) t → IsSome (map.get self.old.records t) }
@@ -285,19 +341,26 @@ impl<K: RecordKind + Drop, D: Drop> Members<K, D> {
         ensures own { OnOk result (IsSome (map.get self.new.records number)) }
         ensures stay { OnOk result (IsPart (links_of K.rules self.new.records)) }
         ensures rest { IfOk result (λ rest. IsPart (links_of K.rules rest.records)) }
+        ensures base { OnOk result (self.new.base ≡ self.new.records) }
+        ensures rest_base { IfOk result (λ rest. rest.base ≡ rest.records) }
         ensures err { OnErr result (self.new ≡ self.old) }
     {
+        fold_slots(&mut self.slots, &mut self.changed);
         let Some(place) = place_of(&self.slots, number) else {
             unreachable!()
         };
-        let rest = part_slots(alloc, &mut self.slots, place, field, link)?;
-        Ok(Members { slots: rest })
+        let (rest, places) = part_slots(alloc, &mut self.slots, place, field, link, twin)?;
+        Ok(Members {
+            slots: rest,
+            changed: places,
+        })
     }
 }
 
 impl<K: RecordKind, D> Members<K, D> {
     /// Sets a link of a record, which stood nowhere, to a record of another set, and takes over that set with its devices.
-    /// The other has no records then. Cost: n log n of the records of both.
+    /// The other has no records then. Each record is its own base, before and after; so its base gets the link too, `twin`, which
+    /// is the same as `link`. Cost: n log n of the records of both.
     ///
     /// # Errors
     ///
@@ -308,7 +371,11 @@ impl<K: RecordKind, D> Members<K, D> {
         number: RecordNo,
         field: FieldNo,
         link: KeptLink,
+        twin: KeptLink,
     ) -> Result<(), AllocError>
+        requires folded { self.old.base ≡ self.old.records }
+        requires other_folded { other.old.base ≡ other.old.records }
+        requires twin { twin ≡ link }
         requires apart { (q : ℕ) → IsSome (map.get self.old.records q) → map.get other.old.records q ≡ None }
         requires one_part { IsPart (links_of K.rules self.old.records) }
         requires other_part { IsPart (links_of K.rules other.old.records) }
@@ -320,12 +387,16 @@ impl<K: RecordKind, D> Members<K, D> {
         ensures devices { OnOk result (AreShared (map.get self.new.devices) (map.get self.old.devices) (map.get other.old.devices)) }
         ensures part { OnOk result (IsPart (links_of K.rules self.new.records)) }
         ensures emptied { OnOk result (other.new ≡ nothing) }
+        ensures base { OnOk result (self.new.base ≡ self.new.records) }
         ensures err { OnErr result ((self.new ≡ self.old) × (other.new ≡ other.old)) }
     {
+        fold_slots(&mut self.slots, &mut self.changed);
+        fold_slots(&mut other.slots, &mut other.changed);
         let Some(place) = place_of(&self.slots, number) else {
             unreachable!()
         };
-        join_slots(&mut self.slots, &mut other.slots, place, field, link)?;
+        self.changed.reserve(self.slots.len() + other.slots.len())?;
+        join_slots(&mut self.slots, &mut other.slots, place, field, link, twin)?;
         Ok(())
     }
 }

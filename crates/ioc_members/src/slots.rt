@@ -5,11 +5,15 @@ ghost use Rattle.ioc_members.specs.Slots.{AreAscending, numbers_of, records_of};
 
 use ioc_names::RecordNo;
 
-/// A record's place in its set: the record, and its device if it has one.
+/// A record's place in its set: the record, its base, which is the record as it was before the first of the events that
+/// are kept, and its device if it has one.
 #[derive(Drop)]
 pub struct Slot<K, D> {
     pub number: RecordNo,
     pub fields: K,
+    pub base: K,
+    /// May the record differ from its base?
+    pub is_changed: bool,
     pub device: Option<D>,
 }
 

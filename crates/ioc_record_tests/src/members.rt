@@ -80,13 +80,14 @@ fn add(
     let link = link_to(alloc, target)?;
     let mut item = Record::new(Name::cut(b"any"), Longin::new());
     item.set_link(LINK, link);
+    let base = item.copy(alloc)?;
     let sensor = Sensor {
         number: u16_of(number),
     };
     if !set.is_below(RecordNo::new(number)) {
         return Ok(false);
     }
-    set.add(RecordNo::new(number), item, Some(sensor))?;
+    set.add(RecordNo::new(number), item, base, Some(sensor))?;
     Ok(true)
 }
 

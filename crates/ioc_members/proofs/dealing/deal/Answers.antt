@@ -49,3 +49,21 @@ loop-n-preserved g c =
             rest_room = let h = c.loop-n.invariant.rest_room in let k = count_in (λ n. not (n == number)) ns i l (ap not e) in omega arith;
           }
     ]
+
+pub push_reserved-requires : goal.push_reserved-requires
+push_reserved-requires g c =
+    let number = c.args.number in
+    let ns = c.args.numbers.now in
+    let i = c.loop-n.n-index in
+    let l : i < length ns = omega arith in
+    let room = c.loop-n.invariant.stay_room in
+    let k = count_in (λ n. n == number) ns i l (same_number (get_or ns i 0) number c.if-n-number.true) in omega arith
+
+pub push_reserved-requires-else-n-number : goal.push_reserved-requires-else-n-number
+push_reserved-requires-else-n-number g c =
+    let number = c.args.number in
+    let ns = c.args.numbers.now in
+    let i = c.loop-n.n-index in
+    let l : i < length ns = omega arith in
+    let room = c.loop-n.invariant.rest_room in
+    let k = count_in (λ n. not (n == number)) ns i l (ap not (other_number (get_or ns i 0) number c.if-n-number.false)) in omega arith

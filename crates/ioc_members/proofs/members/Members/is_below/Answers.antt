@@ -18,8 +18,8 @@ returns-in-Some g c =
     let other = c.index-in-Some.ensures in
     let there : 0 < length ss = let l = c.in-Some.ensures.item.3.0 in let e = ap length c.deref.ensures.value in omega arith in
     let at : s ≡ get_or ss (length ss - 1) s = c.in-Some.ensures.item.1 ∙ ap (λ (z : List (Slot g.row.K.Denot g.row.D.Denot)). get_or z (length z - 1) s) c.deref.ensures.value in (
-      λ e. subst P (ap (λ z. z.records) c.self.view_is) (all_below ss s n c.self.invariant there at (let l = test.0 e in omega arith)),
-      λ low. test.1 (let l = last_below ss s n c.self.invariant there at (subst P (sym (ap (λ z. z.records) c.self.view_is)) low) in omega arith),
+      λ e. subst P (ap (λ z. z.records) c.self.view_is) (all_below ss s n c.self.invariant.ascending there at (let l = test.0 e in omega arith)),
+      λ low. test.1 (let l = last_below ss s n c.self.invariant.ascending there at (subst P (sym (ap (λ z. z.records) c.self.view_is)) low) in omega arith),
     )
 
 pub returns-in-None : goal.returns-in-None

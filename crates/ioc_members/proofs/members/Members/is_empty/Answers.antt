@@ -8,5 +8,5 @@ pub returns : goal.returns
 returns g c =
     let test = Decides-eqb (vec_len c.self.inside.slots) 0 in (
       λ e. sym c.self.view_is ∙ none_stands c.self.inside.slots.items (sym c.self.inside.slots.ok.0 ∙ test.0 (sym c.is_empty.ensures ∙ e)),
-      λ e. c.is_empty.ensures ∙ test.1 (c.self.inside.slots.ok.0 ∙ stands_for_none c.self.inside.slots.items c.self.invariant (c.self.view_is ∙ e)),
+      λ e. c.is_empty.ensures ∙ test.1 (c.self.inside.slots.ok.0 ∙ stands_for_none c.self.inside.slots.items c.self.invariant.ascending (c.self.view_is ∙ e)),
     )

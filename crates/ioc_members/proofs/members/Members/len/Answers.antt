@@ -4,4 +4,4 @@ use Rattle.ioc_members.proofs.Ordered.{len_is}
 use Rattle.ioc_members.proofs.members.Members.len.Goals as goal
 
 pub returns : goal.returns
-returns g c = c.len.ensures ∙ c.self.inside.slots.ok.0 ∙ sym (len_is c.self.inside.slots.items c.self.invariant) ∙ ap (λ z. len z.records) c.self.view_is
+returns g c = c.len.ensures ∙ c.self.inside.slots.ok.0 ∙ sym (len_is c.self.inside.slots.items c.self.invariant.ascending) ∙ ap (λ z. len z.records) c.self.view_is

@@ -1,0 +1,2 @@
+pub mod SetStore
+pub mod SetStoreLaws
