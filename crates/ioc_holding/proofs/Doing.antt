@@ -1,13 +1,13 @@
 -- An event of held records is the same event of all.
-use Rattle.std.proofs.Common.{◌≡◌, ◌≢◌, ℕ, Bool, true, false, List, [], ◌∷◌, Option, Some, refl, sym, ap, subst, ◌∙◌, arith}
-use Rattle.std.specs.Prelude.{is_some, unwrap_or, Contains}
-use Rattle.std.specs.FinMap.{get, contains_key}
+use Rattle.std.proofs.Common.{◌≡◌, ◌≢◌, ℕ, Bool, true, false, List, [], ◌∷◌, Option, Some, refl, sym, ap, subst, ◌∙◌, arith, None as Nothing_}
+use Rattle.std.specs.Prelude.{◌<◌, ◌^◌, is_some, unwrap_or, Contains}
+use Rattle.std.specs.FinMap.{get, contains_key, len}
 use Rattle.ioc_ledger.specs.Requests.{Requests}
 use Rattle.ioc_notify.specs.declared.waiting_lists.Waiting.{Waiting}
 use Rattle.ioc_notify.specs.Waits.{at_record}
 use Rattle.ioc_record.specs.RecordRules.{RecordRules, targets}
 use Rattle.ioc_record.specs.Laws.{IsLawful}
-use Rattle.ioc_store.specs.World.{World, Has, IsClosed, at, begun, begun_at}
+use Rattle.ioc_store.specs.World.{World, Has, IsClosed, at, begun, begun_at, common_at}
 use Rattle.ioc_store.specs.Given.{Answers, listed, answers_of}
 use Rattle.ioc_events.specs.declared.event.Event.{Event}
 use Rattle.ioc_events.specs.declared.event.Event.TheVariants.{Get, Process, Put, Complete, Link, Notify, Cancel, IsLive}
@@ -21,7 +21,7 @@ use Rattle.ioc_events.specs.StepRules.{Step, KeepsRecords}
 use Rattle.ioc_line.specs.declared.entry.Note.{Note}
 use Rattle.ioc_holding.specs.Legal.{entry_of, done, map_of, Fits, IsSound}
 use Rattle.ioc_holding.specs.Held.{Holds, IsDone, IsOf, CancelsWithin}
-use Rattle.ioc_holding.specs.Laws.{OneMore, StaysSound}
+use Rattle.ioc_holding.specs.Laws.{OneMore, BeginsSound, StaysSound}
 use Rattle.ioc_holding.proofs.Basics.{not_both, not_true, same_option, waits-too, missing-names}
 use Rattle.ioc_holding.proofs.Lists.{goes-on}
 
@@ -256,3 +256,14 @@ module _ {R : Type 0} (k : RecordRules R) (lawful : IsLawful k) (laws : EventLaw
 
   pub stays-sound : StaysSound k
   stays-sound base log sound = (sound-on k laws log base sound, kept-on log base sound)
+
+module _ {R : Type 0} (k : RecordRules R)
+    (first : (w : World R) → IsClosed k w → len w.records < 2 ^ 63 → w.live ≡ [] → w.waiting ≡ [] → ((n : ℕ) → Has w n → (common_at k w n).notification ≡ Nothing_) → IsCounted k w) where
+  pub begins-sound : BeginsSound k
+  begins-sound w closed few live waiting held = record {
+    counted = first w closed few live waiting held;
+    none_ready = record { none = λ x c. absurd (nobody x (subst (λ (l : List Waiting). Contains l x) waiting c)) };
+  }
+    where
+      nobody : (x : Waiting) → Contains {X = Waiting} [] x → ⊥
+      nobody x c = absurd (omega (arith, c.1))

@@ -1,5 +1,5 @@
 -- A change of a record's scan list, sent by the part that has the record.
-use Rattle.std.proofs.Common.{◌≡◌, ◌⊎◌, ℕ, Bool, true, false, cond, eqb, List, Option, Some, None as Nothing_, refl, sym, ap, subst, ◌∙◌, inl, inr, ⊎_elim, arith}
+use Rattle.std.proofs.Common.{◌≡◌, ◌⊎◌, ℕ, Bool, true, false, cond, eqb, List, Option, Some, None as Nothing_, refl, sym, ap, subst, ◌∙◌, inl, inr, arith}
 use Rattle.std.specs.Prelude.{is_some, unwrap_or, Contains}
 use Rattle.std.specs.FinMap.{get}
 use Rattle.std.proofs.lemmas.Grind.{common_steps}
@@ -8,7 +8,7 @@ use Rattle.ioc_notify.specs.Waits.{at_record}
 use Rattle.ioc_record.specs.RecordRules.{RecordRules}
 use Rattle.ioc_store.specs.World.{World, Has, at}
 use Rattle.ioc_store.specs.Scanning.{rewired}
-use Rattle.ioc_holding.specs.Held.{IsPartOf, AreHalves, WaitsWithin}
+use Rattle.ioc_holding.specs.Held.{AreHalves}
 use Rattle.ioc_holding.specs.Laws.{RescansApart}
 use Rattle.ioc_holding.proofs.Rewiring.{set-at, landed, rewired-get, rewired-waiting}
 use Rattle.ioc_holding.proofs.Sharing.{one-in, from-one}

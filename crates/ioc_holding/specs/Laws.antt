@@ -1,11 +1,13 @@
 -- The laws of held records: what lasts, what an event does, how records are parted and joined, and where a legal list leads.
 -- Application Developer's Guide, "Database Locking, Scanning, and Processing".
-use Rattle.std.specs.Prelude.{◌≡◌, ℕ, List, [], ◌∷◌, ◌++◌, Contains}
+use Rattle.std.specs.Prelude.{◌≡◌, ℕ, List, [], ◌∷◌, ◌++◌, ◌<◌, ◌^◌, Contains}
+use Rattle.std.specs.Prelude.{None as Nothing_}
+use Rattle.std.specs.FinMap.{len}
 use Rattle.ioc_fields.specs.declared.field_no.FieldNo.{FieldNo}
 use Rattle.ioc_common.specs.declared.link_field.LinkField.{LinkField}
 use Rattle.ioc_common.specs.Links.{use_of, named_by}
 use Rattle.ioc_record.specs.RecordRules.{RecordRules}
-use Rattle.ioc_store.specs.World.{World, Has, IsClosed}
+use Rattle.ioc_store.specs.World.{World, Has, IsClosed, common_at}
 use Rattle.ioc_store.specs.Scanning.{rewired}
 use Rattle.ioc_line.specs.declared.entry.Note.{Note}
 use Rattle.ioc_line.specs.Key.{Key}
@@ -28,6 +30,10 @@ module _ {R : Type 0} (k : RecordRules R) where
   abbrev pub OneMore : Type 0
   OneMore = (base v w : World R) (log : List Note) (n : Note) → IsSound k base → IsLegal k base log → Holds k (map_of k base log) v
       → IsOf k (map_of k base log) v n → IsDone k v n w → GoesOn base log n (λ m. Holds k m w)
+
+  -- what is held of a world is held with the same records and the same that wait, whatever else an event has come to
+  abbrev pub HeldAlike : Type 0
+  HeldAlike = (m v w : World R) → Holds k m v → w.records ≡ v.records → w.waiting ≡ v.waiting → Holds k m w
 
   -- held records that fall apart into two that no link leaves: both are held
   abbrev pub Falls : Type 0
@@ -76,6 +82,11 @@ module _ {R : Type 0} (k : RecordRules R) where
   -- a change of a record's scan list may be sent by the part that has the record, or before the parts were two
   abbrev pub RescansApart : Type 0
   RescansApart = (all one other : World R) (device : List ℕ) (s : ℕ) → AreHalves all one other → Has one s → AreHalves (rewired k device all s) (rewired k device one s) other
+
+  -- a world at the load is sound: no link leaves it, and nothing has a notification or waits
+  abbrev pub BeginsSound : Type 0
+  BeginsSound = (w : World R) → IsClosed k w → len w.records < 2 ^ 63 → w.live ≡ [] → w.waiting ≡ []
+      → ((n : ℕ) → Has w n → (common_at k w n).notification ≡ Nothing_) → IsSound k w
 
   -- the world that a list leads to is sound if that before it was, and has the same records
   abbrev pub StaysSound : Type 0

@@ -1,5 +1,5 @@
 //! Laws of held records. Each function's contract is a law; its body only names the laws that it rests on.
-ghost use Rattle.ioc_holding.specs.Laws.{Lasts, OneMore, Falls, Gathers, Opens, HoldsAll, Parts, Joins, LinkParts, LinkJoins, RescansApart, StaysSound, Replays};
+ghost use Rattle.ioc_holding.specs.Laws.{Lasts, OneMore, HeldAlike, Falls, Gathers, Opens, HoldsAll, Parts, Joins, LinkParts, LinkJoins, RescansApart, BeginsSound, StaysSound, Replays};
 
 use ioc_events::event_rules::{events_keep_records, rules_are_steps};
 use ioc_events::local::{counted_waits_keep_apart, events_are_local};
@@ -54,6 +54,7 @@ pub fn joined_are_held<K: RecordKind>()
 /// What is held may be held in parts, and parts together. A part of the world at the load that no link leaves or enters is held; who holds
 /// every record has the records of the world.
 pub fn parts_share_what_is_held<K: RecordKind>()
+    ensures alike { HeldAlike K.rules }
     ensures falls { Falls K.rules }
     ensures gathers { Gathers K.rules }
     ensures opens { Opens K.rules }
@@ -61,9 +62,10 @@ pub fn parts_share_what_is_held<K: RecordKind>()
     ensures rescans { RescansApart K.rules }
 {}
 
-/// Whatever is noted, the world of all stays sound between events, and no record comes or goes.
+/// The world at the load is sound, and whatever is noted, it stays so between events, and no record comes or goes.
 pub fn lists_leave_sound<K: RecordKind>()
-    ensures { StaysSound K.rules }
+    ensures first { BeginsSound K.rules }
+    ensures after { StaysSound K.rules }
 {
     rules_are_steps::<K>();
     events_keep_records::<K>();

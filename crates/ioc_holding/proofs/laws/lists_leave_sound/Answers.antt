@@ -1,8 +1,11 @@
-use Rattle.ioc_holding.proofs.Doing.{stays-sound}
+use Rattle.ioc_holding.proofs.Doing.{begins-sound, stays-sound}
 use Rattle.ioc_holding.proofs.laws.lists_leave_sound.Goals as goal
 
-pub returns : goal.returns
-returns g c =
+pub returns-clause-first : goal.returns-clause-first
+returns-clause-first g c = begins-sound g.K.RecordKind.rules c.events_count_holders.ensures.first
+
+pub returns-clause-after : goal.returns-clause-after
+returns-clause-after g c =
     stays-sound g.K.RecordKind.rules g.met.K.RecordKind.lawful
     (record {
       allowed = c.rules_are_steps.ensures.allowed;
