@@ -7,3 +7,4 @@ mod Replaying
 mod Rewiring
 mod Linking
 mod Rescanning
+mod Uniting

@@ -161,12 +161,12 @@ module _ {R : Type 0} (k : RecordRules R) (lawful : IsLawful k) (laws : EventLaw
         }
 
     both-cover : (keys : List Key) → Cover keys v → Cover keys o → Cover keys both
-    both-cover keys covers other_covers q there = ⊎_elim (λ here. covers q here) (λ here. other_covers q here) (either k both v o both-halves q there)
+    both-cover keys covers other_covers q there = ⊎_elim (λ here. covers q here) (λ here. other_covers q here) (either both v o both-halves q there)
 
     -- the record stands in all with its link changed
     all-here : get all.records s ≡ Some linked
     all-here =
-        (from-one k all (with_link_changed k v s field link) o halves s (changed-there s takes.there)).0
+        (from-one all (with_link_changed k v s field link) o halves s (changed-there s takes.there)).0
         ∙ changed-get k v s field link s ∙ set-here k s linked (get v.records)
 
     all-get : (q : ℕ) → get all.records q ≡ set-at s (changed-record k field link (at k both s)) (get both.records) q

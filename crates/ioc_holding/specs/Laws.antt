@@ -79,9 +79,10 @@ module _ {R : Type 0} (k : RecordRules R) where
       → AreHalves all (with_link_changed k v s field link) o → WaitsWithin all
       → GoesOn base log (link_note desk call moment s field link keys) (λ m. Holds k m all)
 
-  -- a change of a record's scan list may be sent by the part that has the record, or before the parts were two
+  -- a change of a record's scan list may be sent by the part that has the record, or before there were two; no link leaves it by that
   abbrev pub RescansApart : Type 0
-  RescansApart = (all one other : World R) (device : List ℕ) (s : ℕ) → AreHalves all one other → Has one s → AreHalves (rewired k device all s) (rewired k device one s) other
+  RescansApart = (all one other : World R) (device : List ℕ) (s : ℕ) → AreHalves all one other → Has one s
+      → AreHalves (rewired k device all s) (rewired k device one s) other × (IsClosed k one → IsClosed k (rewired k device one s))
 
   -- a world at the load is sound: no link leaves it, and nothing has a notification or waits
   abbrev pub BeginsSound : Type 0

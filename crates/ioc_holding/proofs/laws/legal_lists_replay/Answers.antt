@@ -1,4 +1,5 @@
 use Rattle.ioc_holding.proofs.Replaying.{replays}
+use Rattle.ioc_holding.proofs.Uniting.{whole-shared}
 use Rattle.ioc_holding.proofs.laws.legal_lists_replay.Goals as goal
 
 pub returns : goal.returns

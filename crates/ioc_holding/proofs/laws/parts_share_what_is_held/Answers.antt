@@ -21,4 +21,4 @@ pub returns-clause-all : goal.returns-clause-all
 returns-clause-all g c = holds-all g.K.RecordKind.rules
 
 pub returns-clause-rescans : goal.returns-clause-rescans
-returns-clause-rescans g c = rescans-apart g.K.RecordKind.rules
+returns-clause-rescans g c = rescans-apart g.K.RecordKind.rules g.met.K.RecordKind.lawful
