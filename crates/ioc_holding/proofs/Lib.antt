@@ -8,3 +8,4 @@ mod Rewiring
 mod Linking
 mod Rescanning
 mod Uniting
+mod Moving

@@ -1,15 +1,15 @@
 -- A world of what two worlds have that share no record.
-use Rattle.std.proofs.Common.{◌≡◌, ◌⊎◌, ℕ, zero, suc, Bool, true, false, cond, List, [], ◌∷◌, ◌++◌, Option, Some, None as Nothing_, refl, sym, ap, subst, ◌∙◌, inl, inr, ⊎_elim, arith, append-nil}
+use Rattle.std.proofs.Common.{◌≡◌, ◌⊎◌, ℕ, true, false, cond, List, [], ◌∷◌, ◌++◌, Option, Some, None as Nothing_, refl, sym, ap, subst, ◌∙◌, inl, inr, ⊎_elim, arith, append-nil}
 use Rattle.std.specs.Prelude.{is_some, Contains}
 use Rattle.std.specs.Ordering.{nat_cmp, eq_by_cmp}
 use Rattle.std.specs.Cmp.{nat_cmp_total}
-use Rattle.std.specs.FinMap.{FinMap, get, find, entries, from_entries, get-entries, get-from_entries, contains_key}
+use Rattle.std.specs.FinMap.{get, find, entries, from_entries, get-entries, get-from_entries}
 use Rattle.std.proofs.lemmas.List.Elements.{Contains-append_cases, filter-append}
 use Rattle.ioc_notify.specs.declared.waiting_lists.Waiting.{Waiting}
 use Rattle.ioc_notify.specs.Waits.{at_record}
 use Rattle.ioc_store.specs.World.{World, Has}
-use Rattle.ioc_holding.specs.Held.{IsPartOf, AreHalves, WaitsWithin}
-use Rattle.ioc_holding.proofs.Basics.{not_both, of-list}
+use Rattle.ioc_holding.specs.Held.{AreHalves, WaitsWithin}
+use Rattle.ioc_holding.proofs.Basics.{of-list}
 use Rattle.ioc_holding.proofs.Sharing.{is-none, none-there, there-as, one-in, turned, from-one}
 
 -- the first answer, or else the second

@@ -7,8 +7,8 @@ use Rattle.ioc_fields.specs.declared.field_no.FieldNo.{FieldNo}
 use Rattle.ioc_common.specs.declared.link_field.LinkField.{LinkField}
 use Rattle.ioc_common.specs.Links.{use_of, named_by}
 use Rattle.ioc_record.specs.RecordRules.{RecordRules}
-use Rattle.ioc_store.specs.World.{World, Has, IsClosed, common_at}
-use Rattle.ioc_store.specs.Scanning.{rewired}
+use Rattle.ioc_store.specs.World.{World, Has, IsClosed, at, common_at, put}
+use Rattle.ioc_store.specs.Scanning.{device_of, rewired}
 use Rattle.ioc_line.specs.declared.entry.Note.{Note}
 use Rattle.ioc_line.specs.Key.{Key}
 use Rattle.ioc_events.specs.StepRules.{Replay, KeepsRecords}
@@ -78,6 +78,19 @@ module _ {R : Type 0} (k : RecordRules R) where
       → TakesLink k v s field → ((t : ℕ) → Contains (named_by (use_of link)) t → Has all t)
       → AreHalves all (with_link_changed k v s field link) o → WaitsWithin all
       → GoesOn base log (link_note desk call moment s field link keys) (λ m. Holds k m all)
+
+  -- a link change of a record of v to a record of o, done in steps, where the link stood within v: with another link in its place v falls
+  -- apart into what stays with the record and the rest; what stays, with the new link, and o are one; and then a change of the record's scan
+  -- list is sent. The record forgets the link between
+  abbrev pub LinkMoves : Type 0
+  LinkMoves = (base v o stay rest joined : World R) (log : List Note) (desk call moment s : ℕ) (field : FieldNo) (between link : LinkField) (keys : List Key)
+      → IsSound k base → IsLegal k base log → Holds k (map_of k base log) v → Holds k (map_of k base log) o → Cover keys v → Cover keys o
+      → ((q : ℕ) → Has v q → Has o q → ⊥)
+      → TakesLink k v s field → ((t : ℕ) → Contains (named_by (use_of link)) t → Has joined t)
+      → k.with_link (k.with_link (at k v s) field between) field link ≡ k.with_link (at k v s) field link
+      → AreHalves (put v s (k.with_link (at k v s) field between)) stay rest → Has stay s → IsClosed k rest
+      → AreHalves joined (put stay s (k.with_link (at k stay s) field link)) o → WaitsWithin joined → IsClosed k joined
+      → GoesOn base log (link_note desk call moment s field link keys) (λ m. Holds k m (rewired k (device_of k (at k v s)) joined s) × Holds k m rest)
 
   -- a change of a record's scan list may be sent by the part that has the record, or before there were two; no link leaves it by that
   abbrev pub RescansApart : Type 0

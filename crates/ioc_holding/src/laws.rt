@@ -1,5 +1,5 @@
 //! Laws of held records. Each function's contract is a law; its body only names the laws that it rests on.
-ghost use Rattle.ioc_holding.specs.Laws.{Lasts, OneMore, HeldAlike, Falls, Gathers, Opens, HoldsAll, Parts, Joins, LinkParts, LinkJoins, RescansApart, BeginsSound, StaysSound, Replays};
+ghost use Rattle.ioc_holding.specs.Laws.{Lasts, OneMore, HeldAlike, Falls, Gathers, Opens, HoldsAll, Parts, Joins, LinkParts, LinkJoins, LinkMoves, RescansApart, BeginsSound, StaysSound, Replays};
 
 use ioc_events::event_rules::{events_keep_records, rules_are_steps};
 use ioc_events::local::{counted_waits_keep_apart, events_are_local};
@@ -38,10 +38,12 @@ pub fn parts_are_held<K: RecordKind>()
 }
 
 /// An event of two held parts together: the list with its note is legal, and what it leaves is held. So it is of a link change of a record of
-/// the one to a record of the other: what is held is the one with its link changed, and the other.
+/// the one to a record of the other: what is held is the one with its link changed, and the other. Where the link stood within the one
+/// before, and the change is done in steps, what falls off is held beside.
 pub fn joined_are_held<K: RecordKind>()
     ensures event { Joins K.rules }
     ensures link { LinkJoins K.rules }
+    ensures moves { LinkMoves K.rules }
 {
     rules_are_steps::<K>();
     events_keep_records::<K>();

@@ -1,5 +1,4 @@
 use Rattle.ioc_holding.proofs.Replaying.{replays}
-use Rattle.ioc_holding.proofs.Uniting.{whole-shared}
 use Rattle.ioc_holding.proofs.laws.legal_lists_replay.Goals as goal
 
 pub returns : goal.returns
