@@ -4,7 +4,7 @@ use Rattle.std.specs.Prelude.{is_some, unwrap_or, Contains}
 use Rattle.std.specs.FinMap.{get}
 use Rattle.std.proofs.lemmas.List.Elements.{Contains-append_cases, Contains-append_right}
 use Rattle.ioc_fields.specs.declared.field_no.FieldNo.{FieldNo}
-use Rattle.ioc_ledger.specs.Requests.{Requests, None}
+use Rattle.ioc_ledger.specs.Requests.{None}
 use Rattle.ioc_notify.specs.declared.waiting_lists.Waiting.{Waiting}
 use Rattle.ioc_notify.specs.Waits.{at_record}
 use Rattle.ioc_common.specs.declared.link_field.LinkField.{LinkField}
@@ -13,14 +13,12 @@ use Rattle.ioc_record.specs.RecordRules.{RecordRules, targets}
 use Rattle.ioc_record.specs.Values.{stops_put}
 use Rattle.ioc_record.specs.Laws.{IsLawful}
 use Rattle.ioc_store.specs.World.{World, Has, at, put, begun, begun_at}
-use Rattle.ioc_store.specs.Given.{Answers, listed, answers_of}
+use Rattle.ioc_store.specs.Given.{listed, answers_of}
 use Rattle.ioc_store.specs.Worlds.{at-put_same, has-put}
-use Rattle.ioc_events.specs.declared.event.Event.{Event}
 use Rattle.ioc_events.specs.declared.event.Event.TheVariants.{Link}
-use Rattle.ioc_events.specs.declared.reply.Reply.{Reply}
 use Rattle.ioc_events.specs.declared.reply.Reply.TheVariants.{Plain}
-use Rattle.ioc_events.specs.Step.{Stepped, stepped, all_there}
-use Rattle.ioc_events.specs.StepRules.{Step, by_itself, takes_link}
+use Rattle.ioc_events.specs.Step.{Stepped, all_there}
+use Rattle.ioc_events.specs.StepRules.{by_itself, takes_link}
 use Rattle.ioc_line.specs.declared.entry.Note.{Note}
 use Rattle.ioc_line.specs.Key.{Key}
 use Rattle.ioc_holding.specs.Legal.{done, map_of}
@@ -28,7 +26,8 @@ use Rattle.ioc_holding.specs.Held.{Holds, Cover, IsDone, IsOf, AreHalves, WaitsW
 use Rattle.ioc_holding.specs.LinkChange.{TakesLink, with_link_changed, link_note}
 use Rattle.ioc_holding.specs.Laws.{LinkParts, LinkJoins}
 use Rattle.ioc_holding.proofs.Basics.{one-there}
-use Rattle.ioc_holding.proofs.Doing.{EventLaws, one-more}
+use Rattle.ioc_holding.specs.EventLaws.{EventLaws}
+use Rattle.ioc_holding.proofs.Doing.{one-more}
 use Rattle.ioc_holding.proofs.Sharing.{falls, gathers, either, from-one}
 use Rattle.ioc_holding.proofs.Rewiring.{set-at, changed-record, get-put, set-same, put-there, changed-get, changed-waiting, changed-calls, put-waiting, set-here, set-again, set-twice}
 
@@ -55,9 +54,7 @@ module _ {R : Type 0} (k : RecordRules R) where
       after : (q : ℕ) → Has w q → Has x q
       after q there = ap (λ (o : Option R). is_some o) (same q) ∙ there
 
-module _ {R : Type 0} (k : RecordRules R) (lawful : IsLawful k) (laws : EventLaws k)
-    (alone : (answers : Answers) (w after : World R) (event : Event) (reply : Reply) (requests : Requests) → Step k answers w event after reply requests
-    → stepped k answers w event ≡ record { world = after; reply = reply; requests = requests }) where
+module _ {R : Type 0} (k : RecordRules R) (lawful : IsLawful k) (laws : EventLaws k) where
   module _ (a : World R) (desk call moment s : ℕ) (field : FieldNo) (link : LinkField) (keys : List Key) (takes : TakesLink k a s field)
       (within : (t : ℕ) → Contains (named_by (use_of link)) t → Has a t) where
     abbrev note : Note
@@ -66,7 +63,7 @@ module _ {R : Type 0} (k : RecordRules R) (lawful : IsLawful k) (laws : EventLaw
     changes : done k a note ≡ record { world = with_link_changed k (begun_at moment a) s field link; reply = Plain; requests = None }
     unfolding done at begun begun_at
     changes =
-        alone (listed []) (begun_at moment a) (with_link_changed k (begun_at moment a) s field link) (Link s field link) Plain None
+        laws.alone (listed []) (begun_at moment a) (with_link_changed k (begun_at moment a) s field link) (Link s field link) Plain None
         (by_itself (takes_link takes.there (all-there a (named_by (use_of link)) within) takes.has_link takes.allowed) refl)
 
     is-done : IsDone k a note (done k a note).world

@@ -3,24 +3,18 @@ use Rattle.std.proofs.Common.{◌≡◌, ℕ, cond, eqb, List, [], ◌∷◌, �
 use Rattle.std.specs.Prelude.{Contains}
 use Rattle.std.specs.FinMap.{get}
 use Rattle.ioc_fields.specs.declared.field_no.FieldNo.{FieldNo}
-use Rattle.ioc_ledger.specs.Requests.{Requests}
 use Rattle.ioc_common.specs.declared.link_field.LinkField.{LinkField}
 use Rattle.ioc_common.specs.Links.{use_of, named_by}
 use Rattle.ioc_record.specs.RecordRules.{RecordRules}
 use Rattle.ioc_record.specs.Laws.{IsLawful}
 use Rattle.ioc_store.specs.World.{World, Has, at, put}
-use Rattle.ioc_store.specs.Given.{Answers}
 use Rattle.ioc_store.specs.Scanning.{device_of, rewired}
 use Rattle.ioc_store.specs.Worlds.{at-put_same}
-use Rattle.ioc_events.specs.declared.event.Event.{Event}
-use Rattle.ioc_events.specs.declared.reply.Reply.{Reply}
-use Rattle.ioc_events.specs.Step.{stepped}
-use Rattle.ioc_events.specs.StepRules.{Step}
 use Rattle.ioc_holding.specs.Legal.{map_of}
 use Rattle.ioc_holding.specs.Held.{AreHalves, WaitsWithin}
 use Rattle.ioc_holding.specs.LinkChange.{with_link_changed, link_note}
 use Rattle.ioc_holding.specs.Laws.{LinkMoves}
-use Rattle.ioc_holding.proofs.Doing.{EventLaws}
+use Rattle.ioc_holding.specs.EventLaws.{EventLaws}
 use Rattle.ioc_holding.proofs.Linking.{link-joins}
 use Rattle.ioc_holding.proofs.Rescanning.{set-there, there-before, set-within, set-halves, rewired-set, half-at, rescanned-halves, rescanned-shut}
 use Rattle.ioc_holding.proofs.Rewiring.{set-at, landed, get-put, set-twice, put-there, put-waiting, changed-get, changed-waiting, rewired-waiting}
@@ -101,9 +95,7 @@ module _ {R : Type 0} (k : RecordRules R) (v o stay rest joined : World R) (s : 
   pub changed-within : WaitsWithin v → WaitsWithin changed
   changed-within within = set-within s (landed k device led) v changed (changed-get k v s field link) (changed-waiting k v s field link) within
 
-module _ {R : Type 0} (k : RecordRules R) (lawful : IsLawful k) (laws : EventLaws k)
-    (alone : (answers : Answers) (w after : World R) (event : Event) (reply : Reply) (requests : Requests) → Step k answers w event after reply requests
-    → stepped k answers w event ≡ record { world = after; reply = reply; requests = requests }) where
+module _ {R : Type 0} (k : RecordRules R) (lawful : IsLawful k) (laws : EventLaws k) where
   pub link-moves : LinkMoves k
   link-moves base v o stay rest joined log desk call moment s field between link keys sound legal holds other_holds covers other_covers disjoint takes to twice halves stays shut others within closed =
       let c = with_link_changed k v s field link in
@@ -119,7 +111,7 @@ module _ {R : Type 0} (k : RecordRules R) (lawful : IsLawful k) (laws : EventLaw
       let parts = whole-halves c own rest a o one two apart c_within a_within in
       let to_all : (t : ℕ) → Contains (named_by (use_of link)) t → Has all t
       = λ t named. one-in all a rest parts t (after-there k v o stay rest joined s field between link takes.there twice halves stays others t (to t named)) in
-      let more = link-joins k lawful laws alone base v o all log desk call moment s field link keys sound legal holds other_holds covers other_covers takes to_all
+      let more = link-joins k lawful laws base v o all log desk call moment s field link keys sound legal holds other_holds covers other_covers takes to_all
       (whole-shared c own rest a o one two apart c_within a_within) (whole-within c own rest a o one two apart c_within a_within) in
       record {
         legal = more.legal;

@@ -21,7 +21,7 @@ module _ {R : Type 0} (k : RecordRules R) where
   abbrev pub Lasts : Type 0
   Lasts = (base v : World R) (seen rest : List Note) → Holds k (map_of k base seen) v → AreSpared v rest → IsLegal k base (seen ++ rest) → Holds k (map_of k base (seen ++ rest)) v
 
-  -- the list with this note is legal, and leads to a sound world of which this is known
+  -- the list with this note is legal, and leads to a world of which this is known
   pub record GoesOn (base : World R) (log : List Note) (n : Note) (Known : World R → Type 0) : Type 0 where
     pub legal : IsLegal k base (log ++ n ∷ [])
     pub known : Known (map_of k base (log ++ n ∷ []))

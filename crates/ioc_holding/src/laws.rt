@@ -1,10 +1,23 @@
 //! Laws of held records. Each function's contract is a law; its body only names the laws that it rests on.
+ghost use Rattle.ioc_holding.specs.EventLaws.{EventLaws};
 ghost use Rattle.ioc_holding.specs.Laws.{Lasts, OneMore, HeldAlike, Falls, Gathers, Opens, HoldsAll, Parts, Joins, LinkParts, LinkJoins, LinkMoves, RescansApart, BeginsSound, StaysSound, Replays};
 
 use ioc_events::event_rules::{events_keep_records, rules_are_steps};
 use ioc_events::local::{counted_waits_keep_apart, events_are_local};
 use ioc_events::notification_rules::{events_count_holders, events_leave_none_ready};
 use ioc_record::RecordKind;
+
+// The laws of events that those below rest on.
+fn events_have_laws<K: RecordKind>()
+    ensures { EventLaws K.rules }
+{
+    rules_are_steps::<K>();
+    events_keep_records::<K>();
+    events_are_local::<K>();
+    counted_waits_keep_apart::<K>();
+    events_count_holders::<K>();
+    events_leave_none_ready::<K>();
+}
 
 /// Who holds records knows them as long as no note has their keys.
 pub fn holding_lasts<K: RecordKind>()
@@ -15,12 +28,7 @@ pub fn holding_lasts<K: RecordKind>()
 pub fn events_are_held<K: RecordKind>()
     ensures { OneMore K.rules }
 {
-    rules_are_steps::<K>();
-    events_keep_records::<K>();
-    events_are_local::<K>();
-    counted_waits_keep_apart::<K>();
-    events_count_holders::<K>();
-    events_leave_none_ready::<K>();
+    events_have_laws::<K>();
 }
 
 /// An event of held records after which they fall apart: the list with its note is legal, and both parts are held. So it is of a link change
@@ -29,12 +37,7 @@ pub fn parts_are_held<K: RecordKind>()
     ensures event { Parts K.rules }
     ensures link { LinkParts K.rules }
 {
-    rules_are_steps::<K>();
-    events_keep_records::<K>();
-    events_are_local::<K>();
-    counted_waits_keep_apart::<K>();
-    events_count_holders::<K>();
-    events_leave_none_ready::<K>();
+    events_have_laws::<K>();
 }
 
 /// An event of two held parts together: the list with its note is legal, and what it leaves is held. So it is of a link change of a record of
@@ -45,12 +48,7 @@ pub fn joined_are_held<K: RecordKind>()
     ensures link { LinkJoins K.rules }
     ensures moves { LinkMoves K.rules }
 {
-    rules_are_steps::<K>();
-    events_keep_records::<K>();
-    events_are_local::<K>();
-    counted_waits_keep_apart::<K>();
-    events_count_holders::<K>();
-    events_leave_none_ready::<K>();
+    events_have_laws::<K>();
 }
 
 /// What is held may be held in parts, and parts together. A part of the world at the load that no link leaves or enters is held; who holds
@@ -69,17 +67,12 @@ pub fn lists_leave_sound<K: RecordKind>()
     ensures first { BeginsSound K.rules }
     ensures after { StaysSound K.rules }
 {
-    rules_are_steps::<K>();
-    events_keep_records::<K>();
-    events_are_local::<K>();
-    counted_waits_keep_apart::<K>();
-    events_count_holders::<K>();
-    events_leave_none_ready::<K>();
+    events_have_laws::<K>();
 }
 
 /// A legal list is a run by the rules of events, each at its moment, with its answers and its reply.
 pub fn legal_lists_replay<K: RecordKind>()
     ensures { Replays K.rules }
 {
-    rules_are_steps::<K>();
+    events_have_laws::<K>();
 }
