@@ -9,3 +9,4 @@ mod Linking
 mod Rescanning
 mod Uniting
 mod Moving
+mod Asking

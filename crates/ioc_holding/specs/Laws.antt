@@ -1,6 +1,6 @@
 -- The laws of held records: what lasts, what an event does, how records are parted and joined, and where a legal list leads.
 -- Application Developer's Guide, "Database Locking, Scanning, and Processing".
-use Rattle.std.specs.Prelude.{◌≡◌, ℕ, List, [], ◌∷◌, ◌++◌, ◌<◌, ◌^◌, Contains}
+use Rattle.std.specs.Prelude.{◌≡◌, true, ℕ, List, [], ◌∷◌, ◌++◌, ◌<◌, ◌^◌, Contains}
 use Rattle.std.specs.Prelude.{None as Nothing_}
 use Rattle.std.specs.FinMap.{len}
 use Rattle.ioc_fields.specs.declared.field_no.FieldNo.{FieldNo}
@@ -11,9 +11,12 @@ use Rattle.ioc_store.specs.World.{World, Has, IsClosed, at, common_at, put}
 use Rattle.ioc_store.specs.Scanning.{device_of, rewired}
 use Rattle.ioc_line.specs.declared.entry.Note.{Note}
 use Rattle.ioc_line.specs.Key.{Key}
+use Rattle.ioc_store.specs.Given.{Answers}
+use Rattle.ioc_events.specs.declared.event.Event.{Event}
+use Rattle.ioc_events.specs.Step.{stepped}
 use Rattle.ioc_events.specs.StepRules.{Replay, KeepsRecords}
 use Rattle.ioc_holding.specs.Legal.{IsLegal, IsSound, entries_of, map_of}
-use Rattle.ioc_holding.specs.Held.{Holds, AreSpared, IsDone, IsOf, Cover, AreHalves, WaitsWithin}
+use Rattle.ioc_holding.specs.Held.{Holds, AreSpared, IsDone, IsOf, Cover, AreHalves, WaitsWithin, is_question, question_note}
 use Rattle.ioc_holding.specs.LinkChange.{TakesLink, with_link_changed, link_note}
 
 module _ {R : Type 0} (k : RecordRules R) where
@@ -30,6 +33,13 @@ module _ {R : Type 0} (k : RecordRules R) where
   abbrev pub OneMore : Type 0
   OneMore = (base v w : World R) (log : List Note) (n : Note) → IsSound k base → IsLegal k base log → Holds k (map_of k base log) v
       → IsOf k (map_of k base log) v n → IsDone k v n w → GoesOn base log n (λ m. Holds k m w)
+
+  -- a get, and the question whether one is live, of held records: the same of all, and what is held is held as it was
+  abbrev pub Asks : Type 0
+  Asks = (base v : World R) (log : List Note) (desk call moment : ℕ) (event : Event) (answers : Answers) (keys : List Key)
+      → is_question event ≡ true → IsSound k base → IsLegal k base log → Holds k (map_of k base log) v
+      → IsOf k (map_of k base log) v (question_note desk call moment event (stepped k answers v event).reply keys)
+      → GoesOn base log (question_note desk call moment event (stepped k answers v event).reply keys) (λ m. Holds k m v)
 
   -- what is held of a world is held with the same records and the same that wait, whatever else an event has come to
   abbrev pub HeldAlike : Type 0

@@ -1,6 +1,6 @@
 //! Laws of held records. Each function's contract is a law; its body only names the laws that it rests on.
 ghost use Rattle.ioc_holding.specs.EventLaws.{EventLaws};
-ghost use Rattle.ioc_holding.specs.Laws.{Lasts, OneMore, HeldAlike, Falls, Gathers, Opens, HoldsAll, Parts, Joins, LinkParts, LinkJoins, LinkMoves, RescansApart, BeginsSound, StaysSound, Replays};
+ghost use Rattle.ioc_holding.specs.Laws.{Lasts, OneMore, Asks, HeldAlike, Falls, Gathers, Opens, HoldsAll, Parts, Joins, LinkParts, LinkJoins, LinkMoves, RescansApart, BeginsSound, StaysSound, Replays};
 
 use ioc_events::event_rules::{events_keep_records, rules_are_steps};
 use ioc_events::local::{counted_waits_keep_apart, events_are_local};
@@ -25,8 +25,10 @@ pub fn holding_lasts<K: RecordKind>()
 {}
 
 /// An event that concerns held records alone is the same event of all records: the list with its note is legal, and what it leaves is held.
+/// A get leaves it as it was.
 pub fn events_are_held<K: RecordKind>()
-    ensures { OneMore K.rules }
+    ensures event { OneMore K.rules }
+    ensures asks { Asks K.rules }
 {
     events_have_laws::<K>();
 }
