@@ -97,7 +97,8 @@ module _ {R : Type 0} (k : RecordRules R) (v o stay rest joined : World R) (s : 
 
 module _ {R : Type 0} (k : RecordRules R) (lawful : IsLawful k) (laws : EventLaws k) where
   pub link-moves : LinkMoves k
-  link-moves base v o stay rest joined log desk call moment s field between link keys sound legal holds other_holds covers other_covers disjoint takes to twice halves stays shut others within closed =
+  link-moves base v o stay rest joined log desk call moment s field between link keys sound legal holds other_holds covers other_covers disjoint takes to halves stays shut others within closed =
+      let twice = lawful.set_twice (at k v s) field between link in
       let c = with_link_changed k v s field link in
       let own = rewired k (device_of k (at k v s)) (put stay s (k.with_link (at k stay s) field link)) s in
       let a = rewired k (device_of k (at k v s)) joined s in

@@ -97,7 +97,6 @@ module _ {R : Type 0} (k : RecordRules R) where
       → IsSound k base → IsLegal k base log → Holds k (map_of k base log) v → Holds k (map_of k base log) o → Cover keys v → Cover keys o
       → ((q : ℕ) → Has v q → Has o q → ⊥)
       → TakesLink k v s field → ((t : ℕ) → Contains (named_by (use_of link)) t → Has joined t)
-      → k.with_link (k.with_link (at k v s) field between) field link ≡ k.with_link (at k v s) field link
       → AreHalves (put v s (k.with_link (at k v s) field between)) stay rest → Has stay s → IsClosed k rest
       → AreHalves joined (put stay s (k.with_link (at k stay s) field link)) o → WaitsWithin joined → IsClosed k joined
       → GoesOn base log (link_note desk call moment s field link keys) (λ m. Holds k m (rewired k (device_of k (at k v s)) joined s) × Holds k m rest)
