@@ -142,6 +142,12 @@ drive_set_others d Dol Out l apart = refl
 drive_set_others d Dol _ l apart = refl
 drive_set_others d _ g l apart = refl
 
+pub drive_set_twice : (d : Drive) (f : OwnField) (l m : LinkField) → drive_with_link (drive_with_link d f l) f m ≡ drive_with_link d f m
+unfolding drive_with_link
+drive_set_twice d Out l m = refl
+drive_set_twice d Dol l m = refl
+drive_set_twice d _ l m = refl
+
 pub drive_set_values : (d : Drive) (f : OwnField) (l : LinkField) (g : OwnField) → drive_get (drive_with_link d f l) g ≡ drive_get d g
 unfolding drive_get drive_with_link
 drive_set_values d Out l Omsl-field = refl

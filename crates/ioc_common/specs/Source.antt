@@ -52,6 +52,11 @@ source_set_others s Inp Inp l apart = absurd (apart refl)
 source_set_others s Inp _ l apart = refl
 source_set_others s _ g l apart = refl
 
+pub source_set_twice : (s : Source) (f : OwnField) (l m : LinkField) → source_with_link (source_with_link s f l) f m ≡ source_with_link s f m
+unfolding source_with_link
+source_set_twice s Inp l m = refl
+source_set_twice s _ l m = refl
+
 begins_with : (in_use : LinkUse) (t : StandingLink) → begin_by in_use ≡ ReadLink (Standing t) → in_use ≡ Standing t
 begins_with Unused t is = cc
 begins_with OwnDevice t is = cc

@@ -2,38 +2,27 @@
 use Rattle.std.proofs.Common.{◌≡◌, ◌≢◌, ℕ, Bool, true, false, List, [], ◌∷◌, Option, Some, refl, sym, ap, subst, ◌∙◌, arith}
 use Rattle.std.specs.Prelude.{is_some, unwrap_or, Contains}
 use Rattle.std.specs.FinMap.{get, contains_key}
-use Rattle.ioc_ledger.specs.Requests.{Requests}
 use Rattle.ioc_notify.specs.declared.waiting_lists.Waiting.{Waiting}
 use Rattle.ioc_notify.specs.Waits.{at_record}
 use Rattle.ioc_record.specs.RecordRules.{RecordRules, targets}
 use Rattle.ioc_record.specs.Laws.{IsLawful}
 use Rattle.ioc_store.specs.World.{World, Has, IsClosed, at, begun, begun_at}
-use Rattle.ioc_store.specs.Given.{Answers, listed, answers_of}
+use Rattle.ioc_store.specs.Given.{listed, answers_of}
 use Rattle.ioc_events.specs.declared.event.Event.{Event}
 use Rattle.ioc_events.specs.declared.event.Event.TheVariants.{Get, Process, Put, Complete, Link, Notify, Cancel, IsLive}
-use Rattle.ioc_events.specs.declared.reply.Reply.{Reply}
 use Rattle.ioc_events.specs.Beside.{Shut}
 use Rattle.ioc_events.specs.Holding.{IsCounted, holders}
-use Rattle.ioc_events.specs.Local.{Alike, KeepsApart, IsWithin, AgreeEvent, EventIsLocal}
+use Rattle.ioc_events.specs.Local.{Alike, KeepsApart, IsWithin, AgreeEvent}
 use Rattle.ioc_events.specs.Starting.{NoneReady, is_ready}
 use Rattle.ioc_events.specs.Step.{stepped, names}
-use Rattle.ioc_events.specs.StepRules.{Step, KeepsRecords}
+use Rattle.ioc_events.specs.StepRules.{KeepsRecords}
 use Rattle.ioc_line.specs.declared.entry.Note.{Note}
 use Rattle.ioc_holding.specs.Legal.{entry_of, done, map_of, Fits, IsSound}
 use Rattle.ioc_holding.specs.Held.{Holds, IsDone, IsOf, CancelsWithin}
-use Rattle.ioc_holding.specs.Laws.{OneMore, StaysSound}
+use Rattle.ioc_holding.specs.EventLaws.{EventLaws}
+use Rattle.ioc_holding.specs.Laws.{OneMore, BeginsSound, StaysSound}
 use Rattle.ioc_holding.proofs.Basics.{not_both, not_true, same_option, waits-too, missing-names}
 use Rattle.ioc_holding.proofs.Lists.{goes-on}
-
--- the laws of events
-pub record EventLaws {R : Type 0} (k : RecordRules R) : Type 0 where
-  pub allowed : (answers : Answers) (w : World R) (event : Event) → Step k answers w event (stepped k answers w event).world (stepped k answers w event).reply (stepped k answers w event).requests
-  pub kept : (answers : Answers) (w after : World R) (event : Event) (reply : Reply) (requests : Requests) → Step k answers w event after reply requests → IsClosed k w → KeepsRecords w after
-  pub counted : (answers : Answers) (w after : World R) (event : Event) (reply : Reply) (requests : Requests) → Step k answers w event after reply requests → IsCounted k w → IsCounted k after
-  pub none_ready : (answers : Answers) (w after : World R) (event : Event) (reply : Reply) (requests : Requests) → Step k answers w event after reply requests → NoneReady k w → NoneReady k after
-  pub local : (mine : ℕ → Bool) (answers : Answers) → EventIsLocal k mine answers
-  pub apart : (mine : ℕ → Bool) (w : World R) → IsCounted k w → NoneReady k w → KeepsApart k mine w
-  pub within : (mine : ℕ → Bool) (w : World R) (event : Event) → IsCounted k w → ((n : ℕ) → Contains (names event) n → mine n ≡ true) → ((number : ℕ) → event ≢ Cancel number) → IsWithin k mine w event
 
 module _ {R : Type 0} (k : RecordRules R) where
   -- ---- as an event begins
@@ -143,15 +132,18 @@ module _ {R : Type 0} (k : RecordRules R) where
         same_cancel : {a b : ℕ} → Cancel a ≡ Cancel b → a ≡ b
         same_cancel is = cc
 
+    other-within : (event : Event) → ((r : ℕ) → Contains (names event) r → Has v r) → ((number : ℕ) → event ≢ Cancel number) → IsWithin k mine second event
+    other-within event named not_cancel = laws.within mine second event (begun-counted (entry_of n).moment m sound.counted) named not_cancel
+
     all-within : (event : Event) → ((r : ℕ) → Contains (names event) r → Has v r) → CancelsWithin k m v event → IsWithin k mine second event
     all-within (Cancel number) named cancels = cancel-within number cancels
-    all-within (Get s field) named cancels = laws.within mine second (Get s field) (begun-counted (entry_of n).moment m sound.counted) named (λ number is. cc)
-    all-within (Process s) named cancels = laws.within mine second (Process s) (begun-counted (entry_of n).moment m sound.counted) named (λ number is. cc)
-    all-within (Put s field given) named cancels = laws.within mine second (Put s field given) (begun-counted (entry_of n).moment m sound.counted) named (λ number is. cc)
-    all-within (Complete s number x) named cancels = laws.within mine second (Complete s number x) (begun-counted (entry_of n).moment m sound.counted) named (λ number is. cc)
-    all-within (Link s field link) named cancels = laws.within mine second (Link s field link) (begun-counted (entry_of n).moment m sound.counted) named (λ number is. cc)
-    all-within (Notify s number field given) named cancels = laws.within mine second (Notify s number field given) (begun-counted (entry_of n).moment m sound.counted) named (λ number is. cc)
-    all-within (IsLive number) named cancels = laws.within mine second (IsLive number) (begun-counted (entry_of n).moment m sound.counted) named (λ number is. cc)
+    all-within (Get s field) named cancels = other-within (Get s field) named (λ number is. cc)
+    all-within (Process s) named cancels = other-within (Process s) named (λ number is. cc)
+    all-within (Put s field given) named cancels = other-within (Put s field given) named (λ number is. cc)
+    all-within (Complete s number x) named cancels = other-within (Complete s number x) named (λ number is. cc)
+    all-within (Link s field link) named cancels = other-within (Link s field link) named (λ number is. cc)
+    all-within (Notify s number field given) named cancels = other-within (Notify s number field given) named (λ number is. cc)
+    all-within (IsLive number) named cancels = other-within (IsLive number) named (λ number is. cc)
 
     agree : AgreeEvent k mine first second (done k v n) (done k m n)
     unfolding done
@@ -256,3 +248,13 @@ module _ {R : Type 0} (k : RecordRules R) (lawful : IsLawful k) (laws : EventLaw
 
   pub stays-sound : StaysSound k
   stays-sound base log sound = (sound-on k laws log base sound, kept-on log base sound)
+
+module _ {R : Type 0} (k : RecordRules R) (laws : EventLaws k) where
+  pub begins-sound : BeginsSound k
+  begins-sound w closed few live waiting held = record {
+    counted = laws.first w closed few live waiting held;
+    none_ready = record { none = λ x c. absurd (nobody x (subst (λ (l : List Waiting). Contains l x) waiting c)) };
+  }
+    where
+      nobody : (x : Waiting) → Contains {X = Waiting} [] x → ⊥
+      nobody x c = absurd (omega (arith, c.1))

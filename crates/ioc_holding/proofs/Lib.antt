@@ -7,3 +7,6 @@ mod Replaying
 mod Rewiring
 mod Linking
 mod Rescanning
+mod Uniting
+mod Moving
+mod Asking

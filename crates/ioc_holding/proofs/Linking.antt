@@ -1,11 +1,10 @@
 -- A link change of held records is the same link change of all.
 use Rattle.std.proofs.Common.{◌≡◌, ◌⊎◌, ℕ, Bool, true, false, cond, eqb, List, [], ◌∷◌, ◌++◌, Option, Some, None as Nothing_, refl, sym, ap, subst, ◌∙◌, inl, inr, ⊎_elim, arith}
 use Rattle.std.specs.Prelude.{is_some, unwrap_or, Contains}
-use Rattle.std.specs.FinMap.{get, contains_key}
-use Rattle.std.proofs.lemmas.Grind.{common_steps}
+use Rattle.std.specs.FinMap.{get}
 use Rattle.std.proofs.lemmas.List.Elements.{Contains-append_cases, Contains-append_right}
 use Rattle.ioc_fields.specs.declared.field_no.FieldNo.{FieldNo}
-use Rattle.ioc_ledger.specs.Requests.{Requests, None}
+use Rattle.ioc_ledger.specs.Requests.{None}
 use Rattle.ioc_notify.specs.declared.waiting_lists.Waiting.{Waiting}
 use Rattle.ioc_notify.specs.Waits.{at_record}
 use Rattle.ioc_common.specs.declared.link_field.LinkField.{LinkField}
@@ -13,24 +12,22 @@ use Rattle.ioc_common.specs.Links.{use_of, named_by}
 use Rattle.ioc_record.specs.RecordRules.{RecordRules, targets}
 use Rattle.ioc_record.specs.Values.{stops_put}
 use Rattle.ioc_record.specs.Laws.{IsLawful}
-use Rattle.ioc_store.specs.World.{World, Has, IsClosed, at, common_at, put, begun, begun_at}
-use Rattle.ioc_store.specs.Given.{Answers, listed, answers_of}
-use Rattle.ioc_store.specs.declared.call.Call.{Call}
+use Rattle.ioc_store.specs.World.{World, Has, at, put, begun, begun_at}
+use Rattle.ioc_store.specs.Given.{listed, answers_of}
 use Rattle.ioc_store.specs.Worlds.{at-put_same, has-put}
-use Rattle.ioc_events.specs.declared.event.Event.{Event}
 use Rattle.ioc_events.specs.declared.event.Event.TheVariants.{Link}
-use Rattle.ioc_events.specs.declared.reply.Reply.{Reply}
 use Rattle.ioc_events.specs.declared.reply.Reply.TheVariants.{Plain}
-use Rattle.ioc_events.specs.Step.{Stepped, stepped, names, all_there}
-use Rattle.ioc_events.specs.StepRules.{Step, by_itself, takes_link}
+use Rattle.ioc_events.specs.Step.{Stepped, all_there}
+use Rattle.ioc_events.specs.StepRules.{by_itself, takes_link}
 use Rattle.ioc_line.specs.declared.entry.Note.{Note}
-use Rattle.ioc_line.specs.Key.{Key, Has as Has_key}
-use Rattle.ioc_holding.specs.Legal.{entry_of, key_of, done, map_of}
-use Rattle.ioc_holding.specs.Held.{Holds, Cover, IsDone, IsOf, IsPartOf, AreHalves, WaitsWithin}
+use Rattle.ioc_line.specs.Key.{Key}
+use Rattle.ioc_holding.specs.Legal.{done, map_of}
+use Rattle.ioc_holding.specs.Held.{Holds, Cover, IsDone, IsOf, AreHalves, WaitsWithin}
 use Rattle.ioc_holding.specs.LinkChange.{TakesLink, with_link_changed, link_note}
 use Rattle.ioc_holding.specs.Laws.{LinkParts, LinkJoins}
 use Rattle.ioc_holding.proofs.Basics.{one-there}
-use Rattle.ioc_holding.proofs.Doing.{EventLaws, one-more}
+use Rattle.ioc_holding.specs.EventLaws.{EventLaws}
+use Rattle.ioc_holding.proofs.Doing.{one-more}
 use Rattle.ioc_holding.proofs.Sharing.{falls, gathers, either, from-one}
 use Rattle.ioc_holding.proofs.Rewiring.{set-at, changed-record, get-put, set-same, put-there, changed-get, changed-waiting, changed-calls, put-waiting, set-here, set-again, set-twice}
 
@@ -57,9 +54,7 @@ module _ {R : Type 0} (k : RecordRules R) where
       after : (q : ℕ) → Has w q → Has x q
       after q there = ap (λ (o : Option R). is_some o) (same q) ∙ there
 
-module _ {R : Type 0} (k : RecordRules R) (lawful : IsLawful k) (laws : EventLaws k)
-    (alone : (answers : Answers) (w after : World R) (event : Event) (reply : Reply) (requests : Requests) → Step k answers w event after reply requests
-    → stepped k answers w event ≡ record { world = after; reply = reply; requests = requests }) where
+module _ {R : Type 0} (k : RecordRules R) (lawful : IsLawful k) (laws : EventLaws k) where
   module _ (a : World R) (desk call moment s : ℕ) (field : FieldNo) (link : LinkField) (keys : List Key) (takes : TakesLink k a s field)
       (within : (t : ℕ) → Contains (named_by (use_of link)) t → Has a t) where
     abbrev note : Note
@@ -68,7 +63,7 @@ module _ {R : Type 0} (k : RecordRules R) (lawful : IsLawful k) (laws : EventLaw
     changes : done k a note ≡ record { world = with_link_changed k (begun_at moment a) s field link; reply = Plain; requests = None }
     unfolding done at begun begun_at
     changes =
-        alone (listed []) (begun_at moment a) (with_link_changed k (begun_at moment a) s field link) (Link s field link) Plain None
+        laws.alone (listed []) (begun_at moment a) (with_link_changed k (begun_at moment a) s field link) (Link s field link) Plain None
         (by_itself (takes_link takes.there (all-there a (named_by (use_of link)) within) takes.has_link takes.allowed) refl)
 
     is-done : IsDone k a note (done k a note).world
@@ -104,8 +99,8 @@ module _ {R : Type 0} (k : RecordRules R) (lawful : IsLawful k) (laws : EventLaw
       let more = one-more k lawful laws base v w log n sound legal holds (is-of v desk call moment s field link keys takes within (map_of k base log) covers) (is-done v desk call moment s field link keys takes within) in
       let m = map_of k base (log ++ n ∷ []) in
       let held = held-alike k m w changed
-          (λ q. changed-get k v s field link q ∙ sym (done-get v desk call moment s field link keys takes within q))
-          (changed-waiting k v s field link ∙ sym (done-waiting v desk call moment s field link keys takes within)) more.known in
+      (λ q. changed-get k v s field link q ∙ sym (done-get v desk call moment s field link keys takes within q))
+      (changed-waiting k v s field link ∙ sym (done-waiting v desk call moment s field link keys takes within)) more.known in
       record { legal = more.legal; known = falls k m changed stay rest held halves closed other_closed }
 
   -- ---- a link from v to o, where all has v with its link changed, and o
@@ -163,12 +158,12 @@ module _ {R : Type 0} (k : RecordRules R) (lawful : IsLawful k) (laws : EventLaw
         }
 
     both-cover : (keys : List Key) → Cover keys v → Cover keys o → Cover keys both
-    both-cover keys covers other_covers q there = ⊎_elim (λ here. covers q here) (λ here. other_covers q here) (either k both v o both-halves q there)
+    both-cover keys covers other_covers q there = ⊎_elim (λ here. covers q here) (λ here. other_covers q here) (either both v o both-halves q there)
 
     -- the record stands in all with its link changed
     all-here : get all.records s ≡ Some linked
     all-here =
-        (from-one k all (with_link_changed k v s field link) o halves s (changed-there s takes.there)).0
+        (from-one all (with_link_changed k v s field link) o halves s (changed-there s takes.there)).0
         ∙ changed-get k v s field link s ∙ set-here k s linked (get v.records)
 
     all-get : (q : ℕ) → get all.records q ≡ set-at s (changed-record k field link (at k both s)) (get both.records) q
@@ -188,8 +183,8 @@ module _ {R : Type 0} (k : RecordRules R) (lawful : IsLawful k) (laws : EventLaw
       let to_there : (t : ℕ) → Contains (named_by (use_of link)) t → Has two t = λ t c. both-there m v o all s field link holds takes halves within t (to t c) in
       let together = gathers k lawful m two v o holds other_holds (both-halves m v o all s field link holds takes halves within) (both-within m v o all s field link holds takes halves within) in
       let more = one-more k lawful laws base two w log n sound legal together
-          (is-of two desk call moment s field link keys takes_too to_there m (both-cover m v o all s field link holds takes halves within keys covers other_covers))
-          (is-done two desk call moment s field link keys takes_too to_there) in
+      (is-of two desk call moment s field link keys takes_too to_there m (both-cover m v o all s field link holds takes halves within keys covers other_covers))
+      (is-done two desk call moment s field link keys takes_too to_there) in
       record {
         legal = more.legal;
         known = held-alike k (map_of k base (log ++ n ∷ [])) w all

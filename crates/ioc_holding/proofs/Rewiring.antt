@@ -1,16 +1,14 @@
 -- What a change of a link does to a world: one record has another link, and maybe one more number of a change of its scan list.
-use Rattle.std.proofs.Common.{◌≡◌, ◌≢◌, ℕ, ◌+◌, ◌-◌, ◌^◌, Bool, true, false, cond, eqb, List, [], ◌∷◌, ◌++◌, length, Option, Some, None, nat_lt, nat_eq, refl, sym, ap, subst, ◌∙◌, inl, inr, ⊎_elim, arith}
+use Rattle.std.proofs.Common.{◌≡◌, ◌≢◌, ℕ, ◌+◌, ◌-◌, ◌^◌, Bool, true, false, cond, eqb, List, Option, Some, None, nat_lt, nat_eq, refl, sym, ap, ◌∙◌, arith}
 use Rattle.std.specs.Prelude.{is_some, unwrap_or}
-use Rattle.std.specs.FinMap.{FinMap, get, insert, gets, contains_key}
+use Rattle.std.specs.FinMap.{FinMap, get, insert, gets}
 use Rattle.std.specs.Ordering.{nat_cmp}
 use Rattle.std.specs.Cmp.Lexicographic.{pointwise}
 use Rattle.std.proofs.lemmas.Grind.{common_steps}
 use Rattle.ioc_fields.specs.declared.field_no.FieldNo.{FieldNo}
-use Rattle.ioc_notify.specs.declared.waiting_lists.Waiting.{Waiting}
 use Rattle.ioc_common.specs.declared.link_field.LinkField.{LinkField}
 use Rattle.ioc_common.specs.Steps.{change_numbered}
 use Rattle.ioc_record.specs.RecordRules.{RecordRules}
-use Rattle.ioc_store.specs.declared.call.Call.{Call}
 use Rattle.ioc_store.specs.declared.outbox.OutboxItem.{OutboxItem}
 use Rattle.ioc_store.specs.declared.outbox.OutboxItem.TheVariants.{Change}
 use Rattle.ioc_store.specs.World.{World, Has, at, common_at, put, changed, sent, lost}
@@ -58,7 +56,7 @@ module _ {R : Type 0} (k : RecordRules R) where
   moved-get w s there q =
       let last = (common_at k w s).last_change in
       elim (nat_lt last (2 ^ 64 - 1)) as (λ b. get (cond b (sent (Change (record { target = s; number = last + 1; scanning = (common_at k w s).scanning; device = device_of k (at k w s) })) (changed k w s change_numbered)) (lost w)).records q
-          ≡ set-at s (cond b (k.with_common (at k w s) (change_numbered (common_at k w s))) (at k w s)) (get w.records) q) [
+      ≡ set-at s (cond b (k.with_common (at k w s) (change_numbered (common_at k w s))) (at k w s)) (get w.records) q) [
         | true ↦ ap (λ (m : FinMap nat_cmp R). get m q) (sent-records _ _) ∙ get-put w s _ q
         | false ↦ set-same w s there q
       ]

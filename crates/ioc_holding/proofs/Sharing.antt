@@ -11,14 +11,14 @@ use Rattle.ioc_holding.specs.Held.{Holds, AreHalves}
 use Rattle.ioc_holding.specs.Laws.{Falls, Opens, Gathers, HoldsAll}
 use Rattle.ioc_holding.proofs.Basics.{not_both, missing-names}
 
-none-there : {X : Type 0} (o : Option X) → o ≡ None → is_some o ≡ true → ⊥
+pub none-there : {X : Type 0} (o : Option X) → o ≡ None → is_some o ≡ true → ⊥
 none-there o none there = not_both there (ap (λ (p : Option _). is_some p) none)
 
-is-none : {X : Type 0} (o : Option X) → (is_some o ≡ true → ⊥) → o ≡ None
+pub is-none : {X : Type 0} (o : Option X) → (is_some o ≡ true → ⊥) → o ≡ None
 is-none None never = refl
 is-none (Some x) never = absurd (never refl)
 
-there-as : {X : Type 0} (o p : Option X) → o ≡ p → is_some o ≡ true → is_some p ≡ true
+pub there-as : {X : Type 0} (o p : Option X) → o ≡ p → is_some o ≡ true → is_some p ≡ true
 there-as o p same there = ap (λ (q : Option _). is_some q) (sym same) ∙ there
 
 -- the other way round
@@ -29,7 +29,7 @@ turned all one other halves = record {
   second = halves.first;
 }
 
-module _ {R : Type 0} (k : RecordRules R) (all one other : World R) (halves : AreHalves all one other) where
+module _ {R : Type 0} (all one other : World R) (halves : AreHalves all one other) where
   -- a record of the one is in all, as it is there, and not in the other
   pub from-one : (q : ℕ) → Has one q → (get all.records q ≡ get one.records q) × (get other.records q ≡ None)
   from-one q there = ⊎_elim (λ p. (sym p.0, p.1)) (λ p. absurd (none-there (get one.records q) p.0 there)) (halves.records q)
@@ -49,21 +49,22 @@ module _ {R : Type 0} (k : RecordRules R) (all one other : World R) (halves : Ar
       (λ p. inr (there-as (get all.records q) (get other.records q) (sym p.1) there))
       (halves.records q)
 
+module _ {R : Type 0} (k : RecordRules R) (all one other : World R) (halves : AreHalves all one other) where
   -- what a world has at the records of all it has at those of the one
   pub falls-as : (m : World R) → ((q : ℕ) → Has all q → get m.records q ≡ get all.records q) → ((q : ℕ) → Has all q → at_record q m.waiting ≡ at_record q all.waiting)
       → ((a q : ℕ) → (Has all a → ⊥) → Has all q → Contains (targets k (at k m a)) q → ⊥) → IsClosed k one → IsClosed k other → Holds k m one
   unfolding at
   falls-as m records waiting apart closed other_closed = record {
-    records = λ q there. records q (one-in q there) ∙ (from-one q there).0;
-    waiting = λ q there. waiting q (one-in q there) ∙ sym (halves.first.waiting q there);
+    records = λ q there. records q (one-in all one other halves q there) ∙ (from-one all one other halves q there).0;
+    waiting = λ q there. waiting q (one-in all one other halves q there) ∙ sym (halves.first.waiting q there);
     within = halves.first.within;
     shut = closed;
     apart = λ a q out there named. elim (contains_key all.records a) as (λ b. contains_key all.records a ≡ b → ⊥) [
       | true ↦ λ has.
-          let in_other = from-other a has out in
+          let in_other = from-other all one other halves a has out in
           let same : at k m a ≡ at k other a = ap (λ (o : Option R). unwrap_or o k.missing) (records a has ∙ in_other.0) in
-          none-there (get other.records q) (from-one q there).1 (other_closed.closed a q (subst (λ (x : R). Contains (targets k x) q) same named))
-      | false ↦ λ isnt. apart a q (λ has. not_both has isnt) (one-in q there) named
+          none-there (get other.records q) (from-one all one other halves q there).1 (other_closed.closed a q (subst (λ (x : R). Contains (targets k x) q) same named))
+      | false ↦ λ isnt. apart a q (λ has. not_both has isnt) (one-in all one other halves q there) named
     ] refl;
   }
 
@@ -79,8 +80,8 @@ module _ {R : Type 0} (k : RecordRules R) where
     half-shut : (all one other : World R) → AreHalves all one other → IsClosed k one → (a q : ℕ) → Has one a → Contains (targets k (at k all a)) q → Has all q
     unfolding at
     half-shut all one other halves closed a q there named =
-        let same : at k all a ≡ at k one a = ap (λ (o : Option R). unwrap_or o k.missing) (from-one k all one other halves a there).0 in
-        one-in k all one other halves q (closed.closed a q (subst (λ (x : R). Contains (targets k x) q) same named))
+        let same : at k all a ≡ at k one a = ap (λ (o : Option R). unwrap_or o k.missing) (from-one all one other halves a there).0 in
+        one-in all one other halves q (closed.closed a q (subst (λ (x : R). Contains (targets k x) q) same named))
 
     both-shut : (all one other : World R) → AreHalves all one other → IsClosed k one → IsClosed k other → IsClosed k all
     both-shut all one other halves closed other_closed = record {
@@ -88,7 +89,7 @@ module _ {R : Type 0} (k : RecordRules R) where
         | true ↦ λ has. ⊎_elim
             (λ there. half-shut all one other halves closed a q there named)
             (λ there. half-shut all other one (turned all one other halves) other_closed a q there named)
-            (either k all one other halves a has)
+            (either all one other halves a has)
         | false ↦ λ isnt. absurd (missing-names k lawful all a q isnt named)
       ] refl;
     }
@@ -103,13 +104,13 @@ module _ {R : Type 0} (k : RecordRules R) where
 
     -- of one of the two
     half-holds : (m all one other : World R) → AreHalves all one other → Holds k m one → (q : ℕ) → Has one q → (get m.records q ≡ get all.records q) × (at_record q m.waiting ≡ at_record q all.waiting)
-    half-holds m all one other halves holds q there = (holds.records q there ∙ sym (from-one k all one other halves q there).0, holds.waiting q there ∙ halves.first.waiting q there)
+    half-holds m all one other halves holds q there = (holds.records q there ∙ sym (from-one all one other halves q there).0, holds.waiting q there ∙ halves.first.waiting q there)
 
     whole-holds : (m all one other : World R) → AreHalves all one other → Holds k m one → Holds k m other → (q : ℕ) → Has all q → (get m.records q ≡ get all.records q) × (at_record q m.waiting ≡ at_record q all.waiting)
     whole-holds m all one other halves holds other_holds q has = ⊎_elim
         (λ there. half-holds m all one other halves holds q there)
         (λ there. half-holds m all other one (turned all one other halves) other_holds q there)
-        (either k all one other halves q has)
+        (either all one other halves q has)
 
     pub gathers : Gathers k
     gathers m all one other holds other_holds halves within = record {
@@ -118,9 +119,9 @@ module _ {R : Type 0} (k : RecordRules R) where
       within = within;
       shut = both-shut all one other halves holds.shut other_holds.shut;
       apart = λ a q out has named. ⊎_elim
-          (λ there. holds.apart a q (λ t. out (one-in k all one other halves a t)) there named)
-          (λ there. other_holds.apart a q (λ t. out (one-in k all other one (turned all one other halves) a t)) there named)
-          (either k all one other halves q has);
+          (λ there. holds.apart a q (λ t. out (one-in all one other halves a t)) there named)
+          (λ there. other_holds.apart a q (λ t. out (one-in all other one (turned all one other halves) a t)) there named)
+          (either all one other halves q has);
     }
 
   pub holds-all : HoldsAll k

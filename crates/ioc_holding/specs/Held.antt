@@ -1,6 +1,6 @@
 -- What the holder of some records knows of the world of all.
 -- Application Developer's Guide, "Database Locking, Scanning, and Processing": a lock set has every record that its links lead to.
-use Rattle.std.specs.Prelude.{◌≡◌, ℕ, List, Contains, Some}
+use Rattle.std.specs.Prelude.{◌≡◌, ℕ, Bool, true, false, List, [], Contains, Some}
 use Rattle.std.specs.FinMap.{get}
 use Rattle.ioc_notify.specs.Waits.{at_record}
 use Rattle.ioc_notify.specs.declared.waiting_lists.Waiting.{Waiting}
@@ -8,7 +8,8 @@ use Rattle.ioc_record.specs.RecordRules.{RecordRules, targets}
 use Rattle.ioc_store.specs.World.{World, Has, IsClosed, at, common_at, begun_at}
 use Rattle.ioc_store.specs.Given.{answers_of}
 use Rattle.ioc_events.specs.declared.event.Event.{Event}
-use Rattle.ioc_events.specs.declared.event.Event.TheVariants.{Cancel}
+use Rattle.ioc_events.specs.declared.event.Event.TheVariants.{Get, Cancel, IsLive}
+use Rattle.ioc_events.specs.declared.reply.Reply.{Reply}
 use Rattle.ioc_events.specs.Local.{AskAlike}
 use Rattle.ioc_events.specs.Step.{names}
 use Rattle.ioc_members.specs.Joined.{AreShared}
@@ -69,3 +70,13 @@ pub record AreHalves {R : Type 0} (all one other : World R) : Type 0 where
   pub records : AreShared (get all.records) (get one.records) (get other.records)
   pub first : IsPartOf one all
   pub second : IsPartOf other all
+
+-- a get, and the question whether a put with notification is live: these change nothing
+abbrev pub is_question : Event → Bool
+is_question (Get s field) = true
+is_question (IsLive number) = true
+is_question _ = false
+
+-- the note of one, which no device answers in
+abbrev pub question_note : (desk call moment : ℕ) → Event → Reply → List Key → Note
+question_note desk call moment event reply keys = record { entry = record { desk = desk; call = call; entry = record { moment = moment; event = event; answers = []; reply = reply } }; keys = keys }

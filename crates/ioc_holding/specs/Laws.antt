@@ -1,17 +1,22 @@
 -- The laws of held records: what lasts, what an event does, how records are parted and joined, and where a legal list leads.
 -- Application Developer's Guide, "Database Locking, Scanning, and Processing".
-use Rattle.std.specs.Prelude.{◌≡◌, ℕ, List, [], ◌∷◌, ◌++◌, Contains}
+use Rattle.std.specs.Prelude.{◌≡◌, true, ℕ, List, [], ◌∷◌, ◌++◌, ◌<◌, ◌^◌, Contains}
+use Rattle.std.specs.Prelude.{None as Nothing_}
+use Rattle.std.specs.FinMap.{len}
 use Rattle.ioc_fields.specs.declared.field_no.FieldNo.{FieldNo}
 use Rattle.ioc_common.specs.declared.link_field.LinkField.{LinkField}
 use Rattle.ioc_common.specs.Links.{use_of, named_by}
 use Rattle.ioc_record.specs.RecordRules.{RecordRules}
-use Rattle.ioc_store.specs.World.{World, Has, IsClosed}
-use Rattle.ioc_store.specs.Scanning.{rewired}
+use Rattle.ioc_store.specs.World.{World, Has, IsClosed, at, common_at, put}
+use Rattle.ioc_store.specs.Scanning.{device_of, rewired}
 use Rattle.ioc_line.specs.declared.entry.Note.{Note}
 use Rattle.ioc_line.specs.Key.{Key}
+use Rattle.ioc_store.specs.Given.{Answers}
+use Rattle.ioc_events.specs.declared.event.Event.{Event}
+use Rattle.ioc_events.specs.Step.{stepped}
 use Rattle.ioc_events.specs.StepRules.{Replay, KeepsRecords}
 use Rattle.ioc_holding.specs.Legal.{IsLegal, IsSound, entries_of, map_of}
-use Rattle.ioc_holding.specs.Held.{Holds, AreSpared, IsDone, IsOf, Cover, AreHalves, WaitsWithin}
+use Rattle.ioc_holding.specs.Held.{Holds, AreSpared, IsDone, IsOf, Cover, AreHalves, WaitsWithin, is_question, question_note}
 use Rattle.ioc_holding.specs.LinkChange.{TakesLink, with_link_changed, link_note}
 
 module _ {R : Type 0} (k : RecordRules R) where
@@ -19,7 +24,7 @@ module _ {R : Type 0} (k : RecordRules R) where
   abbrev pub Lasts : Type 0
   Lasts = (base v : World R) (seen rest : List Note) → Holds k (map_of k base seen) v → AreSpared v rest → IsLegal k base (seen ++ rest) → Holds k (map_of k base (seen ++ rest)) v
 
-  -- the list with this note is legal, and leads to a sound world of which this is known
+  -- the list with this note is legal, and leads to a world of which this is known
   pub record GoesOn (base : World R) (log : List Note) (n : Note) (Known : World R → Type 0) : Type 0 where
     pub legal : IsLegal k base (log ++ n ∷ [])
     pub known : Known (map_of k base (log ++ n ∷ []))
@@ -28,6 +33,17 @@ module _ {R : Type 0} (k : RecordRules R) where
   abbrev pub OneMore : Type 0
   OneMore = (base v w : World R) (log : List Note) (n : Note) → IsSound k base → IsLegal k base log → Holds k (map_of k base log) v
       → IsOf k (map_of k base log) v n → IsDone k v n w → GoesOn base log n (λ m. Holds k m w)
+
+  -- a get, and the question whether one is live, of held records: the same of all, and what is held is held as it was
+  abbrev pub Asks : Type 0
+  Asks = (base v : World R) (log : List Note) (desk call moment : ℕ) (event : Event) (answers : Answers) (keys : List Key)
+      → is_question event ≡ true → IsSound k base → IsLegal k base log → Holds k (map_of k base log) v
+      → IsOf k (map_of k base log) v (question_note desk call moment event (stepped k answers v event).reply keys)
+      → GoesOn base log (question_note desk call moment event (stepped k answers v event).reply keys) (λ m. Holds k m v)
+
+  -- what is held of a world is held with the same records and the same that wait, whatever else an event has come to
+  abbrev pub HeldAlike : Type 0
+  HeldAlike = (m v w : World R) → Holds k m v → w.records ≡ v.records → w.waiting ≡ v.waiting → Holds k m w
 
   -- held records that fall apart into two that no link leaves: both are held
   abbrev pub Falls : Type 0
@@ -73,9 +89,27 @@ module _ {R : Type 0} (k : RecordRules R) where
       → AreHalves all (with_link_changed k v s field link) o → WaitsWithin all
       → GoesOn base log (link_note desk call moment s field link keys) (λ m. Holds k m all)
 
-  -- a change of a record's scan list may be sent by the part that has the record, or before the parts were two
+  -- a link change of a record of v to a record of o, done in steps, where the link stood within v: with another link in its place v falls
+  -- apart into what stays with the record and the rest; what stays, with the new link, and o are one; and then a change of the record's scan
+  -- list is sent. The record forgets the link between
+  abbrev pub LinkMoves : Type 0
+  LinkMoves = (base v o stay rest joined : World R) (log : List Note) (desk call moment s : ℕ) (field : FieldNo) (between link : LinkField) (keys : List Key)
+      → IsSound k base → IsLegal k base log → Holds k (map_of k base log) v → Holds k (map_of k base log) o → Cover keys v → Cover keys o
+      → ((q : ℕ) → Has v q → Has o q → ⊥)
+      → TakesLink k v s field → ((t : ℕ) → Contains (named_by (use_of link)) t → Has joined t)
+      → AreHalves (put v s (k.with_link (at k v s) field between)) stay rest → Has stay s → IsClosed k rest
+      → AreHalves joined (put stay s (k.with_link (at k stay s) field link)) o → WaitsWithin joined → IsClosed k joined
+      → GoesOn base log (link_note desk call moment s field link keys) (λ m. Holds k m (rewired k (device_of k (at k v s)) joined s) × Holds k m rest)
+
+  -- a change of a record's scan list may be sent by the part that has the record, or before there were two; no link leaves it by that
   abbrev pub RescansApart : Type 0
-  RescansApart = (all one other : World R) (device : List ℕ) (s : ℕ) → AreHalves all one other → Has one s → AreHalves (rewired k device all s) (rewired k device one s) other
+  RescansApart = (all one other : World R) (device : List ℕ) (s : ℕ) → AreHalves all one other → Has one s
+      → AreHalves (rewired k device all s) (rewired k device one s) other × (IsClosed k one → IsClosed k (rewired k device one s))
+
+  -- a world at the load is sound: no link leaves it, and nothing has a notification or waits
+  abbrev pub BeginsSound : Type 0
+  BeginsSound = (w : World R) → IsClosed k w → len w.records < 2 ^ 63 → w.live ≡ [] → w.waiting ≡ []
+      → ((n : ℕ) → Has w n → (common_at k w n).notification ≡ Nothing_) → IsSound k w
 
   -- the world that a list leads to is sound if that before it was, and has the same records
   abbrev pub StaysSound : Type 0

@@ -1,4 +1,5 @@
 pub mod Legal
 pub mod Held
 pub mod LinkChange
+pub mod EventLaws
 pub mod Laws

@@ -1,19 +1,15 @@
 //! Laws of held records. Each function's contract is a law; its body only names the laws that it rests on.
-ghost use Rattle.ioc_holding.specs.Laws.{Lasts, OneMore, Falls, Gathers, Opens, HoldsAll, Parts, Joins, LinkParts, LinkJoins, RescansApart, StaysSound, Replays};
+ghost use Rattle.ioc_holding.specs.EventLaws.{EventLaws};
+ghost use Rattle.ioc_holding.specs.Laws.{Lasts, OneMore, Asks, HeldAlike, Falls, Gathers, Opens, HoldsAll, Parts, Joins, LinkParts, LinkJoins, LinkMoves, RescansApart, BeginsSound, StaysSound, Replays};
 
 use ioc_events::event_rules::{events_keep_records, rules_are_steps};
 use ioc_events::local::{counted_waits_keep_apart, events_are_local};
 use ioc_events::notification_rules::{events_count_holders, events_leave_none_ready};
 use ioc_record::RecordKind;
 
-/// Who holds records knows them as long as no note has their keys.
-pub fn holding_lasts<K: RecordKind>()
-    ensures { Lasts K.rules }
-{}
-
-/// An event that concerns held records alone is the same event of all records: the list with its note is legal, and what it leaves is held.
-pub fn events_are_held<K: RecordKind>()
-    ensures { OneMore K.rules }
+// The laws of events that those below rest on.
+fn events_have_laws<K: RecordKind>()
+    ensures { EventLaws K.rules }
 {
     rules_are_steps::<K>();
     events_keep_records::<K>();
@@ -21,6 +17,20 @@ pub fn events_are_held<K: RecordKind>()
     counted_waits_keep_apart::<K>();
     events_count_holders::<K>();
     events_leave_none_ready::<K>();
+}
+
+/// Who holds records knows them as long as no note has their keys.
+pub fn holding_lasts<K: RecordKind>()
+    ensures { Lasts K.rules }
+{}
+
+/// An event that concerns held records alone is the same event of all records: the list with its note is legal, and what it leaves is held.
+/// A get leaves it as it was.
+pub fn events_are_held<K: RecordKind>()
+    ensures event { OneMore K.rules }
+    ensures asks { Asks K.rules }
+{
+    events_have_laws::<K>();
 }
 
 /// An event of held records after which they fall apart: the list with its note is legal, and both parts are held. So it is of a link change
@@ -29,31 +39,24 @@ pub fn parts_are_held<K: RecordKind>()
     ensures event { Parts K.rules }
     ensures link { LinkParts K.rules }
 {
-    rules_are_steps::<K>();
-    events_keep_records::<K>();
-    events_are_local::<K>();
-    counted_waits_keep_apart::<K>();
-    events_count_holders::<K>();
-    events_leave_none_ready::<K>();
+    events_have_laws::<K>();
 }
 
 /// An event of two held parts together: the list with its note is legal, and what it leaves is held. So it is of a link change of a record of
-/// the one to a record of the other: what is held is the one with its link changed, and the other.
+/// the one to a record of the other: what is held is the one with its link changed, and the other. Where the link stood within the one
+/// before, and the change is done in steps, what falls off is held beside.
 pub fn joined_are_held<K: RecordKind>()
     ensures event { Joins K.rules }
     ensures link { LinkJoins K.rules }
+    ensures moves { LinkMoves K.rules }
 {
-    rules_are_steps::<K>();
-    events_keep_records::<K>();
-    events_are_local::<K>();
-    counted_waits_keep_apart::<K>();
-    events_count_holders::<K>();
-    events_leave_none_ready::<K>();
+    events_have_laws::<K>();
 }
 
 /// What is held may be held in parts, and parts together. A part of the world at the load that no link leaves or enters is held; who holds
 /// every record has the records of the world.
 pub fn parts_share_what_is_held<K: RecordKind>()
+    ensures alike { HeldAlike K.rules }
     ensures falls { Falls K.rules }
     ensures gathers { Gathers K.rules }
     ensures opens { Opens K.rules }
@@ -61,21 +64,17 @@ pub fn parts_share_what_is_held<K: RecordKind>()
     ensures rescans { RescansApart K.rules }
 {}
 
-/// Whatever is noted, the world of all stays sound between events, and no record comes or goes.
+/// The world at the load is sound, and whatever is noted, it stays so between events, and no record comes or goes.
 pub fn lists_leave_sound<K: RecordKind>()
-    ensures { StaysSound K.rules }
+    ensures first { BeginsSound K.rules }
+    ensures after { StaysSound K.rules }
 {
-    rules_are_steps::<K>();
-    events_keep_records::<K>();
-    events_are_local::<K>();
-    counted_waits_keep_apart::<K>();
-    events_count_holders::<K>();
-    events_leave_none_ready::<K>();
+    events_have_laws::<K>();
 }
 
 /// A legal list is a run by the rules of events, each at its moment, with its answers and its reply.
 pub fn legal_lists_replay<K: RecordKind>()
     ensures { Replays K.rules }
 {
-    rules_are_steps::<K>();
+    events_have_laws::<K>();
 }

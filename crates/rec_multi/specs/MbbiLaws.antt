@@ -17,7 +17,7 @@ use Rattle.ioc_common.specs.declared.body.Got.{Got}
 use Rattle.ioc_common.specs.Links.{no_link, use_of, named_by_field}
 use Rattle.ioc_record.specs.Values.{sort_in}
 use Rattle.ioc_common.specs.Raw.{is_raw, raw_came, state_came, state_constant}
-use Rattle.ioc_common.specs.Source.{new_source, source_link, source_set_here, source_set_there, source_set_others, source_begin_leads}
+use Rattle.ioc_common.specs.Source.{new_source, source_link, source_set_here, source_set_there, source_set_others, source_set_twice, source_begin_leads}
 use Rattle.ioc_record.specs.BodyRules.{Held}
 use Rattle.ioc_record.specs.BodyLaws.{IsLawfulBody, IsNewBody}
 use Rattle.rec_multi.specs.MultiState.{new_multi_state, multi_get, multi_reads_back, multi_defaults, can_put_by, IsValueBy, default_by}
@@ -95,6 +95,7 @@ mbbi_lawful = record {
   set_here = λ b f l is. source_set_here b.source f l is;
   set_there = λ b f g l. source_set_there b.source f g l;
   set_others = λ b f g l apart. source_set_others b.source f g l apart;
+  set_twice = λ b f l m. ap (λ s. record b { source = s }) (source_set_twice b.source f l m);
   set_type = λ b f l. refl;
   set_values = λ b f l g. refl;
   loaded_type = λ h. refl;

@@ -14,7 +14,7 @@ use Rattle.ioc_common.specs.declared.source.Source.{Source}
 use Rattle.ioc_common.specs.declared.body.Got.{Got}
 use Rattle.ioc_common.specs.Links.{no_link, use_of, named_by_field}
 use Rattle.ioc_record.specs.Values.{field_sort, sort_in}
-use Rattle.ioc_common.specs.Source.{new_source, source_link, source_set_here, source_set_there, source_set_others, source_begin_leads}
+use Rattle.ioc_common.specs.Source.{new_source, source_link, source_set_here, source_set_there, source_set_others, source_set_twice, source_begin_leads}
 use Rattle.ioc_record.specs.BodyRules.{Held}
 use Rattle.ioc_record.specs.BodyLaws.{IsLawfulBody, IsNewBody}
 use Rattle.rec_text.specs.TextInput.{new_text_input, text_input_get, text_input_stored, stored-source, came-source, put-source}
@@ -57,6 +57,7 @@ stringin_lawful = record {
   set_here = λ b f l is. source_set_here b.text.source f l is;
   set_there = λ b f g l. source_set_there b.text.source f g l;
   set_others = λ b f g l apart. source_set_others b.text.source f g l apart;
+  set_twice = λ b f l m. ap (λ s. record b { text = record b.text { source = s } }) (source_set_twice b.text.source f l m);
   set_type = λ b f l. refl;
   set_values = λ b f l g. refl;
   loaded_type = λ h. refl;

@@ -23,7 +23,7 @@ use Rattle.ioc_common.specs.declared.body.Got.TheVariants as got
 use Rattle.ioc_common.specs.declared.body.Output.TheVariants.{NoOutput, WriteLink}
 use Rattle.ioc_common.specs.Links.{no_link, use_of, named_by_field}
 use Rattle.ioc_record.specs.Values.{field_sort, sort_in}
-use Rattle.ioc_common.specs.Drive.{new_drive, drive_link, drive_with_link, drive_get, drives, sets, written, drive_stored-output, drive_stored-desired, omsl_reads_back, ivoa_reads_back, begin_leads, written_leads, drive_set_here, drive_set_there, drive_set_others, drive_set_values}
+use Rattle.ioc_common.specs.Drive.{new_drive, drive_link, drive_with_link, drive_get, drives, sets, written, drive_stored-output, drive_stored-desired, omsl_reads_back, ivoa_reads_back, begin_leads, written_leads, drive_set_here, drive_set_there, drive_set_others, drive_set_twice, drive_set_values}
 use Rattle.ioc_record.specs.BodyRules.{Held}
 use Rattle.ioc_record.specs.BodyLaws.{IsLawfulBody, IsNewBody}
 use Rattle.rec_text.specs.declared.stringout.Stringout.{Stringout}
@@ -131,6 +131,7 @@ stringout_lawful = record {
   set_here = λ b f l is. drive_set_here b.drive f l is;
   set_there = λ b f g l. drive_set_there b.drive f g l;
   set_others = λ b f g l apart. drive_set_others b.drive f g l apart;
+  set_twice = λ b f l m. ap (λ d. record b { drive = d }) (drive_set_twice b.drive f l m);
   set_type = λ b f l. refl;
   set_values = set-values;
   loaded_type = λ h. refl;

@@ -1,15 +1,9 @@
+use Rattle.ioc_holding.proofs.Asking.{asks}
 use Rattle.ioc_holding.proofs.Doing.{one-more}
 use Rattle.ioc_holding.proofs.laws.events_are_held.Goals as goal
 
-pub returns : goal.returns
-returns g c =
-    one-more g.K.RecordKind.rules g.met.K.RecordKind.lawful
-    (record {
-      allowed = c.rules_are_steps.ensures.allowed;
-      kept = c.events_keep_records.ensures;
-      counted = c.events_count_holders.ensures.event;
-      none_ready = c.events_leave_none_ready.ensures;
-      local = c.events_are_local.ensures;
-      apart = c.counted_waits_keep_apart.ensures.apart;
-      within = c.counted_waits_keep_apart.ensures.within;
-    })
+pub returns-clause-event : goal.returns-clause-event
+returns-clause-event g c = one-more g.K.RecordKind.rules g.met.K.RecordKind.lawful c.events_have_laws.ensures
+
+pub returns-clause-asks : goal.returns-clause-asks
+returns-clause-asks g c = asks g.K.RecordKind.rules g.met.K.RecordKind.lawful c.events_have_laws.ensures

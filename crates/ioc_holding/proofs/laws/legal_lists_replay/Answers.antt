@@ -2,4 +2,4 @@ use Rattle.ioc_holding.proofs.Replaying.{replays}
 use Rattle.ioc_holding.proofs.laws.legal_lists_replay.Goals as goal
 
 pub returns : goal.returns
-returns g c = replays g.K.RecordKind.rules c.rules_are_steps.ensures.allowed
+returns g c = replays g.K.RecordKind.rules c.events_have_laws.ensures

@@ -1,0 +1,78 @@
+-- A get and a question change nothing.
+use Rattle.std.proofs.Common.{◌≡◌, ℕ, Bool, true, false, cond, List, [], ◌∷◌, ◌++◌, refl, ap}
+use Rattle.std.specs.Prelude.{is_some}
+use Rattle.std.specs.FinMap.{contains_key}
+use Rattle.ioc_values.specs.declared.error.IocError.TheVariants.{NoRecord, NoField}
+use Rattle.ioc_fields.specs.declared.field_no.FieldNo.{FieldNo}
+use Rattle.ioc_fields.specs.Table.{row_of}
+use Rattle.ioc_ledger.specs.Requests.{None}
+use Rattle.ioc_record.specs.RecordRules.{RecordRules}
+use Rattle.ioc_record.specs.Values.{text_of}
+use Rattle.ioc_record.specs.Laws.{IsLawful}
+use Rattle.ioc_store.specs.World.{World, at, begun, begun_at}
+use Rattle.ioc_store.specs.Given.{Answers, listed, answers_of}
+use Rattle.ioc_events.specs.declared.event.Event.{Event}
+use Rattle.ioc_events.specs.declared.event.Event.TheVariants.{Get, Process, Put, Complete, Link, Notify, Cancel, IsLive}
+use Rattle.ioc_events.specs.declared.reply.Reply.TheVariants.{Shown}
+use Rattle.ioc_events.specs.Step.{Stepped, refused, stepped, done_alone, done_there}
+use Rattle.ioc_line.specs.Key.{Key}
+use Rattle.ioc_holding.specs.Legal.{done, map_of}
+use Rattle.ioc_holding.specs.Held.{IsDone, is_question, question_note}
+use Rattle.ioc_holding.specs.EventLaws.{EventLaws}
+use Rattle.ioc_holding.specs.Laws.{Asks}
+use Rattle.ioc_holding.proofs.Doing.{one-more}
+use Rattle.ioc_holding.proofs.Linking.{held-alike}
+
+module _ {R : Type 0} (k : RecordRules R) where
+  -- what a get comes to, by whether the record is there and the field
+  abbrev gets : R → FieldNo → Bool → Bool → World R → Stepped R
+  gets r field there has w = cond {A = Stepped R} there (cond {A = Stepped R} has (record { world = w; reply = Shown (text_of k r field); requests = None }) (refused w NoField)) (refused w NoRecord)
+
+  get-world : (r : R) (field : FieldNo) (there has : Bool) (w : World R) → (gets r field there has w).world ≡ w
+  get-world r field true true w = refl
+  get-world r field true false w = refl
+  get-world r field false has w = refl
+
+  get-reply : (r : R) (field : FieldNo) (there has : Bool) (w v : World R) → (gets r field there has w).reply ≡ (gets r field there has v).reply
+  get-reply r field true true w v = refl
+  get-reply r field true false w v = refl
+  get-reply r field false has w v = refl
+
+  question-world : (answers : Answers) (w : World R) (event : Event) → is_question event ≡ true → (stepped k answers w event).world ≡ w
+  unfolding stepped done_alone done_there
+  question-world answers w (Get s field) is = get-world (at k w s) field (contains_key w.records s) (is_some (row_of (k.record_type (at k w s)) field)) w
+  question-world answers w (IsLive number) is = refl
+  question-world answers w (Process s) is = cc
+  question-world answers w (Put s field given) is = cc
+  question-world answers w (Complete s number x) is = cc
+  question-world answers w (Link s field link) is = cc
+  question-world answers w (Notify s number field given) is = cc
+  question-world answers w (Cancel number) is = cc
+
+  -- it is answered alike at any moment
+  question-reply : (answers others : Answers) (moment : ℕ) (w : World R) (event : Event) → is_question event ≡ true → (stepped k answers (begun_at moment w) event).reply ≡ (stepped k others w event).reply
+  unfolding at begun begun_at stepped done_alone done_there
+  question-reply answers others moment w (Get s field) is =
+      get-reply (at k w s) field (contains_key w.records s) (is_some (row_of (k.record_type (at k w s)) field)) (begun_at moment w) w
+  question-reply answers others moment w (IsLive number) is = refl
+  question-reply answers others moment w (Process s) is = cc
+  question-reply answers others moment w (Put s field given) is = cc
+  question-reply answers others moment w (Complete s number x) is = cc
+  question-reply answers others moment w (Link s field link) is = cc
+  question-reply answers others moment w (Notify s number field given) is = cc
+  question-reply answers others moment w (Cancel number) is = cc
+
+module _ {R : Type 0} (k : RecordRules R) (lawful : IsLawful k) (laws : EventLaws k) where
+  question-done : (v : World R) (desk call moment : ℕ) (event : Event) (answers : Answers) (keys : List Key) → is_question event ≡ true
+      → IsDone k v (question_note desk call moment event (stepped k answers v event).reply keys) (begun_at moment v)
+  unfolding begun begun_at done
+  question-done v desk call moment event answers keys is =
+      let same = question-world k (listed []) (begun_at moment v) event is in
+      record { world = same; reply = question-reply k (listed []) answers moment v event is; used = ap (λ (w : World R). answers_of w.calls) same }
+
+  pub asks : Asks k
+  unfolding begun begun_at
+  asks base v log desk call moment event answers keys is sound legal holds of =
+      let n = question_note desk call moment event (stepped k answers v event).reply keys in
+      let more = one-more k lawful laws base v (begun_at moment v) log n sound legal holds of (question-done v desk call moment event answers keys is) in
+      record { legal = more.legal; known = held-alike k (map_of k base (log ++ n ∷ [])) (begun_at moment v) v (λ q. refl) refl more.known }
