@@ -1,0 +1,29 @@
+//! What events leave of a lock set. Each function's contract is a law; its body is empty.
+ghost use Rattle.std.specs.Prelude.{◌<◌, length};
+ghost use Rattle.ioc_members.specs.Contents.{Devices};
+ghost use Rattle.ioc_events.specs.declared.event.Entry.{Entry};
+ghost use Rattle.ioc_set.specs.Held.{Held, folded, held_after};
+ghost use Rattle.ioc_set.specs.Sound.{IsSound, TellsOf};
+
+use ioc_events::event_rules::{events_keep_links, events_leave_settled, rules_are_steps};
+use ioc_events::notification_rules::{
+    events_count_holders, events_leave_holders_awaiting, events_leave_none_ready,
+};
+use ioc_process::rules::settled_by_records;
+use ioc_record::RecordKind;
+
+/// Whatever event but a link change is done on a lock set, and kept behind its history, what holds of the set whenever it is free
+/// holds after it; so it does once the history is forgotten, which then begins anew.
+pub fn events_leave_sound<K: RecordKind, D>()
+    ensures event { (h : Held K D) (entry : Entry) (devices : Devices D) → IsSound K.rules h → length h.history < 64 → TellsOf K.rules h entry →
+        IsSound K.rules (held_after K.rules h entry devices) }
+    ensures folded { (h : Held K D) → IsSound K.rules h → IsSound K.rules (folded h) }
+{
+    events_keep_links::<K>();
+    events_leave_settled::<K>();
+    rules_are_steps::<K>();
+    events_count_holders::<K>();
+    events_leave_holders_awaiting::<K>();
+    events_leave_none_ready::<K>();
+    settled_by_records::<K>();
+}
