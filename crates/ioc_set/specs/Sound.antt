@@ -1,6 +1,6 @@
 -- What holds of a lock set whenever it is free.
 -- Application Developer's Guide, "Database Locking, Scanning, and Processing": records that links join are in one lock set.
-use Rattle.std.specs.Prelude.{◌≡◌, ◌≤◌, false, List, length}
+use Rattle.std.specs.Prelude.{◌≡◌, ◌≤◌, false, length}
 use Rattle.ioc_record.specs.RecordRules.{RecordRules}
 use Rattle.ioc_members.specs.Joined.{links_of, IsPart}
 use Rattle.ioc_store.specs.World.{World}

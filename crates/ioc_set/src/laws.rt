@@ -9,7 +9,6 @@ use ioc_events::event_rules::{events_keep_links, events_leave_settled, rules_are
 use ioc_events::notification_rules::{
     events_count_holders, events_leave_holders_awaiting, events_leave_none_ready,
 };
-use ioc_process::rules::settled_by_records;
 use ioc_record::RecordKind;
 
 /// Whatever event but a link change is done on a lock set, and kept behind its history, what holds of the set whenever it is free
@@ -25,5 +24,4 @@ pub fn events_leave_sound<K: RecordKind, D>()
     events_count_holders::<K>();
     events_leave_holders_awaiting::<K>();
     events_leave_none_ready::<K>();
-    settled_by_records::<K>();
 }
