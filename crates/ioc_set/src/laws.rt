@@ -1,5 +1,9 @@
 //! What events leave of a lock set. Each function's contract is a law; its body is empty.
-ghost use Rattle.std.specs.Prelude.{◌<◌, length};
+ghost use Rattle.std.specs.Prelude.{◌≡◌, ◌≢◌, ◌<◌, ℕ, [], ◌∷◌, length};
+ghost use Rattle.ioc_store.specs.World.{World};
+ghost use Rattle.ioc_events.specs.declared.reply.Reply.TheVariants.{Notify};
+ghost use Rattle.ioc_events.specs.Holding.{IsCounted};
+ghost use Rattle.ioc_events.specs.StepRules.{Replay};
 ghost use Rattle.ioc_members.specs.Contents.{Devices};
 ghost use Rattle.ioc_events.specs.declared.event.Entry.{Entry};
 ghost use Rattle.ioc_set.specs.Held.{Held, folded, held_after};
@@ -8,6 +12,7 @@ ghost use Rattle.ioc_set.specs.Sound.{IsSound, TellsOf};
 use ioc_events::event_rules::{events_keep_links, events_leave_settled, rules_are_steps};
 use ioc_events::notification_rules::{
     events_count_holders, events_leave_holders_awaiting, events_leave_none_ready,
+    those_over_never_end,
 };
 use ioc_record::RecordKind;
 
@@ -24,4 +29,14 @@ pub fn events_leave_sound<K: RecordKind, D>()
     events_count_holders::<K>();
     events_leave_holders_awaiting::<K>();
     events_leave_none_ready::<K>();
+}
+
+/// Where no put with notification is live, none is live or waits after an event, unless it is answered that one has begun. So a set
+/// needs room for them only from its first put with notification on.
+pub fn none_live_stays_so<K: RecordKind>()
+    ensures { (w after : World K) (entry : Entry) → Replay K.rules w (entry ∷ []) after → IsCounted K.rules w → w.live ≡ [] →
+        ((n : ℕ) → entry.reply ≢ Notify n) → (after.live ≡ []) × (after.waiting ≡ []) }
+{
+    events_count_holders::<K>();
+    those_over_never_end::<K>();
 }
