@@ -1,17 +1,24 @@
 -- What holds of a lock set whenever it is free.
 -- Application Developer's Guide, "Database Locking, Scanning, and Processing": records that links join are in one lock set.
-use Rattle.std.specs.Prelude.{◌≡◌, ◌≤◌, false, length}
+use Rattle.std.specs.Prelude.{◌≡◌, ◌≤◌, Bool, true, false, length}
 use Rattle.ioc_record.specs.RecordRules.{RecordRules}
 use Rattle.ioc_members.specs.Joined.{links_of, IsPart}
 use Rattle.ioc_store.specs.World.{World}
 use Rattle.ioc_store.specs.Given.{answers_of}
 use Rattle.ioc_process.specs.Rules.{IsSettled}
+use Rattle.ioc_events.specs.declared.event.Event.{Event}
+use Rattle.ioc_events.specs.declared.event.Event.TheVariants.{Notify}
 use Rattle.ioc_events.specs.declared.event.Entry.{Entry}
 use Rattle.ioc_events.specs.Step.{is_link_change}
 use Rattle.ioc_events.specs.StepRules.{Replay}
 use Rattle.ioc_events.specs.Starting.{NoneReady}
 use Rattle.ioc_events.specs.Holding.{IsCounted, HoldersAwait}
 use Rattle.ioc_set.specs.Held.{Held, now_of, before_of, done_by, counted_on}
+
+-- a put with notification
+abbrev pub is_put_with_notification : Event → Bool
+is_put_with_notification (Notify s number field given) = true
+is_put_with_notification _ = false
 
 module _ {R D : Type 0} (k : RecordRules R) where
   -- the events of the history, one after another, lead from what was before them to what is there

@@ -1,13 +1,17 @@
 //! What events leave of a lock set. Each function's contract is a law; its body is empty.
-ghost use Rattle.std.specs.Prelude.{◌≡◌, ◌≢◌, ◌<◌, ℕ, [], ◌∷◌, length};
+ghost use Rattle.std.specs.Prelude.{◌≡◌, ◌≢◌, ◌<◌, ℕ, true, [], ◌∷◌, length};
+ghost use Rattle.ioc_ledger.specs.Requests.{Requests};
+ghost use Rattle.ioc_store.specs.Given.{Answers};
+ghost use Rattle.ioc_events.specs.declared.event.Event.{Event};
+ghost use Rattle.ioc_events.specs.declared.reply.Reply.{Reply};
 ghost use Rattle.ioc_store.specs.World.{World};
 ghost use Rattle.ioc_events.specs.declared.reply.Reply.TheVariants.{Notify};
 ghost use Rattle.ioc_events.specs.Holding.{IsCounted};
-ghost use Rattle.ioc_events.specs.StepRules.{Replay};
+ghost use Rattle.ioc_events.specs.StepRules.{Replay, Step};
 ghost use Rattle.ioc_members.specs.Contents.{Devices};
 ghost use Rattle.ioc_events.specs.declared.event.Entry.{Entry};
 ghost use Rattle.ioc_set.specs.Held.{Held, folded, held_after};
-ghost use Rattle.ioc_set.specs.Sound.{IsSound, TellsOf};
+ghost use Rattle.ioc_set.specs.Sound.{IsSound, TellsOf, is_put_with_notification};
 
 use ioc_events::event_rules::{events_keep_links, events_leave_settled, rules_are_steps};
 use ioc_events::notification_rules::{
@@ -40,3 +44,9 @@ pub fn none_live_stays_so<K: RecordKind>()
     events_count_holders::<K>();
     those_over_never_end::<K>();
 }
+
+/// A put with notification begins by no other event.
+pub fn notifications_begin_by_notify<K: RecordKind>()
+    ensures { (answers : Answers) (w after : World K) (event : Event) (reply : Reply) (requests : Requests) (n : ℕ) →
+        Step K.rules answers w event after reply requests → reply ≡ Notify n → is_put_with_notification event ≡ true }
+{}
