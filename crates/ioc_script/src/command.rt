@@ -1,8 +1,7 @@
 //! What a line of a script asks for.
 ghost use Rattle.std.specs.Prelude.{◌≡◌, option_map};
-ghost use Rattle.ioc_main.specs.Script.{command_of, worded, by_verb, process_of, put_of, get_of, at_of, next_by, next_of, done_of, fault_of, by_device_verb, by_scan_verb, by_link_verb, link_of, interrupt_of, period_named, scan_of, by_notify_verb, notify_of, cancel_of};
-ghost use Rattle.ioc_main.specs.Seen.{seen, bytes};
-ghost use Rattle.ioc_main.specs.Replay.{is_silent};
+ghost use Rattle.ioc_script.specs.Script.{command_of, worded, by_verb, process_of, put_of, get_of, at_of, next_by, next_of, done_of, fault_of, by_device_verb, by_scan_verb, by_link_verb, link_of, interrupt_of, period_named, scan_of, by_notify_verb, notify_of, cancel_of, is_silent};
+ghost use Rattle.ioc_script.specs.Seen.{seen, bytes};
 
 use crate::parts::cut_at;
 use ioc_menus::{Menu, Scan, choice};
