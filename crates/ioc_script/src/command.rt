@@ -75,8 +75,31 @@ impl<'a> Command<'a> {
     }
 }
 
-// A line of words that one space parts.
+// A line of words that one space parts. Gets, puts and requests are told by their first bytes, since most lines are these.
+#[tactic(auto, using(crate::proofs::Verbs::get_line, crate::proofs::Verbs::put_line, crate::proofs::Verbs::process_line))]
 fn worded(line: &[u8]) -> Command<'_>
+    ensures { seen result ≡ worded line.now }
+{
+    match line {
+        [b'g', b'e', b't', b' ', words @ ..] => {
+            let (word, more) = cut_at(words, b' ');
+            get(word, more)
+        }
+        [b'p', b'u', b't', b' ', words @ ..] => {
+            let (word, text) = cut_at(words, b' ');
+            put(word, text)
+        }
+        [b'p', b'r', b'o', b'c', b'e', b's', b's', b' ', words @ ..] => {
+            let (word, more) = cut_at(words, b' ');
+            process(word, more)
+        }
+        _ => by_first_word(line),
+    }
+}
+
+// The same by the first word.
+#[inline(never)]
+fn by_first_word(line: &[u8]) -> Command<'_>
     ensures { seen result ≡ worded line.now }
 {
     let (verb, words) = cut_at(line, b' ');
