@@ -1,8 +1,13 @@
 -- Where no record has PINI, none is processed at the start.
-use Rattle.std.proofs.Common.{◌≡◌, ℕ, ◌+◌, zero, suc, Bool, true, false, ◌||◌, List, [], ◌∷◌, ◌++◌, length, replicate, Option, Some, refl, ap, ◌∙◌}
+use Rattle.std.proofs.Common.{◌≡◌, ℕ, ◌+◌, zero, suc, Bool, true, false, ◌||◌, List, [], ◌∷◌, ◌++◌, length, replicate, Option, Some, refl, sym, ap, ◌∙◌}
 use Rattle.std.proofs.Common.{None as Nothing_}
 use Rattle.std.specs.Prelude.{is_some}
 use Rattle.std.specs.List.{list_any}
+use Rattle.std.specs.FinMap.{empty, entries, from_entries, len-entries, len-empty}
+use Rattle.std.specs.declared.cmp.Ordering.{Ordering}
+use Rattle.std.proofs.lemmas.List.{nil_from_length}
+use Rattle.ioc_scan.specs.contracts.position.PositionOrd.TheImpl as order_of
+use Rattle.ioc_scan.specs.Standing.{standing}
 use Rattle.ioc_scan.specs.declared.list_name.ListName.TheVariants.{Start}
 use Rattle.ioc_scan.specs.declared.list_name.Place.{Place}
 use Rattle.ioc_scan.specs.declared.position.Position.{Position}
@@ -19,10 +24,16 @@ none_stand : (count n : ℕ) → all_standing n (replicate count new_entry) ≡ 
 none_stand zero n = refl
 none_stand (suc count) n = none_stand count (1 + n)
 
+-- an empty map has no entries
+none_entered : {K X : Type 0} (R : K → K → Ordering) → entries (empty {X = X} {R = R}) ≡ []
+none_entered {X = X} R = nil_from_length _ (sym (len-entries empty) ∙ len-empty R X)
+
 -- nobody is walked
 none_walked : (count : ℕ) → walked (new_lists count) Start ≡ []
 unfolding walked
-none_walked count = rw (none_stand count 0) refl
+none_walked count =
+    ap (λ (es : List (Position × Listed)). standing Start (entries (from_entries {R = order_of.ghosts.cmp} es))) (none_stand count 0)
+    ∙ ap (standing Start) (none_entered {X = Listed} order_of.ghosts.cmp)
 
 unmoved : (s : Scanned) (n : ℕ) (place : Option Place) → is_some place ≡ false → added s n place ≡ s
 unmoved s n Nothing_ is = refl
