@@ -37,7 +37,9 @@ pub fn push_new<R: NewRecord>(
     ensures ok { OnOk result (records.new.items ≡ records.old.items ++ R.created record_type name ∷ []) }
     ensures err { OnErr result (records.new.items ≡ records.old.items) }
 {
+    // Room is taken first: a push that can fail carries the record back, which is large.
+    records.reserve(1)?;
     let record = R::create(alloc, record_type, name)?;
-    records.push(record)?;
+    records.push_reserved(record);
     Ok(())
 }

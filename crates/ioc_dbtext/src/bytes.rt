@@ -1,5 +1,5 @@
 //! Bytes of a database text, and the parts that they cut.
-ghost use Rattle.std.specs.Prelude.{◌≡◌, false};
+ghost use Rattle.std.specs.Prelude.{◌≡◌, false, true, None, IfSome};
 ghost use Rattle.ioc_dbtext.specs.Bytes.{is_word_byte, word_of, behind_word, closes, escapes, quoted_of, behind_quoted, behind_gap};
 
 /// Whether a byte may stand in a bareword.
@@ -37,20 +37,26 @@ pub fn split_word(bytes: &[u8]) -> (&[u8], &[u8])
     (&bytes[..count], rest)
 }
 
-/// Whether a byte closes a quoted text.
-#[tactic(auto, unfolding(crate::specs::Bytes::closes))]
-fn closes(escaped: bool, b: u8) -> bool
-    ensures { result ≡ closes escaped b }
-{
-    !escaped && b == b'"'
-}
-
 /// Whether the next byte is escaped.
 #[tactic(auto, unfolding(crate::specs::Bytes::escapes))]
 pub fn escapes(escaped: bool, b: u8) -> bool
     ensures { result ≡ escapes escaped b }
 {
     !escaped && b == b'\\'
+}
+
+/// Whether the byte behind this one is escaped; none where this one closes the text. Two comparisons tell that of most bytes.
+#[inline(always)]
+#[tactic(auto, unfolding(crate::specs::Bytes::closes, crate::specs::Bytes::escapes))]
+fn escaped_behind(escaped: bool, b: u8) -> Option<bool>
+    ensures open { IfSome result (λ next. (closes escaped b ≡ false) × (next ≡ escapes escaped b)) }
+    ensures closed { result ≡ None → closes escaped b ≡ true }
+{
+    match b {
+        b'"' => if escaped { Some(false) } else { None },
+        b'\\' => Some(!escaped),
+        _ => Some(false),
+    }
 }
 
 /// The text up to the closing quote or the line's end, and what stands from there on.
@@ -63,10 +69,10 @@ pub fn split_quoted(bytes: &[u8]) -> (&[u8], &[u8])
     let mut escaped = false;
     let mut rest = bytes;
     while let [first, after @ ..] = rest {
-        if closes(escaped, *first) {
+        let Some(next) = escaped_behind(escaped, *first) else {
             break;
-        }
-        escaped = escapes(escaped, *first);
+        };
+        escaped = next;
         count += 1;
         rest = after;
     }

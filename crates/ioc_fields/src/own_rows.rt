@@ -213,6 +213,7 @@ fn fanout_row(field: OwnField) -> Option<Row>
 }
 
 // The row of a field, where the type has it of its own.
+#[inline(always)]
 #[tactic(auto, unfolding(crate::specs::Table::own_row))]
 pub fn own_row(record_type: RecordType, field: OwnField) -> Option<Row>
     ensures { result ≡ own_row record_type field }

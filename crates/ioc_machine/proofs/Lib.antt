@@ -3,3 +3,4 @@ pub mod Eventing
 pub mod Serving
 pub mod Closing
 pub mod Joining
+pub mod Starting

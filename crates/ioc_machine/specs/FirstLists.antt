@@ -1,5 +1,5 @@
 -- The scan lists of a loaded database. Application Developer's Guide, "Scanning Specification": scanInit, and records with PINI.
-use Rattle.std.specs.Prelude.{ℕ, ◌+◌, List, [], ◌∷◌, length, Option, Some}
+use Rattle.std.specs.Prelude.{ℕ, ◌+◌, List, [], ◌∷◌, length, Bool, is_some, Option, Some}
 use Rattle.std.specs.Prelude.{None as Nothing_}
 use Rattle.ioc_menus.specs.declared.pini.Pini.{Pini}
 use Rattle.ioc_menus.specs.declared.pini.Pini.TheVariants.{Yes, No}
@@ -39,6 +39,10 @@ module _ {R : Type 0} (k : RecordRules R) where
   -- all records are added, in the order of their numbers
   unfoldable pub first_lists : Occasion → List R → Scanned
   first_lists occasion records = with_each occasion (new_lists (length records)) 0 records
+
+  -- is a record processed once at the start?
+  abbrev pub is_starter : R → Bool
+  is_starter r = is_some (place_of When-starting r)
 
   -- the records that are processed once at the start: by PHAS, then by number
   unfoldable pub starters : List R → List Listed

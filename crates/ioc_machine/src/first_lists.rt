@@ -1,15 +1,16 @@
 //! The scan lists of a loaded database.
 ghost use Rattle.std.specs.Prelude.{◌≡◌, ◌<◌, ◌≤◌, ◌-◌, ◌^◌, false, length, None, IfOk, OnOk};
+ghost use Rattle.std.specs.List.{list_any};
 ghost use Rattle.ioc_types.specs.Record.{record_rules};
 ghost use Rattle.ioc_machine.specs.Scanner.{place_by};
-ghost use Rattle.ioc_machine.specs.FirstLists.{added, place_of, start_place, first_lists};
+ghost use Rattle.ioc_machine.specs.FirstLists.{added, place_of, start_place, first_lists, is_starter, starters};
 
 use ioc_common::Scanning as ScanFields;
 use ioc_links::MAX_DEVICE_BYTES;
 use ioc_menus::{Pini, Scan};
 use ioc_names::RecordNo;
 use ioc_record::RecordKind;
-use ioc_scan::{ListName, Place, ScanLists};
+use ioc_scan::{ListName, Listed, Place, ScanLists};
 use ioc_store::device_of;
 use ioc_types::Record;
 use ioc_values::Short;
@@ -119,4 +120,45 @@ pub fn first_lists(
         rest = others;
     }
     Ok(lists)
+}
+
+// Does a record have PINI?
+fn any_starts(records: &[Record]) -> bool
+    ensures { result ≡ list_any (is_starter record_rules) records.now }
+{
+    let mut rest = records;
+    while let [item, others @ ..] = rest {
+        if item.common().scanning.at_start == Pini::Yes {
+            return true;
+        }
+        rest = others;
+    }
+    false
+}
+
+/// The records that are processed once at the start, in the order of PHAS, then of their numbers. Lists are made for them only where
+/// there is one.
+///
+/// # Errors
+///
+/// [`AllocError`] where memory is wanting.
+#[tactic(auto, using(crate::proofs::Starting::none_starts))]
+pub fn starters(alloc: Global, records: &[Record]) -> Result<Vec<Listed>, AllocError>
+    ensures { IfOk result (λ listed. listed.items ≡ starters record_rules records.now) }
+{
+    if !any_starts(records) {
+        return Ok(Vec::new(alloc));
+    }
+    listed_starters(alloc, records)
+}
+
+// The same by the list of those with PINI.
+#[tactic(auto, unfolding(crate::specs::FirstLists::starters))]
+fn listed_starters(alloc: Global, records: &[Record]) -> Result<Vec<Listed>, AllocError>
+    ensures { IfOk result (λ listed. listed.items ≡ starters record_rules records.now) }
+{
+    let lists = first_lists(alloc, Occasion::Starting, records)?;
+    let mut listed = Vec::new(alloc);
+    lists.walk(&ListName::Start, &mut listed)?;
+    Ok(listed)
 }

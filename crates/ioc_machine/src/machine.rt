@@ -8,7 +8,7 @@ ghost use Rattle.ioc_process.specs.Rules.{IsSettled};
 ghost use Rattle.ioc_dbfile.specs.FirstWorld.{first_world};
 ghost use Rattle.ioc_machine.specs.Machine.{first_queue};
 
-use crate::first_lists::{Occasion, first_lists};
+use crate::first_lists::{Occasion, first_lists, starters};
 use crate::leads::lead_among;
 use crate::scanner::Scanner;
 use crate::scripted::Scripted;
@@ -114,9 +114,7 @@ impl Machine {
         requires { IsSettled record_rules (first_world records.items) }
         ensures { IfOk result (λ m. machine_of m ≡ first_machine record_rules records.items) }
     {
-        let lists = first_lists(alloc, Occasion::Starting, records.as_slice())?;
-        let mut starters = Vec::new(alloc);
-        lists.walk(&ListName::Start, &mut starters)?;
+        let starters = starters(alloc, records.as_slice())?;
         let mut machine = Machine::loaded(alloc, records)?;
         machine.request_each(starters.as_slice())?;
         Ok(machine)

@@ -14,7 +14,7 @@ use Rattle.ioc_values.specs.declared.error.IocError.{IocError}
 use Rattle.ioc_values.specs.declared.error.IocError.TheVariants as refusal
 use Rattle.ioc_dbfile.specs.Statements.{Gives}
 use Rattle.ioc_dbfile.specs.SeenDatabase.{database_of}
-use Rattle.ioc_main.specs.Script.{lines_of}
+use Rattle.ioc_script.specs.Script.{lines_of}
 use Rattle.ioc_machine.specs.Machine.{Machine, first_machine}
 use Rattle.ioc_main.specs.Replay.{transcript}
 use Rattle.ioc_main.specs.Written.{WritesFront, WritesPart, StopsScript}

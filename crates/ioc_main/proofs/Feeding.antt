@@ -1,7 +1,7 @@
 -- A script piece by piece.
 use Rattle.std.proofs.Common.{◌≡◌, ℕ, ◌<◌, List, [], ◌∷◌, ◌++◌, length, take, ◌≤◌, arith, Option, Some, None, refl, sym, ap, subst, ◌∙◌}
 use Rattle.std.specs.Io.KnownBytes.{Appends}
-use Rattle.ioc_main.specs.Script.{lines_of, cut, before, behind}
+use Rattle.ioc_script.specs.Script.{lines_of, cut, before, behind}
 use Rattle.ioc_main.specs.Coming.{to_come, CutsLines}
 use Rattle.ioc_main.specs.Written.{Writes, StopsLine}
 use Rattle.ioc_main.specs.declared.fault.LineFault.{LineFault}

@@ -3,7 +3,6 @@ pub mod Cutting
 pub mod ComingLemmas
 pub mod Feeding
 pub mod Reading
-pub mod Words
 pub mod Beginning
 pub mod Getting
 pub mod Bracing

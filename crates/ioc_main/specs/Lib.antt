@@ -1,7 +1,5 @@
-pub mod Script
 pub mod Coming
 pub mod Written
-pub mod Seen
 pub mod Relink
 pub mod Sets
 pub mod Replay

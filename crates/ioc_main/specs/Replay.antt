@@ -7,59 +7,23 @@ use Rattle.ioc_values.specs.declared.value.Finished.{Finished}
 use Rattle.ioc_values.specs.declared.value.Finished.TheVariants.{Done as Finished-done, Fault as Finished-fault}
 use Rattle.ioc_values.specs.declared.error.IocError.{IocError}
 use Rattle.ioc_values.specs.declared.error.IocError.TheVariants.{NoRecord, NoField}
-use Rattle.ioc_values.specs.Words.{refusal_words}
 use Rattle.ioc_values.specs.Conversion.{input_of}
 use Rattle.ioc_names.specs.NameTable.{NameTable, number_of}
 use Rattle.ioc_fields.specs.declared.field_no.FieldNo.{FieldNo}
 use Rattle.ioc_fields.specs.Names.{field_of}
 use Rattle.ioc_device.specs.declared.Answer.{Answer}
 use Rattle.ioc_device.specs.declared.Answer.TheVariants.{Done as Answer-done, Fault as Answer-fault, Later as Answer-later}
-use Rattle.ioc_ledger.specs.declared.outcome.Outcome.{Outcome}
-use Rattle.ioc_ledger.specs.declared.outcome.Outcome.TheVariants.{Processed, Disabled, Active, Reprocess}
-use Rattle.ioc_ledger.specs.declared.tally.Tally.{Tally}
 use Rattle.ioc_record.specs.RecordRules.{RecordRules}
-use Rattle.ioc_events.specs.declared.reply.Reply.{Reply}
-use Rattle.ioc_events.specs.declared.reply.Reply.TheVariants.{Plain, Outcome as Outcome-reply, Shown, Notify as Notify-reply, Live as Live-reply, Refused}
 use Rattle.ioc_store.specs.World.{World, at}
 use Rattle.ioc_events.specs.declared.event.Event.TheVariants.{Get as Get-event, Process as Process-event, Put as Put-event, Complete as Complete-event}
 use Rattle.ioc_events.specs.Step.{stepped}
-use Rattle.ioc_main.specs.Script.{Command, Silent, Bad, Process, Put, Get, At, Next-done, Next-fault, Next-later, Done, Fault, Event, Interrupt, Scan, Link, Tally as Tally-command, command_of, Notify, Cancel, Sets}
+use Rattle.ioc_script.specs.Script.{Command, Silent, Bad, Process, Put, Get, At, Next-done, Next-fault, Next-later, Done, Fault, Event, Interrupt, Scan, Link, Tally as Tally-command, command_of, is_silent, Notify, Cancel, Sets}
+use Rattle.ioc_script.specs.Replies.{reply_words, count_words, tally_words}
 use Rattle.ioc_scan.specs.declared.list_name.ListName.TheVariants.{Period as Period-list}
 use Rattle.ioc_main.specs.Sets.{sets_line}
 use Rattle.ioc_machine.specs.Scanner.{event_list, interrupt_list}
 use Rattle.ioc_main.specs.Relink.{were_linked}
 use Rattle.ioc_machine.specs.Machine.{Machine, Told, Counted, answers_from, refused, queued_at, queued_on, at_moment, most_served, done, scanned, serve, with_none_ended, notified, given_up}
-
--- what the outcome of a request is called
-unfoldable pub outcome_words : Outcome → List ℕ
-outcome_words Processed = codes "ok processed"
-outcome_words Disabled = codes "ok disabled"
-outcome_words Active = codes "ok active"
-outcome_words Reprocess = codes "ok reprocess"
-
--- is a put with notification live?
-unfoldable pub live_words : Bool → List ℕ
-live_words true = codes "ok live"
-live_words false = codes "ok not live"
-
--- a reply, without its line feed
-abbrev pub reply_words : Reply → List ℕ
-reply_words Plain = codes "ok"
-reply_words (Outcome-reply outcome) = outcome_words outcome
-reply_words (Shown text) = codes "= " ++ text
-reply_words (Notify-reply number) = codes "ok notify " ++ decimal number
-reply_words (Live-reply live) = live_words live
-reply_words (Refused e) = refusal_words e
-
--- a number, without the line feed
-unfoldable pub count_words : ℕ → List ℕ
-count_words count = codes "ok " ++ decimal count
-
--- the counts of requests, without the line feed
-unfoldable pub tally_words : Tally → ℕ → List ℕ
-tally_words t dropped =
-    codes "tally begun=" ++ decimal t.begun ++ codes " processed=" ++ decimal t.processed ++ codes " disabled=" ++ decimal t.disabled ++ codes " active=" ++ decimal t.active
-    ++ codes " reprocess=" ++ decimal t.reprocess ++ codes " started=" ++ decimal t.started ++ codes " completed=" ++ decimal t.completed ++ codes " dropped=" ++ decimal dropped
 
 -- a line for each put with notification that has ended
 abbrev pub ended_lines : List ℕ → List ℕ
@@ -82,11 +46,6 @@ counted c = record { machine = c.machine; said = count_words c.count ++ 10 ∷ [
 -- the value that a text gives: its first 39 bytes
 abbrev pub given_value : List ℕ → Value
 given_value text = Text (take 39 text)
-
--- does a line ask for nothing?
-abbrev pub is_silent : Command → Bool
-is_silent Silent = true
-is_silent _ = false
 
 -- requests that wait are served, and the puts with notification that have ended since are told
 unfoldable pub attended : {R : Type 0} → RecordRules R → Machine R → Answered R

@@ -5,7 +5,7 @@ use Rattle.std.proofs.lemmas.List.{length-take, take_all}
 use Rattle.ioc_types.specs.Record.{record_rules}
 use Rattle.ioc_main.specs.declared.replay.Replay.{Replay}
 use Rattle.ioc_machine.specs.SeenMachine.{machine_of}
-use Rattle.ioc_main.specs.Script.{Command, cut, command_of}
+use Rattle.ioc_script.specs.Script.{Command, cut, command_of}
 use Rattle.ioc_main.specs.Replay.{transcript, answered}
 
 -- what is printed for these lines

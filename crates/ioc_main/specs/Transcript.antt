@@ -9,7 +9,7 @@ use Rattle.ioc_dbfile.specs.Loader.{Loading}
 use Rattle.ioc_dbfile.specs.Finished.{loaded_by}
 use Rattle.ioc_main.specs.declared.fault.RunFault.{RunFault}
 use Rattle.ioc_main.specs.declared.fault.RunFault.TheVariants.{BadDb, Read, Write, Memory}
-use Rattle.ioc_main.specs.Script.{lines_of}
+use Rattle.ioc_script.specs.Script.{lines_of}
 use Rattle.ioc_machine.specs.Machine.{first_machine}
 use Rattle.ioc_main.specs.Replay.{transcript}
 use Rattle.ioc_main.specs.Written.{WritesFront, WritesPart}

@@ -1,14 +1,14 @@
 //! The lines of a script, from any reader, each answered as it ends.
 ghost use Rattle.std.specs.Prelude.{◌≡◌, ◌∷◌, ◌++◌, [], List, ℕ, OnOk, OnErr, IfSome, IfErr};
 ghost use Rattle.std.specs.Io.KnownBytes.{Appends};
-ghost use Rattle.ioc_main.specs.Script.{lines_of, cut};
+ghost use Rattle.ioc_script.specs.Script.{lines_of, cut};
 ghost use Rattle.ioc_main.specs.Coming.{to_come};
 ghost use Rattle.ioc_main.specs.Written.{Writes, WritesPart, StopsLine, StopsScript};
 
 use crate::fault::{LineFault, ScriptFault, WriteFault};
-use crate::parts::cut_at;
 use crate::session::{Said, Session};
 use crate::writing::write_text;
+use ioc_script::cut_at;
 use ioc_values::Room;
 use std::alloc::Global;
 use std::io::{Read, Write};

@@ -1,33 +1,28 @@
 //! A loaded database, to which a script is done.
-ghost use Rattle.std.specs.Prelude.{◌≡◌, ◌∷◌, ◌++◌, [], List, ℕ, IsSome, IfOk, OnOk};
+ghost use Rattle.std.specs.Prelude.{◌≡◌, ◌∷◌, ◌++◌, [], List, ℕ, IfOk, OnOk};
 ghost use Rattle.ioc_names.specs.NameTable.{number_of};
 ghost use Rattle.ioc_types.specs.Record.{record_rules};
-ghost use Rattle.ioc_fields.specs.Table.{row_of, kind_of};
 ghost use Rattle.ioc_process.specs.Rules.{IsSettled};
-ghost use Rattle.ioc_store.specs.World.{Has, at};
 ghost use Rattle.ioc_dbfile.specs.FirstWorld.{first_world};
 ghost use Rattle.ioc_machine.specs.Machine.{first_machine, queued_on, with_none_ended, given_up, scanned};
 ghost use Rattle.ioc_machine.specs.SeenMachine.{machine_of};
-ghost use Rattle.ioc_main.specs.Replay.{Answered, channel, processed, got, were_put, answers_next, were_completed, given_value, carried_out, answered, reply_words, tally_words, count_words, were_notified, attended, ended_lines};
-ghost use Rattle.ioc_main.specs.Relink.{linked_in, were_linked};
-ghost use Rattle.ioc_main.specs.Script.{command_of};
-ghost use Rattle.ioc_main.specs.Seen.{seen};
+ghost use Rattle.ioc_main.specs.Replay.{Answered, channel, processed, got, were_put, answers_next, were_completed, given_value, carried_out, answered, were_notified, attended, ended_lines};
+ghost use Rattle.ioc_script.specs.Replies.{reply_words, tally_words, count_words};
+ghost use Rattle.ioc_main.specs.Relink.{were_linked};
+ghost use Rattle.ioc_script.specs.Script.{command_of};
+ghost use Rattle.ioc_script.specs.Seen.{seen};
 ghost use Rattle.ioc_main.specs.Sets.{sets_line};
 
-use crate::command::Command;
-use crate::counts::{count_line, ended_line, tally_line};
-use crate::reply_line::{say_refusal, say_reply};
-use crate::session::{LineReply, Said, Session};
+use crate::fields::{channel, relink};
+use crate::session::{Said, Session};
 use crate::sets::say_sets;
 use ioc_device::Answer;
-use ioc_events::Reply;
-use ioc_fields::{FieldKind, FieldNo, field, kind_of};
-use ioc_links::parse;
 use ioc_machine::{Machine, event_list, interrupt_list};
-use ioc_names::{Names, RecordNo};
+use ioc_names::Names;
 use ioc_notify::NotifyId;
-use ioc_record::{RecordKind, add_text, stops_put};
+use ioc_record::add_text;
 use ioc_scan::ListName;
+use ioc_script::{Command, LineReply, count_line, ended_line, say_refusal, say_reply, tally_line};
 use ioc_store::Store;
 use ioc_types::Record;
 use ioc_values::{Finished, Input, IocError, Text, Value};
@@ -68,30 +63,6 @@ impl Replay {
         })
     }
 
-    // The field of this name of the record of this name.
-    #[tactic(auto, unfolding(crate::specs::Replay::channel))]
-    fn channel(
-        &self,
-        record_name: &[u8],
-        field_name: &[u8],
-    ) -> Result<(RecordNo, FieldNo), IocError>
-        ensures value { result ≡ channel record_rules self.now.names (machine_of self.now.machine).world record_name.now field_name.now }
-        ensures there { IfOk result (λ c. Has (machine_of self.now.machine).world c.0 × IsSome (row_of (record_rules.record_type (at record_rules (machine_of self.now.machine).world c.0)) c.1)) }
-    {
-        let Some(number) = self.names.find(record_name) else {
-            return Err(IocError::NoRecord);
-        };
-        let map = self.machine.map();
-        if !map.has(number) {
-            return Err(IocError::NoRecord);
-        }
-        let record_type = map.record(number).record_type();
-        match field(record_type, field_name) {
-            Some(found) => Ok((number, found)),
-            None => Err(IocError::NoField),
-        }
-    }
-
     // What follows says its reply where it is wanted. None of it is inlined, so that what one command has in hand isn't cleared
     // for the others.
     #[inline(never)]
@@ -115,7 +86,7 @@ impl Replay {
         requires { reply.old ≡ [] }
         ensures { reply.new ≡ reply_words (got record_rules self.now.names (machine_of self.now.machine) (channel record_rules self.now.names (machine_of self.now.machine).world record_name.now field_name.now)).reply ++ 10 ∷ [] }
     {
-        match self.channel(record_name, field_name) {
+        match channel(&self.names, &self.machine, record_name, field_name) {
             Ok((number, field)) => {
                 reply.extend(b"= ");
                 add_text(reply, self.machine.map().record(number), field);
@@ -138,7 +109,7 @@ impl Replay {
         ensures machine { OnOk result (machine_of self.new.machine ≡ (were_put record_rules self.old.names (machine_of self.old.machine) text.now (channel record_rules self.old.names (machine_of self.old.machine).world record_name.now field_name.now)).machine) }
         ensures said { OnOk result (reply.new ≡ reply_words (were_put record_rules self.old.names (machine_of self.old.machine) text.now (channel record_rules self.old.names (machine_of self.old.machine).world record_name.now field_name.now)).reply ++ 10 ∷ []) }
     {
-        match self.channel(record_name, field_name) {
+        match channel(&self.names, &self.machine, record_name, field_name) {
             Ok((number, field)) => {
                 say_reply(
                     reply,
@@ -244,26 +215,6 @@ impl Replay {
         Ok(())
     }
 
-    // Gives a field of a record the link of this text.
-    fn relink(&mut self, number: RecordNo, field: FieldNo, text: &[u8]) -> Result<Reply, AllocError>
-        requires { Has (machine_of self.old.machine).world number }
-        ensures names { self.new.names ≡ self.old.names }
-        ensures machine { OnOk result (machine_of self.new.machine ≡ (linked_in record_rules self.old.names (machine_of self.old.machine) number field text.now (kind_of (record_rules.record_type (at record_rules (machine_of self.old.machine).world number)) field)).machine) }
-        ensures reply { IfOk result (λ reply. reply ≡ (linked_in record_rules self.old.names (machine_of self.old.machine) number field text.now (kind_of (record_rules.record_type (at record_rules (machine_of self.old.machine).world number)) field)).reply) }
-    {
-        let item = self.machine.map().record(number);
-        let Some(FieldKind::Link(role)) = kind_of(item.record_type(), field) else {
-            return Ok(Reply::Refused(IocError::NoField));
-        };
-        if stops_put(item.common(), field) {
-            return Ok(Reply::Refused(IocError::PutDisabled));
-        }
-        match parse(role.link_kind(), text) {
-            Ok(link) => self.machine.link(&self.names, number, field, &link),
-            Err(refused) => Ok(Reply::Refused(refused)),
-        }
-    }
-
     #[inline(never)]
     fn link(
         &mut self,
@@ -277,8 +228,11 @@ impl Replay {
         ensures machine { OnOk result (machine_of self.new.machine ≡ (were_linked record_rules self.old.names (machine_of self.old.machine) text.now (channel record_rules self.old.names (machine_of self.old.machine).world record_name.now field_name.now)).machine) }
         ensures said { OnOk result (reply.new ≡ reply_words (were_linked record_rules self.old.names (machine_of self.old.machine) text.now (channel record_rules self.old.names (machine_of self.old.machine).world record_name.now field_name.now)).reply ++ 10 ∷ []) }
     {
-        match self.channel(record_name, field_name) {
-            Ok((number, field)) => say_reply(reply, &self.relink(number, field, text)?),
+        match channel(&self.names, &self.machine, record_name, field_name) {
+            Ok((number, field)) => {
+                let told = relink(&self.names, &mut self.machine, number, field, text)?;
+                say_reply(reply, &told);
+            }
             Err(refused) => say_refusal(reply, refused),
         }
         Ok(())
@@ -305,7 +259,7 @@ impl Replay {
         ensures machine { OnOk result (machine_of self.new.machine ≡ (were_notified record_rules self.old.names (machine_of self.old.machine) text.now (channel record_rules self.old.names (machine_of self.old.machine).world record_name.now field_name.now)).machine) }
         ensures said { OnOk result (reply.new ≡ reply_words (were_notified record_rules self.old.names (machine_of self.old.machine) text.now (channel record_rules self.old.names (machine_of self.old.machine).world record_name.now field_name.now)).reply ++ 10 ∷ []) }
     {
-        match self.channel(record_name, field_name) {
+        match channel(&self.names, &self.machine, record_name, field_name) {
             Ok((number, field)) => {
                 say_reply(
                     reply,

@@ -1,12 +1,9 @@
 //! Who answers the lines of a script.
 ghost use Rattle.std.specs.Prelude.{◌≡◌, ◌∷◌, ◌++◌, [], List, ℕ, OnOk};
-ghost use Rattle.ioc_main.specs.Script.{cut};
+ghost use Rattle.ioc_script.specs.Script.{cut};
 
-use ioc_values::Room;
+use ioc_script::LineReply;
 use std::alloc::{AllocError, Global};
-
-/// The line of a reply, its line feed included: the counts of requests, of at most 20 digits each, are the longest.
-pub type LineReply = Room<256>;
 
 /// What is printed for one line of a script: the line of its reply, and what comes behind it.
 #[derive(Drop)]

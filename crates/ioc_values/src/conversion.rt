@@ -2,7 +2,7 @@
 //!
 //! Application Developer's Guide, "Database Definition" (the types of fields) and "Database Access" (conversion).
 
-ghost use Rattle.std.specs.Prelude.{◌≡◌, map, nat_eq, position};
+ghost use Rattle.std.specs.Prelude.{◌≡◌, ◌≤◌, length, map, nat_eq, position};
 ghost use Rattle.std.specs.Cmp.Lexicographic.{pointwise};
 ghost use Rattle.std.specs.Option.{ok_or, option_and_then};
 ghost use Rattle.std.specs.Fmt.{signed_decimal};
@@ -122,15 +122,15 @@ fn decimal(number: i64) -> Text
     Text::cut(Buffer::new().format(number).as_bytes())
 }
 
-/// A text in a field.
+/// A text of at most 39 bytes in a field; none where the field makes nothing of it.
 #[tactic(auto, unfolding(crate::specs::Conversion::of_text, crate::specs::Conversion::sort_of))]
-fn of_text(kind: Kind<'_>, text: Text) -> Option<Value>
-    ensures { result ≡ of_text (sort_of kind.entry) text }
+pub fn of_text(kind: Kind<'_>, bytes: &[u8]) -> Option<Value>
+    requires { length bytes.now ≤ 39 }
+    ensures { result ≡ of_text (sort_of kind.entry) bytes.now }
 {
-    let bytes = text.as_slice();
     match kind {
         Kind::Number(range) => text_in(range, bytes),
-        Kind::Text => Some(Value::Text(text)),
+        Kind::Text => Some(Value::Text(Text::cut(bytes))),
         Kind::Menu(choices) => found_or_numbered(choices.len(), choice_of(choices, bytes), bytes),
         Kind::State(states) => found_or_numbered(states.len(), state_of(states, bytes), bytes),
     }
@@ -141,6 +141,7 @@ fn of_text(kind: Kind<'_>, text: Text) -> Option<Value>
 /// # Errors
 ///
 /// [`IocError::BadValue`] where the value doesn't convert or is out of range.
+#[inline(always)]
 pub fn convert(value: Value, kind: Kind<'_>) -> Result<Value, IocError>
     ensures { result ≡ converted value (sort_of kind.entry) }
 {
@@ -152,7 +153,7 @@ pub fn convert(value: Value, kind: Kind<'_>) -> Result<Value, IocError>
         Value::UChar(number) => of_number(kind, i64::from(number)),
         Value::Enum(number) => of_number(kind, i64::from(number)),
         Value::Int64(number) => of_number(kind, number),
-        Value::Text(text) => of_text(kind, text),
+        Value::Text(text) => of_text(kind, text.as_slice()),
     };
     made.ok_or(IocError::BadValue)
 }

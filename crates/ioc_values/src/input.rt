@@ -2,7 +2,7 @@
 ghost use Rattle.std.specs.Prelude.{◌≡◌};
 ghost use Rattle.ioc_values.specs.Conversion.{sort_of, converted_text, converted_input, input_of};
 
-use crate::conversion::convert;
+use crate::conversion::{convert, of_text};
 use crate::error::IocError;
 use crate::kind::Kind;
 use crate::short::{MAX_TEXT_BYTES, Text};
@@ -36,6 +36,7 @@ impl Input {
 ///
 /// [`IocError::BadValue`] where the value doesn't convert or is out of range, or has more than 39 bytes and the
 /// field is no text.
+#[inline(always)]
 #[tactic(auto, unfolding(crate::specs::Conversion::converted_input))]
 pub fn convert_input(input: Input, kind: Kind<'_>) -> Result<Value, IocError>
     ensures { result ≡ converted_input input (sort_of kind.entry) }
@@ -59,9 +60,16 @@ pub fn convert_input(input: Input, kind: Kind<'_>) -> Result<Value, IocError>
 ///
 /// [`IocError::BadValue`] where the value doesn't convert or is out of range, or has more than 39 bytes and the
 /// field is no text.
-#[tactic(auto, unfolding(crate::specs::Conversion::converted_text))]
+#[tactic(auto, using(crate::proofs::Spelled::short_spelled, crate::proofs::Spelled::long_spelled, crate::proofs::Spelled::long_refused))]
 pub fn convert_text(text: &[u8], kind: Kind<'_>) -> Result<Value, IocError>
     ensures { result ≡ converted_text text.now (sort_of kind.entry) }
 {
-    convert_input(Input::from_text(text), kind)
+    if text.len() <= MAX_TEXT_BYTES {
+        return of_text(kind, text).ok_or(IocError::BadValue);
+    }
+    if kind.is_text() {
+        Ok(Value::Text(Text::cut(text)))
+    } else {
+        Err(IocError::BadValue)
+    }
 }

@@ -2,7 +2,7 @@
 -- `next REC fault`, `next REC later`, `done REC N TEXT`, `fault REC N`, `event NAME`, `io WORD`, `scan CHOICE`, `link REC.F TEXT`,
 -- `tally`, `notify REC.F TEXT`, `cancel N`, `sets`. This project's own, after the commands dbtr, dbpf and
 -- dbgf of an IOC's shell: Application Developer's Guide, "IOC Test Facilities".
-use Rattle.std.specs.Prelude.{ℕ, ◌^◌, List, [], ◌∷◌, take, length, codes, nat_lt, nat_eq, ◌==◌, if◌then◌else◌, unwrap_or, slice_get, Option, Some, None}
+use Rattle.std.specs.Prelude.{ℕ, ◌^◌, List, [], ◌∷◌, take, length, codes, nat_lt, nat_eq, ◌==◌, if◌then◌else◌, unwrap_or, slice_get, Bool, true, false, Option, Some, None}
 use Rattle.std.specs.List.{onto_first}
 use Rattle.std.specs.Cmp.Lexicographic.{pointwise}
 use Rattle.ioc_values.specs.Number.{numeral, below}
@@ -237,3 +237,8 @@ short_command (b ∷ bs) = if b == 35 then Silent else worded (b ∷ bs)
 -- past 1,024 bytes a line is bad, whatever it holds
 unfoldable pub command_of : List ℕ → Command
 command_of line = if nat_lt 1024 (length line) then Bad else short_command line
+
+-- does a line ask for nothing?
+abbrev pub is_silent : Command → Bool
+is_silent Silent = true
+is_silent _ = false

@@ -1,9 +1,9 @@
 -- Commands as the code has them, seen as those of the definitions.
 use Rattle.std.specs.Prelude.{ℕ, List}
 use Rattle.std.specs.Borrow.{Bor}
-use Rattle.ioc_main.specs.Script.{Command as Asked, Silent as asks-nothing, Bad as asks-badly, Process as asks-process, Put as asks-put, Get as asks-get, At as asks-at, Next-done as asks-next-done, Next-fault as asks-next-fault, Next-later as asks-next-later, Done as asks-done, Fault as asks-fault, Event as asks-event, Interrupt as asks-interrupt, Scan as asks-scan, Link as asks-link, Tally as asks-tally, Notify as asks-notify, Cancel as asks-cancel, Sets as asks-sets}
-use Rattle.ioc_main.specs.declared.command.Command.{Command}
-use Rattle.ioc_main.specs.declared.command.Command.TheVariants.{Silent, Bad, Process, Put, Get, At, NextDone, NextFault, NextLater, Done, Fault, Event, Interrupt, Scan, Link, Tally, Notify, Cancel, Sets}
+use Rattle.ioc_script.specs.Script.{Command as Asked, Silent as asks-nothing, Bad as asks-badly, Process as asks-process, Put as asks-put, Get as asks-get, At as asks-at, Next-done as asks-next-done, Next-fault as asks-next-fault, Next-later as asks-next-later, Done as asks-done, Fault as asks-fault, Event as asks-event, Interrupt as asks-interrupt, Scan as asks-scan, Link as asks-link, Tally as asks-tally, Notify as asks-notify, Cancel as asks-cancel, Sets as asks-sets}
+use Rattle.ioc_script.specs.declared.command.Command.{Command}
+use Rattle.ioc_script.specs.declared.command.Command.TheVariants.{Silent, Bad, Process, Put, Get, At, NextDone, NextFault, NextLater, Done, Fault, Event, Interrupt, Scan, Link, Tally, Notify, Cancel, Sets}
 
 abbrev pub bytes : Bor (List ℕ) → List ℕ
 bytes b = b.now

@@ -1,8 +1,8 @@
 //! Lines that tell numbers: the counts of requests, a count, and the number of a put with notification.
 ghost use Rattle.std.specs.Prelude.{◌≡◌, ◌+◌, ◌≤◌, ◌++◌, ◌∷◌, [], length, codes, decimal};
-ghost use Rattle.ioc_main.specs.Replay.{count_words, tally_words};
+ghost use Rattle.ioc_script.specs.Replies.{count_words, tally_words};
 
-use crate::session::LineReply;
+use crate::reply_line::LineReply;
 use ioc_ledger::Tally;
 use ioc_notify::NotifyId;
 use itoa::Buffer;
@@ -18,7 +18,7 @@ fn add_count(line: &mut LineReply, word: &[u8], count: u64)
 }
 
 /// The line that tells a number, with the line feed.
-#[tactic(auto, unfolding(crate::specs::Replay::count_words))]
+#[tactic(auto, unfolding(crate::specs::Replies::count_words))]
 pub fn count_line(count: u64) -> LineReply
     ensures { result ≡ count_words count ++ 10 ∷ [] }
 {
@@ -50,7 +50,7 @@ pub fn ended_line(number: NotifyId) -> LineReply
 }
 
 /// The counts, and how many items were dropped, with the line feed.
-#[tactic(auto, unfolding(crate::specs::Replay::tally_words))]
+#[tactic(auto, unfolding(crate::specs::Replies::tally_words))]
 pub fn tally_line(tally: &Tally, dropped: u64) -> LineReply
     ensures { result ≡ tally_words tally.now dropped ++ 10 ∷ [] }
 {

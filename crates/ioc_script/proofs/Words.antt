@@ -5,7 +5,7 @@ use Rattle.ioc_values.specs.declared.error.IocError.TheVariants as refusal
 use Rattle.ioc_values.specs.Words.{refusal_words}
 use Rattle.ioc_ledger.specs.declared.outcome.Outcome.{Outcome}
 use Rattle.ioc_ledger.specs.declared.outcome.Outcome.TheVariants.{Processed, Disabled, Active, Reprocess}
-use Rattle.ioc_main.specs.Replay.{outcome_words, live_words}
+use Rattle.ioc_script.specs.Replies.{outcome_words, live_words}
 
 pub outcome_short : (outcome : Outcome) → length (outcome_words outcome) ≤ 20
 unfolding outcome_words

@@ -1,16 +1,18 @@
 //! The line that tells a reply.
 ghost use Rattle.std.specs.Prelude.{◌≡◌, ◌+◌, ◌<◌, ◌++◌, ◌∷◌, [], length};
 ghost use Rattle.ioc_values.specs.Words.{refusal_words};
-ghost use Rattle.ioc_main.specs.Replay.{outcome_words, live_words, reply_words};
+ghost use Rattle.ioc_script.specs.Replies.{outcome_words, live_words, reply_words};
 
 use crate::counts::notify_line;
-use crate::session::LineReply;
 use ioc_events::Reply;
 use ioc_ledger::Outcome;
-use ioc_values::IocError;
+use ioc_values::{IocError, Room};
+
+/// The line of a reply, its line feed included: the counts of requests, of at most 20 digits each, are the longest.
+pub type LineReply = Room<256>;
 
 /// What the outcome of a request is called.
-#[tactic(auto, unfolding(crate::specs::Replay::outcome_words))]
+#[tactic(auto, unfolding(crate::specs::Replies::outcome_words))]
 pub fn outcome_words(outcome: Outcome) -> &'static str
     ensures { result.now ≡ outcome_words outcome }
 {
@@ -23,7 +25,7 @@ pub fn outcome_words(outcome: Outcome) -> &'static str
 }
 
 // What tells whether a put with notification is live.
-#[tactic(auto, unfolding(crate::specs::Replay::live_words))]
+#[tactic(auto, unfolding(crate::specs::Replies::live_words))]
 fn live_words(live: bool) -> &'static str
     ensures { result.now ≡ live_words live }
 {

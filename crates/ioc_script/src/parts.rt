@@ -1,7 +1,7 @@
 //! The parts of a line.
 ghost use Rattle.std.specs.Prelude.{◌≡◌};
 ghost use Rattle.std.specs.Prelude.{option_map};
-ghost use Rattle.ioc_main.specs.Script.{before, behind};
+ghost use Rattle.ioc_script.specs.Script.{before, behind};
 
 /// What stands before the first such byte, and what stands behind it, where there is one.
 pub fn cut_at(bytes: &[u8], separator: u8) -> (&[u8], Option<&[u8]>)

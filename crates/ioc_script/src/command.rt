@@ -1,8 +1,7 @@
 //! What a line of a script asks for.
 ghost use Rattle.std.specs.Prelude.{◌≡◌, option_map};
-ghost use Rattle.ioc_main.specs.Script.{command_of, worded, by_verb, process_of, put_of, get_of, at_of, next_by, next_of, done_of, fault_of, by_device_verb, by_scan_verb, by_link_verb, link_of, interrupt_of, period_named, scan_of, by_notify_verb, notify_of, cancel_of};
-ghost use Rattle.ioc_main.specs.Seen.{seen, bytes};
-ghost use Rattle.ioc_main.specs.Replay.{is_silent};
+ghost use Rattle.ioc_script.specs.Script.{command_of, worded, by_verb, process_of, put_of, get_of, at_of, next_by, next_of, done_of, fault_of, by_device_verb, by_scan_verb, by_link_verb, link_of, interrupt_of, period_named, scan_of, by_notify_verb, notify_of, cancel_of, is_silent};
+ghost use Rattle.ioc_script.specs.Seen.{seen, bytes};
 
 use crate::parts::cut_at;
 use ioc_menus::{Menu, Scan, choice};
@@ -76,8 +75,31 @@ impl<'a> Command<'a> {
     }
 }
 
-// A line of words that one space parts.
+// A line of words that one space parts. Gets, puts and requests are told by their first bytes, since most lines are these.
+#[tactic(auto, using(crate::proofs::Verbs::get_line, crate::proofs::Verbs::put_line, crate::proofs::Verbs::process_line))]
 fn worded(line: &[u8]) -> Command<'_>
+    ensures { seen result ≡ worded line.now }
+{
+    match line {
+        [b'g', b'e', b't', b' ', words @ ..] => {
+            let (word, more) = cut_at(words, b' ');
+            get(word, more)
+        }
+        [b'p', b'u', b't', b' ', words @ ..] => {
+            let (word, text) = cut_at(words, b' ');
+            put(word, text)
+        }
+        [b'p', b'r', b'o', b'c', b'e', b's', b's', b' ', words @ ..] => {
+            let (word, more) = cut_at(words, b' ');
+            process(word, more)
+        }
+        _ => by_first_word(line),
+    }
+}
+
+// The same by the first word.
+#[inline(never)]
+fn by_first_word(line: &[u8]) -> Command<'_>
     ensures { seen result ≡ worded line.now }
 {
     let (verb, words) = cut_at(line, b' ');

@@ -1,6 +1,6 @@
 use Rattle.std.proofs.Common.{◌≡◌, ◌≤◌, ◌++◌, length, take, drop}
-use Rattle.ioc_main.specs.Script.{before, behind}
-use Rattle.ioc_main.proofs.parts.cut_at.Given as goal
+use Rattle.ioc_script.specs.Script.{before, behind}
+use Rattle.ioc_script.proofs.parts.cut_at.Given as goal
 
 abbrev pub invariant-loop-rest : goal.invariant-loop-rest
 invariant-loop-rest l =

@@ -1,0 +1,12 @@
+//! The words of a script: what each of its lines asks for, and the lines that tell replies.
+#![tactic(auto)]
+
+mod command;
+mod counts;
+mod parts;
+mod reply_line;
+
+pub use command::Command;
+pub use counts::{count_line, ended_line, notify_line, tally_line};
+pub use parts::cut_at;
+pub use reply_line::{LineReply, say_refusal, say_reply};
