@@ -2,6 +2,7 @@
 use Rattle.std.proofs.Common.{◌≡◌, ◌≢◌, ℕ, Bool, true, false, cond, eqb, List, [], ◌∷◌, length, Option, refl, sym, ap, subst, ◌∙◌, arith}
 use Rattle.std.proofs.lemmas.Grind.{common_steps}
 use Rattle.std.specs.Prelude.{Contains, nat_lt, ◌++◌}
+use Rattle.std.specs.FinMap.{gets, contains_key}
 use Rattle.ioc_ledger.specs.Requests.{more}
 use Rattle.ioc_store.specs.declared.outbox.OutboxItem.{OutboxItem}
 use Rattle.ioc_common.specs.Steps.{with_notification}
@@ -9,12 +10,24 @@ use Rattle.ioc_record.specs.RecordRules.{RecordRules, targets}
 use Rattle.ioc_record.specs.Laws.{IsLawful}
 use Rattle.ioc_store.specs.World.{World, at, common_at, put, changed, called, sent, lost, taken_on, let_go}
 use Rattle.ioc_store.specs.declared.call.Call.{Call}
-use Rattle.ioc_process.specs.Processing.{Done}
+use Rattle.ioc_process.specs.Processing.{Done, request}
 use Rattle.ioc_events.specs.Beside.{Shut, Same, Spares, Agree, RequestIsLocal}
+use Rattle.ioc_events.proofs.Waitings.{request-waiting}
 use Rattle.ioc_store.specs.StepFrames.{targets-set, targets-taken, targets-finished, targets-stored}
 use Rattle.ioc_store.specs.Worlds.{at-put_same, at-put_other}
 use Rattle.ioc_process.specs.Alongside.{Guards, HolderGuards, Goes, pass-goes, tell-goes, request-goes}
 use Rattle.ioc_store.specs.Given.{Answers}
+
+pub not_both : {b : Bool} → b ≡ true → b ≡ false → ⊥
+not_both is isnt = cc
+
+there-put_same : {R : Type 0} (w : World R) (n : ℕ) (r : R) → contains_key (put w n r).records n ≡ true
+unfolding put
+there-put_same w n r = grind (gets, arith, common_steps)
+
+there-put_other : {R : Type 0} (w : World R) (n m : ℕ) (r : R) → m ≢ n → contains_key (put w n r).records m ≡ contains_key w.records m
+unfolding put
+there-put_other w n m r apart = grind (gets, arith, common_steps)
 
 module _ {R : Type 0} (k : RecordRules R) (mine : ℕ → Bool) (w0 v0 : World R) where
   -- the records of these numbers
@@ -24,12 +37,13 @@ module _ {R : Type 0} (k : RecordRules R) (mine : ℕ → Bool) (w0 v0 : World R
   -- the two worlds go on from w0 and v0
   pub record Along (w v : World R) : Type 0 where
     pub same : Same k mine w v
+    pub there : (n : ℕ) → mine n ≡ true → contains_key w0.records n ≡ contains_key v0.records n → contains_key w.records n ≡ contains_key v.records n
     pub shut : Shut k mine w
     pub spares : Spares k mine w0 w
     pub other_spares : Spares k mine v0 v
 
   -- what holds of the record that was put, and of each other record as it was
-  pub by_put : (P : ℕ → R → Type 0) (w : World R) (n : ℕ) (r : R) → P n r → ((m : ℕ) → m ≢ n → P m (at k w m)) → (m : ℕ) → P m (at k (put w n r) m)
+  by_put : (P : ℕ → R → Type 0) (w : World R) (n : ℕ) (r : R) → P n r → ((m : ℕ) → m ≢ n → P m (at k w m)) → (m : ℕ) → P m (at k (put w n r) m)
   by_put P w n r here there m =
       elim (eqb m n) as (λ b. eqb m n ≡ b → P m (at k (put w n r) m)) [
         | true ↦ λ is. let e : m ≡ n = grind (arith, common_steps) in rw (e, at-put_same k w n r) here
@@ -43,6 +57,25 @@ module _ {R : Type 0} (k : RecordRules R) (mine : ℕ → Bool) (w0 v0 : World R
         | false ↦ λ is. let apart : m ≢ n = grind (arith, common_steps) in at-put_other k w n m r apart ∙ same there ∙ sym (at-put_other k v n m r apart)
       ] refl
 
+  there_put : (w v : World R) (n : ℕ) (r : R) (m : ℕ) → contains_key w.records m ≡ contains_key v.records m → contains_key (put w n r).records m ≡ contains_key (put v n r).records m
+  there_put w v n r m same =
+      elim (eqb m n) as (λ b. eqb m n ≡ b → contains_key (put w n r).records m ≡ contains_key (put v n r).records m) [
+        | true ↦ λ is. let e : m ≡ n = grind (arith, common_steps) in rw e (there-put_same w n r ∙ sym (there-put_same v n r))
+        | false ↦ λ is. let apart : m ≢ n = grind (arith, common_steps) in there-put_other w n m r apart ∙ same ∙ sym (there-put_other v n m r apart)
+      ] refl
+
+  -- a put in U spares what is outside
+  outside-apart : (m n : ℕ) → U n → mine m ≡ false → m ≢ n
+  outside-apart m n may out e = not_both may (ap mine (sym e) ∙ out)
+
+  put-spares : (first w : World R) (n : ℕ) (r : R) → U n → Spares k mine first w → Spares k mine first (put w n r)
+  unfolding put
+  put-spares first w n r may spares = record {
+    spared = λ m out. at-put_other k w n m r (outside-apart m n may out) ∙ spares.spared m out;
+    there = λ m out. there-put_other w n m r (outside-apart m n may out) ∙ spares.there m out;
+    waiting = spares.waiting;
+  }
+
   -- its links stay in U
   abbrev pub Within : ℕ → R → Type 0
   Within n r = (target : ℕ) → Contains (targets k r) target → U target
@@ -52,15 +85,17 @@ module _ {R : Type 0} (k : RecordRules R) (mine : ℕ → Bool) (w0 v0 : World R
   unfolding at
   sent_both w v item true inv = record {
     same = record { moment = inv.same.moment; calls = inv.same.calls; outbox = ap (λ (l : List OutboxItem). l ++ item ∷ []) inv.same.outbox; dropped = inv.same.dropped; waiting = inv.same.waiting; records = inv.same.records };
+    there = inv.there;
     shut = record { shut = inv.shut.shut };
-    spares = record { spared = inv.spares.spared; waiting = inv.spares.waiting };
-    other_spares = record { spared = inv.other_spares.spared; waiting = inv.other_spares.waiting };
+    spares = record { spared = inv.spares.spared; there = inv.spares.there; waiting = inv.spares.waiting };
+    other_spares = record { spared = inv.other_spares.spared; there = inv.other_spares.there; waiting = inv.other_spares.waiting };
   }
   sent_both w v item false inv = record {
     same = record { moment = inv.same.moment; calls = inv.same.calls; outbox = inv.same.outbox; dropped = ap more inv.same.dropped; waiting = inv.same.waiting; records = inv.same.records };
+    there = inv.there;
     shut = record { shut = inv.shut.shut };
-    spares = record { spared = inv.spares.spared; waiting = inv.spares.waiting };
-    other_spares = record { spared = inv.other_spares.spared; waiting = inv.other_spares.waiting };
+    spares = record { spared = inv.spares.spared; there = inv.spares.there; waiting = inv.spares.waiting };
+    other_spares = record { spared = inv.other_spares.spared; there = inv.other_spares.there; waiting = inv.other_spares.waiting };
   }
 
   sent_along : (w v : World R) → Along w v → (item : OutboxItem) → Along (sent item w) (sent item v)
@@ -73,46 +108,43 @@ module _ {R : Type 0} (k : RecordRules R) (mine : ℕ → Bool) (w0 v0 : World R
   unfolding at lost
   lost_along w v inv = record {
     same = record { moment = inv.same.moment; calls = inv.same.calls; outbox = inv.same.outbox; dropped = ap more inv.same.dropped; waiting = inv.same.waiting; records = inv.same.records };
+    there = inv.there;
     shut = record { shut = inv.shut.shut };
-    spares = record { spared = inv.spares.spared; waiting = inv.spares.waiting };
-    other_spares = record { spared = inv.other_spares.spared; waiting = inv.other_spares.waiting };
+    spares = record { spared = inv.spares.spared; there = inv.spares.there; waiting = inv.spares.waiting };
+    other_spares = record { spared = inv.other_spares.spared; there = inv.other_spares.there; waiting = inv.other_spares.waiting };
   }
 
   taken_on_along : (w v : World R) → Along w v → (number : ℕ) → Along (taken_on number w) (taken_on number v)
   unfolding at taken_on
   taken_on_along w v inv number = record {
     same = record { moment = inv.same.moment; calls = inv.same.calls; outbox = inv.same.outbox; dropped = inv.same.dropped; waiting = inv.same.waiting; records = inv.same.records };
+    there = inv.there;
     shut = record { shut = inv.shut.shut };
-    spares = record { spared = inv.spares.spared; waiting = inv.spares.waiting };
-    other_spares = record { spared = inv.other_spares.spared; waiting = inv.other_spares.waiting };
+    spares = record { spared = inv.spares.spared; there = inv.spares.there; waiting = inv.spares.waiting };
+    other_spares = record { spared = inv.other_spares.spared; there = inv.other_spares.there; waiting = inv.other_spares.waiting };
   }
 
   let_go_along : (w v : World R) → Along w v → (number : ℕ) → Along (let_go number w) (let_go number v)
   unfolding at let_go
   let_go_along w v inv number = record {
-    same = record {
-      moment = inv.same.moment;
-      calls = inv.same.calls;
-      outbox = inv.same.outbox;
-      dropped = inv.same.dropped;
-      waiting = inv.same.waiting;
-      records = inv.same.records;
-    };
+    same = record { moment = inv.same.moment; calls = inv.same.calls; outbox = inv.same.outbox; dropped = inv.same.dropped; waiting = inv.same.waiting; records = inv.same.records };
+    there = inv.there;
     shut = record { shut = inv.shut.shut };
-    spares = record { spared = inv.spares.spared; waiting = inv.spares.waiting };
-    other_spares = record { spared = inv.other_spares.spared; waiting = inv.other_spares.waiting };
+    spares = record { spared = inv.spares.spared; there = inv.spares.there; waiting = inv.spares.waiting };
+    other_spares = record { spared = inv.other_spares.spared; there = inv.other_spares.there; waiting = inv.other_spares.waiting };
   }
 
   pub put_along : (w v : World R) → Along w v → (n : ℕ) → U n → (r : R) → Within n r → Along (put w n r) (put v n r)
   unfolding put
   put_along w v inv n may r good = record {
     same = record { moment = inv.same.moment; calls = inv.same.calls; outbox = inv.same.outbox; dropped = inv.same.dropped; waiting = inv.same.waiting; records = λ m. both_put w v n r m (inv.same.records m) };
+    there = λ m u first. there_put w v n r m (inv.there m u first);
     shut = record {
       shut = λ m target. by_put (λ m' x. U m' → Contains (targets k x) target → U target) w n r
           (λ u links. good target links) (λ m' _ u links. inv.shut.shut m' target u links) m;
     };
-    spares = record { spared = λ m. by_put (λ m' x. (U m' → ⊥) → x ≡ at k w0 m') w n r (λ out. absurd (out may)) (λ m' _ out. inv.spares.spared m' out) m; waiting = inv.spares.waiting };
-    other_spares = record { spared = λ m. by_put (λ m' x. (U m' → ⊥) → x ≡ at k v0 m') v n r (λ out. absurd (out may)) (λ m' _ out. inv.other_spares.spared m' out) m; waiting = inv.other_spares.waiting };
+    spares = put-spares w0 w n r may inv.spares;
+    other_spares = put-spares v0 v n r may inv.other_spares;
   }
 
   pub held_along : IsLawful k → (w v : World R) → Along w v → (n : ℕ) → U n → (held : Option ℕ) → Along (changed k w n (with_notification held)) (changed k v n (with_notification held))
@@ -144,9 +176,10 @@ module _ {R : Type 0} (k : RecordRules R) (mine : ℕ → Bool) (w0 v0 : World R
     put = λ {w} {v} inv n may r good _. put_along w v inv n may r good;
     call = λ inv one. record {
       same = record { moment = inv.same.moment; calls = ap (λ (l : List Call). l ++ one ∷ []) inv.same.calls; outbox = inv.same.outbox; dropped = inv.same.dropped; waiting = inv.same.waiting; records = inv.same.records };
+      there = inv.there;
       shut = record { shut = inv.shut.shut };
-      spares = record { spared = inv.spares.spared; waiting = inv.spares.waiting };
-      other_spares = record { spared = inv.other_spares.spared; waiting = inv.other_spares.waiting };
+      spares = record { spared = inv.spares.spared; there = inv.spares.there; waiting = inv.spares.waiting };
+      other_spares = record { spared = inv.other_spares.spared; there = inv.other_spares.there; waiting = inv.other_spares.waiting };
     };
     send = λ {w} {v} inv item. sent_along w v inv item;
     lose = λ {w} {v} inv. lost_along w v inv;
@@ -154,19 +187,26 @@ module _ {R : Type 0} (k : RecordRules R) (mine : ℕ → Bool) (w0 v0 : World R
     tell = tell-goes k _ _ (holder_guards lawful);
   }
 
-  pub along : Shut k mine w0 → Same k mine w0 v0 → Along w0 v0
-  along shut same = record { same = same; shut = shut; spares = record { spared = λ _ _. refl; waiting = refl }; other_spares = record { spared = λ _ _. refl; waiting = refl } }
+  as-it-was : (w : World R) → Spares k mine w w
+  as-it-was w = record { spared = λ _ _. refl; there = λ _ _. refl; waiting = λ _ _. refl }
 
-  pub agree : (done other : Done R) → Goes Along done other → Agree k mine w0 v0 done other
-  agree done other goes = record {
+  pub along : Shut k mine w0 → Same k mine w0 v0 → Along w0 v0
+  along shut same = record { same = same; there = λ n u first. first; shut = shut; spares = as-it-was w0; other_spares = as-it-was v0 }
+
+module _ {R : Type 0} (k : RecordRules R) (lawful : IsLawful k) (mine : ℕ → Bool) (answers : Answers) where
+  agree : (w v : World R) (done other : Done R) → Goes (Along k mine w v) done other → done.world.waiting ≡ w.waiting → other.world.waiting ≡ v.waiting → Agree k mine w v done other
+  agree w v done other goes waits other_waits = record {
     same = goes.inv.same;
     requests = goes.requests;
     shut = goes.inv.shut;
     spares = goes.inv.spares;
     other_spares = goes.inv.other_spares;
+    waiting = waits;
+    other_waiting = other_waits;
   }
 
-module _ {R : Type 0} (k : RecordRules R) (lawful : IsLawful k) (mine : ℕ → Bool) (answers : Answers) where
   pub request-local : RequestIsLocal k mine answers
   request-local w v s shut same there =
-      agree k mine w v _ _ (request-goes k lawful (λ n. mine n ≡ true) (Within k mine w v) (Along k mine w v) (guards k mine w v lawful) answers (along k mine w v shut same) s there)
+      agree w v (request k answers w s) (request k answers v s)
+      (request-goes k lawful (λ n. mine n ≡ true) (Within k mine w v) (Along k mine w v) (guards k mine w v lawful) answers (along k mine w v shut same) s there)
+      (request-waiting k lawful answers w s) (request-waiting k lawful answers v s)

@@ -1,5 +1,5 @@
 mod Besides
-mod Locality
+mod RecordLists
 mod Stepping
 mod StartRules
 mod Waitings
@@ -18,3 +18,4 @@ mod HeldStarts
 mod HeldSteps
 mod Ended
 mod ToldEvents
+mod Apart

@@ -1,5 +1,5 @@
 -- A request leaves alone who waits.
-use Rattle.std.proofs.Common.{◌≡◌, nat_eq, ℕ, zero, suc, Bool, true, false, cond, List, [], ◌∷◌, ◌++◌, length, is_some, refl, ap, subst, ◌∙◌, inl, inr, arith}
+use Rattle.std.proofs.Common.{◌≡◌, nat_eq, ℕ, zero, suc, Bool, true, false, cond, List, [], ◌∷◌, ◌++◌, length, Option, Some, None as Nothing_, is_some, refl, ap, subst, ◌∙◌, inl, inr, arith}
 use Rattle.std.specs.Prelude.{nat_lt, not, Contains, Result, Ok, Err}
 use Rattle.ioc_ledger.specs.Requests.{None, more}
 use Rattle.ioc_notify.specs.declared.waiting_lists.Waiting.{Waiting}
@@ -19,7 +19,8 @@ use Rattle.ioc_process.specs.Processing.{request}
 use Rattle.ioc_events.specs.declared.event.Event.{Event}
 use Rattle.ioc_events.specs.declared.event.Event.TheVariants.{Get, Process, Put, Complete, Link, Notify, Cancel, IsLive}
 use Rattle.ioc_events.specs.declared.reply.Reply.TheVariants.{Plain, Outcome as Outcome-reply, Shown, Notify as Notify-reply}
-use Rattle.ioc_events.specs.Step.{Stepped, names, is_there, all_there, refused, told, after_put, after_completion, awaits, put_with, relinked, begun_or_queued, notify_with, done_there, done_alone}
+use Rattle.ioc_events.specs.Local.{number_of}
+use Rattle.ioc_events.specs.Step.{Stepped, is_there, all_there, refused, told, after_put, after_completion, awaits, put_with, relinked, begun_or_queued, notify_with, done_there, done_alone}
 use Rattle.ioc_values.specs.declared.error.IocError.{IocError}
 use Rattle.ioc_values.specs.declared.error.IocError.TheVariants.{NoRecord, NoField, PutDisabled, Stale, QueueFull}
 use Rattle.ioc_values.specs.declared.value.Value.{Value}
@@ -185,68 +186,72 @@ module _ {R : Type 0} (k : RecordRules R) (lawful : IsLawful k) where
         ]
       ]
 
-  -- who waits after it waited before, or it is a put with notification and waits for its record
-  Within : (ℕ → Type 0) → World R → Type 0
-  Within U w = (x : Waiting) → Contains w.waiting x → U x.target
+  -- who waits after it waited before, or it is the event's own
+  Within : (Waiting → Type 0) → World R → Type 0
+  Within P w = (x : Waiting) → Contains w.waiting x → P x
 
-  within-same : (U : ℕ → Type 0) (w v : World R) → v.waiting ≡ w.waiting → Within U w → Within U v
+  within-same : (P : Waiting → Type 0) (w v : World R) → v.waiting ≡ w.waiting → Within P w → Within P v
   unfolding Within
-  within-same U w v same within x h = within x (subst (λ (l : List Waiting). Contains l x) same h)
+  within-same P w v same within x h = within x (subst (λ (l : List Waiting). Contains l x) same h)
 
-  let_in-within : (answers : Answers) (U : ℕ → Type 0) (w : World R) (x : Waiting) → U x.target → Within U w → Within U (begun_or_queued k answers w x).world
+  let_in-within : (answers : Answers) (P : Waiting → Type 0) (w : World R) (x : Waiting) → P x → Within P w → Within P (begun_or_queued k answers w x).world
   unfolding begun_or_queued Within admitted queued
-  let_in-within answers U w x u within =
+  let_in-within answers P w x own within =
       elim (must_wait k w x.target) as (λ b. (y : Waiting) → Contains (cond {A = Stepped R} b (record { world = queued x (admitted x.number w); reply = Notify-reply x.number; requests = None })
-      (record { world = (started k answers (admitted x.number w) x).world; reply = Notify-reply x.number; requests = (started k answers (admitted x.number w) x).requests })).world.waiting y → U y.target) [
+      (record { world = (started k answers (admitted x.number w) x).world; reply = Notify-reply x.number; requests = (started k answers (admitted x.number w) x).requests })).world.waiting y → P y) [
         | true ↦ λ y h. elim (Contains-append_cases w.waiting (x ∷ []) y h) [
           | inl before ↦ within y before
-          | inr new ↦ subst (λ (z : Waiting). U z.target) (last-item x y new) u
+          | inr new ↦ subst P (last-item x y new) own
         ]
         | false ↦ λ y h. within y (subst (λ (l : List Waiting). Contains l y) (started-waiting answers (admitted x.number w) x) h)
       ]
 
-  notify-within : (answers : Answers) (U : ℕ → Type 0) (w : World R) (s number : ℕ) (field : FieldNo) (value : Result Value IocError) → U s → Within U w → Within U (notify_with k answers w s number field value).world
+  notify-within : (answers : Answers) (P : Waiting → Type 0) (w : World R) (s number : ℕ) (field : FieldNo) (value : Result Value IocError)
+      → ((x : Waiting) → cond {A = Option ℕ} (has_place w number) (Some number) Nothing_ ≡ Some x.number → P x) → Within P w
+      → Within P (notify_with k answers w s number field value).world
   unfolding Within
-  notify-within answers U w s number field (Err e) u within = within
-  notify-within answers U w s number field (Ok x) u within =
-      elim (has_place w number) as (λ b. (y : Waiting) → Contains (cond {A = Stepped R} b (begun_or_queued k answers w (record { number = number; target = s; field = field; value = x })) (refused w QueueFull)).world.waiting y → U y.target) [
-        | true ↦ let_in-within answers U w _ u within
-        | false ↦ within
-      ]
+  notify-within answers P w s number field (Err e) own within = within
+  notify-within answers P w s number field (Ok v) own within =
+      let x : Waiting = record { number = number; target = s; field = field; value = v } in
+      elim (has_place w number) as (λ b. ((y : Waiting) → cond {A = Option ℕ} b (Some number) Nothing_ ≡ Some y.number → P y)
+      → (y : Waiting) → Contains (cond {A = Stepped R} b (begun_or_queued k answers w x) (refused w QueueFull)).world.waiting y → P y) [
+        | true ↦ λ begins. let_in-within answers P w x (begins x refl) within
+        | false ↦ λ _. within
+      ] own
 
-  cancel-within : (U : ℕ → Type 0) (w : World R) (number : ℕ) → Within U w
-      → Within U (cond {A = Stepped R} (is_live number w.live) (record { world = cancelled k number w; reply = Plain; requests = None }) (refused w Stale)).world
+  cancel-within : (P : Waiting → Type 0) (w : World R) (number : ℕ) → Within P w
+      → Within P (cond {A = Stepped R} (is_live number w.live) (record { world = cancelled k number w; reply = Plain; requests = None }) (refused w Stale)).world
   unfolding Within cancelled
-  cancel-within U w number within =
-      elim (is_live number w.live) as (λ b. (x : Waiting) → Contains (cond {A = Stepped R} b (record { world = cancelled k number w; reply = Plain; requests = None }) (refused w Stale)).world.waiting x → U x.target) [
+  cancel-within P w number within =
+      elim (is_live number w.live) as (λ b. (x : Waiting) → Contains (cond {A = Stepped R} b (record { world = cancelled k number w; reply = Plain; requests = None }) (refused w Stale)).world.waiting x → P x) [
         | true ↦ λ x h. within x (waited number w.waiting x h)
         | false ↦ within
       ]
 
-  there-within : (answers : Answers) (U : ℕ → Type 0) (w : World R) (event : Event) → ((n : ℕ) → Contains (names event) n → U n) → Within U w → Within U (done_there k answers w event).world
+  there-within : (answers : Answers) (P : Waiting → Type 0) (w : World R) (event : Event) → ((x : Waiting) → number_of w event ≡ Some x.number → P x) → Within P w → Within P (done_there k answers w event).world
   unfolding done_there
-  there-within answers U w (Get s field) named within =
-      within-same U w _ (elim (is_some (row_of (k.record_type (at k w s)) field)) as (λ b. (cond {A = Stepped R} b (record { world = w; reply = Shown (text_of k (at k w s) field); requests = None }) (refused w NoField)).world.waiting ≡ w.waiting) [
+  there-within answers P w (Get s field) own within =
+      within-same P w _ (elim (is_some (row_of (k.record_type (at k w s)) field)) as (λ b. (cond {A = Stepped R} b (record { world = w; reply = Shown (text_of k (at k w s) field); requests = None }) (refused w NoField)).world.waiting ≡ w.waiting) [
         | true ↦ refl
         | false ↦ refl
       ]) within
-  there-within answers U w (Process s) named within = within-same U w _ (told-waiting answers w s) within
-  there-within answers U w (Put s field given) named within = within-same U w _ (put_with-waiting answers w s field (put_field k (at k w s) field given)) within
-  there-within answers U w (Complete s number x) named within =
-      within-same U w _ (elim (awaits (common_at k w s) number) as (λ b. (cond {A = Stepped R} b (after_completion k answers w s x) (refused w Stale)).world.waiting ≡ w.waiting) [
+  there-within answers P w (Process s) own within = within-same P w _ (told-waiting answers w s) within
+  there-within answers P w (Put s field given) own within = within-same P w _ (put_with-waiting answers w s field (put_field k (at k w s) field given)) within
+  there-within answers P w (Complete s number x) own within =
+      within-same P w _ (elim (awaits (common_at k w s) number) as (λ b. (cond {A = Stepped R} b (after_completion k answers w s x) (refused w Stale)).world.waiting ≡ w.waiting) [
         | true ↦ completion-waiting answers w s x
         | false ↦ refl
       ]) within
-  there-within answers U w (Link s field link) named within = within-same U w _ (linked-waiting answers w s field link) within
-  there-within answers U w (Notify s number field given) named within = notify-within answers U w s number field (value_to_put k (at k w s) field given) (named s (0, omega arith, refl)) within
-  there-within answers U w (Cancel number) named within = cancel-within U w number within
-  there-within answers U w (IsLive number) named within = within
+  there-within answers P w (Link s field link) own within = within-same P w _ (linked-waiting answers w s field link) within
+  there-within answers P w (Notify s number field given) own within = notify-within answers P w s number field (value_to_put k (at k w s) field given) own within
+  there-within answers P w (Cancel number) own within = cancel-within P w number within
+  there-within answers P w (IsLive number) own within = within
 
-  pub alone-within : (answers : Answers) (U : ℕ → Type 0) (w : World R) (event : Event) → ((n : ℕ) → Contains (names event) n → U n)
-      → ((x : Waiting) → Contains w.waiting x → U x.target) → (x : Waiting) → Contains (done_alone k answers w event).world.waiting x → U x.target
+  pub alone-within : (answers : Answers) (P : Waiting → Type 0) (w : World R) (event : Event) → ((x : Waiting) → number_of w event ≡ Some x.number → P x)
+      → ((x : Waiting) → Contains w.waiting x → P x) → (x : Waiting) → Contains (done_alone k answers w event).world.waiting x → P x
   unfolding done_alone Within
-  alone-within answers U w event named within =
-      elim (is_there w event) as (λ b. (x : Waiting) → Contains (cond {A = Stepped R} b (done_there k answers w event) (refused w NoRecord)).world.waiting x → U x.target) [
-        | true ↦ there-within answers U w event named within
+  alone-within answers P w event own within =
+      elim (is_there w event) as (λ b. (x : Waiting) → Contains (cond {A = Stepped R} b (done_there k answers w event) (refused w NoRecord)).world.waiting x → P x) [
+        | true ↦ there-within answers P w event own within
         | false ↦ within
       ]

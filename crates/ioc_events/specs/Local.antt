@@ -1,60 +1,65 @@
--- What an event does to the records of some numbers, whatever stands beside them.
+-- What an event does to the records of some numbers, whatever stands beside them, whichever notifications those have, and whatever waits for them.
 -- Application Developer's Guide, "Database Locking, Scanning, and Processing": records of other lock sets play no part.
-use Rattle.std.specs.Prelude.{◌≡◌, ℕ, Contains, true}
+use Rattle.std.specs.Prelude.{◌≡◌, ◌≢◌, ℕ, Bool, true, false, if◌then◌else◌, Contains, Option, Some}
+use Rattle.std.specs.Prelude.{None as Nothing_}
 use Rattle.std.specs.FinMap.{contains_key}
-use Rattle.ioc_record.specs.RecordRules.{RecordRules, targets}
-use Rattle.ioc_store.specs.World.{World, at, common_at, is_notification}
-use Rattle.ioc_events.specs.declared.event.Event.{Event}
-use Rattle.ioc_events.specs.declared.event.Event.TheVariants.{Cancel}
-use Rattle.ioc_notify.specs.declared.waiting_lists.Waiting.{Waiting}
-use Rattle.ioc_events.specs.Step.{Stepped, names, stepped}
+use Rattle.ioc_record.specs.RecordRules.{RecordRules}
+use Rattle.ioc_store.specs.World.{World, Has, common_at, has_place}
 use Rattle.ioc_store.specs.Given.{Answers}
+use Rattle.ioc_notify.specs.Living.{is_live}
+use Rattle.ioc_notify.specs.declared.waiting_lists.Waiting.{Waiting}
+use Rattle.ioc_events.specs.declared.event.Event.{Event}
+use Rattle.ioc_events.specs.declared.event.Event.TheVariants.{Notify, Cancel, IsLive}
+use Rattle.ioc_events.specs.Beside.{Shut, Same, Spares}
+use Rattle.ioc_events.specs.Starting.{is_ready}
+use Rattle.ioc_events.specs.Step.{Stepped, names, stepped}
 
-module _ {R : Type 0} (k : RecordRules R) (U : ℕ → Type 0) where
-  -- every link of a record in U names a record in U
-  pub record Shut (w : World R) : Type 0 where
-    pub shut : (n target : ℕ) → U n → Contains (targets k (at k w n)) target → U target
+-- the number of the put with notification that an event gives up, or that it begins if there is a place for one more
+abbrev pub number_of : {R : Type 0} → World R → Event → Option ℕ
+number_of w (Notify s number field given) = if has_place w number then Some number else Nothing_
+number_of w (Cancel number) = Some number
+number_of w _ = Nothing_
 
-  -- the moment is the same, the same calls were made, the same was sent and dropped, the same notifications are live, wait and have ended,
-  -- and the records in U are the same
-  pub record Same (w v : World R) : Type 0 where
-    pub moment : w.moment ≡ v.moment
-    pub calls : w.calls ≡ v.calls
-    pub outbox : w.outbox ≡ v.outbox
-    pub dropped : w.dropped ≡ v.dropped
-    pub live : w.live ≡ v.live
-    pub ended : w.ended ≡ v.ended
-    pub waiting : w.waiting ≡ v.waiting
-    pub records : (n : ℕ) → U n → at k w n ≡ at k v n
+-- what an event asks of all puts with notification comes out the same in both: whether there is a place for one more, and whether one is live
+abbrev pub AskAlike : {R : Type 0} → World R → World R → Event → Type 0
+AskAlike w v (Notify s number field given) = has_place w number ≡ has_place v number
+AskAlike w v (Cancel number) = is_live number w.live ≡ is_live number v.live
+AskAlike w v (IsLive number) = is_live number w.live ≡ is_live number v.live
+AskAlike w v _ = Unit {0}
 
-  -- every record outside U is as it was
-  pub record Spares (before after : World R) : Type 0 where
-    pub spared : (n : ℕ) → (U n → ⊥) → at k after n ≡ at k before n
+-- `mine` tells of each number whether it is one of these; U are the records of these numbers
+module _ {R : Type 0} (k : RecordRules R) (mine : ℕ → Bool) where
+  -- the two are the same in U, and each record in U is there in both or in neither
+  pub record Alike (w v : World R) : Type 0 where
+    pub same : Same k mine w v
+    pub there : (n : ℕ) → mine n ≡ true → contains_key w.records n ≡ contains_key v.records n
 
-  -- every put with notification that waits, waits for a record in U
-  pub record WaitsWithin (w : World R) : Type 0 where
-    pub within : (x : Waiting) → Contains w.waiting x → U x.target
+  -- those that wait for records outside U stay apart: none of them may start, and none has the number of one that waits in U
+  pub record KeepsApart (w : World R) : Type 0 where
+    pub none_ready : (x : Waiting) → Contains w.waiting x → mine x.target ≡ false → is_ready k w x ≡ false
+    pub numbers : (x y : Waiting) → Contains w.waiting x → Contains w.waiting y → mine x.target ≡ true → mine y.target ≡ false → x.number ≢ y.number
 
-  -- the records that a cancel is done on, those that have its notification, are in U, and each record in U is there in both or in neither
-  pub record CancelsWithin (w v : World R) (event : Event) : Type 0 where
-    pub holders : (number n : ℕ) → event ≡ Cancel number → is_notification number (common_at k w n).notification ≡ true → U n
-    pub other_holders : (number n : ℕ) → event ≡ Cancel number → is_notification number (common_at k v n).notification ≡ true → U n
-    pub there : (number n : ℕ) → event ≡ Cancel number → U n → contains_key w.records n ≡ contains_key v.records n
+  -- an event is done within U: it names records in U alone, its number is none of one that waits outside U, and the records that have
+  -- the notification that a cancel gives up are in U
+  pub record IsWithin (w : World R) (event : Event) : Type 0 where
+    pub named : (n : ℕ) → Contains (names event) n → mine n ≡ true
+    pub waiting : (x : Waiting) → Contains w.waiting x → mine x.target ≡ false → number_of w event ≢ Some x.number
+    pub holders : (number n : ℕ) → event ≡ Cancel number → Has w n → (common_at k w n).notification ≡ Some number → mine n ≡ true
 
   -- The two lead to the same in U, by the same requests, with the same reply, and change nothing outside; U stays shut
   pub record AgreeEvent (w v : World R) (event other : Stepped R) : Type 0 where
-    pub same : Same event.world other.world
+    pub alike : Alike event.world other.world
     pub reply : event.reply ≡ other.reply
     pub requests : event.requests ≡ other.requests
-    pub shut : Shut event.world
-    pub spares : Spares w event.world
-    pub other_spares : Spares v other.world
+    pub shut : Shut k mine event.world
+    pub spares : Spares k mine w event.world
+    pub other_spares : Spares k mine v other.world
 
-module _ {R : Type 0} (k : RecordRules R) (U : ℕ → Type 0) (answers : Answers) where
-  -- an event that names records in U alone, where each is there in both or in neither, and those that wait, wait for such
-  -- records; a cancel names the records that have its notification
+module _ {R : Type 0} (k : RecordRules R) (mine : ℕ → Bool) (answers : Answers) where
+  -- an event that is done within U looks at U alone and changes U alone, with the starts after it. Which notifications are live, which have
+  -- ended and what waits for other records may differ, where what the event asks of these comes out the same
   abbrev pub EventIsLocal : Type 0
   EventIsLocal =
-      (w v : World R) (event : Event) → Shut k U w → Same k U w v → WaitsWithin k U w → CancelsWithin k U w v event → ((n : ℕ) → Contains (names event) n → U n)
-      → ((n : ℕ) → Contains (names event) n → contains_key w.records n ≡ contains_key v.records n)
-      → AgreeEvent k U w v (stepped k answers w event) (stepped k answers v event)
+      (w v : World R) (event : Event) → Shut k mine w → Alike k mine w v → KeepsApart k mine w → KeepsApart k mine v
+      → IsWithin k mine w event → IsWithin k mine v event → AskAlike w v event
+      → AgreeEvent k mine w v (stepped k answers w event) (stepped k answers v event)
