@@ -1,1 +1,2 @@
 mod Claims
+pub mod Through

@@ -102,7 +102,8 @@ impl<S: Locked> Directory<S> {
         }
     }
 
-    /// Works on the set of a record, under its lock. `NoRecord`: no set with this record was added.
+    /// Works on the set of a record, under its lock. The work moves no record to another set, and takes no other lock of the
+    /// directory. `NoRecord`: no set with this record was added.
     pub fn with_set<T, F: FnOnce(&mut S) -> T, R: Wait>(
         &self,
         rt: &R,

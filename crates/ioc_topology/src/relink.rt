@@ -13,11 +13,20 @@ use std::alloc::{AllocError, Global};
 use std::mem;
 use std::sync::{Arc, Mutex, MutexGuard, Wait};
 
+// Two cells with sets of no records, which nobody else knows yet.
+#[derive(Drop)]
+struct NewPlaces<S: Locked> {
+    // Of the second set, where no other set is concerned.
+    beside: Place<S>,
+    // Of the spare set.
+    spare: Place<S>,
+}
+
 impl<S: Locked> Directory<S> {
     /// Works on the set of a record, on that of the other one, and on a set of no records, under the topology guard and the
     /// locks of these sets alone. Afterwards the records of each are found where they are now, and a set that ended with no
-    /// record is let go. All memory is taken before the work: what the work does stands. `NoRecord`: no set with one of the
-    /// records was added.
+    /// record is let go. All memory is taken before the work: what the work does stands. The work moves records among the three
+    /// sets, adds none, and takes no other lock of the directory. `NoRecord`: no set with one of the records was added.
     pub fn relink<T, F: FnOnce(&mut Lent<S>) -> T, R: Wait>(
         &self,
         rt: &R,
@@ -31,27 +40,21 @@ impl<S: Locked> Directory<S> {
         ensures refused { IfErr result (λ e. (e ≡ NoRecord) ⊎ (e ≡ NoMemory)) }
     {
         let _guard = self.topology.lock(rt);
-        let beside = self.new_place(rt, alloc)?;
-        let spare = match self.new_place(rt, alloc) {
-            Ok(spare) => spare,
-            Err(_) => {
-                self.leave_if_empty(rt, &beside);
-                return Err(IocError::NoMemory);
-            }
-        };
-        let answer = self.relink_beside(rt, alloc, &beside, &spare, number, other, work);
-        self.leave_if_empty(rt, &beside);
-        self.leave_if_empty(rt, &spare);
+        let new = self.new_places(rt, alloc)?;
+        let answer = self.relink_beside(rt, alloc, &new, number, other, work);
+        if answer.is_err() {
+            self.leave(rt, new.beside.key);
+            self.leave(rt, new.spare.key);
+        }
         answer
     }
 
-    // A link change with two cells that nobody else knows yet, whose sets have no records.
+    // A link change with these cells for sets that are new.
     fn relink_beside<T, F: FnOnce(&mut Lent<S>) -> T, R: Wait>(
         &self,
         rt: &R,
         alloc: Global,
-        beside: &Place<S>,
-        spare: &Place<S>,
+        new: &NewPlaces<S>,
         number: RecordNo,
         other: Option<RecordNo>,
         work: F,
@@ -64,19 +67,25 @@ impl<S: Locked> Directory<S> {
             let Some(first) = self.place_of(rt, number)? else {
                 continue;
             };
-            let Some(second) = self.second_place(rt, &first, beside, &other)? else {
+            let Some(second) = self.second_place(rt, &first, &new.beside, &other)? else {
                 continue;
             };
             let (mut first_guard, mut second_guard) = lock_both(rt, &first, &second);
-            let mut spare_guard = spare.cell.lock(rt);
+            let mut spare_guard = new.spare.cell.lock(rt);
             let first_set = &mut *first_guard;
             let second_set = &mut *second_guard;
             let spare_set = &mut *spare_guard;
             if are_lent(first_set, second_set, spare_set, number, &other) {
                 let answer = lend(first_set, second_set, spare_set, alloc, work);
-                self.settle(rt, first_set, first.key);
-                self.settle(rt, second_set, second.key);
-                self.settle(rt, spare_set, spare.key);
+                self.move_homes(rt, first_set, first.key);
+                self.move_homes(rt, second_set, second.key);
+                self.move_homes(rt, spare_set, new.spare.key);
+                self.leave_if_empty(rt, first_set, first.key);
+                self.leave_if_empty(rt, second_set, second.key);
+                self.leave_if_empty(rt, spare_set, new.spare.key);
+                if second.key != new.beside.key {
+                    self.leave(rt, new.beside.key);
+                }
                 return Ok(answer);
             }
         }
@@ -107,6 +116,18 @@ impl<S: Locked> Directory<S> {
         }))
     }
 
+    // The cells that a link change may need.
+    fn new_places(&self, rt: &impl Wait, alloc: Global) -> Result<NewPlaces<S>, AllocError> {
+        let beside = self.new_place(rt, alloc)?;
+        match self.new_place(rt, alloc) {
+            Ok(spare) => Ok(NewPlaces { beside, spare }),
+            Err(refused) => {
+                self.leave(rt, beside.key);
+                Err(refused)
+            }
+        }
+    }
+
     // A new cell with a set of no records.
     fn new_place(&self, rt: &impl Wait, alloc: Global) -> Result<Place<S>, AllocError> {
         let cell = Arc::new(alloc, Mutex::new(S::empty(alloc)))?;
@@ -115,19 +136,15 @@ impl<S: Locked> Directory<S> {
         Ok(Place { key, cell })
     }
 
-    // The records of a set, which is locked, have this home from now on; where there are none its cell is left.
-    fn settle(&self, rt: &impl Wait, set: &S, key: usize) {
-        if set.len() == 0 {
-            self.leave(rt, key);
-        } else {
-            set_homes(self.homes.write(rt).as_mut_slice(), set, key);
-        }
+    // The records of a set, which is locked, have this home from now on.
+    fn move_homes(&self, rt: &impl Wait, set: &S, key: usize) {
+        set_homes(self.homes.write(rt).as_mut_slice(), set, key);
     }
 
-    // Leaves a cell whose set has no records.
-    fn leave_if_empty(&self, rt: &impl Wait, place: &Place<S>) {
-        if place.cell.lock(rt).len() == 0 {
-            self.leave(rt, place.key);
+    // Leaves a cell, which is locked, if its set has no records.
+    fn leave_if_empty(&self, rt: &impl Wait, set: &S, key: usize) {
+        if set.len() == 0 {
+            self.leave(rt, key);
         }
     }
 
