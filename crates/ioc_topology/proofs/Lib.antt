@@ -1,2 +1,1 @@
 mod Claims
-pub mod Through

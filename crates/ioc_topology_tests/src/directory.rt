@@ -1,4 +1,8 @@
 //! Calls and link changes of several sets at once.
+ghost use Rattle.std.specs.Prelude.{◌≡◌, Contains, IfOk};
+ghost use Rattle.std.specs.Vec.{vec_len};
+ghost use Rattle.ioc_topology_tests.specs.declared.numbers.Numbers.{Numbers};
+
 use crate::numbers::Numbers;
 use ioc_names::RecordNo;
 use ioc_topology::{Directory, Lent};
@@ -97,13 +101,18 @@ fn part_lent(lent: &mut Lent<Numbers>, one: usize) -> Result<(), AllocError> {
     Ok(())
 }
 
-// How many records the set of a record has.
-fn size_of_set(
-    rt: &impl Wait,
-    sets: &Directory<Numbers>,
-    number: usize,
-) -> Result<usize, IocError> {
-    sets.with_set(rt, RecordNo::new(number), |set| set.list.len())
+// How many records the set of a record has: that of some set which has the record.
+fn size_of_set(rt: &impl Wait, sets: &Directory<Numbers>, number: usize) -> Result<usize, IocError>
+    ensures { IfOk result (λ n. (s : Numbers) × Contains s.list.items number × (n ≡ vec_len s.list)) }
+{
+    let size = sets.with_set(
+        rt,
+        RecordNo::new(number),
+        |set: &mut Numbers| -> usize
+            ensures { result ≡ vec_len set.old.list }
+        { set.list.len() },
+    )?;
+    Ok(size)
 }
 
 #[test]
