@@ -1,0 +1,12 @@
+//! The sets that a link change works on.
+
+/// The sets that are lent to a link change, each under its lock.
+#[derive(Drop)]
+pub struct Lent<S> {
+    /// The set of the record whose link changes.
+    pub first: S,
+    /// The set of the other record; a set of no records where that one is in the first, or where there is none.
+    pub second: S,
+    /// A set of no records, for those that part from the others.
+    pub spare: S,
+}

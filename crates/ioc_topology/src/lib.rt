@@ -1,0 +1,16 @@
+//! Which lock has the set of a record.
+//!
+//! Records are kept in sets, each under a lock of its own. A call looks up the set of its record, locks it, and looks again
+//! whether the record is there, else it tries again. A link change takes the topology guard and then one or two sets, by
+//! rising key, and no other set. Application Developer's Guide, "Database Locking, Scanning, and Processing", lock sets.
+#![tactic(auto)]
+
+pub mod directory;
+mod gather;
+pub mod lent;
+pub mod locked;
+mod relink;
+
+pub use directory::Directory;
+pub use lent::Lent;
+pub use locked::Locked;
