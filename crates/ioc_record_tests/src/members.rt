@@ -125,7 +125,22 @@ fn is_kept<K: RecordKind, D: Device>(
     leads && given == Answer::Done(Value::UShort(u16_of(number.index())))
 }
 
-// Are these the records, with these links, and has each its device?
+// Does the link of the record's base lead there?
+fn base_leads<K: RecordKind, D: Device>(
+    set: &Members<K, D>,
+    number: RecordNo,
+    target: Option<usize>,
+) -> bool {
+    if !set.has(number) {
+        return false;
+    }
+    match set.base(number).link(LINK) {
+        Some(link) => link.record_named() == target.map(RecordNo::new),
+        None => false,
+    }
+}
+
+// Are these the records, with these links, also in their bases, and has each its device?
 fn holds<K: RecordKind, D: Device>(
     set: &mut Members<K, D>,
     wanted: &[(usize, Option<usize>)],
@@ -142,6 +157,9 @@ fn holds<K: RecordKind, D: Device>(
         if set.number_at(place) != Some(number) || !is_kept(set, number, item.1) {
             return false;
         }
+        if !base_leads(set, number, item.1) {
+            return false;
+        }
     }
     true
 }
@@ -154,7 +172,8 @@ fn part<K: RecordKind + Drop, D: Device>(
     target: Option<usize>,
 ) -> Result<Option<Members<K, D>>, AllocError> {
     let link = link_to(alloc, target)?;
-    if !set.is_part(alloc)? {
+    let twin = KeptLink::new(alloc, link.get())?;
+    if !set.is_folded() || !set.is_part(alloc)? {
         return Ok(None);
     }
     if !set.has_link(RecordNo::new(number), LINK) {
@@ -163,7 +182,7 @@ fn part<K: RecordKind + Drop, D: Device>(
     if !set.leads_within(&link) {
         return Ok(None);
     }
-    let rest = set.part(alloc, RecordNo::new(number), LINK, link)?;
+    let rest = set.part(alloc, RecordNo::new(number), LINK, link, twin)?;
     Ok(Some(rest))
 }
 
@@ -176,7 +195,8 @@ fn join<K: RecordKind, D: Device>(
     target: usize,
 ) -> Result<bool, AllocError> {
     let link = link_to(alloc, Some(target))?;
-    if !set.is_apart(other) {
+    let twin = KeptLink::new(alloc, link.get())?;
+    if !set.is_folded() || !other.is_folded() || !set.is_apart(other) {
         return Ok(false);
     }
     if !set.is_part(alloc)? {
@@ -191,7 +211,7 @@ fn join<K: RecordKind, D: Device>(
     if !other.leads_into(&link) {
         return Ok(false);
     }
-    set.join(other, RecordNo::new(number), LINK, link)?;
+    set.join(other, RecordNo::new(number), LINK, link, twin)?;
     Ok(true)
 }
 
@@ -381,10 +401,13 @@ fn sets_that_may_not_be_changed(rt: HostRuntime) -> Result<(), Fail> {
 #[test]
 fn all_records_are_changed(rt: HostRuntime) -> Result<(), Fail> {
     let mut set = chain(rt.alloc())?;
+    assert!(rt; set.is_folded());
     set.change_all(&Cut);
+    assert!(rt; !set.is_folded());
     assert!(rt; !set.is_part(rt.alloc())?);
-    for number in 0..10usize {
-        assert!(rt; is_kept(&mut set, RecordNo::new(number), None));
+    for (number, target) in &CHAIN {
+        assert!(rt; is_kept(&mut set, RecordNo::new(*number), None));
+        assert!(rt; base_leads(&set, RecordNo::new(*number), *target));
     }
     Ok(())
 }

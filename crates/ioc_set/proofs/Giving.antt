@@ -1,7 +1,5 @@
 -- A device of a set that was asked is the device of a store that was asked.
 use Rattle.std.proofs.Common.{◌≡◌, ℕ, Option, Some, None, cond, refl, sym, ap, ◌∙◌, subst}
-use Rattle.std.specs.Prelude.{◌==◌}
-use Rattle.std.specs.Ordering.{nat_cmp}
 use Rattle.std.specs.Cmp.{nat_cmp_total, unsigned_tied}
 use Rattle.std.specs.FinMap.{get, insert, get-insert}
 use Rattle.ioc_device.specs.declared.Ask.{Ask}
@@ -9,7 +7,6 @@ use Rattle.ioc_device.specs.declared.Answer.{Answer}
 use Rattle.ioc_members.specs.Contents.{Devices, with_device as with_device_of}
 use Rattle.ioc_members.specs.Answers.{Gives, GivesAt}
 use Rattle.ioc_store.specs.Given.{DeviceGives, its_device, no_device, with_device}
-use Rattle.ioc_store.specs.declared.call.Call.{Call}
 
 module _ {D : Type 0} where
   with_one : (ds : Devices D) (n : ℕ) (d : D) (m : ℕ) → get (insert ds n d) m ≡ with_device (get ds) n d m

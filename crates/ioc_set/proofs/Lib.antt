@@ -1,1 +1,4 @@
 mod Giving
+mod Sounding
+mod NoneLive
+mod Beginning

@@ -1,2 +1,4 @@
 pub mod SetStore
 pub mod SetStoreLaws
+pub mod Held
+pub mod Sound

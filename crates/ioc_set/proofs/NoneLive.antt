@@ -1,0 +1,46 @@
+-- Where no put with notification is live, none waits, and none begins by an event that doesn't say so.
+use Rattle.std.proofs.Common.{◌≡◌, ◌≢◌, ℕ, true, false, List, [], ◌∷◌, get_or, refl, sym, ap, ◌∙◌, subst, arith}
+use Rattle.std.specs.Prelude.{◌↔◌, Contains, ◌==◌, ◌||◌}
+use Rattle.std.specs.List.{list_any}
+use Rattle.std.proofs.lemmas.Bool.Decides.{nat_tests}
+use Rattle.ioc_notify.specs.declared.live_numbers.Live.{Live}
+use Rattle.ioc_notify.specs.declared.waiting_lists.Waiting.{Waiting}
+use Rattle.ioc_notify.specs.Living.{is_live}
+use Rattle.ioc_record.specs.RecordRules.{RecordRules}
+use Rattle.ioc_store.specs.World.{World}
+use Rattle.ioc_events.specs.declared.event.Entry.{Entry}
+use Rattle.ioc_events.specs.declared.reply.Reply.TheVariants.{Notify as Notify-reply}
+use Rattle.ioc_events.specs.StepRules.{Replay}
+use Rattle.ioc_events.specs.Holding.{IsCounted, IsHeld, in_a_waiting_list, IsOver, NoneBegins}
+
+itself : (n : ℕ) → (n == n) ≡ true
+itself n = grind (arith, nat_tests)
+
+first_live : (l : Live) (ls : List Live) → is_live l.number (l ∷ ls) ≡ true
+first_live l ls = ap (λ b. b || list_any (λ (x : Live). x.number == l.number) ls) (itself l.number)
+
+none_of : (ls : List Live) → ((n : ℕ) → is_live n ls ≡ true → ⊥) → ls ≡ []
+none_of [] none = refl
+none_of (l ∷ ls) none = absurd (none l.number (first_live l ls))
+
+lone : (x y : Entry) → Contains (x ∷ []) y → x ≡ y
+lone x y c = ap (λ i. slice_at i) (let l = c.1 in let z : 0 ≡ c.0 = omega arith in z) ∙ c.2
+  where
+    slice_at : ℕ → Entry
+    slice_at i = get_or (x ∷ []) i y
+
+module _ {R : Type 0} (k : RecordRules R)
+    (live : (w : World R) (n : ℕ) → IsCounted k w → (is_live n w.live ≡ true) ↔ IsHeld k w n)
+    (counted : (w after : World R) (entries : List Entry) → Replay k w entries after → IsCounted k w → IsCounted k after)
+    (over : (w after : World R) (number : ℕ) (entry : Entry) (entries : List Entry) → Replay k w (entry ∷ entries) after → IsCounted k w → (IsHeld k w number → ⊥) → NoneBegins (entry ∷ entries) number → IsOver k after number) where
+  none_waits : (w : World R) (ws : List Waiting) → w.waiting ≡ ws → ((n : ℕ) → IsHeld k w n → ⊥) → ws ≡ []
+  none_waits w [] e none = refl
+  none_waits w (x ∷ ws) e none = absurd (none x.number (in_a_waiting_list x (subst (λ (l : List Waiting). Contains l x) (sym e) (0, omega arith, refl))))
+
+  pub stays_so : (w after : World R) (entry : Entry) → Replay k w (entry ∷ []) after → IsCounted k w → w.live ≡ [] → ((n : ℕ) → entry.reply ≢ Notify-reply n) → (after.live ≡ []) × (after.waiting ≡ [])
+  stays_so w after entry replay before none begins =
+      let nobody : (n : ℕ) → IsHeld k w n → ⊥ = λ n held. let h : false ≡ true = sym (ap (is_live n) none) ∙ (live w n before).1 held in absurd (let z : false ≡ true = h in cc) in
+      let begun : (n : ℕ) → NoneBegins (entry ∷ []) n = λ n x c. subst (λ (z : Entry). z.reply ≢ Notify-reply n) (lone entry x c) (begins n) in
+      let gone : (n : ℕ) → IsHeld k after n → ⊥ = λ n. (over w after n entry [] replay before (nobody n) (begun n)).not_held in
+      let now = counted w after (entry ∷ []) replay before in
+      (none_of after.live (λ n is. gone n ((live after n now).0 is)), none_waits after after.waiting refl gone)

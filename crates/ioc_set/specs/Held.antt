@@ -1,0 +1,67 @@
+-- What a lock set holds between events, and what an event leaves of it.
+-- Application Developer's Guide, "Database Locking, Scanning, and Processing". The kept history is this project's own.
+use Rattle.std.specs.Prelude.{List, [], ◌∷◌, ◌++◌}
+use Rattle.ioc_ledger.specs.declared.tally.Tally.{Tally}
+use Rattle.ioc_notify.specs.declared.live_numbers.Live.{Live}
+use Rattle.ioc_notify.specs.declared.waiting_lists.Waiting.{Waiting}
+use Rattle.ioc_record.specs.RecordRules.{RecordRules}
+use Rattle.ioc_members.specs.Contents.{Records, Devices}
+use Rattle.ioc_store.specs.World.{World, begun_at}
+use Rattle.ioc_store.specs.Given.{listed}
+use Rattle.ioc_events.specs.declared.event.Entry.{Entry}
+use Rattle.ioc_events.specs.Step.{Stepped, stepped, tallied}
+
+-- what a set held before the first event of its history
+pub record Base (R : Type 0) : Type 0 where
+  pub records : Records R
+  pub live : List Live
+  pub waiting : List Waiting
+  pub tally : Tally
+
+-- the records of a set with their devices, the puts with notification that are live and those of them that wait, the counts of
+-- requests, and the history: the last events, and what was before them
+pub record Held (R D : Type 0) : Type 0 where
+  pub records : Records R
+  pub devices : Devices D
+  pub live : List Live
+  pub waiting : List Waiting
+  pub tally : Tally
+  pub base : Base R
+  pub history : List Entry
+
+-- a database at rest with these records and puts with notification
+abbrev pub resting : {R : Type 0} → Records R → List Live → List Waiting → World R
+resting records live waiting = record { records = records; moment = 0; calls = []; outbox = []; dropped = 0; live = live; ended = []; waiting = waiting }
+
+abbrev pub now_of : {R D : Type 0} → Held R D → World R
+now_of h = resting h.records h.live h.waiting
+
+abbrev pub before_of : {R : Type 0} → Base R → World R
+before_of b = resting b.records b.live b.waiting
+
+-- what a set holds once its history is forgotten: it begins anew
+abbrev pub folded : {R D : Type 0} → Held R D → Held R D
+folded h = record h { base = record { records = h.records; live = h.live; waiting = h.waiting; tally = h.tally }; history = [] }
+
+module _ {R : Type 0} (k : RecordRules R) where
+  -- an event as it was done on this database
+  abbrev pub done_by : World R → Entry → Stepped R
+  done_by w entry = stepped k (listed entry.answers) (begun_at entry.moment w) entry.event
+
+  -- the counts after these events
+  abbrev pub counted_on : Tally → World R → List Entry → Tally
+  counted_on t w [] = t
+  counted_on t w (entry ∷ entries) = let done = done_by w entry in counted_on (tallied t (begun_at entry.moment w) entry.event done) done.world entries
+
+  -- what a set holds after an event, with its devices as they are then
+  abbrev pub held_after : {D : Type 0} → Held R D → Entry → Devices D → Held R D
+  held_after h entry devices =
+      let done = done_by (now_of h) entry in
+      record h {
+        records = done.world.records;
+        devices = devices;
+        live = done.world.live;
+        waiting = done.world.waiting;
+        tally = tallied h.tally (begun_at entry.moment (now_of h)) entry.event done;
+        history = h.history ++ entry ∷ [];
+      }

@@ -1,0 +1,48 @@
+-- What holds of a lock set whenever it is free.
+-- Application Developer's Guide, "Database Locking, Scanning, and Processing": records that links join are in one lock set.
+use Rattle.std.specs.Prelude.{◌≡◌, ◌≤◌, Bool, true, false, length}
+use Rattle.ioc_record.specs.RecordRules.{RecordRules}
+use Rattle.ioc_members.specs.Joined.{links_of, IsPart}
+use Rattle.ioc_store.specs.World.{World}
+use Rattle.ioc_store.specs.Given.{answers_of}
+use Rattle.ioc_process.specs.Rules.{IsSettled}
+use Rattle.ioc_events.specs.declared.event.Event.{Event}
+use Rattle.ioc_events.specs.declared.event.Event.TheVariants.{Notify}
+use Rattle.ioc_events.specs.declared.event.Entry.{Entry}
+use Rattle.ioc_events.specs.Step.{is_link_change}
+use Rattle.ioc_events.specs.StepRules.{Replay}
+use Rattle.ioc_events.specs.Starting.{NoneReady}
+use Rattle.ioc_events.specs.Holding.{IsCounted, HoldersAwait}
+use Rattle.ioc_set.specs.Held.{Held, now_of, before_of, done_by, counted_on}
+
+-- a put with notification
+abbrev pub is_put_with_notification : Event → Bool
+is_put_with_notification (Notify s number field given) = true
+is_put_with_notification _ = false
+
+module _ {R D : Type 0} (k : RecordRules R) where
+  -- the events of the history, one after another, lead from what was before them to what is there
+  pub record LeadsHere (h : Held R D) : Type 0 where
+    pub after : World R
+    pub replay : Replay k (before_of h.base) h.history after
+    pub records : after.records ≡ h.records
+    pub live : after.live ≡ h.live
+    pub waiting : after.waiting ≡ h.waiting
+
+  -- the records are one connected part or none, and no link leaves them; a record is active exactly where a completion is pending; none that
+  -- waits may start; the holders of each put with notification are counted, and await a completion; and the history leads here, the counts too
+  pub record IsSound (h : Held R D) : Type 0 where
+    pub part : IsPart (links_of k h.records)
+    pub settled : IsSettled k (now_of h)
+    pub none_ready : NoneReady k (now_of h)
+    pub counted : IsCounted k (now_of h)
+    pub holders_await : HoldersAwait k (now_of h)
+    pub leads : LeadsHere h
+    pub tally : h.tally ≡ counted_on k h.base.tally (before_of h.base) h.history
+    pub short : length h.history ≤ 64
+
+  -- an entry tells what its event did on what the set holds: all its answers were used, and its reply was given
+  pub record TellsOf (h : Held R D) (entry : Entry) : Type 0 where
+    pub no_link_change : is_link_change entry.event ≡ false
+    pub reply : (done_by k (now_of h) entry).reply ≡ entry.reply
+    pub answers : answers_of (done_by k (now_of h) entry).world.calls ≡ entry.answers
