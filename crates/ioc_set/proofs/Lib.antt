@@ -2,3 +2,5 @@ mod Giving
 mod Sounding
 mod NoneLive
 mod Beginning
+mod AttachedLaws
+mod DidLaws
