@@ -4,3 +4,4 @@ mod NoneLive
 mod Beginning
 mod AttachedLaws
 mod DidLaws
+mod DoneLaws
