@@ -5,3 +5,4 @@ mod Beginning
 mod AttachedLaws
 mod DidLaws
 mod DoneLaws
+mod NothingHeld

@@ -1,11 +1,11 @@
 //! Lock sets.
-ghost use Rattle.std.specs.Prelude.{◌≡◌, ◌<◌, ℕ, true, false, IfOk, OnOk, OnErr, slice_get, vec_len, vec_capacity};
+ghost use Rattle.std.specs.Prelude.{◌≡◌, ◌<◌, true, [], IfOk, OnOk, OnErr, slice_get, vec_len, vec_capacity};
 ghost use Rattle.std.specs.FinMap as map;
 ghost use Rattle.ioc_events.specs.declared.event.Event.TheVariants.{Process, Put, Complete, Get};
 ghost use Rattle.ioc_events.specs.Step.{stepped};
 ghost use Rattle.ioc_store.specs.Given.{Answers};
 ghost use Rattle.ioc_members.specs.Contents.{RecordsAreLikeTheirBase};
-ghost use Rattle.ioc_set.specs.Held.{now_of, before_of, nothing_held};
+ghost use Rattle.ioc_set.specs.Held.{now_of, resting, nothing_held};
 ghost use Rattle.ioc_set.specs.Sound.{IsSound};
 ghost use Rattle.ioc_set.specs.SetStore.{world_of};
 ghost use Rattle.ioc_set.specs.Doing.{Does, held_by, with_place, is_ordinary};
@@ -74,6 +74,21 @@ fn make_place<K: RecordKind, D>(
     Ok(())
 }
 
+// The text of a field of a record of these.
+#[tactic(auto, unfolding(ioc_events::specs::Step::stepped, ioc_events::specs::Step::done_alone, ioc_events::specs::Step::done_there, ioc_store::specs::World::at))]
+fn text_in<K: RecordKind, D>(members: &Members<K, D>, number: RecordNo, field: FieldNo) -> Reply
+    ensures { (answers : Answers) → result ≡ (stepped K.rules answers (resting members.now.records [] []) (Get number field)).reply }
+{
+    if !members.has(number) {
+        return Reply::Refused(IocError::NoRecord);
+    }
+    let record = members.record(number);
+    match row_of(record.record_type(), field) {
+        Some(_) => Reply::Shown(text_of(record, field)),
+        None => Reply::Refused(IocError::NoField),
+    }
+}
+
 impl<K: RecordKind, D> LockSet<K, D> {
     /// A set with no records.
     pub fn empty(alloc: Global) -> Self
@@ -123,14 +138,7 @@ impl<K: RecordKind, D> LockSet<K, D> {
     pub fn get(&self, number: RecordNo, field: FieldNo) -> Reply
         ensures { (answers : Answers) → result ≡ (stepped K.rules answers (now_of self.now) (Get number field)).reply }
     {
-        if !self.members.has(number) {
-            return Reply::Refused(IocError::NoRecord);
-        }
-        let record = self.members.record(number);
-        match row_of(record.record_type(), field) {
-            Some(_) => Reply::Shown(text_of(record, field)),
-            None => Reply::Refused(IocError::NoField),
-        }
+        text_in(&self.members, number, field)
     }
 }
 

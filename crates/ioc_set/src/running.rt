@@ -78,7 +78,7 @@ pub fn run_on<K: RecordKind + Drop, D: Device>(
     place.store.begin_at(moment);
     let reply = run_event(&mut place.store, &mut place.frames, event, tally);
     place.store.event.calls.copy_answers(&mut kept);
-    mem::swap(&mut place.store.members, members);
+    mem::swap(members, &mut place.store.members);
     members.devices_are_owned();
     Entry {
         moment,

@@ -28,7 +28,7 @@ invariant_of-place g c =
     before c.args.tally.now c.run_event-reply.new.tally s s' s' c.args.event.now c.run_event-reply.result c.args.moment c.copy_answers.new.to.items
     start c.run_event-reply.ensures.step copied c.requires.ordinary c.requires.counted in
     record {
-      no_record = ap (λ (m : Contents g.row.K.Denot g.row.D.Denot). len m.records) (c.swap-2.ensures.x_after ∙ c.swap.ensures.y_after) ∙ place.no_record;
+      no_record = ap (λ (m : Contents g.row.K.Denot g.row.D.Denot). len m.records) (c.swap-2.ensures.y_after ∙ c.swap.ensures.y_after) ∙ place.no_record;
       none_live = none.0;
       none_waits = none.1;
       no_frame = c.run_event-reply.ensures.empty;
@@ -43,7 +43,7 @@ returns-clause-did g c =
     let s' = c.run_event-reply.new.store in
     let copied = c.new.ensures ∙ c.copy_answers.ensures ∙ ap (λ (l : List Answer). l ++ answers_of (calls_of s'.event.calls)) c.requires.none.0 in
     did g.K.RecordKind.rules g.D.Device.gives c.rules_are_steps.ensures.allowed c.none_live_stays_so.ensures c.notifications_begin_by_notify.ensures
-    before c.args.tally.now c.run_event-reply.new.tally s s' (record { members = c.swap-2.new.x; event = s'.event }) c.args.event.now c.run_event-reply.result c.args.moment c.new.result
+    before c.args.tally.now c.run_event-reply.new.tally s s' (record { members = c.swap-2.new.y; event = s'.event }) c.args.event.now c.run_event-reply.result c.args.moment c.new.result
     start c.run_event-reply.ensures.step copied c.requires.ordinary c.requires.counted
     (c.begin_at.ensures.members ∙ c.swap.ensures.x_after) refl c.run_event-reply.ensures.keeps c.run_event-reply.ensures.given
-    c.devices_are_owned.ensures.devices c.devices_are_owned.ensures.base c.swap-2.new.y c.swap-2.ensures.y_after c.devices_are_owned-2.ensures.devices c.devices_are_owned-2.ensures.base
+    c.devices_are_owned.ensures.devices c.devices_are_owned.ensures.base c.swap-2.new.x c.swap-2.ensures.x_after c.devices_are_owned-2.ensures.devices c.devices_are_owned-2.ensures.base
