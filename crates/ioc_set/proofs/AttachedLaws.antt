@@ -81,7 +81,7 @@ module _ {R D : Type 0} where
     module _ (before after : Contents R D) {moment : ℕ} {calls : List Call} (work : DevicesWork (AttachedGives {R = R} gives) (attached_in before) moment calls (attached_in after)) where
       pub base_kept : after.base ≡ before.base
       base_kept = same_map nat_cmp_total nat_cmp-IsAntisymmetric after.base before.base
-        (λ n. sym (base_there (get after.base n) (get after.devices n)) ∙ bases_stay work n ∙ base_there (get before.base n) (get before.devices n))
+          (λ n. sym (base_there (get after.base n) (get after.devices n)) ∙ bases_stay work n ∙ base_there (get before.base n) (get before.devices n))
 
       pub worked : DevicesAreOwned before → BaseHasTheSame before → DevicesAreOwned after → BaseHasTheSame after → DevicesWork gives (get before.devices) moment calls (get after.devices)
       worked owned same owned_then same_then =

@@ -48,7 +48,7 @@ module _ {R D : Type 0} where
 
     pub given_at : (r : R) → get base n ≡ Some r → GivesAt gives ds n ask moment answer es
         → DeviceGives (AttachedGives {R = R} gives) (λ m. option_map (beside (get ds m)) (get base m)) moment (record { target = n; ask = ask; answer = answer })
-          (λ m. option_map (beside (get es m)) (get base m))
+        (λ m. option_map (beside (get es m)) (get base m))
     unfolding with_device
     given_at r is g =
         let before : ℕ → Option (Attached R D) = λ m. option_map (beside (get ds m)) (get base m) in

@@ -12,6 +12,7 @@ use Rattle.ioc_events.specs.declared.event.Entry.{Entry}
 use Rattle.ioc_events.specs.contracts.event.Entry as entry_row
 use Rattle.ioc_members.specs.Contents.{Records, Devices}
 use Rattle.ioc_set.specs.Held.{Held}
+
 abbrev pub held_code : {R D : Type 0} → Coded R → Coded D → Coded (Held R D)
 held_code {R} {D} r d =
     let records = map.code coded_ℕ r in

@@ -94,10 +94,11 @@ impl<K: RecordKind, D> LockSet<K, D> {
     pub fn empty(alloc: Global) -> Self
         ensures { result ≡ nothing_held }
     {
+        let tally = Tally::default();
         LockSet {
             members: Members::new(alloc),
-            tally: Tally::default(),
-            base_tally: Tally::default(),
+            tally,
+            base_tally: tally,
             history: Vec::new(alloc),
         }
     }
@@ -164,7 +165,14 @@ impl<K: RecordKind + Drop, D: Device> LockSet<K, D> {
             &mut self.base_tally,
             &mut self.history,
         )?;
-        let entry = run_on(place, &mut self.members, moment, event, &mut self.tally, answers);
+        let entry = run_on(
+            place,
+            &mut self.members,
+            moment,
+            event,
+            &mut self.tally,
+            answers,
+        );
         let reply = &entry.reply;
         let told = *reply;
         self.history.push_reserved(entry);
@@ -231,6 +239,11 @@ impl<K: RecordKind + Drop, D: Device> LockSet<K, D> {
         ensures ok { IfOk result (λ reply. Does K.rules D.gives self.old moment (Complete number wait finished) reply self.new (world_of place.new.store)) }
         ensures err { OnErr result (self.new ≡ self.old) }
     {
-        self.do_event(place, alloc, &Event::Complete(number, wait, finished), moment)
+        self.do_event(
+            place,
+            alloc,
+            &Event::Complete(number, wait, finished),
+            moment,
+        )
     }
 }

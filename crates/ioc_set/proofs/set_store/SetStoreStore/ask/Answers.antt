@@ -18,6 +18,6 @@ returns-clause-gives g c =
     let there = some_of (get before.base n) (c.devices_are_owned.ensures.base n ∙ c.requires.there) in
     let given = given_at gives before.base before.devices after.devices n c.args.ask moment c.device_gives-answer.result there.0 there.1 c.device_gives-answer.ensures.gives in
     let kept = subst (λ (b : Records g.row.K.Denot). DeviceGives (AttachedGives gives) (attached_in before) moment (record { target = n; ask = c.args.ask; answer = c.device_gives-answer.result })
-        (λ m. option_map (beside (get after.devices m)) (get b m))) (sym c.device_gives-answer.ensures.base) given in
+    (λ m. option_map (beside (get after.devices m)) (get b m))) (sym c.device_gives-answer.ensures.base) given in
     subst (λ (answer : Answer). DeviceGives (AttachedGives gives) (attached_in before) moment (record { target = n; ask = c.args.ask; answer = answer }) (attached_in after))
     (sym (ap (λ call. call.answer) c.new-call.ensures)) kept
