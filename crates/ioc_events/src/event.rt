@@ -1,4 +1,6 @@
 //! What can happen to a database, and what is kept of it.
+ghost use Rattle.std.specs.Prelude.{◌≡◌};
+
 use crate::reply::Reply;
 use ioc_common::LinkField;
 use ioc_device::Answer;
@@ -42,6 +44,15 @@ impl Model for KeptAnswers {
     ghost Value = { List Answer };
 
     ghost view = { λ a. a.answers.items };
+}
+
+impl KeptAnswers {
+    /// These answers.
+    pub fn new(answers: Vec<Answer>) -> Self
+        ensures { result ≡ answers.items }
+    {
+        KeptAnswers { answers }
+    }
 }
 
 /// An event that was done: when, what devices answered in it, and the reply.

@@ -2,3 +2,7 @@ mod Giving
 mod Sounding
 mod NoneLive
 mod Beginning
+mod AttachedLaws
+mod DidLaws
+mod DoneLaws
+mod NothingHeld

@@ -1,6 +1,7 @@
 -- What a lock set holds between events, and what an event leaves of it.
 -- Application Developer's Guide, "Database Locking, Scanning, and Processing". The kept history is this project's own.
 use Rattle.std.specs.Prelude.{List, [], ◌∷◌, ◌++◌}
+use Rattle.std.specs.FinMap.{empty}
 use Rattle.ioc_ledger.specs.declared.tally.Tally.{Tally}
 use Rattle.ioc_notify.specs.declared.live_numbers.Live.{Live}
 use Rattle.ioc_notify.specs.declared.waiting_lists.Waiting.{Waiting}
@@ -10,6 +11,10 @@ use Rattle.ioc_store.specs.World.{World, begun_at}
 use Rattle.ioc_store.specs.Given.{listed}
 use Rattle.ioc_events.specs.declared.event.Entry.{Entry}
 use Rattle.ioc_events.specs.Step.{Stepped, stepped, tallied}
+
+-- no request was counted yet
+abbrev pub no_counts : Tally
+no_counts = record { begun = 0; processed = 0; disabled = 0; active = 0; reprocess = 0; started = 0; completed = 0 }
 
 -- what a set held before the first event of its history
 pub record Base (R : Type 0) : Type 0 where
@@ -28,6 +33,10 @@ pub record Held (R D : Type 0) : Type 0 where
   pub tally : Tally
   pub base : Base R
   pub history : List Entry
+
+-- no records, no counts, and no history
+abbrev pub nothing_held : {R D : Type 0} → Held R D
+nothing_held = record { records = empty; devices = empty; live = []; waiting = []; tally = no_counts; base = record { records = empty; live = []; waiting = []; tally = no_counts }; history = [] }
 
 -- a database at rest with these records and puts with notification
 abbrev pub resting : {R : Type 0} → Records R → List Live → List Waiting → World R

@@ -1,4 +1,7 @@
+pub mod Attached
 pub mod SetStore
 pub mod SetStoreLaws
 pub mod Held
 pub mod Sound
+pub mod Doing
+pub mod HeldCode

@@ -1,8 +1,15 @@
 //! One lock set: its records as the keeper of an event.
 #![tactic(auto)]
 
+pub mod attached;
 pub mod laws;
+pub mod lock_set;
+pub mod running;
 pub mod set_store;
+pub mod workplace;
 
+pub use attached::Attached;
 pub use laws::{events_leave_sound, none_live_stays_so, notifications_begin_by_notify};
+pub use lock_set::LockSet;
 pub use set_store::SetStore;
+pub use workplace::Workplace;

@@ -3,6 +3,7 @@ ghost use Rattle.std.specs.Prelude.{◌≡◌, ◌≤◌, [], IfOk};
 ghost use Rattle.std.specs.FinMap.{len};
 ghost use Rattle.std.specs.Vec.{vec_capacity};
 
+use crate::attached::Attached;
 use ioc_device::{Answer, Ask, Device};
 use ioc_members::{Change, Members};
 use ioc_names::RecordNo;
@@ -63,10 +64,11 @@ impl<K: RecordKind> Change<K> for Freeing {
     }
 }
 
-impl<K: RecordKind, D: Device> Store for SetStore<K, D> {
+// What an event does to the devices of a store leaves the bases as they are: they stand beside the devices.
+impl<K: RecordKind + Drop, D: Device> Store for SetStore<K, D> {
     type Record = K;
 
-    type Device = D;
+    type Device = Attached<K, D>;
 
     ghost use Rattle.ioc_set.specs.SetStore.{world_of, given_of, with_record};
     ghost use Rattle.ioc_set.specs.SetStoreLaws.{with_record-world, with_record-given, calls-given, moment-given};
@@ -99,6 +101,7 @@ impl<K: RecordKind, D: Device> Store for SetStore<K, D> {
 
     #[tactic(auto, unfolding(ioc_store::specs::World::called))]
     fn ask(&mut self, number: RecordNo, ask: Ask) -> Answer {
+        self.members.devices_are_owned();
         let answer = self.members.device_gives(number, &ask, self.event.moment);
         let call = Call::new(number, ask, answer);
         self.event.calls.push(&call);

@@ -1,5 +1,5 @@
 //! The calls of devices in an event.
-ghost use Rattle.std.specs.Prelude.{◌≡◌, ◌<◌, ◌≤◌, ◌++◌, [], ◌∷◌, length, drop};
+ghost use Rattle.std.specs.Prelude.{◌≡◌, ◌+◌, ◌<◌, ◌≤◌, ◌++◌, [], ◌∷◌, length, drop, vec_len, vec_capacity};
 
 use crate::call::Call;
 use ioc_device::{Answer, Ask};
@@ -15,7 +15,7 @@ pub struct Calls {
 }
 
 impl Calls {
-    ghost use Rattle.ioc_store.specs.Given.{calls_of, later_among};
+    ghost use Rattle.ioc_store.specs.Given.{calls_of, answers_of, later_among};
 
     /// No call yet.
     pub fn new() -> Self
@@ -63,5 +63,15 @@ impl Calls {
             .skip(start)
             .filter(|call| call.is_later())
             .count()
+    }
+
+    /// Adds the answers of all calls, in order, to a list that has room for them.
+    pub fn copy_answers(&self, to: &mut Vec<Answer>)
+        requires { vec_len to.old + length (calls_of self.now) ≤ vec_capacity to.old }
+        ensures { to.new.items ≡ to.old.items ++ answers_of (calls_of self.now) }
+    {
+        for call in &self.calls[..self.count] {
+            to.push_reserved(call.answer);
+        }
     }
 }

@@ -1,0 +1,123 @@
+-- An event on the records of a set, by what its code says of the store with which it was done.
+use Rattle.std.proofs.Common.{◌≡◌, ◌≢◌, ℕ, Bool, true, false, List, [], ◌∷◌, ◌++◌, refl, sym, ap, ◌∙◌, subst}
+use Rattle.std.specs.FinMap.{get}
+use Rattle.ioc_device.specs.declared.Ask.{Ask}
+use Rattle.ioc_device.specs.declared.Answer.{Answer}
+use Rattle.ioc_ledger.specs.declared.tally.Tally.{Tally}
+use Rattle.ioc_ledger.specs.Requests.{Requests}
+use Rattle.ioc_record.specs.RecordRules.{RecordRules}
+use Rattle.ioc_members.specs.Contents.{Records, Contents, DevicesAreOwned, BaseHasTheSame}
+use Rattle.ioc_store.specs.declared.call.Call.{Call}
+use Rattle.ioc_store.specs.World.{World, IsClosed, Keeps, at, begun, begun_at}
+use Rattle.ioc_store.specs.Given.{Answers, Begins, DevicesWork, calls_of, answers_of, listed}
+use Rattle.ioc_process.specs.Answering.{listed-accords}
+use Rattle.ioc_process.specs.Runs.{ForAnswers}
+use Rattle.ioc_events.specs.declared.event.Event.{Event}
+use Rattle.ioc_events.specs.declared.event.Event.TheVariants.{Get, Process, Put, Complete, Link, Notify, Cancel, IsLive}
+use Rattle.ioc_events.specs.declared.event.Entry.{Entry}
+use Rattle.ioc_events.specs.declared.reply.Reply.{Reply}
+use Rattle.ioc_events.specs.declared.reply.Reply.TheVariants.{Notify as Notify-reply}
+use Rattle.ioc_events.specs.Events.{Tells}
+use Rattle.ioc_events.specs.Step.{Stepped, stepped}
+use Rattle.ioc_events.specs.StepRules.{Step, Replay, at_the_end, and_then}
+use Rattle.ioc_events.specs.Holding.{IsCounted}
+use Rattle.ioc_set.specs.declared.set_store.SetStore.{SetStore}
+use Rattle.ioc_set.specs.SetStore.{world_of, given_of}
+use Rattle.ioc_set.specs.Attached.{AttachedGives, attached_in}
+use Rattle.ioc_set.specs.Held.{resting, done_by}
+use Rattle.ioc_set.specs.Sound.{is_put_with_notification}
+use Rattle.ioc_set.specs.Doing.{is_ordinary, with_records, Did}
+use Rattle.ioc_set.proofs.AttachedLaws.{base_kept, worked}
+
+ordinary_alone : (event : Event) → is_ordinary event ≡ true → is_put_with_notification event ≡ true → ⊥
+ordinary_alone (Get s field) is put = absurd (let z : false ≡ true = is in cc)
+ordinary_alone (Process s) is put = absurd (let z : false ≡ true = put in cc)
+ordinary_alone (Put s field given) is put = absurd (let z : false ≡ true = put in cc)
+ordinary_alone (Complete s n x) is put = absurd (let z : false ≡ true = put in cc)
+ordinary_alone (Link s field link) is put = absurd (let z : false ≡ true = is in cc)
+ordinary_alone (Notify s n field given) is put = absurd (let z : false ≡ true = is in cc)
+ordinary_alone (Cancel n) is put = absurd (let z : false ≡ true = is in cc)
+ordinary_alone (IsLive n) is put = absurd (let z : false ≡ true = is in cc)
+
+-- an event begins on a store that has these records, and no put with notification
+pub starts : {R D : Type 0} (s : SetStore R D) (rs : Records R) (moment : ℕ) → s.members.records ≡ rs → (world_of s).live ≡ [] → (world_of s).waiting ≡ []
+    → begun_at moment (world_of s) ≡ begun_at moment (resting rs [] [])
+unfolding begun_at begun
+starts s rs moment r l w = λ i. record { records = r i; moment = moment; calls = []; outbox = []; dropped = 0; live = l i; ended = []; waiting = w i }
+
+pub closed_begun : {R : Type 0} (k : RecordRules R) (rs : Records R) (moment : ℕ) → IsClosed k (resting rs [] []) → IsClosed k (begun_at moment (resting rs [] []))
+unfolding at begun_at begun
+closed_begun k rs moment c = record { closed = c.closed }
+
+no_calls : {R : Type 0} (moment : ℕ) (w : World R) → (begun_at moment w).calls ≡ []
+unfolding begun_at begun
+no_calls moment w = refl
+
+at_moment : {R : Type 0} (moment : ℕ) (w : World R) → (begun_at moment w).moment ≡ moment
+unfolding begun_at
+at_moment moment w = refl
+
+module _ {R D : Type 0} (k : RecordRules R) (gives : D → Ask → ℕ → Answer → D → Type 0)
+    (allowed : (answers : Answers) (w : World R) (event : Event) → Step k answers w event (stepped k answers w event).world (stepped k answers w event).reply (stepped k answers w event).requests)
+    (stays : (w after : World R) (entry : Entry) → Replay k w (entry ∷ []) after → IsCounted k w → w.live ≡ [] → ((n : ℕ) → entry.reply ≢ Notify-reply n) → (after.live ≡ []) × (after.waiting ≡ []))
+    (begin : (answers : Answers) (w after : World R) (event : Event) (reply : Reply) (requests : Requests) (n : ℕ) → Step k answers w event after reply requests → reply ≡ Notify-reply n → is_put_with_notification event ≡ true)
+    (before : Contents R D) (t counts : Tally) (s s' s'' : SetStore R D) (event : Event) (reply : Reply) (moment : ℕ) (answers : List Answer)
+    (start : world_of s ≡ begun_at moment (resting before.records [] []))
+    (tells : ForAnswers (given_of s') (λ given. Tells (world_of s) (world_of s') reply t counts event (stepped k given (world_of s) event)))
+    (copied : answers ≡ answers_of (calls_of s'.event.calls)) where
+  abbrev w0 : World R
+  w0 = begun_at moment (resting before.records [] [])
+
+  abbrev done : Stepped R
+  done = stepped k (listed answers) w0 event
+
+  told : Tells w0 (world_of s') reply t counts event (stepped k (listed answers) w0 event)
+  told =
+      let calls = calls_of s'.event.calls in
+      subst (λ (w : World R). Tells w (world_of s') reply t counts event (stepped k (listed answers) w event)) start
+      (subst (λ (l : List Answer). Tells (world_of s) (world_of s') reply t counts event (stepped k (listed l) (world_of s) event)) (sym copied) (tells (listed (answers_of calls)) (listed-accords calls)))
+
+  step : Step k (listed answers) w0 event done.world reply done.requests
+  step = subst (λ (r : Reply). Step k (listed answers) w0 event done.world r done.requests) (sym told.reply) (allowed (listed answers) w0 event)
+
+  used : answers_of done.world.calls ≡ answers
+  used = ap (λ (w : World R). answers_of w.calls) (sym told.world) ∙ sym copied
+
+  none : is_ordinary event ≡ true → IsCounted k (resting before.records [] []) → (done.world.live ≡ []) × (done.world.waiting ≡ [])
+  none ordinary counted =
+      let entry : Entry = record { moment = moment; event = event; answers = answers; reply = reply } in
+      stays (resting before.records [] []) done.world entry (and_then step used at_the_end) counted refl
+      (λ n is. ordinary_alone event ordinary (begin (listed answers) w0 done.world event reply done.requests n step is))
+
+  pub none_here : is_ordinary event ≡ true → IsCounted k (resting before.records [] []) → ((world_of s').live ≡ []) × ((world_of s').waiting ≡ [])
+  none_here ordinary counted = let n = none ordinary counted in (ap (λ (w : World R). w.live) told.world ∙ n.0, ap (λ (w : World R). w.waiting) told.world ∙ n.1)
+
+  module _ (ordinary : is_ordinary event ≡ true) (counted : IsCounted k (resting before.records [] []))
+      (held : s.members ≡ before) (same_event : s''.event ≡ s'.event)
+      (keeps : Keeps k (world_of s) (world_of s')) (begins : Begins (AttachedGives {R = R} gives) (given_of s) (given_of s'))
+      (owned : DevicesAreOwned before) (same : BaseHasTheSame before) (after : Contents R D) (now : after ≡ s'.members) (owned_then : DevicesAreOwned after) (same_then : BaseHasTheSame after) where
+    work : DevicesWork (AttachedGives {R = R} gives) (attached_in before) moment done.world.calls (attached_in after)
+    work =
+        let calls : begins.more ≡ done.world.calls =
+        ap (λ (l : List Call). l ++ begins.more) (sym (ap (λ (w : World R). w.calls) start ∙ no_calls moment (resting before.records [] []))) ∙ sym begins.calls ∙ ap (λ (w : World R). w.calls) told.world in
+        let at : (given_of s).moment ≡ moment = ap (λ (w : World R). w.moment) start ∙ at_moment moment (resting before.records [] []) in
+        subst (λ (c : Contents R D). DevicesWork (AttachedGives {R = R} gives) (attached_in c) moment done.world.calls (attached_in after)) held
+        (subst (λ (c : Contents R D). DevicesWork (AttachedGives {R = R} gives) (attached_in s.members) moment done.world.calls (attached_in c)) (sym now)
+        (subst (λ (m : ℕ). DevicesWork (AttachedGives {R = R} gives) (attached_in s.members) m done.world.calls (attached_in s'.members)) at
+        (subst (λ (l : List Call). DevicesWork (AttachedGives {R = R} gives) (attached_in s.members) (given_of s).moment l (attached_in s'.members)) calls begins.work)))
+
+    pub did : Did k gives before t (record { moment = moment; event = event; answers = answers; reply = reply }) after counts s''
+    did = record {
+      reply = sym told.reply;
+      answers = used;
+      records = ap (λ (c : Contents R D). c.records) now ∙ ap (λ (w : World R). w.records) told.world;
+      base = base_kept gives before after work;
+      none_live = (none ordinary counted).0;
+      none_waits = (none ordinary counted).1;
+      tally = told.tally;
+      work = worked gives before after work owned same owned_then same_then;
+      keeps = subst (λ (w : World R). Keeps k w done.world) start (subst (λ (w : World R). Keeps k (world_of s) w) told.world keeps);
+      left =
+          (λ i. with_records (now i).records (world_of (record { members = s''.members; event = same_event i })))
+          ∙ told.world;
+    }

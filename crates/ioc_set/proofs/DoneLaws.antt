@@ -1,0 +1,115 @@
+-- What a lock set holds once an event was done on its records.
+use Rattle.std.proofs.Common.{◌≡◌, ◌≤◌, ◌<◌, ℕ, Bool, true, false, cond, List, [], ◌∷◌, ◌++◌, length, refl, sym, ap, ◌∙◌, subst, arith}
+use Rattle.std.specs.Prelude.{◌==◌}
+use Rattle.std.proofs.lemmas.Bool.Decides.{nat_tests}
+use Rattle.std.specs.Option.{IsSome}
+use Rattle.std.specs.FinMap.{get}
+use Rattle.ioc_device.specs.declared.Ask.{Ask}
+use Rattle.ioc_device.specs.declared.Answer.{Answer}
+use Rattle.ioc_ledger.specs.declared.tally.Tally.{Tally}
+use Rattle.ioc_record.specs.RecordRules.{RecordRules}
+use Rattle.ioc_members.specs.Contents.{Records, Devices, Contents, AreLike, RecordsAreLikeTheirBase}
+use Rattle.ioc_store.specs.World.{World, Keeps, at, begun, begun_at}
+use Rattle.ioc_store.specs.declared.call.Call.{Call}
+use Rattle.ioc_store.specs.Given.{DevicesWork}
+use Rattle.ioc_events.specs.declared.event.Event.{Event}
+use Rattle.ioc_events.specs.declared.event.Event.TheVariants.{Get, Process, Put, Complete, Link, Notify, Cancel, IsLive}
+use Rattle.ioc_events.specs.declared.event.Entry.{Entry}
+use Rattle.ioc_events.specs.Step.{is_link_change}
+use Rattle.ioc_set.specs.declared.set_store.SetStore.{SetStore}
+use Rattle.ioc_set.specs.SetStore.{world_of}
+use Rattle.ioc_set.specs.Held.{Held, resting, now_of, folded, done_by, held_after}
+use Rattle.ioc_set.specs.Sound.{IsSound, TellsOf}
+use Rattle.ioc_set.specs.Doing.{is_ordinary, held_by, with_place, with_records, Did, Does}
+
+no_link : (event : Event) → is_ordinary event ≡ true → is_link_change event ≡ false
+no_link (Get s field) is = refl
+no_link (Process s) is = refl
+no_link (Put s field given) is = refl
+no_link (Complete s n x) is = refl
+no_link (Link s field link) is = absurd (let z : false ≡ true = is in cc)
+no_link (Notify s n field given) is = refl
+no_link (Cancel n) is = refl
+no_link (IsLive n) is = refl
+
+below_full : (n : ℕ) → (n == 64) ≡ false → n ≤ 64 → n < 64
+below_full n e l = grind (arith, nat_tests)
+
+module _ {R D : Type 0} where
+  abbrev placed : Bool → Held R D → Held R D
+  placed full h = cond full (folded h) h
+
+  placed_now : (full : Bool) (h : Held R D) → now_of (placed full h) ≡ now_of h
+  placed_now true h = refl
+  placed_now false h = refl
+
+  placed_devices : (full : Bool) (h : Held R D) → (placed full h).devices ≡ h.devices
+  placed_devices true h = refl
+  placed_devices false h = refl
+
+  placed_short : (full : Bool) (h : Held R D) → (length h.history == 64) ≡ full → length h.history ≤ 64 → length (placed full h).history < 64
+  placed_short true h is short = omega arith
+  placed_short false h is short = below_full (length h.history) is short
+
+  module _ (k : RecordRules R) where
+    placed_sound : ((h : Held R D) → IsSound k h → IsSound k (folded h)) → (full : Bool) (h : Held R D) → IsSound k h → IsSound k (placed full h)
+    placed_sound fold true h sound = fold h sound
+    placed_sound fold false h sound = sound
+
+    alike : (before after : Contents R D) (moment : ℕ) (w : World R) → Keeps k (begun_at moment (resting before.records [] [])) w → after.records ≡ w.records → after.base ≡ before.base
+        → RecordsAreLikeTheirBase k before → RecordsAreLikeTheirBase k (record { records = w.records; devices = after.devices; base = before.base })
+    unfolding at begun_at begun
+    alike before after moment w keeps rs base like q there =
+        let was = like q (keeps.only q there) in
+        let same = keeps.links q in
+        record { same_type = was.same_type ∙ sym same.record_type; same_links = was.same_links ∙ sym same.links }
+
+    pub alike_after : (before after : Contents R D) (moment : ℕ) (w : World R) → Keeps k (begun_at moment (resting before.records [] [])) w → after.records ≡ w.records → after.base ≡ before.base
+        → RecordsAreLikeTheirBase k before → RecordsAreLikeTheirBase k after
+    alike_after before after moment w keeps rs base like =
+        let same : record { records = w.records; devices = after.devices; base = before.base } ≡ after = λ i. record { records = sym rs i; devices = after.devices; base = sym base i } in
+        subst (λ (c : Contents R D). RecordsAreLikeTheirBase k c) same (alike before after moment w keeps rs base like)
+
+    module _ (gives : D → Ask → ℕ → Answer → D → Type 0) (h : Held R D) (before : Contents R D) (b t : Tally) (entries : List Entry) (held : held_by before b t entries ≡ with_place h)
+        (entry : Entry) (after : Contents R D) (counts : Tally) (store : SetStore R D) (did : Did k gives before t entry after counts store) (ordinary : is_ordinary entry.event ≡ true)
+        (grown : List Entry) (grows : grown ≡ entries ++ entry ∷ []) where
+      same_after : held_by after b counts grown ≡ held_after k (held_by before b t entries) entry after.devices
+      same_after = λ i. record {
+        records = did.records i;
+        devices = after.devices;
+        live = sym did.none_live i;
+        waiting = sym did.none_waits i;
+        tally = did.tally i;
+        base = record { records = did.base i; live = []; waiting = []; tally = b };
+        history = grows i;
+      }
+
+      tells : TellsOf k (held_by before b t entries) entry
+      tells = record { no_link_change = no_link entry.event ordinary; reply = did.reply; answers = did.answers }
+
+      pub sound_then : ((h : Held R D) (entry : Entry) (devices : Devices D) → IsSound k h → length h.history < 64 → TellsOf k h entry → IsSound k (held_after k h entry devices))
+          → ((h : Held R D) → IsSound k h → IsSound k (folded h)) → IsSound k h → IsSound k (held_by after b counts grown)
+      sound_then event fold sound =
+          let full = length h.history == 64 in
+          let ready = subst (λ (z : Held R D). IsSound k z) (sym held) (placed_sound fold full h sound) in
+          let short = subst (λ (z : Held R D). length z.history < 64) (sym held) (placed_short full h refl sound.short) in
+          subst (λ (z : Held R D). IsSound k z) (sym same_after) (event (held_by before b t entries) entry after.devices ready short tells)
+
+      pub does : (moment : ℕ) (event : Event) → entry.moment ≡ moment → entry.event ≡ event → Does k gives h moment event entry.reply (held_by after b counts grown) (world_of store)
+      does moment event at_moment is =
+          let full = length h.history == 64 in
+          let now : now_of (held_by before b t entries) ≡ now_of h = ap (λ (z : Held R D). now_of z) held ∙ placed_now full h in
+          let devices : before.devices ≡ h.devices = ap (λ (z : Held R D). z.devices) held ∙ placed_devices full h in
+          record {
+            entry = entry;
+            moment = at_moment;
+            event = is;
+            answer = refl;
+            tells = subst (λ (z : Held R D). TellsOf k z entry) held tells;
+            after = same_after ∙ ap (λ (z : Held R D). held_after k z entry after.devices) held;
+            work =
+                subst (λ (m : ℕ). DevicesWork gives (get h.devices) m (done_by k (now_of h) entry).world.calls (get after.devices)) at_moment
+                (subst (λ (w : World R). DevicesWork gives (get h.devices) entry.moment (done_by k w entry).world.calls (get after.devices)) now
+                (subst (λ (ds : Devices D). DevicesWork gives (get ds) entry.moment (done_by k (now_of (held_by before b t entries)) entry).world.calls (get after.devices)) devices did.work));
+            left = subst (λ (w : World R). with_records after.records (world_of store) ≡ (done_by k w entry).world) now did.left;
+          }

@@ -1,0 +1,10 @@
+use Rattle.std.proofs.Common.{refl}
+use Rattle.ioc_set.proofs.NothingHeld.{sound_anew, like_anew}
+use Rattle.ioc_set.proofs.lock_set.LockSet.empty.Goals as goal
+
+pub invariant_of-result : goal.invariant_of-result
+invariant_of-result g c =
+    let missing = g.met.K.RecordKind.lawful.missing_targets in (
+      sound_anew g.K.RecordKind.rules missing c.new.result c.default-tally.result c.default-tally.result c.new-2.result.items c.new.ensures refl c.new-2.ensures.items,
+      like_anew g.K.RecordKind.rules missing c.new.result c.new.ensures,
+    )

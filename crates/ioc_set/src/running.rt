@@ -1,0 +1,89 @@
+//! One event on the records of a lock set.
+ghost use Rattle.std.specs.Prelude.{◌≡◌, ◌≤◌, true, [], List, vec_len, vec_capacity};
+ghost use Rattle.std.specs.FinMap.{len};
+ghost use Rattle.ioc_store.specs.World.{IsClosed, Keeps};
+ghost use Rattle.ioc_store.specs.Given.{Begins};
+ghost use Rattle.ioc_process.specs.Runs.{ForAnswers};
+ghost use Rattle.ioc_events.specs.Step.{stepped};
+ghost use Rattle.ioc_events.specs.Events.{Tells};
+ghost use Rattle.ioc_events.specs.Holding.{IsCounted};
+ghost use Rattle.ioc_set.specs.Held.{resting};
+ghost use Rattle.ioc_set.specs.Doing.{is_ordinary, Did};
+
+use crate::laws::{none_live_stays_so, notifications_begin_by_notify};
+use crate::workplace::Workplace;
+use ioc_device::{Answer, Device};
+use ioc_events::event_rules::rules_are_steps;
+use ioc_events::{Entry, Event, KeptAnswers, Reply, run_complete, run_put, run_request};
+use ioc_ledger::Tally;
+use ioc_members::Members;
+use ioc_record::RecordKind;
+use ioc_store::{Frame, Store};
+use std::mem;
+
+/// A request, a put or a completion.
+pub fn run_event<S: Store>(
+    store: &mut S,
+    frames: &mut Vec<Frame>,
+    event: &Event,
+    tally: &mut Tally,
+) -> Reply
+    requires ordinary { is_ordinary event.now ≡ true }
+    requires closed { IsClosed S.Record.rules (S.world store.old) }
+    requires empty { frames.old.items ≡ [] }
+    requires room { len (S.world store.old).records ≤ vec_capacity frames.old }
+    ensures step { ForAnswers (S.given store.new) (λ answers.
+        Tells (S.world store.old) (S.world store.new) result tally.old tally.new event.now (stepped S.Record.rules answers (S.world store.old) event.now)) }
+    ensures keeps { Keeps S.Record.rules (S.world store.old) (S.world store.new) }
+    ensures given { Begins S.Device.gives (S.given store.old) (S.given store.new) }
+    ensures empty { frames.new.items ≡ [] }
+{
+    match event {
+        Event::Process(number) => run_request(store, frames, *number, tally),
+        Event::Put(number, field, given) => {
+            run_put(store, frames, *number, *field, *given, tally)
+        }
+        Event::Complete(number, wait, finished) => {
+            run_complete(store, frames, *number, *wait, *finished, tally)
+        }
+        _ => unreachable!(),
+    }
+}
+
+/// Does an event on the members of a set, no put with notification being live, and tells it. There is room for the frames, and for the
+/// answers in an empty list.
+pub fn run_on<K: RecordKind + Drop, D: Device>(
+    place: &mut Workplace<K, D>,
+    members: &mut Members<K, D>,
+    moment: u64,
+    event: &Event,
+    tally: &mut Tally,
+    answers: Vec<Answer>,
+) -> Entry
+    requires ordinary { is_ordinary event.now ≡ true }
+    requires counted { IsCounted K.rules (resting members.old.records [] []) }
+    requires frames { len members.old.records ≤ vec_capacity place.old.frames }
+    requires none { (answers.items ≡ []) × (vec_len answers ≡ 0) }
+    requires answers { 256 ≤ vec_capacity answers }
+    ensures moment { result.moment ≡ moment }
+    ensures event { result.event ≡ event.now }
+    ensures did { Did K.rules D.gives members.old tally.old result members.new tally.new place.new.store }
+{
+    rules_are_steps::<K>();
+    none_live_stays_so::<K>();
+    notifications_begin_by_notify::<K>();
+    let mut kept = answers;
+    members.devices_are_owned();
+    mem::swap(&mut place.store.members, members);
+    place.store.begin_at(moment);
+    let reply = run_event(&mut place.store, &mut place.frames, event, tally);
+    place.store.event.calls.copy_answers(&mut kept);
+    mem::swap(members, &mut place.store.members);
+    members.devices_are_owned();
+    Entry {
+        moment,
+        event: *event,
+        answers: KeptAnswers::new(kept),
+        reply,
+    }
+}

@@ -1,0 +1,73 @@
+//! Where an event of a lock set is done.
+ghost use Rattle.std.specs.Prelude.{◌≡◌, ◌≤◌, [], IfOk, OnOk, OnErr};
+ghost use Rattle.std.specs.Vec.{vec_capacity};
+ghost use Rattle.std.specs.FinMap.{len};
+
+use crate::set_store::SetStore;
+use ioc_members::Members;
+use ioc_store::{EventStore, Frame, OutboxItem};
+use std::alloc::{AllocError, Global};
+
+/// What an event needs and no set has for itself: where its calls, what it sends and its open frames are kept. One of it serves any number of
+/// sets, one event after another. Between events it has no records and no open frame. For now no put with notification is live in it.
+#[derive(Drop)]
+pub struct Workplace<K, D> {
+    pub store: SetStore<K, D>,
+    pub frames: Vec<Frame>,
+    pub ghost no_record: { len store.members.records ≡ 0 },
+    pub ghost none_live: { store.event.notifications.live.live ≡ [] },
+    pub ghost none_waits: { store.event.notifications.waiting.waiting ≡ [] },
+    pub ghost no_frame: { frames.items ≡ [] },
+}
+
+impl<K, D> Workplace<K, D> {
+    ghost use Rattle.ioc_store.specs.Outbox.{items_of};
+    ghost use Rattle.ioc_set.specs.SetStore.{world_of};
+    ghost use Rattle.ioc_set.specs.Held.{resting};
+    ghost use Rattle.std.specs.FinMap.{empty};
+
+    /// No event was done yet.
+    ///
+    /// # Errors
+    ///
+    /// [`AllocError`] where memory is wanting.
+    pub fn new(alloc: Global) -> Result<Self, AllocError>
+        ensures { IfOk result (λ p. world_of p.store ≡ resting empty [] []) }
+    {
+        let event = EventStore::new(alloc)?;
+        Ok(Workplace {
+            store: SetStore {
+                members: Members::new(alloc),
+                event,
+            },
+            frames: Vec::new(alloc),
+        })
+    }
+
+    /// What the last event has sent, in order.
+    pub fn items(&self) -> &[OutboxItem]
+        ensures { result.now ≡ (world_of self.now.store).outbox }
+    {
+        self.store.event.outbox.items()
+    }
+
+    /// How many items of the last event found no room.
+    pub fn dropped(&self) -> u64
+        ensures { result ≡ (world_of self.now.store).dropped }
+    {
+        self.store.event.outbox.dropped
+    }
+
+    /// Takes room for the frames of an event on so many records.
+    ///
+    /// # Errors
+    ///
+    /// [`AllocError`] where memory is wanting.
+    pub fn make_room(&mut self, count: usize) -> Result<(), AllocError>
+        ensures room { OnOk result (count ≤ vec_capacity self.new.frames) }
+        ensures store { self.new.store ≡ self.old.store }
+    {
+        self.frames.reserve(count)?;
+        Ok(())
+    }
+}
