@@ -1,5 +1,5 @@
 -- What stands beside the records of a set, after calls of devices: the bases as they were, and the devices as they worked.
-use Rattle.std.proofs.Common.{◌≡◌, ℕ, Bool, List, [], ◌∷◌, Option, Some, None, true, false, cond, refl, sym, ap, ◌∙◌, subst, arith}
+use Rattle.std.proofs.Common.{◌≡◌, ℕ, Bool, List, Option, Some, None, true, false, cond, refl, sym, ap, ◌∙◌, subst}
 use Rattle.std.specs.Prelude.{◌==◌, IsSome, is_some}
 use Rattle.std.specs.Option.{option_map}
 use Rattle.std.specs.Cmp.{nat_cmp_total}
@@ -7,7 +7,7 @@ use Rattle.std.specs.FinMap.{get, same_map, nat_cmp-IsAntisymmetric}
 use Rattle.ioc_device.specs.declared.Ask.{Ask}
 use Rattle.ioc_device.specs.declared.Answer.{Answer}
 use Rattle.ioc_members.specs.Answers.{Gives}
-use Rattle.ioc_members.specs.Contents.{Records, Devices, Contents, DevicesAreOwned, BaseHasTheSame}
+use Rattle.ioc_members.specs.Contents.{Contents, DevicesAreOwned, BaseHasTheSame}
 use Rattle.ioc_store.specs.declared.call.Call.{Call}
 use Rattle.ioc_store.specs.Given.{DeviceGives, its_device, no_device, DevicesWork, no_call, and_then, with_device}
 use Rattle.ioc_set.specs.declared.attached.Attached.{Attached}

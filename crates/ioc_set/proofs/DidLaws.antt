@@ -1,6 +1,5 @@
 -- An event on the records of a set, by what its code says of the store with which it was done.
-use Rattle.std.proofs.Common.{◌≡◌, ◌≢◌, ℕ, Bool, true, false, List, [], ◌∷◌, ◌++◌, refl, sym, ap, ◌∙◌, subst}
-use Rattle.std.specs.FinMap.{get}
+use Rattle.std.proofs.Common.{◌≡◌, ◌≢◌, ℕ, true, false, List, [], ◌∷◌, ◌++◌, refl, sym, ap, ◌∙◌, subst}
 use Rattle.ioc_device.specs.declared.Ask.{Ask}
 use Rattle.ioc_device.specs.declared.Answer.{Answer}
 use Rattle.ioc_ledger.specs.declared.tally.Tally.{Tally}
@@ -24,7 +23,7 @@ use Rattle.ioc_events.specs.Holding.{IsCounted}
 use Rattle.ioc_set.specs.declared.set_store.SetStore.{SetStore}
 use Rattle.ioc_set.specs.SetStore.{world_of, given_of}
 use Rattle.ioc_set.specs.Attached.{AttachedGives, attached_in}
-use Rattle.ioc_set.specs.Held.{resting, done_by}
+use Rattle.ioc_set.specs.Held.{resting}
 use Rattle.ioc_set.specs.Sound.{is_put_with_notification}
 use Rattle.ioc_set.specs.Doing.{is_ordinary, with_records, Did}
 use Rattle.ioc_set.proofs.AttachedLaws.{base_kept, worked}

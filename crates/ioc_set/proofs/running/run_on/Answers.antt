@@ -1,11 +1,9 @@
-use Rattle.std.proofs.Common.{◌≡◌, ◌++◌, List, refl, sym, ap, ◌∙◌, subst}
+use Rattle.std.proofs.Common.{◌++◌, List, refl, sym, ap, ◌∙◌, subst}
 use Rattle.std.specs.FinMap.{len}
 use Rattle.ioc_device.specs.declared.Answer.{Answer}
-use Rattle.ioc_store.specs.World.{World, IsClosed, begun_at}
+use Rattle.ioc_store.specs.World.{World, IsClosed}
 use Rattle.ioc_store.specs.Given.{answers_of, calls_of}
 use Rattle.ioc_members.specs.Contents.{Contents}
-use Rattle.ioc_set.specs.SetStore.{world_of}
-use Rattle.ioc_set.specs.Held.{resting}
 use Rattle.ioc_set.proofs.DidLaws.{starts, closed_begun, none_here, did}
 use Rattle.ioc_set.proofs.running.run_on.Goals as goal
 

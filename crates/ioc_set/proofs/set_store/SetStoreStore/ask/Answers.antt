@@ -1,4 +1,4 @@
-use Rattle.std.proofs.Common.{ℕ, Option, sym, ap, subst, ◌∙◌}
+use Rattle.std.proofs.Common.{sym, ap, subst, ◌∙◌}
 use Rattle.std.specs.FinMap.{get}
 use Rattle.std.specs.Option.{option_map}
 use Rattle.ioc_device.specs.declared.Answer.{Answer}
