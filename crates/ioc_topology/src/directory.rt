@@ -1,23 +1,23 @@
 //! The locks of all sets, and the home of each record.
-ghost use Rattle.std.specs.Prelude.{◌≡◌, ◌⊎◌, Contains, IfOk, IfErr};
+ghost use Rattle.std.specs.Prelude.{◌≡◌, ◌⊎◌, ◌<◌, ◌≤◌, Contains, OnOk, IfOk, IfErr};
 ghost use Rattle.std.specs.Fn.{FnOnceReturnsAtMut, FnOnceTakesAtMut};
 ghost use Rattle.ioc_values.specs.declared.error.IocError.TheVariants.{NoRecord, NoMemory};
+ghost use Rattle.ioc_topology.specs.Change.{IsRefused};
 
 use crate::locked::Locked;
 use ioc_names::RecordNo;
 use ioc_values::IocError;
 use slab::Slab;
 use std::alloc::{AllocError, Global};
+use std::marker::Model;
+use std::sync::atomic::{AtomicU64, Ordering};
 use std::sync::{Arc, Mutex, RwLock, Wait};
 
 /// A set's lock.
-pub(crate) type Cell<S> = Arc<Mutex<S>, Global>;
+pub type Cell<S> = Arc<Mutex<S>, Global>;
 
-/// Where a record is: the key of the cell of its set, if it is known.
-#[derive(Clone, Copy)]
-pub(crate) struct Home {
-    pub(crate) key: Option<usize>,
-}
+// The home of a record whose set wasn't added yet: no cell has this key.
+const NOWHERE: u64 = u64::MAX;
 
 /// A cell, and its key.
 #[derive(Drop)]
@@ -26,32 +26,61 @@ pub(crate) struct Place<S: Locked> {
     pub(crate) cell: Cell<S>,
 }
 
-/// The locks of all sets, and the home of each record.
+/// The locks of all sets, and the home of each record. Contracts see it as the number of records that it was made for.
 ///
-/// Locks are taken in this order: the topology guard, then cells by rising key. The homes and the list of cells are held for a
-/// moment each, and never while a cell's lock is awaited.
+/// Locks are taken in this order: the topology guard, then cells by rising key. The list of cells is held for a moment each time, and
+/// never while a cell's lock is awaited.
 #[derive(Drop)]
 pub struct Directory<S: Locked> {
-    pub(crate) homes: RwLock<Vec<Home>>,
+    // Of each record, the key of its set's cell: as it is, or was a moment ago.
+    pub(crate) homes: Vec<AtomicU64>,
     pub(crate) cells: RwLock<Slab<Cell<S>>>,
     pub(crate) topology: Mutex<()>,
 }
 
+impl<S: Locked> Model for Directory<S> {
+    ghost use Rattle.std.specs.Prelude.{ℕ, length};
+
+    ghost Value = { ℕ };
+
+    ghost view = { λ d. length d.homes.items };
+}
+
 impl<S: Locked> Directory<S> {
-    /// A directory of no records.
-    pub fn new(alloc: Global) -> Directory<S> {
-        Directory {
-            homes: RwLock::new(Vec::new(alloc)),
+    /// A directory for the records of the first so many numbers, of which no set was added yet.
+    ///
+    /// # Errors
+    ///
+    /// [`AllocError`] where memory is wanting.
+    pub fn new(alloc: Global, count: usize) -> Result<Directory<S>, AllocError>
+        ensures { IfOk result (λ d. d ≡ count) }
+    {
+        let mut homes = Vec::with_capacity(alloc, count)?;
+        for _ in 0..count {
+            homes.push_reserved(AtomicU64::new(NOWHERE));
+        }
+        Ok(Directory {
+            homes,
             cells: RwLock::new(Slab::new(alloc)),
             topology: Mutex::new(()),
-        }
+        })
     }
 
-    /// Takes a set, in a cell of its own that is the home of its records from now on. Where memory is refused nothing has changed,
-    /// and the set is let go.
-    pub fn add(&mut self, alloc: Global, set: S) -> Result<(), AllocError> {
-        let homes = self.homes.get_mut();
-        make_homes(homes, &set)?;
+    /// How many records it was made for: theirs are the numbers below.
+    pub fn len(&self) -> usize
+        ensures { result ≡ self.now }
+    {
+        self.homes.len()
+    }
+
+    /// Takes a set, in a cell of its own that is the home of its records from now on.
+    ///
+    /// # Errors
+    ///
+    /// [`AllocError`] where memory is wanting: nothing has changed then, and the set is let go.
+    pub fn add(&mut self, alloc: Global, set: S) -> Result<(), AllocError>
+        ensures { self.new ≡ self.old }
+    {
         let cells = self.cells.get_mut();
         cells.reserve(1)?;
         let mut cell = Arc::new(alloc, Mutex::new(set))?;
@@ -59,17 +88,9 @@ impl<S: Locked> Directory<S> {
         let Some(mutex) = Arc::get_mut(&mut cell) else {
             return Err(AllocError);
         };
-        set_homes(homes.as_mut_slice(), mutex.get_mut(), cells.vacant_key());
+        set_homes(&self.homes, mutex.get_mut(), cells.vacant_key());
         cells.insert_reserved(cell);
         Ok(())
-    }
-
-    /// The key of the cell where a record was when this was looked up.
-    pub(crate) fn home_of(&self, rt: &impl Wait, number: RecordNo) -> Option<usize> {
-        match self.homes.read(rt).get(number.index()) {
-            Some(home) => home.key,
-            None => None,
-        }
     }
 
     /// The cell at a key, if it hasn't been left since.
@@ -90,11 +111,13 @@ impl<S: Locked> Directory<S> {
         rt: &impl Wait,
         number: RecordNo,
     ) -> Result<Option<Place<S>>, IocError>
-        ensures { IfErr result (λ e. (e ≡ NoRecord) ⊎ (e ≡ NoMemory)) }
+        ensures known { OnOk result (number < self.now) }
+        ensures refused { IfErr result (IsRefused self.now number) }
     {
-        let Some(key) = self.home_of(rt, number) else {
+        let Some(home) = self.homes.get(number.index()) else {
             return Err(IocError::NoRecord);
         };
+        let key = home.load(Ordering::SeqCst) as usize;
         match self.cell_at(rt, key) {
             Ok(Some(cell)) => Ok(Some(Place { key, cell })),
             Ok(None) => Ok(None),
@@ -102,8 +125,30 @@ impl<S: Locked> Directory<S> {
         }
     }
 
+    /// The lock of the set in which a record was found. It may have moved on since: who has got the lock looks whether it is there, and
+    /// else asks again.
+    ///
+    /// # Errors
+    ///
+    /// [`IocError::NoRecord`]: the directory was made for fewer records. [`IocError::NoMemory`].
+    pub fn lock_of(&self, rt: &impl Wait, number: RecordNo) -> Result<Cell<S>, IocError>
+        ensures known { OnOk result (number < self.now) }
+        ensures refused { IfErr result (IsRefused self.now number) }
+    {
+        for _ in rt.forever() {
+            if let Some(place) = self.place_of(rt, number)? {
+                return Ok(place.cell);
+            }
+        }
+        unreachable!()
+    }
+
     /// Works on the set of a record, under its lock. The work moves no record to another set, and takes no other lock of the
-    /// directory. `NoRecord`: no set with this record was added.
+    /// directory.
+    ///
+    /// # Errors
+    ///
+    /// [`IocError::NoRecord`]: the directory was made for fewer records. [`IocError::NoMemory`].
     pub fn with_set<T, F: FnOnce(&mut S) -> T, R: Wait>(
         &self,
         rt: &R,
@@ -112,13 +157,12 @@ impl<S: Locked> Directory<S> {
     ) -> Result<T, IocError>
         requires { (s : S) → Contains (S.numbers s) number → S.sound s → FnOnceTakesAtMut F.FnOnce work s }
         ensures answer { IfOk result (λ r. (s : S) × (t : S) × Contains (S.numbers s) number × S.sound s × FnOnceReturnsAtMut F.FnOnce work s r t × S.sound t) }
-        ensures refused { IfErr result (λ e. (e ≡ NoRecord) ⊎ (e ≡ NoMemory)) }
+        ensures known { OnOk result (number < self.now) }
+        ensures refused { IfErr result (IsRefused self.now number) }
     {
         for _ in rt.forever() {
-            let Some(place) = self.place_of(rt, number)? else {
-                continue;
-            };
-            let mut set = place.cell.lock(rt);
+            let cell = self.lock_of(rt, number)?;
+            let mut set = cell.lock(rt);
             if set.has(number) {
                 set.is_sound();
                 let answer = work(&mut set);
@@ -130,25 +174,11 @@ impl<S: Locked> Directory<S> {
     }
 }
 
-// Room for the homes of a set's records; a new one isn't known yet.
-fn make_homes<S: Locked>(homes: &mut Vec<Home>, set: &S) -> Result<(), AllocError> {
-    let mut most = homes.len();
-    for place in 0..set.len() {
-        let needed = set
-            .number_at(place)
-            .index()
-            .checked_add(1)
-            .ok_or(AllocError)?;
-        most = most.max(needed);
-    }
-    homes.resize(most, Home { key: None })
-}
-
 /// The cell with this key is the home of a set's records from now on.
-pub(crate) fn set_homes<S: Locked>(homes: &mut [Home], set: &S, key: usize) {
+pub(crate) fn set_homes<S: Locked>(homes: &[AtomicU64], set: &S, key: usize) {
     for place in 0..set.len() {
-        if let Some(home) = homes.get_mut(set.number_at(place).index()) {
-            home.key = Some(key);
+        if let Some(home) = homes.get(set.number_at(place).index()) {
+            home.store(key as u64, Ordering::SeqCst);
         }
     }
 }

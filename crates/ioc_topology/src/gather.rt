@@ -1,25 +1,31 @@
 //! All sets at the end.
-ghost use Rattle.std.specs.Prelude.{◌≡◌, ◌↔◌, ◌<◌, ℕ, false, IsTrue, IfOk, slice_index_or};
+ghost use Rattle.std.specs.Prelude.{◌≡◌, ◌↔◌, ◌<◌, ℕ, false, IsTrue, IfOk, slice_index_or, OnOk, OnErr};
 ghost use Rattle.ioc_topology.specs.Gathered.{HoldEach, IsMarked, IsClaimed};
 
-use crate::directory::{Cell, Directory, Home};
+use crate::directory::{Cell, Directory};
 use crate::locked::Locked;
 use std::alloc::{AllocError, Global};
 use std::mem;
 use std::sync::{Arc, Wait};
 
 impl<S: Locked> Directory<S> {
-    /// Takes all sets out of the directory, which then knows no record: each of the first `count` records, and none in two sets.
-    /// It waits for calls and link changes that are under way, and then for ever if a record is still missing. Where memory is refused
-    /// nothing has changed. The work grows with the records, not with their square.
-    pub fn gather<R: Wait>(&self, rt: &R, alloc: Global, count: usize) -> Result<Vec<S>, AllocError>
-        ensures { IfOk result (λ v. HoldEach S.numbers v.items count) }
+    /// Takes all sets out of the directory, which then is one for no record: each of the records that it was made for, and none in two
+    /// sets. It waits for ever if a record is still missing. The work grows with the records, not with their square.
+    ///
+    /// # Errors
+    ///
+    /// [`AllocError`] where memory is wanting: nothing has changed then.
+    pub fn gather<R: Wait>(&mut self, rt: &R, alloc: Global) -> Result<Vec<S>, AllocError>
+        ensures all { IfOk result (λ v. HoldEach S.numbers v.items self.old) }
+        ensures left { OnOk result (self.new ≡ 0) }
+        ensures err { OnErr result (self.new ≡ self.old) }
     {
-        let _guard = self.topology.lock(rt);
-        let mut seen = Vec::from_elem(alloc, false, count.max(self.known(rt)))?;
+        let count = self.homes.len();
+        let mut seen = Vec::from_elem(alloc, false, count)?;
         let cells = self.all_cells(rt, alloc)?;
         let mut sets = Vec::with_capacity(alloc, cells.len())?;
-        self.forget_all(rt);
+        self.homes.clear();
+        self.cells.get_mut().clear();
         for cell in cells.as_slice() {
             let mut set = cell.lock(rt);
             sets.push_reserved(mem::replace(&mut *set, S::empty(alloc)));
@@ -31,11 +37,6 @@ impl<S: Locked> Directory<S> {
         unreachable!()
     }
 
-    // How many numbers of records are known.
-    fn known(&self, rt: &impl Wait) -> usize {
-        self.homes.read(rt).len()
-    }
-
     // The cells of all sets.
     fn all_cells(&self, rt: &impl Wait, alloc: Global) -> Result<Vec<Cell<S>>, AllocError> {
         let cells = self.cells.read(rt);
@@ -44,12 +45,6 @@ impl<S: Locked> Directory<S> {
             all.push(Arc::try_clone(cell)?)?;
         }
         Ok(all)
-    }
-
-    // No record is known from now on.
-    fn forget_all(&self, rt: &impl Wait) {
-        self.homes.write(rt).clear();
-        self.cells.write(rt).clear();
     }
 }
 

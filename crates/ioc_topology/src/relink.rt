@@ -1,8 +1,7 @@
 //! Link changes: work on one or two sets, of which any may part or join.
-ghost use Rattle.std.specs.Prelude.{◌≡◌, ◌⊎◌, ◌↔◌, IsTrue, IfOk, IfErr};
+ghost use Rattle.std.specs.Prelude.{◌≡◌, ◌↔◌, IsTrue, IfOk, IfErr, OnErr};
 ghost use Rattle.std.specs.Fn.{FnOnceReturnsAtMut, FnOnceTakesAtMut};
-ghost use Rattle.ioc_values.specs.declared.error.IocError.TheVariants.{NoRecord, NoMemory};
-ghost use Rattle.ioc_topology.specs.Change.{AreLent, AreSound};
+ghost use Rattle.ioc_topology.specs.Change.{AreLent, AreSound, OtherIsRefused, LinkIsRefused};
 
 use crate::directory::{Directory, Place, set_homes};
 use crate::lent::Lent;
@@ -22,74 +21,83 @@ struct NewPlaces<S: Locked> {
     spare: Place<S>,
 }
 
+// The places of the two sets of a link change.
+type BothPlaces<S> = (Place<S>, Place<S>);
+
 impl<S: Locked> Directory<S> {
     /// Works on the set of a record, on that of the other one, and on a set of no records, under the topology guard and the
-    /// locks of these sets alone. Afterwards the records of each are found where they are now, and a set that ended with no
-    /// record is let go. All memory is taken before the work: what the work does stands. The work moves records among the three
-    /// sets, adds none, and takes no other lock of the directory. `NoRecord`: no set with one of the records was added.
-    pub fn relink<T, F: FnOnce(&mut Lent<S>) -> T, R: Wait>(
+    /// locks of these sets alone; what the caller brings along is lent with them, and comes back. Afterwards the records of each set are
+    /// found where they are now, and a set that ended with no record is let go. All memory is taken before the work: what the work does
+    /// stands. The work moves records among the three sets, adds none, and takes no other lock of the directory.
+    ///
+    /// # Errors
+    ///
+    /// [`IocError::NoRecord`]: the directory was made for fewer records. [`IocError::NoMemory`]. Nothing has changed then.
+    pub fn relink<T, A: Drop, F: FnOnce(&mut Lent<S, A>) -> T, R: Wait>(
         &self,
         rt: &R,
         alloc: Global,
         number: RecordNo,
         other: Option<RecordNo>,
+        along: A,
         work: F,
-    ) -> Result<T, IocError>
-        requires { (l : Lent S) → AreLent S.numbers number other l → AreSound S.sound l → FnOnceTakesAtMut F.FnOnce work l }
-        ensures answer { IfOk result (λ r. (l : Lent S) × (m : Lent S) × AreLent S.numbers number other l × AreSound S.sound l × FnOnceReturnsAtMut F.FnOnce work l r m × AreSound S.sound m) }
-        ensures refused { IfErr result (λ e. (e ≡ NoRecord) ⊎ (e ≡ NoMemory)) }
+    ) -> (Result<T, IocError>, A)
+        requires { (l : Lent S A) → AreLent S.numbers number other l.first l.second l.spare → AreSound S.sound l.first l.second l.spare → l.along ≡ along → FnOnceTakesAtMut F.FnOnce work l }
+        ensures answer { IfOk result.0 (λ r. (l : Lent S A) × (m : Lent S A) × AreLent S.numbers number other l.first l.second l.spare × AreSound S.sound l.first l.second l.spare × (l.along ≡ along)
+            × FnOnceReturnsAtMut F.FnOnce work l r m × AreSound S.sound m.first m.second m.spare × (result.1 ≡ m.along)) }
+        ensures refused { IfErr result.0 (LinkIsRefused self.now number other) }
+        ensures kept { OnErr result.0 (result.1 ≡ along) }
     {
         let _guard = self.topology.lock(rt);
-        let new = self.new_places(rt, alloc)?;
-        let answer = self.relink_beside(rt, alloc, &new, number, other, work);
-        if answer.is_err() {
-            self.leave(rt, new.beside.key);
-            self.leave(rt, new.spare.key);
-        }
-        answer
-    }
-
-    // A link change with these cells for sets that are new.
-    fn relink_beside<T, F: FnOnce(&mut Lent<S>) -> T, R: Wait>(
-        &self,
-        rt: &R,
-        alloc: Global,
-        new: &NewPlaces<S>,
-        number: RecordNo,
-        other: Option<RecordNo>,
-        work: F,
-    ) -> Result<T, IocError>
-        requires { (l : Lent S) → AreLent S.numbers number other l → AreSound S.sound l → FnOnceTakesAtMut F.FnOnce work l }
-        ensures answer { IfOk result (λ r. (l : Lent S) × (m : Lent S) × AreLent S.numbers number other l × AreSound S.sound l × FnOnceReturnsAtMut F.FnOnce work l r m × AreSound S.sound m) }
-        ensures refused { IfErr result (λ e. (e ≡ NoRecord) ⊎ (e ≡ NoMemory)) }
-    {
+        let Ok(new) = self.new_places(rt, alloc) else {
+            return (Err(IocError::NoMemory), along);
+        };
         for _ in rt.forever() {
-            let Some(first) = self.place_of(rt, number)? else {
-                continue;
+            let (here, there) = match self.both_places(rt, &new.beside, number, &other) {
+                Ok(Some(both)) => both,
+                Ok(None) => continue,
+                Err(refused) => {
+                    self.leave(rt, new.beside.key);
+                    self.leave(rt, new.spare.key);
+                    return (Err(refused), along);
+                }
             };
-            let Some(second) = self.second_place(rt, &first, &new.beside, &other)? else {
-                continue;
-            };
-            let (mut first_guard, mut second_guard) = lock_both(rt, &first, &second);
+            let (mut first_guard, mut second_guard) = lock_both(rt, &here, &there);
             let mut spare_guard = new.spare.cell.lock(rt);
-            let first_set = &mut *first_guard;
-            let second_set = &mut *second_guard;
-            let spare_set = &mut *spare_guard;
-            if are_lent(first_set, second_set, spare_set, number, &other) {
-                let answer = lend(first_set, second_set, spare_set, alloc, work);
-                self.move_homes(rt, first_set, first.key);
-                self.move_homes(rt, second_set, second.key);
-                self.move_homes(rt, spare_set, new.spare.key);
-                self.leave_if_empty(rt, first_set, first.key);
-                self.leave_if_empty(rt, second_set, second.key);
-                self.leave_if_empty(rt, spare_set, new.spare.key);
-                if second.key != new.beside.key {
+            let first = &mut *first_guard;
+            let second = &mut *second_guard;
+            let spare = &mut *spare_guard;
+            if are_lent(first, second, spare, number, &other) {
+                let (answer, along) = lend(first, second, spare, along, alloc, work);
+                self.settle(rt, first, here.key);
+                self.settle(rt, second, there.key);
+                self.settle(rt, spare, new.spare.key);
+                if there.key != new.beside.key {
                     self.leave(rt, new.beside.key);
                 }
-                return Ok(answer);
+                return (Ok(answer), along);
             }
         }
         unreachable!()
+    }
+
+    // The places of both records; none where one of them moves right now.
+    fn both_places(
+        &self,
+        rt: &impl Wait,
+        beside: &Place<S>,
+        number: RecordNo,
+        other: &Option<RecordNo>,
+    ) -> Result<Option<BothPlaces<S>>, IocError>
+        ensures { IfErr result (LinkIsRefused self.now number other.now) }
+    {
+        let Some(first) = self.place_of(rt, number)? else {
+            return Ok(None);
+        };
+        let Some(second) = self.second_place(rt, &first, beside, other)? else {
+            return Ok(None);
+        };
+        Ok(Some((first, second)))
     }
 
     // The place of the other record, where it isn't the first; else the place beside it.
@@ -100,7 +108,7 @@ impl<S: Locked> Directory<S> {
         beside: &Place<S>,
         other: &Option<RecordNo>,
     ) -> Result<Option<Place<S>>, IocError>
-        ensures { IfErr result (λ e. (e ≡ NoRecord) ⊎ (e ≡ NoMemory)) }
+        ensures { IfErr result (OtherIsRefused self.now other.now) }
     {
         if let Some(other) = other {
             let Some(place) = self.place_of(rt, *other)? else {
@@ -136,15 +144,12 @@ impl<S: Locked> Directory<S> {
         Ok(Place { key, cell })
     }
 
-    // The records of a set, which is locked, have this home from now on.
-    fn move_homes(&self, rt: &impl Wait, set: &S, key: usize) {
-        set_homes(self.homes.write(rt).as_mut_slice(), set, key);
-    }
-
-    // Leaves a cell, which is locked, if its set has no records.
-    fn leave_if_empty(&self, rt: &impl Wait, set: &S, key: usize) {
+    // The records of a set, which is locked, have this home from now on; where there are none, its cell is left.
+    fn settle(&self, rt: &impl Wait, set: &S, key: usize) {
         if set.len() == 0 {
             self.leave(rt, key);
+        } else {
+            set_homes(&self.homes, set, key);
         }
     }
 
@@ -173,7 +178,7 @@ fn lock_both<'a, 'b, S: Locked, R: Wait>(
 
 // Tells the caller what always holds of three sets.
 fn all_sound<S: Locked>(first: &S, second: &S, spare: &S)
-    ensures { AreSound S.sound (record { first = first.now; second = second.now; spare = spare.now }) }
+    ensures { AreSound S.sound first.now second.now spare.now }
 {
     first.is_sound();
     second.is_sound();
@@ -188,7 +193,7 @@ fn are_lent<S: Locked>(
     number: RecordNo,
     other: &Option<RecordNo>,
 ) -> bool
-    ensures { IsTrue result ↔ AreLent S.numbers number other.now (record { first = first.now; second = second.now; spare = spare.now }) }
+    ensures { IsTrue result ↔ AreLent S.numbers number other.now first.now second.now spare.now }
 {
     if !first.has(number) || spare.len() != 0 {
         return false;
@@ -198,30 +203,32 @@ fn are_lent<S: Locked>(
         None => second.len() == 0,
     }
 }
-
-// Works on three sets.
-fn lend<S: Locked, T, F: FnOnce(&mut Lent<S>) -> T>(
+// Works on three sets, with what the caller brings along.
+fn lend<S: Locked, T, A: Drop, F: FnOnce(&mut Lent<S, A>) -> T>(
     first: &mut S,
     second: &mut S,
     spare: &mut S,
+    along: A,
     alloc: Global,
     work: F,
-) -> T
-    requires { AreSound S.sound (record { first = first.old; second = second.old; spare = spare.old }) → FnOnceTakesAtMut F.FnOnce work (record { first = first.old; second = second.old; spare = spare.old }) }
-    ensures before { AreSound S.sound (record { first = first.old; second = second.old; spare = spare.old }) }
-    ensures after { AreSound S.sound (record { first = first.new; second = second.new; spare = spare.new }) }
-    ensures answer { FnOnceReturnsAtMut F.FnOnce work (record { first = first.old; second = second.old; spare = spare.old }) result (record { first = first.new; second = second.new; spare = spare.new }) }
+) -> (T, A)
+    requires { AreSound S.sound first.old second.old spare.old → FnOnceTakesAtMut F.FnOnce work (record { first = first.old; second = second.old; spare = spare.old; along = along }) }
+    ensures before { AreSound S.sound first.old second.old spare.old }
+    ensures after { AreSound S.sound first.new second.new spare.new }
+    ensures answer { FnOnceReturnsAtMut F.FnOnce work (record { first = first.old; second = second.old; spare = spare.old; along = along }) result.0
+        (record { first = first.new; second = second.new; spare = spare.new; along = result.1 }) }
 {
     all_sound(first, second, spare);
     let mut lent = Lent {
         first: mem::replace(first, S::empty(alloc)),
         second: mem::replace(second, S::empty(alloc)),
         spare: mem::replace(spare, S::empty(alloc)),
+        along,
     };
     let answer = work(&mut lent);
     *first = lent.first;
     *second = lent.second;
     *spare = lent.spare;
     all_sound(first, second, spare);
-    answer
+    (answer, lent.along)
 }

@@ -47,7 +47,7 @@ fn held_until(inside: &AtomicU64, answered: &AtomicU64) -> Reply {
 
 // Each of the first records, in a set of its own.
 fn singles(alloc: Global, count: usize) -> Result<Directory<Numbers>, AllocError> {
-    let mut sets = Directory::new(alloc);
+    let mut sets = Directory::new(alloc, count)?;
     for number in 0..count {
         sets.add(alloc, Numbers::of(alloc, &[number])?)?;
     }
@@ -62,18 +62,19 @@ fn join_sets(
     one: usize,
     two: usize,
 ) -> Result<(), IocError> {
-    sets.relink(
+    let (joined, ()) = sets.relink(
         rt,
         alloc,
         RecordNo::new(one),
         Some(RecordNo::new(two)),
+        (),
         |lent| join_lent(lent),
-    )??;
-    Ok(())
+    );
+    Ok(joined??)
 }
 
 // All records of the second set go to the first.
-fn join_lent(lent: &mut Lent<Numbers>) -> Result<(), AllocError> {
+fn join_lent(lent: &mut Lent<Numbers, ()>) -> Result<(), AllocError> {
     lent.first.list.append(&mut lent.second.list)
 }
 
@@ -84,18 +85,19 @@ fn part_set(
     sets: &Directory<Numbers>,
     one: usize,
 ) -> Result<(), IocError> {
-    sets.relink(
+    let (parted, ()) = sets.relink(
         rt,
         alloc,
         RecordNo::new(one),
         None,
+        (),
         |lent| part_lent(lent, one),
-    )??;
-    Ok(())
+    );
+    Ok(parted??)
 }
 
 // A record goes from the first set to the spare one.
-fn part_lent(lent: &mut Lent<Numbers>, one: usize) -> Result<(), AllocError> {
+fn part_lent(lent: &mut Lent<Numbers, ()>, one: usize) -> Result<(), AllocError> {
     lent.spare.list.push(one)?;
     lent.first.list.retain(|number| *number != one);
     Ok(())
@@ -182,11 +184,11 @@ fn sets_join_and_part(rt: HostRuntime) -> Result<(), Fail> {
 #[test]
 fn gather_finds_all(rt: HostRuntime) -> Result<(), Fail> {
     let alloc = rt.alloc();
-    let sets = singles(alloc, 4)?;
+    let mut sets = singles(alloc, 4)?;
     assert_eq!(rt; join_sets(&rt, alloc, &sets, 3, 0), Ok(()));
     assert_eq!(rt; join_sets(&rt, alloc, &sets, 1, 0), Ok(()));
     assert_eq!(rt; part_set(&rt, alloc, &sets, 3), Ok(()));
-    let all = sets.gather(&rt, alloc, 4)?;
+    let all = sets.gather(&rt, alloc)?;
     assert_eq!(rt; all.len(), 3);
     let mut sizes = 0;
     for set in all.as_slice() {
@@ -194,6 +196,7 @@ fn gather_finds_all(rt: HostRuntime) -> Result<(), Fail> {
         sizes |= 1 << set.list.len().min(3);
     }
     assert_eq!(rt; sizes, 6);
+    assert_eq!(rt; sets.len(), 0);
     assert_eq!(rt; size_of_set(&rt, &sets, 0), Err(IocError::NoRecord));
     Ok(())
 }
