@@ -72,8 +72,8 @@ module _ {R : Type 0} (k : RecordRules R) (missing : targets k k.missing ≡ [])
   }
 
 module _ {R D : Type 0} (k : RecordRules R) (missing : targets k k.missing ≡ []) where
-  sound : (t : Tally) → IsSound k (held_by {R = R} {D = D} nothing t t [])
-  sound t = record {
+  sound : (t : Tally) → Fits t → AddsUp t → IsSound k (held_by {R = R} {D = D} nothing t t [])
+  sound t fits adds_up = record {
     part = part k missing;
     settled = settled k missing;
     none_ready = record { none = λ x c. absurd (none_in x c) };
@@ -81,14 +81,16 @@ module _ {R D : Type 0} (k : RecordRules R) (missing : targets k k.missing ≡ [
     holders_await = awaits k missing;
     leads = record { after = at_rest k missing; replay = at_the_end; records = refl; live = refl; waiting = refl };
     tally = refl;
+    fits = fits;
+    adds_up = adds_up;
     short = omega arith;
   }
 
-  pub sound_anew : (c : Contents R D) (b t : Tally) (entries : List Entry) → c ≡ nothing → b ≡ t → entries ≡ [] → IsSound k (held_by c b t entries)
-  sound_anew c b t entries none same forgotten =
+  pub sound_anew : (c : Contents R D) (b t : Tally) (entries : List Entry) → c ≡ nothing → b ≡ t → entries ≡ [] → Fits t → AddsUp t → IsSound k (held_by c b t entries)
+  sound_anew c b t entries none same forgotten fits adds_up =
       subst (λ (m : Contents R D). IsSound k (held_by m b t entries)) (sym none)
       (subst (λ (u : Tally). IsSound k (held_by {R = R} {D = D} nothing u t entries)) (sym same)
-      (subst (λ (l : List Entry). IsSound k (held_by {R = R} {D = D} nothing t t l)) (sym forgotten) (sound t)))
+      (subst (λ (l : List Entry). IsSound k (held_by {R = R} {D = D} nothing t t l)) (sym forgotten) (sound t fits adds_up)))
 
   pub like_anew : (c : Contents R D) → c ≡ nothing → RecordsAreLikeTheirBase k c
   like_anew c none = subst (λ (m : Contents R D). RecordsAreLikeTheirBase k m) (sym none) (λ q there. absurd (nowhere R q there))

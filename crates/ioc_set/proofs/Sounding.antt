@@ -1,12 +1,12 @@
 -- What holds of a lock set whenever it is free, after an event.
 use Rattle.std.proofs.Common.{◌≡◌, ℕ, ◌<◌, Option, Some, None, false, true, List, [], ◌∷◌, ◌++◌, length, refl, sym, ap, ◌∙◌, subst, arith}
-use Rattle.std.specs.Prelude.{IsSome, unwrap_or}
+use Rattle.std.specs.Prelude.{IsSome, Bool, if◌then◌else◌, unwrap_or}
 use Rattle.std.specs.Option.{option_map}
 use Rattle.std.specs.FinMap.{get}
 use Rattle.std.proofs.lemmas.List.{length_push}
 use Rattle.ioc_common.specs.Links.{named_by_all}
 use Rattle.ioc_ledger.specs.declared.tally.Tally.{Tally}
-use Rattle.ioc_ledger.specs.Requests.{Requests}
+use Rattle.ioc_ledger.specs.Requests.{Requests, Fits, AddsUp, CountsEach, counted, counted_started, counted_completion}
 use Rattle.ioc_notify.specs.declared.live_numbers.Live.{Live}
 use Rattle.ioc_notify.specs.declared.waiting_lists.Waiting.{Waiting}
 use Rattle.ioc_record.specs.RecordRules.{RecordRules, targets}
@@ -18,12 +18,24 @@ use Rattle.ioc_process.specs.Rules.{IsSettled}
 use Rattle.ioc_events.specs.declared.event.Event.{Event}
 use Rattle.ioc_events.specs.declared.event.Entry.{Entry}
 use Rattle.ioc_events.specs.declared.reply.Reply.{Reply}
-use Rattle.ioc_events.specs.Step.{stepped, tallied, is_link_change}
+use Rattle.ioc_events.specs.Step.{Stepped, stepped, tallied, is_link_change}
 use Rattle.ioc_events.specs.StepRules.{Step, Replay, at_the_end, and_then}
 use Rattle.ioc_events.specs.Starting.{NoneReady, is_ready}
 use Rattle.ioc_events.specs.Holding.{IsCounted, HoldersAwait, holders}
 use Rattle.ioc_set.specs.Held.{Held, resting, now_of, before_of, done_by, counted_on, held_after, folded}
 use Rattle.ioc_set.specs.Sound.{IsSound, TellsOf}
+
+-- later answers and completions are counted beside the requests
+fits_beside : (completes : Bool) (t : Tally) (later : ℕ) → Fits t → Fits (if completes then counted_completion (counted_started t later) else counted_started t later)
+fits_beside true t later f = f
+fits_beside false t later f = f
+
+adds_beside : (completes : Bool) (t : Tally) (later : ℕ) → AddsUp t → AddsUp (if completes then counted_completion (counted_started t later) else counted_started t later)
+adds_beside true t later a = a
+adds_beside false t later a = a
+
+fits_each : {t u : Tally} {requests : Requests} → CountsEach t u requests → Fits u
+fits_each e = (omega (arith, e.begun), omega (arith, e.processed), omega (arith, e.disabled), omega (arith, e.active), omega (arith, e.reprocess))
 
 module _ {R : Type 0} (k : RecordRules R) where
   -- what is said of the records and the puts with notification holds at rest as in an event
@@ -99,6 +111,17 @@ module _ {R : Type 0} (k : RecordRules R) where
   replay_more {w = w} {v = v} {w' = w'} {requests = requests} (x ∷ entries) entry (and_then {w' = w''} {requests = first_requests} first used rest) step same =
       and_then first used (replay_more {w = w''} entries entry rest step same)
 
+  -- the counts after an event
+  module _ (each : (t : Tally) (requests : Requests) → Fits t → CountsEach t (counted t requests) requests)
+      (up : (t : Tally) (requests : Requests) → Fits t → AddsUp t → AddsUp (counted t requests)) where
+    fits_after : (t : Tally) (w : World R) (event : Event) (done : Stepped R) → Fits t → Fits (tallied t w event done)
+    unfolding tallied
+    fits_after t w event done fits = fits_beside _ _ _ (fits_each (each t done.requests fits))
+
+    adds_after : (t : Tally) (w : World R) (event : Event) (done : Stepped R) → Fits t → AddsUp t → AddsUp (tallied t w event done)
+    unfolding tallied
+    adds_after t w event done fits adds = adds_beside _ _ _ (up t done.requests fits adds)
+
   module _ (allowed : (answers : Answers) (w : World R) (event : Event) → Step k answers w event (stepped k answers w event).world (stepped k answers w event).reply (stepped k answers w event).requests)
       (alone : (answers : Answers) (w after : World R) (event : Event) (reply : Reply) (requests : Requests) → Step k answers w event after reply requests
       → stepped k answers w event ≡ record { world = after; reply = reply; requests = requests }) where
@@ -114,6 +137,8 @@ module _ {R : Type 0} (k : RecordRules R) where
         (readies : (answers : Answers) (w after : World R) (event : Event) (reply : Reply) (requests : Requests) → Step k answers w event after reply requests → NoneReady k w → NoneReady k after)
         (counts : (answers : Answers) (w after : World R) (event : Event) (reply : Reply) (requests : Requests) → Step k answers w event after reply requests → IsCounted k w → IsCounted k after)
         (awaits : (answers : Answers) (w after : World R) (event : Event) (reply : Reply) (requests : Requests) → Step k answers w event after reply requests → IsSettled k w → HoldersAwait k w → HoldersAwait k after)
+        (each : (t : Tally) (requests : Requests) → Fits t → CountsEach t (counted t requests) requests)
+        (up : (t : Tally) (requests : Requests) → Fits t → AddsUp t → AddsUp (counted t requests))
         {D : Type 0} (h : Held R D) where
       pub sound_after : (entry : Entry) (devices : Devices D) → IsSound k h → length h.history < 64 → TellsOf k h entry → IsSound k (held_after k h entry devices)
       sound_after entry devices sound room tells =
@@ -144,6 +169,8 @@ module _ {R : Type 0} (k : RecordRules R) where
                 ap (λ t. tallied t w entry.event done) sound.tally
                 ∙ ap (λ (z : World R). tallied (counted_on k h.base.tally (before_of h.base) h.history) z entry.event (stepped k answers z entry.event)) (sym alike)
                 ∙ sym (counted_more h.base.tally h.history entry sound.leads.replay);
+            fits = fits_after each up h.tally w entry.event done sound.fits;
+            adds_up = adds_after each up h.tally w entry.event done sound.fits sound.adds_up;
             short = omega (arith, room, length_push h.history entry);
           }
 
@@ -157,5 +184,7 @@ module _ {R : Type 0} (k : RecordRules R) where
     holders_await = sound.holders_await;
     leads = record { after = now_of h; replay = at_the_end; records = refl; live = refl; waiting = refl };
     tally = refl;
+    fits = sound.fits;
+    adds_up = sound.adds_up;
     short = omega arith;
   }

@@ -1,6 +1,7 @@
 -- What holds of a lock set whenever it is free.
 -- Application Developer's Guide, "Database Locking, Scanning, and Processing": records that links join are in one lock set.
 use Rattle.std.specs.Prelude.{◌≡◌, ◌≤◌, Bool, true, false, length}
+use Rattle.ioc_ledger.specs.Requests.{Fits, AddsUp}
 use Rattle.ioc_record.specs.RecordRules.{RecordRules}
 use Rattle.ioc_members.specs.Joined.{links_of, IsPart}
 use Rattle.ioc_store.specs.World.{World}
@@ -30,7 +31,8 @@ module _ {R D : Type 0} (k : RecordRules R) where
     pub waiting : after.waiting ≡ h.waiting
 
   -- the records are one connected part or none, and no link leaves them; a record is active exactly where a completion is pending; none that
-  -- waits may start; the holders of each put with notification are counted, and await a completion; and the history leads here, the counts too
+  -- waits may start; the holders of each put with notification are counted, and await a completion; the history leads here, the counts too; and
+  -- the requests begun are those processed, disabled, active or put down for reprocessing
   pub record IsSound (h : Held R D) : Type 0 where
     pub part : IsPart (links_of k h.records)
     pub settled : IsSettled k (now_of h)
@@ -39,6 +41,8 @@ module _ {R D : Type 0} (k : RecordRules R) where
     pub holders_await : HoldersAwait k (now_of h)
     pub leads : LeadsHere h
     pub tally : h.tally ≡ counted_on k h.base.tally (before_of h.base) h.history
+    pub fits : Fits h.tally
+    pub adds_up : AddsUp h.tally
     pub short : length h.history ≤ 64
 
   -- an entry tells what its event did on what the set holds: all its answers were used, and its reply was given

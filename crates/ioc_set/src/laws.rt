@@ -18,6 +18,7 @@ use ioc_events::notification_rules::{
     events_count_holders, events_leave_holders_awaiting, events_leave_none_ready,
     those_over_never_end,
 };
+use ioc_ledger::laws::{tallies_add_up, tallies_count_each_request};
 use ioc_record::RecordKind;
 
 /// Whatever event but a link change is done on a lock set, and kept behind its history, what holds of the set whenever it is free
@@ -33,6 +34,8 @@ pub fn events_leave_sound<K: RecordKind, D>()
     events_count_holders::<K>();
     events_leave_holders_awaiting::<K>();
     events_leave_none_ready::<K>();
+    tallies_count_each_request();
+    tallies_add_up();
 }
 
 /// Where no put with notification is live, none is live or waits after an event, unless it is answered that one has begun. So a set

@@ -157,7 +157,6 @@ impl<K: RecordKind + Drop, D: Device> LockSet<K, D> {
         ensures err { OnErr result (self.new ≡ self.old) }
     {
         events_leave_sound::<K, D>();
-        let answers = Vec::with_capacity(alloc, 256)?;
         place.make_room(self.members.len())?;
         make_place(
             &mut self.members,
@@ -171,7 +170,7 @@ impl<K: RecordKind + Drop, D: Device> LockSet<K, D> {
             moment,
             event,
             &mut self.tally,
-            answers,
+            alloc,
         );
         let reply = &entry.reply;
         let told = *reply;

@@ -1,5 +1,5 @@
 //! One event on the records of a lock set.
-ghost use Rattle.std.specs.Prelude.{◌≡◌, ◌≤◌, true, [], List, vec_len, vec_capacity};
+ghost use Rattle.std.specs.Prelude.{◌≡◌, ◌≤◌, true, [], List, vec_capacity};
 ghost use Rattle.std.specs.FinMap.{len};
 ghost use Rattle.ioc_store.specs.World.{IsClosed, Keeps};
 ghost use Rattle.ioc_store.specs.Given.{Begins};
@@ -11,14 +11,15 @@ ghost use Rattle.ioc_set.specs.Held.{resting};
 ghost use Rattle.ioc_set.specs.Doing.{is_ordinary, Did};
 
 use crate::laws::{none_live_stays_so, notifications_begin_by_notify};
-use crate::workplace::Workplace;
-use ioc_device::{Answer, Device};
+use crate::workplace::{Workplace, kept_answers};
+use ioc_device::Device;
 use ioc_events::event_rules::rules_are_steps;
-use ioc_events::{Entry, Event, KeptAnswers, Reply, run_complete, run_put, run_request};
+use ioc_events::{Entry, Event, Reply, run_complete, run_put, run_request};
 use ioc_ledger::Tally;
 use ioc_members::Members;
 use ioc_record::RecordKind;
 use ioc_store::{Frame, Store};
+use std::alloc::Global;
 use std::mem;
 
 /// A request, a put or a completion.
@@ -50,21 +51,19 @@ pub fn run_event<S: Store>(
     }
 }
 
-/// Does an event on the members of a set, no put with notification being live, and tells it. There is room for the frames, and for the
-/// answers in an empty list.
+/// Does an event on the members of a set, no put with notification being live, and tells it. There is room for the frames and the answers.
 pub fn run_on<K: RecordKind + Drop, D: Device>(
     place: &mut Workplace<K, D>,
     members: &mut Members<K, D>,
     moment: u64,
     event: &Event,
     tally: &mut Tally,
-    answers: Vec<Answer>,
+    alloc: Global,
 ) -> Entry
     requires ordinary { is_ordinary event.now ≡ true }
     requires counted { IsCounted K.rules (resting members.old.records [] []) }
     requires frames { len members.old.records ≤ vec_capacity place.old.frames }
-    requires none { (answers.items ≡ []) × (vec_len answers ≡ 0) }
-    requires answers { 256 ≤ vec_capacity answers }
+    requires answers { 256 ≤ vec_capacity place.old.spare }
     ensures moment { result.moment ≡ moment }
     ensures event { result.event ≡ event.now }
     ensures did { Did K.rules D.gives members.old tally.old result members.new tally.new place.new.store }
@@ -72,18 +71,17 @@ pub fn run_on<K: RecordKind + Drop, D: Device>(
     rules_are_steps::<K>();
     none_live_stays_so::<K>();
     notifications_begin_by_notify::<K>();
-    let mut kept = answers;
     members.devices_are_owned();
     mem::swap(&mut place.store.members, members);
     place.store.begin_at(moment);
     let reply = run_event(&mut place.store, &mut place.frames, event, tally);
-    place.store.event.calls.copy_answers(&mut kept);
+    let answers = kept_answers(&place.store.event.calls, &mut place.spare, alloc);
     mem::swap(members, &mut place.store.members);
     members.devices_are_owned();
     Entry {
         moment,
         event: *event,
-        answers: KeptAnswers::new(kept),
+        answers,
         reply,
     }
 }

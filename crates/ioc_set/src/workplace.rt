@@ -2,11 +2,16 @@
 ghost use Rattle.std.specs.Prelude.{◌≡◌, ◌≤◌, [], IfOk, OnOk, OnErr};
 ghost use Rattle.std.specs.Vec.{vec_capacity};
 ghost use Rattle.std.specs.FinMap.{len};
+ghost use Rattle.ioc_store.specs.Given.{answers_of, calls_of};
 
 use crate::set_store::SetStore;
+use ioc_device::Answer;
+use ioc_events::KeptAnswers;
 use ioc_members::Members;
+use ioc_store::calls::Calls;
 use ioc_store::{EventStore, Frame, OutboxItem};
 use std::alloc::{AllocError, Global};
+use std::mem;
 
 /// What an event needs and no set has for itself: where its calls, what it sends and its open frames are kept. One of it serves any number of
 /// sets, one event after another. Between events it has no records and no open frame. For now no put with notification is live in it.
@@ -14,10 +19,28 @@ use std::alloc::{AllocError, Global};
 pub struct Workplace<K, D> {
     pub store: SetStore<K, D>,
     pub frames: Vec<Frame>,
+    /// Room for the answers of an event, which are kept in it where no room of their size is to be had.
+    pub spare: Vec<Answer>,
     pub ghost no_record: { len store.members.records ≡ 0 },
     pub ghost none_live: { store.event.notifications.live.live ≡ [] },
     pub ghost none_waits: { store.event.notifications.waiting.waiting ≡ [] },
     pub ghost no_frame: { frames.items ≡ [] },
+    pub ghost no_answer: { spare.items ≡ [] },
+}
+
+/// The answers of these calls, in room of their own: of their size, or else the spare room, which was taken before. So it can't be refused.
+pub fn kept_answers(calls: &Calls, spare: &mut Vec<Answer>, alloc: Global) -> KeptAnswers
+    requires empty { spare.old.items ≡ [] }
+    requires room { 256 ≤ vec_capacity spare.old }
+    ensures answers { result ≡ answers_of (calls_of calls.now) }
+    ensures empty { spare.new.items ≡ [] }
+{
+    let mut kept = match Vec::with_capacity(alloc, calls.len()) {
+        Ok(fitting) => fitting,
+        Err(_refused) => mem::replace(spare, Vec::new(alloc)),
+    };
+    calls.copy_answers(&mut kept);
+    KeptAnswers::new(kept)
 }
 
 impl<K, D> Workplace<K, D> {
@@ -41,6 +64,7 @@ impl<K, D> Workplace<K, D> {
                 event,
             },
             frames: Vec::new(alloc),
+            spare: Vec::new(alloc),
         })
     }
 
@@ -58,16 +82,18 @@ impl<K, D> Workplace<K, D> {
         self.store.event.outbox.dropped
     }
 
-    /// Takes room for the frames of an event on so many records.
+    /// Takes room for the frames of an event on so many records, and for its answers.
     ///
     /// # Errors
     ///
     /// [`AllocError`] where memory is wanting.
     pub fn make_room(&mut self, count: usize) -> Result<(), AllocError>
-        ensures room { OnOk result (count ≤ vec_capacity self.new.frames) }
+        ensures frames { OnOk result (count ≤ vec_capacity self.new.frames) }
+        ensures answers { OnOk result (256 ≤ vec_capacity self.new.spare) }
         ensures store { self.new.store ≡ self.old.store }
     {
         self.frames.reserve(count)?;
+        self.spare.reserve(256)?;
         Ok(())
     }
 }
