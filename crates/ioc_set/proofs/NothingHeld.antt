@@ -5,6 +5,7 @@ use Rattle.std.specs.Option.{option_map}
 use Rattle.std.specs.Ordering.{nat_cmp}
 use Rattle.std.specs.FinMap.{empty, get, entries, get-empty, len-empty, len-entries}
 use Rattle.ioc_ledger.specs.declared.tally.Tally.{Tally}
+use Rattle.ioc_ledger.specs.Requests.{Fits, AddsUp}
 use Rattle.ioc_record.specs.RecordRules.{RecordRules, targets}
 use Rattle.ioc_members.specs.Contents.{Contents, nothing, RecordsAreLikeTheirBase}
 use Rattle.ioc_members.specs.Joined.{links_of, IsPart}

@@ -13,12 +13,12 @@ use Rattle.ioc_record.specs.RecordRules.{RecordRules, targets}
 use Rattle.ioc_members.specs.Contents.{Records, Devices}
 use Rattle.ioc_members.specs.Joined.{Links, links_of, IsPart}
 use Rattle.ioc_store.specs.World.{World, IsClosed, Keeps, SameLinks, at, begun, begun_at}
-use Rattle.ioc_store.specs.Given.{Answers, answers_of, listed}
+use Rattle.ioc_store.specs.Given.{Answers, answers_of, later_among, listed}
 use Rattle.ioc_process.specs.Rules.{IsSettled}
 use Rattle.ioc_events.specs.declared.event.Event.{Event}
 use Rattle.ioc_events.specs.declared.event.Entry.{Entry}
 use Rattle.ioc_events.specs.declared.reply.Reply.{Reply}
-use Rattle.ioc_events.specs.Step.{Stepped, stepped, tallied, is_link_change}
+use Rattle.ioc_events.specs.Step.{Stepped, stepped, tallied, completes, calls_since, is_link_change}
 use Rattle.ioc_events.specs.StepRules.{Step, Replay, at_the_end, and_then}
 use Rattle.ioc_events.specs.Starting.{NoneReady, is_ready}
 use Rattle.ioc_events.specs.Holding.{IsCounted, HoldersAwait, holders}
@@ -116,11 +116,11 @@ module _ {R : Type 0} (k : RecordRules R) where
       (up : (t : Tally) (requests : Requests) → Fits t → AddsUp t → AddsUp (counted t requests)) where
     fits_after : (t : Tally) (w : World R) (event : Event) (done : Stepped R) → Fits t → Fits (tallied t w event done)
     unfolding tallied
-    fits_after t w event done fits = fits_beside _ _ _ (fits_each (each t done.requests fits))
+    fits_after t w event done fits = fits_beside (completes event done.reply) (counted t done.requests) (later_among (calls_since w done.world)) (fits_each (each t done.requests fits))
 
     adds_after : (t : Tally) (w : World R) (event : Event) (done : Stepped R) → Fits t → AddsUp t → AddsUp (tallied t w event done)
     unfolding tallied
-    adds_after t w event done fits adds = adds_beside _ _ _ (up t done.requests fits adds)
+    adds_after t w event done fits adds = adds_beside (completes event done.reply) (counted t done.requests) (later_among (calls_since w done.world)) (up t done.requests fits adds)
 
   module _ (allowed : (answers : Answers) (w : World R) (event : Event) → Step k answers w event (stepped k answers w event).world (stepped k answers w event).reply (stepped k answers w event).requests)
       (alone : (answers : Answers) (w after : World R) (event : Event) (reply : Reply) (requests : Requests) → Step k answers w event after reply requests

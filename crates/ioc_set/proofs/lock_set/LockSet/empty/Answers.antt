@@ -1,10 +1,14 @@
-use Rattle.std.proofs.Common.{refl}
+use Rattle.std.proofs.Common.{refl, inr, arith}
 use Rattle.ioc_set.proofs.NothingHeld.{sound_anew, like_anew}
 use Rattle.ioc_set.proofs.lock_set.LockSet.empty.Goals as goal
 
 pub invariant_of-result : goal.invariant_of-result
 invariant_of-result g c =
-    let missing = g.met.K.RecordKind.lawful.missing_targets in (
-      sound_anew g.K.RecordKind.rules missing c.new.result c.default-tally.result c.default-tally.result c.new-2.result.items c.new.ensures refl c.new-2.ensures.items,
+    let missing = g.met.K.RecordKind.lawful.missing_targets in
+    let tally = c.default-tally.result in
+    let none = c.default-tally.ensures in (
+      sound_anew g.K.RecordKind.rules missing c.new.result tally tally c.new-2.result.items c.new.ensures refl c.new-2.ensures.items
+          (omega (arith, none.0), omega (arith, none.1.0), omega (arith, none.1.1.0), omega (arith, none.1.1.1.0), omega (arith, none.1.1.1.1.0))
+          (inr (omega (arith, none.0, none.1.0, none.1.1.0, none.1.1.1.0, none.1.1.1.1.0))),
       like_anew g.K.RecordKind.rules missing c.new.result c.new.ensures,
     )

@@ -10,4 +10,5 @@ invariant_of-result g c = record {
   none_live = c.in_ok-event.ensures.live;
   none_waits = c.in_ok-event.ensures.waiting;
   no_frame = c.new-3.ensures.items;
+  no_answer = c.new-4.ensures.items;
 }
