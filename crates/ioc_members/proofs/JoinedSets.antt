@@ -99,3 +99,8 @@ module _ {R D : Type 0} (k : RecordRules R) (lawful : IsLawful k) (ss us : List 
       (λ a b c. ⊎_elim (λ d. inl d) (λ d. inr (lone to.0 b (named_by (use_of link)) to.1 d)) (names_before k lawful m n free.0 free.1 field link free.2 a b c))
       (names_new k lawful m n free.0 free.1 field link free.2 to.0 (first_in to.0 (named_by (use_of link)) to.1)) (links_some k (get o to.0) to.2) (n_before k lawful m n free.0 free.1 field link free.2)
       one other
+
+-- the slots were moved into a room for more, and are the same
+pub in_room : {R D : Type 0} (k : RecordRules R) (ss us ts : List (Slot R D)) (place : ℕ) (field : FieldNo) (link : LinkField) (all : List (Slot R D)) → us ≡ ss
+    → IsPermutation (slots_relinked k us place field link ++ ts) all → IsPermutation (slots_relinked k ss place field link ++ ts) all
+in_room {R} {D} k ss us ts place field link all same moved = subst (λ (z : List (Slot R D)). IsPermutation (slots_relinked k z place field link ++ ts) all) same moved

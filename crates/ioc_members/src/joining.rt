@@ -1,5 +1,5 @@
 //! Two sets become one.
-ghost use Rattle.std.specs.Prelude.{◌≡◌, ◌<◌, ◌++◌, length, OnOk, OnErr, []};
+ghost use Rattle.std.specs.Prelude.{◌≡◌, ◌<◌, ◌≤◌, ◌+◌, ◌++◌, length, IfOk, OnOk, OnErr, [], vec_capacity};
 ghost use Rattle.std.specs.List.Sorted.{IsNonDecreasingBy, IsPermutation};
 ghost use Rattle.ioc_members.specs.Edges.{slots_relinked};
 
@@ -8,7 +8,38 @@ use crate::slots::Slot;
 use ioc_common::KeptLink;
 use ioc_fields::FieldNo;
 use ioc_record::RecordKind;
-use std::alloc::AllocError;
+use std::alloc::{AllocError, Global};
+
+/// Room for so many records: for those of two sets that become one.
+#[derive(Drop)]
+pub struct Room<K, D> {
+    slots: Vec<Slot<K, D>>,
+    changed: Vec<usize>,
+    pub count: usize,
+    pub ghost no_slot: { slots.items ≡ [] },
+    pub ghost no_place: { changed.items ≡ [] },
+    pub ghost slots_fit: { count ≤ vec_capacity slots },
+    pub ghost places_fit: { count ≤ vec_capacity changed },
+}
+
+impl<K: Drop, D: Drop> Room<K, D> {
+    /// Room for so many.
+    ///
+    /// # Errors
+    ///
+    /// [`AllocError`] where memory is wanting.
+    pub fn new(alloc: Global, count: usize) -> Result<Self, AllocError>
+        ensures { IfOk result (λ r. r.count ≡ count) }
+    {
+        let slots = Vec::with_capacity(alloc, count)?;
+        let changed = Vec::with_capacity(alloc, count)?;
+        Ok(Room {
+            slots,
+            changed,
+            count,
+        })
+    }
+}
 
 // Sorts slots by their numbers.
 fn sort<K, D>(slots: &mut Vec<Slot<K, D>>)
@@ -38,9 +69,55 @@ pub fn join_slots<K: RecordKind, D>(
     ensures sorted { OnOk result (IsNonDecreasingBy (λ s. s.number) slots.new.items) }
     ensures emptied { OnOk result (other.new.items ≡ []) }
     ensures err { OnErr result ((slots.new.items ≡ slots.old.items) × (other.new.items ≡ other.old.items)) }
+    ensures full { OnErr result (vec_capacity slots.old < length slots.old.items + length other.old.items) }
 {
     slots.append(other)?;
     relink(&mut slots[place], field, link, twin);
     sort(slots);
     Ok(())
+}
+
+/// Moves slots, and the list of those that have changed, into a room for more. None has changed.
+pub fn move_in<K: Drop, D: Drop>(
+    room: Room<K, D>,
+    slots: &mut Vec<Slot<K, D>>,
+    changed: &mut Vec<usize>,
+)
+    requires room { length slots.old.items ≤ room.count }
+    ensures slots { slots.new.items ≡ slots.old.items }
+    ensures changed { changed.new.items ≡ [] }
+    ensures slots_fit { room.count ≤ vec_capacity slots.new }
+    ensures places_fit { room.count ≤ vec_capacity changed.new }
+{
+    let Room {
+        slots: mut roomy,
+        changed: places,
+        ..
+    } = room;
+    if roomy.append(slots).is_err() {
+        unreachable!()
+    }
+    *slots = roomy;
+    *changed = places;
+}
+
+/// The same as [`join_slots`], where there is room for both.
+pub fn join_with_room<K: RecordKind, D>(
+    slots: &mut Vec<Slot<K, D>>,
+    other: &mut Vec<Slot<K, D>>,
+    place: usize,
+    field: FieldNo,
+    link: KeptLink,
+    twin: KeptLink,
+)
+    requires there { place < length slots.old.items }
+    requires twin { twin ≡ link }
+    requires room { length slots.old.items + length other.old.items ≤ vec_capacity slots.old }
+    ensures permutation { IsPermutation (slots_relinked K.rules slots.old.items place field link ++ other.old.items) slots.new.items }
+    ensures sorted { IsNonDecreasingBy (λ s. s.number) slots.new.items }
+    ensures emptied { other.new.items ≡ [] }
+{
+    if join_slots(slots, other, place, field, link, twin).is_err() {
+        unreachable!()
+    }
 }

@@ -13,5 +13,6 @@ pub mod parting;
 pub mod slots;
 
 pub use changing::Change;
+pub use joining::Room;
 pub use members::Members;
 pub use slots::Slot;

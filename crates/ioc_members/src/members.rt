@@ -1,5 +1,5 @@
 //! The records of a lock set, and their devices.
-ghost use Rattle.std.specs.Prelude.{◌≡◌, ◌<◌, ◌≤◌, ℕ, ◌↔◌, IsTrue, IsSome, is_some, IfOk, IfSome, IfNone, OnOk, OnErr, Contains, [], ◌∷◌, None, slice_get, Some};
+ghost use Rattle.std.specs.Prelude.{◌≡◌, ◌<◌, ◌≤◌, ◌+◌, ◌^◌, ℕ, ◌↔◌, IsTrue, IsSome, is_some, IfOk, IfSome, IfNone, OnOk, OnErr, Contains, [], ◌∷◌, None, slice_get, Some};
 ghost use Rattle.std.specs.Borrow.{Lends, sem};
 ghost use Rattle.std.specs.FinMap as map;
 ghost use Rattle.ioc_members.specs.contracts.members.Members.{the_row};
@@ -11,7 +11,7 @@ ghost use Rattle.ioc_members.specs.Joined.{links_of, IsPart, HasLink, HasFreeLin
 
 use crate::changing::{Change, change_slots};
 use crate::connected::are_one_part;
-use crate::joining::join_slots;
+use crate::joining::{Room, join_slots, join_with_room, move_in};
 use crate::marks::{fold_slots, list_all, mark};
 use crate::parting::part_slots;
 use crate::slots::{Slot, are_apart, place_of};
@@ -153,6 +153,13 @@ impl<K, D> Members<K, D> {
             Some(target) => self.has(target),
             None => false,
         }
+    }
+
+    /// There are fewer than 2^63 records: there is no memory for more.
+    pub fn are_few(&self)
+        ensures { map.len self.now.records < 2 ^ 63 }
+    {
+        let _ = &self.slots;
     }
 
     /// Each device is that of a record that is there, and each record has a base.
@@ -398,5 +405,41 @@ impl<K: RecordKind, D> Members<K, D> {
         self.changed.reserve(self.slots.len() + other.slots.len())?;
         join_slots(&mut self.slots, &mut other.slots, place, field, link, twin)?;
         Ok(())
+    }
+}
+
+impl<K: RecordKind + Drop, D: Drop> Members<K, D> {
+    /// The same as [`Members::join`] in a room that was taken before, so that it can't fail.
+    pub fn join_in(
+        &mut self,
+        room: Room<K, D>,
+        other: &mut Members<K, D>,
+        number: RecordNo,
+        field: FieldNo,
+        link: KeptLink,
+        twin: KeptLink,
+    )
+        requires room { map.len self.old.records + map.len other.old.records ≤ room.count }
+        requires folded { self.old.base ≡ self.old.records }
+        requires other_folded { other.old.base ≡ other.old.records }
+        requires twin { twin ≡ link }
+        requires apart { (q : ℕ) → IsSome (map.get self.old.records q) → map.get other.old.records q ≡ None }
+        requires one_part { IsPart (links_of K.rules self.old.records) }
+        requires other_part { IsPart (links_of K.rules other.old.records) }
+        requires free { HasFreeLink K.rules self.old.records number field }
+        requires to { (t : ℕ) × (named_by (use_of link) ≡ t ∷ []) × IsSome (map.get other.old.records t) }
+        ensures shared { AreShared (map.get self.new.records) (map.get (relinked K.rules self.old.records number field link)) (map.get other.old.records) }
+        ensures devices { AreShared (map.get self.new.devices) (map.get self.old.devices) (map.get other.old.devices) }
+        ensures part { IsPart (links_of K.rules self.new.records) }
+        ensures emptied { other.new ≡ nothing }
+        ensures base { self.new.base ≡ self.new.records }
+    {
+        fold_slots(&mut self.slots, &mut self.changed);
+        fold_slots(&mut other.slots, &mut other.changed);
+        let Some(place) = place_of(&self.slots, number) else {
+            unreachable!()
+        };
+        move_in(room, &mut self.slots, &mut self.changed);
+        join_with_room(&mut self.slots, &mut other.slots, place, field, link, twin);
     }
 }

@@ -87,3 +87,15 @@ module _ {R D : Type 0} where
       worked owned same owned_then same_then =
           subst (λ (z : ℕ → Option D). DevicesWork gives z moment calls (get after.devices)) (device_in before owned same)
           (subst (λ (z : ℕ → Option D). DevicesWork gives (λ n. device_of (attached_in before n)) moment calls z) (device_in after owned_then same_then) (devices_work work))
+
+  -- what stands beside each record is as it was: so are the devices and the bases
+  module _ (before after : Contents R D) (same : attached_in after ≡ attached_in before) where
+    pub bases_alike : after.base ≡ before.base
+    bases_alike = same_map nat_cmp_total nat_cmp-IsAntisymmetric after.base before.base
+        (λ n. sym (base_there (get after.base n) (get after.devices n)) ∙ ap (λ (f : ℕ → Option (Attached R D)). base_of (f n)) same ∙ base_there (get before.base n) (get before.devices n))
+
+    pub devices_alike : DevicesAreOwned before → BaseHasTheSame before → DevicesAreOwned after → BaseHasTheSame after → after.devices ≡ before.devices
+    devices_alike owned like owned_then like_then =
+        let beside : (λ (n : ℕ). device_of (attached_in after n)) ≡ (λ (n : ℕ). device_of (attached_in before n)) = λ i n. device_of (same i n) in
+        let all : get after.devices ≡ get before.devices = sym (device_in after owned_then like_then) ∙ beside ∙ device_in before owned like in
+        same_map nat_cmp_total nat_cmp-IsAntisymmetric after.devices before.devices (λ n i. all i n)

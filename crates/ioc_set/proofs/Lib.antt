@@ -6,3 +6,8 @@ mod AttachedLaws
 mod DidLaws
 mod DoneLaws
 mod NothingHeld
+mod Calm
+mod Anew
+mod Rescans
+mod LinkEvents
+mod Linked

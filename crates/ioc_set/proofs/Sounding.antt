@@ -99,7 +99,7 @@ module _ {R : Type 0} (k : RecordRules R) where
   unfolding at begun_at begun
   links_kept rs live waiting moment after keeps q = links_at (get rs q) (get after.records q) (keeps.has q) (keeps.only q) (targets_kept _ _ (keeps.links q))
 
-  part_kept : (rs : Records R) (live : List Live) (waiting : List Waiting) (moment : ℕ) (after : World R) → Keeps k (begun_at moment (resting rs live waiting)) after → IsPart (links_of k rs) → IsPart (links_of k after.records)
+  pub part_kept : (rs : Records R) (live : List Live) (waiting : List Waiting) (moment : ℕ) (after : World R) → Keeps k (begun_at moment (resting rs live waiting)) after → IsPart (links_of k rs) → IsPart (links_of k after.records)
   part_kept rs live waiting moment after keeps part =
       let all : links_of k after.records ≡ links_of k rs = λ i q. links_kept rs live waiting moment after keeps q i in
       subst (λ (f : Links). IsPart f) (sym all) part

@@ -5,3 +5,4 @@ pub mod Held
 pub mod Sound
 pub mod Doing
 pub mod HeldCode
+pub mod Linking

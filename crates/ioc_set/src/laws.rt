@@ -1,16 +1,26 @@
 //! What events leave of a lock set. Each function's contract is a law; its body is empty.
-ghost use Rattle.std.specs.Prelude.{◌≡◌, ◌≢◌, ◌<◌, ℕ, true, [], ◌∷◌, length};
-ghost use Rattle.ioc_ledger.specs.Requests.{Requests};
+ghost use Rattle.std.specs.Prelude.{◌≡◌, ◌≢◌, ◌<◌, ◌^◌, ℕ, true, false, [], ◌∷◌, length};
+ghost use Rattle.std.specs.FinMap.{len};
+ghost use Rattle.ioc_fields.specs.declared.field_no.FieldNo.{FieldNo};
+ghost use Rattle.ioc_common.specs.declared.link_field.LinkField.{LinkField};
+ghost use Rattle.ioc_common.specs.Links.{use_of, named_by};
+ghost use Rattle.ioc_ledger.specs.declared.tally.Tally.{Tally};
+ghost use Rattle.ioc_record.specs.Values.{stops_put};
+ghost use Rattle.ioc_ledger.specs.Requests.{Requests, None};
 ghost use Rattle.ioc_store.specs.Given.{Answers};
 ghost use Rattle.ioc_events.specs.declared.event.Event.{Event};
 ghost use Rattle.ioc_events.specs.declared.reply.Reply.{Reply};
-ghost use Rattle.ioc_store.specs.World.{World};
-ghost use Rattle.ioc_events.specs.declared.reply.Reply.TheVariants.{Notify};
+ghost use Rattle.ioc_store.specs.World.{World, common_at};
+ghost use Rattle.ioc_events.specs.declared.event.Event.TheVariants.{Link};
+ghost use Rattle.ioc_events.specs.declared.reply.Reply.TheVariants.{Notify, Plain};
+ghost use Rattle.ioc_events.specs.Step.{stepped, all_there};
 ghost use Rattle.ioc_events.specs.Holding.{IsCounted};
 ghost use Rattle.ioc_events.specs.StepRules.{Replay, Step};
-ghost use Rattle.ioc_members.specs.Contents.{Devices};
+ghost use Rattle.ioc_members.specs.Contents.{Records, Devices};
+ghost use Rattle.ioc_members.specs.Joined.{links_of, IsPart, HasLink};
 ghost use Rattle.ioc_events.specs.declared.event.Entry.{Entry};
 ghost use Rattle.ioc_set.specs.Held.{Held, folded, held_after};
+ghost use Rattle.ioc_set.specs.Linking.{anew, AreCalm, with_link_changed};
 ghost use Rattle.ioc_set.specs.Sound.{IsSound, TellsOf, is_put_with_notification};
 
 use ioc_events::event_rules::{events_keep_links, events_leave_settled, rules_are_steps};
@@ -53,3 +63,23 @@ pub fn notifications_begin_by_notify<K: RecordKind>()
     ensures { (answers : Answers) (w after : World K) (event : Event) (reply : Reply) (requests : Requests) (n : ℕ) →
         Step K.rules answers w event after reply requests → reply ≡ Notify n → is_put_with_notification event ≡ true }
 {}
+
+/// Where no put with notification is live, each record of a sound set is calm; and calm records, one part and fewer than 2^63, make a sound
+/// set that begins anew.
+pub fn calm_records_are_sound<K: RecordKind, D>()
+    ensures calm { (h : Held K D) → IsSound K.rules h → h.live ≡ [] → AreCalm K.rules h.records }
+    ensures sound { (rs : Records K) (ds : Devices D) (counts : Tally) → IsPart (links_of K.rules rs) → AreCalm K.rules rs → len rs < 2 ^ 63 →
+        IsSound K.rules (anew rs ds counts) }
+{
+    events_count_holders::<K>();
+}
+
+/// A link change that isn't refused is this event: with its link changed, and a change of the record's scan list sent where it has another
+/// device link. Its reply is plain.
+pub fn link_changes_are_events<K: RecordKind>()
+    ensures { (answers : Answers) (w : World K) (s : ℕ) (field : FieldNo) (link : LinkField) →
+        HasLink K.rules w.records s field → stops_put (common_at K.rules w s) field ≡ false → all_there w (named_by (use_of link)) ≡ true →
+        stepped K.rules answers w (Link s field link) ≡ record { world = with_link_changed K.rules w s field link; reply = Plain; requests = None } }
+{
+    rules_are_steps::<K>();
+}

@@ -3,13 +3,17 @@
 
 pub mod attached;
 pub mod laws;
+pub mod linking;
 pub mod lock_set;
 pub mod running;
 pub mod set_store;
 pub mod workplace;
 
 pub use attached::Attached;
-pub use laws::{events_leave_sound, none_live_stays_so, notifications_begin_by_notify};
+pub use laws::{
+    calm_records_are_sound, events_leave_sound, link_changes_are_events, none_live_stays_so,
+    notifications_begin_by_notify,
+};
 pub use lock_set::LockSet;
 pub use set_store::SetStore;
 pub use workplace::Workplace;

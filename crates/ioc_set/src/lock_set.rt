@@ -1,26 +1,35 @@
 //! Lock sets.
-ghost use Rattle.std.specs.Prelude.{◌≡◌, ◌<◌, true, [], IfOk, OnOk, OnErr, slice_get, vec_len, vec_capacity};
+ghost use Rattle.std.specs.Prelude.{◌≡◌, ◌<◌, ℕ, true, [], ◌∷◌, None, IsSome, Contains, IfOk, OnOk, OnErr, slice_get, vec_len, vec_capacity};
 ghost use Rattle.std.specs.FinMap as map;
 ghost use Rattle.ioc_events.specs.declared.event.Event.TheVariants.{Process, Put, Complete, Get};
 ghost use Rattle.ioc_events.specs.Step.{stepped};
 ghost use Rattle.ioc_store.specs.Given.{Answers};
+ghost use Rattle.ioc_common.specs.Links.{use_of, named_by};
+ghost use Rattle.ioc_store.specs.Scanning.{device_of, rewired};
+ghost use Rattle.ioc_store.specs.World.{Has, at, begun_at};
 ghost use Rattle.ioc_members.specs.Contents.{RecordsAreLikeTheirBase};
-ghost use Rattle.ioc_set.specs.Held.{now_of, resting, nothing_held};
+ghost use Rattle.ioc_members.specs.Joined.{links_of, IsPart, HasLink, HasFreeLink, relinked};
+ghost use Rattle.ioc_set.specs.Held.{now_of, resting, nothing_held, no_counts, folded};
+ghost use Rattle.ioc_set.specs.Linking.{anew, AreCalm, FallsApart, BecomeOne};
 ghost use Rattle.ioc_set.specs.Sound.{IsSound};
 ghost use Rattle.ioc_set.specs.SetStore.{world_of};
-ghost use Rattle.ioc_set.specs.Doing.{Does, held_by, with_place, is_ordinary};
+ghost use Rattle.ioc_set.specs.Doing.{Does, held_by, with_place, with_records, is_ordinary};
 
-use crate::laws::events_leave_sound;
+use crate::laws::{calm_records_are_sound, events_leave_sound};
+use crate::linking::{add_counts, begin_anew, rescan_on};
 use crate::running::run_on;
 use crate::workplace::Workplace;
+use ioc_common::KeptLink;
 use ioc_device::Device;
 use ioc_events::{Entry, Event, Reply};
 use ioc_fields::{FieldNo, row_of};
 use ioc_ledger::Tally;
+use ioc_links::MAX_DEVICE_BYTES;
 use ioc_members::Members;
 use ioc_names::RecordNo;
 use ioc_record::{RecordKind, text_of};
-use ioc_values::{Finished, Input, IocError};
+use ioc_store::scan_change::device_of;
+use ioc_values::{Finished, Input, IocError, Short};
 use std::alloc::{AllocError, Global};
 use std::marker::Model;
 
@@ -244,5 +253,140 @@ impl<K: RecordKind + Drop, D: Device> LockSet<K, D> {
             &Event::Complete(number, wait, finished),
             moment,
         )
+    }
+}
+
+impl<K: RecordKind, D> LockSet<K, D> {
+    /// A set of these members, with no counts and no history yet.
+    pub fn of(alloc: Global, members: Members<K, D>) -> Self
+        requires base { members.base ≡ members.records }
+        requires part { IsPart (links_of K.rules members.records) }
+        requires calm { AreCalm K.rules members.records }
+        ensures { result ≡ anew members.records members.devices no_counts }
+    {
+        calm_records_are_sound::<K, D>();
+        members.are_few();
+        let tally = Tally::default();
+        LockSet {
+            members,
+            tally,
+            base_tally: tally,
+            history: Vec::new(alloc),
+        }
+    }
+
+    /// The text of the device link of a record that is there, in INP or OUT; empty where it has none.
+    pub fn device_text(&self, number: RecordNo) -> Short<MAX_DEVICE_BYTES>
+        requires { Has (now_of self.now) number }
+        ensures { result ≡ device_of K.rules (at K.rules (now_of self.now) number) }
+    {
+        device_of(self.members.record(number))
+    }
+}
+
+impl<K: RecordKind + Drop, D: Drop> LockSet<K, D> {
+    /// Sets a link of a record: to nowhere, or to a record of this set. The set keeps the record's part and the counts, and the records
+    /// that no link joins to it any more come back as a set of their own, which may be empty. Nothing is sent yet: see [`LockSet::rescan`].
+    /// `link` and `twin` are alike.
+    ///
+    /// # Errors
+    ///
+    /// [`AllocError`] where memory is wanting: nothing has changed then, but that the history is forgotten.
+    pub fn split(
+        &mut self,
+        alloc: Global,
+        number: RecordNo,
+        field: FieldNo,
+        link: KeptLink,
+        twin: KeptLink,
+    ) -> Result<LockSet<K, D>, AllocError>
+        requires twin { twin ≡ link }
+        requires field { HasLink K.rules self.old.records number field }
+        requires within { (t : ℕ) → Contains (named_by (use_of link)) t → IsSome (map.get self.old.records t) }
+        ensures apart { IfOk result (λ rest. FallsApart self.old (relinked K.rules self.old.records number field link) number self.new rest) }
+        ensures err { OnErr result (self.new ≡ folded self.old) }
+    {
+        calm_records_are_sound::<K, D>();
+        begin_anew(
+            &mut self.members,
+            &self.tally,
+            &mut self.base_tally,
+            &mut self.history,
+        );
+        let rest = self.members.part(alloc, number, field, link, twin)?;
+        self.members.are_few();
+        Ok(LockSet::of(alloc, rest))
+    }
+}
+
+impl<K: RecordKind, D> LockSet<K, D> {
+    /// Sets a link of a record, which stood nowhere, to a record of another set, and takes over that set with its devices and its
+    /// counts. The other has nothing then. Nothing is sent yet: see [`LockSet::rescan`]. `link` and `twin` are alike.
+    ///
+    /// # Errors
+    ///
+    /// [`AllocError`] where memory is wanting: nothing has changed then, but that both histories are forgotten.
+    pub fn unite(
+        &mut self,
+        other: &mut LockSet<K, D>,
+        number: RecordNo,
+        field: FieldNo,
+        link: KeptLink,
+        twin: KeptLink,
+    ) -> Result<(), AllocError>
+        requires twin { twin ≡ link }
+        requires apart { (q : ℕ) → IsSome (map.get self.old.records q) → map.get other.old.records q ≡ None }
+        requires free { HasFreeLink K.rules self.old.records number field }
+        requires to { (t : ℕ) × (named_by (use_of link) ≡ t ∷ []) × IsSome (map.get other.old.records t) }
+        ensures one { OnOk result (BecomeOne self.old other.old (relinked K.rules self.old.records number field link) self.new other.new) }
+        ensures err { OnErr result ((self.new ≡ folded self.old) × (other.new ≡ folded other.old)) }
+    {
+        calm_records_are_sound::<K, D>();
+        begin_anew(
+            &mut self.members,
+            &self.tally,
+            &mut self.base_tally,
+            &mut self.history,
+        );
+        begin_anew(
+            &mut other.members,
+            &other.tally,
+            &mut other.base_tally,
+            &mut other.history,
+        );
+        self.members
+            .join(&mut other.members, number, field, link, twin)?;
+        self.members.are_few();
+        add_counts(&mut self.tally, &other.tally);
+        self.base_tally = self.tally;
+        other.tally = Tally::default();
+        other.base_tally = other.tally;
+        Ok(())
+    }
+}
+
+impl<K: RecordKind + Drop, D: Device> LockSet<K, D> {
+    /// A link of a record that is there was set, whose device link had this text before: where it has another now, a change of its
+    /// scan list is sent. The set begins anew.
+    pub fn rescan(
+        &mut self,
+        place: &mut Workplace<K, D>,
+        number: RecordNo,
+        before: Short<MAX_DEVICE_BYTES>,
+        moment: u64,
+    )
+        requires { Has (now_of self.old) number }
+        ensures left { with_records self.new.records (world_of place.new.store) ≡ rewired K.rules before (begun_at moment (now_of self.old)) number }
+        ensures held { self.new ≡ anew self.new.records self.old.devices self.old.tally }
+    {
+        calm_records_are_sound::<K, D>();
+        rescan_on(place, &mut self.members, moment, number, before);
+        begin_anew(
+            &mut self.members,
+            &self.tally,
+            &mut self.base_tally,
+            &mut self.history,
+        );
+        self.members.are_few();
     }
 }

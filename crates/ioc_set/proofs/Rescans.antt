@@ -1,0 +1,142 @@
+-- A change of a scan list, sent by a set: what it leaves of the records and what stands beside them.
+use Rattle.std.proofs.Common.{◌≡◌, ◌≢◌, ◌⊎◌, ℕ, ◌+◌, ◌-◌, ◌^◌, Bool, true, false, cond, eqb, List, [], ◌∷◌, Option, Some, None, nat_lt, nat_eq, refl, sym, ap, subst, ◌∙◌, inl, inr, arith}
+use Rattle.std.specs.Prelude.{IsSome, is_some, unwrap_or}
+use Rattle.std.specs.FinMap.{get, insert}
+use Rattle.std.specs.Cmp.Lexicographic.{pointwise}
+use Rattle.std.proofs.lemmas.Grind.{common_steps}
+use Rattle.ioc_common.specs.Steps.{change_numbered}
+use Rattle.ioc_ledger.specs.Requests.{more}
+use Rattle.ioc_record.specs.RecordRules.{RecordRules}
+use Rattle.ioc_record.specs.Laws.{IsLawful}
+use Rattle.ioc_members.specs.Contents.{Records, Contents, record_at}
+use Rattle.ioc_members.specs.Joined.{AreShared}
+use Rattle.ioc_process.specs.Keeping.{keeps_all, moved-keeps}
+use Rattle.ioc_store.specs.declared.outbox.OutboxItem.TheVariants.{Change}
+use Rattle.ioc_store.specs.World.{World, Has, Keeps, at, begun, begun_at, put, changed, sent, lost}
+use Rattle.ioc_store.specs.Scanning.{device_of, moved, rewired}
+use Rattle.ioc_store.specs.ScanLaws.{rewired-either, moved-either}
+use Rattle.ioc_store.specs.Worlds.{sent_by}
+use Rattle.ioc_set.specs.declared.set_store.SetStore.{SetStore}
+use Rattle.ioc_set.specs.SetStore.{world_of}
+use Rattle.ioc_set.specs.Held.{resting}
+use Rattle.ioc_set.specs.Doing.{with_records}
+use Rattle.ioc_set.proofs.Calm.{get-insert, none_some}
+
+-- what an event has come to in a store whose records were exchanged for those of a set
+pub came_to : {R D : Type 0} (s' s'' : SetStore R D) (after : Contents R D) (w : World R) → after ≡ s'.members → s''.event ≡ s'.event → world_of s' ≡ w
+    → with_records after.records (world_of s'') ≡ w
+came_to s' s'' after w now same told = (λ i. with_records (now i).records (world_of (record { members = s''.members; event = same i }))) ∙ told
+
+pub live_begun : {R : Type 0} (moment : ℕ) (rs : Records R) → (begun_at moment (resting rs [] [])).live ≡ []
+unfolding begun_at begun
+live_begun moment rs = refl
+
+pub waiting_begun : {R : Type 0} (moment : ℕ) (rs : Records R) → (begun_at moment (resting rs [] [])).waiting ≡ []
+unfolding begun_at begun
+waiting_begun moment rs = refl
+
+module _ {R : Type 0} (k : RecordRules R) where
+  -- no put with notification becomes live or waits by it
+  moved-live : (w : World R) (s : ℕ) → (moved k w s).live ≡ w.live
+  unfolding changed put lost
+  moved-live w s = moved-either k (λ (x : World R). x.live ≡ w.live) w s (λ item. ap (λ (x : World R). x.live) (sym (sent_by item _))) refl
+
+  moved-waiting : (w : World R) (s : ℕ) → (moved k w s).waiting ≡ w.waiting
+  unfolding changed put lost
+  moved-waiting w s = moved-either k (λ (x : World R). x.waiting ≡ w.waiting) w s (λ item. ap (λ (x : World R). x.waiting) (sym (sent_by item _))) refl
+
+  pub rewired-live : (before : List ℕ) (w : World R) (s : ℕ) → (rewired k before w s).live ≡ w.live
+  rewired-live before w s = rewired-either k (λ (x : World R). x.live ≡ w.live) before w s refl (moved-live w s)
+
+  pub rewired-waiting : (before : List ℕ) (w : World R) (s : ℕ) → (rewired k before w s).waiting ≡ w.waiting
+  rewired-waiting before w s = rewired-either k (λ (x : World R). x.waiting ≡ w.waiting) before w s refl (moved-waiting w s)
+
+  pub rewired-keeps : IsLawful k → (before : List ℕ) (w : World R) (s : ℕ) → Has w s → Keeps k w (rewired k before w s)
+  rewired-keeps lawful before w s there = rewired-either k (Keeps k w) before w s (keeps_all k w) (moved-keeps k lawful w s there)
+
+  module _ (moment s : ℕ) (before : List ℕ) where
+    -- an event begins on these records
+    abbrev begins : Records R → World R
+    begins rs = record { records = rs; moment = moment; calls = []; outbox = []; dropped = 0; live = []; ended = []; waiting = [] }
+
+    -- the record stands for the same device, or not; and there is a number for a change of its scan list, or not
+    abbrev numbered : R → R
+    numbered r = k.with_common r (change_numbered (k.common r))
+
+    abbrev rescans : Bool → Bool → Records R → R → World R
+    rescans same room rs r =
+        cond same (begins rs)
+        (cond room
+        (record (begins (insert rs s (numbered r))) { outbox = Change (record { target = s; number = (k.common r).last_change + 1; scanning = (k.common r).scanning; device = device_of k r }) ∷ [] })
+        (record (begins rs) { dropped = more 0 }))
+
+    abbrev is_same : R → Bool
+    is_same r = pointwise nat_eq before (device_of k r)
+
+    abbrev has_room : R → Bool
+    has_room r = nat_lt (k.common r).last_change (2 ^ 64 - 1)
+
+    goes : (rs : Records R) → rewired k before (begins rs) s ≡ rescans (is_same (record_at k rs s)) (has_room (record_at k rs s)) rs (record_at k rs s)
+    unfolding rewired moved changed put sent lost at
+    goes rs = refl
+
+    goes_on : (rs : Records R) (r : R) → record_at k rs s ≡ r → rewired k before (begins rs) s ≡ rescans (is_same r) (has_room r) rs r
+    goes_on rs r is = goes rs ∙ ap (λ (x : R). rescans (is_same x) (has_room x) rs x) is
+
+    -- beside the records it comes to the same on other records, if that record is the same there
+    alike : (same room : Bool) (r : R) (some others : Records R) → with_records (rescans same room some r).records (rescans same room others r) ≡ rescans same room some r
+    alike true room r some others = refl
+    alike false true r some others = refl
+    alike false false r some others = refl
+
+    pub rescanned_left : (some others : Records R) → record_at k others s ≡ record_at k some s
+        → with_records (rewired k before (begins some) s).records (rewired k before (begins others) s) ≡ rewired k before (begins some) s
+    rescanned_left some others is =
+        let r = record_at k some s in
+        ap (λ (w : World R). with_records w.records (rewired k before (begins others) s)) (goes some)
+        ∙ ap (λ (w : World R). with_records (rescans (is_same r) (has_room r) some r).records w) (goes_on others r is)
+        ∙ alike (is_same r) (has_room r) r some others
+        ∙ sym (goes some)
+
+    -- ---- records that are shared stay so
+
+    -- what stands at one number, which is that of the record or not
+    shared_one : (b : Bool) (x : R) (whole part rest : Option R) → (b ≡ true → IsSome part) → ((part ≡ whole) × (rest ≡ None)) ⊎ ((part ≡ None) × (rest ≡ whole))
+        → ((cond b (Some x) part ≡ cond b (Some x) whole) × (rest ≡ None)) ⊎ ((cond b (Some x) part ≡ None) × (rest ≡ cond b (Some x) whole))
+    shared_one true x whole part rest has (inl p) = inl (refl, p.1)
+    shared_one true x whole part rest has (inr p) = absurd (none_some part p.0 (has refl))
+    shared_one false x whole part rest has (inl p) = inl p
+    shared_one false x whole part rest has (inr p) = inr p
+
+    abbrev set_in : R → (ℕ → Option R) → ℕ → Option R
+    set_in x f q = cond (eqb q s) (Some x) (f q)
+
+    shared_set : (x : R) (all one rest : Records R) → AreShared (get all) (get one) (get rest) → IsSome (get one s) → AreShared (get (insert all s x)) (get (insert one s x)) (get rest)
+    shared_set x all one rest shared there =
+        let here : (q : ℕ) → eqb q s ≡ true → IsSome (get one q) = λ q is. let e : q ≡ s = grind (arith, common_steps) in subst (λ (n : ℕ). IsSome (get one n)) (sym e) there in
+        let set : AreShared (set_in x (get all)) (set_in x (get one)) (get rest) = λ q. shared_one (eqb q s) x (get all q) (get one q) (get rest q) (here q) (shared q) in
+        let whole : get (insert all s x) ≡ set_in x (get all) = λ i q. get-insert k all s x q i in
+        let part : get (insert one s x) ≡ set_in x (get one) = λ i q. get-insert k one s x q i in
+        subst (λ (f : ℕ → Option R). AreShared f (get (insert one s x)) (get rest)) (sym whole)
+        (subst (λ (f : ℕ → Option R). AreShared (set_in x (get all)) f (get rest)) (sym part) set)
+
+    shared_rescanned : (same room : Bool) (r : R) (all one rest : Records R) → AreShared (get all) (get one) (get rest) → IsSome (get one s)
+        → AreShared (get (rescans same room all r).records) (get (rescans same room one r).records) (get rest)
+    shared_rescanned true room r all one rest shared there = shared
+    shared_rescanned false true r all one rest shared there = shared_set (numbered r) all one rest shared there
+    shared_rescanned false false r all one rest shared there = shared
+
+    -- who has the record in one has it in all
+    pub own_record : (all one rest : Records R) → AreShared (get all) (get one) (get rest) → IsSome (get one s) → record_at k one s ≡ record_at k all s
+    own_record all one rest shared there = elim (shared s) [
+      | inl p ↦ ap (λ (o : Option R). unwrap_or o k.missing) p.0
+      | inr p ↦ absurd (none_some (get one s) p.0 there)
+    ]
+
+    pub rescanned_shared : (all one rest : Records R) → AreShared (get all) (get one) (get rest) → IsSome (get one s)
+        → AreShared (get (rewired k before (begins all) s).records) (get (rewired k before (begins one) s).records) (get rest)
+    rescanned_shared all one rest shared there =
+        let r = record_at k all s in
+        subst (λ (w : World R). AreShared (get w.records) (get (rewired k before (begins one) s).records) (get rest)) (sym (goes all))
+        (subst (λ (w : World R). AreShared (get (rescans (is_same r) (has_room r) all r).records) (get w.records) (get rest)) (sym (goes_on one r (own_record all one rest shared there)))
+        (shared_rescanned (is_same r) (has_room r) r all one rest shared there))

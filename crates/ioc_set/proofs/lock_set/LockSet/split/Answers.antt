@@ -1,0 +1,45 @@
+use Rattle.std.proofs.Common.{◌≡◌, ◌∙◌, refl, ap, subst, sym}
+use Rattle.std.specs.Prelude.{is_some}
+use Rattle.ioc_members.specs.Contents.{Records, Contents}
+use Rattle.ioc_set.specs.Held.{Held}
+use Rattle.ioc_set.specs.Doing.{held_by}
+use Rattle.ioc_set.specs.Linking.{AreCalm}
+use Rattle.ioc_set.proofs.Linked.{folded_holds, anew_holds, stay_calm, rest_calm, fell_apart}
+use Rattle.ioc_set.proofs.lock_set.LockSet.split.Goals as goal
+
+pub invariant_of-self : goal.invariant_of-self
+invariant_of-self g c =
+    folded_holds g.K.RecordKind.rules c.self.inside.members c.part.new.self c.self.inside.base_tally c.begin_anew.new.base_tally c.self.inside.tally c.self.inside.history.items c.begin_anew.new.history.items
+    (c.in_err-rest.ensures.err ∙ c.begin_anew.ensures.members) c.begin_anew.ensures.tally c.begin_anew.ensures.history c.self.invariant.0
+
+pub of-requires-clause-calm : goal.of-requires-clause-calm
+of-requires-clause-calm g c =
+    let k = g.K.RecordKind.rules in
+    let inside = c.self.inside in
+    let anew : c.begin_anew.new.members.records ≡ inside.members.records = ap (λ (m : Contents g.row.K.Denot g.row.D.Denot). m.records) c.begin_anew.ensures.members in
+    let is = anew ∙ ap (λ (h : Held g.row.K.Denot g.row.D.Denot). h.records) c.self.view_is in
+    let calm = subst (λ (rs : Records g.row.K.Denot). AreCalm k rs) (sym anew) (c.calm_records_are_sound.ensures.calm (held_by inside.members inside.base_tally inside.tally inside.history.items) c.self.invariant.0 refl) in
+    rest_calm k g.met.K.RecordKind.lawful c.args.number c.args.field c.args.link c.args.self.now.records c.begin_anew.new.members.records c.part.new.self.records c.in_ok-rest.rest.records
+    is calm (ap is_some c.requires.field.1) c.in_ok-rest.ensures.shared
+
+pub invariant_of-self-2 : goal.invariant_of-self-2
+invariant_of-self-2 g c =
+    let k = g.K.RecordKind.rules in
+    let inside = c.self.inside in
+    let anew : c.begin_anew.new.members.records ≡ inside.members.records = ap (λ (m : Contents g.row.K.Denot g.row.D.Denot). m.records) c.begin_anew.ensures.members in
+    let is = anew ∙ ap (λ (h : Held g.row.K.Denot g.row.D.Denot). h.records) c.self.view_is in
+    let calm = subst (λ (rs : Records g.row.K.Denot). AreCalm k rs) (sym anew) (c.calm_records_are_sound.ensures.calm (held_by inside.members inside.base_tally inside.tally inside.history.items) c.self.invariant.0 refl) in
+    anew_holds k c.calm_records_are_sound.ensures.sound c.part.new.self c.begin_anew.new.base_tally inside.tally c.begin_anew.new.history.items c.in_ok-rest.ensures.base c.begin_anew.ensures.tally c.begin_anew.ensures.history
+    c.in_ok-rest.ensures.stay
+    (stay_calm k g.met.K.RecordKind.lawful c.args.number c.args.field c.args.link c.args.self.now.records c.begin_anew.new.members.records c.part.new.self.records c.in_ok-rest.rest.records
+    is calm (ap is_some c.requires.field.1) c.in_ok-rest.ensures.shared) c.are_few.ensures
+
+pub returns-clause-apart : goal.returns-clause-apart
+returns-clause-apart g c =
+    let k = g.K.RecordKind.rules in
+    let inside = c.self.inside in
+    fell_apart k c.args.number c.args.field c.args.link c.args.self.now c.begin_anew.new.members c.part.new.self c.in_ok-rest.rest c.begin_anew.new.base_tally inside.tally c.begin_anew.new.history.items c.of.result
+    (ap (λ (m : Contents g.row.K.Denot g.row.D.Denot). m.records) c.begin_anew.ensures.members ∙ ap (λ (h : Held g.row.K.Denot g.row.D.Denot). h.records) c.self.view_is)
+    (ap (λ (m : Contents g.row.K.Denot g.row.D.Denot). m.devices) c.begin_anew.ensures.members ∙ ap (λ (h : Held g.row.K.Denot g.row.D.Denot). h.devices) c.self.view_is)
+    (ap (λ (h : Held g.row.K.Denot g.row.D.Denot). h.tally) c.self.view_is)
+    c.in_ok-rest.ensures.shared c.in_ok-rest.ensures.devices c.in_ok-rest.ensures.own c.in_ok-rest.ensures.base c.begin_anew.ensures.tally c.begin_anew.ensures.history c.of.ensures

@@ -1,0 +1,41 @@
+use Rattle.std.proofs.Common.{◌≡◌, ◌∙◌, refl, ap, subst, sym}
+use Rattle.std.specs.Prelude.{is_some}
+use Rattle.ioc_members.specs.Contents.{Records, Contents}
+use Rattle.ioc_set.specs.Held.{Held}
+use Rattle.ioc_set.specs.Doing.{held_by}
+use Rattle.ioc_set.specs.Linking.{AreCalm}
+use Rattle.ioc_set.proofs.Linked.{folded_holds, anew_holds, joined_calm, became_one}
+use Rattle.ioc_set.proofs.NothingHeld.{sound_anew, like_anew}
+use Rattle.ioc_set.proofs.lock_set.LockSet.unite.Goals as goal
+
+pub invariant_of-self : goal.invariant_of-self
+invariant_of-self g c =
+    folded_holds g.K.RecordKind.rules c.self.inside.members c.join.new.self c.self.inside.base_tally c.begin_anew.new.base_tally c.self.inside.tally c.self.inside.history.items c.begin_anew.new.history.items
+    (c.in_err-join.ensures.err.0 ∙ c.begin_anew.ensures.members) c.begin_anew.ensures.tally c.begin_anew.ensures.history c.self.invariant.0
+
+pub invariant_of-other : goal.invariant_of-other
+invariant_of-other g c =
+    folded_holds g.K.RecordKind.rules c.other.inside.members c.join.new.other c.other.inside.base_tally c.begin_anew-2.new.base_tally c.other.inside.tally c.other.inside.history.items c.begin_anew-2.new.history.items
+    (c.in_err-join.ensures.err.1 ∙ c.begin_anew-2.ensures.members) c.begin_anew-2.ensures.tally c.begin_anew-2.ensures.history c.other.invariant.0
+
+pub invariant_of-self-2 : goal.invariant_of-self-2
+invariant_of-self-2 g c =
+    let k = g.K.RecordKind.rules in
+    let one = c.self.inside in
+    let two = c.other.inside in
+    let anew : c.begin_anew.new.members.records ≡ one.members.records = ap (λ (m : Contents g.row.K.Denot g.row.D.Denot). m.records) c.begin_anew.ensures.members in
+    let other_anew : c.begin_anew-2.new.members.records ≡ two.members.records = ap (λ (m : Contents g.row.K.Denot g.row.D.Denot). m.records) c.begin_anew-2.ensures.members in
+    let is = anew ∙ ap (λ (h : Held g.row.K.Denot g.row.D.Denot). h.records) c.self.view_is in
+    let calm = subst (λ (rs : Records g.row.K.Denot). AreCalm k rs) (sym anew) (c.calm_records_are_sound.ensures.calm (held_by one.members one.base_tally one.tally one.history.items) c.self.invariant.0 refl) in
+    let other_calm = subst (λ (rs : Records g.row.K.Denot). AreCalm k rs) (sym other_anew) (c.calm_records_are_sound.ensures.calm (held_by two.members two.base_tally two.tally two.history.items) c.other.invariant.0 refl) in
+    anew_holds k c.calm_records_are_sound.ensures.sound c.join.new.self c.add_counts.new.tally c.add_counts.new.tally c.begin_anew.new.history.items c.in_ok-join.ensures.base refl c.begin_anew.ensures.history
+    c.in_ok-join.ensures.part
+    (joined_calm k g.met.K.RecordKind.lawful c.args.number c.args.field c.args.link c.args.self.now.records c.begin_anew.new.members.records c.begin_anew-2.new.members.records c.join.new.self.records
+    is calm other_calm (ap is_some c.requires.free.1) c.in_ok-join.ensures.shared) c.are_few.ensures
+
+pub invariant_of-other-2 : goal.invariant_of-other-2
+invariant_of-other-2 g c =
+    let missing = g.met.K.RecordKind.lawful.missing_targets in (
+      sound_anew g.K.RecordKind.rules missing c.join.new.other c.default-other-inside.result c.default-other-inside.result c.begin_anew-2.new.history.items c.in_ok-join.ensures.emptied refl c.begin_anew-2.ensures.history,
+      like_anew g.K.RecordKind.rules missing c.join.new.other c.in_ok-join.ensures.emptied,
+    )

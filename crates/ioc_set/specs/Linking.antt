@@ -1,0 +1,69 @@
+-- A link change on lock sets: one falls apart, or two become one, and a change of a scan list is sent.
+-- Application Developer's Guide, "Database Locking, Scanning, and Processing": a changed link parts lock sets or joins them.
+use Rattle.std.specs.Prelude.{◌≡◌, ◌↔◌, ℕ, [], IsSome, IsTrue, None}
+use Rattle.std.specs.FinMap.{get}
+use Rattle.ioc_fields.specs.declared.field_no.FieldNo.{FieldNo}
+use Rattle.ioc_common.specs.declared.link_field.LinkField.{LinkField}
+use Rattle.ioc_ledger.specs.declared.tally.Tally.{Tally}
+use Rattle.ioc_ledger.specs.Requests.{filled}
+use Rattle.ioc_record.specs.RecordRules.{RecordRules}
+use Rattle.ioc_members.specs.Contents.{Records, Devices, record_at}
+use Rattle.ioc_members.specs.Joined.{AreShared}
+use Rattle.ioc_store.specs.World.{World, at, put}
+use Rattle.ioc_store.specs.Scanning.{device_of, rewired}
+use Rattle.ioc_set.specs.Held.{Held, no_counts, nothing_held}
+
+-- a set that begins anew with these records, devices and counts: it has no history, and no put with notification is live on it
+abbrev pub anew : {R D : Type 0} → Records R → Devices D → Tally → Held R D
+anew rs ds counts = record {
+  records = rs;
+  devices = ds;
+  live = [];
+  waiting = [];
+  tally = counts;
+  base = record { records = rs; live = []; waiting = []; tally = counts };
+  history = [];
+}
+
+-- the counts of two together, each up to the last number
+abbrev pub added : Tally → Tally → Tally
+added t u = record {
+  begun = filled t.begun u.begun;
+  processed = filled t.processed u.processed;
+  disabled = filled t.disabled u.disabled;
+  active = filled t.active u.active;
+  reprocess = filled t.reprocess u.reprocess;
+  started = filled t.started u.started;
+  completed = filled t.completed u.completed;
+}
+
+module _ {R : Type 0} (k : RecordRules R) where
+  -- a record between events that no put with notification has: it is active exactly where a completion of it is pending
+  pub record IsCalm (r : R) : Type 0 where
+    pub quiet : IsTrue (k.common r).active ↔ IsSome (k.common r).pending
+    pub free : (k.common r).notification ≡ None
+
+  abbrev pub AreCalm : Records R → Type 0
+  AreCalm rs = (n : ℕ) → IsSome (get rs n) → IsCalm (record_at k rs n)
+
+  -- with another link in the field, and a change of the record's scan list sent where it has another device link
+  abbrev pub with_link_changed : World R → ℕ → FieldNo → LinkField → World R
+  with_link_changed w s field link = rewired k (device_of k (at k w s)) (put w s (k.with_link (at k w s) field link)) s
+
+module _ {R D : Type 0} where
+  -- a set falls apart: each of these records, which are its own with a link changed, and each device is in exactly one of two that begin anew.
+  -- The one with the record of this number keeps the counts, and the rest has none
+  pub record FallsApart (before : Held R D) (changed : Records R) (number : ℕ) (stay rest : Held R D) : Type 0 where
+    pub shared : AreShared (get changed) (get stay.records) (get rest.records)
+    pub devices : AreShared (get before.devices) (get stay.devices) (get rest.devices)
+    pub own : IsSome (get stay.records number)
+    pub stays : stay ≡ anew stay.records stay.devices before.tally
+    pub leaves : rest ≡ anew rest.records rest.devices no_counts
+
+  -- two sets become one, which begins anew: it has these records, which are those of the one with a link changed, those of the other, the
+  -- devices of both, and their counts. The other has nothing then
+  pub record BecomeOne (before other : Held R D) (changed : Records R) (both other_then : Held R D) : Type 0 where
+    pub shared : AreShared (get both.records) (get changed) (get other.records)
+    pub devices : AreShared (get both.devices) (get before.devices) (get other.devices)
+    pub all : both ≡ anew both.records both.devices (added before.tally other.tally)
+    pub emptied : other_then ≡ nothing_held

@@ -1,0 +1,73 @@
+//! The steps of a link change on the members of lock sets.
+ghost use Rattle.std.specs.Prelude.{◌≡◌, [], IsSome};
+ghost use Rattle.std.specs.FinMap.{get};
+ghost use Rattle.ioc_members.specs.Contents.{RecordsAreLikeTheirBase};
+ghost use Rattle.ioc_store.specs.Scanning.{rewired};
+ghost use Rattle.ioc_store.specs.World.{begun_at};
+ghost use Rattle.ioc_set.specs.Doing.{with_records};
+ghost use Rattle.ioc_set.specs.Held.{resting};
+ghost use Rattle.ioc_set.specs.Linking.{added};
+ghost use Rattle.ioc_set.specs.SetStore.{world_of};
+
+use crate::workplace::Workplace;
+use ioc_device::Device;
+use ioc_events::Entry;
+use ioc_ledger::Tally;
+use ioc_links::MAX_DEVICE_BYTES;
+use ioc_members::Members;
+use ioc_names::RecordNo;
+use ioc_record::RecordKind;
+use ioc_store::scan_change::rewire;
+use ioc_values::Short;
+use std::mem;
+
+/// A set begins anew: its history is forgotten, so that each record is its own base.
+pub fn begin_anew<K: RecordKind, D>(
+    members: &mut Members<K, D>,
+    tally: &Tally,
+    base_tally: &mut Tally,
+    history: &mut Vec<Entry>,
+)
+    requires like { RecordsAreLikeTheirBase K.rules members.old }
+    ensures members { members.new ≡ record members.old { base = members.old.records } }
+    ensures tally { base_tally.new ≡ tally.now }
+    ensures history { history.new.items ≡ [] }
+{
+    members.fold();
+    *base_tally = *tally;
+    history.clear();
+}
+
+/// Adds the counts of another set to those of a set.
+pub fn add_counts(tally: &mut Tally, other: &Tally)
+    ensures { tally.new ≡ added tally.old other.now }
+{
+    tally.begun = tally.begun.saturating_add(other.begun);
+    tally.processed = tally.processed.saturating_add(other.processed);
+    tally.disabled = tally.disabled.saturating_add(other.disabled);
+    tally.active = tally.active.saturating_add(other.active);
+    tally.reprocess = tally.reprocess.saturating_add(other.reprocess);
+    tally.started = tally.started.saturating_add(other.started);
+    tally.completed = tally.completed.saturating_add(other.completed);
+}
+
+/// Sends a change of the scan list of a record that is there, whose device link had this text before, where it has another now.
+pub fn rescan_on<K: RecordKind + Drop, D: Device>(
+    place: &mut Workplace<K, D>,
+    members: &mut Members<K, D>,
+    moment: u64,
+    number: RecordNo,
+    before: Short<MAX_DEVICE_BYTES>,
+)
+    requires there { IsSome (get members.old.records number) }
+    ensures left { with_records members.new.records (world_of place.new.store) ≡ rewired K.rules before (begun_at moment (resting members.old.records [] [])) number }
+    ensures devices { members.new.devices ≡ members.old.devices }
+    ensures base { members.new.base ≡ members.old.base }
+{
+    members.devices_are_owned();
+    mem::swap(&mut place.store.members, members);
+    place.store.begin_at(moment);
+    rewire(&mut place.store, number, before);
+    mem::swap(members, &mut place.store.members);
+    members.devices_are_owned();
+}
