@@ -1,9 +1,8 @@
 -- Calm records: where no put with notification is live, each record of a sound set is calm, and calm records make a sound set that begins anew.
-use Rattle.std.proofs.Common.{◌≡◌, ◌≢◌, ◌⊎◌, ℕ, ◌<◌, ◌^◌, Bool, true, false, cond, eqb, List, [], ◌∷◌, Option, Some, None, refl, sym, ap, subst, ◌∙◌, inl, inr, ⊎_elim, arith}
+use Rattle.std.proofs.Common.{◌≡◌, ◌≢◌, ℕ, ◌<◌, ◌^◌, Bool, true, false, cond, eqb, List, [], Option, Some, None, refl, sym, ap, subst, ◌∙◌, ⊎_elim, arith}
 use Rattle.std.specs.Prelude.{◌↔◌, IsSome, IsTrue, is_some, unwrap_or, Contains}
 use Rattle.std.specs.Option.{option_map}
-use Rattle.std.specs.Ordering.{nat_cmp}
-use Rattle.std.specs.FinMap.{FinMap, get, insert, gets, len}
+use Rattle.std.specs.FinMap.{get, insert, gets, len}
 use Rattle.std.proofs.lemmas.Grind.{common_steps}
 use Rattle.ioc_fields.specs.declared.field_no.FieldNo.{FieldNo}
 use Rattle.ioc_common.specs.declared.common.Common.{Common}
@@ -15,17 +14,15 @@ use Rattle.ioc_record.specs.RecordRules.{RecordRules, targets}
 use Rattle.ioc_record.specs.Laws.{IsLawful}
 use Rattle.ioc_members.specs.Contents.{Records, Devices, record_at}
 use Rattle.ioc_members.specs.Joined.{links_of, IsPart, AreShared, relinked}
-use Rattle.ioc_store.specs.World.{World, Has, IsClosed, at, common_at, put, changed, sent, lost}
+use Rattle.ioc_store.specs.World.{World, Has, IsClosed, at, common_at, put, changed, lost}
 use Rattle.ioc_store.specs.ScanLaws.{rewired-either, moved-either}
 use Rattle.ioc_store.specs.Scanning.{rewired}
 use Rattle.ioc_store.specs.Worlds.{sent_by}
-use Rattle.ioc_store.specs.declared.outbox.OutboxItem.{OutboxItem}
-use Rattle.ioc_process.specs.Rules.{IsSettled}
 use Rattle.ioc_events.specs.StepRules.{at_the_end}
 use Rattle.ioc_events.specs.Holding.{IsCounted, IsHeld, by_a_record}
 use Rattle.ioc_set.specs.Held.{Held, resting, now_of}
 use Rattle.ioc_set.specs.Linking.{anew, IsCalm, AreCalm}
-use Rattle.ioc_set.specs.Sound.{IsSound}
+use Rattle.ioc_set.specs.Sound.{IsSound, CountsAddUp}
 
 none_in : {A : Type 0} (x : A) → Contains [] x → ⊥
 none_in x c = let l = c.1 in omega arith
@@ -71,9 +68,9 @@ module _ {R : Type 0} (k : RecordRules R) where
     shut = record { closed = λ n target named. linked_there (get rs target) (leads n target (get rs n) refl named) }
 
     pub calm_sound : ((w : World R) → IsClosed k w → len w.records < 2 ^ 63 → w.live ≡ [] → w.waiting ≡ [] → ((n : ℕ) → Has w n → (common_at k w n).notification ≡ None) → IsCounted k w)
-        → AreCalm k rs → len rs < 2 ^ 63 → {D : Type 0} (ds : Devices D) (counts : Tally) → IsSound k (anew rs ds counts)
+        → AreCalm k rs → len rs < 2 ^ 63 → {D : Type 0} (ds : Devices D) (counts : Tally) → CountsAddUp counts → IsSound k (anew rs ds counts)
     unfolding at
-    calm_sound first calm few ds counts = record {
+    calm_sound first calm few ds counts add_up = record {
       part = part;
       settled = record { closed = shut; quiet = record { quiet = λ n there. (calm n there).quiet } };
       none_ready = record { none = λ x c. absurd (none_in x c) };
@@ -81,6 +78,7 @@ module _ {R : Type 0} (k : RecordRules R) where
       holders_await = record { records = λ n there some. absurd (none_some (k.common (record_at k rs n)).notification (calm n there).free some); waiting = λ x c. absurd (none_in x c) };
       leads = record { after = resting rs [] []; replay = at_the_end; records = refl; live = refl; waiting = refl };
       tally = refl;
+      counts = add_up;
       short = omega arith;
     }
 

@@ -8,6 +8,7 @@ mod DoneLaws
 mod NothingHeld
 mod Calm
 mod Anew
+mod Counts
 mod Rescans
 mod LinkEvents
 mod Linked

@@ -1,6 +1,6 @@
 -- What holds of lock sets after a link change.
-use Rattle.std.proofs.Common.{◌≡◌, ℕ, ◌<◌, ◌^◌, List, [], Option, Some, refl, sym, ap, subst, ◌∙◌}
-use Rattle.std.specs.Prelude.{IsSome, is_some, None}
+use Rattle.std.proofs.Common.{◌≡◌, ℕ, ◌<◌, ◌^◌, List, [], refl, sym, ap, subst, ◌∙◌}
+use Rattle.std.specs.Prelude.{IsSome}
 use Rattle.std.specs.FinMap.{get, len}
 use Rattle.ioc_fields.specs.declared.field_no.FieldNo.{FieldNo}
 use Rattle.ioc_common.specs.declared.link_field.LinkField.{LinkField}
@@ -8,14 +8,14 @@ use Rattle.ioc_ledger.specs.declared.tally.Tally.{Tally}
 use Rattle.ioc_record.specs.RecordRules.{RecordRules}
 use Rattle.ioc_record.specs.Laws.{IsLawful}
 use Rattle.ioc_members.specs.Contents.{Records, Devices, Contents, nothing, record_at, RecordsAreLikeTheirBase}
-use Rattle.ioc_members.specs.Joined.{links_of, IsPart, HasLink, AreShared, relinked}
-use Rattle.ioc_store.specs.World.{World, Has, Keeps, at, begun, begun_at}
+use Rattle.ioc_members.specs.Joined.{links_of, IsPart, AreShared, relinked}
+use Rattle.ioc_store.specs.World.{Has, Keeps, at, begun, begun_at}
 use Rattle.ioc_store.specs.Scanning.{rewired}
 use Rattle.ioc_events.specs.declared.event.Entry.{Entry}
-use Rattle.ioc_set.specs.Held.{Held, resting, now_of, folded, no_counts, nothing_held}
+use Rattle.ioc_set.specs.Held.{Held, resting, now_of, no_counts}
 use Rattle.ioc_set.specs.Doing.{held_by}
 use Rattle.ioc_set.specs.Linking.{anew, added, AreCalm, FallsApart, BecomeOne}
-use Rattle.ioc_set.specs.Sound.{IsSound}
+use Rattle.ioc_set.specs.Sound.{IsSound, CountsAddUp}
 use Rattle.ioc_set.proofs.Anew.{begun_anew, begun_folded, own_base}
 use Rattle.ioc_set.proofs.Calm.{calm_first, calm_second, calm_both, calm_relinked, calm_rewired}
 use Rattle.ioc_set.proofs.DoneLaws.{alike_after}
@@ -71,11 +71,11 @@ module _ {R D : Type 0} (k : RecordRules R) where
   )
 
   -- and of one that begins anew
-  module _ (sound : (rs : Records R) (ds : Devices D) (counts : Tally) → IsPart (links_of k rs) → AreCalm k rs → len rs < 2 ^ 63 → IsSound k (anew rs ds counts)) where
-    pub anew_holds : (c : Contents R D) (b t : Tally) (entries : List Entry) → c.base ≡ c.records → b ≡ t → entries ≡ [] → IsPart (links_of k c.records) → AreCalm k c.records → len c.records < 2 ^ 63
+  module _ (sound : (rs : Records R) (ds : Devices D) (counts : Tally) → IsPart (links_of k rs) → AreCalm k rs → len rs < 2 ^ 63 → CountsAddUp counts → IsSound k (anew rs ds counts)) where
+    pub anew_holds : (c : Contents R D) (b t : Tally) (entries : List Entry) → c.base ≡ c.records → b ≡ t → entries ≡ [] → IsPart (links_of k c.records) → AreCalm k c.records → len c.records < 2 ^ 63 → CountsAddUp t
         → IsSound k (held_by c b t entries) × RecordsAreLikeTheirBase k c
-    anew_holds c b t entries base same none part calm few = (
-      subst (λ (h : Held R D). IsSound k h) (sym (begun_anew c b t entries base same none)) (sound c.records c.devices t part calm few),
+    anew_holds c b t entries base same none part calm few add_up = (
+      subst (λ (h : Held R D). IsSound k h) (sym (begun_anew c b t entries base same none)) (sound c.records c.devices t part calm few add_up),
       own_base k c base,
     )
 

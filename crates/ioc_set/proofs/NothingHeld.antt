@@ -5,7 +5,6 @@ use Rattle.std.specs.Option.{option_map}
 use Rattle.std.specs.Ordering.{nat_cmp}
 use Rattle.std.specs.FinMap.{empty, get, entries, get-empty, len-empty, len-entries}
 use Rattle.ioc_ledger.specs.declared.tally.Tally.{Tally}
-use Rattle.ioc_ledger.specs.Requests.{Fits, AddsUp}
 use Rattle.ioc_record.specs.RecordRules.{RecordRules, targets}
 use Rattle.ioc_members.specs.Contents.{Contents, nothing, RecordsAreLikeTheirBase}
 use Rattle.ioc_members.specs.Joined.{links_of, IsPart}
@@ -15,7 +14,7 @@ use Rattle.ioc_events.specs.declared.event.Entry.{Entry}
 use Rattle.ioc_events.specs.StepRules.{at_the_end}
 use Rattle.ioc_events.specs.Holding.{IsCounted, HoldersAwait, holders, one_if_has}
 use Rattle.ioc_set.specs.Held.{resting}
-use Rattle.ioc_set.specs.Sound.{IsSound}
+use Rattle.ioc_set.specs.Sound.{IsSound, CountsAddUp}
 use Rattle.ioc_set.specs.Doing.{held_by}
 
 none_in : {A : Type 0} (x : A) → Contains [] x → ⊥
@@ -73,8 +72,8 @@ module _ {R : Type 0} (k : RecordRules R) (missing : targets k k.missing ≡ [])
   }
 
 module _ {R D : Type 0} (k : RecordRules R) (missing : targets k k.missing ≡ []) where
-  sound : (t : Tally) → Fits t → AddsUp t → IsSound k (held_by {R = R} {D = D} nothing t t [])
-  sound t fits adds_up = record {
+  sound : (t : Tally) → CountsAddUp t → IsSound k (held_by {R = R} {D = D} nothing t t [])
+  sound t counts = record {
     part = part k missing;
     settled = settled k missing;
     none_ready = record { none = λ x c. absurd (none_in x c) };
@@ -82,16 +81,15 @@ module _ {R D : Type 0} (k : RecordRules R) (missing : targets k k.missing ≡ [
     holders_await = awaits k missing;
     leads = record { after = at_rest k missing; replay = at_the_end; records = refl; live = refl; waiting = refl };
     tally = refl;
-    fits = fits;
-    adds_up = adds_up;
+    counts = counts;
     short = omega arith;
   }
 
-  pub sound_anew : (c : Contents R D) (b t : Tally) (entries : List Entry) → c ≡ nothing → b ≡ t → entries ≡ [] → Fits t → AddsUp t → IsSound k (held_by c b t entries)
-  sound_anew c b t entries none same forgotten fits adds_up =
+  pub sound_anew : (c : Contents R D) (b t : Tally) (entries : List Entry) → c ≡ nothing → b ≡ t → entries ≡ [] → CountsAddUp t → IsSound k (held_by c b t entries)
+  sound_anew c b t entries none same forgotten counts =
       subst (λ (m : Contents R D). IsSound k (held_by m b t entries)) (sym none)
       (subst (λ (u : Tally). IsSound k (held_by {R = R} {D = D} nothing u t entries)) (sym same)
-      (subst (λ (l : List Entry). IsSound k (held_by {R = R} {D = D} nothing t t l)) (sym forgotten) (sound t fits adds_up)))
+      (subst (λ (l : List Entry). IsSound k (held_by {R = R} {D = D} nothing t t l)) (sym forgotten) (sound t counts)))
 
   pub like_anew : (c : Contents R D) → c ≡ nothing → RecordsAreLikeTheirBase k c
   like_anew c none = subst (λ (m : Contents R D). RecordsAreLikeTheirBase k m) (sym none) (λ q there. absurd (nowhere R q there))

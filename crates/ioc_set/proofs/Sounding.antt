@@ -169,8 +169,10 @@ module _ {R : Type 0} (k : RecordRules R) where
                 ap (λ t. tallied t w entry.event done) sound.tally
                 ∙ ap (λ (z : World R). tallied (counted_on k h.base.tally (before_of h.base) h.history) z entry.event (stepped k answers z entry.event)) (sym alike)
                 ∙ sym (counted_more h.base.tally h.history entry sound.leads.replay);
-            fits = fits_after each up h.tally w entry.event done sound.fits;
-            adds_up = adds_after each up h.tally w entry.event done sound.fits sound.adds_up;
+            counts = record {
+              fits = fits_after each up h.tally w entry.event done sound.counts.fits;
+              adds_up = adds_after each up h.tally w entry.event done sound.counts.fits sound.counts.adds_up;
+            };
             short = omega (arith, room, length_push h.history entry);
           }
 
@@ -184,7 +186,6 @@ module _ {R : Type 0} (k : RecordRules R) where
     holders_await = sound.holders_await;
     leads = record { after = now_of h; replay = at_the_end; records = refl; live = refl; waiting = refl };
     tally = refl;
-    fits = sound.fits;
-    adds_up = sound.adds_up;
+    counts = sound.counts;
     short = omega arith;
   }

@@ -1,6 +1,7 @@
 -- What holds of a lock set whenever it is free.
 -- Application Developer's Guide, "Database Locking, Scanning, and Processing": records that links join are in one lock set.
 use Rattle.std.specs.Prelude.{◌≡◌, ◌≤◌, Bool, true, false, length}
+use Rattle.ioc_ledger.specs.declared.tally.Tally.{Tally}
 use Rattle.ioc_ledger.specs.Requests.{Fits, AddsUp}
 use Rattle.ioc_record.specs.RecordRules.{RecordRules}
 use Rattle.ioc_members.specs.Joined.{links_of, IsPart}
@@ -20,6 +21,11 @@ use Rattle.ioc_set.specs.Held.{Held, now_of, before_of, done_by, counted_on}
 abbrev pub is_put_with_notification : Event → Bool
 is_put_with_notification (Notify s number field given) = true
 is_put_with_notification _ = false
+
+-- the requests begun are those processed, disabled, active or put down for reprocessing, in numbers of 64 bits
+pub record CountsAddUp (t : Tally) : Type 0 where
+  pub fits : Fits t
+  pub adds_up : AddsUp t
 
 module _ {R D : Type 0} (k : RecordRules R) where
   -- the events of the history, one after another, lead from what was before them to what is there
@@ -41,8 +47,7 @@ module _ {R D : Type 0} (k : RecordRules R) where
     pub holders_await : HoldersAwait k (now_of h)
     pub leads : LeadsHere h
     pub tally : h.tally ≡ counted_on k h.base.tally (before_of h.base) h.history
-    pub fits : Fits h.tally
-    pub adds_up : AddsUp h.tally
+    pub counts : CountsAddUp h.tally
     pub short : length h.history ≤ 64
 
   -- an entry tells what its event did on what the set holds: all its answers were used, and its reply was given

@@ -21,7 +21,7 @@ ghost use Rattle.ioc_members.specs.Joined.{links_of, IsPart, HasLink};
 ghost use Rattle.ioc_events.specs.declared.event.Entry.{Entry};
 ghost use Rattle.ioc_set.specs.Held.{Held, folded, held_after};
 ghost use Rattle.ioc_set.specs.Linking.{anew, AreCalm, with_link_changed};
-ghost use Rattle.ioc_set.specs.Sound.{IsSound, TellsOf, is_put_with_notification};
+ghost use Rattle.ioc_set.specs.Sound.{CountsAddUp, IsSound, TellsOf, is_put_with_notification};
 
 use ioc_events::event_rules::{events_keep_links, events_leave_settled, rules_are_steps};
 use ioc_events::notification_rules::{
@@ -69,7 +69,7 @@ pub fn notifications_begin_by_notify<K: RecordKind>()
 pub fn calm_records_are_sound<K: RecordKind, D>()
     ensures calm { (h : Held K D) → IsSound K.rules h → h.live ≡ [] → AreCalm K.rules h.records }
     ensures sound { (rs : Records K) (ds : Devices D) (counts : Tally) → IsPart (links_of K.rules rs) → AreCalm K.rules rs → len rs < 2 ^ 63 →
-        IsSound K.rules (anew rs ds counts) }
+        CountsAddUp counts → IsSound K.rules (anew rs ds counts) }
 {
     events_count_holders::<K>();
 }

@@ -1,4 +1,4 @@
-use Rattle.std.proofs.Common.{◌≡◌, ◌∙◌, ℕ, [], Option, refl, sym, ap}
+use Rattle.std.proofs.Common.{◌∙◌, [], refl, ap}
 use Rattle.std.specs.FinMap.{len}
 use Rattle.ioc_members.specs.Contents.{Contents}
 use Rattle.ioc_store.specs.Given.{Given}
@@ -25,6 +25,7 @@ invariant_of-place g c =
       none_live = ap (λ (v : World g.row.K.Denot). v.live) is ∙ rewired-live k c.args.before w c.args.number ∙ live_begun c.args.moment rs;
       none_waits = ap (λ (v : World g.row.K.Denot). v.waiting) is ∙ rewired-waiting k c.args.before w c.args.number ∙ waiting_begun c.args.moment rs;
       no_frame = place.no_frame;
+      no_answer = place.no_answer;
     }
 
 pub returns-clause-left : goal.returns-clause-left

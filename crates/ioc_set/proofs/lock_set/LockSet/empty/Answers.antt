@@ -1,5 +1,6 @@
-use Rattle.std.proofs.Common.{refl, inr, arith}
+use Rattle.std.proofs.Common.{refl}
 use Rattle.ioc_set.proofs.NothingHeld.{sound_anew, like_anew}
+use Rattle.ioc_set.proofs.Counts.{none_add_up}
 use Rattle.ioc_set.proofs.lock_set.LockSet.empty.Goals as goal
 
 pub invariant_of-result : goal.invariant_of-result
@@ -8,7 +9,6 @@ invariant_of-result g c =
     let tally = c.default-tally.result in
     let none = c.default-tally.ensures in (
       sound_anew g.K.RecordKind.rules missing c.new.result tally tally c.new-2.result.items c.new.ensures refl c.new-2.ensures.items
-          (omega (arith, none.0), omega (arith, none.1.0), omega (arith, none.1.1.0), omega (arith, none.1.1.1.0), omega (arith, none.1.1.1.1.0))
-          (inr (omega (arith, none.0, none.1.0, none.1.1.0, none.1.1.1.0, none.1.1.1.1.0))),
+          (none_add_up tally none),
       like_anew g.K.RecordKind.rules missing c.new.result c.new.ensures,
     )

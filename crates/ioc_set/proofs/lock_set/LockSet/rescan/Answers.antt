@@ -1,12 +1,10 @@
-use Rattle.std.proofs.Common.{◌≡◌, ◌∙◌, refl, ap, subst, sym}
+use Rattle.std.proofs.Common.{◌∙◌, refl, ap, subst, sym}
 use Rattle.std.specs.Prelude.{IsSome}
 use Rattle.std.specs.FinMap.{get}
-use Rattle.ioc_members.specs.Contents.{Records, Contents}
-use Rattle.ioc_members.specs.Joined.{links_of, IsPart}
+use Rattle.ioc_members.specs.Contents.{Contents}
 use Rattle.ioc_store.specs.World.{World}
 use Rattle.ioc_set.specs.Held.{Held}
 use Rattle.ioc_set.specs.Doing.{held_by}
-use Rattle.ioc_set.specs.Linking.{AreCalm}
 use Rattle.ioc_set.proofs.Linked.{anew_holds, rescanned_part, rescanned_calm, rescanned_like}
 use Rattle.ioc_set.proofs.lock_set.LockSet.rescan.Goals as goal
 
@@ -32,4 +30,4 @@ invariant_of-self g c =
     (ap (λ (m : Contents g.row.K.Denot g.row.D.Denot). m.base) c.begin_anew.ensures.members ∙ sym anew) c.begin_anew.ensures.tally c.begin_anew.ensures.history
     (rescanned_part k lawful inside.members.records c.begin_anew.new.members.records c.args.before c.args.moment c.args.number there is c.self.invariant.0.part)
     (rescanned_calm k lawful inside.members.records c.begin_anew.new.members.records c.args.before c.args.moment c.args.number there is calm)
-    c.are_few.ensures
+    c.are_few.ensures c.self.invariant.0.counts

@@ -32,7 +32,7 @@ invariant_of-self-2 g c =
     anew_holds k c.calm_records_are_sound.ensures.sound c.part.new.self c.begin_anew.new.base_tally inside.tally c.begin_anew.new.history.items c.in_ok-rest.ensures.base c.begin_anew.ensures.tally c.begin_anew.ensures.history
     c.in_ok-rest.ensures.stay
     (stay_calm k g.met.K.RecordKind.lawful c.args.number c.args.field c.args.link c.args.self.now.records c.begin_anew.new.members.records c.part.new.self.records c.in_ok-rest.rest.records
-    is calm (ap is_some c.requires.field.1) c.in_ok-rest.ensures.shared) c.are_few.ensures
+    is calm (ap is_some c.requires.field.1) c.in_ok-rest.ensures.shared) c.are_few.ensures c.self.invariant.0.counts
 
 pub returns-clause-apart : goal.returns-clause-apart
 returns-clause-apart g c =

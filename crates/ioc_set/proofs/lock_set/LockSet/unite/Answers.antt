@@ -1,11 +1,14 @@
 use Rattle.std.proofs.Common.{◌≡◌, ◌∙◌, refl, ap, subst, sym}
 use Rattle.std.specs.Prelude.{is_some}
 use Rattle.ioc_members.specs.Contents.{Records, Contents}
+use Rattle.ioc_ledger.specs.declared.tally.Tally.{Tally}
 use Rattle.ioc_set.specs.Held.{Held}
+use Rattle.ioc_set.specs.Sound.{CountsAddUp}
 use Rattle.ioc_set.specs.Doing.{held_by}
 use Rattle.ioc_set.specs.Linking.{AreCalm}
-use Rattle.ioc_set.proofs.Linked.{folded_holds, anew_holds, joined_calm, became_one}
+use Rattle.ioc_set.proofs.Linked.{folded_holds, anew_holds, joined_calm}
 use Rattle.ioc_set.proofs.NothingHeld.{sound_anew, like_anew}
+use Rattle.ioc_set.proofs.Counts.{none_add_up, both_add_up}
 use Rattle.ioc_set.proofs.lock_set.LockSet.unite.Goals as goal
 
 pub invariant_of-self : goal.invariant_of-self
@@ -32,10 +35,12 @@ invariant_of-self-2 g c =
     c.in_ok-join.ensures.part
     (joined_calm k g.met.K.RecordKind.lawful c.args.number c.args.field c.args.link c.args.self.now.records c.begin_anew.new.members.records c.begin_anew-2.new.members.records c.join.new.self.records
     is calm other_calm (ap is_some c.requires.free.1) c.in_ok-join.ensures.shared) c.are_few.ensures
+    (subst (λ (t : Tally). CountsAddUp t) (sym c.add_counts.ensures) (both_add_up one.tally two.tally c.self.invariant.0.counts c.other.invariant.0.counts))
 
 pub invariant_of-other-2 : goal.invariant_of-other-2
 invariant_of-other-2 g c =
     let missing = g.met.K.RecordKind.lawful.missing_targets in (
-      sound_anew g.K.RecordKind.rules missing c.join.new.other c.default-other-inside.result c.default-other-inside.result c.begin_anew-2.new.history.items c.in_ok-join.ensures.emptied refl c.begin_anew-2.ensures.history,
+      sound_anew g.K.RecordKind.rules missing c.join.new.other c.default-other-inside.result c.default-other-inside.result c.begin_anew-2.new.history.items c.in_ok-join.ensures.emptied refl c.begin_anew-2.ensures.history
+          (none_add_up c.default-other-inside.result c.default-other-inside.ensures),
       like_anew g.K.RecordKind.rules missing c.join.new.other c.in_ok-join.ensures.emptied,
     )
