@@ -1,0 +1,100 @@
+-- Desks, and the calls that they made, in one list of all that was done.
+-- The journal is this project's own.
+use Rattle.std.specs.Prelude.{◌≡◌, ℕ, ◌+◌, ◌<◌, List, [], ◌∷◌, ◌++◌, if◌then◌else◌, nat_eq}
+use Rattle.ioc_record.specs.RecordRules.{RecordRules}
+use Rattle.ioc_store.specs.World.{World}
+use Rattle.ioc_events.specs.declared.event.Entry.{Entry}
+use Rattle.ioc_line.specs.declared.entry.JournalEntry.{JournalEntry}
+use Rattle.ioc_line.specs.declared.entry.Note.{Note}
+use Rattle.ioc_line.specs.declared.room.View.{View}
+use Rattle.ioc_line.specs.Key.{Key, Has}
+use Rattle.ioc_line.specs.Line.{holder, noted, Continues}
+use Rattle.ioc_holding.specs.Legal.{IsLegal, IsSound}
+
+-- a desk: its number, that of its next call, and the list that it has seen
+pub record DeskView : Type 0 where
+  pub number : ℕ
+  pub next : ℕ
+  pub seen : List Note
+
+abbrev pub desk_view : ℕ → ℕ → List Note → DeskView
+desk_view n next seen = record { number = n; next = next; seen = seen }
+
+-- a call of a desk, by its number
+abbrev pub journalled : (desk call : ℕ) → Entry → JournalEntry
+journalled d c e = record { desk = d; call = c; entry = e }
+
+-- the calls that are noted
+abbrev pub calls : List Note → List JournalEntry
+calls [] = []
+calls (n ∷ ns) = n.entry ∷ calls ns
+
+-- those of one desk
+abbrev pub calls_by : ℕ → List JournalEntry → List JournalEntry
+calls_by desk [] = []
+calls_by desk (e ∷ es) = if nat_eq e.desk desk then e ∷ calls_by desk es else calls_by desk es
+
+-- the calls of a desk have numbers below this
+abbrev pub Below : (desk call : ℕ) → List JournalEntry → Type 0
+Below d c [] = Unit {0}
+Below d c (e ∷ es) = (e.desk ≡ d → e.call < c) × Below d c es
+
+abbrev pub Above : (desk call : ℕ) → List JournalEntry → Type 0
+Above d c [] = Unit {0}
+Above d c (e ∷ es) = (e.desk ≡ d → c < e.call) × Above d c es
+
+-- the numbers of each desk's calls rise
+abbrev pub Rising : List JournalEntry → Type 0
+Rising [] = Unit {0}
+Rising (e ∷ es) = Above e.desk e.call es × Rising es
+
+-- the key of a desk
+abbrev pub desk_key : ℕ → Key
+desk_key n = (1, n)
+
+-- each note has its desk's key
+abbrev pub Keyed : List Note → Type 0
+Keyed [] = Unit {0}
+Keyed (n ∷ ns) = Has (desk_key n.entry.desk) n.keys × Keyed ns
+
+-- these are keys of records
+abbrev pub AreRecords : List Key → Type 0
+AreRecords keys = (key : Key) → Has key keys → key.0 ≡ 0
+
+-- a pass that has seen a beginning of the list, and owns keys
+abbrev pub IsHolder : View → Type 0
+IsHolder v = v ≡ holder v.seen v.owns
+
+module _ {R : Type 0} (k : RecordRules R) (base : World R) where
+  -- the calls are a run of an engine with all records in one map, the numbers of each desk's calls rise, and each note has its desk's key
+  pub record IsAccount (notes : List Note) : Type 0 where
+    pub legal : IsLegal k base notes
+    pub rising : Rising (calls notes)
+    pub keyed : Keyed notes
+
+  -- a call of a desk: its list goes on with calls of others and ends with this one, which is the only one that it has made since; and all
+  -- of its list is legal
+  pub record Call (before : DeskView) (done : Entry) (after : DeskView) : Type 0 where
+    pub keys : List Key
+    pub between : List Note
+    pub number : after.number ≡ before.number
+    pub next : after.next ≡ before.next + 1
+    pub seen : after.seen ≡ (before.seen ++ between) ++ noted (journalled before.number before.next done) keys ∷ []
+    pub own : calls_by after.number (calls after.seen) ≡ calls_by before.number (calls before.seen) ++ journalled before.number before.next done ∷ []
+    pub legal : IsAccount after.seen
+
+  -- an event of who has seen a list and owns keys may follow, whoever calls: any legal list that goes on from that one without its keys is
+  -- legal with the event behind it
+  abbrev pub MayFollow : List Note → List Key → Entry → Type 0
+  MayFollow seen owned done = (log : List Note) (desk call : ℕ) (own : List Key) → IsSound k base → Continues seen owned log → IsLegal k base log
+      → IsLegal k base (log ++ noted (journalled desk call done) (owned ++ own) ∷ [])
+
+  -- it was added to such a list
+  pub record Added (seen : List Note) (owned : List Key) (done : Entry) (log longer : List Note) : Type 0 where
+    pub desk : ℕ
+    pub call : ℕ
+    pub own : List Key
+    pub sound : IsSound k base
+    pub goes_on : Continues seen owned log
+    pub legal : IsLegal k base log
+    pub ends : longer ≡ log ++ noted (journalled desk call done) (owned ++ own) ∷ []

@@ -1,0 +1,14 @@
+//! Names an engine.
+use ioc_line::Room;
+
+/// Names an engine: its cell, the world at the load, and the ledger of the places that are held in its journal. Its records are of kind `K`.
+pub trait Base<K>: Room {
+    ghost use Rattle.std.specs.Prelude.{ℕ};
+    ghost use Rattle.ioc_store.specs.World.{World};
+
+    /// The world at the load.
+    ghost base: { World K };
+
+    /// The name of the ledger of places.
+    ghost places: { ℕ };
+}

@@ -1,0 +1,105 @@
+//! The journal under its lock.
+ghost use Rattle.std.specs.Prelude.{◌≡◌, ◌<◌, ◌-◌, ◌^◌, List, [], OnOk, IfSome};
+ghost use Rattle.crossbeam_utils.specs.Seq.{cell_view};
+ghost use Rattle.ioc_line.specs.declared.entry.Note.{Note};
+ghost use Rattle.ioc_line.specs.Line.{holder};
+ghost use Rattle.ioc_journal.specs.Account.{IsHolder, AreRecords, MayFollow, Call, Added, calls, calls_by};
+
+use crate::base::Base;
+use crate::desk::Desk;
+use crate::entries::Place;
+use crate::journal::Journal;
+use crate::receipt::Receipt;
+use ioc_events::Entry;
+use ioc_line::{Cell, Token};
+use ioc_record::RecordKind;
+use std::alloc::AllocError;
+use std::marker::Model;
+use std::sync::{Mutex, Wait};
+
+/// The journal of an engine under its lock, and the cell that ties it to the passes under other locks. Its lock is held for a moment at a
+/// time, and no other lock is awaited meanwhile. Contracts see which cell it is.
+#[derive(Drop)]
+pub struct Book<K: RecordKind, B: Base<K>> {
+    cell: Cell,
+    journal: Mutex<Journal<K, B>>,
+}
+
+impl<K: RecordKind, B: Base<K>> Model for Book<K, B> {
+    ghost use Rattle.std.specs.Prelude.{◌≡◌};
+    ghost use Rattle.atomic_table.specs.Seated.{TableId, table_id_coded};
+
+    ghost Value = { TableId };
+
+    ghost coded = { table_id_coded };
+
+    ghost view = { λ b. b.cell.table.shared.table_id };
+
+    ghost invariant = { λ b. b.cell.table.shared.table_id ≡ B.table };
+}
+
+impl<K: RecordKind, B: Base<K>> Book<K, B> {
+    /// A journal and its cell.
+    pub fn new(cell: Cell, journal: Journal<K, B>) -> Self
+        requires table { cell.table.shared.table_id ≡ B.table }
+    {
+        Book {
+            cell,
+            journal: Mutex::new(journal),
+        }
+    }
+
+    /// A desk that has seen all calls, and made none. None where the numbers of desks are used up.
+    pub fn open_desk<R: Wait>(&self, rt: &R) -> Option<Desk<K, B>>
+        ensures new { IfSome result (λ d. (d.next ≡ 0) × (calls_by d.number (calls d.seen) ≡ [])) }
+    {
+        self.journal.lock(rt).open_desk(&self.cell)
+    }
+
+    /// The cell that ties the passes.
+    pub fn cell(&self) -> &Cell
+        ensures { result.now.table.shared.table_id ≡ B.table }
+    {
+        &self.cell
+    }
+
+    /// Holds a place for a call of a desk.
+    ///
+    /// # Errors
+    ///
+    /// [`AllocError`] where memory is wanting, or the desk's numbers are used up.
+    pub fn reserve<R: Wait>(&self, rt: &R, desk: &Desk<K, B>) -> Result<Place<K, B>, AllocError>
+        ensures number { OnOk result (desk.now.next < 2 ^ 64 - 1) }
+    {
+        self.journal.lock(rt).reserve(desk)
+    }
+
+    /// Takes back a place whose call wasn't made.
+    pub fn give_back<R: Wait>(&self, rt: &R, place: Place<K, B>) {
+        self.journal.lock(rt).give_back(place);
+    }
+
+    /// Adds a call of a desk, under the lock of the set that it is about, of whose pass all keys are noted. Desk and pass know the whole
+    /// list then.
+    pub fn append<R: Wait>(
+        &self,
+        rt: &R,
+        place: Place<K, B>,
+        set: &mut Token,
+        desk: &mut Desk<K, B>,
+        entry: Entry,
+    ) -> Receipt<K, B>
+        requires number { desk.old.next < 2 ^ 64 - 1 }
+        requires table { set.old.table_id ≡ B.table }
+        requires set { IsHolder (cell_view set.old) × AreRecords (cell_view set.old).owns }
+        requires follows { MayFollow K.rules B.base (cell_view set.old).seen (cell_view set.old).owns entry }
+        ensures call { Call K.rules B.base desk.old entry desk.new }
+        ensures receipt { result ≡ desk.new.seen }
+        ensures set { (set.new.table_id ≡ set.old.table_id) × (cell_view set.new ≡ holder desk.new.seen (cell_view set.old).owns) }
+        ensures added { (log : List Note) × Added K.rules B.base (cell_view set.old).seen (cell_view set.old).owns entry log desk.new.seen }
+    {
+        let mut guard = self.journal.lock(rt);
+        let journal = &mut *guard;
+        journal.append(rt, &self.cell, place, set, desk, entry)
+    }
+}

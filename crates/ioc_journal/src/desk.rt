@@ -1,0 +1,56 @@
+//! A caller, and what it has seen.
+ghost use Rattle.std.specs.Prelude.{◌≡◌};
+ghost use Rattle.ioc_line.specs.Line.{longer, Begins};
+ghost use Rattle.ioc_journal.specs.Account.{IsAccount, calls, calls_by};
+
+use crate::base::Base;
+use crate::receipt::Receipt;
+use ioc_line::pass;
+use ioc_line::{Cell, Token};
+use ioc_record::RecordKind;
+use std::marker::{Model, PhantomData};
+use std::sync::Wait;
+
+/// A caller. Contracts see its number, that of its next call, and the beginning of the journal's list that it has seen.
+#[derive(Drop)]
+pub struct Desk<K: RecordKind, B: Base<K>> {
+    pub(crate) number: u64,
+    pub(crate) next: u64,
+    pub(crate) pass: Token,
+    pub(crate) of: PhantomData<B>,
+    pub(crate) kind: PhantomData<K>,
+}
+
+impl<K: RecordKind, B: Base<K>> Model for Desk<K, B> {
+    ghost use Rattle.ioc_journal.specs.Account.{DeskView};
+    ghost use Rattle.ioc_journal.specs.DeskCode.{desk_code};
+
+    ghost Value = { DeskView };
+
+    ghost coded = { desk_code };
+
+    ghost use Rattle.crossbeam_utils.specs.Seq.{cell_view};
+    ghost use Rattle.ioc_journal.specs.Account.{desk_view};
+    ghost use Rattle.ioc_journal.specs.Kept.{IsDesk};
+
+    ghost view = { λ d. desk_view d.number d.next (cell_view d.pass).seen };
+
+    ghost invariant = { λ d. IsDesk K.rules B.base B.table d.pass.table_id (cell_view d.pass) d.number d.next };
+}
+
+impl<K: RecordKind, B: Base<K>> Desk<K, B> {
+    /// Takes over what a receipt knows, where that is more than it has seen: either list is a beginning of what it knows then.
+    pub fn learn<R: Wait>(&mut self, rt: &R, cell: &Cell, receipt: &mut Receipt<K, B>)
+        requires table { cell.now.table.shared.table_id ≡ B.table }
+        ensures desk { (self.new.number ≡ self.old.number) × (self.new.next ≡ self.old.next) }
+        ensures learnt { self.new.seen ≡ longer self.old.seen receipt.old }
+        ensures own { Begins self.old.seen self.new.seen }
+        ensures told { Begins receipt.old self.new.seen }
+        ensures calls { calls_by self.new.number (calls self.new.seen) ≡ calls_by self.old.number (calls self.old.seen) }
+        ensures legal { IsAccount K.rules B.base self.new.seen }
+        ensures receipt { receipt.new ≡ receipt.old }
+    {
+        let copy = pass::again(cell, &mut receipt.pass);
+        pass::learn(rt, cell, &mut self.pass, copy);
+    }
+}

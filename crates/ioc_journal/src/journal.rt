@@ -1,0 +1,155 @@
+//! All calls, in one order.
+ghost use Rattle.std.specs.Prelude.{◌≡◌, ◌<◌, ◌-◌, ◌^◌, [], OnOk, IfSome};
+ghost use Rattle.crossbeam_utils.specs.Seq.{cell_view};
+ghost use Rattle.ioc_line.specs.Key.{Key, Has};
+ghost use Rattle.ioc_line.specs.Line.{keeper, holder, Continues};
+ghost use Rattle.ioc_holding.specs.Legal.{IsLegal, IsSound};
+ghost use Rattle.ioc_journal.specs.Account.{AreRecords, IsHolder, MayFollow, Call, Added, calls, calls_by};
+
+use crate::base::Base;
+use crate::desk::Desk;
+use crate::entries::{Entries, Place};
+use crate::receipt::Receipt;
+use ioc_events::Entry;
+use ioc_line::pass;
+use ioc_line::{Cell, JournalEntry, Token};
+use ioc_record::RecordKind;
+use std::alloc::{AllocError, Global};
+use std::marker::{Model, PhantomData};
+use std::sync::Wait;
+use std::sync::ledger::Blank;
+
+/// All calls of an engine, each with its desk and its number. Contracts see them as one list, with the keys that each call is about.
+#[derive(Drop)]
+pub struct Journal<K: RecordKind, B: Base<K>> {
+    entries: Entries<K, B>,
+    desks: u64,
+    pass: Token,
+}
+
+impl<K: RecordKind, B: Base<K>> Model for Journal<K, B> {
+    ghost use Rattle.std.specs.Prelude.{List};
+    ghost use Rattle.ioc_line.specs.declared.entry.Note.{Note};
+
+    ghost Value = { List Note };
+
+    ghost use Rattle.crossbeam_utils.specs.Seq.{cell_view};
+    ghost use Rattle.ioc_journal.specs.Kept.{IsKept};
+
+    ghost view = { λ j. (cell_view j.pass).seen };
+
+    ghost invariant = { λ j. IsKept K.rules B.base B.table j.pass.table_id (cell_view j.pass) j.entries j.desks };
+}
+
+impl<K: RecordKind, B: Base<K>> Journal<K, B> {
+    /// No call was made yet. The keeper's pass has given out keys of records alone.
+    pub fn new(alloc: Global, master: Token, blank: Blank) -> Self
+        requires table { master.table_id ≡ B.table }
+        requires pass { cell_view master ≡ keeper [] (cell_view master).born }
+        requires given { AreRecords (cell_view master).born }
+        requires name { blank.name ≡ B.places }
+        requires parts { blank.parts ≡ 2 ^ 64 - 1 }
+        requires sound { IsSound K.rules B.base }
+        ensures { result ≡ [] }
+    {
+        Journal {
+            entries: Entries::new(alloc, blank),
+            desks: 0,
+            pass: master,
+        }
+    }
+
+    /// A desk that has seen all calls, and made none. None where the numbers of desks are used up.
+    pub fn open_desk(&mut self, cell: &Cell) -> Option<Desk<K, B>>
+        requires table { cell.now.table.shared.table_id ≡ B.table }
+        ensures desk { IfSome result (λ d. (d.next ≡ 0) × (d.seen ≡ self.old) × (calls_by d.number (calls d.seen) ≡ [])) }
+        ensures same { self.new ≡ self.old }
+    {
+        if self.desks == u64::MAX {
+            return None;
+        }
+        let number = self.desks;
+        let pass = pass::claim_key(cell, &mut self.pass, 1, number);
+        self.desks += 1;
+        Some(Desk {
+            number,
+            next: 0,
+            pass,
+            of: PhantomData,
+            kind: PhantomData,
+        })
+    }
+
+    /// Holds a place for a call of a desk.
+    ///
+    /// # Errors
+    ///
+    /// [`AllocError`] where memory is wanting, or the desk's numbers are used up.
+    pub fn reserve(&mut self, desk: &Desk<K, B>) -> Result<Place<K, B>, AllocError>
+        ensures number { OnOk result (desk.now.next < 2 ^ 64 - 1) }
+        ensures same { self.new ≡ self.old }
+    {
+        if desk.next == u64::MAX {
+            return Err(AllocError);
+        }
+        self.entries.hold()
+    }
+
+    /// Takes back a place whose call wasn't made.
+    pub fn give_back(&mut self, place: Place<K, B>)
+        ensures { self.new ≡ self.old }
+    {
+        self.entries.give_back(place);
+    }
+
+    /// Adds a call of a desk, under the lock of the set that it is about, of whose pass all keys are noted.
+    pub fn append<R: Wait>(
+        &mut self,
+        rt: &R,
+        cell: &Cell,
+        place: Place<K, B>,
+        set: &mut Token,
+        desk: &mut Desk<K, B>,
+        entry: Entry,
+    ) -> Receipt<K, B>
+        requires number { desk.old.next < 2 ^ 64 - 1 }
+        requires table { (cell.now.table.shared.table_id ≡ B.table) × (set.old.table_id ≡ B.table) }
+        requires set { IsHolder (cell_view set.old) × AreRecords (cell_view set.old).owns }
+        requires follows { MayFollow K.rules B.base (cell_view set.old).seen (cell_view set.old).owns entry }
+        ensures call { Call K.rules B.base desk.old entry desk.new }
+        ensures receipt { result ≡ desk.new.seen }
+        ensures list { desk.new.seen ≡ self.new }
+        ensures set { (set.new.table_id ≡ set.old.table_id) × (cell_view set.new ≡ holder self.new (cell_view set.old).owns) }
+        ensures added { Added K.rules B.base (cell_view set.old).seen (cell_view set.old).owns entry self.old self.new }
+    {
+        let made = JournalEntry {
+            desk: desk.number,
+            call: desk.next,
+            entry,
+        };
+        let index = self.entries.len() as u64;
+        let pass = pass::append(rt, cell, &mut self.pass, set, &mut desk.pass, &made);
+        self.entries.fill(place, made);
+        desk.next += 1;
+        Receipt {
+            place: index,
+            pass,
+            of: PhantomData,
+            kind: PhantomData,
+        }
+    }
+
+    /// Two passes own no key together. Both know the whole list then.
+    pub fn compare<R: Wait>(&mut self, rt: &R, cell: &Cell, one: &mut Token, other: &mut Token)
+        requires table { (cell.now.table.shared.table_id ≡ B.table) × (one.old.table_id ≡ B.table) × (other.old.table_id ≡ B.table) }
+        requires holders { IsHolder (cell_view one.old) × IsHolder (cell_view other.old) }
+        ensures one { (one.new.table_id ≡ one.old.table_id) × (cell_view one.new ≡ holder self.old (cell_view one.old).owns) }
+        ensures other { (other.new.table_id ≡ other.old.table_id) × (cell_view other.new ≡ holder self.old (cell_view other.old).owns) }
+        ensures goes_on { Continues (cell_view one.old).seen (cell_view one.old).owns self.old × Continues (cell_view other.old).seen (cell_view other.old).owns self.old }
+        ensures legal { IsSound K.rules B.base × IsLegal K.rules B.base self.old }
+        ensures apart { (key : Key) → Has key (cell_view one.old).owns → Has key (cell_view other.old).owns → ⊥ }
+        ensures same { self.new ≡ self.old }
+    {
+        pass::compare(rt, cell, &mut self.pass, one, other);
+    }
+}

@@ -1,0 +1,19 @@
+//! All calls in one order: the journal, the desks that call, and the receipts of their calls.
+//!
+//! A call is kept in the journal while the lock of the set that it is about is held. A desk knows a beginning of the journal's list, which
+//! ends with its own last call; that list is legal: it is what an engine with all records in one map could have done.
+#![tactic(auto)]
+
+pub mod base;
+pub mod book;
+pub mod desk;
+pub mod entries;
+pub mod journal;
+pub mod receipt;
+
+pub use base::Base;
+pub use book::Book;
+pub use desk::Desk;
+pub use entries::{Entries, PLACES, Place, Places};
+pub use journal::Journal;
+pub use receipt::Receipt;
