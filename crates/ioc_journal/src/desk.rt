@@ -5,8 +5,7 @@ ghost use Rattle.ioc_journal.specs.Account.{IsAccount, calls, calls_by};
 
 use crate::base::Base;
 use crate::receipt::Receipt;
-use ioc_line::pass;
-use ioc_line::{Cell, Token};
+use ioc_line::{Cell, Token, pass};
 use ioc_record::RecordKind;
 use std::marker::{Model, PhantomData};
 use std::sync::Wait;

@@ -1,0 +1,30 @@
+-- What a call of the engine was.
+-- Application Developer's Guide, "Database Locking, Scanning, and Processing". The journal is this project's own.
+use Rattle.std.specs.Prelude.{ℕ, Contains}
+use Rattle.ioc_device.specs.declared.Ask.{Ask}
+use Rattle.ioc_device.specs.declared.Answer.{Answer}
+use Rattle.ioc_record.specs.RecordRules.{RecordRules}
+use Rattle.ioc_store.specs.World.{World}
+use Rattle.ioc_events.specs.declared.event.Event.{Event}
+use Rattle.ioc_events.specs.declared.reply.Reply.{Reply}
+use Rattle.ioc_journal.specs.Account.{DeskView}
+use Rattle.ioc_held.specs.Holding.{HeldView, numbers_of, IsSoundlyHeld, Serves, Tells}
+
+module _ {R D : Type 0} (k : RecordRules R) (base : World R) where
+  -- a question of a desk was answered by a set that has the record, was sound, and is so again
+  pub record WasTold (number : ℕ) (desk : DeskView) (at_moment : ℕ) (asked : Event) (reply : Reply) (desk_then : DeskView) : Type 0 where
+    pub held : HeldView R D
+    pub held_then : HeldView R D
+    pub here : Contains (numbers_of held) number
+    pub before : IsSoundlyHeld k base held
+    pub tells : Tells k base held desk at_moment asked reply held_then desk_then
+    pub after : IsSoundlyHeld k base held_then
+
+  -- an event of a desk was done on a set that has the record, was sound, and is so again
+  pub record WasServed (gives : D → Ask → ℕ → Answer → D → Type 0) (number : ℕ) (desk : DeskView) (at_moment : ℕ) (done : Event) (reply : Reply) (desk_then : DeskView) (come_to : World R) : Type 0 where
+    pub held : HeldView R D
+    pub held_then : HeldView R D
+    pub here : Contains (numbers_of held) number
+    pub before : IsSoundlyHeld k base held
+    pub serves : Serves k gives base held desk at_moment done reply held_then desk_then come_to
+    pub after : IsSoundlyHeld k base held_then

@@ -1,0 +1,212 @@
+//! The engine.
+ghost use Rattle.std.specs.Prelude.{◌≡◌, true, [], ◌∷◌, IfOk, IfErr, IfSome, OnErr};
+ghost use Rattle.ioc_events.specs.declared.event.Event.TheVariants.{Get, Process, Put, Complete};
+ghost use Rattle.ioc_events.specs.Step.{names};
+ghost use Rattle.ioc_line.specs.Line.{longer, Begins};
+ghost use Rattle.ioc_set.specs.Doing.{is_ordinary};
+ghost use Rattle.ioc_set.specs.SetStore.{world_of};
+ghost use Rattle.ioc_journal.specs.Account.{IsAccount, calls, calls_by};
+ghost use Rattle.ioc_topology.specs.Change.{IsRefused};
+ghost use Rattle.ioc_engine.specs.Served.{WasTold, WasServed};
+
+use ioc_device::Device;
+use ioc_events::{Event, Reply};
+use ioc_fields::FieldNo;
+use ioc_held::Held;
+use ioc_journal::{Base, Book, Desk, Receipt};
+use ioc_names::RecordNo;
+use ioc_record::RecordKind;
+use ioc_set::Workplace;
+use ioc_topology::{Directory, Locked};
+use ioc_values::{Finished, Input, IocError};
+use std::alloc::Global;
+use std::marker::Model;
+use std::sync::Wait;
+
+/// The records of a database in their lock sets, each set under a lock of its own, and the journal of all calls. Contracts see it as the number
+/// of its records.
+#[derive(Drop)]
+pub struct Engine<K: RecordKind + Drop, B: Base<K>, D: Drop> {
+    sets: Directory<Held<K, B, D>>,
+    book: Book<K, B>,
+}
+
+impl<K: RecordKind + Drop, B: Base<K>, D: Drop> Model for Engine<K, B, D> {
+    ghost use Rattle.std.specs.Prelude.{ℕ};
+
+    ghost Value = { ℕ };
+
+    ghost view = { λ e. e.sets };
+}
+
+impl<K: RecordKind + Drop, B: Base<K>, D: Drop> Engine<K, B, D> {
+    /// The engine of these sets, whose calls are kept in this journal.
+    pub fn new(sets: Directory<Held<K, B, D>>, book: Book<K, B>) -> Self
+        ensures { result ≡ sets }
+    {
+        Engine { sets, book }
+    }
+
+    /// A desk, by which a caller makes its calls: it has made none. None where the numbers of desks are used up.
+    pub fn open_desk<R: Wait>(&self, rt: &R) -> Option<Desk<K, B>>
+        ensures new { IfSome result (λ d. (d.next ≡ 0) × (calls_by d.number (calls d.seen) ≡ [])) }
+    {
+        self.book.open_desk(rt)
+    }
+
+    /// A desk takes over what a receipt knows, where that is more than it has seen.
+    pub fn learn<R: Wait>(&self, rt: &R, desk: &mut Desk<K, B>, receipt: &mut Receipt<K, B>)
+        ensures desk { (desk.new.number ≡ desk.old.number) × (desk.new.next ≡ desk.old.next) }
+        ensures learnt { desk.new.seen ≡ longer desk.old.seen receipt.old }
+        ensures own { Begins desk.old.seen desk.new.seen }
+        ensures told { Begins receipt.old desk.new.seen }
+        ensures calls { calls_by desk.new.number (calls desk.new.seen) ≡ calls_by desk.old.number (calls desk.old.seen) }
+        ensures legal { IsAccount K.rules B.base desk.new.seen }
+        ensures receipt { receipt.new ≡ receipt.old }
+    {
+        desk.learn(rt, self.book.cell(), receipt);
+    }
+}
+
+impl<K: RecordKind + Drop, B: Base<K>, D: Device> Engine<K, B, D> {
+    // Does an event on the set of a record.
+    fn serve<R: Wait>(
+        &self,
+        rt: &R,
+        alloc: Global,
+        desk: &mut Desk<K, B>,
+        workplace: &mut Workplace<K, D>,
+        number: RecordNo,
+        event: &Event,
+        moment: u64,
+    ) -> Result<(Reply, Receipt<K, B>), IocError>
+        requires ordinary { is_ordinary event.now ≡ true }
+        requires names { names event.now ≡ number ∷ [] }
+        ensures served { IfOk result (λ x. WasServed {D = D} K.rules B.base D.gives number desk.old moment event.now x.0 desk.new (world_of workplace.new.store)) }
+        ensures receipt { IfOk result (λ x. x.1 ≡ desk.new.seen) }
+        ensures refused { IfErr result (IsRefused self.now number) }
+        ensures err { OnErr result (desk.new ≡ desk.old) }
+    {
+        for _ in rt.forever() {
+            let cell = self.sets.lock_of(rt, number)?;
+            let mut held = cell.lock(rt);
+            if held.has(number) {
+                held.is_sound();
+                let (reply, receipt) =
+                    held.serve(rt, alloc, &self.book, desk, workplace, event, moment)?;
+                held.is_sound();
+                return Ok((reply, receipt));
+            }
+        }
+        unreachable!()
+    }
+
+    /// Requests a record.
+    ///
+    /// # Errors
+    ///
+    /// [`IocError::NoRecord`]: there are no more records than the number says. [`IocError::NoMemory`]. Nothing has changed then.
+    pub fn process<R: Wait>(
+        &self,
+        rt: &R,
+        alloc: Global,
+        desk: &mut Desk<K, B>,
+        workplace: &mut Workplace<K, D>,
+        number: RecordNo,
+        moment: u64,
+    ) -> Result<(Reply, Receipt<K, B>), IocError>
+        ensures served { IfOk result (λ x. WasServed {D = D} K.rules B.base D.gives number desk.old moment (Process number) x.0 desk.new (world_of workplace.new.store)) }
+        ensures receipt { IfOk result (λ x. x.1 ≡ desk.new.seen) }
+        ensures refused { IfErr result (IsRefused self.now number) }
+        ensures err { OnErr result (desk.new ≡ desk.old) }
+    {
+        let event = Event::Process(number);
+        self.serve(rt, alloc, desk, workplace, number, &event, moment)
+    }
+
+    /// Puts a value into a field, and processes the record where the field or the record asks for it.
+    ///
+    /// # Errors
+    ///
+    /// [`IocError::NoRecord`]: there are no more records than the number says. [`IocError::NoMemory`]. Nothing has changed then. What else
+    /// is refused is a reply, and stands in the journal.
+    pub fn put<R: Wait>(
+        &self,
+        rt: &R,
+        alloc: Global,
+        desk: &mut Desk<K, B>,
+        workplace: &mut Workplace<K, D>,
+        number: RecordNo,
+        field: FieldNo,
+        given: Input,
+        moment: u64,
+    ) -> Result<(Reply, Receipt<K, B>), IocError>
+        ensures served { IfOk result (λ x. WasServed {D = D} K.rules B.base D.gives number desk.old moment (Put number field given) x.0 desk.new (world_of workplace.new.store)) }
+        ensures receipt { IfOk result (λ x. x.1 ≡ desk.new.seen) }
+        ensures refused { IfErr result (IsRefused self.now number) }
+        ensures err { OnErr result (desk.new ≡ desk.old) }
+    {
+        let event = Event::Put(number, field, given);
+        self.serve(rt, alloc, desk, workplace, number, &event, moment)
+    }
+
+    /// The device of a record has answered at last, to the wait of this number.
+    ///
+    /// # Errors
+    ///
+    /// [`IocError::NoRecord`]: there are no more records than the number says. [`IocError::NoMemory`]. Nothing has changed then. What else
+    /// is refused is a reply, and stands in the journal.
+    pub fn complete<R: Wait>(
+        &self,
+        rt: &R,
+        alloc: Global,
+        desk: &mut Desk<K, B>,
+        workplace: &mut Workplace<K, D>,
+        number: RecordNo,
+        wait: u64,
+        finished: Finished,
+        moment: u64,
+    ) -> Result<(Reply, Receipt<K, B>), IocError>
+        ensures served { IfOk result (λ x. WasServed {D = D} K.rules B.base D.gives number desk.old moment (Complete number wait finished) x.0 desk.new (world_of workplace.new.store)) }
+        ensures receipt { IfOk result (λ x. x.1 ≡ desk.new.seen) }
+        ensures refused { IfErr result (IsRefused self.now number) }
+        ensures err { OnErr result (desk.new ≡ desk.old) }
+    {
+        let event = Event::Complete(number, wait, finished);
+        self.serve(rt, alloc, desk, workplace, number, &event, moment)
+    }
+
+    /// The text of a field.
+    ///
+    /// # Errors
+    ///
+    /// [`IocError::NoRecord`]: there are no more records than the number says. [`IocError::NoMemory`]. Nothing has changed then. What else
+    /// is refused is a reply, and stands in the journal.
+    pub fn get<R: Wait>(
+        &self,
+        rt: &R,
+        alloc: Global,
+        desk: &mut Desk<K, B>,
+        number: RecordNo,
+        field: FieldNo,
+        moment: u64,
+    ) -> Result<(Reply, Receipt<K, B>), IocError>
+        ensures told { IfOk result (λ x. WasTold {D = D} K.rules B.base number desk.old moment (Get number field) x.0 desk.new) }
+        ensures receipt { IfOk result (λ x. x.1 ≡ desk.new.seen) }
+        ensures refused { IfErr result (IsRefused self.now number) }
+        ensures err { OnErr result (desk.new ≡ desk.old) }
+    {
+        for _ in rt.forever() {
+            let cell = self.sets.lock_of(rt, number)?;
+            let mut held = cell.lock(rt);
+            if held.has(number) {
+                held.is_sound();
+                let (reply, receipt) =
+                    held.get(rt, alloc, &self.book, desk, number, field, moment)?;
+                held.is_sound();
+                return Ok((reply, receipt));
+            }
+        }
+        unreachable!()
+    }
+}

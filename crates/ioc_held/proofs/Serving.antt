@@ -1,0 +1,191 @@
+-- What a holder knows after an event of its own.
+use Rattle.std.proofs.Common.{◌≡◌, ℕ, Bool, true, false, cond, List, [], ◌∷◌, ◌++◌, length, refl, sym, ap, ◌∙◌, subst, zero, suc, arith}
+use Rattle.std.specs.Prelude.{◌==◌, Contains, is_some}
+use Rattle.std.specs.Ordering.{nat_cmp}
+use Rattle.std.specs.FinMap.{FinMap, get}
+use Rattle.atomic_table.specs.Seated.{TableId}
+use Rattle.ioc_device.specs.declared.Ask.{Ask}
+use Rattle.ioc_device.specs.declared.Answer.{Answer}
+use Rattle.ioc_ledger.specs.Requests.{Requests}
+use Rattle.ioc_fields.specs.declared.field_no.FieldNo.{FieldNo}
+use Rattle.ioc_record.specs.RecordRules.{RecordRules}
+use Rattle.ioc_store.specs.World.{World, Has, IsClosed, at, begun, begun_at}
+use Rattle.ioc_store.specs.Given.{Answers, answers_of, listed}
+use Rattle.ioc_events.specs.declared.event.Event.{Event}
+use Rattle.ioc_events.specs.declared.event.Event.TheVariants.{Get, Process, Put, Complete, Link, Notify, Cancel, IsLive}
+use Rattle.ioc_events.specs.declared.event.Entry.{Entry}
+use Rattle.ioc_events.specs.declared.reply.Reply.{Reply}
+use Rattle.ioc_events.specs.Local.{AskAlike}
+use Rattle.ioc_events.specs.Step.{names, stepped}
+use Rattle.ioc_events.specs.StepRules.{Step, KeepsRecords}
+use Rattle.ioc_line.specs.declared.entry.Note.{Note}
+use Rattle.ioc_line.specs.declared.room.View.{View}
+use Rattle.ioc_line.specs.Key.{Key}
+use Rattle.ioc_line.specs.Line.{Continues, holder, noted}
+use Rattle.ioc_line.specs.KeyLaws.{has_left}
+use Rattle.ioc_holding.specs.Legal.{IsLegal, IsSound, key_of, map_of, done}
+use Rattle.ioc_holding.specs.Held.{Holds, Cover, CancelsWithin, IsOf, question_note}
+use Rattle.ioc_holding.specs.Laws.{Lasts, OneMore, Asks, HeldAlike, GoesOn}
+use Rattle.ioc_journal.specs.Account.{journalled, AreRecords, IsHolder, MayFollow, Added}
+use Rattle.ioc_held.specs.Holding.{IsOwner}
+use Rattle.ioc_set.specs.Held.{Held, now_of, folded, done_by, held_after}
+use Rattle.ioc_set.specs.Doing.{is_ordinary, with_place, Does}
+
+one-there : {X : Type 0} (x y : X) → Contains (x ∷ []) y → x ≡ y
+one-there x y (zero, lt, is) = is
+one-there x y (suc i, lt, is) = absurd (omega arith)
+
+false_true : false ≡ true → ⊥
+false_true e = cc
+
+-- such an event names a record
+pub names_one : (event : Event) → is_ordinary event ≡ true → (n : ℕ) × Contains (names event) n
+names_one (Get s field) is = absurd (false_true is)
+names_one (Process s) is = (s, (zero, omega arith, refl))
+names_one (Put s field given) is = (s, (zero, omega arith, refl))
+names_one (Complete s n x) is = (s, (zero, omega arith, refl))
+names_one (Link s field link) is = absurd (false_true is)
+names_one (Notify s n field given) is = absurd (false_true is)
+names_one (Cancel n) is = absurd (false_true is)
+names_one (IsLive n) is = absurd (false_true is)
+
+-- the pass of a holder that has seen more of the list, for records that were there
+pub owner_on : {R : Type 0} (table id id' : TableId) (v v' : View) (seen : List Note) (w w' : World R) → IsOwner table id v w → id' ≡ id → v' ≡ holder seen v.owns → ((n : ℕ) → Has w' n → Has w n) → IsOwner table id' v' w'
+owner_on table id id' v v' seen w w' owner same is only = record {
+  same = same ∙ owner.same;
+  holder = subst (λ (x : View). IsHolder x) (sym is) refl;
+  records = subst (λ (x : View). AreRecords x.owns) (sym is) owner.records;
+  covers = subst (λ (x : View). Cover x.owns w') (sym is) (λ r s. owner.covers r (only r s));
+}
+
+module _ {R : Type 0} (k : RecordRules R) where
+  no_cancel : (m v : World R) (event : Event) → is_ordinary event ≡ true → CancelsWithin k m v event
+  no_cancel m v (Get s field) is = tt
+  no_cancel m v (Process s) is = tt
+  no_cancel m v (Put s field given) is = tt
+  no_cancel m v (Complete s n x) is = tt
+  no_cancel m v (Link s field link) is = tt
+  no_cancel m v (Notify s n field given) is = tt
+  no_cancel m v (Cancel n) is = absurd (false_true is)
+  no_cancel m v (IsLive n) is = tt
+
+  asks_nothing : (w v : World R) (event : Event) → is_ordinary event ≡ true → AskAlike w v event
+  asks_nothing w v (Get s field) is = tt
+  asks_nothing w v (Process s) is = tt
+  asks_nothing w v (Put s field given) is = tt
+  asks_nothing w v (Complete s n x) is = tt
+  asks_nothing w v (Link s field link) is = tt
+  asks_nothing w v (Notify s n field given) is = absurd (false_true is)
+  asks_nothing w v (Cancel n) is = absurd (false_true is)
+  asks_nothing w v (IsLive n) is = absurd (false_true is)
+
+  closed_begun : (w : World R) (moment : ℕ) → IsClosed k w → IsClosed k (begun_at moment w)
+  unfolding at begun_at begun
+  closed_begun w moment c = record { closed = c.closed }
+
+  there_begun : (w : World R) (moment n : ℕ) → Has (begun_at moment w) n → Has w n
+  unfolding begun_at begun
+  there_begun w moment n h = h
+
+  -- what a holder knows of a longer list without its keys
+  module _ (lasts : Lasts k) (base v : World R) (seen : List Note) (owned : List Key) (covers : Cover owned v) (holds : Holds k (map_of k base seen) v) where
+    pub holds_on : (log : List Note) → Continues seen owned log → IsLegal k base log → Holds k (map_of k base log) v
+    holds_on log go legal =
+        subst (λ (l : List Note). Holds k (map_of k base l) v) (sym go.1)
+        (lasts base v seen go.0 holds (λ r s. go.2 (key_of r) (covers r s)) (subst (λ (l : List Note). IsLegal k base l) go.1 legal))
+
+  placed_now : {D : Type 0} (full : Bool) (h : Held R D) → now_of (cond full (folded h) h) ≡ now_of h
+  placed_now true h = refl
+  placed_now false h = refl
+
+module _ {R D : Type 0} (k : RecordRules R) (gives : D → Ask → ℕ → Answer → D → Type 0) (h h' : Held R D) (moment : ℕ) (event : Event) (reply : Reply) (come_to : World R)
+    (does : Does k gives h moment event reply h' come_to) (ordinary : is_ordinary event ≡ true) (there : (n : ℕ) → Contains (names event) n → Has (now_of h) n) where
+  abbrev e : Entry
+  e = does.entry
+
+  abbrev after : World R
+  after = (done_by k (now_of h) e).world
+
+  was_now : now_of (with_place h) ≡ now_of h
+  was_now = placed_now k (length h.history == 64) h
+
+  used : answers_of after.calls ≡ e.answers
+  used = subst (λ (w : World R). answers_of (done_by k w e).world.calls ≡ e.answers) was_now does.tells.answers
+
+  replied : (done_by k (now_of h) e).reply ≡ e.reply
+  replied = subst (λ (w : World R). (done_by k w e).reply ≡ e.reply) was_now does.tells.reply
+
+  -- the entry, by what stands where the event was done
+  pub entry_is : (answers : List Answer) → answers ≡ answers_of come_to.calls → e ≡ record { moment = moment; event = event; answers = answers; reply = reply }
+  entry_is answers copied =
+      let told : e.answers ≡ answers = sym used ∙ ap (λ (w : World R). answers_of w.calls) (sym does.left) ∙ sym copied in
+      λ i. record { moment = does.moment i; event = does.event i; answers = told i; reply = does.answer i }
+
+  now_then : now_of h' ≡ now_of (held_after k (with_place h) e h'.devices)
+  now_then = ap (λ (z : Held R D). now_of z) does.after
+
+  records_then : (now_of h').records ≡ after.records
+  records_then = ap (λ (w : World R). w.records) now_then ∙ ap (λ (w : World R). (done_by k w e).world.records) was_now
+
+  waiting_then : (now_of h').waiting ≡ after.waiting
+  waiting_then = ap (λ (w : World R). w.waiting) now_then ∙ ap (λ (w : World R). (done_by k w e).world.waiting) was_now
+
+  module _ (lasts : Lasts k) (one_more : OneMore k) (alike : HeldAlike k)
+      (allowed : (answers : Answers) (w : World R) (event : Event) → Step k answers w event (stepped k answers w event).world (stepped k answers w event).reply (stepped k answers w event).requests)
+      (kept : (answers : Answers) (w after : World R) (event : Event) (reply : Reply) (requests : Requests) → Step k answers w event after reply requests → IsClosed k w → KeepsRecords w after)
+      (base : World R) (seen : List Note) (owned : List Key) (covers : Cover owned (now_of h)) (holds : Holds k (map_of k base seen) (now_of h)) where
+    goes_on : (log : List Note) (desk call : ℕ) (own : List Key) → IsSound k base → Continues seen owned log → IsLegal k base log
+        → GoesOn k base log (noted (journalled desk call e) (owned ++ own)) (λ m. Holds k m after)
+    unfolding done
+    goes_on log desk call own sound go legal =
+        let ours : is_ordinary e.event ≡ true = ap is_ordinary does.event ∙ ordinary in
+        one_more base (now_of h) after log (noted (journalled desk call e) (owned ++ own)) sound legal (holds_on k lasts base (now_of h) seen owned covers holds log go legal)
+        (record {
+          named = λ r c. there r (subst (λ (x : Event). Contains (names x) r) does.event c);
+          cancels = no_cancel k (map_of k base log) (now_of h) e.event ours;
+          asks = asks_nothing k (begun_at e.moment (now_of h)) (begun_at e.moment (map_of k base log)) e.event ours;
+          covers = λ r s. has_left (key_of r) owned own (covers r s);
+        })
+        (record { world = refl; reply = replied; used = used })
+
+    -- any legal list goes on with it
+    pub may_follow : (done_entry : Entry) → e ≡ done_entry → MayFollow k base seen owned done_entry
+    may_follow done_entry is = subst (λ (x : Entry). MayFollow k base seen owned x) is (λ log desk call own sound go legal. (goes_on log desk call own sound go legal).legal)
+
+    -- and what is held then is what the world has there
+    pub held_then : (done_entry : Entry) → e ≡ done_entry → (log longer : List Note) → Added k base seen owned done_entry log longer → Holds k (map_of k base longer) (now_of h')
+    held_then done_entry is log longer added =
+        let a = subst (λ (x : Entry). Added k base seen owned x log longer) (sym is) added in
+        let known = (goes_on log a.desk a.call a.own a.sound a.goes_on a.legal).known in
+        alike (map_of k base longer) after (now_of h') (subst (λ (l : List Note). Holds k (map_of k base l) after) (sym a.ends) known) records_then waiting_then
+
+    -- no record has come
+    pub only : (n : ℕ) → Has (now_of h') n → Has (now_of h) n
+    only n has =
+        let step = allowed (listed e.answers) (begun_at e.moment (now_of h)) e.event in
+        there_begun k (now_of h) e.moment n
+        ((kept (listed e.answers) (begun_at e.moment (now_of h)) after e.event (done_by k (now_of h) e).reply (done_by k (now_of h) e).requests step (closed_begun k (now_of h) e.moment holds.shut)).only n
+        (subst (λ (rs : FinMap nat_cmp R). is_some (get rs n) ≡ true) records_then has))
+
+-- a get that what is held answers
+module _ {R : Type 0} (k : RecordRules R) (lasts : Lasts k) (asks : Asks k) (base v : World R) (moment s : ℕ) (field : FieldNo) (reply : Reply)
+    (answer : (answers : Answers) → reply ≡ (stepped k answers v (Get s field)).reply) (there : Has v s)
+    (seen : List Note) (owned : List Key) (covers : Cover owned v) (holds : Holds k (map_of k base seen) v) where
+  abbrev pub got : Entry
+  got = record { moment = moment; event = Get s field; answers = []; reply = reply }
+
+  get_goes_on : (log : List Note) (desk call : ℕ) (own : List Key) → IsSound k base → Continues seen owned log → IsLegal k base log
+      → GoesOn k base log (noted (journalled desk call got) (owned ++ own)) (λ m. Holds k m v)
+  get_goes_on log desk call own sound go legal =
+      let none : Answers = listed [] in
+      subst (λ (r : Reply). IsOf k (map_of k base log) v (question_note desk call moment (Get s field) r (owned ++ own)) → GoesOn k base log (question_note desk call moment (Get s field) r (owned ++ own)) (λ m. Holds k m v)) (sym (answer none))
+      (asks base v log desk call moment (Get s field) none (owned ++ own) refl sound legal (holds_on k lasts base v seen owned covers holds log go legal))
+      (record { named = λ r c. subst (λ (n : ℕ). Has v n) (one-there s r c) there; cancels = tt; asks = tt; covers = λ r h. has_left (key_of r) owned own (covers r h) })
+
+  pub get_may_follow : (entry : Entry) → got ≡ entry → MayFollow k base seen owned entry
+  get_may_follow entry is = subst (λ (x : Entry). MayFollow k base seen owned x) is (λ log desk call own sound go legal. (get_goes_on log desk call own sound go legal).legal)
+
+  pub held_after_get : (entry : Entry) → got ≡ entry → (log longer : List Note) → Added k base seen owned entry log longer → Holds k (map_of k base longer) v
+  held_after_get entry is log longer added =
+      let a = subst (λ (x : Entry). Added k base seen owned x log longer) (sym is) added in
+      subst (λ (l : List Note). Holds k (map_of k base l) v) (sym a.ends) (get_goes_on log a.desk a.call a.own a.sound a.goes_on a.legal).known

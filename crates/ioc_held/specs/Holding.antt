@@ -1,0 +1,77 @@
+-- Sets under their locks, and the calls on them.
+-- Application Developer's Guide, "Database Locking, Scanning, and Processing". The journal is this project's own.
+use Rattle.std.specs.Prelude.{◌≡◌, ℕ, List, [], Option, MatchOption, unwrap_or}
+use Rattle.std.specs.Option.{option_map}
+use Rattle.std.specs.FinMap.{keys}
+use Rattle.atomic_table.specs.Seated.{TableId}
+use Rattle.atomic_table.specs.declared.shared.Seat.{Seat}
+use Rattle.crossbeam_utils.specs.declared.atomic.seq_cell.Doing.{Doing}
+use Rattle.crossbeam_utils.specs.Seq.{cell_view}
+use Rattle.ioc_device.specs.declared.Ask.{Ask}
+use Rattle.ioc_device.specs.declared.Answer.{Answer}
+use Rattle.ioc_record.specs.RecordRules.{RecordRules}
+use Rattle.ioc_store.specs.World.{World, Has}
+use Rattle.ioc_store.specs.Given.{Answers}
+use Rattle.ioc_events.specs.declared.event.Event.{Event}
+use Rattle.ioc_events.specs.declared.reply.Reply.{Reply}
+use Rattle.ioc_events.specs.Step.{stepped}
+use Rattle.ioc_line.specs.declared.entry.Note.{Note}
+use Rattle.ioc_line.specs.declared.room.View.{View}
+use Rattle.ioc_holding.specs.Legal.{map_of}
+use Rattle.ioc_holding.specs.Held.{Holds, Cover}
+use Rattle.ioc_journal.specs.Account.{DeskView, IsHolder, AreRecords, Call}
+use Rattle.ioc_set.specs.Held.{Held, now_of}
+use Rattle.ioc_set.specs.Sound.{IsSound}
+use Rattle.ioc_set.specs.Doing.{Does}
+
+-- what a set holds, and the beginning of the journal's list that its holder has seen
+pub record HeldView (R D : Type 0) : Type 0 where
+  pub set : Held R D
+  pub seen : List Note
+
+abbrev pub held_view : {R D : Type 0} → Held R D → List Note → HeldView R D
+held_view h seen = record { set = h; seen = seen }
+
+-- the numbers of its records
+abbrev pub numbers_of : {R D : Type 0} → HeldView R D → List ℕ
+numbers_of v = keys v.set.records
+
+-- a pass of the journal's cell
+abbrev pub Pass : Type 0
+Pass = Seat (List ℕ) (Doing (List ℕ) View)
+
+-- what the holder has seen; without a pass it has seen nothing
+abbrev pub seen_by : Option Pass → List Note
+seen_by pass = unwrap_or (option_map (λ (p : Pass). (cell_view {V = View} p).seen) pass) []
+
+-- the pass is one of this engine, and owns the keys of these records
+pub record IsOwner {R : Type 0} (table id : TableId) (v : View) (w : World R) : Type 0 where
+  pub same : id ≡ table
+  pub holder : IsHolder v
+  pub records : AreRecords v.owns
+  pub covers : Cover v.owns w
+
+module _ {R D : Type 0} (k : RecordRules R) (base : World R) where
+  -- the holder of a set has a pass for its records, and what the set holds is what the world of all records has there
+  pub record IsHeld (table : TableId) (pass : Option Pass) (h : Held R D) : Type 0 where
+    pub owner : MatchOption pass ((n : ℕ) → Has (now_of h) n → ⊥) (λ (p : Pass). IsOwner table p.table_id (cell_view {V = View} p) (now_of h))
+    pub holds : Holds k (map_of k base (seen_by pass)) (now_of h)
+
+  -- what holds of a set and of its holder whenever its lock is free
+  pub record IsSoundlyHeld (v : HeldView R D) : Type 0 where
+    pub sound : IsSound k v.set
+    pub holds : Holds k (map_of k base v.seen) (now_of v.set)
+
+  -- a question of a desk is answered by what a set holds, and stands at the end of the legal list that desk and holder have seen then
+  pub record Tells (held : HeldView R D) (desk : DeskView) (at_moment : ℕ) (asked : Event) (reply : Reply) (held_then : HeldView R D) (desk_then : DeskView) : Type 0 where
+    pub answer : (answers : Answers) → reply ≡ (stepped k answers (now_of held.set) asked).reply
+    pub set : held_then.set ≡ held.set
+    pub call : Call k base desk (record { moment = at_moment; event = asked; answers = []; reply = reply }) desk_then
+    pub seen : held_then.seen ≡ desk_then.seen
+
+module _ {R D : Type 0} (k : RecordRules R) (gives : D → Ask → ℕ → Answer → D → Type 0) (base : World R) where
+  -- an event of a desk is done on a set, and stands at the end of the legal list that desk and holder have seen then
+  pub record Serves (held : HeldView R D) (desk : DeskView) (at_moment : ℕ) (done : Event) (reply : Reply) (held_then : HeldView R D) (desk_then : DeskView) (come_to : World R) : Type 0 where
+    pub does : Does k gives held.set at_moment done reply held_then.set come_to
+    pub call : Call k base desk does.entry desk_then
+    pub seen : held_then.seen ≡ desk_then.seen

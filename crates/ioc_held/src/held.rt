@@ -1,0 +1,236 @@
+//! Sets that are held.
+ghost use Rattle.std.specs.Prelude.{◌≡◌, ℕ, true, IfOk, OnErr, Contains};
+ghost use Rattle.crossbeam_utils.specs.Seq.{cell_view};
+ghost use Rattle.ioc_events.specs.declared.event.Event.TheVariants.{Get, Process, Put, Complete};
+ghost use Rattle.ioc_events.specs.Step.{names};
+ghost use Rattle.ioc_holding.specs.Held.{Holds};
+ghost use Rattle.ioc_holding.specs.Legal.{map_of};
+ghost use Rattle.ioc_set.specs.Held.{now_of};
+ghost use Rattle.ioc_set.specs.Doing.{is_ordinary};
+ghost use Rattle.ioc_set.specs.SetStore.{world_of};
+ghost use Rattle.ioc_held.specs.Holding.{IsOwner, held_view, numbers_of, Serves, Tells};
+
+use crate::running::{answers_in, run_in};
+use ioc_device::Device;
+use ioc_events::event_rules::{events_keep_records, rules_are_steps};
+use ioc_events::{Entry, Event, KeptAnswers, Reply};
+use ioc_fields::FieldNo;
+use ioc_holding::laws::{events_are_held, holding_lasts, parts_share_what_is_held};
+use ioc_journal::{Base, Book, Desk, Receipt};
+use ioc_line::Token;
+use ioc_names::RecordNo;
+use ioc_record::RecordKind;
+use ioc_set::{LockSet, Workplace};
+use ioc_values::{Finished, Input};
+use std::alloc::{AllocError, Global};
+use std::marker::{Model, PhantomData};
+use std::sync::Wait;
+
+/// A set, and the pass that owns the keys of its records; a set of no records needs none. Contracts see what the set holds, and the beginning
+/// of the journal's list that its holder has seen: what the set holds is what the world of all records has there.
+#[derive(Drop)]
+pub struct Held<K: RecordKind, B: Base<K>, D> {
+    pub(crate) set: LockSet<K, D>,
+    pub(crate) pass: Option<Token>,
+    pub(crate) of: PhantomData<B>,
+}
+
+impl<K: RecordKind, B: Base<K>, D> Model for Held<K, B, D> {
+    ghost use Rattle.ioc_held.specs.Holding.{HeldView};
+    ghost use Rattle.ioc_held.specs.HeldViewCode.{held_view_code};
+
+    ghost Value = { HeldView K D };
+
+    ghost coded = { held_view_code K.code D.code };
+
+    ghost use Rattle.ioc_held.specs.Holding.{held_view, seen_by, IsHeld};
+
+    ghost view = { λ h. held_view h.set (seen_by h.pass) };
+
+    ghost invariant = { λ h. IsHeld K.rules B.base B.table h.pass h.set };
+}
+
+impl<K: RecordKind, B: Base<K>, D> Held<K, B, D> {
+    /// A set, whose holder knows that the world has its records.
+    pub fn new(set: LockSet<K, D>, pass: Token) -> Self
+        requires owner { IsOwner B.table pass.table_id (cell_view pass) (now_of set) }
+        requires holds { Holds K.rules (map_of K.rules B.base (cell_view pass).seen) (now_of set) }
+        ensures { result ≡ held_view set (cell_view pass).seen }
+    {
+        Held {
+            set,
+            pass: Some(pass),
+            of: PhantomData,
+        }
+    }
+}
+
+impl<K: RecordKind + Drop, B: Base<K>, D: Device> Held<K, B, D> {
+    /// Does a request, a put or a completion on the set, and keeps it in the journal.
+    ///
+    /// # Errors
+    ///
+    /// [`AllocError`] where memory is wanting or the desk's numbers are used up: nothing has changed then.
+    pub fn serve<R: Wait>(
+        &mut self,
+        rt: &R,
+        alloc: Global,
+        book: &Book<K, B>,
+        desk: &mut Desk<K, B>,
+        workplace: &mut Workplace<K, D>,
+        event: &Event,
+        moment: u64,
+    ) -> Result<(Reply, Receipt<K, B>), AllocError>
+        requires ordinary { is_ordinary event.now ≡ true }
+        requires there { (n : ℕ) → Contains (names event.now) n → Contains (numbers_of self.old) n }
+        ensures serves { IfOk result (λ x. Serves K.rules D.gives B.base self.old desk.old moment event.now x.0 self.new desk.new (world_of workplace.new.store)) }
+        ensures receipt { IfOk result (λ x. x.1 ≡ desk.new.seen) }
+        ensures err { OnErr result ((self.new ≡ self.old) × (desk.new ≡ desk.old)) }
+    {
+        rules_are_steps::<K>();
+        events_keep_records::<K>();
+        holding_lasts::<K>();
+        events_are_held::<K>();
+        parts_share_what_is_held::<K>();
+        let room = Vec::with_capacity(alloc, 256)?;
+        let place = book.reserve(rt, desk)?;
+        let reply = match run_in(&mut self.set, workplace, alloc, event, moment) {
+            Ok(reply) => reply,
+            Err(refused) => {
+                book.give_back(rt, place);
+                return Err(refused);
+            }
+        };
+        let answer = &reply;
+        let entry = Entry {
+            moment,
+            event: *event,
+            answers: answers_in(workplace, room),
+            reply: *answer,
+        };
+        let Some(mut pass) = self.pass.take() else {
+            unreachable!();
+        };
+        let receipt = book.append(rt, place, &mut pass, desk, entry);
+        self.pass = Some(pass);
+        Ok((*answer, receipt))
+    }
+
+    /// Requests a record, and keeps it in the journal.
+    ///
+    /// # Errors
+    ///
+    /// [`AllocError`] where memory is wanting or the desk's numbers are used up: nothing has changed then.
+    pub fn request<R: Wait>(
+        &mut self,
+        rt: &R,
+        alloc: Global,
+        book: &Book<K, B>,
+        desk: &mut Desk<K, B>,
+        workplace: &mut Workplace<K, D>,
+        number: RecordNo,
+        moment: u64,
+    ) -> Result<(Reply, Receipt<K, B>), AllocError>
+        requires there { Contains (numbers_of self.old) number }
+        ensures serves { IfOk result (λ x. Serves K.rules D.gives B.base self.old desk.old moment (Process number) x.0 self.new desk.new (world_of workplace.new.store)) }
+        ensures receipt { IfOk result (λ x. x.1 ≡ desk.new.seen) }
+        ensures err { OnErr result ((self.new ≡ self.old) × (desk.new ≡ desk.old)) }
+    {
+        let event = Event::Process(number);
+        self.serve(rt, alloc, book, desk, workplace, &event, moment)
+    }
+
+    /// Puts a value into a field, as [`LockSet::put`] does, and keeps it in the journal.
+    ///
+    /// # Errors
+    ///
+    /// [`AllocError`] where memory is wanting or the desk's numbers are used up: nothing has changed then. A refusal is a reply, which the
+    /// journal keeps too.
+    pub fn put<R: Wait>(
+        &mut self,
+        rt: &R,
+        alloc: Global,
+        book: &Book<K, B>,
+        desk: &mut Desk<K, B>,
+        workplace: &mut Workplace<K, D>,
+        number: RecordNo,
+        field: FieldNo,
+        given: Input,
+        moment: u64,
+    ) -> Result<(Reply, Receipt<K, B>), AllocError>
+        requires there { Contains (numbers_of self.old) number }
+        ensures serves { IfOk result (λ x. Serves K.rules D.gives B.base self.old desk.old moment (Put number field given) x.0 self.new desk.new (world_of workplace.new.store)) }
+        ensures receipt { IfOk result (λ x. x.1 ≡ desk.new.seen) }
+        ensures err { OnErr result ((self.new ≡ self.old) × (desk.new ≡ desk.old)) }
+    {
+        let event = Event::Put(number, field, given);
+        self.serve(rt, alloc, book, desk, workplace, &event, moment)
+    }
+
+    /// The device of a record has answered at last, as for [`LockSet::complete`]; the journal keeps it.
+    ///
+    /// # Errors
+    ///
+    /// [`AllocError`] where memory is wanting or the desk's numbers are used up: nothing has changed then. A refusal is a reply, which the
+    /// journal keeps too.
+    pub fn complete<R: Wait>(
+        &mut self,
+        rt: &R,
+        alloc: Global,
+        book: &Book<K, B>,
+        desk: &mut Desk<K, B>,
+        workplace: &mut Workplace<K, D>,
+        number: RecordNo,
+        wait: u64,
+        finished: Finished,
+        moment: u64,
+    ) -> Result<(Reply, Receipt<K, B>), AllocError>
+        requires there { Contains (numbers_of self.old) number }
+        ensures serves { IfOk result (λ x. Serves K.rules D.gives B.base self.old desk.old moment (Complete number wait finished) x.0 self.new desk.new (world_of workplace.new.store)) }
+        ensures receipt { IfOk result (λ x. x.1 ≡ desk.new.seen) }
+        ensures err { OnErr result ((self.new ≡ self.old) × (desk.new ≡ desk.old)) }
+    {
+        let event = Event::Complete(number, wait, finished);
+        self.serve(rt, alloc, book, desk, workplace, &event, moment)
+    }
+
+    /// The text of a field, kept in the journal with its moment. It changes nothing in the set.
+    ///
+    /// # Errors
+    ///
+    /// [`AllocError`] where memory is wanting or the desk's numbers are used up: nothing has changed then. A refusal is a reply, which the
+    /// journal keeps too.
+    pub fn get<R: Wait>(
+        &mut self,
+        rt: &R,
+        alloc: Global,
+        book: &Book<K, B>,
+        desk: &mut Desk<K, B>,
+        number: RecordNo,
+        field: FieldNo,
+        moment: u64,
+    ) -> Result<(Reply, Receipt<K, B>), AllocError>
+        requires there { Contains (numbers_of self.old) number }
+        ensures tells { IfOk result (λ x. Tells K.rules B.base self.old desk.old moment (Get number field) x.0 self.new desk.new) }
+        ensures receipt { IfOk result (λ x. x.1 ≡ desk.new.seen) }
+        ensures err { OnErr result ((self.new ≡ self.old) × (desk.new ≡ desk.old)) }
+    {
+        holding_lasts::<K>();
+        events_are_held::<K>();
+        let place = book.reserve(rt, desk)?;
+        let reply = self.set.get(number, field);
+        let text = &reply;
+        let entry = Entry {
+            moment,
+            event: Event::Get(number, field),
+            answers: KeptAnswers::new(Vec::new(alloc)),
+            reply: *text,
+        };
+        let Some(mut pass) = self.pass.take() else {
+            unreachable!();
+        };
+        let receipt = book.append(rt, place, &mut pass, desk, entry);
+        self.pass = Some(pass);
+        Ok((*text, receipt))
+    }
+}

@@ -1,0 +1,11 @@
+//! What lies under the lock of a set: the set, and what its holder knows of the journal.
+//!
+//! Each event on a set is kept in the journal while the set's lock is held. So all that was done on all sets stands in one list, by which an
+//! engine with all records in one map could have done it, with the same replies.
+#![tactic(auto)]
+
+pub mod held;
+mod locked;
+mod running;
+
+pub use held::Held;
