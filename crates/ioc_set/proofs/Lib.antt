@@ -11,3 +11,4 @@ mod Anew
 mod Rescans
 mod LinkEvents
 mod Linked
+mod PartLaws
