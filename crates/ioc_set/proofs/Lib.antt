@@ -12,3 +12,4 @@ mod Rescans
 mod LinkEvents
 mod Linked
 mod PartLaws
+mod LeadLaws
