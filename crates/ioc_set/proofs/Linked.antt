@@ -1,6 +1,6 @@
 -- What holds of lock sets after a link change.
-use Rattle.std.proofs.Common.{◌≡◌, ℕ, ◌<◌, ◌^◌, List, [], Option, Some, refl, sym, ap, subst, ◌∙◌}
-use Rattle.std.specs.Prelude.{IsSome, is_some, None}
+use Rattle.std.proofs.Common.{◌≡◌, ℕ, ◌<◌, ◌^◌, List, [], refl, sym, ap, subst, ◌∙◌}
+use Rattle.std.specs.Prelude.{IsSome}
 use Rattle.std.specs.FinMap.{get, len}
 use Rattle.ioc_fields.specs.declared.field_no.FieldNo.{FieldNo}
 use Rattle.ioc_common.specs.declared.link_field.LinkField.{LinkField}
@@ -8,11 +8,11 @@ use Rattle.ioc_ledger.specs.declared.tally.Tally.{Tally}
 use Rattle.ioc_record.specs.RecordRules.{RecordRules}
 use Rattle.ioc_record.specs.Laws.{IsLawful}
 use Rattle.ioc_members.specs.Contents.{Records, Devices, Contents, nothing, record_at, RecordsAreLikeTheirBase}
-use Rattle.ioc_members.specs.Joined.{links_of, IsPart, HasLink, AreShared, relinked}
-use Rattle.ioc_store.specs.World.{World, Has, Keeps, at, begun, begun_at}
+use Rattle.ioc_members.specs.Joined.{links_of, IsPart, AreShared, relinked}
+use Rattle.ioc_store.specs.World.{Has, Keeps, at, begun, begun_at}
 use Rattle.ioc_store.specs.Scanning.{rewired}
 use Rattle.ioc_events.specs.declared.event.Entry.{Entry}
-use Rattle.ioc_set.specs.Held.{Held, resting, now_of, folded, no_counts, nothing_held}
+use Rattle.ioc_set.specs.Held.{Held, resting, now_of, no_counts}
 use Rattle.ioc_set.specs.Doing.{held_by}
 use Rattle.ioc_set.specs.Linking.{anew, added, AreCalm, FallsApart, BecomeOne}
 use Rattle.ioc_set.specs.Sound.{IsSound}

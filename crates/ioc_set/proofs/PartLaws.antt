@@ -1,5 +1,5 @@
 -- A link change after which a set falls apart: what its steps come to.
-use Rattle.std.proofs.Common.{◌≡◌, ℕ, List, [], refl, sym, ap, subst, ◌∙◌}
+use Rattle.std.proofs.Common.{◌≡◌, ℕ, List, [], sym, ap, subst, ◌∙◌}
 use Rattle.std.specs.Prelude.{IsSome}
 use Rattle.std.specs.FinMap.{get}
 use Rattle.ioc_fields.specs.declared.field_no.FieldNo.{FieldNo}

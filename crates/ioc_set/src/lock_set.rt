@@ -1,12 +1,13 @@
 //! Lock sets.
-ghost use Rattle.std.specs.Prelude.{◌≡◌, ◌<◌, ◌≤◌, ◌+◌, ◌^◌, ℕ, true, [], ◌∷◌, None, IsSome, Contains, IfOk, OnOk, OnErr, slice_get, vec_len, vec_capacity};
+ghost use Rattle.std.specs.Prelude.{◌≡◌, ◌<◌, ◌≤◌, ◌+◌, ◌^◌, ◌↔◌, ℕ, true, [], ◌∷◌, None, IsSome, IsTrue, Contains, IfOk, OnOk, OnErr, slice_get, vec_len, vec_capacity};
 ghost use Rattle.std.specs.FinMap as map;
 ghost use Rattle.ioc_events.specs.declared.event.Event.TheVariants.{Process, Put, Complete, Get};
 ghost use Rattle.ioc_events.specs.Step.{stepped};
 ghost use Rattle.ioc_store.specs.Given.{Answers};
 ghost use Rattle.ioc_common.specs.Links.{use_of, named_by};
 ghost use Rattle.ioc_store.specs.Scanning.{device_of, rewired};
-ghost use Rattle.ioc_store.specs.World.{Has, at, begun_at};
+ghost use Rattle.ioc_record.specs.Values.{stops_put};
+ghost use Rattle.ioc_store.specs.World.{Has, at, common_at, begun_at};
 ghost use Rattle.ioc_members.specs.Contents.{RecordsAreLikeTheirBase};
 ghost use Rattle.ioc_members.specs.Joined.{links_of, IsPart, HasLink, HasFreeLink, relinked};
 ghost use Rattle.ioc_set.specs.Held.{now_of, resting, nothing_held, no_counts, folded};
@@ -27,7 +28,7 @@ use ioc_ledger::Tally;
 use ioc_links::MAX_DEVICE_BYTES;
 use ioc_members::{Members, Room};
 use ioc_names::RecordNo;
-use ioc_record::{RecordKind, text_of};
+use ioc_record::{RecordKind, stops_put, text_of};
 use ioc_store::scan_change::device_of;
 use ioc_values::{Finished, Input, IocError, Short};
 use std::alloc::{AllocError, Global};
@@ -274,6 +275,42 @@ impl<K: RecordKind, D> LockSet<K, D> {
             base_tally: tally,
             history: Vec::new(alloc),
         }
+    }
+
+    /// Is there a record of this number, and is the field one of its link fields?
+    pub fn has_link(&self, number: RecordNo, field: FieldNo) -> bool
+        ensures { IsTrue result ↔ HasLink K.rules self.now.records number field }
+    {
+        self.members.has_link(number, field)
+    }
+
+    /// Does DISP of a record that is there forbid a change of this field?
+    pub fn forbids(&self, number: RecordNo, field: FieldNo) -> bool
+        requires { Has (now_of self.now) number }
+        ensures { result ≡ stops_put (common_at K.rules (now_of self.now) number) field }
+    {
+        stops_put(self.members.record(number).common(), field)
+    }
+
+    /// Does the link name no record but one that is there?
+    pub fn leads_within(&self, link: &KeptLink) -> bool
+        ensures { IsTrue result ↔ ((t : ℕ) → Contains (named_by (use_of link.now)) t → IsSome (map.get self.now.records t)) }
+    {
+        self.members.leads_within(link)
+    }
+
+    /// Does the link name a record that is there?
+    pub fn leads_into(&self, link: &KeptLink) -> bool
+        ensures { IsTrue result ↔ ((t : ℕ) × (named_by (use_of link.now) ≡ t ∷ []) × IsSome (map.get self.now.records t)) }
+    {
+        self.members.leads_into(link)
+    }
+
+    /// Is no record in both?
+    pub fn is_apart(&self, other: &LockSet<K, D>) -> bool
+        ensures { IsTrue result ↔ ((q : ℕ) → IsSome (map.get self.now.records q) → map.get other.now.records q ≡ None) }
+    {
+        self.members.is_apart(&other.members)
     }
 
     /// On a free set no put with notification is live, and none waits.

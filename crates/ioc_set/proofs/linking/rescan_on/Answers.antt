@@ -1,4 +1,4 @@
-use Rattle.std.proofs.Common.{◌≡◌, ◌∙◌, ℕ, [], Option, refl, sym, ap}
+use Rattle.std.proofs.Common.{◌∙◌, [], refl, ap}
 use Rattle.std.specs.FinMap.{len}
 use Rattle.ioc_members.specs.Contents.{Contents}
 use Rattle.ioc_store.specs.Given.{Given}

@@ -1,12 +1,10 @@
-use Rattle.std.proofs.Common.{◌≡◌, ◌∙◌, refl, ap, subst, sym}
+use Rattle.std.proofs.Common.{◌∙◌, refl, ap, subst, sym}
 use Rattle.std.specs.Prelude.{IsSome}
 use Rattle.std.specs.FinMap.{get}
-use Rattle.ioc_members.specs.Contents.{Records, Contents}
-use Rattle.ioc_members.specs.Joined.{links_of, IsPart}
+use Rattle.ioc_members.specs.Contents.{Contents}
 use Rattle.ioc_store.specs.World.{World}
 use Rattle.ioc_set.specs.Held.{Held}
 use Rattle.ioc_set.specs.Doing.{held_by}
-use Rattle.ioc_set.specs.Linking.{AreCalm}
 use Rattle.ioc_set.proofs.Linked.{anew_holds, rescanned_part, rescanned_calm, rescanned_like}
 use Rattle.ioc_set.proofs.lock_set.LockSet.rescan.Goals as goal
 
