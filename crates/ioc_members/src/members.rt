@@ -346,6 +346,7 @@ impl<K: RecordKind + Drop, D: Drop> Members<K, D> {
         ensures shared { IfOk result (λ rest. AreShared (map.get (relinked K.rules self.old.records number field link)) (map.get self.new.records) (map.get rest.records)) }
         ensures devices { IfOk result (λ rest. AreShared (map.get self.old.devices) (map.get self.new.devices) (map.get rest.devices)) }
         ensures own { OnOk result (IsSome (map.get self.new.records number)) }
+        ensures fewer { OnOk result (map.len self.new.records ≤ map.len self.old.records) }
         ensures stay { OnOk result (IsPart (links_of K.rules self.new.records)) }
         ensures rest { IfOk result (λ rest. IsPart (links_of K.rules rest.records)) }
         ensures base { OnOk result (self.new.base ≡ self.new.records) }

@@ -24,7 +24,7 @@ use Rattle.ioc_set.specs.Held.{Held, resting, now_of}
 use Rattle.ioc_set.specs.Linking.{anew, IsCalm, AreCalm}
 use Rattle.ioc_set.specs.Sound.{IsSound, CountsAddUp}
 
-none_in : {A : Type 0} (x : A) → Contains [] x → ⊥
+pub none_in : {A : Type 0} (x : A) → Contains [] x → ⊥
 none_in x c = let l = c.1 in omega arith
 
 pub none_some : {A : Type 0} (o : Option A) → o ≡ None → IsSome o → ⊥

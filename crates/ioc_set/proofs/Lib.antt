@@ -12,3 +12,5 @@ mod Counts
 mod Rescans
 mod LinkEvents
 mod Linked
+mod PartLaws
+mod LeadLaws

@@ -57,7 +57,7 @@ module _ {R : Type 0} (k : RecordRules R) where
   module _ (moment s : ℕ) (before : List ℕ) where
     -- an event begins on these records
     abbrev begins : Records R → World R
-    begins rs = record { records = rs; moment = moment; calls = []; outbox = []; dropped = 0; live = []; ended = []; waiting = [] }
+    begins rs = begun_at moment (resting rs [] [])
 
     -- the record stands for the same device, or not; and there is a number for a change of its scan list, or not
     abbrev numbered : R → R
@@ -77,7 +77,7 @@ module _ {R : Type 0} (k : RecordRules R) where
     has_room r = nat_lt (k.common r).last_change (2 ^ 64 - 1)
 
     goes : (rs : Records R) → rewired k before (begins rs) s ≡ rescans (is_same (record_at k rs s)) (has_room (record_at k rs s)) rs (record_at k rs s)
-    unfolding rewired moved changed put sent lost at
+    unfolding rewired moved changed put sent lost at begun_at begun
     goes rs = refl
 
     goes_on : (rs : Records R) (r : R) → record_at k rs s ≡ r → rewired k before (begins rs) s ≡ rescans (is_same r) (has_room r) rs r
@@ -85,6 +85,7 @@ module _ {R : Type 0} (k : RecordRules R) where
 
     -- beside the records it comes to the same on other records, if that record is the same there
     alike : (same room : Bool) (r : R) (some others : Records R) → with_records (rescans same room some r).records (rescans same room others r) ≡ rescans same room some r
+    unfolding begun_at begun
     alike true room r some others = refl
     alike false true r some others = refl
     alike false false r some others = refl
@@ -122,6 +123,7 @@ module _ {R : Type 0} (k : RecordRules R) where
 
     shared_rescanned : (same room : Bool) (r : R) (all one rest : Records R) → AreShared (get all) (get one) (get rest) → IsSome (get one s)
         → AreShared (get (rescans same room all r).records) (get (rescans same room one r).records) (get rest)
+    unfolding begun_at begun
     shared_rescanned true room r all one rest shared there = shared
     shared_rescanned false true r all one rest shared there = shared_set (numbered r) all one rest shared there
     shared_rescanned false false r all one rest shared there = shared

@@ -4,14 +4,17 @@ use Rattle.std.specs.Prelude.{◌≡◌, ◌↔◌, ℕ, [], IsSome, IsTrue, Non
 use Rattle.std.specs.FinMap.{get}
 use Rattle.ioc_fields.specs.declared.field_no.FieldNo.{FieldNo}
 use Rattle.ioc_common.specs.declared.link_field.LinkField.{LinkField}
+use Rattle.ioc_common.specs.Links.{no_link}
 use Rattle.ioc_ledger.specs.declared.tally.Tally.{Tally}
 use Rattle.ioc_ledger.specs.Requests.{filled}
 use Rattle.ioc_record.specs.RecordRules.{RecordRules}
 use Rattle.ioc_members.specs.Contents.{Records, Devices, record_at}
-use Rattle.ioc_members.specs.Joined.{AreShared}
-use Rattle.ioc_store.specs.World.{World, at, put}
+use Rattle.ioc_members.specs.Joined.{AreShared, relinked}
+use Rattle.ioc_store.specs.World.{World, at, put, begun_at}
 use Rattle.ioc_store.specs.Scanning.{device_of, rewired}
-use Rattle.ioc_set.specs.Held.{Held, no_counts, nothing_held}
+use Rattle.ioc_set.specs.Held.{Held, now_of, no_counts, nothing_held}
+use Rattle.ioc_set.specs.Doing.{with_records}
+use Rattle.ioc_set.specs.Sound.{IsSound}
 
 -- a set that begins anew with these records, devices and counts: it has no history, and no put with notification is live on it
 abbrev pub anew : {R D : Type 0} → Records R → Devices D → Tally → Held R D
@@ -50,6 +53,10 @@ module _ {R : Type 0} (k : RecordRules R) where
   abbrev pub with_link_changed : World R → ℕ → FieldNo → LinkField → World R
   with_link_changed w s field link = rewired k (device_of k (at k w s)) (put w s (k.with_link (at k w s) field link)) s
 
+  -- what a link change at a moment comes to, of what a set holds
+  abbrev pub link_change_of : {D : Type 0} → Held R D → ℕ → ℕ → FieldNo → LinkField → World R
+  link_change_of h moment s field link = with_link_changed (begun_at moment (now_of h)) s field link
+
 module _ {R D : Type 0} where
   -- a set falls apart: each of these records, which are its own with a link changed, and each device is in exactly one of two that begin anew.
   -- The one with the record of this number keeps the counts, and the rest has none
@@ -67,3 +74,15 @@ module _ {R D : Type 0} where
     pub devices : AreShared (get both.devices) (get before.devices) (get other.devices)
     pub all : both ≡ anew both.records both.devices (added before.tally other.tally)
     pub emptied : other_then ≡ nothing_held
+
+  -- a link of a record is led from one set into another. With an empty link in its place the one falls apart into what stays with the
+  -- record, and the rest; what stays, with the new link, and the other become one; and then a change of the record's scan list is sent
+  -- where it has another device link
+  pub record LeadsInto (k : RecordRules R) (before other : Held R D) (moment number : ℕ) (field : FieldNo) (link : LinkField) (after other_then rest : Held R D) (come_to : World R) : Type 0 where
+    pub stay : Held R D
+    pub both : Held R D
+    pub falls : FallsApart before (relinked k before.records number field no_link) number stay rest
+    pub joins : BecomeOne stay other (relinked k stay.records number field link) both other_then
+    pub sound : IsSound k both
+    pub sent : with_records after.records come_to ≡ rewired k (device_of k (record_at k before.records number)) (begun_at moment (now_of both)) number
+    pub then_anew : after ≡ anew after.records both.devices both.tally

@@ -1,16 +1,17 @@
 //! Lock sets.
-ghost use Rattle.std.specs.Prelude.{◌≡◌, ◌<◌, ℕ, true, [], ◌∷◌, None, IsSome, Contains, IfOk, OnOk, OnErr, slice_get, vec_len, vec_capacity};
+ghost use Rattle.std.specs.Prelude.{◌≡◌, ◌<◌, ◌≤◌, ◌+◌, ◌^◌, ◌↔◌, ℕ, true, [], ◌∷◌, None, IsSome, IsTrue, Contains, IfOk, OnOk, OnErr, slice_get, vec_len, vec_capacity};
 ghost use Rattle.std.specs.FinMap as map;
 ghost use Rattle.ioc_events.specs.declared.event.Event.TheVariants.{Process, Put, Complete, Get};
 ghost use Rattle.ioc_events.specs.Step.{stepped};
 ghost use Rattle.ioc_store.specs.Given.{Answers};
 ghost use Rattle.ioc_common.specs.Links.{use_of, named_by};
 ghost use Rattle.ioc_store.specs.Scanning.{device_of, rewired};
-ghost use Rattle.ioc_store.specs.World.{Has, at, begun_at};
+ghost use Rattle.ioc_record.specs.Values.{stops_put};
+ghost use Rattle.ioc_store.specs.World.{Has, at, common_at, begun_at};
 ghost use Rattle.ioc_members.specs.Contents.{RecordsAreLikeTheirBase};
 ghost use Rattle.ioc_members.specs.Joined.{links_of, IsPart, HasLink, HasFreeLink, relinked};
 ghost use Rattle.ioc_set.specs.Held.{now_of, resting, nothing_held, no_counts, folded};
-ghost use Rattle.ioc_set.specs.Linking.{anew, AreCalm, FallsApart, BecomeOne};
+ghost use Rattle.ioc_set.specs.Linking.{anew, AreCalm, FallsApart, BecomeOne, LeadsInto, link_change_of};
 ghost use Rattle.ioc_set.specs.Sound.{IsSound};
 ghost use Rattle.ioc_set.specs.SetStore.{world_of};
 ghost use Rattle.ioc_set.specs.Doing.{Does, held_by, with_place, with_records, is_ordinary};
@@ -25,9 +26,9 @@ use ioc_events::{Entry, Event, Reply};
 use ioc_fields::{FieldNo, row_of};
 use ioc_ledger::Tally;
 use ioc_links::MAX_DEVICE_BYTES;
-use ioc_members::Members;
+use ioc_members::{Members, Room};
 use ioc_names::RecordNo;
-use ioc_record::{RecordKind, text_of};
+use ioc_record::{RecordKind, stops_put, text_of};
 use ioc_store::scan_change::device_of;
 use ioc_values::{Finished, Input, IocError, Short};
 use std::alloc::{AllocError, Global};
@@ -275,6 +276,69 @@ impl<K: RecordKind, D> LockSet<K, D> {
         }
     }
 
+    /// Is there a record of this number, and is the field one of its link fields?
+    pub fn has_link(&self, number: RecordNo, field: FieldNo) -> bool
+        ensures { IsTrue result ↔ HasLink K.rules self.now.records number field }
+    {
+        self.members.has_link(number, field)
+    }
+
+    /// Does DISP of a record that is there forbid a change of this field?
+    pub fn forbids(&self, number: RecordNo, field: FieldNo) -> bool
+        requires { Has (now_of self.now) number }
+        ensures { result ≡ stops_put (common_at K.rules (now_of self.now) number) field }
+    {
+        stops_put(self.members.record(number).common(), field)
+    }
+
+    /// Does the link name no record but one that is there?
+    pub fn leads_within(&self, link: &KeptLink) -> bool
+        ensures { IsTrue result ↔ ((t : ℕ) → Contains (named_by (use_of link.now)) t → IsSome (map.get self.now.records t)) }
+    {
+        self.members.leads_within(link)
+    }
+
+    /// Does the link name a record that is there?
+    pub fn leads_into(&self, link: &KeptLink) -> bool
+        ensures { IsTrue result ↔ ((t : ℕ) × (named_by (use_of link.now) ≡ t ∷ []) × IsSome (map.get self.now.records t)) }
+    {
+        self.members.leads_into(link)
+    }
+
+    /// Is no record in both?
+    pub fn is_apart(&self, other: &LockSet<K, D>) -> bool
+        ensures { IsTrue result ↔ ((q : ℕ) → IsSome (map.get self.now.records q) → map.get other.now.records q ≡ None) }
+    {
+        self.members.is_apart(&other.members)
+    }
+
+    /// On a free set no put with notification is live, and none waits.
+    pub fn none_is_live(&self)
+        ensures live { self.now.live ≡ [] }
+        ensures waiting { self.now.waiting ≡ [] }
+    {
+        let _ = &self.members;
+    }
+
+    /// Fewer than 2^63 records are there: there is no memory for more.
+    pub fn are_few(&self)
+        ensures { map.len self.now.records < 2 ^ 63 }
+    {
+        self.members.are_few();
+    }
+
+    /// Forgets the history.
+    pub fn fold(&mut self)
+        ensures { self.new ≡ folded self.old }
+    {
+        begin_anew(
+            &mut self.members,
+            &self.tally,
+            &mut self.base_tally,
+            &mut self.history,
+        );
+    }
+
     /// The text of the device link of a record that is there, in INP or OUT; empty where it has none.
     pub fn device_text(&self, number: RecordNo) -> Short<MAX_DEVICE_BYTES>
         requires { Has (now_of self.now) number }
@@ -304,6 +368,7 @@ impl<K: RecordKind + Drop, D: Drop> LockSet<K, D> {
         requires field { HasLink K.rules self.old.records number field }
         requires within { (t : ℕ) → Contains (named_by (use_of link)) t → IsSome (map.get self.old.records t) }
         ensures apart { IfOk result (λ rest. FallsApart self.old (relinked K.rules self.old.records number field link) number self.new rest) }
+        ensures fewer { OnOk result (map.len self.new.records ≤ map.len self.old.records) }
         ensures err { OnErr result (self.new ≡ folded self.old) }
     {
         calm_records_are_sound::<K, D>();
@@ -319,27 +384,25 @@ impl<K: RecordKind + Drop, D: Drop> LockSet<K, D> {
     }
 }
 
-impl<K: RecordKind, D> LockSet<K, D> {
+impl<K: RecordKind + Drop, D: Drop> LockSet<K, D> {
     /// Sets a link of a record, which stood nowhere, to a record of another set, and takes over that set with its devices and its
-    /// counts. The other has nothing then. Nothing is sent yet: see [`LockSet::rescan`]. `link` and `twin` are alike.
-    ///
-    /// # Errors
-    ///
-    /// [`AllocError`] where memory is wanting: nothing has changed then, but that both histories are forgotten.
+    /// counts, in a room that was taken before. The other has nothing then. Nothing is sent yet: see [`LockSet::rescan`]. `link` and
+    /// `twin` are alike.
     pub fn unite(
         &mut self,
+        room: Room<K, D>,
         other: &mut LockSet<K, D>,
         number: RecordNo,
         field: FieldNo,
         link: KeptLink,
         twin: KeptLink,
-    ) -> Result<(), AllocError>
+    )
+        requires room { map.len self.old.records + map.len other.old.records ≤ room.count }
         requires twin { twin ≡ link }
         requires apart { (q : ℕ) → IsSome (map.get self.old.records q) → map.get other.old.records q ≡ None }
         requires free { HasFreeLink K.rules self.old.records number field }
         requires to { (t : ℕ) × (named_by (use_of link) ≡ t ∷ []) × IsSome (map.get other.old.records t) }
-        ensures one { OnOk result (BecomeOne self.old other.old (relinked K.rules self.old.records number field link) self.new other.new) }
-        ensures err { OnErr result ((self.new ≡ folded self.old) × (other.new ≡ folded other.old)) }
+        ensures { BecomeOne self.old other.old (relinked K.rules self.old.records number field link) self.new other.new }
     {
         calm_records_are_sound::<K, D>();
         begin_anew(
@@ -355,13 +418,12 @@ impl<K: RecordKind, D> LockSet<K, D> {
             &mut other.history,
         );
         self.members
-            .join(&mut other.members, number, field, link, twin)?;
+            .join_in(room, &mut other.members, number, field, link, twin);
         self.members.are_few();
         add_counts(&mut self.tally, &other.tally);
         self.base_tally = self.tally;
         other.tally = Tally::default();
         other.base_tally = other.tally;
-        Ok(())
     }
 }
 
@@ -388,5 +450,72 @@ impl<K: RecordKind + Drop, D: Device> LockSet<K, D> {
             &mut self.history,
         );
         self.members.are_few();
+    }
+
+    /// Changes a link of a record: it leads nowhere then, or to a record of this set. The set keeps the record's part and the counts,
+    /// and the records that no link joins to it any more come back as a set of their own, which may be empty. `link` and `twin` are alike.
+    ///
+    /// # Errors
+    ///
+    /// [`AllocError`] where memory is wanting: nothing has changed then, but that the history is forgotten.
+    pub fn part(
+        &mut self,
+        place: &mut Workplace<K, D>,
+        alloc: Global,
+        number: RecordNo,
+        field: FieldNo,
+        link: KeptLink,
+        twin: KeptLink,
+        moment: u64,
+    ) -> Result<LockSet<K, D>, AllocError>
+        requires twin { twin ≡ link }
+        requires field { HasLink K.rules self.old.records number field }
+        requires within { (t : ℕ) → Contains (named_by (use_of link)) t → IsSome (map.get self.old.records t) }
+        ensures apart { IfOk result (λ rest. FallsApart self.old (link_change_of K.rules self.old moment number field link).records number self.new rest) }
+        ensures left { OnOk result (with_records (link_change_of K.rules self.old moment number field link).records (world_of place.new.store) ≡ link_change_of K.rules self.old moment number field link) }
+        ensures err { OnErr result (self.new ≡ folded self.old) }
+    {
+        self.none_is_live();
+        let before = self.device_text(number);
+        let rest = self.split(alloc, number, field, link, twin)?;
+        self.rescan(place, number, before, moment);
+        Ok(rest)
+    }
+
+    /// Leads a link of a record of this set to a record of another, which it takes over with its devices and its counts. The records of this
+    /// set that the link alone had joined to that record come back as a set of their own, which may be empty; the other has nothing then.
+    /// All memory is taken before anything changes. `link` and `twin` are alike.
+    ///
+    /// # Errors
+    ///
+    /// [`AllocError`] where memory is wanting: nothing has changed then, but that the history of this set is forgotten.
+    pub fn lead_into(
+        &mut self,
+        other: &mut LockSet<K, D>,
+        place: &mut Workplace<K, D>,
+        alloc: Global,
+        number: RecordNo,
+        field: FieldNo,
+        link: KeptLink,
+        twin: KeptLink,
+        moment: u64,
+    ) -> Result<LockSet<K, D>, AllocError>
+        requires twin { twin ≡ link }
+        requires apart { (q : ℕ) → IsSome (map.get self.old.records q) → map.get other.old.records q ≡ None }
+        requires field { HasLink K.rules self.old.records number field }
+        requires to { (t : ℕ) × (named_by (use_of link) ≡ t ∷ []) × IsSome (map.get other.old.records t) }
+        ensures led { IfOk result (λ rest. LeadsInto K.rules self.old other.old moment number field link self.new other.new rest (world_of place.new.store)) }
+        ensures err { OnErr result ((self.new ≡ folded self.old) × (other.new ≡ other.old)) }
+    {
+        self.are_few();
+        other.are_few();
+        self.fold();
+        let room = Room::new(alloc, self.len() + other.len())?;
+        let before = self.device_text(number);
+        let rest = self.split(alloc, number, field, KeptLink::empty(), KeptLink::empty())?;
+        self.unite(room, other, number, field, link, twin);
+        self.is_sound();
+        self.rescan(place, number, before, moment);
+        Ok(rest)
     }
 }

@@ -10,7 +10,6 @@ use Rattle.ioc_members.proofs.EdgeLaws.{length-relinked}
 use Rattle.ioc_members.proofs.Seats.{there_not}
 use Rattle.ioc_members.proofs.JoinedSets.{joined_ascending, joined_shared, joined_devices, joined_is_part, in_room}
 use Rattle.ioc_members.proofs.Ordered.{len_is}
-
 use Rattle.ioc_members.proofs.Twins.{alike_slots, like_itself, fold_up, refolded, fold_len, fold_folded, folded_kept, relinked_folded, append_folded, permuted_folded, base_is_records}
 use Rattle.ioc_members.proofs.members.Members.join_in.Goals as goal
 

@@ -6,6 +6,8 @@ use Rattle.ioc_members.specs.Slots.{contents_of, AreAscending}
 use Rattle.ioc_members.specs.Twins.{AreKept}
 use Rattle.ioc_members.proofs.EdgeLaws.{length-relinked}
 use Rattle.ioc_members.proofs.Seats.{there_not}
+use Rattle.std.specs.FinMap.{len}
+use Rattle.ioc_members.proofs.Ordered.{len_is}
 use Rattle.ioc_members.proofs.Parts.{few_stay, stay_folded, rest_folded}
 use Rattle.ioc_members.proofs.FallsApart.{zs_closed, link_field, stay_rises, rest_rises, shared, devices, own, stay_is_part, rest_is_part}
 use Rattle.ioc_members.proofs.Twins.{where_refused, alike_slots, like_itself, fold_up, refolded, fold_len, fold_folded, folded_kept, relinked_folded, base_is_records}
@@ -124,3 +126,18 @@ returns-clause-rest_base g c =
     let zs = slots_relinked k fs c.in-Some.place c.args.field c.args.link in
     base_is_records c.in_ok-rest.rest.items (rest_folded k zs c.in-Some.place c.part_slots.new.slots.items c.in_ok-rest.rest.items c.in_ok-rest.ensures.ok
     (relinked_folded k fs c.in-Some.place c.args.field c.args.link (fold_folded ss fs c.fold_slots.ensures.slots)))
+
+pub returns-clause-fewer : goal.returns-clause-fewer
+returns-clause-fewer g c =
+    let k = g.K.RecordKind.rules in
+    let ss = c.self.inside.slots.items in
+    let fs = c.fold_slots.new.slots.items in
+    let zs = slots_relinked k fs c.in-Some.place c.args.field c.args.link in
+    let up = stay_rises g.K.RecordKind.rules g.met.K.RecordKind.lawful c.fold_slots.new.slots.items c.deref.result.now c.args.self.now.records (fold_up c.self.inside.slots.items c.fold_slots.new.slots.items c.self.invariant.ascending c.fold_slots.ensures.slots) (ap (λ z. z.records) (refolded c.self.inside.slots.items c.fold_slots.new.slots.items c.args.self.now c.self.view_is c.fold_slots.ensures.slots c.requires.folded)) c.deref.ensures.value c.args.number c.in-Some.place
+    c.in-Some.ensures.found c.args.field c.args.link c.requires.field c.requires.within c.requires.one_part c.part_slots.new.slots.items c.in_ok-rest.rest.items c.in_ok-rest.ensures.ok in
+    let few = few_stay k zs c.in-Some.place c.part_slots.new.slots.items c.in_ok-rest.rest.items c.in_ok-rest.ensures.ok in
+    let relinked_len = length-relinked k fs c.in-Some.place c.args.field c.args.link in
+    let same = fold_len ss fs c.fold_slots.ensures.slots in
+    let before = sym (len_is ss c.self.invariant.ascending) ∙ ap (λ z. len z.records) c.self.view_is in
+    let after = len_is c.part_slots.new.slots.items up in
+    omega (arith, few, relinked_len, same, before, after)

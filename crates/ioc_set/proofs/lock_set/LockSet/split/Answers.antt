@@ -1,5 +1,6 @@
-use Rattle.std.proofs.Common.{◌≡◌, ◌∙◌, refl, ap, subst, sym}
+use Rattle.std.proofs.Common.{◌≡◌, ◌∙◌, refl, ap, subst, sym, arith}
 use Rattle.std.specs.Prelude.{is_some}
+use Rattle.std.specs.FinMap.{len}
 use Rattle.ioc_members.specs.Contents.{Records, Contents}
 use Rattle.ioc_set.specs.Held.{Held}
 use Rattle.ioc_set.specs.Doing.{held_by}
@@ -43,3 +44,9 @@ returns-clause-apart g c =
     (ap (λ (m : Contents g.row.K.Denot g.row.D.Denot). m.devices) c.begin_anew.ensures.members ∙ ap (λ (h : Held g.row.K.Denot g.row.D.Denot). h.devices) c.self.view_is)
     (ap (λ (h : Held g.row.K.Denot g.row.D.Denot). h.tally) c.self.view_is)
     c.in_ok-rest.ensures.shared c.in_ok-rest.ensures.devices c.in_ok-rest.ensures.own c.in_ok-rest.ensures.base c.begin_anew.ensures.tally c.begin_anew.ensures.history c.of.ensures
+
+pub returns-clause-fewer : goal.returns-clause-fewer
+returns-clause-fewer g c =
+    let same = ap (λ (m : Contents g.row.K.Denot g.row.D.Denot). len m.records) c.begin_anew.ensures.members in
+    let seen = ap (λ (h : Held g.row.K.Denot g.row.D.Denot). len h.records) c.self.view_is in
+    omega (arith, same, seen, c.in_ok-rest.ensures.fewer)

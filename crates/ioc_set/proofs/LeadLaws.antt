@@ -1,0 +1,98 @@
+-- A link that is led from one set into another: what its steps come to.
+use Rattle.std.proofs.Common.{◌≡◌, ℕ, Bool, true, false, cond, eqb, List, [], Option, Some, None, refl, sym, ap, subst, ◌∙◌, ⊎_elim, arith}
+use Rattle.std.specs.Prelude.{IsSome, is_some, unwrap_or, Contains}
+use Rattle.std.specs.FinMap.{get, insert}
+use Rattle.std.proofs.lemmas.Grind.{common_steps}
+use Rattle.ioc_fields.specs.declared.field_no.FieldNo.{FieldNo}
+use Rattle.ioc_common.specs.declared.link_field.LinkField.{LinkField}
+use Rattle.ioc_common.specs.Links.{no_link, use_of, named_by, named_by_field}
+use Rattle.ioc_record.specs.RecordRules.{RecordRules}
+use Rattle.ioc_record.specs.Laws.{IsLawful}
+use Rattle.ioc_members.specs.Contents.{Records, record_at}
+use Rattle.ioc_members.specs.Joined.{AreShared, HasLink, HasFreeLink, relinked}
+use Rattle.ioc_store.specs.World.{World, at, begun_at}
+use Rattle.ioc_store.specs.Scanning.{device_of, rewired}
+use Rattle.ioc_set.specs.Held.{Held, now_of, folded}
+use Rattle.ioc_set.specs.Doing.{with_records}
+use Rattle.ioc_set.specs.Linking.{anew, FallsApart, BecomeOne, LeadsInto}
+use Rattle.ioc_set.specs.Sound.{IsSound}
+use Rattle.ioc_set.proofs.Calm.{get-insert, none_some, none_in}
+
+-- an empty link leads nowhere
+nowhere : named_by (use_of no_link) ≡ []
+unfolding use_of
+nowhere = refl
+
+pub leads_nowhere : (link : LinkField) → link ≡ no_link → named_by (use_of link) ≡ []
+leads_nowhere link is = ap (λ (l : LinkField). named_by (use_of l)) is ∙ nowhere
+
+pub names_none : (link : LinkField) → link ≡ no_link → (t : ℕ) → Contains (named_by (use_of link)) t → ⊥
+names_none link is t named = none_in t (subst (λ (l : List ℕ). Contains l t) (leads_nowhere link is) named)
+
+module _ {R : Type 0} (k : RecordRules R) where
+  some-before : (b : Bool) (x : R) (o : Option R) → (b ≡ true → IsSome o) → IsSome (cond b (Some x) o) → IsSome o
+  some-before true x o here some = here refl
+  some-before false x o here some = some
+
+  -- no record comes by a link that is set
+  set-before : (rs : Records R) (s q : ℕ) (x : R) → IsSome (get rs s) → IsSome (get (insert rs s x) q) → IsSome (get rs q)
+  set-before rs s q x there some =
+      some-before (eqb q s) x (get rs q)
+      (λ is. let e : q ≡ s = grind (arith, common_steps) in subst (λ (n : ℕ). IsSome (get rs n)) (sym e) there)
+      (subst (λ (o : Option R). IsSome o) (get-insert k rs s x q) some)
+
+  set-here : (rs : Records R) (s : ℕ) (x : R) → get (insert rs s x) s ≡ Some x
+  set-here rs s x = let e : eqb s s ≡ true = grind (arith, common_steps) in get-insert k rs s x s ∙ ap (λ (b : Bool). cond b (Some x) (get rs s)) e
+
+  -- what one of two has is in all, as it is there
+  one-is : (all one other : Records R) → AreShared (get all) (get one) (get other) → (q : ℕ) → IsSome (get one q) → get one q ≡ get all q
+  one-is all one other shared q there = ⊎_elim (λ p. p.0) (λ p. absurd (none_some (get one q) p.0 there)) (shared q)
+
+  module _ (rs stay rest : Records R) (s : ℕ) (field : FieldNo) (link : LinkField) (shared : AreShared (get (relinked k rs s field link)) (get stay) (get rest)) where
+    pub stays-apart : (others : Records R) → IsSome (get rs s) → ((q : ℕ) → IsSome (get rs q) → get others q ≡ None) → (q : ℕ) → IsSome (get stay q) → get others q ≡ None
+    stays-apart others there apart q some =
+        apart q (set-before rs s q (k.with_link (record_at k rs s) field link) there (subst (λ (o : Option R). IsSome o) (one-is (relinked k rs s field link) stay rest shared q some) some))
+
+    -- the link is free then
+    pub is-free : IsLawful k → HasLink k rs s field → IsSome (get stay s) → link ≡ no_link → HasFreeLink k stay s field
+    is-free lawful has own is =
+        let r = record_at k rs s in
+        let known : r ≡ has.0 = ap (λ (o : Option R). unwrap_or o k.missing) has.1 in
+        let has_link : is_some (k.link r field) ≡ true = ap (λ (x : R). is_some (k.link x field)) known ∙ has.2 in
+        let set = lawful.set_here r field link has_link in (
+          k.with_link r field link,
+          one-is (relinked k rs s field link) stay rest shared s own ∙ set-here rs s (k.with_link r field link),
+          ap (λ (o : Option LinkField). is_some o) set,
+          ap (λ (o : Option LinkField). named_by_field o) set ∙ leads_nowhere link is,
+        )
+
+  -- who had the record before two became one has it then
+  pub both-have : (both stay others : Records R) (s : ℕ) (field : FieldNo) (link : LinkField) → AreShared (get both) (get (relinked k stay s field link)) (get others) → IsSome (get both s)
+  both-have both stay others s field link shared =
+      let here = set-here stay s (k.with_link (record_at k stay s) field link) in
+      let some : IsSome (get (relinked k stay s field link) s) = ap (λ (o : Option R). is_some o) here in
+      subst (λ (o : Option R). IsSome o) (one-is both (relinked k stay s field link) others shared s some) some
+
+module _ {R D : Type 0} (k : RecordRules R) (h other begun stay both rest after other_then : Held R D) (moment s : ℕ) (field : FieldNo) (none link : LinkField) (is_begun : begun ≡ folded h) (is_none : none ≡ no_link) where
+  apart : FallsApart begun (relinked k begun.records s field none) s stay rest → FallsApart h (relinked k h.records s field no_link) s stay rest
+  apart falls =
+      let now = subst (λ (x : Held R D). FallsApart x (relinked k x.records s field none) s stay rest) is_begun falls in
+      let free = subst (λ (l : LinkField). FallsApart (folded h) (relinked k h.records s field l) s stay rest) is_none now in
+      record { shared = free.shared; devices = free.devices; own = free.own; stays = free.stays; leaves = free.leaves }
+
+  device_before : (before : List ℕ) → before ≡ device_of k (at k (now_of begun) s) → before ≡ device_of k (record_at k h.records s)
+  unfolding at
+  device_before before is = is ∙ ap (λ (x : Held R D). device_of k (record_at k x.records s)) is_begun
+
+  pub leads : FallsApart begun (relinked k begun.records s field none) s stay rest → BecomeOne stay other (relinked k stay.records s field link) both other_then → IsSound k both
+      → (before : List ℕ) → before ≡ device_of k (at k (now_of begun) s) → (come_to : World R) → with_records after.records come_to ≡ rewired k before (begun_at moment (now_of both)) s
+      → after ≡ anew after.records both.devices both.tally → LeadsInto k h other moment s field link after other_then rest come_to
+  leads falls joins sound before is_before come_to left held = record {
+    stay = stay;
+    both = both;
+    falls = apart falls;
+    joins = joins;
+    sound = sound;
+    sent = left ∙ ap (λ (d : List ℕ). rewired k d (begun_at moment (now_of both)) s) (device_before before is_before);
+    then_anew = held;
+  }

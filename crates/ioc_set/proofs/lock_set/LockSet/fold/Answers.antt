@@ -1,0 +1,7 @@
+use Rattle.ioc_set.proofs.Linked.{folded_holds}
+use Rattle.ioc_set.proofs.lock_set.LockSet.fold.Goals as goal
+
+pub invariant_of-self : goal.invariant_of-self
+invariant_of-self g c =
+    folded_holds g.K.RecordKind.rules c.self.inside.members c.begin_anew.new.members c.self.inside.base_tally c.begin_anew.new.base_tally c.self.inside.tally c.self.inside.history.items c.begin_anew.new.history.items
+    c.begin_anew.ensures.members c.begin_anew.ensures.tally c.begin_anew.ensures.history c.self.invariant.0
