@@ -10,7 +10,7 @@ use Rattle.ioc_events.specs.declared.reply.Reply.{Reply}
 use Rattle.ioc_journal.specs.Account.{DeskView}
 use Rattle.ioc_held.specs.Holding.{HeldView, numbers_of, IsSoundlyHeld, Serves, Tells}
 
-module _ {R D : Type 0} (k : RecordRules R) (base : World R) where
+module _ {R : Type 0} (D : Type 0) (k : RecordRules R) (base : World R) where
   -- a question of a desk was answered by a set that has the record, was sound, and is so again
   pub record WasTold (number : ℕ) (desk : DeskView) (at_moment : ℕ) (asked : Event) (reply : Reply) (desk_then : DeskView) : Type 0 where
     pub held : HeldView R D

@@ -82,7 +82,7 @@ impl<K: RecordKind + Drop, B: Base<K>, D: Device> Engine<K, B, D> {
     ) -> Result<(Reply, Receipt<K, B>), IocError>
         requires ordinary { is_ordinary event.now ≡ true }
         requires names { names event.now ≡ number ∷ [] }
-        ensures served { IfOk result (λ x. WasServed {D = D} K.rules B.base D.gives number desk.old moment event.now x.0 desk.new (world_of workplace.new.store)) }
+        ensures served { IfOk result (λ x. WasServed D K.rules B.base D.gives number desk.old moment event.now x.0 desk.new (world_of workplace.new.store)) }
         ensures receipt { IfOk result (λ x. x.1 ≡ desk.new.seen) }
         ensures refused { IfErr result (IsRefused self.now number) }
         ensures err { OnErr result (desk.new ≡ desk.old) }
@@ -92,8 +92,9 @@ impl<K: RecordKind + Drop, B: Base<K>, D: Device> Engine<K, B, D> {
             let mut held = cell.lock(rt);
             if held.has(number) {
                 held.is_sound();
-                let (reply, receipt) =
-                    held.serve(rt, alloc, &self.book, desk, workplace, event, moment)?;
+                let (reply, receipt) = held.serve(
+                    rt, alloc, &self.book, desk, workplace, event, moment,
+                )?;
                 held.is_sound();
                 return Ok((reply, receipt));
             }
@@ -115,7 +116,7 @@ impl<K: RecordKind + Drop, B: Base<K>, D: Device> Engine<K, B, D> {
         number: RecordNo,
         moment: u64,
     ) -> Result<(Reply, Receipt<K, B>), IocError>
-        ensures served { IfOk result (λ x. WasServed {D = D} K.rules B.base D.gives number desk.old moment (Process number) x.0 desk.new (world_of workplace.new.store)) }
+        ensures served { IfOk result (λ x. WasServed D K.rules B.base D.gives number desk.old moment (Process number) x.0 desk.new (world_of workplace.new.store)) }
         ensures receipt { IfOk result (λ x. x.1 ≡ desk.new.seen) }
         ensures refused { IfErr result (IsRefused self.now number) }
         ensures err { OnErr result (desk.new ≡ desk.old) }
@@ -141,7 +142,7 @@ impl<K: RecordKind + Drop, B: Base<K>, D: Device> Engine<K, B, D> {
         given: Input,
         moment: u64,
     ) -> Result<(Reply, Receipt<K, B>), IocError>
-        ensures served { IfOk result (λ x. WasServed {D = D} K.rules B.base D.gives number desk.old moment (Put number field given) x.0 desk.new (world_of workplace.new.store)) }
+        ensures served { IfOk result (λ x. WasServed D K.rules B.base D.gives number desk.old moment (Put number field given) x.0 desk.new (world_of workplace.new.store)) }
         ensures receipt { IfOk result (λ x. x.1 ≡ desk.new.seen) }
         ensures refused { IfErr result (IsRefused self.now number) }
         ensures err { OnErr result (desk.new ≡ desk.old) }
@@ -167,7 +168,7 @@ impl<K: RecordKind + Drop, B: Base<K>, D: Device> Engine<K, B, D> {
         finished: Finished,
         moment: u64,
     ) -> Result<(Reply, Receipt<K, B>), IocError>
-        ensures served { IfOk result (λ x. WasServed {D = D} K.rules B.base D.gives number desk.old moment (Complete number wait finished) x.0 desk.new (world_of workplace.new.store)) }
+        ensures served { IfOk result (λ x. WasServed D K.rules B.base D.gives number desk.old moment (Complete number wait finished) x.0 desk.new (world_of workplace.new.store)) }
         ensures receipt { IfOk result (λ x. x.1 ≡ desk.new.seen) }
         ensures refused { IfErr result (IsRefused self.now number) }
         ensures err { OnErr result (desk.new ≡ desk.old) }
@@ -191,7 +192,7 @@ impl<K: RecordKind + Drop, B: Base<K>, D: Device> Engine<K, B, D> {
         field: FieldNo,
         moment: u64,
     ) -> Result<(Reply, Receipt<K, B>), IocError>
-        ensures told { IfOk result (λ x. WasTold {D = D} K.rules B.base number desk.old moment (Get number field) x.0 desk.new) }
+        ensures told { IfOk result (λ x. WasTold D K.rules B.base number desk.old moment (Get number field) x.0 desk.new) }
         ensures receipt { IfOk result (λ x. x.1 ≡ desk.new.seen) }
         ensures refused { IfErr result (IsRefused self.now number) }
         ensures err { OnErr result (desk.new ≡ desk.old) }
@@ -201,8 +202,9 @@ impl<K: RecordKind + Drop, B: Base<K>, D: Device> Engine<K, B, D> {
             let mut held = cell.lock(rt);
             if held.has(number) {
                 held.is_sound();
-                let (reply, receipt) =
-                    held.get(rt, alloc, &self.book, desk, number, field, moment)?;
+                let (reply, receipt) = held.get(
+                    rt, alloc, &self.book, desk, number, field, moment,
+                )?;
                 held.is_sound();
                 return Ok((reply, receipt));
             }

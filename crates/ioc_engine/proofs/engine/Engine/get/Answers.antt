@@ -1,0 +1,18 @@
+use Rattle.std.proofs.Common.{sym, ◌∙◌, subst, IsTrue, Contains, rules}
+use Rattle.ioc_events.specs.declared.event.Event.TheVariants.{Get}
+use Rattle.ioc_journal.specs.Account.{DeskView}
+use Rattle.ioc_held.specs.Holding.{HeldView, numbers_of, IsSoundlyHeld, Tells}
+use Rattle.ioc_engine.proofs.engine.Engine.get.Goals as goal
+
+pub returns-then-has-clause-told : goal.returns-then-has-clause-told
+returns-then-has-clause-told g c =
+    let there : IsTrue c.has.result = search rules in
+    let k = g.K.RecordKind.rules in
+    record {
+      held = c.deref_mut.result.now;
+      held_then = c.get.new.self;
+      here = subst (λ (s : HeldView g.row.K.Denot g.row.D.Denot). Contains (numbers_of s) c.args.number) (c.deref-in-loop.ensures ∙ sym c.deref_mut.ensures.value) (c.has.ensures.0 there);
+      before = subst (λ (s : HeldView g.row.K.Denot g.row.D.Denot). IsSoundlyHeld k g.B.Base.base s) (c.deref-then-has.ensures ∙ sym c.deref_mut.ensures.value) c.is_sound.ensures;
+      tells = subst (λ (d : DeskView). Tells k g.B.Base.base c.deref_mut.result.now d c.args.moment (Get c.args.number c.args.field) c.in_ok-reply.reply c.get.new.self c.get.new.desk) c.loop.invariant c.in_ok-reply.ensures.tells;
+      after = subst (λ (s : HeldView g.row.K.Denot g.row.D.Denot). IsSoundlyHeld k g.B.Base.base s) c.deref-then-has-2.ensures c.is_sound-then-has.ensures;
+    }

@@ -1,0 +1,18 @@
+use Rattle.std.proofs.Common.{sym, ◌∙◌, subst, IsTrue, Contains, rules}
+use Rattle.ioc_set.specs.SetStore.{world_of}
+use Rattle.ioc_journal.specs.Account.{DeskView}
+use Rattle.ioc_held.specs.Holding.{HeldView, numbers_of, IsSoundlyHeld, Serves}
+use Rattle.ioc_engine.proofs.engine.Engine.serve.Goals as goal
+
+pub returns-then-has-clause-served : goal.returns-then-has-clause-served
+returns-then-has-clause-served g c =
+    let there : IsTrue c.has.result = search rules in
+    let k = g.K.RecordKind.rules in
+    record {
+      held = c.deref_mut.result.now;
+      held_then = c.serve.new.self;
+      here = subst (λ (s : HeldView g.row.K.Denot g.row.D.Denot). Contains (numbers_of s) c.args.number) (c.deref-in-loop.ensures ∙ sym c.deref_mut.ensures.value) (c.has.ensures.0 there);
+      before = subst (λ (s : HeldView g.row.K.Denot g.row.D.Denot). IsSoundlyHeld k g.B.Base.base s) (c.deref-then-has.ensures ∙ sym c.deref_mut.ensures.value) c.is_sound.ensures;
+      serves = subst (λ (d : DeskView). Serves k g.D.Device.gives g.B.Base.base c.deref_mut.result.now d c.args.moment c.args.event.now c.in_ok-reply.reply c.serve.new.self c.serve.new.desk (world_of c.serve.new.workplace.store)) c.loop.invariant c.in_ok-reply.ensures.serves;
+      after = subst (λ (s : HeldView g.row.K.Denot g.row.D.Denot). IsSoundlyHeld k g.B.Base.base s) c.deref-then-has-2.ensures c.is_sound-then-has.ensures;
+    }
