@@ -13,3 +13,4 @@ mod LinkEvents
 mod Linked
 mod PartLaws
 mod LeadLaws
+mod Sums

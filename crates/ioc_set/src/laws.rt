@@ -6,7 +6,7 @@ ghost use Rattle.ioc_common.specs.declared.link_field.LinkField.{LinkField};
 ghost use Rattle.ioc_common.specs.Links.{use_of, named_by};
 ghost use Rattle.ioc_ledger.specs.declared.tally.Tally.{Tally};
 ghost use Rattle.ioc_record.specs.Values.{stops_put};
-ghost use Rattle.ioc_ledger.specs.Requests.{Requests, None};
+ghost use Rattle.ioc_ledger.specs.Requests.{Requests, None, Fits, AddsUp};
 ghost use Rattle.ioc_store.specs.Given.{Answers};
 ghost use Rattle.ioc_events.specs.declared.event.Event.{Event};
 ghost use Rattle.ioc_events.specs.declared.reply.Reply.{Reply};
@@ -20,7 +20,7 @@ ghost use Rattle.ioc_members.specs.Contents.{Records, Devices};
 ghost use Rattle.ioc_members.specs.Joined.{links_of, IsPart, HasLink};
 ghost use Rattle.ioc_events.specs.declared.event.Entry.{Entry};
 ghost use Rattle.ioc_set.specs.Held.{Held, folded, held_after};
-ghost use Rattle.ioc_set.specs.Linking.{anew, AreCalm, with_link_changed};
+ghost use Rattle.ioc_set.specs.Linking.{anew, added, AreCalm, with_link_changed};
 ghost use Rattle.ioc_set.specs.Sound.{IsSound, TellsOf, is_put_with_notification};
 
 use ioc_events::event_rules::{events_keep_links, events_leave_settled, rules_are_steps};
@@ -80,3 +80,9 @@ pub fn link_changes_are_events<K: RecordKind>()
 {
     rules_are_steps::<K>();
 }
+
+/// The counts of two sets together are numbers of 64 bits, and where those of both add up, they do.
+pub fn counts_of_two_add_up()
+    ensures fit { (t u : Tally) → Fits (added t u) }
+    ensures add_up { (t u : Tally) → AddsUp t → AddsUp u → AddsUp (added t u) }
+{}
