@@ -14,3 +14,4 @@ mod LinkEvents
 mod Linked
 mod PartLaws
 mod LeadLaws
+mod Sums
