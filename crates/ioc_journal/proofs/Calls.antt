@@ -1,5 +1,5 @@
 -- The calls of desks in a list.
-use Rattle.std.proofs.Common.{◌≡◌, ◌⊎◌, ℕ, suc, ◌+◌, ◌<◌, ◌≤◌, List, [], ◌∷◌, ◌++◌, length, Bool, true, false, if◌then◌else◌, nat_eq, nat_le, refl, sym, ap, ◌∙◌, subst, inl, inr, ⊎_elim, arith, ne_eqb, eq-eqb, append-nil}
+use Rattle.std.proofs.Common.{◌≡◌, ℕ, suc, ◌+◌, ◌<◌, ◌≤◌, List, [], ◌∷◌, ◌++◌, length, Bool, true, false, if◌then◌else◌, nat_eq, nat_le, refl, sym, ap, ◌∙◌, subst, inl, arith, ne_eqb, eq-eqb, append-nil}
 use Rattle.ioc_record.specs.RecordRules.{RecordRules}
 use Rattle.ioc_store.specs.World.{World}
 use Rattle.ioc_events.specs.declared.event.Entry.{Entry}
@@ -9,7 +9,7 @@ use Rattle.ioc_line.specs.Key.{Key, Has}
 use Rattle.ioc_line.specs.Line.{Spares, Continues, noted, longer}
 use Rattle.ioc_line.specs.KeyLaws.{has_right}
 use Rattle.ioc_holding.specs.Legal.{IsLegal}
-use Rattle.ioc_journal.specs.Account.{DeskView, desk_view, journalled, calls, calls_by, Below, Above, Rising, desk_key, Keyed, IsAccount, Call}
+use Rattle.ioc_journal.specs.Account.{desk_view, journalled, calls, calls_by, Below, Above, Rising, desk_key, Keyed, IsAccount, Call}
 
 pub calls-append : (xs ys : List Note) → calls (xs ++ ys) ≡ calls xs ++ calls ys
 calls-append [] ys = refl

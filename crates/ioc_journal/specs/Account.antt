@@ -98,3 +98,30 @@ module _ {R : Type 0} (k : RecordRules R) (base : World R) where
     pub goes_on : Continues seen owned log
     pub legal : IsLegal k base log
     pub ends : longer ≡ log ++ noted (journalled desk call done) (owned ++ own) ∷ []
+
+  -- an event of two who have seen lists and own keys may follow: any legal list that goes on from both without their keys is legal with the
+  -- event behind it
+  abbrev pub BothMayFollow : (seen : List Note) (owned : List Key) (also_seen : List Note) (also_owned : List Key) → Entry → Type 0
+  BothMayFollow seen owned also_seen also_owned done =
+      (log : List Note) (desk call : ℕ) (own : List Key) → IsSound k base → Continues seen owned log → Continues also_seen also_owned log → IsLegal k base log
+      → IsLegal k base (log ++ noted (journalled desk call done) ((owned ++ also_owned) ++ own) ∷ [])
+
+  -- it was added to such a list
+  pub record AddedByBoth (seen : List Note) (owned : List Key) (also_seen : List Note) (also_owned : List Key) (done : Entry) (log longer : List Note) : Type 0 where
+    pub desk : ℕ
+    pub call : ℕ
+    pub own : List Key
+    pub sound : IsSound k base
+    pub goes_on : Continues seen owned log
+    pub also_goes_on : Continues also_seen also_owned log
+    pub legal : IsLegal k base log
+    pub ends : longer ≡ log ++ noted (journalled desk call done) ((owned ++ also_owned) ++ own) ∷ []
+
+  -- two who have seen lists both know a legal list then, which goes on from each without its keys
+  pub record AreKnown (one other : View) (log : List Note) (one_then other_then : View) : Type 0 where
+    pub sound : IsSound k base
+    pub legal : IsLegal k base log
+    pub goes_on : Continues one.seen one.owns log
+    pub also_goes_on : Continues other.seen other.owns log
+    pub one_knows : one_then ≡ holder log one.owns
+    pub other_knows : other_then ≡ holder log other.owns

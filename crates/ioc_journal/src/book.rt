@@ -1,9 +1,10 @@
 //! The journal under its lock.
-ghost use Rattle.std.specs.Prelude.{◌≡◌, ◌<◌, ◌-◌, ◌^◌, List, [], OnOk, IfSome};
+ghost use Rattle.std.specs.Prelude.{◌≡◌, ◌<◌, ◌-◌, ◌^◌, ◌++◌, List, [], OnOk, IfSome};
 ghost use Rattle.crossbeam_utils.specs.Seq.{cell_view};
 ghost use Rattle.ioc_line.specs.declared.entry.Note.{Note};
+ghost use Rattle.ioc_line.specs.Key.{Key, Has};
 ghost use Rattle.ioc_line.specs.Line.{holder};
-ghost use Rattle.ioc_journal.specs.Account.{IsHolder, AreRecords, MayFollow, Call, Added, calls, calls_by};
+ghost use Rattle.ioc_journal.specs.Account.{IsHolder, AreRecords, MayFollow, BothMayFollow, Call, Added, AddedByBoth, AreKnown, calls, calls_by};
 
 use crate::base::Base;
 use crate::desk::Desk;
@@ -11,7 +12,7 @@ use crate::entries::Place;
 use crate::journal::Journal;
 use crate::receipt::Receipt;
 use ioc_events::Entry;
-use ioc_line::{Cell, Token};
+use ioc_line::{Cell, Keys, Token};
 use ioc_record::RecordKind;
 use std::alloc::AllocError;
 use std::marker::Model;
@@ -101,5 +102,47 @@ impl<K: RecordKind, B: Base<K>> Book<K, B> {
         let mut guard = self.journal.lock(rt);
         let journal = &mut *guard;
         journal.append(rt, &self.cell, place, set, desk, entry)
+    }
+
+    /// Adds a call of a desk that is about two sets, under both their locks. Afterwards the first pass owns the keys of `P`, and the other the
+    /// rest of `P`; desk and passes know the whole list.
+    pub fn append_two<P: Keys, R: Wait>(
+        &self,
+        rt: &R,
+        place: Place<K, B>,
+        one: &mut Token,
+        other: &mut Token,
+        desk: &mut Desk<K, B>,
+        entry: Entry,
+    ) -> Receipt<K, B>
+        requires number { desk.old.next < 2 ^ 64 - 1 }
+        requires table { (one.old.table_id ≡ B.table) × (other.old.table_id ≡ B.table) }
+        requires one { IsHolder (cell_view one.old) × AreRecords (cell_view one.old).owns }
+        requires other { IsHolder (cell_view other.old) × AreRecords (cell_view other.old).owns }
+        requires within { (key : Key) → Has key (P.keys ++ P.rest) → Has key ((cell_view one.old).owns ++ (cell_view other.old).owns) }
+        requires apart { (key : Key) → Has key P.keys → Has key P.rest → ⊥ }
+        requires follows { BothMayFollow K.rules B.base (cell_view one.old).seen (cell_view one.old).owns (cell_view other.old).seen (cell_view other.old).owns entry }
+        ensures call { Call K.rules B.base desk.old entry desk.new }
+        ensures receipt { result ≡ desk.new.seen }
+        ensures one { (one.new.table_id ≡ one.old.table_id) × (cell_view one.new ≡ holder desk.new.seen P.keys) }
+        ensures other { (other.new.table_id ≡ other.old.table_id) × (cell_view other.new ≡ holder desk.new.seen P.rest) }
+        ensures added { (log : List Note) × AddedByBoth K.rules B.base (cell_view one.old).seen (cell_view one.old).owns (cell_view other.old).seen (cell_view other.old).owns entry log desk.new.seen }
+    {
+        let mut guard = self.journal.lock(rt);
+        let journal = &mut *guard;
+        journal.append_two::<P, R>(rt, &self.cell, place, one, other, desk, entry)
+    }
+
+    /// Two passes own no key together. Both know the same list then.
+    pub fn compare<R: Wait>(&self, rt: &R, one: &mut Token, other: &mut Token)
+        requires table { (one.old.table_id ≡ B.table) × (other.old.table_id ≡ B.table) }
+        requires holders { IsHolder (cell_view one.old) × IsHolder (cell_view other.old) }
+        ensures table { (one.new.table_id ≡ one.old.table_id) × (other.new.table_id ≡ other.old.table_id) }
+        ensures known { (log : List Note) × AreKnown K.rules B.base (cell_view one.old) (cell_view other.old) log (cell_view one.new) (cell_view other.new) }
+        ensures apart { (key : Key) → Has key (cell_view one.old).owns → Has key (cell_view other.old).owns → ⊥ }
+    {
+        let mut guard = self.journal.lock(rt);
+        let journal = &mut *guard;
+        journal.compare(rt, &self.cell, one, other);
     }
 }

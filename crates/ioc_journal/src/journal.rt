@@ -1,17 +1,18 @@
 //! All calls, in one order.
-ghost use Rattle.std.specs.Prelude.{◌≡◌, ◌<◌, ◌-◌, ◌^◌, [], OnOk, IfSome};
+ghost use Rattle.std.specs.Prelude.{◌≡◌, ◌<◌, ◌-◌, ◌^◌, ◌++◌, [], OnOk, IfSome};
 ghost use Rattle.crossbeam_utils.specs.Seq.{cell_view};
 ghost use Rattle.ioc_line.specs.Key.{Key, Has};
 ghost use Rattle.ioc_line.specs.Line.{keeper, holder, Continues};
 ghost use Rattle.ioc_holding.specs.Legal.{IsLegal, IsSound};
-ghost use Rattle.ioc_journal.specs.Account.{AreRecords, IsHolder, MayFollow, Call, Added, calls, calls_by};
+ghost use Rattle.ioc_journal.specs.Account.{AreRecords, IsHolder, MayFollow, BothMayFollow, Call, Added, AddedByBoth, calls, calls_by};
 
 use crate::base::Base;
+use crate::dealing::deal;
 use crate::desk::Desk;
 use crate::entries::{Entries, Place};
 use crate::receipt::Receipt;
 use ioc_events::Entry;
-use ioc_line::{Cell, JournalEntry, Token, pass};
+use ioc_line::{Cell, JournalEntry, Keys, Token, pass};
 use ioc_record::RecordKind;
 use std::alloc::{AllocError, Global};
 use std::marker::{Model, PhantomData};
@@ -130,6 +131,51 @@ impl<K: RecordKind, B: Base<K>> Journal<K, B> {
         let pass = pass::append(rt, cell, &mut self.pass, set, &mut desk.pass, &made);
         self.entries.fill(place, made);
         desk.next += 1;
+        Receipt {
+            place: index,
+            pass,
+            of: PhantomData,
+            kind: PhantomData,
+        }
+    }
+
+    /// Adds a call of a desk that is about two sets, under both their locks. Afterwards the first pass owns the keys of `P`, and the other the
+    /// rest of `P`.
+    pub fn append_two<P: Keys, R: Wait>(
+        &mut self,
+        rt: &R,
+        cell: &Cell,
+        place: Place<K, B>,
+        one: &mut Token,
+        other: &mut Token,
+        desk: &mut Desk<K, B>,
+        entry: Entry,
+    ) -> Receipt<K, B>
+        requires number { desk.old.next < 2 ^ 64 - 1 }
+        requires table { (cell.now.table.shared.table_id ≡ B.table) × (one.old.table_id ≡ B.table) × (other.old.table_id ≡ B.table) }
+        requires one { IsHolder (cell_view one.old) × AreRecords (cell_view one.old).owns }
+        requires other { IsHolder (cell_view other.old) × AreRecords (cell_view other.old).owns }
+        requires within { (key : Key) → Has key (P.keys ++ P.rest) → Has key ((cell_view one.old).owns ++ (cell_view other.old).owns) }
+        requires apart { (key : Key) → Has key P.keys → Has key P.rest → ⊥ }
+        requires follows { BothMayFollow K.rules B.base (cell_view one.old).seen (cell_view one.old).owns (cell_view other.old).seen (cell_view other.old).owns entry }
+        ensures call { Call K.rules B.base desk.old entry desk.new }
+        ensures receipt { result ≡ desk.new.seen }
+        ensures list { desk.new.seen ≡ self.new }
+        ensures one { (one.new.table_id ≡ one.old.table_id) × (cell_view one.new ≡ holder self.new P.keys) }
+        ensures other { (other.new.table_id ≡ other.old.table_id) × (cell_view other.new ≡ holder self.new P.rest) }
+        ensures added { AddedByBoth K.rules B.base (cell_view one.old).seen (cell_view one.old).owns (cell_view other.old).seen (cell_view other.old).owns entry self.old self.new }
+    {
+        let number = desk.number;
+        let call = desk.next;
+        let made = JournalEntry {
+            desk: number,
+            call,
+            entry,
+        };
+        let index = self.entries.len() as u64;
+        let pass = deal::<P, R>(rt, cell, &mut self.pass, one, other, &mut desk.pass, &made);
+        self.entries.fill(place, made);
+        desk.next = call + 1;
         Receipt {
             place: index,
             pass,

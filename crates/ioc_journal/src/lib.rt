@@ -6,6 +6,7 @@
 
 pub mod base;
 pub mod book;
+mod dealing;
 pub mod desk;
 pub mod entries;
 pub mod journal;

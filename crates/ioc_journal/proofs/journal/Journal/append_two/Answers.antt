@@ -1,0 +1,117 @@
+use Rattle.std.proofs.Common.{◌≡◌, ◌+◌, ◌<◌, List, [], ◌∷◌, ◌++◌, length, refl, sym, ap, ◌∙◌, subst, inl, ⊎_elim, arith, length-append, ap₂}
+use Rattle.crossbeam_utils.specs.Seq.{cell_view}
+use Rattle.ioc_line.specs.declared.entry.Note.{Note}
+use Rattle.ioc_line.specs.declared.room.View.{View}
+use Rattle.ioc_line.specs.Key.{Has}
+use Rattle.ioc_line.specs.Line.{keeper, holder, noted}
+use Rattle.ioc_line.specs.KeyLaws.{has_either}
+use Rattle.ioc_journal.specs.Account.{DeskView, desk_view, desk_key, journalled, calls, Below, IsAccount, Call, AddedByBoth}
+use Rattle.ioc_journal.proofs.Calls.{calls-append, length-calls, below_other, account_then, below_then, called}
+use Rattle.ioc_journal.proofs.journal.Journal.append_two.Goals as goal
+
+pub deal-pass-requires-clause-apart_desk : goal.deal-pass-requires-clause-apart_desk
+deal-pass-requires-clause-apart_desk g c = λ key a b.
+    let owns = (cell_view c.args.one.now).owns in
+    let more = (cell_view c.args.other.now).owns in
+    let kind : key.0 ≡ 0 = ⊎_elim (λ (x : Has key owns). c.requires.one.1 key x) (λ (y : Has key more). c.requires.other.1 key y) (has_either key owns more (c.requires.within key a)) in
+    ⊎_elim (λ (e : desk_key c.desk.inside.number ≡ key). let one : 1 ≡ key.0 = ap (λ p. p.0) e in omega arith) (λ (b : ⊥). b) (subst (λ (v : View). Has key v.owns) c.desk.invariant.holds b)
+
+pub invariant_of-result : goal.invariant_of-result
+invariant_of-result g c =
+    let i = c.self.invariant in
+    let d = c.desk.invariant in
+    let n = c.desk.inside.number in
+    let next = c.desk.inside.next in
+    let log = (cell_view c.self.inside.pass).seen in
+    let e = c.deal-pass.ensures in
+    let owns = (cell_view c.args.one.now).owns ++ (cell_view c.args.other.now).owns in
+    let own = (cell_view c.desk.inside.pass).owns in
+    let k = g.K.RecordKind.rules in
+    let leads = c.requires.follows log n next own i.sound e.goes_on.0 e.goes_on.1 i.account.legal in
+    let told = ap (λ (v : View). v.seen) e.receipt.2 in
+    let seen = told ∙ ap (λ (v : View). v.seen) e.keeper.1 in
+    record {
+      same = e.receipt.0 ∙ i.same;
+      holds = e.receipt.2 ∙ ap (λ l. holder l []) (sym told);
+      ends = ap length seen ∙ omega (arith, length-append log (noted (journalled n next c.args.entry) (owns ++ own) ∷ []), length-calls log, ap length i.items_are, c.len-index.ensures);
+      account = subst (IsAccount k g.B.Base.base) (sym seen) (account_then k g.B.Base.base log (cell_view c.desk.inside.pass).seen n next c.args.entry owns own (ap (λ (v : View). v.owns) d.holds) i.account e.goes_on.2 d.below leads);
+    }
+
+pub invariant_of-self : goal.invariant_of-self
+invariant_of-self g c =
+    let i = c.self.invariant in
+    let d = c.desk.invariant in
+    let n = c.desk.inside.number in
+    let next = c.desk.inside.next in
+    let log = (cell_view c.self.inside.pass).seen in
+    let e = c.deal-pass.ensures in
+    let owns = (cell_view c.args.one.now).owns ++ (cell_view c.args.other.now).owns in
+    let own = (cell_view c.desk.inside.pass).owns in
+    let k = g.K.RecordKind.rules in
+    let leads = c.requires.follows log n next own i.sound e.goes_on.0 e.goes_on.1 i.account.legal in
+    let made = journalled n next c.args.entry in
+    let seen = ap (λ (v : View). v.seen) e.keeper.1 in
+    let born = ap (λ (v : View). v.born) e.keeper.1 in
+    let known : n < c.self.inside.desks = i.given (desk_key n) (e.born (desk_key n) (subst (Has (desk_key n)) (sym (ap (λ (v : View). v.owns) d.holds)) (inl refl))) refl in
+    record {
+      same = e.keeper.0 ∙ i.same;
+      keeps = e.keeper.1 ∙ ap₂ keeper (sym seen) (sym born);
+      items_are = c.fill.ensures ∙ (ap (λ l. l ++ made ∷ []) i.items_are ∙ (sym (calls-append log (noted made (owns ++ own) ∷ [])) ∙ ap calls (sym seen)));
+      sound = i.sound;
+      account = subst (IsAccount k g.B.Base.base) (sym seen) (account_then k g.B.Base.base log (cell_view c.desk.inside.pass).seen n next c.args.entry owns own (ap (λ (v : View). v.owns) d.holds) i.account e.goes_on.2 d.below leads);
+      given = λ key has kind. i.given key (subst (Has key) born has) kind;
+      new_desk = λ m le. subst (λ l. Below m 0 (calls l)) (sym seen) (below_other log made (owns ++ own) m (λ same. omega arith) (i.new_desk m le));
+    }
+
+pub invariant_of-desk : goal.invariant_of-desk
+invariant_of-desk g c =
+    let i = c.self.invariant in
+    let d = c.desk.invariant in
+    let n = c.desk.inside.number in
+    let next = c.desk.inside.next in
+    let log = (cell_view c.self.inside.pass).seen in
+    let e = c.deal-pass.ensures in
+    let owns = (cell_view c.args.one.now).owns ++ (cell_view c.args.other.now).owns in
+    let own = (cell_view c.desk.inside.pass).owns in
+    let k = g.K.RecordKind.rules in
+    let leads = c.requires.follows log n next own i.sound e.goes_on.0 e.goes_on.1 i.account.legal in
+    let told = ap (λ (v : View). v.seen) e.desk.1 in
+    let seen = told ∙ ap (λ (v : View). v.seen) e.keeper.1 in
+    record {
+      same = e.desk.0 ∙ d.same;
+      holds = e.desk.1 ∙ ap₂ holder (sym told) (ap (λ (v : View). v.owns) d.holds);
+      below = subst (λ l. Below n (next + 1) (calls l)) (sym seen) (below_then k g.B.Base.base log (cell_view c.desk.inside.pass).seen n next c.args.entry owns own (ap (λ (v : View). v.owns) d.holds) i.account e.goes_on.2 d.below leads);
+      account = subst (IsAccount k g.B.Base.base) (sym seen) (account_then k g.B.Base.base log (cell_view c.desk.inside.pass).seen n next c.args.entry owns own (ap (λ (v : View). v.owns) d.holds) i.account e.goes_on.2 d.below leads);
+    }
+
+pub returns-clause-call : goal.returns-clause-call
+returns-clause-call g c =
+    let i = c.self.invariant in
+    let d = c.desk.invariant in
+    let n = c.desk.inside.number in
+    let next = c.desk.inside.next in
+    let log = (cell_view c.self.inside.pass).seen in
+    let e = c.deal-pass.ensures in
+    let owns = (cell_view c.args.one.now).owns ++ (cell_view c.args.other.now).owns in
+    let own = (cell_view c.desk.inside.pass).owns in
+    let k = g.K.RecordKind.rules in
+    let leads = c.requires.follows log n next own i.sound e.goes_on.0 e.goes_on.1 i.account.legal in
+    let seen = ap (λ (v : View). v.seen) e.desk.1 ∙ ap (λ (v : View). v.seen) e.keeper.1 in
+    subst (λ (v : DeskView). Call k g.B.Base.base v c.args.entry (desk_view n (next + 1) (cell_view c.deal-pass.new.desk).seen)) c.desk.view_is
+    (subst (λ (l : List Note). Call k g.B.Base.base (desk_view n next (cell_view c.desk.inside.pass).seen) c.args.entry (desk_view n (next + 1) l)) (sym seen) (called k g.B.Base.base log (cell_view c.desk.inside.pass).seen n next c.args.entry owns own (ap (λ (v : View). v.owns) d.holds) i.account e.goes_on.2 d.below leads))
+
+pub returns-clause-added : goal.returns-clause-added
+returns-clause-added g c =
+    let i = c.self.invariant in
+    let e = c.deal-pass.ensures in
+    subst (λ (l : List Note). AddedByBoth g.K.RecordKind.rules g.B.Base.base (cell_view c.args.one.now).seen (cell_view c.args.one.now).owns (cell_view c.args.other.now).seen (cell_view c.args.other.now).owns c.args.entry l (cell_view c.deal-pass.new.master).seen) c.self.view_is
+    (record {
+      desk = c.desk.inside.number;
+      call = c.desk.inside.next;
+      own = (cell_view c.desk.inside.pass).owns;
+      sound = i.sound;
+      goes_on = e.goes_on.0;
+      also_goes_on = e.goes_on.1;
+      legal = i.account.legal;
+      ends = ap (λ (v : View). v.seen) e.keeper.1;
+    })
