@@ -1,5 +1,5 @@
 -- A field that a record has is shown.
-use Rattle.std.proofs.Common.{◌≡◌, ℕ, List, [], ◌++◌, IsSome, refl, append-nil}
+use Rattle.std.proofs.Common.{◌≡◌, ℕ, List, [], ◌++◌, IsSome, refl, sym, ap, ◌∙◌, append_assoc, append-nil}
 use Rattle.ioc_fields.specs.declared.field_no.FieldNo.{FieldNo}
 use Rattle.ioc_fields.specs.Table.{row_of}
 use Rattle.ioc_record.specs.RecordRules.{RecordRules}
@@ -18,3 +18,17 @@ shown_there k answers w n field has is = rw (has, is) refl
 -- what is said by a reply alone
 pub said_shortly : (reply more said : List ℕ) → reply ≡ said → more ≡ [] → reply ++ more ≡ said
 said_shortly reply more said e none = rw (none, e) (append-nil said)
+
+-- what is said of a line stands behind what was said before
+pub said_behind : (old said replies more later last rest : List ℕ) → replies ++ more ≡ old ++ said → last ≡ more ++ later
+    → old ++ ((said ++ later) ++ rest) ≡ (replies ++ last) ++ rest
+said_behind old said replies more later last rest e f =
+    sym (append_assoc old (said ++ later) rest) ∙ ap (λ l. l ++ rest) (sym (append_assoc old said later) ∙ ap (λ l. l ++ later) (sym e) ∙ append_assoc replies more later ∙ ap (λ l. replies ++ l) (sym f))
+
+-- and of a line after which nothing more is said
+pub said_alone : (old said replies more rest : List ℕ) → replies ++ more ≡ old ++ said → old ++ (said ++ rest) ≡ (replies ++ more) ++ rest
+said_alone old said replies more rest e = sym (append_assoc old said rest) ∙ ap (λ l. l ++ rest) (sym e)
+
+-- what was said is a beginning of what is to be said
+pub said_so_far : (old said replies more later : List ℕ) → replies ++ more ≡ old ++ said → old ++ (said ++ later) ≡ replies ++ (more ++ later)
+said_so_far old said replies more later e = said_alone old said replies more later e ∙ append_assoc replies more later
