@@ -1,8 +1,9 @@
 -- A script piece by piece.
 use Rattle.std.proofs.Common.{◌≡◌, ℕ, ◌<◌, List, [], ◌∷◌, ◌++◌, length, take, ◌≤◌, arith, Option, Some, None, refl, sym, ap, subst, ◌∙◌, append-nil}
 use Rattle.std.specs.Io.KnownBytes.{Appends}
+use Rattle.std.proofs.Math.Seq.{take-append_seam}
 use Rattle.ioc_script.specs.Script.{lines_of, cut, before, behind}
-use Rattle.ioc_main.specs.Coming.{still, to_come, CutsLines}
+use Rattle.ioc_main.specs.Coming.{still, Stands, to_come, CutsLines}
 use Rattle.ioc_main.specs.Written.{Writes, WritesPart, WritesFront, StopsLine}
 use Rattle.ioc_main.specs.declared.fault.LineFault.{LineFault}
 use Rattle.ioc_main.proofs.ComingLemmas.{at_end, at_more, starts, cut-cut, all_read, last_line-of}
@@ -83,18 +84,19 @@ module _ (p : List ℕ) (t : List (List ℕ) → List ℕ) where
       → WritesPart w (q ++ more) v → (lines : List (List ℕ)) → WritesPart w (still p t (line ∷ lines)) v
   answered_fails w v u line q more e x lines = subst (λ (l : List ℕ). WritesPart w l v) (sym (e lines)) (part_more w v (q ++ more) (u lines) x)
 
-  -- a line wasn't answered
-  pub gives_up : (w v : Option (List ℕ)) (line q slice : List ℕ) → ((lines : List (List ℕ)) → (rest : List ℕ) × (still p t (line ∷ lines) ≡ q ++ rest))
-      → slice ≡ q → Appends w v slice → (lines : List (List ℕ)) → WritesFront w (still p t (line ∷ lines)) v
-  gives_up w v line q slice e same x lines =
-      let k = e lines in
-      (k.0, subst (λ (l : List ℕ). Writes w l v k.0) (sym k.1) (writes_all w v q k.0 (subst (λ (l : List ℕ). Appends w v l) same x)))
+  -- a line wasn't answered, and what was said before is written
+  front_of : (q slice : List ℕ) (n : ℕ) → n ≡ length p → Stands p q → slice ≡ take n q → slice ≡ p
+  front_of q slice n many stands is = is ∙ ap (λ (m : ℕ). take m q) many ∙ ap (λ (l : List ℕ). take (length p) l) stands.1 ∙ take-append_seam p stands.0
 
-  pub gives_up_midway : (w v : Option (List ℕ)) (line q slice : List ℕ) → ((lines : List (List ℕ)) → (rest : List ℕ) × (still p t (line ∷ lines) ≡ q ++ rest))
-      → slice ≡ q → WritesPart w slice v → (lines : List (List ℕ)) → WritesPart w (still p t (line ∷ lines)) v
-  gives_up_midway w v line q slice e same x lines =
-      let k = e lines in
-      subst (λ (l : List ℕ). WritesPart w l v) (sym k.1) (part_more w v q k.0 (subst (λ (l : List ℕ). WritesPart w l v) same x))
+  pub gives_up : (w v : Option (List ℕ)) (line q slice : List ℕ) (n : ℕ) → n ≡ length p → Stands p q → slice ≡ take n q
+      → Appends w v slice → (lines : List (List ℕ)) → WritesFront w (still p t (line ∷ lines)) v
+  gives_up w v line q slice n many stands is x lines =
+      (t (line ∷ lines), writes_all w v p (t (line ∷ lines)) (subst (λ (l : List ℕ). Appends w v l) (front_of q slice n many stands is) x))
+
+  pub gives_up_midway : (w v : Option (List ℕ)) (line q slice : List ℕ) (n : ℕ) → n ≡ length p → Stands p q → slice ≡ take n q
+      → WritesPart w slice v → (lines : List (List ℕ)) → WritesPart w (still p t (line ∷ lines)) v
+  gives_up_midway w v line q slice n many stands is x lines =
+      part_more w v p (t (line ∷ lines)) (subst (λ (l : List ℕ). WritesPart w l v) (front_of q slice n many stands is) x)
 
   -- the script is at its end
   pub rest_empty : (w : Option (List ℕ)) (line slice : List ℕ) → slice ≡ line → length slice < 1 → t [] ≡ [] → Writes w (to_come (still p t) line []) w p

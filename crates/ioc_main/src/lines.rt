@@ -43,7 +43,7 @@ fn make_room<W: Write>(said: &mut Said, out: &mut W) -> Result<(), WriteFault>
     write_said(said, out)
 }
 
-// Answers a line behind what was said before.
+// Answers a line behind what was said before. Where it isn't answered, what was said before is written, and nothing of the line.
 fn say<S: Session, W: Write>(
     session: &mut S,
     said: &mut Said,
@@ -57,13 +57,14 @@ fn say<S: Session, W: Write>(
     ensures none { OnOk result (said.new.more.items ≡ []) }
     ensures err { IfErr result (λ fault. (lines : List (List ℕ)) → StopsLine fault (W.contents out.old) (still said.old.replies (S.transcript session.old) (line.now ∷ lines)) (W.contents out.new)) }
 {
+    let before = said.replies.as_slice().len();
     match session.answer(line, said) {
         Ok(()) => {
             make_room(said, out)?;
             Ok(())
         }
         Err(_) => {
-            write_text(out, said.replies.as_slice())?;
+            write_text(out, &said.replies.as_slice()[..before])?;
             Err(LineFault::Memory)
         }
     }

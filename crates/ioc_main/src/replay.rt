@@ -1,7 +1,8 @@
 //! A loaded database, to which a script is done.
-ghost use Rattle.std.specs.Prelude.{◌≡◌, ◌≤◌, ◌+◌, ◌∷◌, ◌++◌, [], List, ℕ, length, IfOk, OnOk, OnErr};
+ghost use Rattle.std.specs.Prelude.{◌≡◌, ◌≤◌, ◌+◌, ◌∷◌, ◌++◌, [], List, ℕ, length, codes, IfOk, OnOk, OnErr};
 ghost use Rattle.ioc_names.specs.NameTable.{number_of};
 ghost use Rattle.ioc_types.specs.Record.{record_rules};
+ghost use Rattle.ioc_record.specs.Values.{text_of};
 ghost use Rattle.ioc_process.specs.Rules.{IsSettled};
 ghost use Rattle.ioc_dbfile.specs.FirstWorld.{first_world};
 ghost use Rattle.ioc_machine.specs.Machine.{first_machine, queued_on, with_none_ended, given_up, scanned};
@@ -12,11 +13,13 @@ ghost use Rattle.ioc_main.specs.Relink.{were_linked};
 ghost use Rattle.ioc_script.specs.Script.{command_of};
 ghost use Rattle.ioc_script.specs.Seen.{seen};
 ghost use Rattle.ioc_main.specs.Sets.{sets_line};
+ghost use Rattle.ioc_main.specs.Coming.{Stands};
 
 use crate::fields::{channel, relink};
 use crate::session::{Replies, Said, Session};
 use crate::sets::say_sets;
 use ioc_device::Answer;
+use ioc_fields::FieldNo;
 use ioc_machine::{Machine, event_list, interrupt_list};
 use ioc_names::Names;
 use ioc_notify::NotifyId;
@@ -43,6 +46,16 @@ fn given_value(text: &[u8]) -> Value
     ensures { result ≡ given_value text.now }
 {
     Value::Text(Text::cut(text))
+}
+
+// Says the text of a field in a line behind others.
+fn say_shown(replies: &mut Replies, item: &Record, field: FieldNo)
+    requires { length replies.old + 256 ≤ 4096 }
+    ensures { replies.new ≡ replies.old ++ (codes "= " ++ text_of record_rules item.now field) ++ 10 ∷ [] }
+{
+    replies.extend(b"= ");
+    add_text(replies, item, field);
+    replies.push(b'\n');
 }
 
 impl Replay {
@@ -90,11 +103,7 @@ impl Replay {
         ensures { replies.new ≡ replies.old ++ reply_words (got record_rules self.now.names (machine_of self.now.machine) (channel record_rules self.now.names (machine_of self.now.machine).world record_name.now field_name.now)).reply ++ 10 ∷ [] }
     {
         match channel(&self.names, &self.machine, record_name, field_name) {
-            Ok((number, field)) => {
-                replies.extend(b"= ");
-                add_text(replies, self.machine.map().record(number), field);
-                replies.push(b'\n');
-            }
+            Ok((number, field)) => say_shown(replies, self.machine.map().record(number), field),
             Err(refused) => say_refusal(replies, refused),
         }
     }
@@ -302,14 +311,14 @@ impl Replay {
     }
 
     // Does what a line asks for, and says it.
-    #[tactic(auto, unfolding(crate::specs::Replay::carried_out), using(crate::proofs::Getting::said_shortly))]
+    #[tactic(auto, unfolding(crate::specs::Replay::carried_out), using(crate::proofs::Getting::said_shortly, crate::proofs::Getting::stands_before, crate::proofs::Getting::stands_alone))]
     fn carry_out(&mut self, command: &Command<'_>, said: &mut Said) -> Result<(), AllocError>
         requires room { length said.old.replies + 256 ≤ 4096 }
         requires none { said.old.more.items ≡ [] }
         ensures names { self.new.names ≡ self.old.names }
         ensures machine { OnOk result (machine_of self.new.machine ≡ (carried_out record_rules self.old.names (machine_of self.old.machine) (seen command.now)).machine) }
         ensures said { OnOk result (said.new.replies ++ said.new.more.items ≡ said.old.replies ++ (carried_out record_rules self.old.names (machine_of self.old.machine) (seen command.now)).said) }
-        ensures kept { OnErr result (said.new.replies ≡ said.old.replies) }
+        ensures stands { Stands said.old.replies said.new.replies }
     {
         match *command {
             Command::Silent => {}

@@ -1,7 +1,7 @@
 //! Who answers the lines of a script.
 ghost use Rattle.std.specs.Prelude.{◌≡◌, ◌↔◌, ◌≤◌, ◌+◌, ◌∷◌, ◌++◌, [], IsTrue, List, ℕ, length, OnOk, OnErr};
 ghost use Rattle.ioc_script.specs.Script.{cut};
-ghost use Rattle.ioc_main.specs.Coming.{still};
+ghost use Rattle.ioc_main.specs.Coming.{still, Stands};
 
 use ioc_values::Room;
 use std::alloc::{AllocError, Global};
@@ -54,12 +54,12 @@ pub trait Session {
     ///
     /// # Errors
     ///
-    /// [`AllocError`] where a growth was refused: what stands among the replies is still to be written, and nothing more may be asked.
+    /// [`AllocError`] where a growth was refused: what was said before is still to be written, and nothing more may be asked.
     fn answer(&mut self, line: &[u8], said: &mut Said) -> Result<(), AllocError>
         requires room { length said.old.replies + 256 ≤ 4096 }
         requires none { said.old.more.items ≡ [] }
         ensures ok { OnOk result ((lines : List (List ℕ)) → still said.old.replies (transcript self.old) (line.now ∷ lines) ≡ still (said.new.replies ++ said.new.more.items) (transcript self.new) lines) }
-        ensures err { OnErr result ((lines : List (List ℕ)) → (rest : List ℕ) × (still said.old.replies (transcript self.old) (line.now ∷ lines) ≡ said.new.replies ++ rest)) };
+        ensures err { OnErr result (Stands said.old.replies said.new.replies) };
 
     ghost no_lines: { (s : Self) → transcript s [] ≡ [] };
 
