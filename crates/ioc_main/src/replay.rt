@@ -25,9 +25,7 @@ use ioc_names::Names;
 use ioc_notify::NotifyId;
 use ioc_record::add_text;
 use ioc_scan::ListName;
-use ioc_script::{
-    Command, count_line, ended_line, say_effect, say_refusal, say_reply, tally_line,
-};
+use ioc_script::{Command, count_line, ended_line, say_effect, say_refusal, say_reply, tally_line};
 use ioc_store::Store;
 use ioc_types::Record;
 use ioc_values::{Finished, Input, IocError, Text, Value};

@@ -32,10 +32,13 @@ loop-rest-smaller g c =
 
 pub loop-rest-preserved : goal.loop-rest-preserved
 loop-rest-preserved g c =
-    let more : behind 10 c.loop-rest.rest.now ≡ Some c.in-Some.more.now = sym c.cut_at.ensures.back ∙ ap (option_map (λ r. r.now)) c.in-Some.is in
-    (c.in_ok-end_line.ensures.room, c.in_ok-end_line.ensures.none, λ tail. feed_step (g.W.Write.contents c.args.out.now) (g.W.Write.contents c.loop-rest.out) (g.W.Write.contents c.end_line.new.out) (to_come (still c.args.said.now.replies (g.S.Session.transcript c.args.session.now)) c.args.line.now (c.args.piece.now ++ tail)) (to_come (still c.loop-rest.said.replies (g.S.Session.transcript c.loop-rest.session)) c.loop-rest.line (c.loop-rest.rest.now ++ tail)) (to_come (still c.end_line.new.said.replies (g.S.Session.transcript c.end_line.new.session)) c.end_line.new.line (c.in-Some.more.now ++ tail))
-    (line_ends (still c.loop-rest.said.replies (g.S.Session.transcript c.loop-rest.session)) (g.W.Write.contents c.loop-rest.out) (g.W.Write.contents c.end_line.new.out) c.loop-rest.line c.loop-rest.rest.now c.in-Some.more.now c.cut_at.result.0.now more c.cut_at.ensures.front (still c.end_line.new.said.replies (g.S.Session.transcript c.end_line.new.session)) c.end_line.new.line c.in_ok-end_line.ensures.ok tail)
-    (c.loop-rest.invariant.2 tail))
+    let more : behind 10 c.loop-rest.rest.now ≡ Some c.in-Some.more.now = sym c.cut_at.ensures.back ∙ ap (option_map (λ r. r.now)) c.in-Some.is in (
+      c.in_ok-end_line.ensures.room,
+      c.in_ok-end_line.ensures.none,
+      λ tail. feed_step (g.W.Write.contents c.args.out.now) (g.W.Write.contents c.loop-rest.out) (g.W.Write.contents c.end_line.new.out) (to_come (still c.args.said.now.replies (g.S.Session.transcript c.args.session.now)) c.args.line.now (c.args.piece.now ++ tail)) (to_come (still c.loop-rest.said.replies (g.S.Session.transcript c.loop-rest.session)) c.loop-rest.line (c.loop-rest.rest.now ++ tail)) (to_come (still c.end_line.new.said.replies (g.S.Session.transcript c.end_line.new.session)) c.end_line.new.line (c.in-Some.more.now ++ tail))
+          (line_ends (still c.loop-rest.said.replies (g.S.Session.transcript c.loop-rest.session)) (g.W.Write.contents c.loop-rest.out) (g.W.Write.contents c.end_line.new.out) c.loop-rest.line c.loop-rest.rest.now c.in-Some.more.now c.cut_at.result.0.now more c.cut_at.ensures.front (still c.end_line.new.said.replies (g.S.Session.transcript c.end_line.new.session)) c.end_line.new.line c.in_ok-end_line.ensures.ok tail)
+          (c.loop-rest.invariant.2 tail),
+    )
 
 pub returns-clause-ok : goal.returns-clause-ok
 returns-clause-ok g c =
