@@ -1,5 +1,5 @@
 -- The starts of puts with notification, as the code meets them.
-use Rattle.std.proofs.Common.{◌≡◌, ◌≤◌, ℕ, zero, suc, true, false, Option, Some, refl, sym, ap, subst, ◌∙◌, arith}
+use Rattle.std.proofs.Common.{◌≡◌, ◌≤◌, ℕ, length, zero, suc, true, false, Option, Some, refl, sym, ap, subst, ◌∙◌, arith}
 use Rattle.ioc_ledger.specs.declared.outcome.Outcome.{Outcome}
 use Rattle.ioc_ledger.specs.declared.tally.Tally.{Tally}
 use Rattle.ioc_ledger.specs.Requests.{None, counted}
@@ -13,7 +13,7 @@ use Rattle.ioc_store.specs.Notifying.{notified}
 use Rattle.ioc_process.specs.Processing.{Done, ran}
 use Rattle.ioc_process.specs.Runs.{Leaves}
 use Rattle.ioc_events.specs.Events.{Counts}
-use Rattle.ioc_events.specs.Starting.{processes, next_waiting, taken_and_stored, started, started_then, started_most}
+use Rattle.ioc_events.specs.Starting.{processes, next_waiting, taken_and_stored, started, started_then, started_most, all_started}
 use Rattle.ioc_process.specs.Bodies.{counted-followed_by}
 use Rattle.ioc_process.specs.Depth.{request-rule}
 use Rattle.ioc_events.proofs.StartRules.{started-by, start-next, IsBest, best-next, is-next}
@@ -22,6 +22,11 @@ use Rattle.ioc_events.proofs.QuietEvents.{ready-has}
 pub admitted-waiting : {R : Type 0} (number : ℕ) (w : World R) → (admitted number w).waiting ≡ w.waiting
 unfolding admitted
 admitted-waiting number w = refl
+
+-- where none waits none starts
+pub none-waits : {R : Type 0} (k : RecordRules R) (answers : Answers) (w : World R) → length w.waiting ≡ 0 → all_started k answers w ≡ record { world = w; requests = None }
+unfolding all_started started_most
+none-waits k answers w none = rw none refl
 
 module _ {R : Type 0} (k : RecordRules R) (lawful : IsLawful k) (answers : Answers) where
   pub counts-told : (w after : World R) (x : Waiting) (t : Tally) → processes k (at k (taken_and_stored k w x) x.target) x.field ≡ false → after ≡ notified k (taken_and_stored k w x) x.target

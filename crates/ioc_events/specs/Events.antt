@@ -1,15 +1,24 @@
 -- What the code of an event does, by what the event does.
-use Rattle.std.specs.Prelude.{◌≡◌, ℕ, drop, if◌then◌else◌}
+use Rattle.std.specs.Prelude.{◌≡◌, ℕ, Bool, drop, if◌then◌else◌, Option, Some, None as Nothing_, Result, Ok, Err}
+use Rattle.ioc_values.specs.declared.error.IocError.{IocError}
+use Rattle.ioc_ledger.specs.declared.outcome.Outcome.{Outcome}
 use Rattle.ioc_ledger.specs.declared.tally.Tally.{Tally}
 use Rattle.ioc_ledger.specs.Requests.{None, counted, counted_started}
 use Rattle.ioc_record.specs.RecordRules.{RecordRules}
 use Rattle.ioc_events.specs.declared.event.Event.{Event}
 use Rattle.ioc_events.specs.declared.reply.Reply.{Reply}
+use Rattle.ioc_events.specs.declared.reply.Reply.TheVariants.{Plain, Outcome as Outcome-reply, Refused}
 use Rattle.ioc_store.specs.World.{World}
 use Rattle.ioc_store.specs.Given.{Answers, later_among}
 use Rattle.ioc_process.specs.Processing.{Done}
 use Rattle.ioc_events.specs.Starting.{all_started}
 use Rattle.ioc_events.specs.Step.{Stepped, is_refusal, tallied}
+
+-- the reply that tells what a request or a put came to: what became of the request, where there was one, or a refusal
+abbrev pub reply_of : Result (Option Outcome) IocError → Reply
+reply_of (Ok (Some outcome)) = Outcome-reply outcome
+reply_of (Ok Nothing_) = Plain
+reply_of (Err e) = Refused e
 
 -- the database, the reply and the tally after this event
 pub record Tells {R : Type 0} (w after : World R) (result : Reply) (before counts : Tally) (event : Event) (done : Stepped R) : Type 0 where
@@ -29,8 +38,11 @@ pub record Counts {R : Type 0} (after : World R) (before counts : Tally) (done :
   pub tally : counts ≡ counted before done.requests
 
 -- what comes after an event by itself: those that wait start where they can, unless it was refused
+abbrev pub ends_unless : {R : Type 0} → RecordRules R → Answers → World R → Bool → Done R
+ends_unless k answers w refused = if refused then record { world = w; requests = None } else all_started k answers w
+
 abbrev pub ends : {R : Type 0} → RecordRules R → Answers → World R → Reply → Done R
-ends k answers w reply = if is_refusal reply then record { world = w; requests = None } else all_started k answers w
+ends k answers w reply = ends_unless k answers w (is_refusal reply)
 
 -- the database after that, and the tally with its requests and with the answers, from this call on, that come later
 pub record Ends {R : Type 0} (after : World R) (asked : ℕ) (before counts : Tally) (done : Done R) : Type 0 where

@@ -1,23 +1,24 @@
 //! What an event does by itself: a request, a put, a completion.
 ghost use Rattle.std.specs.FinMap.{len};
 ghost use Rattle.std.specs.Vec.{vec_capacity};
-ghost use Rattle.std.specs.Prelude.{◌≡◌, ◌≤◌, [], OnOk, OnErr, IfErr, Ok, Err};
+ghost use Rattle.std.specs.Prelude.{◌≡◌, ◌≤◌, [], OnOk, OnErr, IfErr, Some, Ok, Err};
+ghost use Rattle.ioc_values.specs.Conversion.{input_of};
 ghost use Rattle.ioc_record.specs.Values.{put_field};
 ghost use Rattle.ioc_store.specs.World.{Has, at, put, common_at, IsClosed, Keeps};
 ghost use Rattle.ioc_store.specs.Given.{Begins};
 ghost use Rattle.ioc_process.specs.Runs.{ForAnswers};
 ghost use Rattle.ioc_events.specs.declared.event.Event.TheVariants.{Process, Put, Complete};
 ghost use Rattle.ioc_events.specs.Step.{processes, awaits, told, after_put, done_alone};
-ghost use Rattle.ioc_events.specs.Events.{Makes};
+ghost use Rattle.ioc_events.specs.Events.{Makes, reply_of};
 
-use crate::reply::Reply;
+use crate::reply::{Effect, Reply};
 use ioc_common::Common;
 use ioc_fields::{FieldNo, is_process_passive};
 use ioc_ledger::{Outcome, Tally};
 use ioc_names::RecordNo;
 use ioc_process::outputs::is_proc;
 use ioc_process::process::{complete_record, request_record};
-use ioc_record::{RecordKind, put_field};
+use ioc_record::{RecordKind, put_field, put_spelled};
 use ioc_store::frames::Frame;
 use ioc_store::scan_change::rescan;
 use ioc_store::steps::{mark_put, mark_reprocess};
@@ -33,26 +34,25 @@ pub fn processes<K: RecordKind>(record: &K, field: FieldNo) -> bool
         || (is_process_passive(record.record_type(), field) && record.common().is_passive())
 }
 
-// Requests a record that is there, and tells the outcome.
+// Requests a record that is there, and answers what became of the request.
 fn tell<S: Store>(
     store: &mut S,
     frames: &mut Vec<Frame>,
     number: RecordNo,
     tally: &mut Tally,
-) -> Reply
+) -> Outcome
     requires there { Has (S.world store.old) number }
     requires closed { IsClosed S.Record.rules (S.world store.old) }
     requires empty { frames.old.items ≡ [] }
     requires room { len (S.world store.old).records ≤ vec_capacity frames.old }
     ensures told { ForAnswers (S.given store.new) (λ answers.
-        Makes (S.world store.new) result tally.old tally.new (told S.Record.rules answers (S.world store.old) number)) }
+        Makes (S.world store.new) (reply_of (Ok (Some result))) tally.old tally.new (told S.Record.rules answers (S.world store.old) number)) }
     ensures keeps { Keeps S.Record.rules (S.world store.old) (S.world store.new) }
     ensures given { Begins S.Device.gives (S.given store.old) (S.given store.new) }
     ensures empty { frames.new.items ≡ [] }
     ensures room { vec_capacity frames.new ≡ vec_capacity frames.old }
 {
-    let outcome = request_record(store, frames, number, tally);
-    Reply::Outcome(outcome)
+    request_record(store, frames, number, tally)
 }
 
 /// Requests a record.
@@ -61,21 +61,22 @@ pub fn request<S: Store>(
     frames: &mut Vec<Frame>,
     number: RecordNo,
     tally: &mut Tally,
-) -> Reply
+) -> Effect
     requires closed { IsClosed S.Record.rules (S.world store.old) }
     requires empty { frames.old.items ≡ [] }
     requires room { len (S.world store.old).records ≤ vec_capacity frames.old }
     ensures done { ForAnswers (S.given store.new) (λ answers.
-        Makes (S.world store.new) result tally.old tally.new (done_alone S.Record.rules answers (S.world store.old) (Process number))) }
+        Makes (S.world store.new) (reply_of result) tally.old tally.new (done_alone S.Record.rules answers (S.world store.old) (Process number))) }
     ensures keeps { Keeps S.Record.rules (S.world store.old) (S.world store.new) }
     ensures given { Begins S.Device.gives (S.given store.old) (S.given store.new) }
     ensures empty { frames.new.items ≡ [] }
     ensures room { vec_capacity frames.new ≡ vec_capacity frames.old }
 {
     if !store.has(number) {
-        return Reply::Refused(IocError::NoRecord);
+        return Err(IocError::NoRecord);
     }
-    tell(store, frames, number, tally)
+    let outcome = tell(store, frames, number, tally);
+    Ok(Some(outcome))
 }
 
 // Puts a value into a field of a record that is there.
@@ -96,6 +97,24 @@ fn put_into<S: Store>(
     put_field(record, field, given)
 }
 
+// The same with what a text spells.
+fn spell_into<S: Store>(
+    store: &mut S,
+    number: RecordNo,
+    field: FieldNo,
+    text: &[u8],
+) -> Result<(), IocError>
+    requires { Has (S.world store.old) number }
+    ensures ok { OnOk result (put_field S.Record.rules (at S.Record.rules (S.world store.old) number) field (input_of text.now) ≡ Ok (at S.Record.rules (S.world store.new) number)) }
+    ensures stored { OnOk result (S.world store.new ≡ put (S.world store.old) number (at S.Record.rules (S.world store.new) number)) }
+    ensures err { IfErr result (λ e. put_field S.Record.rules (at S.Record.rules (S.world store.old) number) field (input_of text.now) ≡ Err e) }
+    ensures same { OnErr result (S.world store.new ≡ S.world store.old) }
+    ensures given { S.given store.new ≡ S.given store.old }
+{
+    let record = store.record_mut(number);
+    put_spelled(record, field, text)
+}
+
 // The record was put to, and is processed if the field says so; one that is active is put down for another processing.
 #[tactic(auto, unfolding(crate::specs::Step::after_put))]
 fn process_after_put<S: Store>(
@@ -104,28 +123,28 @@ fn process_after_put<S: Store>(
     number: RecordNo,
     field: FieldNo,
     tally: &mut Tally,
-) -> Reply
+) -> Option<Outcome>
     requires there { Has (S.world store.old) number }
     requires closed { IsClosed S.Record.rules (S.world store.old) }
     requires empty { frames.old.items ≡ [] }
     requires room { len (S.world store.old).records ≤ vec_capacity frames.old }
     ensures after { ForAnswers (S.given store.new) (λ answers.
-        Makes (S.world store.new) result tally.old tally.new (after_put S.Record.rules answers (S.world store.old) number field)) }
+        Makes (S.world store.new) (reply_of (Ok result)) tally.old tally.new (after_put S.Record.rules answers (S.world store.old) number field)) }
     ensures keeps { Keeps S.Record.rules (S.world store.old) (S.world store.new) }
     ensures given { Begins S.Device.gives (S.given store.old) (S.given store.new) }
     ensures empty { frames.new.items ≡ [] }
     ensures room { vec_capacity frames.new ≡ vec_capacity frames.old }
 {
     if !processes(store.record(number), field) {
-        return Reply::Plain;
+        return None;
     }
     if store.record(number).common().active {
         mark_reprocess(store, number);
         tally.count(Outcome::Reprocess);
-        return Reply::Outcome(Outcome::Reprocess);
+        return Some(Outcome::Reprocess);
     }
     mark_put(store, number);
-    tell(store, frames, number, tally)
+    Some(tell(store, frames, number, tally))
 }
 
 /// Puts a value into a field, and processes the record where the field says so.
@@ -136,27 +155,54 @@ pub fn put<S: Store>(
     field: FieldNo,
     given: Input,
     tally: &mut Tally,
-) -> Reply
+) -> Effect
     requires closed { IsClosed S.Record.rules (S.world store.old) }
     requires empty { frames.old.items ≡ [] }
     requires room { len (S.world store.old).records ≤ vec_capacity frames.old }
     ensures done { ForAnswers (S.given store.new) (λ answers.
-        Makes (S.world store.new) result tally.old tally.new (done_alone S.Record.rules answers (S.world store.old) (Put number field given))) }
+        Makes (S.world store.new) (reply_of result) tally.old tally.new (done_alone S.Record.rules answers (S.world store.old) (Put number field given))) }
     ensures keeps { Keeps S.Record.rules (S.world store.old) (S.world store.new) }
     ensures given { Begins S.Device.gives (S.given store.old) (S.given store.new) }
     ensures empty { frames.new.items ≡ [] }
     ensures room { vec_capacity frames.new ≡ vec_capacity frames.old }
 {
     if !store.has(number) {
-        return Reply::Refused(IocError::NoRecord);
+        return Err(IocError::NoRecord);
     }
     match put_into(store, number, field, given) {
         Ok(()) => {
             rescan(store, number, field);
-            process_after_put(store, frames, number, field, tally)
+            Ok(process_after_put(store, frames, number, field, tally))
         }
-        Err(refused) => Reply::Refused(refused),
+        Err(refused) => Err(refused),
     }
+}
+
+/// The same with what a text spells.
+pub fn spell<S: Store>(
+    store: &mut S,
+    frames: &mut Vec<Frame>,
+    number: RecordNo,
+    field: FieldNo,
+    text: &[u8],
+    tally: &mut Tally,
+) -> Effect
+    requires closed { IsClosed S.Record.rules (S.world store.old) }
+    requires empty { frames.old.items ≡ [] }
+    requires room { len (S.world store.old).records ≤ vec_capacity frames.old }
+    ensures done { ForAnswers (S.given store.new) (λ answers.
+        Makes (S.world store.new) (reply_of result) tally.old tally.new (done_alone S.Record.rules answers (S.world store.old) (Put number field (input_of text.now)))) }
+    ensures keeps { Keeps S.Record.rules (S.world store.old) (S.world store.new) }
+    ensures given { Begins S.Device.gives (S.given store.old) (S.given store.new) }
+    ensures empty { frames.new.items ≡ [] }
+    ensures room { vec_capacity frames.new ≡ vec_capacity frames.old }
+{
+    if !store.has(number) {
+        return Err(IocError::NoRecord);
+    }
+    spell_into(store, number, field, text)?;
+    rescan(store, number, field);
+    Ok(process_after_put(store, frames, number, field, tally))
 }
 
 // Does the record await the completion of this number?

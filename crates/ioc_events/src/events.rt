@@ -10,9 +10,10 @@ ghost use Rattle.ioc_events.specs.declared.event.Event.TheVariants.{Get, Process
 ghost use Rattle.ioc_events.specs.Step.{is_refusal, completes, stepped};
 ghost use Rattle.ioc_values.specs.declared.value.Finished.{Finished};
 ghost use Rattle.ioc_ledger.specs.Requests.{counted_started};
-ghost use Rattle.ioc_events.specs.Events.{Tells, ends, Ends};
+ghost use Rattle.ioc_values.specs.Conversion.{input_of};
+ghost use Rattle.ioc_events.specs.Events.{Tells, reply_of, ends_unless, ends, Ends};
 
-use crate::reply::Reply;
+use crate::reply::{Effect, Reply, is_refused};
 use crate::starting::start_all;
 use crate::{alone, notify};
 use ioc_fields::{FieldNo, row_of};
@@ -75,6 +76,30 @@ fn is_done(reply: &Reply) -> bool
 
 // What comes after an event by itself: those that wait start where they can, unless it was refused, and the answers, from this call on,
 // that are to come later are counted.
+fn end_unless<S: Store>(
+    store: &mut S,
+    frames: &mut Vec<Frame>,
+    asked: usize,
+    refused: bool,
+    tally: &mut Tally,
+)
+    requires closed { IsClosed S.Record.rules (S.world store.old) }
+    requires empty { frames.old.items ≡ [] }
+    requires room { len (S.world store.old).records ≤ vec_capacity frames.old }
+    ensures ends { ForAnswers (S.given store.new) (λ answers.
+        Ends (S.world store.new) asked tally.old tally.new (ends_unless S.Record.rules answers (S.world store.old) refused)) }
+    ensures keeps { Keeps S.Record.rules (S.world store.old) (S.world store.new) }
+    ensures given { Begins S.Device.gives (S.given store.old) (S.given store.new) }
+    ensures empty { frames.new.items ≡ [] }
+    ensures room { vec_capacity frames.new ≡ vec_capacity frames.old }
+{
+    if !refused {
+        start_all(store, frames, tally);
+    }
+    count_started(store, asked, tally);
+}
+
+// The same by the reply.
 fn end_event<S: Store>(
     store: &mut S,
     frames: &mut Vec<Frame>,
@@ -92,10 +117,55 @@ fn end_event<S: Store>(
     ensures empty { frames.new.items ≡ [] }
     ensures room { vec_capacity frames.new ≡ vec_capacity frames.old }
 {
-    if !is_refusal(reply) {
-        start_all(store, frames, tally);
-    }
-    count_started(store, asked, tally);
+    end_unless(store, frames, asked, is_refusal(reply), tally);
+}
+
+// The same by what a request or a put came to.
+fn end_effect<S: Store>(
+    store: &mut S,
+    frames: &mut Vec<Frame>,
+    asked: usize,
+    effect: &Effect,
+    tally: &mut Tally,
+)
+    requires closed { IsClosed S.Record.rules (S.world store.old) }
+    requires empty { frames.old.items ≡ [] }
+    requires room { len (S.world store.old).records ≤ vec_capacity frames.old }
+    ensures ends { ForAnswers (S.given store.new) (λ answers.
+        Ends (S.world store.new) asked tally.old tally.new (ends S.Record.rules answers (S.world store.old) (reply_of effect.now))) }
+    ensures keeps { Keeps S.Record.rules (S.world store.old) (S.world store.new) }
+    ensures given { Begins S.Device.gives (S.given store.old) (S.given store.new) }
+    ensures empty { frames.new.items ≡ [] }
+    ensures room { vec_capacity frames.new ≡ vec_capacity frames.old }
+{
+    end_unless(store, frames, asked, is_refused(effect), tally);
+}
+
+/// Requests a record, and answers what that came to.
+///
+/// # Errors
+///
+/// [`IocError::NoRecord`] where there is no such record. Nothing is changed then.
+pub fn make_request<S: Store>(
+    store: &mut S,
+    frames: &mut Vec<Frame>,
+    number: RecordNo,
+    tally: &mut Tally,
+) -> Effect
+    requires closed { IsClosed S.Record.rules (S.world store.old) }
+    requires empty { frames.old.items ≡ [] }
+    requires room { len (S.world store.old).records ≤ vec_capacity frames.old }
+    ensures step { ForAnswers (S.given store.new) (λ answers.
+        Tells (S.world store.old) (S.world store.new) (reply_of result) tally.old tally.new (Process number) (stepped S.Record.rules answers (S.world store.old) (Process number))) }
+    ensures keeps { Keeps S.Record.rules (S.world store.old) (S.world store.new) }
+    ensures given { Begins S.Device.gives (S.given store.old) (S.given store.new) }
+    ensures empty { frames.new.items ≡ [] }
+    ensures room { vec_capacity frames.new ≡ vec_capacity frames.old }
+{
+    let asked = store.asked();
+    let effect = alone::request(store, frames, number, tally);
+    end_effect(store, frames, asked, &effect, tally);
+    effect
 }
 
 /// Requests a record.
@@ -119,10 +189,8 @@ pub fn run_request<S: Store>(
     ensures empty { frames.new.items ≡ [] }
     ensures room { vec_capacity frames.new ≡ vec_capacity frames.old }
 {
-    let asked = store.asked();
-    let reply = alone::request(store, frames, number, tally);
-    end_event(store, frames, asked, &reply, tally);
-    reply
+    let effect = make_request(store, frames, number, tally);
+    Reply::of(effect)
 }
 
 /// Puts a value into a field, and processes the record where the field is PROC, or is process-passive and the record
@@ -152,9 +220,38 @@ pub fn run_put<S: Store>(
     ensures room { vec_capacity frames.new ≡ vec_capacity frames.old }
 {
     let asked = store.asked();
-    let reply = alone::put(store, frames, number, field, given, tally);
-    end_event(store, frames, asked, &reply, tally);
-    reply
+    let effect = alone::put(store, frames, number, field, given, tally);
+    end_effect(store, frames, asked, &effect, tally);
+    Reply::of(effect)
+}
+
+/// Puts what a text spells into a field as [`run_put`] does, and answers what that came to: the text is converted where it lies.
+///
+/// # Errors
+///
+/// Those that [`run_put`] replies. Nothing is changed then.
+pub fn make_spelled_put<S: Store>(
+    store: &mut S,
+    frames: &mut Vec<Frame>,
+    number: RecordNo,
+    field: FieldNo,
+    text: &[u8],
+    tally: &mut Tally,
+) -> Effect
+    requires closed { IsClosed S.Record.rules (S.world store.old) }
+    requires empty { frames.old.items ≡ [] }
+    requires room { len (S.world store.old).records ≤ vec_capacity frames.old }
+    ensures step { ForAnswers (S.given store.new) (λ answers.
+        Tells (S.world store.old) (S.world store.new) (reply_of result) tally.old tally.new (Put number field (input_of text.now)) (stepped S.Record.rules answers (S.world store.old) (Put number field (input_of text.now)))) }
+    ensures keeps { Keeps S.Record.rules (S.world store.old) (S.world store.new) }
+    ensures given { Begins S.Device.gives (S.given store.old) (S.given store.new) }
+    ensures empty { frames.new.items ≡ [] }
+    ensures room { vec_capacity frames.new ≡ vec_capacity frames.old }
+{
+    let asked = store.asked();
+    let effect = alone::spell(store, frames, number, field, text, tally);
+    end_effect(store, frames, asked, &effect, tally);
+    effect
 }
 
 /// The device of a record has answered at last, to the wait of this number: the record goes on with what it gave. What the device of an

@@ -13,6 +13,9 @@ pub mod reply;
 pub mod starting;
 
 pub use event::{Entry, Event, KeptAnswers};
-pub use events::{run_cancel, run_complete, run_get, run_live, run_notify, run_put, run_request};
+pub use events::{
+    make_request, make_spelled_put, run_cancel, run_complete, run_get, run_live, run_notify,
+    run_put, run_request,
+};
 pub use link_change::run_link;
-pub use reply::Reply;
+pub use reply::{Effect, Reply};

@@ -103,8 +103,9 @@ pub fn start<S: Store>(store: &mut S, frames: &mut Vec<Frame>, waiting: &Waiting
     let _outcome = request_record(store, frames, waiting.target, tally);
 }
 
-/// Those that wait start where they can, one after another, until there is none.
-pub fn start_all<S: Store>(store: &mut S, frames: &mut Vec<Frame>, tally: &mut Tally)
+// The same, where some wait. This isn't inlined, since mostly none waits.
+#[inline(never)]
+fn start_each<S: Store>(store: &mut S, frames: &mut Vec<Frame>, tally: &mut Tally)
     requires closed { IsClosed S.Record.rules (S.world store.old) }
     requires empty { frames.old.items ≡ [] }
     requires room { len (S.world store.old).records ≤ vec_capacity frames.old }
@@ -124,4 +125,22 @@ pub fn start_all<S: Store>(store: &mut S, frames: &mut Vec<Frame>, tally: &mut T
         start(store, frames, &waiting, tally);
         left -= 1;
     }
+}
+
+/// Those that wait start where they can, one after another, until there is none.
+pub fn start_all<S: Store>(store: &mut S, frames: &mut Vec<Frame>, tally: &mut Tally)
+    requires closed { IsClosed S.Record.rules (S.world store.old) }
+    requires empty { frames.old.items ≡ [] }
+    requires room { len (S.world store.old).records ≤ vec_capacity frames.old }
+    ensures started { ForAnswers (S.given store.new) (λ answers.
+        Counts (S.world store.new) tally.old tally.new (all_started S.Record.rules answers (S.world store.old))) }
+    ensures keeps { Keeps S.Record.rules (S.world store.old) (S.world store.new) }
+    ensures given { Begins S.Device.gives (S.given store.old) (S.given store.new) }
+    ensures empty { frames.new.items ≡ [] }
+    ensures room { vec_capacity frames.new ≡ vec_capacity frames.old }
+{
+    if store.waiting().is_empty() {
+        return;
+    }
+    start_each(store, frames, tally);
 }

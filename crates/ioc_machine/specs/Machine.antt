@@ -100,9 +100,13 @@ at_moment moment m = record m { world = begun_at moment m.world }
 abbrev pub with_queues : {R : Type 0} → Machine R → Queues ℕ → Machine R
 with_queues m queues = record m { scanner = record m.scanner { queues = queues } }
 
+-- what ended in an event is kept
+abbrev pub with_ended_kept : {R : Type 0} → Machine R → Machine R
+with_ended_kept m = record m { ended = m.ended ++ m.world.ended }
+
 -- what an event sent is done, and what ended in it is kept
 abbrev pub with_sent : {R : Type 0} → Machine R → Machine R
-with_sent m = record m { scanner = with_outbox m.scanner m.world; ended = m.ended ++ m.world.ended }
+with_sent m = with_ended_kept (record m { scanner = with_outbox m.scanner m.world })
 
 -- what ended was told
 abbrev pub with_none_ended : {R : Type 0} → Machine R → Machine R

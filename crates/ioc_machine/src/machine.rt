@@ -17,7 +17,9 @@ use crate::settled::{event_keeps_count, event_leaves_settled};
 use ioc_common::{KeptLink, LinkField};
 use ioc_dbfile::{Owners, owners_of, owns_device};
 use ioc_device::Answer;
-use ioc_events::{Reply, run_cancel, run_complete, run_link, run_notify, run_put, run_request};
+use ioc_events::{
+    Effect, Reply, make_request, make_spelled_put, run_cancel, run_complete, run_link, run_notify,
+};
 use ioc_fields::FieldNo;
 use ioc_graph::parts_of_all;
 use ioc_ledger::Tally;
@@ -71,10 +73,12 @@ fn devices_of(alloc: Global, records: &[Record]) -> Result<Vec<Option<Scripted>>
 impl Machine {
     ghost use Rattle.std.specs.Prelude.{length};
     ghost use Rattle.ioc_events.specs.declared.event.Event.TheVariants.{Process, Put, Complete, Link as Link_event, Notify, Cancel};
+    ghost use Rattle.ioc_events.specs.Events.{reply_of};
+    ghost use Rattle.ioc_values.specs.Conversion.{input_of};
     ghost use Rattle.ioc_scan.specs.Walked.{walked};
     ghost use Rattle.ioc_machine.specs.FirstLists.{starters};
     ghost use Rattle.ioc_machine.specs.Leads.{field_of_link};
-    ghost use Rattle.ioc_machine.specs.Machine.{loaded_machine, first_machine, stepped_on, done, with_sent, each_requested, queued_on, scanned, serve, most_served, queued_at, at_moment, with_none_ended, notified, given_up};
+    ghost use Rattle.ioc_machine.specs.Machine.{loaded_machine, first_machine, stepped_on, done, with_ended_kept, with_sent, each_requested, queued_on, scanned, serve, most_served, queued_at, at_moment, with_none_ended, notified, given_up};
     ghost use Rattle.ioc_graph.specs.Members.{AreFirsts};
     ghost use Rattle.ioc_machine.specs.Sets.{parts_of};
     ghost use Rattle.ioc_machine.specs.SeenMachine.{machine_of};
@@ -142,28 +146,28 @@ impl Machine {
     }
 
     // Requests a record; what that sent is still to be done.
-    fn request(&mut self, number: RecordNo) -> Reply
+    fn request(&mut self, number: RecordNo) -> Effect
         ensures machine { machine_of self.new ≡ (stepped_on record_rules (machine_of self.old) (Process number)).machine }
-        ensures reply { result ≡ (stepped_on record_rules (machine_of self.old) (Process number)).reply }
+        ensures reply { reply_of result ≡ (stepped_on record_rules (machine_of self.old) (Process number)).reply }
     {
         event_leaves_settled();
         self.map.begin();
-        run_request(&mut self.map, &mut self.frames, number, &mut self.tally)
+        make_request(&mut self.map, &mut self.frames, number, &mut self.tally)
     }
 
-    // Puts a value into a field; what that sent is still to be done.
-    fn store(&mut self, number: RecordNo, field: FieldNo, given: Input) -> Reply
-        ensures machine { machine_of self.new ≡ (stepped_on record_rules (machine_of self.old) (Put number field given)).machine }
-        ensures reply { result ≡ (stepped_on record_rules (machine_of self.old) (Put number field given)).reply }
+    // Puts what a text spells into a field; what that sent is still to be done.
+    fn store(&mut self, number: RecordNo, field: FieldNo, text: &[u8]) -> Effect
+        ensures machine { machine_of self.new ≡ (stepped_on record_rules (machine_of self.old) (Put number field (input_of text.now))).machine }
+        ensures reply { reply_of result ≡ (stepped_on record_rules (machine_of self.old) (Put number field (input_of text.now))).reply }
     {
         event_leaves_settled();
         self.map.begin();
-        run_put(
+        make_spelled_put(
             &mut self.map,
             &mut self.frames,
             number,
             field,
-            given,
+            text,
             &mut self.tally,
         )
     }
@@ -235,31 +239,51 @@ impl Machine {
         )
     }
 
+    // Keeps which notifications ended in an event. This isn't inlined, since in most events none does.
+    #[inline(never)]
+    fn keep_ended(&mut self) -> Result<(), AllocError>
+        ensures { OnOk result (machine_of self.new ≡ with_ended_kept (machine_of self.old)) }
+    {
+        self.ended
+            .extend_from_slice(self.map.event.notifications.ended())
+    }
+
     // Does what an event has sent, and keeps which notifications ended in it.
     #[tactic(auto, unfolding(crate::specs::Scanner::with_outbox))]
     fn send(&mut self) -> Result<(), AllocError>
         ensures { OnOk result (machine_of self.new ≡ with_sent (machine_of self.old)) }
     {
         self.scanner.do_outbox(&self.map.event.outbox)?;
-        self.ended
-            .extend_from_slice(self.map.event.notifications.ended())
+        if self.map.event.notifications.ended().is_empty() {
+            return Ok(());
+        }
+        self.keep_ended()
     }
 
-    /// Requests a record.
+    /// Requests a record, and answers what that came to.
     ///
     /// # Errors
     ///
     /// [`AllocError`] where memory is wanting: what the event sent isn't all done then.
-    pub fn process(&mut self, number: RecordNo) -> Result<Reply, AllocError>
+    pub fn process(&mut self, number: RecordNo) -> Result<Effect, AllocError>
         ensures machine { OnOk result (machine_of self.new ≡ (done record_rules (machine_of self.old) (Process number)).machine) }
-        ensures reply { IfOk result (λ reply. reply ≡ (done record_rules (machine_of self.old) (Process number)).reply) }
+        ensures reply { IfOk result (λ effect. reply_of effect ≡ (done record_rules (machine_of self.old) (Process number)).reply) }
     {
-        let reply = self.request(number);
+        let effect = self.request(number);
         self.send()?;
-        Ok(reply)
+        Ok(effect)
     }
 
-    /// Puts a value into a field.
+    // Requests a record without telling what that came to.
+    #[inline(never)]
+    fn process_untold(&mut self, number: RecordNo) -> Result<(), AllocError>
+        ensures { OnOk result (machine_of self.new ≡ (done record_rules (machine_of self.old) (Process number)).machine) }
+    {
+        let _effect = self.process(number)?;
+        Ok(())
+    }
+
+    /// Puts what a text spells into a field, and answers what that came to.
     ///
     /// # Errors
     ///
@@ -268,14 +292,14 @@ impl Machine {
         &mut self,
         number: RecordNo,
         field: FieldNo,
-        given: Input,
-    ) -> Result<Reply, AllocError>
-        ensures machine { OnOk result (machine_of self.new ≡ (done record_rules (machine_of self.old) (Put number field given)).machine) }
-        ensures reply { IfOk result (λ reply. reply ≡ (done record_rules (machine_of self.old) (Put number field given)).reply) }
+        text: &[u8],
+    ) -> Result<Effect, AllocError>
+        ensures machine { OnOk result (machine_of self.new ≡ (done record_rules (machine_of self.old) (Put number field (input_of text.now))).machine) }
+        ensures reply { IfOk result (λ effect. reply_of effect ≡ (done record_rules (machine_of self.old) (Put number field (input_of text.now))).reply) }
     {
-        let reply = self.store(number, field, given);
+        let effect = self.store(number, field, text);
         self.send()?;
-        Ok(reply)
+        Ok(effect)
     }
 
     /// The device of a record has answered at last.
@@ -431,7 +455,7 @@ impl Machine {
     {
         let mut rest = listed;
         while let [item, others @ ..] = rest {
-            let _reply = self.process(item.number)?;
+            self.process_untold(item.number)?;
             rest = others;
         }
         Ok(())
@@ -464,7 +488,7 @@ impl Machine {
             let Some(number) = self.scanner.next() else {
                 return Ok(());
             };
-            let _reply = self.process(number)?;
+            self.process_untold(number)?;
             turns -= 1;
         }
         Ok(())

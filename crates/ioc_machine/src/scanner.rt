@@ -167,6 +167,19 @@ impl Scanner {
         Ok(())
     }
 
+    // Does items that an event has sent, in order. This isn't inlined, since most events send none.
+    #[inline(never)]
+    fn do_items(&mut self, items: &[OutboxItem]) -> Result<(), AllocError>
+        ensures { OnOk result (self.new ≡ with_items self.old items.now) }
+    {
+        let mut rest = items;
+        while let [item, others @ ..] = rest {
+            self.do_item(item)?;
+            rest = others;
+        }
+        Ok(())
+    }
+
     /// Does what an event has sent, in order, and counts what it found no room for.
     ///
     /// # Errors
@@ -175,10 +188,9 @@ impl Scanner {
     pub fn do_outbox(&mut self, outbox: &Outbox) -> Result<(), AllocError>
         ensures { OnOk result (self.new ≡ with_more_dropped (with_items self.old (items_of outbox.now)) outbox.now.dropped) }
     {
-        let mut rest = outbox.items();
-        while let [item, others @ ..] = rest {
-            self.do_item(item)?;
-            rest = others;
+        let items = outbox.items();
+        if let [_, ..] = items {
+            self.do_items(items)?;
         }
         self.queues.dropped = self.queues.dropped.saturating_add(outbox.dropped);
         Ok(())

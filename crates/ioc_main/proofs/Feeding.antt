@@ -1,12 +1,13 @@
 -- A script piece by piece.
-use Rattle.std.proofs.Common.{◌≡◌, ℕ, ◌<◌, List, [], ◌∷◌, ◌++◌, length, take, ◌≤◌, arith, Option, Some, None, refl, sym, ap, subst, ◌∙◌}
+use Rattle.std.proofs.Common.{◌≡◌, ℕ, ◌<◌, List, [], ◌∷◌, ◌++◌, length, take, ◌≤◌, arith, Option, Some, None, refl, sym, ap, subst, ◌∙◌, append-nil}
 use Rattle.std.specs.Io.KnownBytes.{Appends}
+use Rattle.std.proofs.Math.Seq.{take-append_seam}
 use Rattle.ioc_script.specs.Script.{lines_of, cut, before, behind}
-use Rattle.ioc_main.specs.Coming.{to_come, CutsLines}
-use Rattle.ioc_main.specs.Written.{Writes, StopsLine}
+use Rattle.ioc_main.specs.Coming.{still, Stands, to_come, CutsLines}
+use Rattle.ioc_main.specs.Written.{Writes, WritesPart, WritesFront, StopsLine}
 use Rattle.ioc_main.specs.declared.fault.LineFault.{LineFault}
 use Rattle.ioc_main.proofs.ComingLemmas.{at_end, at_more, starts, cut-cut, all_read, last_line-of}
-use Rattle.ioc_main.proofs.WrittenLemmas.{writes_same, writes_trans, writes_then_stops, appends_all, appends_empty}
+use Rattle.ioc_main.proofs.WrittenLemmas.{writes_same, writes_trans, writes_then_stops, writes_behind, writes_all, part_more}
 
 -- a line ends in the piece
 module _ (t : List (List ℕ) → List ℕ) (w v : Option (List ℕ)) (line piece after last : List ℕ) (is : behind 10 piece ≡ Some after) (same : last ≡ before 10 piece) where
@@ -56,22 +57,56 @@ module _ (t : List (List ℕ) → List ℕ) where
   empty_line [] h = refl
   empty_line (c ∷ cs) h = absurd (omega (arith, h))
 
-  pub last_empty : (w : Option (List ℕ)) (line slice : List ℕ) → slice ≡ line → length slice < 1 → t [] ≡ [] → Appends w w (to_come t line [])
-  last_empty w line slice e h none =
-      let is : line ≡ [] = sym e ∙ empty_line slice h in
-      appends_empty w (to_come t line []) (ap (λ (l : List ℕ). to_come t l []) is ∙ all_read t none)
-
   last_is : (line slice : List ℕ) → slice ≡ line → 1 ≤ length slice → to_come t line [] ≡ t (line ∷ [])
   last_is line slice e h = last_line-of t line (subst (λ (l : List ℕ). 1 ≤ length l) e h)
-
-  pub last_ends : (u : List (List ℕ) → List ℕ) (w v : Option (List ℕ)) (line slice said : List ℕ) → slice ≡ line → 1 ≤ length slice → said ≡ line → u [] ≡ []
-      → Writes w (t (said ∷ [])) v (u []) → Appends w v (to_come t line [])
-  last_ends u w v line slice said e h same none p =
-      let r : Writes w (t (line ∷ [])) v (u []) = subst (λ (l : List ℕ). Writes w (t (l ∷ [])) v (u [])) same p in
-      let q : Writes w (t (line ∷ [])) v [] = subst (λ (l : List ℕ). Writes w (t (line ∷ [])) v l) none r in
-      subst (λ (l : List ℕ). Appends w v l) (sym (last_is line slice e h)) (appends_all w v _ q)
 
   pub last_fails : (fault : LineFault) (w v : Option (List ℕ)) (line slice said : List ℕ) → slice ≡ line → 1 ≤ length slice → said ≡ line
       → StopsLine fault w (t (said ∷ [])) v → StopsLine fault w (to_come t line []) v
   last_fails fault w v line slice said e h same p =
       subst (λ (l : List ℕ). StopsLine fault w l v) (ap (λ (l : List ℕ). t (l ∷ [])) same ∙ sym (last_is line slice e h)) p
+
+-- what was said before stands before what lines give
+module _ (p : List ℕ) (t : List (List ℕ) → List ℕ) where
+  pub still_cuts : CutsLines t → CutsLines (still p t)
+  still_cuts cuts a b lines e = ap (λ (l : List ℕ). p ++ l) (cuts a b lines e)
+
+  still_read : t [] ≡ [] → to_come (still p t) [] [] ≡ p
+  unfolding to_come
+  still_read none = ap (λ (l : List ℕ). p ++ l) none ∙ append-nil p
+
+  -- a line was answered, and what was said was written as far as it was
+  pub answered_on : (w v : Option (List ℕ)) (u : List (List ℕ) → List ℕ) (line q more r : List ℕ) → ((lines : List (List ℕ)) → still p t (line ∷ lines) ≡ still (q ++ more) u lines)
+      → Writes w (q ++ more) v r → (lines : List (List ℕ)) → Writes w (still p t (line ∷ lines)) v (still r u lines)
+  answered_on w v u line q more r e x lines =
+      subst (λ (l : List ℕ). Writes w l v (still r u lines)) (sym (e lines)) (writes_behind w v (q ++ more) r (u lines) x)
+
+  pub answered_fails : (w v : Option (List ℕ)) (u : List (List ℕ) → List ℕ) (line q more : List ℕ) → ((lines : List (List ℕ)) → still p t (line ∷ lines) ≡ still (q ++ more) u lines)
+      → WritesPart w (q ++ more) v → (lines : List (List ℕ)) → WritesPart w (still p t (line ∷ lines)) v
+  answered_fails w v u line q more e x lines = subst (λ (l : List ℕ). WritesPart w l v) (sym (e lines)) (part_more w v (q ++ more) (u lines) x)
+
+  -- a line wasn't answered, and what was said before is written
+  front_of : (q slice : List ℕ) (n : ℕ) → n ≡ length p → Stands p q → slice ≡ take n q → slice ≡ p
+  front_of q slice n many stands is = is ∙ ap (λ (m : ℕ). take m q) many ∙ ap (λ (l : List ℕ). take (length p) l) stands.1 ∙ take-append_seam p stands.0
+
+  pub gives_up : (w v : Option (List ℕ)) (line q slice : List ℕ) (n : ℕ) → n ≡ length p → Stands p q → slice ≡ take n q
+      → Appends w v slice → (lines : List (List ℕ)) → WritesFront w (still p t (line ∷ lines)) v
+  gives_up w v line q slice n many stands is x lines =
+      (t (line ∷ lines), writes_all w v p (t (line ∷ lines)) (subst (λ (l : List ℕ). Appends w v l) (front_of q slice n many stands is) x))
+
+  pub gives_up_midway : (w v : Option (List ℕ)) (line q slice : List ℕ) (n : ℕ) → n ≡ length p → Stands p q → slice ≡ take n q
+      → WritesPart w slice v → (lines : List (List ℕ)) → WritesPart w (still p t (line ∷ lines)) v
+  gives_up_midway w v line q slice n many stands is x lines =
+      part_more w v p (t (line ∷ lines)) (subst (λ (l : List ℕ). WritesPart w l v) (front_of q slice n many stands is) x)
+
+  -- the script is at its end
+  pub rest_empty : (w : Option (List ℕ)) (line slice : List ℕ) → slice ≡ line → length slice < 1 → t [] ≡ [] → Writes w (to_come (still p t) line []) w p
+  rest_empty w line slice e h none =
+      let is : line ≡ [] = sym e ∙ empty_line (still p t) slice h in
+      writes_same w (to_come (still p t) line []) p (ap (λ (l : List ℕ). to_come (still p t) l []) is ∙ still_read none)
+
+  pub rest_answered : (u : List (List ℕ) → List ℕ) (w v : Option (List ℕ)) (line slice said r : List ℕ) → slice ≡ line → 1 ≤ length slice → said ≡ line → u [] ≡ []
+      → Writes w (still p t (said ∷ [])) v (still r u []) → Writes w (to_come (still p t) line []) v r
+  rest_answered u w v line slice said r e h same none x =
+      let a : Writes w (still p t (line ∷ [])) v (still r u []) = subst (λ (l : List ℕ). Writes w (still p t (l ∷ [])) v (still r u [])) same x in
+      let b : Writes w (still p t (line ∷ [])) v r = subst (λ (l : List ℕ). Writes w (still p t (line ∷ [])) v l) (ap (λ (l : List ℕ). r ++ l) none ∙ append-nil r) a in
+      subst (λ (l : List ℕ). Writes w l v r) (sym (last_is (still p t) line slice e h)) b

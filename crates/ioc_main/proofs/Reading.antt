@@ -3,11 +3,12 @@ use Rattle.std.proofs.Common.{◌≡◌, ℕ, List, [], ◌++◌, Option, Some, 
 use Rattle.std.specs.Prelude.{IfSome}
 use Rattle.std.specs.Io.KnownBytes.{Appends, Consumes, IsAtEnd}
 use Rattle.ioc_script.specs.Script.{lines_of}
-use Rattle.ioc_main.specs.Written.{Writes, StopsLine}
+use Rattle.ioc_main.specs.Written.{Writes, StopsLine, StopsScript}
 use Rattle.ioc_main.specs.declared.fault.LineFault.{LineFault}
-use Rattle.ioc_main.specs.Coming.{to_come, ReadsSo}
+use Rattle.ioc_main.specs.declared.fault.ScriptFault.{ScriptFault}
+use Rattle.ioc_main.specs.Coming.{still, to_come, ReadsSo}
 use Rattle.ioc_main.proofs.ComingLemmas.{starts}
-use Rattle.ioc_main.proofs.WrittenLemmas.{writes_same, writes_trans, writes_then_stops, appends_all}
+use Rattle.ioc_main.proofs.WrittenLemmas.{writes_same, writes_trans, writes_then_stops, writes_then_stops_script, appends_all}
 
 abbrev Transcript : Type 0
 Transcript = List (List ℕ) → List ℕ
@@ -15,6 +16,10 @@ Transcript = List (List ℕ) → List ℕ
 pub starts_so : (t : Transcript) (a w : Option (List ℕ)) (line : List ℕ) → line ≡ [] → ReadsSo t a a w t line w
 starts_so t None w line e = tt
 starts_so t (Some script) w line e = writes_same w (t (lines_of script)) (to_come t line script) (sym (starts t script) ∙ ap (λ (l : List ℕ). to_come t l script) (sym e))
+
+-- nothing was said yet
+pub starts_unsaid : (t : Transcript) (a w : Option (List ℕ)) (said line : List ℕ) → said ≡ [] → line ≡ [] → ReadsSo t a a w (still said t) line w
+starts_unsaid t a w said line none e = subst (λ (p : List ℕ). ReadsSo t a a w (still p t) line w) (sym none) (starts_so t a w line e)
 
 pub reads_on : (whole t s : Transcript) (a b d w v u : Option (List ℕ)) (line more piece : List ℕ) → Consumes b d piece
     → ((rest : List ℕ) → Writes v (to_come t line (piece ++ rest)) u (to_come s more rest))
@@ -60,3 +65,16 @@ reads_end_fails fault whole t (Some x) (Some y) d w v u line q h p inv =
 
 pub none_read : (b d : Option (List ℕ)) (n : ℕ) (buf : List ℕ) → n ≡ 0 → Consumes b d (take n buf) → Consumes b d []
 none_read b d n buf e q = subst (λ (k : ℕ). Consumes b d (take k buf)) e q
+
+come_behind : (said : List ℕ) (t : Transcript) (line bytes : List ℕ) → to_come (still said t) line bytes ≡ said ++ to_come t line bytes
+unfolding to_come
+come_behind said t line bytes = refl
+
+-- a read failed, and what was said before was written as far as it was
+pub reads_stop : (fault : ScriptFault) (whole t : Transcript) (a b w v u : Option (List ℕ)) (said line : List ℕ) → ((text : List ℕ) → StopsScript fault v (said ++ text) u)
+    → ReadsSo whole a b w (still said t) line v → IfSome a (λ text. StopsScript fault w (whole (lines_of text)) u)
+reads_stop fault whole t None b w v u said line q inv = tt
+reads_stop fault whole t (Some x) None w v u said line q inv = absurd inv
+reads_stop fault whole t (Some x) (Some y) w v u said line q inv =
+    writes_then_stops_script fault w v u (whole (lines_of x)) (to_come (still said t) line y) inv
+    (subst (λ (l : List ℕ). StopsScript fault v l u) (sym (come_behind said t line y)) (q (to_come t line y)))

@@ -5,6 +5,8 @@ use Rattle.std.specs.Io.KnownBytes.{Appends, Keeps}
 use Rattle.ioc_main.specs.Written.{Writes, WritesPart, WritesFront, StopsLine, StopsScript}
 use Rattle.ioc_main.specs.declared.fault.LineFault.{LineFault}
 use Rattle.ioc_main.specs.declared.fault.LineFault.TheVariants as line
+use Rattle.ioc_main.specs.declared.fault.ScriptFault.{ScriptFault}
+use Rattle.ioc_main.specs.declared.fault.ScriptFault.TheVariants as script
 use Rattle.ioc_main.specs.Faults.{script_fault_of}
 
 pub appends_trans : (a b c : Option (List ℕ)) (bs cs : List ℕ) → Appends a b bs → Appends b c cs → Appends a c (bs ++ cs)
@@ -90,3 +92,38 @@ said_fails a b x slice said more e f p =
 -- a second text isn't taken whole behind a first one
 pub all_then_part : (a b c : Option (List ℕ)) (x y : List ℕ) → Appends a b x → WritesPart b y c → WritesPart a (x ++ y) c
 all_then_part a b c x y p q = writes_then_part a b c (x ++ y) y (writes_all a b x y p) q
+
+-- what comes behind what is written is still to come
+pub writes_behind : (a b : Option (List ℕ)) (x y z : List ℕ) → Writes a x b y → Writes a (x ++ z) b (y ++ z)
+writes_behind a b x y z p = (p.0, ap (λ l. l ++ z) p.1 ∙ append_assoc p.0 y z, p.2)
+
+-- what was kept back isn't written yet
+pub keeps_back : (a : Option (List ℕ)) (said more : List ℕ) → more ≡ [] → Writes a (said ++ more) a said
+keeps_back a said more none = writes_same a (said ++ more) said (ap (λ l. said ++ l) none ∙ append-nil said)
+
+-- all that was said is written
+pub writes_said : (a b : Option (List ℕ)) (said left : List ℕ) → Appends a b said → left ≡ [] → Writes a said b left
+writes_said a b said left p none = (said, sym (ap (λ l. said ++ l) none ∙ append-nil said), p)
+
+-- all that is left is written
+pub writes_rest : (a b c : Option (List ℕ)) (x said more : List ℕ) → more ≡ [] → Writes a x b said → Appends b c (said ++ more) → Appends a c x
+writes_rest a b c x said more none p q =
+    let r : Appends b c said = subst (Appends b c) (ap (λ l. said ++ l) none ∙ append-nil said) q in
+    appends_all a c x (writes_trans a b c x said [] p (said, sym (append-nil said), r))
+
+pub writes_no_rest : (a b c : Option (List ℕ)) (x said more : List ℕ) → more ≡ [] → Writes a x b said → WritesPart b (said ++ more) c → WritesPart a x c
+writes_no_rest a b c x said more none p q = writes_then_part a b c x said p (subst (λ l. WritesPart b l c) (ap (λ l. said ++ l) none ∙ append-nil said) q)
+
+-- a script stops behind what was written
+pub writes_then_stops_script : (fault : ScriptFault) (a b c : Option (List ℕ)) (x y : List ℕ) → Writes a x b y → StopsScript fault b y c → StopsScript fault a x c
+writes_then_stops_script script.Read a b c x y p q = (q.0, writes_trans a b c x y q.0 p q.1)
+writes_then_stops_script script.Write a b c x y p q = writes_then_part a b c x y p q
+writes_then_stops_script script.Memory a b c x y p q = (q.0, writes_trans a b c x y q.0 p q.1)
+
+-- what was said is written before a script stops
+pub stops_behind : (a b : Option (List ℕ)) (said more text : List ℕ) → more ≡ [] → Appends a b (said ++ more) → WritesFront a (said ++ text) b
+stops_behind a b said more text none p =
+    (text, writes_all a b said text (subst (Appends a b) (ap (λ l. said ++ l) none ∙ append-nil said) p))
+
+pub stops_within : (a b : Option (List ℕ)) (said more text : List ℕ) → more ≡ [] → WritesPart a (said ++ more) b → WritesPart a (said ++ text) b
+stops_within a b said more text none p = part_more a b said text (subst (λ l. WritesPart a l b) (ap (λ l. said ++ l) none ∙ append-nil said) p)

@@ -9,6 +9,14 @@ onto [] [] = []
 onto (b ∷ bs) [] = (b ∷ bs) ∷ []
 onto front (line ∷ lines) = (front ++ line) ∷ lines
 
+-- what is still to be printed: what was said before, and then what is printed for the lines that come
+abbrev pub still : List ℕ → (List (List ℕ) → List ℕ) → List (List ℕ) → List ℕ
+still said transcript lines = said ++ transcript lines
+
+-- what was said before still stands before what was said since
+abbrev pub Stands : List ℕ → List ℕ → Type 0
+Stands before now = (since : List ℕ) × (now ≡ before ++ since)
+
 -- all that is still to be printed, where this much of a line has come, and these bytes are still to come
 unfoldable pub to_come : (List (List ℕ) → List ℕ) → List ℕ → List ℕ → List ℕ
 to_come transcript line bytes = transcript (onto line (lines_of bytes))

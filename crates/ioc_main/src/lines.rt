@@ -1,8 +1,8 @@
 //! The lines of a script, from any reader, each answered as it ends.
-ghost use Rattle.std.specs.Prelude.{◌≡◌, ◌∷◌, ◌++◌, [], List, ℕ, OnOk, OnErr, IfSome, IfErr};
+ghost use Rattle.std.specs.Prelude.{◌≡◌, ◌≤◌, ◌+◌, ◌∷◌, ◌++◌, [], List, ℕ, length, OnOk, OnErr, IfSome, IfErr};
 ghost use Rattle.std.specs.Io.KnownBytes.{Appends};
 ghost use Rattle.ioc_script.specs.Script.{lines_of, cut};
-ghost use Rattle.ioc_main.specs.Coming.{to_come};
+ghost use Rattle.ioc_main.specs.Coming.{still, to_come};
 ghost use Rattle.ioc_main.specs.Written.{Writes, WritesPart, StopsLine, StopsScript};
 
 use crate::fault::{LineFault, ScriptFault, WriteFault};
@@ -16,28 +16,58 @@ use std::io::{Read, Write};
 // What came of the line that is under way: enough of it to see that it is too long.
 type Line = Room<1025>;
 
-// Writes what is said of a line.
-fn write_said<W: Write>(said: &Said, out: &mut W) -> Result<(), WriteFault>
-    ensures ok { OnOk result (Appends (W.contents out.old) (W.contents out.new) (said.now.reply ++ said.now.more.items)) }
-    ensures err { OnErr result (WritesPart (W.contents out.old) (said.now.reply ++ said.now.more.items) (W.contents out.new)) }
+// Writes what was said. This isn't inlined, since after most lines nothing is written.
+#[inline(never)]
+fn write_said<W: Write>(said: &mut Said, out: &mut W) -> Result<(), WriteFault>
+    ensures ok { OnOk result (Appends (W.contents out.old) (W.contents out.new) (said.old.replies ++ said.old.more.items)) }
+    ensures empty { OnOk result (said.new.replies ≡ []) }
+    ensures none { OnOk result (said.new.more.items ≡ []) }
+    ensures err { OnErr result (WritesPart (W.contents out.old) (said.old.replies ++ said.old.more.items) (W.contents out.new)) }
 {
-    write_text(out, said.reply.as_slice())?;
-    write_text(out, said.more.as_slice())
+    write_text(out, said.replies.as_slice())?;
+    write_text(out, said.more.as_slice())?;
+    said.clear();
+    Ok(())
 }
 
-// Answers a line, and writes what is said of it.
+// Writes what was said, where there is no room for the reply of another line.
+fn make_room<W: Write>(said: &mut Said, out: &mut W) -> Result<(), WriteFault>
+    ensures ok { OnOk result (Writes (W.contents out.old) (said.old.replies ++ said.old.more.items) (W.contents out.new) said.new.replies) }
+    ensures room { OnOk result (length said.new.replies + 256 ≤ 4096) }
+    ensures none { OnOk result (said.new.more.items ≡ []) }
+    ensures err { OnErr result (WritesPart (W.contents out.old) (said.old.replies ++ said.old.more.items) (W.contents out.new)) }
+{
+    if said.has_room() {
+        return Ok(());
+    }
+    write_said(said, out)
+}
+
+// Answers a line behind what was said before. Where it isn't answered, what was said before is written, and nothing of the line.
 fn say<S: Session, W: Write>(
     session: &mut S,
     said: &mut Said,
     out: &mut W,
     line: &[u8],
 ) -> Result<(), LineFault>
-    ensures ok { OnOk result ((lines : List (List ℕ)) → Writes (W.contents out.old) (S.transcript session.old (line.now ∷ lines)) (W.contents out.new) (S.transcript session.new lines)) }
-    ensures err { IfErr result (λ fault. (lines : List (List ℕ)) → StopsLine fault (W.contents out.old) (S.transcript session.old (line.now ∷ lines)) (W.contents out.new)) }
+    requires room { length said.old.replies + 256 ≤ 4096 }
+    requires none { said.old.more.items ≡ [] }
+    ensures ok { OnOk result ((lines : List (List ℕ)) → Writes (W.contents out.old) (still said.old.replies (S.transcript session.old) (line.now ∷ lines)) (W.contents out.new) (still said.new.replies (S.transcript session.new) lines)) }
+    ensures room { OnOk result (length said.new.replies + 256 ≤ 4096) }
+    ensures none { OnOk result (said.new.more.items ≡ []) }
+    ensures err { IfErr result (λ fault. (lines : List (List ℕ)) → StopsLine fault (W.contents out.old) (still said.old.replies (S.transcript session.old) (line.now ∷ lines)) (W.contents out.new)) }
 {
-    session.answer(line, said)?;
-    write_said(said, out)?;
-    Ok(())
+    let before = said.replies.as_slice().len();
+    match session.answer(line, said) {
+        Ok(()) => {
+            make_room(said, out)?;
+            Ok(())
+        }
+        Err(_) => {
+            write_text(out, &said.replies.as_slice()[..before])?;
+            Err(LineFault::Memory)
+        }
+    }
 }
 
 // Answers the line that ends with this, and begins another.
@@ -48,8 +78,12 @@ fn end_line<S: Session, W: Write>(
     out: &mut W,
     last: &[u8],
 ) -> Result<(), LineFault>
-    ensures ok { OnOk result ((line.new ≡ []) × ((lines : List (List ℕ)) → Writes (W.contents out.old) (S.transcript session.old ((line.old ++ last.now) ∷ lines)) (W.contents out.new) (S.transcript session.new lines))) }
-    ensures err { IfErr result (λ fault. (lines : List (List ℕ)) → StopsLine fault (W.contents out.old) (S.transcript session.old ((line.old ++ last.now) ∷ lines)) (W.contents out.new)) }
+    requires room { length said.old.replies + 256 ≤ 4096 }
+    requires none { said.old.more.items ≡ [] }
+    ensures ok { OnOk result ((line.new ≡ []) × ((lines : List (List ℕ)) → Writes (W.contents out.old) (still said.old.replies (S.transcript session.old) ((line.old ++ last.now) ∷ lines)) (W.contents out.new) (still said.new.replies (S.transcript session.new) lines))) }
+    ensures room { OnOk result (length said.new.replies + 256 ≤ 4096) }
+    ensures none { OnOk result (said.new.more.items ≡ []) }
+    ensures err { IfErr result (λ fault. (lines : List (List ℕ)) → StopsLine fault (W.contents out.old) (still said.old.replies (S.transcript session.old) ((line.old ++ last.now) ∷ lines)) (W.contents out.new)) }
 {
     if line.is_empty() {
         return say(session, said, out, last);
@@ -67,8 +101,12 @@ fn feed<S: Session, W: Write>(
     out: &mut W,
     piece: &[u8],
 ) -> Result<(), LineFault>
-    ensures ok { OnOk result ((rest : List ℕ) → Writes (W.contents out.old) (to_come (S.transcript session.old) line.old (piece.now ++ rest)) (W.contents out.new) (to_come (S.transcript session.new) line.new rest)) }
-    ensures err { IfErr result (λ fault. (rest : List ℕ) → StopsLine fault (W.contents out.old) (to_come (S.transcript session.old) line.old (piece.now ++ rest)) (W.contents out.new)) }
+    requires room { length said.old.replies + 256 ≤ 4096 }
+    requires none { said.old.more.items ≡ [] }
+    ensures ok { OnOk result ((rest : List ℕ) → Writes (W.contents out.old) (to_come (still said.old.replies (S.transcript session.old)) line.old (piece.now ++ rest)) (W.contents out.new) (to_come (still said.new.replies (S.transcript session.new)) line.new rest)) }
+    ensures room { OnOk result (length said.new.replies + 256 ≤ 4096) }
+    ensures none { OnOk result (said.new.more.items ≡ []) }
+    ensures err { IfErr result (λ fault. (rest : List ℕ) → StopsLine fault (W.contents out.old) (to_come (still said.old.replies (S.transcript session.old)) line.old (piece.now ++ rest)) (W.contents out.new)) }
 {
     let mut rest = piece;
     while !rest.is_empty() {
@@ -84,18 +122,50 @@ fn feed<S: Session, W: Write>(
 }
 
 // A last line that no line feed ends counts.
+fn answer_rest<S: Session, W: Write>(
+    session: &mut S,
+    line: &mut Line,
+    said: &mut Said,
+    out: &mut W,
+) -> Result<(), LineFault>
+    requires room { length said.old.replies + 256 ≤ 4096 }
+    requires none { said.old.more.items ≡ [] }
+    ensures ok { OnOk result (Writes (W.contents out.old) (to_come (still said.old.replies (S.transcript session.old)) line.old []) (W.contents out.new) said.new.replies) }
+    ensures room { OnOk result (length said.new.replies + 256 ≤ 4096) }
+    ensures none { OnOk result (said.new.more.items ≡ []) }
+    ensures err { IfErr result (λ fault. StopsLine fault (W.contents out.old) (to_come (still said.old.replies (S.transcript session.old)) line.old []) (W.contents out.new)) }
+{
+    match line.as_slice() {
+        [] => Ok(()),
+        [_, ..] => say(session, said, out, line.as_slice()),
+    }
+}
+
+// Answers what is left of a script at its end, and writes all that was said.
 fn finish<S: Session, W: Write>(
     session: &mut S,
     line: &mut Line,
     said: &mut Said,
     out: &mut W,
 ) -> Result<(), LineFault>
-    ensures ok { OnOk result (Appends (W.contents out.old) (W.contents out.new) (to_come (S.transcript session.old) line.old [])) }
-    ensures err { IfErr result (λ fault. StopsLine fault (W.contents out.old) (to_come (S.transcript session.old) line.old []) (W.contents out.new)) }
+    requires room { length said.old.replies + 256 ≤ 4096 }
+    requires none { said.old.more.items ≡ [] }
+    ensures ok { OnOk result (Appends (W.contents out.old) (W.contents out.new) (to_come (still said.old.replies (S.transcript session.old)) line.old [])) }
+    ensures err { IfErr result (λ fault. StopsLine fault (W.contents out.old) (to_come (still said.old.replies (S.transcript session.old)) line.old []) (W.contents out.new)) }
 {
-    match line.as_slice() {
-        [] => Ok(()),
-        [_, ..] => say(session, said, out, line.as_slice()),
+    answer_rest(session, line, said, out)?;
+    write_said(said, out)?;
+    Ok(())
+}
+
+// A read failed: what was said before is written.
+fn stop<W: Write>(said: &mut Said, out: &mut W) -> ScriptFault
+    requires { said.old.more.items ≡ [] }
+    ensures { (text : List ℕ) → StopsScript result (W.contents out.old) (said.old.replies ++ text) (W.contents out.new) }
+{
+    match write_said(said, out) {
+        Ok(()) => ScriptFault::Read,
+        Err(_) => ScriptFault::Write,
     }
 }
 
@@ -126,8 +196,8 @@ pub fn run_script<S: Session, R: Read + Drop, W: Write>(
             Ok(n) => {
                 feed(session, &mut line, &mut said, out, buffer.split_at(n).0)?;
             }
-            Err(_) => return Err(ScriptFault::Read),
+            Err(_) => return Err(stop(&mut said, out)),
         }
     }
-    Err(ScriptFault::Read)
+    Err(stop(&mut said, out))
 }

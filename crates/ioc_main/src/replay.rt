@@ -1,7 +1,8 @@
 //! A loaded database, to which a script is done.
-ghost use Rattle.std.specs.Prelude.{◌≡◌, ◌∷◌, ◌++◌, [], List, ℕ, IfOk, OnOk};
+ghost use Rattle.std.specs.Prelude.{◌≡◌, ◌≤◌, ◌+◌, ◌∷◌, ◌++◌, [], List, ℕ, length, codes, IfOk, OnOk, OnErr};
 ghost use Rattle.ioc_names.specs.NameTable.{number_of};
 ghost use Rattle.ioc_types.specs.Record.{record_rules};
+ghost use Rattle.ioc_record.specs.Values.{text_of};
 ghost use Rattle.ioc_process.specs.Rules.{IsSettled};
 ghost use Rattle.ioc_dbfile.specs.FirstWorld.{first_world};
 ghost use Rattle.ioc_machine.specs.Machine.{first_machine, queued_on, with_none_ended, given_up, scanned};
@@ -12,17 +13,19 @@ ghost use Rattle.ioc_main.specs.Relink.{were_linked};
 ghost use Rattle.ioc_script.specs.Script.{command_of};
 ghost use Rattle.ioc_script.specs.Seen.{seen};
 ghost use Rattle.ioc_main.specs.Sets.{sets_line};
+ghost use Rattle.ioc_main.specs.Coming.{Stands};
 
 use crate::fields::{channel, relink};
-use crate::session::{Said, Session};
+use crate::session::{Replies, Said, Session};
 use crate::sets::say_sets;
 use ioc_device::Answer;
+use ioc_fields::FieldNo;
 use ioc_machine::{Machine, event_list, interrupt_list};
 use ioc_names::Names;
 use ioc_notify::NotifyId;
 use ioc_record::add_text;
 use ioc_scan::ListName;
-use ioc_script::{Command, LineReply, count_line, ended_line, say_refusal, say_reply, tally_line};
+use ioc_script::{Command, count_line, ended_line, say_effect, say_refusal, say_reply, tally_line};
 use ioc_store::Store;
 use ioc_types::Record;
 use ioc_values::{Finished, Input, IocError, Text, Value};
@@ -41,6 +44,16 @@ fn given_value(text: &[u8]) -> Value
     ensures { result ≡ given_value text.now }
 {
     Value::Text(Text::cut(text))
+}
+
+// Says the text of a field in a line behind others.
+fn say_shown(replies: &mut Replies, item: &Record, field: FieldNo)
+    requires { length replies.old + 256 ≤ 4096 }
+    ensures { replies.new ≡ replies.old ++ (codes "= " ++ text_of record_rules item.now field) ++ 10 ∷ [] }
+{
+    replies.extend(b"= ");
+    add_text(replies, item, field);
+    replies.push(b'\n');
 }
 
 impl Replay {
@@ -66,15 +79,16 @@ impl Replay {
     // What follows says its reply where it is wanted. None of it is inlined, so that what one command has in hand isn't cleared
     // for the others.
     #[inline(never)]
-    fn process(&mut self, name: &[u8], reply: &mut LineReply) -> Result<(), AllocError>
-        requires { reply.old ≡ [] }
+    fn process(&mut self, name: &[u8], replies: &mut Replies) -> Result<(), AllocError>
+        requires { length replies.old + 256 ≤ 4096 }
         ensures names { self.new.names ≡ self.old.names }
         ensures machine { OnOk result (machine_of self.new.machine ≡ (processed record_rules self.old.names (machine_of self.old.machine) (number_of self.old.names name.now)).machine) }
-        ensures said { OnOk result (reply.new ≡ reply_words (processed record_rules self.old.names (machine_of self.old.machine) (number_of self.old.names name.now)).reply ++ 10 ∷ []) }
+        ensures said { OnOk result (replies.new ≡ replies.old ++ reply_words (processed record_rules self.old.names (machine_of self.old.machine) (number_of self.old.names name.now)).reply ++ 10 ∷ []) }
+        ensures kept { OnErr result (replies.new ≡ replies.old) }
     {
         match self.names.find(name) {
-            Some(number) => say_reply(reply, &self.machine.process(number)?),
-            None => say_refusal(reply, IocError::NoRecord),
+            Some(number) => say_effect(replies, &self.machine.process(number)?),
+            None => say_refusal(replies, IocError::NoRecord),
         }
         Ok(())
     }
@@ -82,17 +96,13 @@ impl Replay {
     // The text of the field is written where the reply is. No event is wanted, since a get changes nothing.
     #[inline(never)]
     #[tactic(auto, using(crate::proofs::Getting::shown_there))]
-    fn get(&self, record_name: &[u8], field_name: &[u8], reply: &mut LineReply)
-        requires { reply.old ≡ [] }
-        ensures { reply.new ≡ reply_words (got record_rules self.now.names (machine_of self.now.machine) (channel record_rules self.now.names (machine_of self.now.machine).world record_name.now field_name.now)).reply ++ 10 ∷ [] }
+    fn get(&self, record_name: &[u8], field_name: &[u8], replies: &mut Replies)
+        requires { length replies.old + 256 ≤ 4096 }
+        ensures { replies.new ≡ replies.old ++ reply_words (got record_rules self.now.names (machine_of self.now.machine) (channel record_rules self.now.names (machine_of self.now.machine).world record_name.now field_name.now)).reply ++ 10 ∷ [] }
     {
         match channel(&self.names, &self.machine, record_name, field_name) {
-            Ok((number, field)) => {
-                reply.extend(b"= ");
-                add_text(reply, self.machine.map().record(number), field);
-                reply.push(b'\n');
-            }
-            Err(refused) => say_refusal(reply, refused),
+            Ok((number, field)) => say_shown(replies, self.machine.map().record(number), field),
+            Err(refused) => say_refusal(replies, refused),
         }
     }
 
@@ -102,21 +112,19 @@ impl Replay {
         record_name: &[u8],
         field_name: &[u8],
         text: &[u8],
-        reply: &mut LineReply,
+        replies: &mut Replies,
     ) -> Result<(), AllocError>
-        requires { reply.old ≡ [] }
+        requires { length replies.old + 256 ≤ 4096 }
         ensures names { self.new.names ≡ self.old.names }
         ensures machine { OnOk result (machine_of self.new.machine ≡ (were_put record_rules self.old.names (machine_of self.old.machine) text.now (channel record_rules self.old.names (machine_of self.old.machine).world record_name.now field_name.now)).machine) }
-        ensures said { OnOk result (reply.new ≡ reply_words (were_put record_rules self.old.names (machine_of self.old.machine) text.now (channel record_rules self.old.names (machine_of self.old.machine).world record_name.now field_name.now)).reply ++ 10 ∷ []) }
+        ensures said { OnOk result (replies.new ≡ replies.old ++ reply_words (were_put record_rules self.old.names (machine_of self.old.machine) text.now (channel record_rules self.old.names (machine_of self.old.machine).world record_name.now field_name.now)).reply ++ 10 ∷ []) }
+        ensures kept { OnErr result (replies.new ≡ replies.old) }
     {
         match channel(&self.names, &self.machine, record_name, field_name) {
             Ok((number, field)) => {
-                say_reply(
-                    reply,
-                    &self.machine.put(number, field, Input::from_text(text))?,
-                );
+                say_effect(replies, &self.machine.put(number, field, text)?);
             }
-            Err(refused) => say_refusal(reply, refused),
+            Err(refused) => say_refusal(replies, refused),
         }
         Ok(())
     }
@@ -126,16 +134,17 @@ impl Replay {
         &mut self,
         name: &[u8],
         answer: Answer,
-        reply: &mut LineReply,
+        replies: &mut Replies,
     ) -> Result<(), AllocError>
-        requires { reply.old ≡ [] }
+        requires { length replies.old + 256 ≤ 4096 }
         ensures names { self.new.names ≡ self.old.names }
         ensures machine { OnOk result (machine_of self.new.machine ≡ (answers_next record_rules self.old.names (machine_of self.old.machine) answer (number_of self.old.names name.now)).machine) }
-        ensures said { OnOk result (reply.new ≡ reply_words (answers_next record_rules self.old.names (machine_of self.old.machine) answer (number_of self.old.names name.now)).reply ++ 10 ∷ []) }
+        ensures said { OnOk result (replies.new ≡ replies.old ++ reply_words (answers_next record_rules self.old.names (machine_of self.old.machine) answer (number_of self.old.names name.now)).reply ++ 10 ∷ []) }
+        ensures kept { OnErr result (replies.new ≡ replies.old) }
     {
         match self.names.find(name) {
-            Some(number) => say_reply(reply, &self.machine.queue(number, answer)?),
-            None => say_refusal(reply, IocError::NoRecord),
+            Some(number) => say_reply(replies, &self.machine.queue(number, answer)?),
+            None => say_refusal(replies, IocError::NoRecord),
         }
         Ok(())
     }
@@ -145,14 +154,15 @@ impl Replay {
         &mut self,
         name: &[u8],
         text: &[u8],
-        reply: &mut LineReply,
+        replies: &mut Replies,
     ) -> Result<(), AllocError>
-        requires { reply.old ≡ [] }
+        requires { length replies.old + 256 ≤ 4096 }
         ensures names { self.new.names ≡ self.old.names }
         ensures machine { OnOk result (machine_of self.new.machine ≡ (answers_next record_rules self.old.names (machine_of self.old.machine) (Answer.Done (given_value text.now)) (number_of self.old.names name.now)).machine) }
-        ensures said { OnOk result (reply.new ≡ reply_words (answers_next record_rules self.old.names (machine_of self.old.machine) (Answer.Done (given_value text.now)) (number_of self.old.names name.now)).reply ++ 10 ∷ []) }
+        ensures said { OnOk result (replies.new ≡ replies.old ++ reply_words (answers_next record_rules self.old.names (machine_of self.old.machine) (Answer.Done (given_value text.now)) (number_of self.old.names name.now)).reply ++ 10 ∷ []) }
+        ensures kept { OnErr result (replies.new ≡ replies.old) }
     {
-        self.queue(name, Answer::Done(given_value(text)), reply)
+        self.queue(name, Answer::Done(given_value(text)), replies)
     }
 
     #[inline(never)]
@@ -161,16 +171,17 @@ impl Replay {
         name: &[u8],
         wait: u64,
         finished: Finished,
-        reply: &mut LineReply,
+        replies: &mut Replies,
     ) -> Result<(), AllocError>
-        requires { reply.old ≡ [] }
+        requires { length replies.old + 256 ≤ 4096 }
         ensures names { self.new.names ≡ self.old.names }
         ensures machine { OnOk result (machine_of self.new.machine ≡ (were_completed record_rules self.old.names (machine_of self.old.machine) wait finished (number_of self.old.names name.now)).machine) }
-        ensures said { OnOk result (reply.new ≡ reply_words (were_completed record_rules self.old.names (machine_of self.old.machine) wait finished (number_of self.old.names name.now)).reply ++ 10 ∷ []) }
+        ensures said { OnOk result (replies.new ≡ replies.old ++ reply_words (were_completed record_rules self.old.names (machine_of self.old.machine) wait finished (number_of self.old.names name.now)).reply ++ 10 ∷ []) }
+        ensures kept { OnErr result (replies.new ≡ replies.old) }
     {
         match self.names.find(name) {
-            Some(number) => say_reply(reply, &self.machine.complete(number, wait, finished)?),
-            None => say_refusal(reply, IocError::NoRecord),
+            Some(number) => say_reply(replies, &self.machine.complete(number, wait, finished)?),
+            None => say_refusal(replies, IocError::NoRecord),
         }
         Ok(())
     }
@@ -181,37 +192,40 @@ impl Replay {
         name: &[u8],
         wait: u64,
         text: &[u8],
-        reply: &mut LineReply,
+        replies: &mut Replies,
     ) -> Result<(), AllocError>
-        requires { reply.old ≡ [] }
+        requires { length replies.old + 256 ≤ 4096 }
         ensures names { self.new.names ≡ self.old.names }
         ensures machine { OnOk result (machine_of self.new.machine ≡ (were_completed record_rules self.old.names (machine_of self.old.machine) wait (Finished.Done (given_value text.now)) (number_of self.old.names name.now)).machine) }
-        ensures said { OnOk result (reply.new ≡ reply_words (were_completed record_rules self.old.names (machine_of self.old.machine) wait (Finished.Done (given_value text.now)) (number_of self.old.names name.now)).reply ++ 10 ∷ []) }
+        ensures said { OnOk result (replies.new ≡ replies.old ++ reply_words (were_completed record_rules self.old.names (machine_of self.old.machine) wait (Finished.Done (given_value text.now)) (number_of self.old.names name.now)).reply ++ 10 ∷ []) }
+        ensures kept { OnErr result (replies.new ≡ replies.old) }
     {
-        self.complete(name, wait, Finished::Done(given_value(text)), reply)
+        self.complete(name, wait, Finished::Done(given_value(text)), replies)
     }
 
     #[inline(never)]
-    fn call(&mut self, list: Option<ListName>, reply: &mut LineReply) -> Result<(), AllocError>
-        requires { reply.old ≡ [] }
+    fn call(&mut self, list: Option<ListName>, replies: &mut Replies) -> Result<(), AllocError>
+        requires { length replies.old + 256 ≤ 4096 }
         ensures names { self.new.names ≡ self.old.names }
         ensures machine { OnOk result (machine_of self.new.machine ≡ (queued_on (machine_of self.old.machine) list).machine) }
-        ensures said { OnOk result (reply.new ≡ count_words (queued_on (machine_of self.old.machine) list).count ++ 10 ∷ []) }
+        ensures said { OnOk result (replies.new ≡ replies.old ++ count_words (queued_on (machine_of self.old.machine) list).count ++ 10 ∷ []) }
+        ensures kept { OnErr result (replies.new ≡ replies.old) }
     {
         let count = self.machine.call(list)?;
-        reply.extend(count_line(count).as_slice());
+        replies.extend(count_line(count).as_slice());
         Ok(())
     }
 
     #[inline(never)]
-    fn scan(&mut self, list: &ListName, reply: &mut LineReply) -> Result<(), AllocError>
-        requires { reply.old ≡ [] }
+    fn scan(&mut self, list: &ListName, replies: &mut Replies) -> Result<(), AllocError>
+        requires { length replies.old + 256 ≤ 4096 }
         ensures names { self.new.names ≡ self.old.names }
         ensures machine { OnOk result (machine_of self.new.machine ≡ (scanned record_rules (machine_of self.old.machine) list.now).machine) }
-        ensures said { OnOk result (reply.new ≡ count_words (scanned record_rules (machine_of self.old.machine) list.now).count ++ 10 ∷ []) }
+        ensures said { OnOk result (replies.new ≡ replies.old ++ count_words (scanned record_rules (machine_of self.old.machine) list.now).count ++ 10 ∷ []) }
+        ensures kept { OnErr result (replies.new ≡ replies.old) }
     {
         let count = self.machine.scan(list)?;
-        reply.extend(count_line(count).as_slice());
+        replies.extend(count_line(count).as_slice());
         Ok(())
     }
 
@@ -221,29 +235,30 @@ impl Replay {
         record_name: &[u8],
         field_name: &[u8],
         text: &[u8],
-        reply: &mut LineReply,
+        replies: &mut Replies,
     ) -> Result<(), AllocError>
-        requires { reply.old ≡ [] }
+        requires { length replies.old + 256 ≤ 4096 }
         ensures names { self.new.names ≡ self.old.names }
         ensures machine { OnOk result (machine_of self.new.machine ≡ (were_linked record_rules self.old.names (machine_of self.old.machine) text.now (channel record_rules self.old.names (machine_of self.old.machine).world record_name.now field_name.now)).machine) }
-        ensures said { OnOk result (reply.new ≡ reply_words (were_linked record_rules self.old.names (machine_of self.old.machine) text.now (channel record_rules self.old.names (machine_of self.old.machine).world record_name.now field_name.now)).reply ++ 10 ∷ []) }
+        ensures said { OnOk result (replies.new ≡ replies.old ++ reply_words (were_linked record_rules self.old.names (machine_of self.old.machine) text.now (channel record_rules self.old.names (machine_of self.old.machine).world record_name.now field_name.now)).reply ++ 10 ∷ []) }
+        ensures kept { OnErr result (replies.new ≡ replies.old) }
     {
         match channel(&self.names, &self.machine, record_name, field_name) {
             Ok((number, field)) => {
                 let told = relink(&self.names, &mut self.machine, number, field, text)?;
-                say_reply(reply, &told);
+                say_reply(replies, &told);
             }
-            Err(refused) => say_refusal(reply, refused),
+            Err(refused) => say_refusal(replies, refused),
         }
         Ok(())
     }
 
     #[inline(never)]
-    fn tally(&self, reply: &mut LineReply)
-        requires { reply.old ≡ [] }
-        ensures { reply.new ≡ tally_words (machine_of self.now.machine).tally (machine_of self.now.machine).scanner.queues.dropped ++ 10 ∷ [] }
+    fn tally(&self, replies: &mut Replies)
+        requires { length replies.old + 256 ≤ 4096 }
+        ensures { replies.new ≡ replies.old ++ tally_words (machine_of self.now.machine).tally (machine_of self.now.machine).scanner.queues.dropped ++ 10 ∷ [] }
     {
-        reply.extend(tally_line(self.machine.tally(), self.machine.dropped()).as_slice());
+        replies.extend(tally_line(self.machine.tally(), self.machine.dropped()).as_slice());
     }
 
     #[inline(never)]
@@ -252,33 +267,35 @@ impl Replay {
         record_name: &[u8],
         field_name: &[u8],
         text: &[u8],
-        reply: &mut LineReply,
+        replies: &mut Replies,
     ) -> Result<(), AllocError>
-        requires { reply.old ≡ [] }
+        requires { length replies.old + 256 ≤ 4096 }
         ensures names { self.new.names ≡ self.old.names }
         ensures machine { OnOk result (machine_of self.new.machine ≡ (were_notified record_rules self.old.names (machine_of self.old.machine) text.now (channel record_rules self.old.names (machine_of self.old.machine).world record_name.now field_name.now)).machine) }
-        ensures said { OnOk result (reply.new ≡ reply_words (were_notified record_rules self.old.names (machine_of self.old.machine) text.now (channel record_rules self.old.names (machine_of self.old.machine).world record_name.now field_name.now)).reply ++ 10 ∷ []) }
+        ensures said { OnOk result (replies.new ≡ replies.old ++ reply_words (were_notified record_rules self.old.names (machine_of self.old.machine) text.now (channel record_rules self.old.names (machine_of self.old.machine).world record_name.now field_name.now)).reply ++ 10 ∷ []) }
+        ensures kept { OnErr result (replies.new ≡ replies.old) }
     {
         match channel(&self.names, &self.machine, record_name, field_name) {
             Ok((number, field)) => {
                 say_reply(
-                    reply,
+                    replies,
                     &self.machine.notify(number, field, Input::from_text(text))?,
                 );
             }
-            Err(refused) => say_refusal(reply, refused),
+            Err(refused) => say_refusal(replies, refused),
         }
         Ok(())
     }
 
     #[inline(never)]
-    fn cancel(&mut self, number: u64, reply: &mut LineReply) -> Result<(), AllocError>
-        requires { reply.old ≡ [] }
+    fn cancel(&mut self, number: u64, replies: &mut Replies) -> Result<(), AllocError>
+        requires { length replies.old + 256 ≤ 4096 }
         ensures names { self.new.names ≡ self.old.names }
         ensures machine { OnOk result (machine_of self.new.machine ≡ (given_up record_rules (machine_of self.old.machine) number).machine) }
-        ensures said { OnOk result (reply.new ≡ reply_words (given_up record_rules (machine_of self.old.machine) number).reply ++ 10 ∷ []) }
+        ensures said { OnOk result (replies.new ≡ replies.old ++ reply_words (given_up record_rules (machine_of self.old.machine) number).reply ++ 10 ∷ []) }
+        ensures kept { OnErr result (replies.new ≡ replies.old) }
     {
-        say_reply(reply, &self.machine.cancel(NotifyId::new(number))?);
+        say_reply(replies, &self.machine.cancel(NotifyId::new(number))?);
         Ok(())
     }
 
@@ -292,60 +309,63 @@ impl Replay {
     }
 
     // Does what a line asks for, and says it.
-    #[tactic(auto, unfolding(crate::specs::Replay::carried_out), using(crate::proofs::Getting::said_shortly))]
+    #[tactic(auto, unfolding(crate::specs::Replay::carried_out), using(crate::proofs::Getting::said_shortly, crate::proofs::Getting::stands_before, crate::proofs::Getting::stands_alone))]
     fn carry_out(&mut self, command: &Command<'_>, said: &mut Said) -> Result<(), AllocError>
-        requires reply { said.old.reply ≡ [] }
-        requires more { said.old.more.items ≡ [] }
+        requires room { length said.old.replies + 256 ≤ 4096 }
+        requires none { said.old.more.items ≡ [] }
         ensures names { self.new.names ≡ self.old.names }
         ensures machine { OnOk result (machine_of self.new.machine ≡ (carried_out record_rules self.old.names (machine_of self.old.machine) (seen command.now)).machine) }
-        ensures said { OnOk result (said.new.reply ++ said.new.more.items ≡ (carried_out record_rules self.old.names (machine_of self.old.machine) (seen command.now)).said) }
+        ensures said { OnOk result (said.new.replies ++ said.new.more.items ≡ said.old.replies ++ (carried_out record_rules self.old.names (machine_of self.old.machine) (seen command.now)).said) }
+        ensures stands { Stands said.old.replies said.new.replies }
     {
         match *command {
             Command::Silent => {}
-            Command::Bad => said.reply.extend(b"bad\n"),
-            Command::Process(record) => self.process(record, &mut said.reply)?,
-            Command::Put(record, field, text) => self.put(record, field, text, &mut said.reply)?,
-            Command::Get(record, field) => self.get(record, field, &mut said.reply),
+            Command::Bad => said.replies.extend(b"bad\n"),
+            Command::Process(record) => self.process(record, &mut said.replies)?,
+            Command::Put(record, field, text) => self.put(record, field, text, &mut said.replies)?,
+            Command::Get(record, field) => self.get(record, field, &mut said.replies),
             Command::At(moment) => {
                 self.machine.set_moment(moment);
-                said.reply.extend(b"ok\n");
+                said.replies.extend(b"ok\n");
             }
-            Command::NextDone(record, text) => self.queue_done(record, text, &mut said.reply)?,
-            Command::NextFault(record) => self.queue(record, Answer::Fault, &mut said.reply)?,
-            Command::NextLater(record) => self.queue(record, Answer::Later, &mut said.reply)?,
+            Command::NextDone(record, text) => self.queue_done(record, text, &mut said.replies)?,
+            Command::NextFault(record) => self.queue(record, Answer::Fault, &mut said.replies)?,
+            Command::NextLater(record) => self.queue(record, Answer::Later, &mut said.replies)?,
             Command::Done(record, wait, text) => self.complete_done(
                 record,
                 wait,
                 text,
-                &mut said.reply,
+                &mut said.replies,
             )?,
             Command::Fault(record, wait) => self.complete(
                 record,
                 wait,
                 Finished::Fault,
-                &mut said.reply,
+                &mut said.replies,
             )?,
-            Command::Event(name) => self.call(event_list(Text::cut(name)), &mut said.reply)?,
-            Command::Interrupt(word) => self.call(interrupt_list(word), &mut said.reply)?,
-            Command::Scan(period) => self.scan(&ListName::Period(period), &mut said.reply)?,
+            Command::Event(name) => self.call(event_list(Text::cut(name)), &mut said.replies)?,
+            Command::Interrupt(word) => self.call(interrupt_list(word), &mut said.replies)?,
+            Command::Scan(period) => self.scan(&ListName::Period(period), &mut said.replies)?,
             Command::Link(record, field, text) => {
-                self.link(record, field, text, &mut said.reply)?;
+                self.link(record, field, text, &mut said.replies)?;
             }
-            Command::Tally => self.tally(&mut said.reply),
+            Command::Tally => self.tally(&mut said.replies),
             Command::Notify(record, field, text) => self.notify(
                 record,
                 field,
                 text,
-                &mut said.reply,
+                &mut said.replies,
             )?,
-            Command::Cancel(number) => self.cancel(number, &mut said.reply)?,
+            Command::Cancel(number) => self.cancel(number, &mut said.replies)?,
             Command::Sets => self.sets(&mut said.more)?,
         }
         Ok(())
     }
 
-    // Tells which puts with notification have ended, each in a line, and forgets them.
-    fn tell_ended(&mut self, more: &mut Vec<u8>) -> Result<(), AllocError>
+    // Tells which puts with notification have ended, each in a line, and forgets them. This isn't inlined, since after most lines none
+    // has.
+    #[inline(never)]
+    fn tell_each_ended(&mut self, more: &mut Vec<u8>) -> Result<(), AllocError>
         ensures names { self.new.names ≡ self.old.names }
         ensures machine { OnOk result (machine_of self.new.machine ≡ with_none_ended (machine_of self.old.machine)) }
         ensures said { OnOk result (more.new.items ≡ more.old.items ++ ended_lines (machine_of self.old.machine).ended) }
@@ -357,6 +377,18 @@ impl Replay {
         }
         self.machine.forget_ended();
         Ok(())
+    }
+
+    // The same, where any have.
+    fn tell_ended(&mut self, more: &mut Vec<u8>) -> Result<(), AllocError>
+        ensures names { self.new.names ≡ self.old.names }
+        ensures machine { OnOk result (machine_of self.new.machine ≡ with_none_ended (machine_of self.old.machine)) }
+        ensures said { OnOk result (more.new.items ≡ more.old.items ++ ended_lines (machine_of self.old.machine).ended) }
+    {
+        if self.machine.ended().is_empty() {
+            return Ok(());
+        }
+        self.tell_each_ended(more)
     }
 
     // Serves the requests that wait, and tells which puts with notification have ended.
@@ -383,7 +415,6 @@ impl Session for Replay {
     /// Answers a line, then serves the requests that wait, and tells which puts with notification have ended since.
     #[tactic(auto, unfolding(crate::specs::Replay::answered))]
     fn answer(&mut self, line: &[u8], said: &mut Said) -> Result<(), AllocError> {
-        said.clear();
         let command = Command::from_line(line);
         self.carry_out(&command, said)?;
         if !command.is_silent() {

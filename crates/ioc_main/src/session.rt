@@ -1,33 +1,47 @@
 //! Who answers the lines of a script.
-ghost use Rattle.std.specs.Prelude.{◌≡◌, ◌∷◌, ◌++◌, [], List, ℕ, OnOk};
+ghost use Rattle.std.specs.Prelude.{◌≡◌, ◌↔◌, ◌≤◌, ◌+◌, ◌∷◌, ◌++◌, [], IsTrue, List, ℕ, length, OnOk, OnErr};
 ghost use Rattle.ioc_script.specs.Script.{cut};
+ghost use Rattle.ioc_main.specs.Coming.{still, Stands};
 
-use ioc_script::LineReply;
+use ioc_values::Room;
 use std::alloc::{AllocError, Global};
 
-/// What is printed for one line of a script: the line of its reply, and what comes behind it.
+/// The lines of replies, as many as are written at once.
+pub type Replies = Room<4096>;
+
+/// What was said and isn't written yet: the lines of replies, and what comes behind the last of them.
 #[derive(Drop)]
 pub struct Said {
-    pub reply: LineReply,
+    pub replies: Replies,
     pub more: Vec<u8>,
 }
 
 impl Said {
     /// Nothing yet.
-    pub fn new(alloc: Global) -> Self {
+    pub fn new(alloc: Global) -> Self
+        ensures replies { result.replies ≡ [] }
+        ensures more { result.more.items ≡ [] }
+    {
         Said {
-            reply: LineReply::new(),
+            replies: Replies::new(),
             more: Vec::new(alloc),
         }
     }
 
     /// What was said before is gone.
     pub fn clear(&mut self)
-        ensures reply { self.new.reply ≡ [] }
+        ensures replies { self.new.replies ≡ [] }
         ensures more { self.new.more.items ≡ [] }
     {
-        self.reply.clear();
+        self.replies.clear();
         self.more.clear();
+    }
+
+    /// Is there room for the reply of another line, which comes behind the others? A line of 256 bytes is the longest.
+    pub fn has_room(&self) -> bool
+        ensures { IsTrue result ↔ ((length self.now.replies + 256 ≤ 4096) × (self.now.more.items ≡ [])) }
+    {
+        self.more.is_empty() && self.replies.as_slice().len() <= 3840
     }
 }
 
@@ -36,13 +50,16 @@ pub trait Session {
     /// What is printed for these lines.
     ghost transcript: { Self → List (List ℕ) → List ℕ };
 
-    /// Answers a line, which comes without its line feed: what was said before is gone.
+    /// Answers a line, which comes without its line feed, behind what was said before.
     ///
     /// # Errors
     ///
-    /// [`AllocError`] where a growth was refused: nothing more may be asked then.
+    /// [`AllocError`] where a growth was refused: what was said before is still to be written, and nothing more may be asked.
     fn answer(&mut self, line: &[u8], said: &mut Said) -> Result<(), AllocError>
-        ensures { OnOk result ((lines : List (List ℕ)) → transcript self.old (line.now ∷ lines) ≡ (said.new.reply ++ said.new.more.items) ++ transcript self.new lines) };
+        requires room { length said.old.replies + 256 ≤ 4096 }
+        requires none { said.old.more.items ≡ [] }
+        ensures ok { OnOk result ((lines : List (List ℕ)) → still said.old.replies (transcript self.old) (line.now ∷ lines) ≡ still (said.new.replies ++ said.new.more.items) (transcript self.new) lines) }
+        ensures err { OnErr result (Stands said.old.replies said.new.replies) };
 
     ghost no_lines: { (s : Self) → transcript s [] ≡ [] };
 

@@ -9,4 +9,4 @@ mod reply_line;
 pub use command::Command;
 pub use counts::{count_line, ended_line, notify_line, tally_line};
 pub use parts::cut_at;
-pub use reply_line::{LineReply, say_refusal, say_reply};
+pub use reply_line::{LineReply, say_effect, say_refusal, say_reply};

@@ -1,14 +1,15 @@
 //! The line that tells a reply.
-ghost use Rattle.std.specs.Prelude.{◌≡◌, ◌+◌, ◌<◌, ◌++◌, ◌∷◌, [], length};
+ghost use Rattle.std.specs.Prelude.{◌≡◌, ◌+◌, ◌<◌, ◌≤◌, ◌++◌, ◌∷◌, [], length};
 ghost use Rattle.ioc_values.specs.Words.{refusal_words};
+ghost use Rattle.ioc_events.specs.Events.{reply_of};
 ghost use Rattle.ioc_script.specs.Replies.{outcome_words, live_words, reply_words};
 
 use crate::counts::notify_line;
-use ioc_events::Reply;
+use ioc_events::{Effect, Reply};
 use ioc_ledger::Outcome;
 use ioc_values::{IocError, Room};
 
-/// The line of a reply, its line feed included: the counts of requests, of at most 20 digits each, are the longest.
+/// A line that tells numbers, its line feed included: the counts of requests, of at most 20 digits each, are the longest.
 pub type LineReply = Room<256>;
 
 /// What the outcome of a request is called.
@@ -33,19 +34,19 @@ fn live_words(live: bool) -> &'static str
 }
 
 // A line of words.
-fn say_words(out: &mut LineReply, words: &[u8])
-    requires { length out.old + length words.now < 256 }
+fn say_words<const CAP: usize>(out: &mut Room<CAP>, words: &[u8])
+    requires { length out.old + length words.now < CAP }
     ensures { out.new ≡ out.old ++ words.now ++ 10 ∷ [] }
 {
     out.extend(words);
     out.push(b'\n');
 }
 
-/// Says a reply in a line, its line feed included.
+/// Says a reply in a line behind others, its line feed included. There must be room for 256 bytes.
 #[tactic(auto, using(crate::proofs::Words::outcome_short, crate::proofs::Words::live_short, crate::proofs::Words::refusal_short))]
-pub fn say_reply(out: &mut LineReply, reply: &Reply)
-    requires { out.old ≡ [] }
-    ensures { out.new ≡ reply_words reply.now ++ 10 ∷ [] }
+pub fn say_reply<const CAP: usize>(out: &mut Room<CAP>, reply: &Reply)
+    requires { length out.old + 256 ≤ CAP }
+    ensures { out.new ≡ out.old ++ reply_words reply.now ++ 10 ∷ [] }
 {
     match reply {
         Reply::Plain => say_words(out, b"ok"),
@@ -60,12 +61,25 @@ pub fn say_reply(out: &mut LineReply, reply: &Reply)
     }
 }
 
-/// Says a refusal in a line, its line feed included.
+/// Says what a request or a put came to in a line behind others, its line feed included. There must be room for 256 bytes.
+#[tactic(auto, using(crate::proofs::Words::outcome_short))]
+pub fn say_effect<const CAP: usize>(out: &mut Room<CAP>, effect: &Effect)
+    requires { length out.old + 256 ≤ CAP }
+    ensures { out.new ≡ out.old ++ reply_words (reply_of effect.now) ++ 10 ∷ [] }
+{
+    match effect {
+        Ok(Some(outcome)) => say_words(out, outcome_words(*outcome).as_bytes()),
+        Ok(None) => say_words(out, b"ok"),
+        Err(refused) => say_refusal(out, *refused),
+    }
+}
+
+/// Says a refusal in a line behind others, its line feed included. There must be room for 256 bytes.
 #[inline(never)]
 #[tactic(auto, using(crate::proofs::Words::refusal_short))]
-pub fn say_refusal(out: &mut LineReply, refused: IocError)
-    requires { out.old ≡ [] }
-    ensures { out.new ≡ refusal_words refused ++ 10 ∷ [] }
+pub fn say_refusal<const CAP: usize>(out: &mut Room<CAP>, refused: IocError)
+    requires { length out.old + 256 ≤ CAP }
+    ensures { out.new ≡ out.old ++ refusal_words refused ++ 10 ∷ [] }
 {
     say_words(out, refused.words().as_bytes());
 }

@@ -1,83 +1,14 @@
-use Rattle.std.proofs.Common.{◌≡◌, ◌-◌, ℕ, suc, length, refl, ap, sym, subst, ◌∙◌, arith}
-use Rattle.ioc_device.specs.declared.Answer.TheVariants.{Fault}
-use Rattle.ioc_events.specs.Starting.{all_started}
-use Rattle.ioc_process.specs.Answering.{begins_same, begins_on, accords_before}
-use Rattle.ioc_process.specs.Keeping.{keeps_all, keeps_on, closed_on}
-use Rattle.ioc_events.proofs.QuietEvents.{unqueued-keeps}
-use Rattle.ioc_events.proofs.StartRules.{no-start}
-use Rattle.ioc_events.proofs.StartCode.{LeadsOn, leads-here, leads-next, leads-end, leads-done, next-has}
+use Rattle.std.proofs.Common.{◌≡◌, length, refl, ap, sym, ◌∙◌}
+use Rattle.std.proofs.lemmas.Bool.{eqb-true}
+use Rattle.ioc_process.specs.Answering.{begins_same}
+use Rattle.ioc_events.proofs.StartCode.{none-waits}
 use Rattle.ioc_events.proofs.starting.start_all.Goals as goal
 
-pub loop-left-init : goal.loop-left-init
-loop-left-init g c =
-    let k = g.S.Record.RecordKind.rules in
-    let lawful = g.met.S.Record.RecordKind.lawful in
+pub returns-then-is_empty-clause-started : goal.returns-then-is_empty-clause-started
+returns-then-is_empty-clause-started g c = λ answers begins.
     let w = g.S.Store.world c.args.store.now in
-    record {
-      leads = λ answers begins. subst (λ (n : ℕ). LeadsOn k lawful answers (length w.waiting) n w w c.args.tally.now c.args.tally.now) (ap length (sym c.waiting-left.ensures)) (leads-here k lawful answers (length w.waiting) w c.args.tally.now);
-      given = begins_same refl;
-      keeps = keeps_all k w;
-      closed = c.requires.closed;
-      empty = c.requires.empty;
-      enough = c.requires.room;
-      room = refl;
-    }
+    let none : length w.waiting ≡ 0 = ap length (sym c.waiting.ensures) ∙ eqb-true _ _ (sym c.is_empty.ensures ∙ c.if-is_empty.true) in
+    rw (none-waits g.S.Record.RecordKind.rules answers w none) (record { world = refl; tally = refl })
 
-pub returns-in_default-clause-started : goal.returns-in_default-clause-started
-unfolding all_started
-returns-in_default-clause-started g c = λ answers begins.
-    let k = g.S.Record.RecordKind.rules in
-    let lawful = g.met.S.Record.RecordKind.lawful in
-    leads-end k lawful answers _ c.loop-left.left _ _ _ _ (c.loop-left.invariant.leads answers begins) (no-start k lawful answers c.loop-left.left _ (sym c.next_waiting.ensures ∙ c.in_default.is))
-
-pub start-requires-clause-there : goal.start-requires-clause-there
-start-requires-clause-there g c =
-    let k = g.S.Record.RecordKind.rules in
-    let lawful = g.met.S.Record.RecordKind.lawful in
-    let w = g.S.Store.world c.loop-left.store in
-    let there = next-has k lawful (λ calls target ask. Fault) w c.in-Some.waiting (sym c.next_waiting.ensures ∙ c.in-Some.is) in
-    rw c.unqueue.ensures.world ((unqueued-keeps k lawful c.in-Some.waiting.number w).has _ there)
-
-pub start-requires-clause-closed : goal.start-requires-clause-closed
-start-requires-clause-closed g c =
-    let k = g.S.Record.RecordKind.rules in
-    let lawful = g.met.S.Record.RecordKind.lawful in
-    rw c.unqueue.ensures.world (closed_on k lawful (unqueued-keeps k lawful c.in-Some.waiting.number _) c.loop-left.invariant.closed)
-
-pub start-requires-clause-room : goal.start-requires-clause-room
-start-requires-clause-room g c =
-    let k = g.S.Record.RecordKind.rules in
-    let lawful = g.met.S.Record.RecordKind.lawful in
-    rw (c.unqueue.ensures.world, (unqueued-keeps k lawful c.in-Some.waiting.number (g.S.Store.world c.loop-left.store)).count) c.loop-left.invariant.enough
-
-pub loop-left-preserved : goal.loop-left-preserved
-loop-left-preserved g c =
-    let k = g.S.Record.RecordKind.rules in
-    let lawful = g.met.S.Record.RecordKind.lawful in
-    let i = c.loop-left.invariant in
-    let w0 = g.S.Store.world c.args.store.now in
-    let w = g.S.Store.world c.loop-left.store in
-    let x = c.in-Some.waiting in
-    let came = c.start.ensures in
-    let one_less : c.loop-left.left ≡ suc (c.loop-left.left - 1) = omega (arith, c.loop-left-test.true) in
-    let given = rw c.unqueue.ensures.given at came.given in
-    let kept = keeps_on k (unqueued-keeps k lawful x.number w) (rw c.unqueue.ensures.world at came.keeps) in
-    record {
-      leads = λ answers begins.
-          leads-next k lawful answers _ (c.loop-left.left - 1) w0 w _ x c.args.tally.now c.loop-left.tally _
-          (subst (λ (n : ℕ). LeadsOn k lawful answers (length w0.waiting) n w0 w c.args.tally.now c.loop-left.tally) one_less (i.leads answers (accords_before given begins)))
-          (sym c.next_waiting.ensures ∙ c.in-Some.is) (rw c.unqueue.ensures.world at (came.started answers begins));
-      given = begins_on i.given given;
-      keeps = keeps_on k i.keeps kept;
-      closed = closed_on k lawful kept i.closed;
-      empty = came.empty;
-      enough = omega (arith, i.enough, kept.count, came.room);
-      room = came.room ∙ i.room;
-    }
-
-pub returns-clause-started : goal.returns-clause-started
-unfolding all_started
-returns-clause-started g c = λ answers begins.
-    let k = g.S.Record.RecordKind.rules in
-    let lawful = g.met.S.Record.RecordKind.lawful in
-    leads-done k lawful answers _ c.loop-left.left _ _ _ _ (c.loop-left.invariant.leads answers begins) (omega (arith, c.loop-left-test.false))
+pub returns-then-is_empty-clause-given : goal.returns-then-is_empty-clause-given
+returns-then-is_empty-clause-given g c = begins_same refl

@@ -1,16 +1,11 @@
-use Rattle.std.proofs.Common.{[]}
-use Rattle.std.proofs.lemmas.Result.{on_ok_weaker, IfErr-weaker}
-use Rattle.ioc_main.proofs.Feeding.{last_empty, last_ends, last_fails}
+use Rattle.std.proofs.lemmas.Result.{err_from_is_err_and}
+use Rattle.ioc_main.proofs.WrittenLemmas.{writes_rest, writes_no_rest}
 use Rattle.ioc_main.proofs.lines.finish.Goals as goal
 
-pub returns-in-empty-clause-ok : goal.returns-in-empty-clause-ok
-returns-in-empty-clause-ok g c =
-    last_empty (g.S.Session.transcript c.args.session.now) (g.W.Write.contents c.args.out.now) c.args.line.now c.as_slice.result.now c.as_slice.ensures.value c.in-empty.len_below (g.met.S.Session.no_lines c.args.session.now)
+pub returns-clause-ok : goal.returns-clause-ok
+returns-clause-ok g c = writes_rest _ _ _ _ _ _ c.in_ok-answer_rest.ensures.none c.in_ok-answer_rest.ensures.ok c.in_ok-write_said.ensures.ok
 
-pub returns-in-len1-up-clause-ok : goal.returns-in-len1-up-clause-ok
-returns-in-len1-up-clause-ok g c =
-    on_ok_weaker c.say.result (λ p. last_ends (g.S.Session.transcript c.args.session.now) (g.S.Session.transcript c.say.new.session) _ _ c.args.line.now c.as_slice.result.now c.as_slice-in-len1-up.result.now c.as_slice.ensures.value c.in-len1-up.len_at_least c.as_slice-in-len1-up.ensures.value (g.met.S.Session.no_lines c.say.new.session) (p [])) c.say.ensures.ok
-
-pub returns-in-len1-up-clause-err : goal.returns-in-len1-up-clause-err
-returns-in-len1-up-clause-err g c =
-    IfErr-weaker c.say.result _ _ (λ fault p. last_fails (g.S.Session.transcript c.args.session.now) fault _ _ c.args.line.now c.as_slice.result.now c.as_slice-in-len1-up.result.now c.as_slice.ensures.value c.in-len1-up.len_at_least c.as_slice-in-len1-up.ensures.value (p [])) c.say.ensures.err
+pub returns-in_err-write_said-clause-err : goal.returns-in_err-write_said-clause-err
+returns-in_err-write_said-clause-err g c =
+    let p = err_from_is_err_and c.from_residual-in_err-write_said.result c.from_residual-in_err-write_said.ensures.1 in
+    rw (p.1, p.2) (writes_no_rest _ _ _ _ _ _ c.in_ok-answer_rest.ensures.none c.in_ok-answer_rest.ensures.ok c.in_err-write_said.ensures.err)

@@ -22,7 +22,7 @@ loop-turns-preserved c =
     let m = machine_of c.loop-turns.self in
     let number = c.in-Some.number in
     let waits : Machine Record = record m { scanner = c.next.new.self } in
-    let after : machine_of c.process.new.self ≡ (done record_rules waits (Process number)).machine = c.in_ok-_reply.ensures.machine in
+    let after : machine_of c.process_untold.new.self ≡ (done record_rules waits (Process number)).machine = c.in_ok-process_untold.ensures in
     let turns : suc (c.loop-turns.turns - 1) ≡ c.loop-turns.turns = omega (arith, c.loop-turns-test.true) in
     ap (serve record_rules (c.loop-turns.turns - 1)) (after ∙ ap (λ (s : Scanner). (done record_rules (record m { scanner = s }) (Process number)).machine) c.next.ensures.after)
     ∙ sym (serve-some record_rules (c.loop-turns.turns - 1) m number (first_is (in_turn m.scanner.queues) (in_turn c.next.new.self.queues) c.next.result number c.in-Some.is c.next.ensures.taken))

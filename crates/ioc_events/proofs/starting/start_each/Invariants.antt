@@ -5,7 +5,7 @@ use Rattle.ioc_store.specs.World.{IsClosed, Keeps}
 use Rattle.ioc_store.specs.Given.{Begins}
 use Rattle.ioc_process.specs.Runs.{ForAnswers}
 use Rattle.ioc_events.proofs.StartCode.{LeadsOn}
-use Rattle.ioc_events.proofs.starting.start_all.Given as goal
+use Rattle.ioc_events.proofs.starting.start_each.Given as goal
 
 abbrev pub invariant-loop-left : goal.invariant-loop-left
 invariant-loop-left g l =

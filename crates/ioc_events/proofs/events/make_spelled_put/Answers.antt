@@ -1,0 +1,23 @@
+use Rattle.std.proofs.Common.{refl}
+use Rattle.ioc_values.specs.Conversion.{input_of}
+use Rattle.ioc_events.specs.declared.event.Event.TheVariants.{Put}
+use Rattle.ioc_process.specs.Answering.{begins_on, accords_before}
+use Rattle.ioc_process.specs.Keeping.{keeps_on, closed_on}
+use Rattle.ioc_events.proofs.Stepping.{tells-event}
+use Rattle.ioc_events.proofs.events.make_spelled_put.Goals as goal
+
+pub end_effect-requires-clause-closed : goal.end_effect-requires-clause-closed
+end_effect-requires-clause-closed g c = closed_on g.S.Record.RecordKind.rules g.met.S.Record.RecordKind.lawful c.spell-effect.ensures.keeps c.requires.closed
+
+pub end_effect-requires-clause-room : goal.end_effect-requires-clause-room
+end_effect-requires-clause-room g c = rw (c.spell-effect.ensures.keeps.count, c.spell-effect.ensures.room) c.requires.room
+
+pub returns-clause-step : goal.returns-clause-step
+returns-clause-step g c = λ answers begins.
+    tells-event g.S.Record.RecordKind.rules answers _ _ _ (Put c.args.number c.args.field (input_of c.args.text.now)) _ _ _ _ _ _ c.asked-asked.ensures (c.spell-effect.ensures.done answers (accords_before c.end_effect.ensures.given begins)) refl (c.end_effect.ensures.ends answers begins) refl
+
+pub returns-clause-keeps : goal.returns-clause-keeps
+returns-clause-keeps g c = keeps_on g.S.Record.RecordKind.rules c.spell-effect.ensures.keeps c.end_effect.ensures.keeps
+
+pub returns-clause-given : goal.returns-clause-given
+returns-clause-given g c = begins_on c.spell-effect.ensures.given c.end_effect.ensures.given

@@ -1,0 +1,7 @@
+use Rattle.std.proofs.Common.{◌≡◌, refl}
+use Rattle.std.proofs.lemmas.Result.{on_ok_weaker}
+use Rattle.ioc_main.proofs.WrittenLemmas.{keeps_back, writes_said}
+use Rattle.ioc_main.proofs.lines.make_room.Goals as goal
+
+pub returns-then-has_room-clause-ok : goal.returns-then-has_room-clause-ok
+returns-then-has_room-clause-ok g c = keeps_back _ _ _ (c.has_room.ensures.0 c.if-has_room.true).1
