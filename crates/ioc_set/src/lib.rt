@@ -11,8 +11,8 @@ pub mod workplace;
 
 pub use attached::Attached;
 pub use laws::{
-    calm_records_are_sound, events_leave_sound, link_changes_are_events,
-    none_live_stays_so, notifications_begin_by_notify,
+    calm_records_are_sound, events_leave_sound, link_changes_are_events, none_live_stays_so,
+    notifications_begin_by_notify,
 };
 pub use lock_set::LockSet;
 pub use set_store::SetStore;
