@@ -1,3 +1,5 @@
+mod Dealing
 mod Keys
 mod Nothing
+mod Parting
 mod Serving
