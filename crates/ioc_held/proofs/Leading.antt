@@ -1,6 +1,6 @@
 -- What the holders of two sets know after a link change that leads from one into the other.
-use Rattle.std.proofs.Common.{◌≡◌, ◌⊎◌, ℕ, List, [], ◌∷◌, ◌++◌, Option, Some, None, refl, sym, ap, ◌∙◌, subst, inl, inr, ⊎_elim}
-use Rattle.std.specs.Prelude.{Contains, IsSome}
+use Rattle.std.proofs.Common.{◌≡◌, ◌⊎◌, ℕ, List, [], ◌∷◌, ◌++◌, Option, Some, None, refl, sym, ap, subst, inl, inr, ⊎_elim}
+use Rattle.std.specs.Prelude.{IsSome}
 use Rattle.std.specs.FinMap.{get, insert}
 use Rattle.ioc_fields.specs.declared.field_no.FieldNo.{FieldNo}
 use Rattle.ioc_common.specs.declared.link_field.LinkField.{LinkField}
@@ -8,7 +8,7 @@ use Rattle.ioc_common.specs.Links.{no_link, use_of, named_by}
 use Rattle.ioc_record.specs.RecordRules.{RecordRules}
 use Rattle.ioc_members.specs.Contents.{Records, record_at}
 use Rattle.ioc_members.specs.Joined.{relinked}
-use Rattle.ioc_store.specs.World.{World, Has, begun_at, put}
+use Rattle.ioc_store.specs.World.{World, begun_at, put}
 use Rattle.ioc_store.specs.Scanning.{device_of}
 use Rattle.ioc_store.specs.Worlds.{has-put, has-put_back}
 use Rattle.ioc_line.specs.declared.entry.Note.{Note}

@@ -1,5 +1,5 @@
-use Rattle.std.proofs.Common.{◌≡◌, ℕ, false, List, Option, Some, None, refl, sym, ap, ◌∙◌, subst}
-use Rattle.std.specs.Prelude.{Contains, IsSome, is_some}
+use Rattle.std.proofs.Common.{◌≡◌, ℕ, false, List, Option, Some, sym, ◌∙◌, subst}
+use Rattle.std.specs.Prelude.{Contains, IsSome}
 use Rattle.std.specs.FinMap.{get}
 use Rattle.crossbeam_utils.specs.Seq.{cell_view}
 use Rattle.ioc_common.specs.declared.link_field.LinkField.{LinkField}
@@ -13,7 +13,6 @@ use Rattle.ioc_journal.specs.Account.{IsHolder, AreRecords, BothMayFollow, Added
 use Rattle.ioc_line.specs.declared.entry.Note.{Note}
 use Rattle.ioc_line.specs.declared.room.View.{View}
 use Rattle.ioc_set.specs.Held.{now_of}
-use Rattle.ioc_set.specs.SetStore.{world_of}
 use Rattle.ioc_held.specs.Holding.{Pass, HeldView, IsHeld}
 use Rattle.ioc_held.specs.LinkChanges.{link_change}
 use Rattle.ioc_held.proofs.Dealing.{dealt_owner, both_may_follow, known_then}
