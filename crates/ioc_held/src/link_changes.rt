@@ -193,7 +193,14 @@ impl<K: RecordKind + Drop, B: Base<K>, D: Device> Held<K, B, D> {
         let chosen = link.get();
         let place = book.reserve(rt, desk)?;
         let rest = match self.set.lead_into(
-            &mut other.set, workplace, alloc, number, field, link, twin, moment,
+            &mut other.set,
+            workplace,
+            alloc,
+            number,
+            field,
+            link,
+            twin,
+            moment,
         ) {
             Ok(rest) => rest,
             Err(refused) => {
@@ -209,7 +216,19 @@ impl<K: RecordKind + Drop, B: Base<K>, D: Device> Held<K, B, D> {
             unreachable!();
         };
         let receipt = keep_change::<Brand, K, B, D, R>(
-            rt, alloc, book, place, desk, &mut pass, &mut beside, &self.set, &rest, number, field, chosen, moment,
+            rt,
+            alloc,
+            book,
+            place,
+            desk,
+            &mut pass,
+            &mut beside,
+            &self.set,
+            &rest,
+            number,
+            field,
+            chosen,
+            moment,
         );
         self.pass = Some(pass);
         let rest = Held {
