@@ -1,3 +1,6 @@
+mod Dealing
 mod Keys
+mod Leading
 mod Nothing
+mod Parting
 mod Serving

@@ -5,6 +5,7 @@
 #![tactic(auto)]
 
 pub mod held;
+mod link_changes;
 mod locked;
 mod running;
 

@@ -1,0 +1,241 @@
+//! Link changes of held sets, kept in the journal.
+ghost use Rattle.std.specs.Prelude.{◌≡◌, ◌<◌, ◌-◌, ◌^◌, ◌++◌, ◌∷◌, ℕ, List, [], None, false, IsSome, IfOk, OnErr, Contains};
+ghost use Rattle.std.specs.FinMap.{get};
+ghost use Rattle.crossbeam_utils.specs.Seq.{cell_view};
+ghost use Rattle.ioc_common.specs.Links.{use_of, named_by};
+ghost use Rattle.ioc_record.specs.Values.{stops_put};
+ghost use Rattle.ioc_members.specs.Joined.{HasLink};
+ghost use Rattle.ioc_store.specs.World.{common_at};
+ghost use Rattle.ioc_line.specs.declared.entry.Note.{Note};
+ghost use Rattle.ioc_line.specs.Key.{Key, Has};
+ghost use Rattle.ioc_line.specs.Line.{holder};
+ghost use Rattle.ioc_journal.specs.Account.{IsHolder, AreRecords, BothMayFollow, Call, AddedByBoth};
+ghost use Rattle.ioc_set.specs.Held.{now_of, folded};
+ghost use Rattle.ioc_set.specs.SetStore.{world_of};
+ghost use Rattle.ioc_held.specs.LinkChanges.{link_change, keys_of, Parts, Leads};
+
+use crate::held::Held;
+use ioc_common::{KeptLink, LinkField};
+use ioc_device::Device;
+use ioc_events::{Entry, Event, KeptAnswers, Reply};
+use ioc_fields::FieldNo;
+use ioc_holding::laws::holding_lasts;
+use ioc_journal::{Base, Book, Desk, Place, Receipt};
+use ioc_line::{Keys, Token, pass};
+use ioc_names::RecordNo;
+use ioc_record::RecordKind;
+use ioc_relinking::laws::{led_sets_are_held, parted_sets_are_held};
+use ioc_set::{LockSet, Workplace};
+use std::alloc::{AllocError, Global};
+use std::marker::{Brand, PhantomData};
+use std::sync::Wait;
+
+// Keeps a link change in the journal, and deals the keys of its records to the passes of the two sets that it has left.
+fn keep_change<P: Keys, K: RecordKind, B: Base<K>, D, R: Wait>(
+    rt: &R,
+    alloc: Global,
+    book: &Book<K, B>,
+    place: Place<K, B>,
+    desk: &mut Desk<K, B>,
+    one: &mut Token,
+    other: &mut Token,
+    stay: &LockSet<K, D>,
+    rest: &LockSet<K, D>,
+    number: RecordNo,
+    field: FieldNo,
+    link: LinkField,
+    moment: u64,
+) -> Receipt<K, B>
+    requires number { desk.old.next < 2 ^ 64 - 1 }
+    requires table { (one.old.table_id ≡ B.table) × (other.old.table_id ≡ B.table) }
+    requires one { IsHolder (cell_view one.old) × AreRecords (cell_view one.old).owns }
+    requires other { IsHolder (cell_view other.old) × AreRecords (cell_view other.old).owns }
+    requires keys { (P.keys ≡ keys_of stay.now) × (P.rest ≡ keys_of rest.now) }
+    requires within { (key : Key) → Has key (P.keys ++ P.rest) → Has key ((cell_view one.old).owns ++ (cell_view other.old).owns) }
+    requires apart { (key : Key) → Has key P.keys → Has key P.rest → ⊥ }
+    requires follows { BothMayFollow K.rules B.base (cell_view one.old).seen (cell_view one.old).owns (cell_view other.old).seen (cell_view other.old).owns (link_change moment number field link) }
+    ensures call { Call K.rules B.base desk.old (link_change moment number field link) desk.new }
+    ensures receipt { result ≡ desk.new.seen }
+    ensures one { (one.new.table_id ≡ B.table) × (cell_view one.new ≡ holder desk.new.seen P.keys) }
+    ensures other { (other.new.table_id ≡ B.table) × (cell_view other.new ≡ holder desk.new.seen P.rest) }
+    ensures added { (log : List Note) × AddedByBoth K.rules B.base (cell_view one.old).seen (cell_view one.old).owns (cell_view other.old).seen (cell_view other.old).owns (link_change moment number field link) log desk.new.seen }
+{
+    let _ = stay;
+    let _ = rest;
+    let entry = Entry {
+        moment,
+        event: Event::Link(number, field, link),
+        answers: KeptAnswers::new(Vec::new(alloc)),
+        reply: Reply::Plain,
+    };
+    book.append_two::<P, R>(rt, place, one, other, desk, entry)
+}
+
+impl<K: RecordKind + Drop, B: Base<K>, D: Device> Held<K, B, D> {
+    /// Changes a link of a record, which leads nowhere then, or to a record of this set, and keeps that in the journal. The set keeps the
+    /// record's part, and the records that no link joins to it any more come back as a held set of their own, which may have none. `link` and
+    /// `twin` are alike.
+    ///
+    /// # Errors
+    ///
+    /// [`AllocError`] where memory is wanting or the desk's numbers are used up: nothing has changed then, but that the history may be forgotten.
+    pub fn part<R: Wait>(
+        &mut self,
+        rt: &R,
+        alloc: Global,
+        book: &Book<K, B>,
+        desk: &mut Desk<K, B>,
+        workplace: &mut Workplace<K, D>,
+        number: RecordNo,
+        field: FieldNo,
+        link: KeptLink,
+        twin: KeptLink,
+        moment: u64,
+    ) -> Result<(Held<K, B, D>, Receipt<K, B>), AllocError>
+        requires twin { twin ≡ link }
+        requires field { HasLink K.rules self.old.set.records number field }
+        requires allowed { stops_put (common_at K.rules (now_of self.old.set) number) field ≡ false }
+        requires within { (t : ℕ) → Contains (named_by (use_of link)) t → IsSome (get self.old.set.records t) }
+        ensures parts { IfOk result (λ x. Parts K.rules B.base self.old desk.old moment number field link self.new x.0 desk.new (world_of workplace.new.store)) }
+        ensures receipt { IfOk result (λ x. x.1 ≡ desk.new.seen) }
+        ensures set { OnErr result (folded self.new.set ≡ folded self.old.set) }
+        ensures seen { OnErr result (self.new.seen ≡ self.old.seen) }
+        ensures desk { OnErr result (desk.new ≡ desk.old) }
+    {
+        holding_lasts::<K>();
+        parted_sets_are_held::<K, D>();
+        self.set.none_is_live();
+        let chosen = link.get();
+        let place = book.reserve(rt, desk)?;
+        let rest = match self
+            .set
+            .part(workplace, alloc, number, field, link, twin, moment)
+        {
+            Ok(rest) => rest,
+            Err(refused) => {
+                book.give_back(rt, place);
+                return Err(refused);
+            }
+        };
+        self.set.is_sound();
+        rest.is_sound();
+        let Some(mut pass) = self.pass.take() else {
+            unreachable!();
+        };
+        let mut other = pass::again(book.cell(), &mut pass);
+        let receipt = keep_change::<Brand, K, B, D, R>(
+            rt, alloc, book, place, desk, &mut pass, &mut other, &self.set, &rest, number, field,
+            chosen, moment,
+        );
+        self.pass = Some(pass);
+        let rest = Held {
+            set: rest,
+            pass: Some(other),
+            of: PhantomData,
+        };
+        Ok((rest, receipt))
+    }
+
+    // No record is in both of two held sets, of which each has one. Both holders know the same list then.
+    fn compare<R: Wait>(&mut self, rt: &R, book: &Book<K, B>, other: &mut Held<K, B, D>)
+        requires one { (n : ℕ) × IsSome (get self.old.set.records n) }
+        requires other { (n : ℕ) × IsSome (get other.old.set.records n) }
+        ensures apart { (q : ℕ) → IsSome (get self.old.set.records q) → get other.old.set.records q ≡ None }
+        ensures same { (self.new.set ≡ self.old.set) × (other.new.set ≡ other.old.set) }
+    {
+        holding_lasts::<K>();
+        let Some(mut pass) = self.pass.take() else {
+            unreachable!();
+        };
+        let Some(mut beside) = other.pass.take() else {
+            unreachable!();
+        };
+        book.compare(rt, &mut pass, &mut beside);
+        self.pass = Some(pass);
+        other.pass = Some(beside);
+    }
+
+    /// Leads a link of a record of this set to a record of another, which it takes over, and keeps that in the journal. The records of this set
+    /// that the link alone had joined to that record come back as a held set of their own, which may have none; the other has nothing then.
+    /// `link` and `twin` are alike.
+    ///
+    /// # Errors
+    ///
+    /// [`AllocError`] where memory is wanting or the desk's numbers are used up: nothing has changed then, but that the history may be forgotten.
+    pub fn lead_into<R: Wait>(
+        &mut self,
+        rt: &R,
+        alloc: Global,
+        book: &Book<K, B>,
+        desk: &mut Desk<K, B>,
+        workplace: &mut Workplace<K, D>,
+        other: &mut Held<K, B, D>,
+        number: RecordNo,
+        field: FieldNo,
+        link: KeptLink,
+        twin: KeptLink,
+        moment: u64,
+    ) -> Result<(Held<K, B, D>, Receipt<K, B>), AllocError>
+        requires twin { twin ≡ link }
+        requires field { HasLink K.rules self.old.set.records number field }
+        requires allowed { stops_put (common_at K.rules (now_of self.old.set) number) field ≡ false }
+        requires to { (t : ℕ) × (named_by (use_of link) ≡ t ∷ []) × IsSome (get other.old.set.records t) }
+        ensures leads { IfOk result (λ x. Leads K.rules B.base self.old other.old desk.old moment number field link self.new other.new x.0 desk.new (world_of workplace.new.store)) }
+        ensures receipt { IfOk result (λ x. x.1 ≡ desk.new.seen) }
+        ensures set { OnErr result ((folded self.new.set ≡ folded self.old.set) × (other.new.set ≡ other.old.set)) }
+        ensures desk { OnErr result (desk.new ≡ desk.old) }
+    {
+        holding_lasts::<K>();
+        led_sets_are_held::<K, D>();
+        self.compare(rt, book, other);
+        self.set.none_is_live();
+        other.set.none_is_live();
+        let chosen = link.get();
+        let place = book.reserve(rt, desk)?;
+        let rest = match self.set.lead_into(
+            &mut other.set,
+            workplace,
+            alloc,
+            number,
+            field,
+            link,
+            twin,
+            moment,
+        ) {
+            Ok(rest) => rest,
+            Err(refused) => {
+                book.give_back(rt, place);
+                return Err(refused);
+            }
+        };
+        rest.is_sound();
+        let Some(mut pass) = self.pass.take() else {
+            unreachable!();
+        };
+        let Some(mut beside) = other.pass.take() else {
+            unreachable!();
+        };
+        let receipt = keep_change::<Brand, K, B, D, R>(
+            rt,
+            alloc,
+            book,
+            place,
+            desk,
+            &mut pass,
+            &mut beside,
+            &self.set,
+            &rest,
+            number,
+            field,
+            chosen,
+            moment,
+        );
+        self.pass = Some(pass);
+        let rest = Held {
+            set: rest,
+            pass: Some(beside),
+            of: PhantomData,
+        };
+        Ok((rest, receipt))
+    }
+}
