@@ -5,5 +5,7 @@
 #![tactic(auto)]
 
 pub mod engine;
+pub mod report;
 
 pub use engine::Engine;
+pub use report::Report;
