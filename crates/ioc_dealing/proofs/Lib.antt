@@ -1,0 +1,2 @@
+mod MapLaws
+mod Dealt
