@@ -1,6 +1,5 @@
 //! The end of the engine.
 ghost use Rattle.std.specs.Prelude.{◌≡◌, map, All, IfOk, IfErr};
-ghost use Rattle.ioc_holding.specs.Legal.{map_of};
 ghost use Rattle.ioc_engine.specs.Ended.{IsAsTold, IsEnd};
 
 use crate::engine::Engine;
@@ -9,20 +8,17 @@ use ioc_journal::{Base, Journal};
 use ioc_line::Cell;
 use ioc_record::RecordKind;
 use std::alloc::Global;
-use std::marker::Model;
 use std::sync::Wait;
 
-/// What an engine leaves: its lock sets, and the journal of all calls.
+/// What an engine leaves.
 #[derive(Drop)]
 pub struct Report<K: RecordKind + Drop, B: Base<K>, D: Drop> {
-    /// The sets, each with its records and their devices.
+    /// The lock sets, each with its records and their devices.
     pub sets: Vec<Held<K, B, D>>,
-    /// How many records there are in all.
-    pub count: usize,
-    pub(crate) cell: Cell,
-    pub(crate) journal: Journal<K, B>,
-    ghost ended: { IsEnd K.rules B.base count journal sets.items },
-    ghost table: { cell.table.shared.table_id ≡ B.table },
+    /// All calls, in one order.
+    pub journal: Journal<K, B>,
+    /// The cell that ties the passes of receipts and desks to the journal.
+    pub cell: Cell,
 }
 
 // The holders of sets learn all calls.
@@ -49,11 +45,11 @@ impl<K: RecordKind + Drop, B: Base<K>, D: Drop> Engine<K, B, D> {
     ///
     /// The engine itself, as it was, where memory is wanting.
     pub fn stop<R: Wait>(self, rt: &R, alloc: Global) -> Result<Report<K, B, D>, Engine<K, B, D>>
-        ensures count { IfOk result (λ r. r.count ≡ self) }
+        ensures end { IfOk result (λ r. IsEnd K.rules B.base self r.journal r.sets.items) }
+        ensures table { IfOk result (λ r. r.cell.table.shared.table_id ≡ B.table) }
         ensures err { IfErr result (λ e. e ≡ self) }
     {
         let Engine { mut sets, book } = self;
-        let count = sets.len();
         let Ok(mut all) = sets.gather(rt, alloc) else {
             return Err(Engine { sets, book });
         };
@@ -62,9 +58,8 @@ impl<K: RecordKind + Drop, B: Base<K>, D: Drop> Engine<K, B, D> {
         tell_all(rt, &cell, &mut journal, all.as_mut_slice());
         Ok(Report {
             sets: all,
-            count,
-            cell,
             journal,
+            cell,
         })
     }
 }
