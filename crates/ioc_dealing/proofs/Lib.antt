@@ -1,2 +1,3 @@
 mod MapLaws
 mod Dealt
+mod Linked

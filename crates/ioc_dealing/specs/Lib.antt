@@ -1,1 +1,3 @@
 pub mod Dealing
+pub mod Linked
+pub mod Edges

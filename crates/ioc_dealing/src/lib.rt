@@ -3,5 +3,8 @@
 #![tactic(auto)]
 
 pub mod dealing;
+pub mod laws;
+pub mod parts;
 
 pub use dealing::{Loaded, deal};
+pub use parts::parts_of;
