@@ -1,3 +1,4 @@
 mod MapLaws
 mod Dealt
 mod Linked
+mod Keys
