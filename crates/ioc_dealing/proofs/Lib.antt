@@ -1,2 +1,4 @@
 mod MapLaws
 mod Dealt
+mod Linked
+mod Keys
