@@ -10,7 +10,7 @@ ghost use Rattle.ioc_set.specs.Held.{resting, no_counts};
 ghost use Rattle.ioc_set.specs.Linking.{anew, AreCalm};
 ghost use Rattle.ioc_journal.specs.Account.{AreRecords};
 ghost use Rattle.ioc_held.specs.Holding.{held_view};
-ghost use Rattle.ioc_start.specs.Loading.{IsAtRest, HasPart, HavePartsFrom, AreOfPartsBelow};
+ghost use Rattle.ioc_start.specs.Loading.{IsSetOf, AreSetsFrom, AreOfPartsBelow};
 
 use ioc_held::Held;
 use ioc_journal::Base;
@@ -79,8 +79,7 @@ fn hold_part<K: RecordKind, B: Base<K>, D>(
 ) -> Held<K, B, D>
     requires table { (cell.now.table.shared.table_id ≡ B.table) × (master.old.table_id ≡ B.table) }
     requires master { cell_view master.old ≡ keeper [] (cell_view master.old).born }
-    requires rest { IsAtRest K.rules B.base parts.now }
-    requires part { HasPart B.base parts.now part members }
+    requires part { IsSetOf K.rules B.base parts.now part members }
     requires born { AreOfPartsBelow parts.now part (cell_view master.old).born }
     ensures table { master.new.table_id ≡ B.table }
     ensures master { cell_view master.new ≡ keeper [] (cell_view master.new).born }
@@ -104,8 +103,7 @@ pub fn hold_all<K: RecordKind + Drop, B: Base<K>, D: Drop>(
 ) -> Result<Directory<Held<K, B, D>>, AllocError>
     requires table { (cell.now.table.shared.table_id ≡ B.table) × (master.old.table_id ≡ B.table) }
     requires master { cell_view master.old ≡ keeper [] [] }
-    requires rest { IsAtRest K.rules B.base parts.now }
-    requires parts { HavePartsFrom B.base parts.now 0 sets.items }
+    requires parts { AreSetsFrom K.rules B.base parts.now 0 sets.items }
     ensures count { IfOk result (λ d. d ≡ length parts.now) }
     ensures table { master.new.table_id ≡ B.table }
     ensures master { cell_view master.new ≡ keeper [] (cell_view master.new).born }

@@ -6,7 +6,7 @@
 
 pub mod holding;
 pub mod session;
-pub mod start;
+pub mod starting;
 
 pub use session::{Session, with_engine};
-pub use start::{StartError, start};
+pub use starting::{StartError, start};

@@ -4,7 +4,7 @@ ghost use Rattle.crossbeam_utils.specs.Seq.{cell_view};
 ghost use Rattle.ioc_line.specs.Line.{keeper};
 ghost use Rattle.ioc_start.specs.Loading.{loaded_world};
 
-use crate::start::{StartError, start};
+use crate::starting::{StartError, start};
 use ioc_dealing::Loaded;
 use ioc_device::Device;
 use ioc_engine::Engine;
@@ -17,7 +17,7 @@ use std::sync::Wait;
 use std::sync::ledger::Blank;
 
 /// Work with an engine, whatever its name is.
-pub trait Session<K: RecordKind + Drop, D: Drop> {
+pub trait Session<K: RecordKind + Drop, D: Drop>: Drop {
     type Answer;
 
     fn run<B: Base<K> + Send + Sync, R: Wait>(self, rt: &R, engine: Engine<K, B, D>) -> Self::Answer;

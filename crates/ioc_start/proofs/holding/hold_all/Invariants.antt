@@ -1,7 +1,7 @@
 use Rattle.std.proofs.Common.{◌≡◌, [], length}
 use Rattle.crossbeam_utils.specs.Seq.{cell_view}
 use Rattle.ioc_line.specs.Line.{keeper}
-use Rattle.ioc_start.specs.Loading.{HavePartsFrom, AreOfPartsBelow}
+use Rattle.ioc_start.specs.Loading.{AreSetsFrom, AreOfPartsBelow}
 use Rattle.ioc_start.proofs.holding.hold_all.Given as goal
 
 -- the parts below have their keys, and the sets from here on wait as they were dealt
@@ -12,5 +12,5 @@ invariant-loop-part g l = record {
   table : l.master.table_id ≡ g.B.Room.table;
   master : cell_view l.master ≡ keeper [] (cell_view l.master).born;
   born : AreOfPartsBelow l.parts l.part (cell_view l.master).born;
-  left : HavePartsFrom g.B.Base.base l.parts l.part l.sets.items;
+  left : AreSetsFrom g.K.RecordKind.rules g.B.Base.base l.parts l.part l.sets.items;
 }

@@ -4,7 +4,7 @@ ghost use Rattle.crossbeam_utils.specs.Seq.{cell_view};
 ghost use Rattle.ioc_line.specs.Line.{keeper};
 ghost use Rattle.ioc_set.specs.Linking.{IsCalm};
 ghost use Rattle.ioc_start.specs.Loading.{loaded_world};
-ghost use Rattle.ioc_start.specs.declared.start.StartError.TheVariants.{NotAtRest};
+ghost use Rattle.ioc_start.specs.declared.starting.StartError.TheVariants.{NotAtRest};
 
 use crate::holding::hold_all;
 use ioc_dealing::{Loaded, deal, parts_of};

@@ -1,0 +1,17 @@
+-- The keys of a set's records.
+use Rattle.std.proofs.Common.{Ordering, Less, Equal, Greater, ◌≡◌, ℕ, zero, suc, true, List, [], ◌∷◌, sym, ap, ◌∙◌, refl, ⊎_elim, arith}
+use Rattle.std.specs.Prelude.{Contains}
+use Rattle.std.specs.Ordering.{nat_cmp}
+use Rattle.std.specs.FinMap.{FinMap, keys, contains_key, contains_key-keys}
+use Rattle.std.proofs.lemmas.Cmp.{eq_by_cmp_equiv, nat_cmp_total}
+use Rattle.std.proofs.lemmas.Map.Views.{list_any-from_Contains}
+use Rattle.ioc_line.specs.Key.{Key, Has, record_keys}
+
+pub record_contains : (key : Key) (ns : List ℕ) → Has key (record_keys ns) → Contains ns key.1
+record_contains key [] h = absurd h
+record_contains key (x ∷ xs) h =
+    ⊎_elim (λ (e : (0, x) ≡ key). (zero, omega arith, ap (λ (p : Key). p.1) e))
+    (λ (t : Has key (record_keys xs)). let c = record_contains key xs t in (suc c.0, (let lt = c.1 in omega (arith, lt)), c.2)) h
+
+pub key_there : {X : Type 0} (m : FinMap nat_cmp X) (n : ℕ) → Contains (keys m) n → contains_key m n ≡ true
+key_there m n c = contains_key-keys m n ∙ list_any-from_Contains (eq_by_cmp_equiv nat_cmp_total) n (keys m) c
