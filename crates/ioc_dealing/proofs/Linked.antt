@@ -132,6 +132,7 @@ module _ {R D : Type 0} (k : RecordRules R) (all : List (Loaded R D)) where
             let o = parts.one_each in
             let f = (parts.first i (omega arith)).0 in
             let e : get_or numbers i d ≡ slice_index numbers i = get_or_default numbers i d 0 l in omega arith;
+        first = λ a l. parts.first a (let c = count in omega arith);
         together = one_number;
         joined = one_part;
       }
