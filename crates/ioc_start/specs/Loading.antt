@@ -3,6 +3,7 @@
 use Rattle.std.specs.Prelude.{◌≡◌, ℕ, ◌<◌, ◌≤◌, List, [], map, length, All, slice_index, slice_index_or}
 use Rattle.ioc_record.specs.RecordRules.{RecordRules}
 use Rattle.ioc_members.specs.Contents.{Contents, nothing}
+use Rattle.ioc_members.specs.Joined.{links_of, IsPart}
 use Rattle.ioc_store.specs.OneMap.{numbered}
 use Rattle.ioc_store.specs.World.{World}
 use Rattle.ioc_line.specs.Key.{Key, Has}
@@ -32,9 +33,11 @@ module _ {R D : Type 0} (k : RecordRules R) where
     pub all : List (Loaded R D)
     pub rest : IsAtRest base parts all
     pub has : HasPart all parts part members
+    pub one_part : IsPart (links_of k members.records)
 
   -- sets, of which each from a number on has the records of the part of its number
   pub record AreSetsFrom (base : World R) (parts : List ℕ) (from : ℕ) (sets : List (Contents R D)) : Type 0 where
     pub all : List (Loaded R D)
     pub rest : IsAtRest base parts all
     pub each : (part : ℕ) → from ≤ part → part < length sets → HasPart all parts part (slice_index_or sets part nothing)
+    pub one_part : (part : ℕ) → from ≤ part → part < length sets → IsPart (links_of k (slice_index_or sets part nothing).records)

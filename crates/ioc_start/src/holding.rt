@@ -1,5 +1,5 @@
 //! Sets that are held from the load on.
-ghost use Rattle.std.specs.Prelude.{◌≡◌, ◌+◌, ◌++◌, [], length, IfOk};
+ghost use Rattle.std.specs.Prelude.{◌≡◌, ◌+◌, ◌++◌, [], length, IfOk, OnOk};
 ghost use Rattle.std.specs.FinMap as map;
 ghost use Rattle.crossbeam_utils.specs.Seq.{cell_view};
 ghost use Rattle.ioc_line.specs.Key.{Key, Has, record_keys};
@@ -89,7 +89,7 @@ fn hold_part<K: RecordKind, B: Base<K>, D>(
     hold(alloc, cell, master, members)
 }
 
-/// The sets of all parts, in a directory for so many records.
+/// The sets of all parts, in a directory for so many records; a part with no record has no set. What is lent is left without records.
 ///
 /// # Errors
 ///
@@ -98,18 +98,17 @@ pub fn hold_all<K: RecordKind + Drop, B: Base<K>, D: Drop>(
     alloc: Global,
     cell: &Cell,
     master: &mut Token,
-    sets: Vec<Members<K, D>>,
+    sets: &mut [Members<K, D>],
     parts: &[usize],
 ) -> Result<Directory<Held<K, B, D>>, AllocError>
     requires table { (cell.now.table.shared.table_id ≡ B.table) × (master.old.table_id ≡ B.table) }
     requires master { cell_view master.old ≡ keeper [] [] }
-    requires parts { AreSetsFrom K.rules B.base parts.now 0 sets.items }
+    requires parts { AreSetsFrom K.rules B.base parts.now 0 sets.old }
     ensures count { IfOk result (λ d. d ≡ length parts.now) }
-    ensures table { master.new.table_id ≡ B.table }
-    ensures master { cell_view master.new ≡ keeper [] (cell_view master.new).born }
-    ensures born { AreRecords (cell_view master.new).born }
+    ensures table { OnOk result (master.new.table_id ≡ B.table) }
+    ensures master { OnOk result (cell_view master.new ≡ keeper [] (cell_view master.new).born) }
+    ensures born { OnOk result (AreRecords (cell_view master.new).born) }
 {
-    let mut sets = sets;
     let mut directory = Directory::new(alloc, parts.len())?;
     for part in 0..sets.len() {
         let members = mem::replace(&mut sets[part], Members::new(alloc));

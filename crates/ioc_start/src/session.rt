@@ -1,5 +1,5 @@
 //! Work with an engine.
-ghost use Rattle.std.specs.Prelude.{◌≡◌, ◌-◌, ◌^◌, []};
+ghost use Rattle.std.specs.Prelude.{◌≡◌, ◌-◌, ◌^◌, [], All};
 ghost use Rattle.crossbeam_utils.specs.Seq.{cell_view};
 ghost use Rattle.ioc_line.specs.Line.{keeper};
 ghost use Rattle.ioc_start.specs.Loading.{loaded_world};
@@ -20,7 +20,11 @@ use std::sync::ledger::Blank;
 pub trait Session<K: RecordKind + Drop, D: Drop>: Drop {
     type Answer;
 
-    fn run<B: Base<K> + Send + Sync, R: Wait>(self, rt: &R, engine: Engine<K, B, D>) -> Self::Answer;
+    fn run<B: Base<K> + Send + Sync, R: Wait>(
+        self,
+        rt: &R,
+        engine: Engine<K, B, D>,
+    ) -> Self::Answer;
 }
 
 // The engine gets the name `B`.
@@ -37,6 +41,7 @@ fn begin<K: RecordKind + Drop, D: Drop, B: Base<K> + Send + Sync, S: Session<K, 
     requires master { cell_view master ≡ keeper [] [] }
     requires places { (blank.name ≡ B.places) × (blank.parts ≡ 2 ^ 64 - 1) }
     requires base { B.base ≡ loaded_world all.items }
+    requires copies { All (λ l. l.base ≡ l.fields) all.items }
 {
     let engine = start::<K, B, D>(alloc, cell, master, blank, all)?;
     Ok(session.run::<B, R>(rt, engine))
@@ -52,7 +57,11 @@ pub fn with_engine<K: RecordKind + Drop, D: Drop, S: Session<K, D>, R: Wait>(
     alloc: Global,
     all: Vec<Loaded<K, D>>,
     session: S,
-) -> Result<S::Answer, StartError> {
-    let (cell, master) = Cell::ruled(alloc, [0])?;
+) -> Result<S::Answer, StartError>
+    requires copies { All (λ l. l.base ≡ l.fields) all.items }
+{
+    let Ok((cell, master)) = Cell::ruled(alloc, [0]) else {
+        return Err(StartError::NoMemory);
+    };
     begin::<K, D, Brand, S, R>(rt, alloc, cell, master, Blank::new(PLACES), all, session)
 }

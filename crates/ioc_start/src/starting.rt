@@ -7,12 +7,14 @@ ghost use Rattle.ioc_start.specs.Loading.{loaded_world};
 ghost use Rattle.ioc_start.specs.declared.starting.StartError.TheVariants.{NotAtRest};
 
 use crate::holding::hold_all;
+use ioc_dealing::laws::dealt_sets_are_parts;
 use ioc_dealing::{Loaded, deal, parts_of};
 use ioc_engine::Engine;
+use ioc_holding::laws::lists_leave_sound;
 use ioc_journal::{Base, Book, Journal};
 use ioc_line::{Cell, Token};
 use ioc_record::RecordKind;
-use std::alloc::{AllocError, Global};
+use std::alloc::Global;
 use std::sync::ledger::Blank;
 
 /// Why an engine isn't started.
@@ -24,12 +26,6 @@ pub enum StartError {
     NotAtRest,
     /// A link leads to a record that isn't there.
     LinkLeaves,
-}
-
-impl From<AllocError> for StartError {
-    fn from(_: AllocError) -> Self {
-        StartError::NoMemory
-    }
 }
 
 // Is a record between events, and has no put with notification?
@@ -64,18 +60,29 @@ pub fn start<K: RecordKind + Drop, B: Base<K>, D: Drop>(
     requires master { cell_view master ≡ keeper [] [] }
     requires places { (blank.name ≡ B.places) × (blank.parts ≡ 2 ^ 64 - 1) }
     requires base { B.base ≡ loaded_world all.items }
+    requires copies { All (λ l. l.base ≡ l.fields) all.items }
     ensures count { IfOk result (λ e. e ≡ length all.items) }
     ensures rest { IfErr result (λ e. e ≡ NotAtRest → All (λ l. IsCalm K.rules l.fields) all.items → ⊥) }
 {
     if !are_at_rest(&all) {
         return Err(StartError::NotAtRest);
     }
-    let Some(parts) = parts_of(alloc, &all)? else {
+    let Ok(found) = parts_of(alloc, &all) else {
+        return Err(StartError::NoMemory);
+    };
+    let Some(parts) = found else {
         return Err(StartError::LinkLeaves);
     };
-    let sets = deal(alloc, all, &parts)?;
+    dealt_sets_are_parts::<K, D>();
+    let Ok(mut sets) = deal(alloc, all, &parts) else {
+        return Err(StartError::NoMemory);
+    };
     let mut master = master;
-    let directory = hold_all::<K, B, D>(alloc, &cell, &mut master, sets, &parts)?;
+    let Ok(directory) = hold_all::<K, B, D>(alloc, &cell, &mut master, sets.as_mut_slice(), &parts)
+    else {
+        return Err(StartError::NoMemory);
+    };
+    lists_leave_sound::<K>();
     let journal = Journal::new(alloc, master, blank);
     Ok(Engine::new(directory, Book::new(cell, journal)))
 }

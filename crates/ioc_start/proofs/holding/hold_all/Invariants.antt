@@ -8,9 +8,8 @@ use Rattle.ioc_start.proofs.holding.hold_all.Given as goal
 abbrev pub invariant-loop-part : goal.invariant-loop-part
 invariant-loop-part g l = record {
   count : l.directory ≡ length l.parts;
-  many : length l.sets.items ≡ length l.fn.sets.items;
   table : l.master.table_id ≡ g.B.Room.table;
   master : cell_view l.master ≡ keeper [] (cell_view l.master).born;
   born : AreOfPartsBelow l.parts l.part (cell_view l.master).born;
-  left : AreSetsFrom g.K.RecordKind.rules g.B.Base.base l.parts l.part l.sets.items;
+  left : AreSetsFrom g.K.RecordKind.rules g.B.Base.base l.parts l.part l.sets;
 }
