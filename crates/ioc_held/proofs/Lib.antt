@@ -4,3 +4,4 @@ mod Leading
 mod Nothing
 mod Parting
 mod Serving
+mod Refusing
