@@ -5,3 +5,4 @@ mod Nothing
 mod Parting
 mod Serving
 mod Refusing
+mod Lending

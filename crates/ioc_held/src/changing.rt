@@ -209,15 +209,14 @@ pub fn change_link<K: RecordKind + Drop, B: Base<K>, D: Device, R: Wait>(
             moved: 0,
         });
     }
-    let changed = if first.set.leads_within(&link) {
-        part_first(
+    if first.set.leads_within(&link) {
+        let changed = part_first(
             rt, alloc, book, desk, workplace, first, spare, number, field, link, twin, moment,
-        )
-    } else {
-        lead_first(
-            rt, alloc, book, desk, workplace, first, second, spare, number, field, link, twin,
-            moment,
-        )
-    };
-    Ok(changed?)
+        )?;
+        return Ok(changed);
+    }
+    let changed = lead_first(
+        rt, alloc, book, desk, workplace, first, second, spare, number, field, link, twin, moment,
+    )?;
+    Ok(changed)
 }

@@ -1,4 +1,4 @@
-use Rattle.std.proofs.Common.{◌≡◌, ◌<◌, ◌^◌, ◌∙◌, subst}
+use Rattle.std.proofs.Common.{◌≡◌, ◌∙◌, subst}
 use Rattle.ioc_held.specs.Holding.{HeldView}
 use Rattle.ioc_held.specs.Changing.{size_of}
 use Rattle.ioc_held.proofs.Keys.{keys_count}
