@@ -5,5 +5,6 @@
 #![tactic(auto)]
 
 pub mod engine;
+mod link_changes;
 
 pub use engine::Engine;
