@@ -6,3 +6,4 @@ mod Parting
 mod Serving
 mod Refusing
 mod Lending
+mod Counting

@@ -1,7 +1,8 @@
 -- A link change of a record of one of three sets that are held: what it came to, where the records lie then, and how many moved.
 -- Application Developer's Guide, "Database Locking, Scanning, and Processing": a changed link parts lock sets or joins them. That the smaller
 -- part moves is this project's own.
-use Rattle.std.specs.Prelude.{◌≡◌, ◌⊎◌, ◌≤◌, ◌<◌, ◌+◌, ◌-◌, ℕ, min, length}
+use Rattle.std.specs.Prelude.{◌≡◌, ◌⊎◌, ◌≤◌, ◌<◌, ◌+◌, ℕ, min, length}
+use Rattle.std.specs.FinMap.{len}
 use Rattle.ioc_values.specs.declared.error.IocError.TheVariants.{PutDisabled}
 use Rattle.ioc_fields.specs.declared.field_no.FieldNo.{FieldNo}
 use Rattle.ioc_common.specs.declared.link_field.LinkField.{LinkField}
@@ -47,7 +48,7 @@ module _ {R D : Type 0} (k : RecordRules R) (base : World R) (first second spare
     pub emptied : HeldView R D
     pub rest : HeldView R D
     pub leads : Leads k base first second desk at_moment number field link joined emptied rest desk_then come_to
-    pub places : KeepsLargest (size_of first - size_of rest) (size_of second) joined emptied rest first_then second_then spare_then moved
+    pub places : KeepsLargest (len leads.leads.stay.records) (size_of second) joined emptied rest first_then second_then spare_then moved
     pub done : reply ≡ Plain
 
   -- DISP forbids it: no set has changed
