@@ -47,7 +47,7 @@ fn size<K: RecordKind + Drop, B: Base<K>, D: Drop>(held: &Held<K, B, D>) -> usiz
     held.set.len()
 }
 
-// The larger of two parts of a set comes to the first place. How many records the other has.
+// The larger of two parts of a set comes to the first place, or stays there. How many records the smaller one has.
 fn keep_larger<K: RecordKind + Drop, B: Base<K>, D: Drop>(
     first: &mut Held<K, B, D>,
     spare: &mut Held<K, B, D>,
@@ -62,9 +62,9 @@ fn keep_larger<K: RecordKind + Drop, B: Base<K>, D: Drop>(
     stay.min(rest)
 }
 
-// A part of so many records is in the first place, with another set of so many that came to it, and what fell off it is in the spare place.
-// It goes to the place of the other, which is the second, and the rest to the first place, unless it is the largest of the three. How many
-// records moved by all that.
+// What has become of a set of so many records: in the first place its part with another set of so many, which came to it, and in the spare
+// place what fell off. Unless the part is the largest of the three it goes to the second place, which was the other's, and what fell off to
+// the first. How many records moved.
 fn keep_largest<K: RecordKind + Drop, B: Base<K>, D: Drop>(
     first: &mut Held<K, B, D>,
     second: &mut Held<K, B, D>,
