@@ -1,7 +1,8 @@
 //! Link changes of the engine.
-ghost use Rattle.std.specs.Prelude.{◌≡◌, IfOk, IfErr, OnErr};
+ghost use Rattle.std.specs.Prelude.{◌≡◌, IfOk, IfErr, OnOk, OnErr};
 ghost use Rattle.ioc_set.specs.SetStore.{world_of};
-ghost use Rattle.ioc_engine.specs.Linked.{WasLinked, LinkWasRefused};
+ghost use Rattle.ioc_topology.specs.Change.{AreKnown};
+ghost use Rattle.ioc_engine.specs.Linked.{other_of, WasLinked, LinkWasRefused};
 
 use crate::engine::Engine;
 use ioc_common::KeptLink;
@@ -41,6 +42,7 @@ impl<K: RecordKind + Drop, B: Base<K>, D: Device> Engine<K, B, D> {
         requires twin { twin ≡ link }
         ensures changed { IfOk result (λ c. WasLinked D K.rules B.base number field link desk.old moment c.reply c.moved desk.new (world_of workplace.new.store)) }
         ensures receipt { IfOk result (λ c. c.receipt ≡ desk.new.seen) }
+        ensures known { OnOk result (AreKnown self.now number (other_of link)) }
         ensures refused { IfErr result (LinkWasRefused D K.rules B.base self.now number field link) }
         ensures err { OnErr result (desk.new ≡ desk.old) }
     {

@@ -1,6 +1,6 @@
 //! The pieces of a link change: where the sets of two records are, their locks, and their homes afterwards.
-ghost use Rattle.std.specs.Prelude.{◌↔◌, IsTrue, IfErr};
-ghost use Rattle.ioc_topology.specs.Change.{AreLent, AreSound, OtherIsRefused, LinkIsRefused};
+ghost use Rattle.std.specs.Prelude.{◌↔◌, ◌<◌, IsTrue, IfSome, IfOk, IfErr, OnOk};
+ghost use Rattle.ioc_topology.specs.Change.{AreKnown, AreLent, AreSound, OtherIsRefused, LinkIsRefused};
 
 use crate::directory::{Directory, Place, set_homes};
 use crate::locked::Locked;
@@ -82,7 +82,8 @@ impl<S: Locked> Directory<S> {
         number: RecordNo,
         other: &Option<RecordNo>,
     ) -> Result<Option<BothPlaces<S>>, IocError>
-        ensures { IfErr result (LinkIsRefused self.now number other.now) }
+        ensures known { IfOk result (λ both. IfSome both (λ _. AreKnown self.now number other.now)) }
+        ensures refused { IfErr result (LinkIsRefused self.now number other.now) }
     {
         let Some(first) = self.place_of(rt, number)? else {
             return Ok(None);
@@ -126,7 +127,8 @@ impl<S: Locked> Directory<S> {
         beside: &Place<S>,
         other: &Option<RecordNo>,
     ) -> Result<Option<Place<S>>, IocError>
-        ensures { IfErr result (OtherIsRefused self.now other.now) }
+        ensures known { OnOk result (IfSome other.now (λ o. o < self.now)) }
+        ensures refused { IfErr result (OtherIsRefused self.now other.now) }
     {
         if let Some(other) = other {
             let Some(place) = self.place_of(rt, *other)? else {

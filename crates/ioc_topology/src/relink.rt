@@ -1,7 +1,7 @@
 //! Link changes: work on one or two sets, of which any may part or join.
-ghost use Rattle.std.specs.Prelude.{◌≡◌, IfOk, IfErr, OnErr};
+ghost use Rattle.std.specs.Prelude.{◌≡◌, IfOk, IfErr, OnOk, OnErr};
 ghost use Rattle.std.specs.Fn.{FnOnceReturnsAtMut, FnOnceTakesAtMut};
-ghost use Rattle.ioc_topology.specs.Change.{AreLent, AreSound, LinkIsRefused};
+ghost use Rattle.ioc_topology.specs.Change.{AreKnown, AreLent, AreSound, LinkIsRefused};
 
 use crate::directory::Directory;
 use crate::lent::Lent;
@@ -34,6 +34,7 @@ impl<S: Locked> Directory<S> {
         requires { (l : Lent S A) → AreLent S.numbers number other l.first l.second l.spare → AreSound S.sound l.first l.second l.spare → l.along ≡ along → FnOnceTakesAtMut F.FnOnce work l }
         ensures answer { IfOk result.0 (λ r. (l : Lent S A) × (m : Lent S A) × AreLent S.numbers number other l.first l.second l.spare × AreSound S.sound l.first l.second l.spare × (l.along ≡ along)
             × FnOnceReturnsAtMut F.FnOnce work l r m × AreSound S.sound m.first m.second m.spare × (result.1 ≡ m.along)) }
+        ensures known { OnOk result.0 (AreKnown self.now number other) }
         ensures refused { IfErr result.0 (LinkIsRefused self.now number other) }
         ensures kept { OnErr result.0 (result.1 ≡ along) }
     {
