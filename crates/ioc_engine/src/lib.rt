@@ -5,6 +5,7 @@
 #![tactic(auto)]
 
 pub mod engine;
+mod link_changes;
 pub mod report;
 
 pub use engine::Engine;
