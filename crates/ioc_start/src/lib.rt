@@ -5,8 +5,10 @@
 #![tactic(auto)]
 
 pub mod holding;
+pub mod loading;
 pub mod session;
 pub mod starting;
 
+pub use loading::with_copies;
 pub use session::{Session, with_engine};
 pub use starting::{StartError, start};

@@ -13,23 +13,17 @@ use ioc_line::{Cell, Token};
 use ioc_record::RecordKind;
 use std::alloc::Global;
 use std::marker::Brand;
-use std::sync::Wait;
 use std::sync::ledger::Blank;
 
 /// Work with an engine, whatever its name is.
 pub trait Session<K: RecordKind + Drop, D: Drop>: Drop {
     type Answer;
 
-    fn run<B: Base<K> + Send + Sync, R: Wait>(
-        self,
-        rt: &R,
-        engine: Engine<K, B, D>,
-    ) -> Self::Answer;
+    fn run<B: Base<K> + Send + Sync>(self, engine: Engine<K, B, D>) -> Self::Answer;
 }
 
 // The engine gets the name `B`.
-fn begin<K: RecordKind + Drop, D: Drop, B: Base<K> + Send + Sync, S: Session<K, D>, R: Wait>(
-    rt: &R,
+fn begin<K: RecordKind + Drop, D: Drop, B: Base<K> + Send + Sync, S: Session<K, D>>(
     alloc: Global,
     cell: Cell,
     master: Token,
@@ -44,7 +38,7 @@ fn begin<K: RecordKind + Drop, D: Drop, B: Base<K> + Send + Sync, S: Session<K, 
     requires copies { All (λ l. l.base ≡ l.fields) all.items }
 {
     let engine = start::<K, B, D>(alloc, cell, master, blank, all)?;
-    Ok(session.run::<B, R>(rt, engine))
+    Ok(session.run::<B>(engine))
 }
 
 /// Starts the engine of these records, and works with it.
@@ -52,8 +46,7 @@ fn begin<K: RecordKind + Drop, D: Drop, B: Base<K> + Send + Sync, S: Session<K, 
 /// # Errors
 ///
 /// [`StartError`].
-pub fn with_engine<K: RecordKind + Drop, D: Drop, S: Session<K, D>, R: Wait>(
-    rt: &R,
+pub fn with_engine<K: RecordKind + Drop, D: Drop, S: Session<K, D>>(
     alloc: Global,
     all: Vec<Loaded<K, D>>,
     session: S,
@@ -63,5 +56,5 @@ pub fn with_engine<K: RecordKind + Drop, D: Drop, S: Session<K, D>, R: Wait>(
     let Ok((cell, master)) = Cell::ruled(alloc, [0]) else {
         return Err(StartError::NoMemory);
     };
-    begin::<K, D, Brand, S, R>(rt, alloc, cell, master, Blank::new(PLACES), all, session)
+    begin::<K, D, Brand, S>(alloc, cell, master, Blank::new(PLACES), all, session)
 }

@@ -29,10 +29,10 @@ pub enum StartError {
 }
 
 // Is a record between events, and has no put with notification?
-fn is_at_rest<K: RecordKind>(record: &K) -> bool
-    ensures { IsTrue result ↔ IsCalm K.rules record.now }
+fn is_at_rest<K: RecordKind>(item: &K) -> bool
+    ensures { IsTrue result ↔ IsCalm K.rules item.now }
 {
-    let common = record.common();
+    let common = item.common();
     common.active == common.pending.is_some() && common.notification.is_none()
 }
 
