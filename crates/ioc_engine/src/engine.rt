@@ -27,8 +27,8 @@ use std::sync::Wait;
 /// of its records.
 #[derive(Drop)]
 pub struct Engine<K: RecordKind + Drop, B: Base<K>, D: Drop> {
-    sets: Directory<Held<K, B, D>>,
-    book: Book<K, B>,
+    pub(crate) sets: Directory<Held<K, B, D>>,
+    pub(crate) book: Book<K, B>,
 }
 
 impl<K: RecordKind + Drop, B: Base<K>, D: Drop> Model for Engine<K, B, D> {

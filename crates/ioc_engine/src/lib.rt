@@ -5,5 +5,8 @@
 #![tactic(auto)]
 
 pub mod engine;
+mod link_changes;
+pub mod report;
 
 pub use engine::Engine;
+pub use report::Report;

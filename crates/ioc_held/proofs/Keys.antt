@@ -12,7 +12,7 @@ equal_of Less e = cc
 equal_of Equal e = refl
 equal_of Greater e = cc
 
-tie : (x y : ℕ) → eq_by_cmp nat_cmp x y ≡ true → x ≡ y
+pub tie : (x y : ℕ) → eq_by_cmp nat_cmp x y ≡ true → x ≡ y
 tie x y e = nat_cmp-IsAntisymmetric x y (equal_of (nat_cmp x y) e)
 
 module _ {X : Type 0} (m : FinMap nat_cmp X) where

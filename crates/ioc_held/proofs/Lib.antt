@@ -4,3 +4,6 @@ mod Leading
 mod Nothing
 mod Parting
 mod Serving
+mod Refusing
+mod Lending
+mod Counting

@@ -1,3 +1,4 @@
 pub mod Holding
 pub mod HeldViewCode
 pub mod LinkChanges
+pub mod Changing

@@ -4,9 +4,12 @@
 //! engine with all records in one map could have done it, with the same replies.
 #![tactic(auto)]
 
+pub mod changing;
+mod ending;
 pub mod held;
 mod link_changes;
 mod locked;
 mod running;
 
+pub use changing::{Changed, change_link};
 pub use held::Held;

@@ -1,31 +1,34 @@
 //! Link changes of held sets, kept in the journal.
-ghost use Rattle.std.specs.Prelude.{◌≡◌, ◌<◌, ◌-◌, ◌^◌, ◌++◌, ◌∷◌, ℕ, List, [], None, false, IsSome, IfOk, OnErr, Contains};
+ghost use Rattle.std.specs.Prelude.{◌≡◌, ◌<◌, ◌-◌, ◌^◌, ◌++◌, ◌∷◌, ℕ, List, [], None, true, false, IsSome, IfOk, OnErr, Contains};
 ghost use Rattle.std.specs.FinMap.{get};
 ghost use Rattle.crossbeam_utils.specs.Seq.{cell_view};
+ghost use Rattle.ioc_values.specs.declared.error.IocError.TheVariants.{PutDisabled};
 ghost use Rattle.ioc_common.specs.Links.{use_of, named_by};
 ghost use Rattle.ioc_record.specs.Values.{stops_put};
 ghost use Rattle.ioc_members.specs.Joined.{HasLink};
 ghost use Rattle.ioc_store.specs.World.{common_at};
+ghost use Rattle.ioc_events.specs.declared.reply.Reply.TheVariants.{Refused};
 ghost use Rattle.ioc_line.specs.declared.entry.Note.{Note};
 ghost use Rattle.ioc_line.specs.Key.{Key, Has};
 ghost use Rattle.ioc_line.specs.Line.{holder};
 ghost use Rattle.ioc_journal.specs.Account.{IsHolder, AreRecords, BothMayFollow, Call, AddedByBoth};
 ghost use Rattle.ioc_set.specs.Held.{now_of, folded};
 ghost use Rattle.ioc_set.specs.SetStore.{world_of};
-ghost use Rattle.ioc_held.specs.LinkChanges.{link_change, keys_of, Parts, Leads};
+ghost use Rattle.ioc_held.specs.LinkChanges.{link_change, keys_of, IsKnown, Refuses, Parts, Leads};
 
 use crate::held::Held;
 use ioc_common::{KeptLink, LinkField};
 use ioc_device::Device;
 use ioc_events::{Entry, Event, KeptAnswers, Reply};
 use ioc_fields::FieldNo;
-use ioc_holding::laws::holding_lasts;
+use ioc_holding::laws::{holding_lasts, lists_leave_sound};
 use ioc_journal::{Base, Book, Desk, Place, Receipt};
 use ioc_line::{Keys, Token, pass};
 use ioc_names::RecordNo;
 use ioc_record::RecordKind;
 use ioc_relinking::laws::{led_sets_are_held, parted_sets_are_held};
 use ioc_set::{LockSet, Workplace};
+use ioc_values::IocError;
 use std::alloc::{AllocError, Global};
 use std::marker::{Brand, PhantomData};
 use std::sync::Wait;
@@ -237,5 +240,47 @@ impl<K: RecordKind + Drop, B: Base<K>, D: Device> Held<K, B, D> {
             of: PhantomData,
         };
         Ok((rest, receipt))
+    }
+
+    /// Refuses a link change that DISP forbids, and keeps that in the journal. It changes nothing in the set.
+    ///
+    /// # Errors
+    ///
+    /// [`AllocError`] where memory is wanting or the desk's numbers are used up: nothing has changed then.
+    pub fn refuse_link<R: Wait>(
+        &mut self,
+        rt: &R,
+        alloc: Global,
+        book: &Book<K, B>,
+        desk: &mut Desk<K, B>,
+        number: RecordNo,
+        field: FieldNo,
+        link: LinkField,
+        moment: u64,
+    ) -> Result<(Reply, Receipt<K, B>), AllocError>
+        requires field { HasLink K.rules self.old.set.records number field }
+        requires forbidden { stops_put (common_at K.rules (now_of self.old.set) number) field ≡ true }
+        requires known { (t : ℕ) → Contains (named_by (use_of link)) t → IsKnown K.rules B.base t }
+        ensures refuses { IfOk result (λ x. Refuses K.rules B.base self.old desk.old moment number field link self.new desk.new) }
+        ensures reply { IfOk result (λ x. x.0 ≡ Refused PutDisabled) }
+        ensures receipt { IfOk result (λ x. x.1 ≡ desk.new.seen) }
+        ensures err { OnErr result ((self.new ≡ self.old) × (desk.new ≡ desk.old)) }
+    {
+        holding_lasts::<K>();
+        lists_leave_sound::<K>();
+        let place = book.reserve(rt, desk)?;
+        let event = Event::Link(number, field, link);
+        let entry = Entry {
+            moment,
+            event,
+            answers: KeptAnswers::new(Vec::new(alloc)),
+            reply: Reply::Refused(IocError::PutDisabled),
+        };
+        let Some(mut pass) = self.pass.take() else {
+            unreachable!();
+        };
+        let receipt = book.append(rt, place, &mut pass, desk, entry);
+        self.pass = Some(pass);
+        Ok((Reply::Refused(IocError::PutDisabled), receipt))
     }
 }

@@ -1,3 +1,4 @@
 pub mod Account
 pub mod DeskCode
 pub mod Kept
+pub mod Unnamed

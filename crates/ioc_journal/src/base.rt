@@ -1,5 +1,6 @@
 //! Names an engine.
 use ioc_line::Room;
+use std::marker::Brand;
 
 /// Names an engine: its cell, the world at the load, and the ledger of the places that are held in its journal. Its records are of kind `K`.
 pub trait Base<K>: Room {
@@ -11,4 +12,12 @@ pub trait Base<K>: Room {
 
     /// The name of the ledger of places.
     ghost places: { ℕ };
+}
+
+impl<K> Base<K> for Brand {
+    ghost use Rattle.ioc_journal.specs.Unnamed.{no_world};
+
+    ghost base = { no_world };
+
+    ghost places = { 0 };
 }

@@ -22,8 +22,8 @@ use std::sync::{Mutex, Wait};
 /// time, and no other lock is awaited meanwhile. Contracts see which cell it is.
 #[derive(Drop)]
 pub struct Book<K: RecordKind, B: Base<K>> {
-    cell: Cell,
-    journal: Mutex<Journal<K, B>>,
+    pub(crate) cell: Cell,
+    pub(crate) journal: Mutex<Journal<K, B>>,
 }
 
 impl<K: RecordKind, B: Base<K>> Model for Book<K, B> {

@@ -22,9 +22,9 @@ use std::sync::ledger::Blank;
 /// All calls of an engine, each with its desk and its number. Contracts see them as one list, with the keys that each call is about.
 #[derive(Drop)]
 pub struct Journal<K: RecordKind, B: Base<K>> {
-    entries: Entries<K, B>,
+    pub(crate) entries: Entries<K, B>,
     desks: u64,
-    pass: Token,
+    pub(crate) pass: Token,
 }
 
 impl<K: RecordKind, B: Base<K>> Model for Journal<K, B> {

@@ -8,6 +8,7 @@ pub mod base;
 pub mod book;
 mod dealing;
 pub mod desk;
+mod ending;
 pub mod entries;
 pub mod journal;
 pub mod receipt;

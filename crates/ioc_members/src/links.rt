@@ -38,8 +38,12 @@ fn add_link(
     Ok(())
 }
 
-// The edges of a record's links.
-fn add_links<K: RecordKind>(
+/// Adds the edges of a record's links.
+///
+/// # Errors
+///
+/// [`AllocError`] where memory is wanting.
+pub fn add_links<K: RecordKind>(
     edges: &mut Vec<Edge>,
     number: RecordNo,
     fields: &K,

@@ -1,6 +1,6 @@
 -- What a link change is lent.
 -- Application Developer's Guide, "Database Locking, Scanning, and Processing", lock sets
-use Rattle.std.specs.Prelude.{ℕ, ◌≡◌, ◌⊎◌, ◌≤◌, List, [], Option, Some, Contains, IfSome, IfNone}
+use Rattle.std.specs.Prelude.{ℕ, ◌≡◌, ◌⊎◌, ◌≤◌, ◌<◌, List, [], Option, Some, Contains, IfSome, IfNone}
 use Rattle.ioc_values.specs.declared.error.IocError.{IocError}
 use Rattle.ioc_values.specs.declared.error.IocError.TheVariants.{NoRecord, NoMemory}
 
@@ -15,6 +15,10 @@ OtherIsRefused count other error = (error ≡ NoMemory) ⊎ ((error ≡ NoRecord
 -- and so is a link change: either record may be beyond
 abbrev pub LinkIsRefused : ℕ → ℕ → Option ℕ → IocError → Type 0
 LinkIsRefused count number other error = IsRefused count number error ⊎ OtherIsRefused count other error
+
+-- a record is among those that the directory was made for, and so is another, if one is named
+abbrev pub AreKnown : ℕ → ℕ → Option ℕ → Type 0
+AreKnown count number other = (number < count) × IfSome other (λ o. o < count)
 
 -- What a link change is lent: the first set has the record. The other record, if one is named, is in the first set too, or in the second.
 -- Whatever isn't the set of a named record has none.

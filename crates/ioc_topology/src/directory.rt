@@ -21,7 +21,7 @@ const NOWHERE: u64 = u64::MAX;
 
 /// A cell, and its key.
 #[derive(Drop)]
-pub(crate) struct Place<S: Locked> {
+pub struct Place<S: Locked> {
     pub(crate) key: usize,
     pub(crate) cell: Cell<S>,
 }

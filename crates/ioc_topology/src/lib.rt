@@ -9,8 +9,10 @@ pub mod directory;
 mod gather;
 pub mod lent;
 pub mod locked;
+pub mod places;
 mod relink;
 
-pub use directory::Directory;
+pub use directory::{Directory, Place};
 pub use lent::Lent;
 pub use locked::Locked;
+pub use places::{BothPlaces, NewPlaces, all_sound, are_lent};

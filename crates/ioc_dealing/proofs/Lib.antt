@@ -1,0 +1,4 @@
+mod MapLaws
+mod Dealt
+mod Linked
+mod Keys

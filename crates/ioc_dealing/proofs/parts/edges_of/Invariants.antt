@@ -1,0 +1,11 @@
+use Rattle.std.proofs.Common.{ℕ, ◌<◌}
+use Rattle.std.specs.Prelude.{◌↔◌, Contains}
+use Rattle.ioc_members.specs.Joined.{Names}
+use Rattle.ioc_dealing.specs.Linked.{links_in}
+use Rattle.ioc_dealing.proofs.parts.edges_of.Given as goal
+
+-- the edges of the records so far
+abbrev pub invariant-loop-number : goal.invariant-loop-number
+invariant-loop-number g l =
+    let links = links_in g.K.RecordKind.rules l.all in
+    (a b : ℕ) → Contains l.edges.items (record { from = a; to = b }) ↔ ((a < l.number) × Names links a b)

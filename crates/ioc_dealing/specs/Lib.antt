@@ -1,0 +1,4 @@
+pub mod Dealing
+pub mod Linked
+pub mod Edges
+pub mod Calm

@@ -1,0 +1,79 @@
+//! Records dealt to sets by the numbers of their parts.
+ghost use Rattle.std.specs.Prelude.{◌≡◌, ◌<◌, ℕ, length, replicate, All, IfOk, OnOk, IsSome, slice_index_or, slice_set};
+ghost use Rattle.std.specs.FinMap as map;
+ghost use Rattle.ioc_members.specs.Contents.{nothing};
+ghost use Rattle.ioc_dealing.specs.Dealing.{AreDealt, with_loaded};
+
+use ioc_members::Members;
+use ioc_names::RecordNo;
+use std::alloc::{AllocError, Global};
+
+/// A record of a loaded database, with a copy of it for its base, and its device if it has one.
+#[derive(Drop)]
+pub struct Loaded<K, D> {
+    pub fields: K,
+    pub base: K,
+    pub device: Option<D>,
+}
+
+// So many sets with no records.
+fn empty_sets<K: Drop, D: Drop>(
+    alloc: Global,
+    count: usize,
+) -> Result<Vec<Members<K, D>>, AllocError>
+    ensures { IfOk result (λ sets. sets.items ≡ replicate count nothing) }
+{
+    let mut sets = Vec::with_capacity(alloc, count)?;
+    for _place in 0..count {
+        sets.push(Members::new(alloc))?;
+    }
+    Ok(sets)
+}
+
+// The set of a part gets a record more.
+fn add_to<K: Drop, D: Drop>(
+    sets: &mut [Members<K, D>],
+    part: usize,
+    number: RecordNo,
+    loaded: Loaded<K, D>,
+) -> Result<(), AllocError>
+    requires there { part < length sets.old }
+    requires above { (q : ℕ) → IsSome (map.get (slice_index_or sets.old part nothing).records q) → q < number }
+    requires same { loaded.base ≡ loaded.fields }
+    ensures { OnOk result (sets.new ≡ slice_set sets.old part (with_loaded (slice_index_or sets.old part nothing) number loaded)) }
+{
+    let Loaded {
+        fields,
+        base,
+        device,
+    } = loaded;
+    sets[part].add(number, fields, base, device)
+}
+
+/// Deals the records of a database to sets: each, by its place as its number, to the set of its part. The copies become the
+/// bases. Cost: the number of records.
+///
+/// # Errors
+///
+/// [`AllocError`] where memory is wanting.
+pub fn deal<K: Drop, D: Drop>(
+    alloc: Global,
+    all: Vec<Loaded<K, D>>,
+    parts: &[usize],
+) -> Result<Vec<Members<K, D>>, AllocError>
+    requires same { All (λ loaded. loaded.base ≡ loaded.fields) all.items }
+    requires one_each { length parts.now ≡ length all.items }
+    requires below { All (λ part. part < length parts.now) parts.now }
+    ensures { IfOk result (λ sets. AreDealt all.items parts.now sets.items) }
+{
+    let mut sets = empty_sets(alloc, parts.len())?;
+    let by_part = sets.as_mut_slice();
+    let mut left = all.into_iter();
+    for (number, part) in parts.iter().enumerate() {
+        let Some(loaded) = left.next() else {
+            unreachable!()
+        };
+        add_to(by_part, *part, RecordNo::new(number), loaded)?;
+    }
+    Ok(sets)
+}

@@ -1,0 +1,44 @@
+//! The parts that links make of a loaded database.
+ghost use Rattle.std.specs.Prelude.{◌↔◌, IfOk, IfSome, IsSome};
+ghost use Rattle.ioc_members.specs.Joined.{IsClosed};
+ghost use Rattle.ioc_dealing.specs.Linked.{links_in, AreParts};
+ghost use Rattle.ioc_dealing.specs.Edges.{AreEdges};
+
+use crate::dealing::Loaded;
+use ioc_graph::{Edge, are_below, parts_of_all};
+use ioc_members::links::add_links;
+use ioc_names::RecordNo;
+use ioc_record::RecordKind;
+use std::alloc::{AllocError, Global};
+
+// The edges of all links.
+fn edges_of<K: RecordKind, D>(alloc: Global, all: &[Loaded<K, D>]) -> Result<Vec<Edge>, AllocError>
+    ensures { IfOk result (λ edges. AreEdges (links_in K.rules all.now) edges.items) }
+{
+    let mut edges = Vec::new(alloc);
+    for (number, loaded) in all.iter().enumerate() {
+        add_links(&mut edges, RecordNo::new(number), &loaded.fields)?;
+    }
+    Ok(edges)
+}
+
+/// For each record of a database the number of its part: records that links join have one number, and no others have it. None
+/// where a link leads to no record. Cost: near the number of records and links.
+///
+/// # Errors
+///
+/// [`AllocError`] where memory is wanting.
+pub fn parts_of<K: RecordKind, D>(
+    alloc: Global,
+    all: &[Loaded<K, D>],
+) -> Result<Option<Vec<usize>>, AllocError>
+    ensures parts { IfOk result (λ found. IfSome found (λ parts. AreParts K.rules all.now parts.items)) }
+    ensures within { IfOk result (λ found. IsSome found ↔ IsClosed (links_in K.rules all.now)) }
+{
+    let edges = edges_of(alloc, all)?;
+    if !are_below(&edges, all.len()) {
+        return Ok(None);
+    }
+    let parts = parts_of_all(alloc, &edges, all.len())?;
+    Ok(Some(parts))
+}

@@ -1,0 +1,20 @@
+use Rattle.std.proofs.Common.{◌∙◌, subst, length, ◌<◌, arith}
+use Rattle.std.proofs.Math.Seq.{map-set_same}
+use Rattle.ioc_line.specs.declared.entry.Note.{Note}
+use Rattle.std.specs.Prelude.{List}
+use Rattle.ioc_held.specs.Holding.{HeldView}
+use Rattle.ioc_engine.specs.Ended.{IsAsTold}
+use Rattle.ioc_engine.proofs.Ending.{one_more}
+use Rattle.ioc_engine.proofs.report.tell_all.Goals as goal
+
+pub loop-place-preserved : goal.loop-place-preserved
+loop-place-preserved g c =
+    let k = g.K.RecordKind.rules in
+    let base = g.B.Base.base in
+    let within : c.loop-place.place < length c.loop-place.sets = omega arith in
+    record {
+      sets = map-set_same (λ (h : HeldView g.row.K.Denot g.row.D.Denot). h.set) c.loop-place.sets c.loop-place.place c.learn_all.new.self c.index-sets-place.result c.learn_all.ensures.set ∙ c.loop-place.invariant.sets;
+      told = one_more (IsAsTold k base c.args.journal.now) c.loop-place.sets c.loop-place.place c.learn_all.new.self within c.loop-place.invariant.told
+          (subst (λ (l : List Note). IsAsTold k base l c.learn_all.new.self) c.loop-place.invariant.journal c.learn_all.ensures.told);
+      journal = c.learn_all.ensures.journal ∙ c.loop-place.invariant.journal;
+    }

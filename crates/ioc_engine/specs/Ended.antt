@@ -1,0 +1,23 @@
+-- What an engine leaves at its end.
+-- Application Developer's Guide, "Database Locking, Scanning, and Processing", lock sets. The journal is this project's own.
+use Rattle.std.specs.Prelude.{◌≡◌, ℕ, List, IsSome, All}
+use Rattle.std.specs.FinMap.{get}
+use Rattle.ioc_record.specs.RecordRules.{RecordRules}
+use Rattle.ioc_store.specs.World.{World}
+use Rattle.ioc_topology.specs.Gathered.{HoldEach}
+use Rattle.ioc_line.specs.declared.entry.Note.{Note}
+use Rattle.ioc_holding.specs.Legal.{map_of}
+use Rattle.ioc_journal.specs.Account.{IsAccount}
+use Rattle.ioc_held.specs.Holding.{HeldView, numbers_of}
+
+module _ {R D : Type 0} (k : RecordRules R) (base : World R) where
+  -- the list leads to records that are, of the set's numbers, those of the set
+  abbrev pub IsAsTold : List Note → HeldView R D → Type 0
+  IsAsTold log h = (n : ℕ) → IsSome (get h.set.records n) → get (map_of k base log).records n ≡ get h.set.records n
+
+  -- the sets have each of the first records, and none in two of them; the list of all calls is legal, and leads from the world at the load to
+  -- what they have
+  pub record IsEnd (count : ℕ) (log : List Note) (sets : List (HeldView R D)) : Type 0 where
+    pub each : HoldEach numbers_of sets count
+    pub told : All (IsAsTold log) sets
+    pub legal : IsAccount k base log

@@ -1,0 +1,46 @@
+-- What a link change of the engine was.
+-- Application Developer's Guide, "Database Locking, Scanning, and Processing": a changed link parts lock sets or joins them. The journal is
+-- this project's own.
+use Rattle.std.specs.Prelude.{ℕ, ◌≡◌, ◌⊎◌, Option, Contains}
+use Rattle.ioc_values.specs.declared.error.IocError.{IocError}
+use Rattle.ioc_values.specs.declared.error.IocError.TheVariants.{NoField}
+use Rattle.ioc_fields.specs.declared.field_no.FieldNo.{FieldNo}
+use Rattle.ioc_common.specs.declared.link_field.LinkField.{LinkField}
+use Rattle.ioc_common.specs.Links.{use_of, record_named}
+use Rattle.ioc_record.specs.RecordRules.{RecordRules}
+use Rattle.ioc_members.specs.Joined.{HasLink}
+use Rattle.ioc_store.specs.World.{World}
+use Rattle.ioc_events.specs.declared.reply.Reply.{Reply}
+use Rattle.ioc_journal.specs.Account.{DeskView}
+use Rattle.ioc_topology.specs.Change.{AreLent, AreSound, LinkIsRefused}
+use Rattle.ioc_held.specs.Holding.{HeldView, numbers_of, IsSoundlyHeld}
+use Rattle.ioc_held.specs.Changing.{Relinks}
+
+-- the record that a link names, if it names one
+abbrev pub other_of : LinkField → Option ℕ
+other_of link = record_named (use_of link)
+
+module _ {R : Type 0} (D : Type 0) (k : RecordRules R) (base : World R) where
+  -- a link change of a desk was done, or refused, on sets that have the record and what the link names, each of which was sound, and is so again
+  pub record WasLinked (number : ℕ) (field : FieldNo) (link : LinkField) (desk : DeskView) (at_moment : ℕ) (reply : Reply) (moved : ℕ) (desk_then : DeskView) (come_to : World R) : Type 0 where
+    pub first : HeldView R D
+    pub second : HeldView R D
+    pub spare : HeldView R D
+    pub first_then : HeldView R D
+    pub second_then : HeldView R D
+    pub spare_then : HeldView R D
+    pub lent : AreLent numbers_of number (other_of link) first second spare
+    pub before : AreSound (IsSoundlyHeld k base) first second spare
+    pub relinks : Relinks k base first second spare desk at_moment number field link reply moved first_then second_then spare_then desk_then come_to
+    pub after : AreSound (IsSoundlyHeld k base) first_then second_then spare_then
+
+  -- a sound set has the record, and the field is no link of it
+  pub record IsNoLink (number : ℕ) (field : FieldNo) : Type 0 where
+    pub held : HeldView R D
+    pub here : Contains (numbers_of held) number
+    pub sound : IsSoundlyHeld k base held
+    pub none : HasLink k held.set.records number field → ⊥
+
+  -- why a link change is no call: memory is wanting, a record is beyond the directory's, or the field is no link
+  abbrev pub LinkWasRefused : ℕ → ℕ → FieldNo → LinkField → IocError → Type 0
+  LinkWasRefused count number field link error = LinkIsRefused count number (other_of link) error ⊎ ((error ≡ NoField) × IsNoLink number field)

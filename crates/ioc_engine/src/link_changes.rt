@@ -1,0 +1,79 @@
+//! Link changes of the engine.
+ghost use Rattle.std.specs.Prelude.{◌≡◌, IfOk, IfErr, OnOk, OnErr};
+ghost use Rattle.ioc_set.specs.SetStore.{world_of};
+ghost use Rattle.ioc_topology.specs.Change.{AreKnown};
+ghost use Rattle.ioc_engine.specs.Linked.{other_of, WasLinked, LinkWasRefused};
+
+use crate::engine::Engine;
+use ioc_common::KeptLink;
+use ioc_device::Device;
+use ioc_fields::FieldNo;
+use ioc_held::{Changed, change_link};
+use ioc_journal::{Base, Desk};
+use ioc_names::RecordNo;
+use ioc_record::RecordKind;
+use ioc_set::Workplace;
+use ioc_topology::{all_sound, are_lent};
+use ioc_values::IocError;
+use std::alloc::Global;
+use std::sync::Wait;
+
+impl<K: RecordKind + Drop, B: Base<K>, D: Device> Engine<K, B, D> {
+    /// Changes a link of a record, under the topology guard and the locks of the sets that it concerns alone: the set of the record falls
+    /// apart, or goes together with that of the record which the link names then, and each record is found where it is. `link` and `twin` are
+    /// alike.
+    ///
+    /// # Errors
+    ///
+    /// [`IocError::NoRecord`]: there are no more records than one of the two numbers says. [`IocError::NoField`]: the field is no link of the
+    /// record. [`IocError::NoMemory`]. Nothing stands in the journal then. That DISP forbids it is a reply, and stands in the journal.
+    pub fn set_link<R: Wait>(
+        &self,
+        rt: &R,
+        alloc: Global,
+        desk: &mut Desk<K, B>,
+        workplace: &mut Workplace<K, D>,
+        number: RecordNo,
+        field: FieldNo,
+        link: KeptLink,
+        twin: KeptLink,
+        moment: u64,
+    ) -> Result<Changed<K, B>, IocError>
+        requires twin { twin ≡ link }
+        ensures changed { IfOk result (λ c. WasLinked D K.rules B.base number field link desk.old moment c.reply c.moved desk.new (world_of workplace.new.store)) }
+        ensures receipt { IfOk result (λ c. c.receipt ≡ desk.new.seen) }
+        ensures known { OnOk result (AreKnown self.now number (other_of link)) }
+        ensures refused { IfErr result (LinkWasRefused D K.rules B.base self.now number field link) }
+        ensures err { OnErr result (desk.new ≡ desk.old) }
+    {
+        let other = link.record_named();
+        let _guard = self.sets.guard_topology(rt);
+        let new = self.sets.new_places(rt, alloc)?;
+        for _ in rt.forever() {
+            let both = match self.sets.both_places(rt, &new, number, &other) {
+                Ok(Some(both)) => both,
+                Ok(None) => continue,
+                Err(refused) => {
+                    self.sets.leave_new(rt, &new);
+                    return Err(refused);
+                }
+            };
+            let (mut first_guard, mut second_guard) = both.lock(rt);
+            let mut spare_guard = new.lock_spare(rt);
+            let first = &mut *first_guard;
+            let second = &mut *second_guard;
+            let spare = &mut *spare_guard;
+            if are_lent(first, second, spare, number, &other) {
+                all_sound(first, second, spare);
+                let changed = change_link(
+                    rt, alloc, &self.book, desk, workplace, first, second, spare, number, field,
+                    link, twin, moment,
+                );
+                all_sound(first, second, spare);
+                self.sets.settle_all(rt, &both, &new, first, second, spare);
+                return changed;
+            }
+        }
+        unreachable!()
+    }
+}

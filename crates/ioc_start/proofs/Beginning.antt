@@ -1,0 +1,25 @@
+-- A cell whose keeper has seen nothing keeps its rule.
+use Rattle.std.proofs.Common.{◌≡◌, ℕ, zero, suc, List, [], ◌∷◌, refl, sym, subst, ⊎_elim}
+use mathlib.Core.Option.{some, some-injective, some-ne-none}
+use lib.ListN.{get_elem?}
+use Rattle.ioc_line.specs.declared.room.View.{View}
+use Rattle.ioc_line.specs.Key.{Key}
+use Rattle.ioc_line.specs.KeyLaws.{continues_self}
+use Rattle.ioc_line.specs.Line.{keeper, Fits, Holds, Kept}
+
+pub begins : (words : List ℕ) → Kept words (keeper [] [] ∷ [])
+begins words = record {
+  seat = 0;
+  log = [];
+  fits = one;
+  apart = λ i j a b k ei ej ha hb. absurd (no i a k ei ha);
+  born = λ i j a b k ei ej ka hb. absurd (no j b k ej hb);
+}
+  where
+    one : (by : ℕ) (v : View) → get_elem? (keeper [] [] ∷ []) by ≡ some v → Fits [] 0 by v
+    one zero v e = subst (Fits [] 0 0) (some-injective _ _ e) ((λ _. (refl, refl)), continues_self [] [], continues_self [] [], λ k a b. b)
+    one (suc by) v e = absurd (some-ne-none v (sym e))
+
+    no : (by : ℕ) (v : View) (k : Key) → get_elem? (keeper [] [] ∷ []) by ≡ some v → Holds v k → ⊥
+    no zero v k e h = ⊎_elim (λ (a : ⊥). a) (λ (b : ⊥). b) (subst (λ (z : View). Holds z k) (sym (some-injective _ _ e)) h)
+    no (suc by) v k e h = absurd (some-ne-none v (sym e))

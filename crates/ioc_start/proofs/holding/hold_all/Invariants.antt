@@ -1,0 +1,15 @@
+use Rattle.std.proofs.Common.{◌≡◌, [], length}
+use Rattle.crossbeam_utils.specs.Seq.{cell_view}
+use Rattle.ioc_line.specs.Line.{keeper}
+use Rattle.ioc_start.specs.Loading.{AreSetsFrom, AreOfPartsBelow}
+use Rattle.ioc_start.proofs.holding.hold_all.Given as goal
+
+-- the parts below have their keys, and the sets from here on wait as they were dealt
+abbrev pub invariant-loop-part : goal.invariant-loop-part
+invariant-loop-part g l = record {
+  count : l.directory ≡ length l.parts;
+  table : l.master.table_id ≡ g.B.Room.table;
+  master : cell_view l.master ≡ keeper [] (cell_view l.master).born;
+  born : AreOfPartsBelow l.parts l.part (cell_view l.master).born;
+  left : AreSetsFrom g.K.RecordKind.rules g.B.Base.base l.parts l.part l.sets;
+}

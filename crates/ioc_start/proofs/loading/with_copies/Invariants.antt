@@ -1,0 +1,13 @@
+use Rattle.std.proofs.Common.{◌≡◌, ◌+◌, ◌++◌, length, map}
+use Rattle.std.specs.Prelude.{All}
+use Rattle.std.specs.Vec.Iter.{into_iter_items}
+use Rattle.ioc_dealing.specs.declared.dealing.Loaded.{Loaded}
+use Rattle.ioc_start.proofs.loading.with_copies.Given as goal
+
+-- those so far have copies, and what is left is behind them
+abbrev pub invariant-loop : goal.invariant-loop
+invariant-loop g l = record {
+  many : l.counter + length (into_iter_items l.left) ≡ length l.fn.records.items;
+  copies : All (λ (x : Loaded g.row.K.Denot g.row.D.Denot). x.base ≡ x.fields) l.all.items;
+  records : map (λ (x : Loaded g.row.K.Denot g.row.D.Denot). x.fields) l.all.items ++ into_iter_items l.left ≡ l.fn.records.items;
+}

@@ -1,0 +1,43 @@
+-- A loaded database before its first event.
+-- Application Developer's Guide, "Database Locking, Scanning, and Processing": records that links join are in one lock set.
+use Rattle.std.specs.Prelude.{◌≡◌, ℕ, ◌<◌, ◌≤◌, List, [], map, length, All, slice_index, slice_index_or}
+use Rattle.ioc_record.specs.RecordRules.{RecordRules}
+use Rattle.ioc_members.specs.Contents.{Contents, nothing}
+use Rattle.ioc_members.specs.Joined.{links_of, IsPart}
+use Rattle.ioc_store.specs.OneMap.{numbered}
+use Rattle.ioc_store.specs.World.{World}
+use Rattle.ioc_line.specs.Key.{Key, Has}
+use Rattle.ioc_set.specs.Held.{resting}
+use Rattle.ioc_set.specs.Linking.{IsCalm}
+use Rattle.ioc_dealing.specs.declared.dealing.Loaded.{Loaded}
+use Rattle.ioc_dealing.specs.Dealing.{HasPart}
+use Rattle.ioc_dealing.specs.Linked.{AreParts}
+
+-- the world at the load: the records by their places
+abbrev pub loaded_world : {R D : Type 0} → List (Loaded R D) → World R
+loaded_world all = resting (numbered (map (λ l. l.fields) all)) [] []
+
+-- each of these keys is that of a record whose part has a lower number
+abbrev pub AreOfPartsBelow : List ℕ → ℕ → List Key → Type 0
+AreOfPartsBelow parts part keys = (key : Key) → Has key keys → (key.0 ≡ 0) × (slice_index parts key.1 < part)
+
+module _ {R D : Type 0} (k : RecordRules R) where
+  -- the world is that of these records, which are at rest, and their links make these parts
+  pub record IsAtRest (base : World R) (parts : List ℕ) (all : List (Loaded R D)) : Type 0 where
+    pub world : base ≡ loaded_world all
+    pub calm : All (λ l. IsCalm k l.fields) all
+    pub parts_are : AreParts k all parts
+
+  -- a set that has the records of a part of such a world
+  pub record IsSetOf (base : World R) (parts : List ℕ) (part : ℕ) (members : Contents R D) : Type 0 where
+    pub all : List (Loaded R D)
+    pub rest : IsAtRest base parts all
+    pub has : HasPart all parts part members
+    pub one_part : IsPart (links_of k members.records)
+
+  -- sets, of which each from a number on has the records of the part of its number
+  pub record AreSetsFrom (base : World R) (parts : List ℕ) (from : ℕ) (sets : List (Contents R D)) : Type 0 where
+    pub all : List (Loaded R D)
+    pub rest : IsAtRest base parts all
+    pub each : (part : ℕ) → from ≤ part → part < length sets → HasPart all parts part (slice_index_or sets part nothing)
+    pub one_part : (part : ℕ) → from ≤ part → part < length sets → IsPart (links_of k (slice_index_or sets part nothing).records)

@@ -1,0 +1,121 @@
+//! Sets that are held from the load on.
+ghost use Rattle.std.specs.Prelude.{◌≡◌, ◌+◌, ◌++◌, [], length, IfOk, OnOk};
+ghost use Rattle.std.specs.FinMap as map;
+ghost use Rattle.crossbeam_utils.specs.Seq.{cell_view};
+ghost use Rattle.ioc_line.specs.Key.{Key, Has, record_keys};
+ghost use Rattle.ioc_line.specs.Line.{keeper};
+ghost use Rattle.ioc_holding.specs.Held.{Holds};
+ghost use Rattle.ioc_members.specs.Joined.{links_of, IsPart};
+ghost use Rattle.ioc_set.specs.Held.{resting, no_counts};
+ghost use Rattle.ioc_set.specs.Linking.{anew, AreCalm};
+ghost use Rattle.ioc_journal.specs.Account.{AreRecords};
+ghost use Rattle.ioc_held.specs.Holding.{held_view};
+ghost use Rattle.ioc_start.specs.Loading.{IsSetOf, AreSetsFrom, AreOfPartsBelow};
+
+use ioc_held::Held;
+use ioc_journal::Base;
+use ioc_line::{Cell, Keys, Token, pass};
+use ioc_members::Members;
+use ioc_record::RecordKind;
+use ioc_set::LockSet;
+use ioc_topology::{Directory, Locked};
+use std::alloc::{AllocError, Global};
+use std::marker::Brand;
+use std::mem;
+
+// A set of these members, whose holder gets the keys of `P`.
+fn hold_as<P: Keys, K: RecordKind, B: Base<K>, D>(
+    alloc: Global,
+    cell: &Cell,
+    master: &mut Token,
+    members: Members<K, D>,
+) -> Held<K, B, D>
+    requires table { (cell.now.table.shared.table_id ≡ B.table) × (master.old.table_id ≡ B.table) }
+    requires master { cell_view master.old ≡ keeper [] (cell_view master.old).born }
+    requires keys { P.keys ≡ record_keys (map.keys members.records) }
+    requires fresh { (key : Key) → Has key (record_keys (map.keys members.records)) → Has key (cell_view master.old).born → ⊥ }
+    requires base { members.base ≡ members.records }
+    requires part { IsPart (links_of K.rules members.records) }
+    requires calm { AreCalm K.rules members.records }
+    requires holds { Holds K.rules B.base (resting members.records [] []) }
+    ensures table { master.new.table_id ≡ B.table }
+    ensures master { cell_view master.new ≡ keeper [] (record_keys (map.keys members.records) ++ (cell_view master.old).born) }
+    ensures held { result ≡ held_view (anew members.records members.devices no_counts) [] }
+{
+    let pass = pass::claim::<P>(cell, master);
+    let set = LockSet::of(alloc, members);
+    Held::new(set, pass)
+}
+
+/// A set of these members, whose holder gets the keys of their records and has seen no call yet.
+pub fn hold<K: RecordKind, B: Base<K>, D>(
+    alloc: Global,
+    cell: &Cell,
+    master: &mut Token,
+    members: Members<K, D>,
+) -> Held<K, B, D>
+    requires table { (cell.now.table.shared.table_id ≡ B.table) × (master.old.table_id ≡ B.table) }
+    requires master { cell_view master.old ≡ keeper [] (cell_view master.old).born }
+    requires fresh { (key : Key) → Has key (record_keys (map.keys members.records)) → Has key (cell_view master.old).born → ⊥ }
+    requires base { members.base ≡ members.records }
+    requires part { IsPart (links_of K.rules members.records) }
+    requires calm { AreCalm K.rules members.records }
+    requires holds { Holds K.rules B.base (resting members.records [] []) }
+    ensures table { master.new.table_id ≡ B.table }
+    ensures master { cell_view master.new ≡ keeper [] (record_keys (map.keys members.records) ++ (cell_view master.old).born) }
+    ensures held { result ≡ held_view (anew members.records members.devices no_counts) [] }
+{
+    hold_as::<Brand, K, B, D>(alloc, cell, master, members)
+}
+
+// A set of the records of one part, whose holder gets the keys of these records and has seen no call yet.
+fn hold_part<K: RecordKind, B: Base<K>, D>(
+    alloc: Global,
+    cell: &Cell,
+    master: &mut Token,
+    members: Members<K, D>,
+    parts: &[usize],
+    part: usize,
+) -> Held<K, B, D>
+    requires table { (cell.now.table.shared.table_id ≡ B.table) × (master.old.table_id ≡ B.table) }
+    requires master { cell_view master.old ≡ keeper [] (cell_view master.old).born }
+    requires part { IsSetOf K.rules B.base parts.now part members }
+    requires born { AreOfPartsBelow parts.now part (cell_view master.old).born }
+    ensures table { master.new.table_id ≡ B.table }
+    ensures master { cell_view master.new ≡ keeper [] (cell_view master.new).born }
+    ensures born { AreOfPartsBelow parts.now (part + 1) (cell_view master.new).born }
+    ensures held { result ≡ held_view (anew members.records members.devices no_counts) [] }
+{
+    hold(alloc, cell, master, members)
+}
+
+/// The sets of all parts, in a directory for so many records; a part with no record has no set. What is lent is left without records.
+///
+/// # Errors
+///
+/// [`AllocError`] where memory is wanting.
+pub fn hold_all<K: RecordKind + Drop, B: Base<K>, D: Drop>(
+    alloc: Global,
+    cell: &Cell,
+    master: &mut Token,
+    sets: &mut [Members<K, D>],
+    parts: &[usize],
+) -> Result<Directory<Held<K, B, D>>, AllocError>
+    requires table { (cell.now.table.shared.table_id ≡ B.table) × (master.old.table_id ≡ B.table) }
+    requires master { cell_view master.old ≡ keeper [] [] }
+    requires parts { AreSetsFrom K.rules B.base parts.now 0 sets.old }
+    ensures count { IfOk result (λ d. d ≡ length parts.now) }
+    ensures table { OnOk result (master.new.table_id ≡ B.table) }
+    ensures master { OnOk result (cell_view master.new ≡ keeper [] (cell_view master.new).born) }
+    ensures born { OnOk result (AreRecords (cell_view master.new).born) }
+{
+    let mut directory = Directory::new(alloc, parts.len())?;
+    for part in 0..sets.len() {
+        let members = mem::replace(&mut sets[part], Members::new(alloc));
+        let held = hold_part::<K, B, D>(alloc, cell, master, members, parts, part);
+        if held.len() != 0 {
+            directory.add(alloc, held)?;
+        }
+    }
+    Ok(directory)
+}

@@ -1,0 +1,88 @@
+//! The start.
+ghost use Rattle.std.specs.Prelude.{◌≡◌, ◌-◌, ◌^◌, ◌↔◌, [], All, IsTrue, IfOk, IfErr, length};
+ghost use Rattle.crossbeam_utils.specs.Seq.{cell_view};
+ghost use Rattle.ioc_line.specs.Line.{keeper};
+ghost use Rattle.ioc_set.specs.Linking.{IsCalm};
+ghost use Rattle.ioc_start.specs.Loading.{loaded_world};
+ghost use Rattle.ioc_start.specs.declared.starting.StartError.TheVariants.{NotAtRest};
+
+use crate::holding::hold_all;
+use ioc_dealing::laws::dealt_sets_are_parts;
+use ioc_dealing::{Loaded, deal, parts_of};
+use ioc_engine::Engine;
+use ioc_holding::laws::lists_leave_sound;
+use ioc_journal::{Base, Book, Journal};
+use ioc_line::{Cell, Token};
+use ioc_record::RecordKind;
+use std::alloc::Global;
+use std::sync::ledger::Blank;
+
+/// Why an engine isn't started.
+#[derive(Clone, Copy, PartialEq, Eq)]
+pub enum StartError {
+    /// Memory is wanting.
+    NoMemory,
+    /// A record is active without awaiting a completion, or awaits one without being active, or has a put with notification.
+    NotAtRest,
+    /// A link leads to a record that isn't there.
+    LinkLeaves,
+}
+
+// Is a record between events, and has no put with notification?
+fn is_at_rest<K: RecordKind>(item: &K) -> bool
+    ensures { IsTrue result ↔ IsCalm K.rules item.now }
+{
+    let common = item.common();
+    common.active == common.pending.is_some() && common.notification.is_none()
+}
+
+// Is each record?
+fn are_at_rest<K: RecordKind, D>(all: &[Loaded<K, D>]) -> bool
+    ensures { IsTrue result ↔ All (λ l. IsCalm K.rules l.fields) all.now }
+{
+    all.iter().all(|loaded| is_at_rest(&loaded.fields))
+}
+
+/// The engine of these records, each with its device, of which none was requested yet. Its name is `B`: who starts it knows the cell, the keeper's
+/// pass and the ledger of places by it; [`with_engine`](crate::with_engine) finds a name for it.
+///
+/// # Errors
+///
+/// [`StartError`].
+pub fn start<K: RecordKind + Drop, B: Base<K>, D: Drop>(
+    alloc: Global,
+    cell: Cell,
+    master: Token,
+    blank: Blank,
+    all: Vec<Loaded<K, D>>,
+) -> Result<Engine<K, B, D>, StartError>
+    requires table { (cell.table.shared.table_id ≡ B.table) × (master.table_id ≡ B.table) }
+    requires master { cell_view master ≡ keeper [] [] }
+    requires places { (blank.name ≡ B.places) × (blank.parts ≡ 2 ^ 64 - 1) }
+    requires base { B.base ≡ loaded_world all.items }
+    requires copies { All (λ l. l.base ≡ l.fields) all.items }
+    ensures count { IfOk result (λ e. e ≡ length all.items) }
+    ensures rest { IfErr result (λ e. e ≡ NotAtRest → All (λ l. IsCalm K.rules l.fields) all.items → ⊥) }
+{
+    if !are_at_rest(&all) {
+        return Err(StartError::NotAtRest);
+    }
+    let Ok(found) = parts_of(alloc, &all) else {
+        return Err(StartError::NoMemory);
+    };
+    let Some(parts) = found else {
+        return Err(StartError::LinkLeaves);
+    };
+    dealt_sets_are_parts::<K, D>();
+    let Ok(mut sets) = deal(alloc, all, &parts) else {
+        return Err(StartError::NoMemory);
+    };
+    let mut master = master;
+    let Ok(directory) = hold_all::<K, B, D>(alloc, &cell, &mut master, sets.as_mut_slice(), &parts)
+    else {
+        return Err(StartError::NoMemory);
+    };
+    lists_leave_sound::<K>();
+    let journal = Journal::new(alloc, master, blank);
+    Ok(Engine::new(directory, Book::new(cell, journal)))
+}
