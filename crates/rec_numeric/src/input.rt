@@ -78,6 +78,10 @@ impl<N: Number> RecordBody for NumericInput<N> {
         self.numbers.get(field)
     }
 
+    fn number(&self, field: OwnField) -> Option<i64> {
+        self.numbers.number(field)
+    }
+
     #[tactic(auto, unfolding(crate::specs::Input::input_stored))]
     fn store(&mut self, condition: &mut Condition, field: OwnField, value: Value) {
         self.numbers.store(field, value);

@@ -1,5 +1,6 @@
 //! The numbers that numeric records hold: of 32 bits, and of 64.
-ghost use Rattle.std.specs.Prelude.{◌≡◌};
+ghost use Rattle.std.specs.Prelude.{◌≡◌, Some};
+ghost use Rattle.ioc_record.specs.Shown.{number_shown};
 ghost use Rattle.rec_numeric.specs.Number.{NumberRules};
 ghost use Rattle.rec_numeric.specs.NumberLaws.{IsLawfulNumber};
 
@@ -21,6 +22,10 @@ pub trait Number: WholeNumber {
 
     fn value(self) -> Value
         ensures { result ≡ number.value self };
+
+    /// The number as which its value is shown.
+    fn shown(self) -> i64
+        ensures { number_shown (Some (number.value self)) ≡ Some result };
 
     fn range() -> Range
         ensures { result ≡ number.range };
@@ -55,6 +60,10 @@ impl Number for i32 {
         Value::Long(self)
     }
 
+    fn shown(self) -> i64 {
+        i64::from(self)
+    }
+
     fn range() -> Range {
         Range::Long
     }
@@ -86,6 +95,10 @@ impl Number for i64 {
 
     fn value(self) -> Value {
         Value::Int64(self)
+    }
+
+    fn shown(self) -> i64 {
+        self
     }
 
     fn range() -> Range {

@@ -9,6 +9,7 @@ use crate::numeric::Numeric;
 use ioc_common::{Condition, Drive, Fresh, Got, InputKind, KeptLink, LinkUse, Need, Output};
 use ioc_fields::{OwnField, RecordType};
 use ioc_links::Link;
+use ioc_record::shown::number_in;
 use ioc_record::{RecordBody, copy_drive, match_drive};
 use ioc_values::{Kind, Text, Value, of_number};
 use std::alloc::{AllocError, Global};
@@ -134,6 +135,17 @@ impl<N: Number> RecordBody for NumericOutput<N> {
             OwnField::Ivov => Some(self.invalid_value.value()),
             OwnField::Omsl | OwnField::Ivoa => self.drive.get(field),
             _ => self.numbers.get(field),
+        }
+    }
+
+    #[tactic(auto, unfolding(crate::specs::Output::output_get))]
+    fn number(&self, field: OwnField) -> Option<i64> {
+        match field {
+            OwnField::Drvh => Some(self.drive_high.shown()),
+            OwnField::Drvl => Some(self.drive_low.shown()),
+            OwnField::Ivov => Some(self.invalid_value.shown()),
+            OwnField::Omsl | OwnField::Ivoa => number_in(self.drive.get(field)),
+            _ => self.numbers.number(field),
         }
     }
 
