@@ -116,7 +116,7 @@ impl<N: Number> RecordBody for NumericInput<N> {
         }
     }
 
-    #[tactic(auto, using(crate::proofs::Stored::value_of_own), unfolding(crate::specs::Input::input_stored, crate::specs::Numeric::numeric_stored))]
+    #[tactic(auto, using(crate::proofs::Stored::is_there, crate::proofs::Stored::input_put))]
     fn store_number(
         &mut self,
         condition: &mut Condition,

@@ -190,7 +190,7 @@ impl<N: Number> RecordBody for NumericOutput<N> {
         }
     }
 
-    #[tactic(auto, using(crate::proofs::Stored::value_of_own), unfolding(crate::specs::Output::output_stored, crate::specs::Numeric::numeric_stored))]
+    #[tactic(auto, using(crate::proofs::Stored::is_there, crate::proofs::Stored::output_put))]
     fn store_number(
         &mut self,
         condition: &mut Condition,
