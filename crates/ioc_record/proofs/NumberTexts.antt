@@ -1,10 +1,10 @@
 -- A number is shown alike in every field.
-use Rattle.std.proofs.Common.{◌≡◌, ℤ, List, ℕ, Option, Some, None, ap, sym, ◌∙◌, refl}
+use Rattle.std.proofs.Common.{◌≡◌, ℤ, Option, Some, None}
 use Rattle.std.specs.Fmt.{signed_decimal}
 use Rattle.ioc_values.specs.declared.value.Value.{Value}
 use Rattle.ioc_values.specs.declared.value.Value.TheVariants as value
 use Rattle.ioc_values.specs.Conversion.{FieldSort, Numbers, Texts, Choices, States}
-use Rattle.ioc_record.specs.Values.{plain_text, value_text, text_with}
+use Rattle.ioc_record.specs.Values.{value_text, text_with}
 use Rattle.ioc_record.specs.Shown.{number_shown}
 
 decimal_of : (m z : ℤ) → Some m ≡ Some z → signed_decimal m ≡ signed_decimal z

@@ -1,9 +1,8 @@
 -- A number of a type's own range, stored in VAL.
-use Rattle.std.proofs.Common.{◌≡◌, ℤ, Option, Some, None, true, is_some, refl, sym}
+use Rattle.std.proofs.Common.{◌≡◌, ℤ, Option, Some, None, true, is_some, refl}
 use Rattle.std.specs.Option.{option_and_then}
 use Rattle.ioc_values.specs.declared.value.Value.{Value}
 use Rattle.ioc_fields.specs.declared.field_no.OwnField.TheVariants.{Val}
-use Rattle.ioc_common.specs.declared.condition.Condition.{Condition}
 use Rattle.ioc_record.specs.BodyRules.{Held, number_stored}
 use Rattle.rec_numeric.specs.Number.{NumberRules}
 use Rattle.rec_numeric.specs.Numeric.{numeric_stored}

@@ -1,4 +1,4 @@
-use Rattle.std.proofs.Common.{◌≡◌, true, false, is_some, sym, ◌∙◌, rules}
+use Rattle.std.proofs.Common.{◌≡◌, true, false, is_some, rules}
 use Rattle.ioc_values.specs.Conversion.{value_in}
 use Rattle.ioc_record.specs.RecordRules.{number_stored}
 use Rattle.ioc_record.proofs.Putting.{number_put, number_left}
