@@ -22,6 +22,7 @@ use std::alloc::AllocError;
 /// # Errors
 ///
 /// [`IocError::NoRecord`] or [`IocError::NoField`] in this order, where there is no such record or field.
+#[inline(always)]
 #[tactic(auto, unfolding(crate::specs::Replay::channel))]
 pub fn channel(
     names: &Names,

@@ -1,11 +1,13 @@
 //! A loaded database, to which a script is done.
-ghost use Rattle.std.specs.Prelude.{◌≡◌, ◌≤◌, ◌+◌, ◌∷◌, ◌++◌, [], List, ℕ, length, codes, IfOk, OnOk, OnErr};
+ghost use Rattle.std.specs.Prelude.{◌≡◌, ◌≤◌, ◌+◌, ◌∷◌, ◌++◌, [], List, ℕ, length, take, codes, IfOk, OnOk, OnErr};
 ghost use Rattle.ioc_names.specs.NameTable.{number_of};
 ghost use Rattle.ioc_types.specs.Record.{record_rules};
 ghost use Rattle.ioc_record.specs.Values.{text_of};
 ghost use Rattle.ioc_process.specs.Rules.{IsSettled};
 ghost use Rattle.ioc_dbfile.specs.FirstWorld.{first_world};
 ghost use Rattle.ioc_machine.specs.Machine.{first_machine, queued_on, with_none_ended, given_up, scanned};
+ghost use Rattle.ioc_machine.specs.Scanner.{event_list, interrupt_list};
+ghost use Rattle.ioc_scan.specs.declared.list_name.ListName.TheVariants.{Period as Period-list};
 ghost use Rattle.ioc_machine.specs.SeenMachine.{machine_of};
 ghost use Rattle.ioc_main.specs.Replay.{Answered, channel, processed, got, were_put, answers_next, were_completed, given_value, carried_out, answered, were_notified, attended, ended_lines};
 ghost use Rattle.ioc_script.specs.Replies.{reply_words, tally_words, count_words};
@@ -24,7 +26,7 @@ use ioc_machine::{Machine, event_list, interrupt_list};
 use ioc_names::Names;
 use ioc_notify::NotifyId;
 use ioc_record::add_text;
-use ioc_scan::ListName;
+use ioc_scan::{ListName, Period};
 use ioc_script::{Command, count_line, ended_line, say_effect, say_refusal, say_reply, tally_line};
 use ioc_store::Store;
 use ioc_types::Record;
@@ -230,6 +232,39 @@ impl Replay {
     }
 
     #[inline(never)]
+    fn scan_period(&mut self, period: &Period, replies: &mut Replies) -> Result<(), AllocError>
+        requires { length replies.old + 256 ≤ 4096 }
+        ensures names { self.new.names ≡ self.old.names }
+        ensures machine { OnOk result (machine_of self.new.machine ≡ (scanned record_rules (machine_of self.old.machine) (Period-list period.now)).machine) }
+        ensures said { OnOk result (replies.new ≡ replies.old ++ count_words (scanned record_rules (machine_of self.old.machine) (Period-list period.now)).count ++ 10 ∷ []) }
+        ensures kept { OnErr result (replies.new ≡ replies.old) }
+    {
+        self.scan(&ListName::Period(*period), replies)
+    }
+
+    #[inline(never)]
+    fn post(&mut self, name: &[u8], replies: &mut Replies) -> Result<(), AllocError>
+        requires { length replies.old + 256 ≤ 4096 }
+        ensures names { self.new.names ≡ self.old.names }
+        ensures machine { OnOk result (machine_of self.new.machine ≡ (queued_on (machine_of self.old.machine) (event_list (take 39 name.now))).machine) }
+        ensures said { OnOk result (replies.new ≡ replies.old ++ count_words (queued_on (machine_of self.old.machine) (event_list (take 39 name.now))).count ++ 10 ∷ []) }
+        ensures kept { OnErr result (replies.new ≡ replies.old) }
+    {
+        self.call(event_list(Text::cut(name)), replies)
+    }
+
+    #[inline(never)]
+    fn interrupt(&mut self, word: &[u8], replies: &mut Replies) -> Result<(), AllocError>
+        requires { length replies.old + 256 ≤ 4096 }
+        ensures names { self.new.names ≡ self.old.names }
+        ensures machine { OnOk result (machine_of self.new.machine ≡ (queued_on (machine_of self.old.machine) (interrupt_list word.now)).machine) }
+        ensures said { OnOk result (replies.new ≡ replies.old ++ count_words (queued_on (machine_of self.old.machine) (interrupt_list word.now)).count ++ 10 ∷ []) }
+        ensures kept { OnErr result (replies.new ≡ replies.old) }
+    {
+        self.call(interrupt_list(word), replies)
+    }
+
+    #[inline(never)]
     fn link(
         &mut self,
         record_name: &[u8],
@@ -343,9 +378,9 @@ impl Replay {
                 Finished::Fault,
                 &mut said.replies,
             )?,
-            Command::Event(name) => self.call(event_list(Text::cut(name)), &mut said.replies)?,
-            Command::Interrupt(word) => self.call(interrupt_list(word), &mut said.replies)?,
-            Command::Scan(period) => self.scan(&ListName::Period(period), &mut said.replies)?,
+            Command::Event(name) => self.post(name, &mut said.replies)?,
+            Command::Interrupt(word) => self.interrupt(word, &mut said.replies)?,
+            Command::Scan(period) => self.scan_period(&period, &mut said.replies)?,
             Command::Link(record, field, text) => {
                 self.link(record, field, text, &mut said.replies)?;
             }

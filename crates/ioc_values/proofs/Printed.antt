@@ -1,5 +1,5 @@
 -- A number that is printed in decimal is read again.
-use Rattle.std.proofs.Common.{◌≡◌, ℕ, suc, ◌≤◌, ◌<◌, Bool, true, false, cond, ◌&&◌, eqb, List, [], ◌∷◌, reverse, Option, Some, None, ℤ, pos, negsuc, refl, ap, ◌∙◌, arith}
+use Rattle.std.proofs.Common.{◌≡◌, ℕ, suc, ◌≤◌, ◌<◌, Bool, true, false, cond, ◌&&◌, eqb, ltb, ◌^◌, List, [], ◌∷◌, reverse, Option, Some, None, ℤ, pos, negsuc, refl, ap, ◌∙◌, arith}
 use mathlib.Core.List.{reverse_aux}
 use Rattle.std.specs.List.{AllByRecursion}
 use Rattle.std.specs.Prelude.{FitsSigned}
@@ -13,7 +13,7 @@ use Rattle.std.proofs.lemmas.Bool.Decides.{nat_tests}
 use Rattle.std.proofs.lemmas.List.{reverse-reverse}
 use Rattle.std.proofs.lemmas.Fmt.{decimal_is_IsNumeral}
 use Rattle.ioc_values.specs.Trim.{is_blank, skip_front, trimmed}
-use Rattle.ioc_values.specs.Number.{numeral, all_digits, magnitude, signed, number_of}
+use Rattle.ioc_values.specs.Number.{numeral, below, all_digits, magnitude, signed, number_of}
 
 -- ---- nothing to trim
 
@@ -96,3 +96,32 @@ decimal_signed (negsuc n) h =
 
 pub printed_again : (z : ℤ) → FitsSigned w64 z → number_of (signed_decimal z) ≡ Some z
 printed_again z h = ap signed (decimal_solid false z h) ∙ decimal_signed z h
+
+-- ---- digits alone
+
+and_both : (a b : Bool) → (a && b) ≡ true → (a ≡ true) × (b ≡ true)
+and_both true b h = (refl, h)
+and_both false b h = absurd cc
+
+kept_is : (b : Bool) (v n : ℕ) → Some n ≡ cond b (Some v) None → v ≡ n
+kept_is true v n is = cc
+kept_is false v n is = cc
+
+below_ten : (d : ℕ) → ltb d 10 ≡ true → d < 10
+below_ten d h = grind (arith, nat_tests)
+
+all_read : (cs : List ℕ) → all_digits 10 cs ≡ true → AllDigits 10 cs
+all_read [] h = tt
+all_read (c ∷ cs) h = let both = and_both (ltb (digit_value c) 10) (all_digits 10 cs) h in (below_ten (digit_value c) both.0, all_read cs both.1)
+
+read_by : (b : Bool) (v n : ℕ) → Some n ≡ below (2 ^ 64) (cond b (Some v) None) → (b ≡ true) × (v ≡ n)
+read_by true v n is = (refl, kept_is (ltb v (2 ^ 64)) v n is)
+read_by false v n is = cc
+
+-- decimal digits alone write their number, without a sign and with nothing to trim
+pub plain_number : (cs : List ℕ) (n : ℕ) → Some n ≡ below (2 ^ 64) (numeral 10 cs) → number_of cs ≡ Some (pos n)
+plain_number [] n is = cc
+plain_number (c ∷ cs) n is =
+    let r = read_by (all_digits 10 (c ∷ cs)) (digits_value 10 (c ∷ cs)) n is in
+    let d = all_read (c ∷ cs) r.0 in
+    ap signed (trim_solid false (c ∷ cs) (digits_solid false (c ∷ cs) d)) ∙ signed_of_digits (c ∷ cs) (omega arith, d) ∙ ap (λ k. Some (pos k)) r.1

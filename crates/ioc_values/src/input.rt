@@ -1,10 +1,14 @@
 //! Values as callers give them.
 ghost use Rattle.std.specs.Prelude.{◌≡◌};
-ghost use Rattle.ioc_values.specs.Conversion.{sort_of, converted_text, converted_input, input_of};
+ghost use Rattle.std.specs.Option.{ok_or, option_and_then};
+ghost use Rattle.ioc_values.specs.declared.error.IocError.TheVariants.{BadValue};
+ghost use Rattle.ioc_values.specs.declared.kind.Range.{Range};
+ghost use Rattle.ioc_values.specs.Conversion.{Numbers, sort_of, value_in, converted_text, converted_input, input_of};
 
 use crate::conversion::{convert, of_text};
 use crate::error::IocError;
 use crate::kind::Kind;
+use crate::number::number;
 use crate::short::{MAX_TEXT_BYTES, Text};
 use crate::value::Value;
 
@@ -50,6 +54,19 @@ pub fn convert_input(input: Input, kind: Kind<'_>) -> Result<Value, IocError>
                 Err(IocError::BadValue)
             }
         }
+    }
+}
+
+/// The number that a field for numbers takes from a text that a script or a database spells; none where it takes none, or one past 64
+/// bits.
+#[tactic(auto, using(crate::proofs::Spelled::number_spelled, crate::proofs::Spelled::long_no_number))]
+pub fn spelled_number(text: &[u8]) -> Option<i64>
+    ensures { (range : Range) → ok_or (option_and_then (value_in range) result) BadValue ≡ converted_text text.now (Numbers range) }
+{
+    if text.len() <= MAX_TEXT_BYTES {
+        number(text)
+    } else {
+        None
     }
 }
 

@@ -13,7 +13,7 @@ pub mod value;
 
 pub use conversion::{convert, of_number};
 pub use error::{BadDbKind, DbFault, IocError};
-pub use input::{Input, convert_input, convert_text};
+pub use input::{Input, convert_input, convert_text, spelled_number};
 pub use kind::{Kind, Range};
 pub use room::Room;
 pub use short::{

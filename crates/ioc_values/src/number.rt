@@ -8,6 +8,7 @@ ghost use Rattle.ioc_values.specs.Number.{numeral, magnitude, below, signed, wit
 use crate::trim::trim;
 
 /// What the digits write, where it is below 2^64.
+#[inline(always)]
 #[tactic(auto, using(crate::proofs::Numerals::numeral_past, crate::proofs::Numerals::numeral_is))]
 fn numeral(digits: &[u8], radix: u32) -> Option<u64>
     requires low { 2 ≤ radix }
@@ -128,12 +129,22 @@ pub fn is_number(text: &[u8]) -> bool
     }
 }
 
+// A number without a sign, where it is in 64 bits with one.
+fn unsigned(number: u64) -> Option<i64>
+    ensures { result ≡ within_i64 (Some (pos number)) }
+{
+    0i64.checked_add_unsigned(number)
+}
+
 /// The number that the whole text writes, with spaces at both ends dropped. `None` where it writes none, or one past
-/// 64 bits.
+/// 64 bits. Decimal digits alone, which most numbers are, are read first.
 pub fn number(text: &[u8]) -> Option<i64>
     ensures { result ≡ within_i64 (number_of text.now) }
 {
-    signed(trim(text, false))
+    match decimal(text) {
+        Some(number) => unsigned(number),
+        None => signed(trim(text, false)),
+    }
 }
 
 /// A number that is printed in decimal is read again.

@@ -1,5 +1,7 @@
 //! The types longin and int64in.
-ghost use Rattle.std.specs.Prelude.{◌≡◌};
+ghost use Rattle.std.specs.Prelude.{◌≡◌, is_some};
+ghost use Rattle.ioc_values.specs.Conversion.{value_in};
+ghost use Rattle.ioc_record.specs.BodyRules.{number_stored};
 ghost use Rattle.ioc_record.specs.BodyLaws.{IsNewBody};
 ghost use Rattle.rec_numeric.specs.Input.{numeric_input, new_input};
 
@@ -9,7 +11,7 @@ use ioc_common::{Condition, Fresh, Got, InputKind, KeptLink, LinkUse, Need, Outp
 use ioc_fields::{OwnField, RecordType};
 use ioc_links::Link;
 use ioc_record::{RecordBody, copy_source};
-use ioc_values::{Kind, Text, Value, of_number};
+use ioc_values::{Kind, Range, Text, Value, of_number};
 use std::alloc::{AllocError, Global};
 
 /// The own fields of a numeric input. Record Reference Manual, "Long Input Record" and "64bit Integer Input Record".
@@ -37,6 +39,30 @@ impl<N: Number> NumericInput<N> {
         NumericInput {
             numbers: Numeric::new(),
             source: Source::new(),
+        }
+    }
+
+    // Stores a number, as a value of this range, in a field of whatever sort, and says whether it is in range. This isn't inlined, so
+    // that its value isn't cleared where VAL is meant.
+    #[inline(never)]
+    #[tactic(auto, unfolding(ioc_values::specs::Conversion::of_number, ioc_values::specs::Conversion::sort_of))]
+    fn store_converted(
+        &mut self,
+        condition: &mut Condition,
+        field: OwnField,
+        range: Range,
+        number: i64,
+    ) -> bool
+        ensures fits { result ≡ is_some (value_in range number) }
+        ensures stored { record { body = self.new; condition = condition.new }
+            ≡ number_stored (numeric_input N.number N.whole) (record { body = self.old; condition = condition.old }) field (value_in range number) }
+    {
+        match of_number(Kind::Number(range), number) {
+            Some(value) => {
+                self.store(condition, field, value);
+                true
+            }
+            None => false,
         }
     }
 }
@@ -78,11 +104,33 @@ impl<N: Number> RecordBody for NumericInput<N> {
         self.numbers.get(field)
     }
 
+    fn number(&self, field: OwnField) -> Option<i64> {
+        self.numbers.number(field)
+    }
+
     #[tactic(auto, unfolding(crate::specs::Input::input_stored))]
     fn store(&mut self, condition: &mut Condition, field: OwnField, value: Value) {
         self.numbers.store(field, value);
         if let OwnField::Val = field {
             condition.undefined = 0;
+        }
+    }
+
+    #[tactic(auto, using(crate::proofs::Stored::is_there, crate::proofs::Stored::input_put))]
+    fn store_number(
+        &mut self,
+        condition: &mut Condition,
+        field: OwnField,
+        range: Range,
+        number: i64,
+    ) -> bool {
+        match (field, N::in_range(range, number)) {
+            (OwnField::Val, Some(value)) => {
+                self.numbers.value = value;
+                condition.undefined = 0;
+                true
+            }
+            _ => self.store_converted(condition, field, range, number),
         }
     }
 

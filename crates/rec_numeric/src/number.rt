@@ -1,5 +1,8 @@
 //! The numbers that numeric records hold: of 32 bits, and of 64.
-ghost use Rattle.std.specs.Prelude.{◌≡◌};
+ghost use Rattle.std.specs.Prelude.{◌≡◌, Some};
+ghost use Rattle.std.specs.Option.{option_and_then};
+ghost use Rattle.ioc_values.specs.Conversion.{value_in};
+ghost use Rattle.ioc_record.specs.Shown.{number_shown};
 ghost use Rattle.rec_numeric.specs.Number.{NumberRules};
 ghost use Rattle.rec_numeric.specs.NumberLaws.{IsLawfulNumber};
 
@@ -21,6 +24,14 @@ pub trait Number: WholeNumber {
 
     fn value(self) -> Value
         ensures { result ≡ number.value self };
+
+    /// The number that a number of this range is as a value; none where its values are of another kind, or it is out of range.
+    fn in_range(range: Range, whole: i64) -> Option<Self>
+        ensures { result ≡ option_and_then number.in_value (value_in range whole) };
+
+    /// The number as which its value is shown.
+    fn shown(self) -> i64
+        ensures { number_shown (Some (number.value self)) ≡ Some result };
 
     fn range() -> Range
         ensures { result ≡ number.range };
@@ -55,6 +66,18 @@ impl Number for i32 {
         Value::Long(self)
     }
 
+    #[tactic(auto, unfolding(ioc_values::specs::Conversion::value_in))]
+    fn in_range(range: Range, whole: i64) -> Option<Self> {
+        match range {
+            Range::Long => i32::try_from(whole).ok(),
+            _ => None,
+        }
+    }
+
+    fn shown(self) -> i64 {
+        i64::from(self)
+    }
+
     fn range() -> Range {
         Range::Long
     }
@@ -86,6 +109,18 @@ impl Number for i64 {
 
     fn value(self) -> Value {
         Value::Int64(self)
+    }
+
+    #[tactic(auto, unfolding(ioc_values::specs::Conversion::value_in))]
+    fn in_range(range: Range, whole: i64) -> Option<Self> {
+        match range {
+            Range::Int64 => Some(whole),
+            _ => None,
+        }
+    }
+
+    fn shown(self) -> i64 {
+        self
     }
 
     fn range() -> Range {

@@ -1,5 +1,7 @@
 //! The types longout and int64out.
-ghost use Rattle.std.specs.Prelude.{◌≡◌};
+ghost use Rattle.std.specs.Prelude.{◌≡◌, is_some};
+ghost use Rattle.ioc_values.specs.Conversion.{value_in};
+ghost use Rattle.ioc_record.specs.BodyRules.{number_stored};
 ghost use Rattle.ioc_record.specs.BodyRules.{Held};
 ghost use Rattle.ioc_record.specs.BodyLaws.{IsNewBody};
 ghost use Rattle.rec_numeric.specs.Output.{numeric_output, new_output, within, limited_value, worked};
@@ -9,8 +11,9 @@ use crate::numeric::Numeric;
 use ioc_common::{Condition, Drive, Fresh, Got, InputKind, KeptLink, LinkUse, Need, Output};
 use ioc_fields::{OwnField, RecordType};
 use ioc_links::Link;
+use ioc_record::shown::number_in;
 use ioc_record::{RecordBody, copy_drive, match_drive};
-use ioc_values::{Kind, Text, Value, of_number};
+use ioc_values::{Kind, Range, Text, Value, of_number};
 use std::alloc::{AllocError, Global};
 
 /// The own fields of a numeric output. Record Reference Manual, "Long Output Record" and "64bit Integer Output Record".
@@ -91,6 +94,30 @@ impl<N: Number> NumericOutput<N> {
         }
         self.numbers.test(condition);
     }
+
+    // Stores a number, as a value of this range, in a field of whatever sort, and says whether it is in range. This isn't inlined, so
+    // that its value isn't cleared where VAL is meant.
+    #[inline(never)]
+    #[tactic(auto, unfolding(ioc_values::specs::Conversion::of_number, ioc_values::specs::Conversion::sort_of))]
+    fn store_converted(
+        &mut self,
+        condition: &mut Condition,
+        field: OwnField,
+        range: Range,
+        number: i64,
+    ) -> bool
+        ensures fits { result ≡ is_some (value_in range number) }
+        ensures stored { record { body = self.new; condition = condition.new }
+            ≡ number_stored (numeric_output N.number N.whole) (record { body = self.old; condition = condition.old }) field (value_in range number) }
+    {
+        match of_number(Kind::Number(range), number) {
+            Some(value) => {
+                self.store(condition, field, value);
+                true
+            }
+            None => false,
+        }
+    }
 }
 
 impl<N: Number> Fresh for NumericOutput<N> {
@@ -137,6 +164,17 @@ impl<N: Number> RecordBody for NumericOutput<N> {
         }
     }
 
+    #[tactic(auto, unfolding(crate::specs::Output::output_get))]
+    fn number(&self, field: OwnField) -> Option<i64> {
+        match field {
+            OwnField::Drvh => Some(self.drive_high.shown()),
+            OwnField::Drvl => Some(self.drive_low.shown()),
+            OwnField::Ivov => Some(self.invalid_value.shown()),
+            OwnField::Omsl | OwnField::Ivoa => number_in(self.drive.get(field)),
+            _ => self.numbers.number(field),
+        }
+    }
+
     #[tactic(auto, unfolding(crate::specs::Output::output_stored))]
     fn store(&mut self, condition: &mut Condition, field: OwnField, value: Value) {
         match field {
@@ -149,6 +187,24 @@ impl<N: Number> RecordBody for NumericOutput<N> {
             OwnField::Ivov => self.invalid_value = N::in_value(value).unwrap_or(self.invalid_value),
             OwnField::Omsl | OwnField::Ivoa => self.drive.store(field, value),
             _ => self.numbers.store(field, value),
+        }
+    }
+
+    #[tactic(auto, using(crate::proofs::Stored::is_there, crate::proofs::Stored::output_put))]
+    fn store_number(
+        &mut self,
+        condition: &mut Condition,
+        field: OwnField,
+        range: Range,
+        number: i64,
+    ) -> bool {
+        match (field, N::in_range(range, number)) {
+            (OwnField::Val, Some(value)) => {
+                self.numbers.value = value;
+                condition.undefined = 0;
+                true
+            }
+            _ => self.store_converted(condition, field, range, number),
         }
     }
 

@@ -1,4 +1,5 @@
-use Rattle.std.proofs.Common.{◌≡◌, ◌∙◌, sym, ap, true, not, rules}
+use Rattle.std.proofs.Common.{◌≡◌, ◌∙◌, sym, ap, true, not, nat_eq, rules}
+use Rattle.std.specs.Cmp.Lexicographic.{pointwise}
 use Rattle.std.specs.Str.{bytes_eq}
 use Rattle.std.proofs.lemmas.Slice.Eq.{bytes_eq-Decides}
 use Rattle.ioc_fields.proofs.Home.{none_named, one_named, other_named}
@@ -7,12 +8,13 @@ use Rattle.ioc_fields.proofs.names.named.Goals as goal
 pub returns-in_default : goal.returns-in_default
 returns-in_default c = none_named c.args.name.now (sym c.candidate.ensures ∙ c.in_default.is)
 
-pub returns-then-ne : goal.returns-then-ne
-returns-then-ne c =
+pub returns-then-not-is_same : goal.returns-then-not-is_same
+returns-then-not-is_same c =
     other_named c.args.name.now c.in-Some.field (cc)
     (λ e.
     let same : bytes_eq c.as_bytes.result.now c.args.name.now ≡ true = (bytes_eq-Decides c.as_bytes.result.now c.args.name.now).1 (c.as_bytes.ensures.value ∙ c.name_of.ensures ∙ e) in
-    let not_other = ap not same in
+    let is : pointwise nat_eq c.as_bytes.result.now c.args.name.now ≡ true = same in
+    let not_other = ap not is in
     cc)
 
 pub returns : goal.returns
