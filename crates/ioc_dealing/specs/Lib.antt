@@ -1,4 +1,3 @@
 pub mod Dealing
 pub mod Linked
 pub mod Edges
-pub mod Calm
