@@ -1,0 +1,9 @@
+//! Tests of the engine for threads, from a database text to its end.
+#![tactic(auto)]
+
+#[cfg(test)]
+mod calls;
+#[cfg(test)]
+mod opened;
+#[cfg(test)]
+mod threads;

@@ -1,0 +1,105 @@
+//! Engines of database texts.
+use ioc_common::{FieldAddress, KeptLink, Lead, LinkField};
+use ioc_dbfile::{Database, load};
+use ioc_dbtext::Macros;
+use ioc_device::{Answer, Device};
+use ioc_fields::{FieldNo, OwnField};
+use ioc_links::{LinkKind, parse};
+use ioc_names::RecordNo;
+use ioc_start::{Session, StartError, with_copies, with_engine};
+use ioc_types::Record;
+use ioc_values::Value;
+use std::alloc::{AllocError, Global};
+use std::sync::Arc;
+use std::sync::atomic::{AtomicU64, Ordering};
+use std::thread;
+
+/// Why a test has no engine.
+#[derive(Clone, Copy, PartialEq, Eq, Debug)]
+pub enum Unopened {
+    /// The text doesn't load.
+    Unloaded,
+    /// No memory for the copies.
+    NoMemory,
+    /// The engine isn't started.
+    NotStarted,
+}
+
+// How often a device looks at a flag before it gives up.
+const TURNS: u64 = 1_000_000;
+
+/// A device that says that it is asked, and answers once another call was answered.
+#[derive(Drop)]
+pub struct Holding {
+    pub asked: Arc<AtomicU64, Global>,
+    pub answered: Arc<AtomicU64, Global>,
+}
+
+/// Whether a flag was raised within the turns.
+pub fn seen(flag: &AtomicU64) -> bool {
+    for _ in 0..TURNS {
+        if flag.load(Ordering::SeqCst) != 0 {
+            return true;
+        }
+        thread::yield_now();
+    }
+    false
+}
+
+impl Device for Holding {
+    ghost gives = { λ _ _ _ _ _. Unit {0} };
+
+    fn read(&mut self, _moment: u64) -> Answer {
+        self.asked.store(1, Ordering::SeqCst);
+        if seen(&self.answered) {
+            Answer::Done(Value::Long(7))
+        } else {
+            Answer::Fault
+        }
+    }
+
+    fn write(&mut self, _value: Value, _moment: u64) -> Answer {
+        Answer::Fault
+    }
+}
+
+/// Starts the engine of a text, of which the record 0 may have a device, and works with it.
+pub fn open<S: Session<Record, Holding>>(
+    alloc: Global,
+    text: &[u8],
+    device: Option<Holding>,
+    session: S,
+) -> Result<S::Answer, Unopened> {
+    let Ok(database) = load(alloc, text, &Macros::new(alloc)) else {
+        return Err(Unopened::Unloaded);
+    };
+    let Database { names: _, records } = database;
+    let mut devices = Vec::new(alloc);
+    let Ok(()) = devices.push(device) else {
+        return Err(Unopened::NoMemory);
+    };
+    let Ok(all) = with_copies(alloc, records, devices) else {
+        return Err(Unopened::NoMemory);
+    };
+    match with_engine(alloc, all, session) {
+        Ok(answer) => Ok(answer),
+        Err(StartError::NoMemory | StartError::NotAtRest | StartError::LinkLeaves) => Err(
+            Unopened::NotStarted,
+        ),
+    }
+}
+
+/// A link to VAL of a record, or an empty one.
+pub fn link_to(alloc: Global, target: Option<usize>) -> Result<KeptLink, AllocError> {
+    let Some(target) = target else {
+        return Ok(KeptLink::empty());
+    };
+    let Ok(link) = parse(LinkKind::NoDevice, b"next") else {
+        return Ok(KeptLink::empty());
+    };
+    let lead = Lead::Field(FieldAddress {
+        number: RecordNo::new(target),
+        field: FieldNo::Own(OwnField::Val),
+    });
+    KeptLink::new(alloc, LinkField { link, lead })
+}
