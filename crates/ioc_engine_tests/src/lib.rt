@@ -4,6 +4,8 @@
 #[cfg(test)]
 mod calls;
 #[cfg(test)]
+mod eight;
+#[cfg(test)]
 mod opened;
 #[cfg(test)]
 mod threads;
