@@ -18,15 +18,18 @@ use std::thread;
 use std::thread::Threads;
 
 const VAL: FieldNo = FieldNo::Own(OwnField::Val);
+
 const FLNK: FieldNo = FieldNo::Common(CommonField::Flnk);
 
 // How many records there are, and how many calls each thread makes.
 const RECORDS: usize = 64;
+
 const CALLS: u32 = 1000;
 
 // The next of a run of numbers that looks like chance.
 fn next_of(seed: u64) -> u64 {
-    seed.wrapping_mul(6364136223846793005).wrapping_add(1442695040888963407)
+    seed.wrapping_mul(6364136223846793005)
+        .wrapping_add(1442695040888963407)
 }
 
 // A number below the count of records, of the upper bits.
@@ -47,7 +50,16 @@ fn call<B: Base<Record>, R: Wait>(
     match (seed >> 60) % 4 {
         0 => {
             engine
-                .put(rt, alloc, desk, place, number, VAL, Input::from_text(b"3"), seed)
+                .put(
+                    rt,
+                    alloc,
+                    desk,
+                    place,
+                    number,
+                    VAL,
+                    Input::from_text(b"3"),
+                    seed,
+                )
                 .ok()?;
         }
         1 => {
@@ -141,7 +153,10 @@ impl<'a, R: Threads + Wait + Sync> Session<Record, Holding> for Eight<'a, R> {
     // How many calls were answered, and how many records the sets have at the end.
     type Answer = (u32, usize);
 
-    fn run<B: Base<Record> + Send + Sync>(self, engine: Engine<Record, B, Holding>) -> (u32, usize) {
+    fn run<B: Base<Record> + Send + Sync>(
+        self,
+        engine: Engine<Record, B, Holding>,
+    ) -> (u32, usize) {
         let rt = self.rt;
         let alloc = self.alloc;
         let shared = &engine;
@@ -177,6 +192,9 @@ fn eight_threads(rt: HostRuntime) -> Result<(), Fail> {
     let alloc = rt.alloc();
     let text = text(alloc)?;
     let eight = Eight { rt: &rt, alloc };
-    assert_eq!(rt; open(alloc, text.as_bytes(), None, eight), Ok((8 * CALLS, RECORDS)));
+    assert_eq!(rt;
+        open(alloc, text.as_bytes(), None, eight),
+        Ok((8 * CALLS, RECORDS))
+    );
     Ok(())
 }
