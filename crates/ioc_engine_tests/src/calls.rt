@@ -1,18 +1,28 @@
 //! Calls of one desk.
-use crate::opened::{Holding, Unopened, link_to, open};
+ghost use Rattle.std.specs.Prelude.{◌≡◌, ◌-◌, ◌^◌, [], All};
+ghost use Rattle.crossbeam_utils.specs.Seq.{cell_view};
+ghost use Rattle.ioc_line.specs.Line.{keeper};
+ghost use Rattle.ioc_start.specs.Loading.{loaded_world};
+
+use crate::opened::{Holding, link_to, loaded};
+use ioc_dealing::Loaded;
 use ioc_engine::Engine;
 use ioc_events::Reply;
 use ioc_fields::{CommonField, FieldNo, OwnField};
-use ioc_journal::{Base, Desk};
+use ioc_journal::{Base, Desk, PLACES};
 use ioc_ledger::Outcome;
+use ioc_line::{Cell, Token};
 use ioc_names::RecordNo;
 use ioc_record::{FieldText, copy_link};
 use ioc_set::Workplace;
-use ioc_start::Session;
+use ioc_start::{new_cell, start};
 use ioc_types::Record;
 use ioc_values::{Input, IocError};
 use std::alloc::Global;
+use std::marker::Brand;
 use std::sync::Wait;
+use std::sync::ledger::Blank;
+use std::test::Fail;
 
 const VAL: FieldNo = FieldNo::Own(OwnField::Val);
 
@@ -43,20 +53,6 @@ enum Seen {
     AsItMust,
     /// The check of this number was not met.
     Not(u32),
-    /// A call was refused.
-    Refused,
-}
-
-// Each call once, with the text of a field, the places of the receipts, and the refusals.
-struct Calls<'a, R: Wait> {
-    rt: &'a R,
-    alloc: Global,
-}
-
-impl<'a, R: Wait> Drop for Calls<'a, R> {
-    fn drop(self) {
-        let Self { rt: _, alloc: _ } = self;
-    }
 }
 
 // A link change, and how many records moved.
@@ -94,8 +90,18 @@ fn moved<B: Base<Record>, R: Wait>(
 fn call_each<B: Base<Record>, R: Wait>(
     rt: &R,
     alloc: Global,
-    engine: &Engine<Record, B, Holding>,
-) -> Option<Seen> {
+    cell: Cell,
+    master: Token,
+    blank: Blank,
+    all: Vec<Loaded<Record, Holding>>,
+) -> Option<Seen>
+    requires table { (cell.table.shared.table_id ≡ B.table) × (master.table_id ≡ B.table) }
+    requires master { cell_view master ≡ keeper [] [] }
+    requires places { (blank.name ≡ B.places) × (blank.parts ≡ 2 ^ 64 - 1) }
+    requires base { B.base ≡ loaded_world all.items }
+    requires copies { All (λ l. l.base ≡ l.fields) all.items }
+{
+    let engine: Engine<Record, B, Holding> = start(alloc, cell, master, blank, all).ok()?;
     let mut desk = engine.open_desk(rt)?;
     let mut place = Workplace::new(alloc).ok()?;
     let a = RecordNo::new(0);
@@ -162,35 +168,22 @@ fn call_each<B: Base<Record>, R: Wait>(
     Some(Seen::AsItMust)
 }
 
-impl<'a, R: Wait> Session<Record, Holding> for Calls<'a, R> {
-    type Answer = Seen;
-
-    fn run<B: Base<Record> + Send + Sync>(self, engine: Engine<Record, B, Holding>) -> Seen {
-        match call_each(self.rt, self.alloc, &engine) {
-            Some(seen) => seen,
-            None => Seen::Refused,
-        }
-    }
-}
-
-// Link changes of a chain, one after another.
-struct Changes<'a, R: Wait> {
-    rt: &'a R,
-    alloc: Global,
-}
-
-impl<'a, R: Wait> Drop for Changes<'a, R> {
-    fn drop(self) {
-        let Self { rt: _, alloc: _ } = self;
-    }
-}
-
 // How many records each of the changes moved, and how many sets there are at the end.
 fn change_each<B: Base<Record>, R: Wait>(
     rt: &R,
     alloc: Global,
-    engine: Engine<Record, B, Holding>,
-) -> Option<([usize; 4], usize)> {
+    cell: Cell,
+    master: Token,
+    blank: Blank,
+    all: Vec<Loaded<Record, Holding>>,
+) -> Option<([usize; 4], usize)>
+    requires table { (cell.table.shared.table_id ≡ B.table) × (master.table_id ≡ B.table) }
+    requires master { cell_view master ≡ keeper [] [] }
+    requires places { (blank.name ≡ B.places) × (blank.parts ≡ 2 ^ 64 - 1) }
+    requires base { B.base ≡ loaded_world all.items }
+    requires copies { All (λ l. l.base ≡ l.fields) all.items }
+{
+    let engine: Engine<Record, B, Holding> = start(alloc, cell, master, blank, all).ok()?;
     let mut desk = engine.open_desk(rt)?;
     let mut place = Workplace::new(alloc).ok()?;
     let first = moved(rt, alloc, &engine, &mut desk, &mut place, 2, None)?;
@@ -201,40 +194,22 @@ fn change_each<B: Base<Record>, R: Wait>(
     Some(([first, second, third, fourth], report.sets.len()))
 }
 
-impl<'a, R: Wait> Session<Record, Holding> for Changes<'a, R> {
-    type Answer = Option<([usize; 4], usize)>;
-
-    fn run<B: Base<Record> + Send + Sync>(
-        self,
-        engine: Engine<Record, B, Holding>,
-    ) -> Option<([usize; 4], usize)> {
-        change_each(self.rt, self.alloc, engine)
-    }
+#[test]
+fn calls_of_one_desk(rt: HostRuntime) -> Result<(), Fail> {
+    let alloc = rt.alloc();
+    let all = loaded(alloc, PAIR, None)?;
+    let (cell, master) = new_cell(alloc)?;
+    let seen = call_each::<Brand, _>(&rt, alloc, cell, master, Blank::new(PLACES), all);
+    assert_eq!(rt; seen, Some(Seen::AsItMust));
+    Ok(())
 }
 
 #[test]
-fn calls_of_one_desk(rt: HostRuntime) {
+fn moved_by_link_changes(rt: HostRuntime) -> Result<(), Fail> {
     let alloc = rt.alloc();
-    let calls = Calls { rt: &rt, alloc };
-    assert_eq!(rt; open(alloc, PAIR, None, calls), Ok(Seen::AsItMust));
-}
-
-#[test]
-fn moved_by_link_changes(rt: HostRuntime) {
-    let alloc = rt.alloc();
-    let changes = Changes { rt: &rt, alloc };
-    assert_eq!(rt;
-        open(alloc, CHAIN, None, changes),
-        Ok(Some(([3, 1, 4, 0], 2)))
-    );
-}
-
-#[test]
-fn a_text_that_does_not_load_starts_nothing(rt: HostRuntime) {
-    let alloc = rt.alloc();
-    let calls = Calls { rt: &rt, alloc };
-    assert_eq!(rt;
-        open(alloc, b"record(longin,", None, calls),
-        Err(Unopened::Unloaded)
-    );
+    let all = loaded(alloc, CHAIN, None)?;
+    let (cell, master) = new_cell(alloc)?;
+    let moved = change_each::<Brand, _>(&rt, alloc, cell, master, Blank::new(PLACES), all);
+    assert_eq!(rt; moved, Some(([3, 1, 4, 0], 2)));
+    Ok(())
 }

@@ -1,18 +1,27 @@
 //! Eight threads on one engine, each with a desk of its own.
-use crate::opened::{Holding, link_to, open};
+ghost use Rattle.std.specs.Prelude.{◌≡◌, ◌-◌, ◌^◌, [], All};
+ghost use Rattle.crossbeam_utils.specs.Seq.{cell_view};
+ghost use Rattle.ioc_line.specs.Line.{keeper};
+ghost use Rattle.ioc_start.specs.Loading.{loaded_world};
+
+use crate::opened::{Holding, link_to, loaded};
+use ioc_dealing::Loaded;
 use ioc_engine::Engine;
 use ioc_fields::{CommonField, FieldNo, OwnField};
-use ioc_journal::{Base, Desk};
+use ioc_journal::{Base, Desk, PLACES};
+use ioc_line::{Cell, Token};
 use ioc_names::RecordNo;
 use ioc_record::copy_link;
 use ioc_set::Workplace;
-use ioc_start::Session;
+use ioc_start::{new_cell, start};
 use ioc_topology::Locked;
 use ioc_types::Record;
 use ioc_values::Input;
 use std::alloc::{AllocError, Global};
 use std::fmt::Write;
+use std::marker::Brand;
 use std::sync::Wait;
+use std::sync::ledger::Blank;
 use std::test::Fail;
 use std::thread;
 use std::thread::Threads;
@@ -108,17 +117,6 @@ fn calls<B: Base<Record>, R: Wait>(
     answered
 }
 
-struct Eight<'a, R: Threads + Wait + Sync> {
-    rt: &'a R,
-    alloc: Global,
-}
-
-impl<'a, R: Threads + Wait + Sync> Drop for Eight<'a, R> {
-    fn drop(self) {
-        let Self { rt: _, alloc: _ } = self;
-    }
-}
-
 // The calls of two threads.
 fn two<B: Base<Record> + Send + Sync, R: Threads + Wait + Sync>(
     rt: &R,
@@ -149,31 +147,34 @@ fn four<B: Base<Record> + Send + Sync, R: Threads + Wait + Sync>(
     one.saturating_add(other)
 }
 
-impl<'a, R: Threads + Wait + Sync> Session<Record, Holding> for Eight<'a, R> {
-    // How many calls were answered, and how many records the sets have at the end.
-    type Answer = (u32, usize);
-
-    fn run<B: Base<Record> + Send + Sync>(
-        self,
-        engine: Engine<Record, B, Holding>,
-    ) -> (u32, usize) {
-        let rt = self.rt;
-        let alloc = self.alloc;
-        let shared = &engine;
-        let (one, other) = thread::join(
-            rt,
-            || four(rt, alloc, shared, 1),
-            || four(rt, alloc, shared, 5),
-        );
-        let Ok(report) = engine.stop(rt, alloc) else {
-            return (0, 0);
-        };
-        let mut records = 0usize;
-        for set in report.sets.as_slice() {
-            records = records.saturating_add(set.len());
-        }
-        (one.saturating_add(other), records)
+// How many calls of eight threads were answered, and how many records the sets have at the end.
+fn eight<B: Base<Record> + Send + Sync, R: Threads + Wait + Sync>(
+    rt: &R,
+    alloc: Global,
+    cell: Cell,
+    master: Token,
+    blank: Blank,
+    all: Vec<Loaded<Record, Holding>>,
+) -> Option<(u32, usize)>
+    requires table { (cell.table.shared.table_id ≡ B.table) × (master.table_id ≡ B.table) }
+    requires master { cell_view master ≡ keeper [] [] }
+    requires places { (blank.name ≡ B.places) × (blank.parts ≡ 2 ^ 64 - 1) }
+    requires base { B.base ≡ loaded_world all.items }
+    requires copies { All (λ l. l.base ≡ l.fields) all.items }
+{
+    let engine: Engine<Record, B, Holding> = start(alloc, cell, master, blank, all).ok()?;
+    let shared = &engine;
+    let (one, other) = thread::join(
+        rt,
+        || four(rt, alloc, shared, 1),
+        || four(rt, alloc, shared, 5),
+    );
+    let report = engine.stop(rt, alloc).ok()?;
+    let mut records = 0usize;
+    for set in report.sets.as_slice() {
+        records = records.saturating_add(set.len());
     }
+    Some((one.saturating_add(other), records))
 }
 
 // So many records without links.
@@ -191,10 +192,9 @@ fn text(alloc: Global) -> Result<String, AllocError> {
 fn eight_threads(rt: HostRuntime) -> Result<(), Fail> {
     let alloc = rt.alloc();
     let text = text(alloc)?;
-    let eight = Eight { rt: &rt, alloc };
-    assert_eq!(rt;
-        open(alloc, text.as_bytes(), None, eight),
-        Ok((8 * CALLS, RECORDS))
-    );
+    let all = loaded(alloc, text.as_bytes(), None)?;
+    let (cell, master) = new_cell(alloc)?;
+    let seen = eight::<Brand, _>(&rt, alloc, cell, master, Blank::new(PLACES), all);
+    assert_eq!(rt; seen, Some((8 * CALLS, RECORDS)));
     Ok(())
 }

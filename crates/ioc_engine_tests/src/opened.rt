@@ -1,29 +1,21 @@
-//! Engines of database texts.
+//! What engines are made of.
+ghost use Rattle.std.specs.Prelude.{◌≡◌, All, IfOk};
+
 use ioc_common::{FieldAddress, KeptLink, Lead, LinkField};
 use ioc_dbfile::{Database, load};
 use ioc_dbtext::Macros;
+use ioc_dealing::Loaded;
 use ioc_device::{Answer, Device};
 use ioc_fields::{FieldNo, OwnField};
 use ioc_links::{LinkKind, parse};
 use ioc_names::RecordNo;
-use ioc_start::{Session, StartError, with_copies, with_engine};
+use ioc_start::with_copies;
 use ioc_types::Record;
-use ioc_values::Value;
+use ioc_values::{IocError, Value};
 use std::alloc::{AllocError, Global};
 use std::sync::Arc;
 use std::sync::atomic::{AtomicU64, Ordering};
 use std::thread;
-
-/// Why a test has no engine.
-#[derive(Clone, Copy, PartialEq, Eq, Debug)]
-pub enum Unopened {
-    /// The text doesn't load.
-    Unloaded,
-    /// No memory for the copies.
-    NoMemory,
-    /// The engine isn't started.
-    NotStarted,
-}
 
 // How often a device looks at a flag before it gives up.
 const TURNS: u64 = 1_000_000;
@@ -63,30 +55,19 @@ impl Device for Holding {
     }
 }
 
-/// Starts the engine of a text, of which the record 0 may have a device, and works with it.
-pub fn open<S: Session<Record, Holding>>(
+/// The records of a text, of which the first may have a device.
+pub fn loaded(
     alloc: Global,
     text: &[u8],
     device: Option<Holding>,
-    session: S,
-) -> Result<S::Answer, Unopened> {
-    let Ok(database) = load(alloc, text, &Macros::new(alloc)) else {
-        return Err(Unopened::Unloaded);
-    };
-    let Database { names: _, records } = database;
+) -> Result<Vec<Loaded<Record, Holding>>, IocError>
+    ensures { IfOk result (λ all. All (λ l. l.base ≡ l.fields) all.items) }
+{
+    let Database { names: _, records } = load(alloc, text, &Macros::new(alloc))?;
     let mut devices = Vec::new(alloc);
-    let Ok(()) = devices.push(device) else {
-        return Err(Unopened::NoMemory);
-    };
-    let Ok(all) = with_copies(alloc, records, devices) else {
-        return Err(Unopened::NoMemory);
-    };
-    match with_engine(alloc, all, session) {
-        Ok(answer) => Ok(answer),
-        Err(StartError::NoMemory | StartError::NotAtRest | StartError::LinkLeaves) => Err(
-            Unopened::NotStarted,
-        ),
-    }
+    devices.push(device)?;
+    let all = with_copies(alloc, records, devices)?;
+    Ok(all)
 }
 
 /// A link to VAL of a record, or an empty one.

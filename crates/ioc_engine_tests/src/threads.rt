@@ -1,17 +1,27 @@
 //! Calls of several threads at once.
-use crate::opened::{Holding, link_to, open, seen};
+ghost use Rattle.std.specs.Prelude.{◌≡◌, ◌-◌, ◌^◌, [], All};
+ghost use Rattle.crossbeam_utils.specs.Seq.{cell_view};
+ghost use Rattle.ioc_line.specs.Line.{keeper};
+ghost use Rattle.ioc_start.specs.Loading.{loaded_world};
+
+use crate::opened::{Holding, link_to, loaded, seen};
+use ioc_dealing::Loaded;
 use ioc_engine::Engine;
 use ioc_events::Reply;
 use ioc_fields::{CommonField, FieldNo, OwnField};
-use ioc_journal::Base;
+use ioc_journal::{Base, PLACES};
 use ioc_ledger::Outcome;
+use ioc_line::{Cell, Token};
 use ioc_names::RecordNo;
 use ioc_record::{FieldText, copy_link};
 use ioc_set::Workplace;
-use ioc_start::Session;
+use ioc_start::{new_cell, start};
 use ioc_types::Record;
+use ioc_values::IocError;
 use std::alloc::{AllocError, Global};
+use std::marker::Brand;
 use std::sync::atomic::{AtomicU64, Ordering};
+use std::sync::ledger::Blank;
 use std::sync::{Arc, Wait};
 use std::test::Fail;
 use std::thread;
@@ -33,29 +43,6 @@ record(longin,\"c\"){}
 enum Beside {
     Request,
     LinkChange,
-}
-
-// A record is processed, whose device answers once another call was answered.
-struct Both<'a, R: Threads + Wait + Sync> {
-    rt: &'a R,
-    alloc: Global,
-    asked: Arc<AtomicU64, Global>,
-    answered: Arc<AtomicU64, Global>,
-    beside: Beside,
-}
-
-impl<'a, R: Threads + Wait + Sync> Drop for Both<'a, R> {
-    fn drop(self) {
-        let Self {
-            rt: _,
-            alloc: _,
-            asked,
-            answered,
-            beside: _,
-        } = self;
-        drop(asked);
-        drop(answered);
-    }
 }
 
 // Processes the record with the device, and shows what it got.
@@ -109,34 +96,43 @@ fn call_beside<B: Base<Record>, R: Wait>(
     }
 }
 
-impl<'a, R: Threads + Wait + Sync> Session<Record, Holding> for Both<'a, R> {
-    // Did the device answer, was it asked before the other call, and was that one answered as it must?
-    type Answer = [bool; 3];
-
-    fn run<B: Base<Record> + Send + Sync>(self, engine: Engine<Record, B, Holding>) -> [bool; 3] {
-        let shared = &engine;
-        let rt = self.rt;
-        let alloc = self.alloc;
-        let beside = self.beside;
-        let asked = &self.asked;
-        let answered = &self.answered;
-        let (held, other) = thread::join(
-            rt,
-            || hold(rt, alloc, shared),
-            || {
-                let began = seen(asked);
-                let reply = call_beside(rt, alloc, shared, beside);
-                answered.store(1, Ordering::SeqCst);
-                (began, reply)
-            },
-        );
-        let shown = Reply::Shown(FieldText::cut(b"7"));
-        let wanted = match beside {
-            Beside::Request => Reply::Outcome(Outcome::Processed),
-            Beside::LinkChange => Reply::Plain,
-        };
-        [held == Some(shown), other.0, other.1 == Some(wanted)]
-    }
+// A record is processed, whose device answers once a call beside it was answered: whether it did, was asked before that call, and that call
+// was answered as it must.
+fn both<B: Base<Record> + Send + Sync, R: Threads + Wait + Sync>(
+    rt: &R,
+    alloc: Global,
+    cell: Cell,
+    master: Token,
+    blank: Blank,
+    all: Vec<Loaded<Record, Holding>>,
+    asked: &AtomicU64,
+    answered: &AtomicU64,
+    beside: Beside,
+) -> Option<[bool; 3]>
+    requires table { (cell.table.shared.table_id ≡ B.table) × (master.table_id ≡ B.table) }
+    requires master { cell_view master ≡ keeper [] [] }
+    requires places { (blank.name ≡ B.places) × (blank.parts ≡ 2 ^ 64 - 1) }
+    requires base { B.base ≡ loaded_world all.items }
+    requires copies { All (λ l. l.base ≡ l.fields) all.items }
+{
+    let engine: Engine<Record, B, Holding> = start(alloc, cell, master, blank, all).ok()?;
+    let shared = &engine;
+    let (held, other) = thread::join(
+        rt,
+        || hold(rt, alloc, shared),
+        || {
+            let began = seen(asked);
+            let reply = call_beside(rt, alloc, shared, beside);
+            answered.store(1, Ordering::SeqCst);
+            (began, reply)
+        },
+    );
+    let shown = Reply::Shown(FieldText::cut(b"7"));
+    let wanted = match beside {
+        Beside::Request => Reply::Outcome(Outcome::Processed),
+        Beside::LinkChange => Reply::Plain,
+    };
+    Some([held == Some(shown), other.0, other.1 == Some(wanted)])
 }
 
 // Two flags, for the device and for who calls beside it.
@@ -145,25 +141,31 @@ fn flag(alloc: Global) -> Result<Arc<AtomicU64, Global>, AllocError> {
 }
 
 // The device is held while the other call is made: each must be answered.
-fn beside_a_held_set(
-    rt: &(impl Threads + Wait + Sync),
+fn beside_a_held_set<R: Threads + Wait + Sync>(
+    rt: &R,
     alloc: Global,
     beside: Beside,
-) -> Result<bool, AllocError> {
+) -> Result<bool, IocError> {
     let asked = flag(alloc)?;
     let answered = flag(alloc)?;
     let device = Holding {
         asked: Arc::try_clone(&asked)?,
         answered: Arc::try_clone(&answered)?,
     };
-    let both = Both {
+    let all = loaded(alloc, TEXT, Some(device))?;
+    let (cell, master) = new_cell(alloc)?;
+    let met = both::<Brand, R>(
         rt,
         alloc,
-        asked,
-        answered,
+        cell,
+        master,
+        Blank::new(PLACES),
+        all,
+        &asked,
+        &answered,
         beside,
-    };
-    Ok(open(alloc, TEXT, Some(device), both) == Ok([true, true, true]))
+    );
+    Ok(met == Some([true, true, true]))
 }
 
 #[test]

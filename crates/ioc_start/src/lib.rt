@@ -6,9 +6,9 @@
 
 pub mod holding;
 pub mod loading;
-pub mod session;
+pub mod opening;
 pub mod starting;
 
 pub use loading::with_copies;
-pub use session::{Session, with_engine};
+pub use opening::new_cell;
 pub use starting::{StartError, start};

@@ -43,8 +43,8 @@ fn are_at_rest<K: RecordKind, D>(all: &[Loaded<K, D>]) -> bool
     all.iter().all(|loaded| is_at_rest(&loaded.fields))
 }
 
-/// The engine of these records, each with its device, of which none was requested yet. Its name is `B`: who starts it knows the cell, the keeper's
-/// pass and the ledger of places by it; [`with_engine`](crate::with_engine) finds a name for it.
+/// The engine of these records, each with its device, of which none was requested yet. Its name is `B`, which stands for its cell, the world at the
+/// load and the ledger of places: who starts it calls a function for any such name with `Brand` in the place of `B`.
 ///
 /// # Errors
 ///
