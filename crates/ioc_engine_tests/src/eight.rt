@@ -107,11 +107,11 @@ fn calls<B: Base<Record>, R: Wait>(
         return 0;
     };
     let mut seed = first;
-    let mut answered = 0;
+    let mut answered = 0u32;
     for _ in 0..CALLS {
         seed = next_of(seed);
         if call(rt, alloc, engine, &mut desk, &mut place, seed).is_some() {
-            answered += 1;
+            answered = answered.saturating_add(1);
         }
     }
     answered
@@ -127,7 +127,7 @@ fn two<B: Base<Record> + Send + Sync, R: Threads + Wait + Sync>(
     let (one, other) = thread::join(
         rt,
         || calls(rt, alloc, engine, first),
-        || calls(rt, alloc, engine, first + 1),
+        || calls(rt, alloc, engine, first.wrapping_add(1)),
     );
     one.saturating_add(other)
 }
@@ -142,7 +142,7 @@ fn four<B: Base<Record> + Send + Sync, R: Threads + Wait + Sync>(
     let (one, other) = thread::join(
         rt,
         || two(rt, alloc, engine, first),
-        || two(rt, alloc, engine, first + 2),
+        || two(rt, alloc, engine, first.wrapping_add(2)),
     );
     one.saturating_add(other)
 }
