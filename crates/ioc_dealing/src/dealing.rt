@@ -16,16 +16,32 @@ pub struct Loaded<K, D> {
     pub device: Option<D>,
 }
 
-// So many sets with no records.
+// Counts the records of each part.
+fn count_up(sizes: &mut [usize], parts: &[usize])
+    ensures { length sizes.new ≡ length sizes.old }
+{
+    for part in parts {
+        if let Some(size) = sizes.get_mut(*part) {
+            *size = size.wrapping_add(1);
+        }
+    }
+}
+
+// So many sets with no records, each with room for those of its part and no more: a database may have as many parts as records.
 fn empty_sets<K: Drop, D: Drop>(
     alloc: Global,
-    count: usize,
+    parts: &[usize],
 ) -> Result<Vec<Members<K, D>>, AllocError>
-    ensures { IfOk result (λ sets. sets.items ≡ replicate count nothing) }
+    ensures { IfOk result (λ sets. sets.items ≡ replicate (length parts.now) nothing) }
 {
+    let count = parts.len();
+    let mut sizes = Vec::with_capacity(alloc, count)?;
+    sizes.resize(count, 0usize)?;
+    let sizes = sizes.as_mut_slice();
+    count_up(sizes, parts);
     let mut sets = Vec::with_capacity(alloc, count)?;
-    for _place in 0..count {
-        sets.push(Members::new(alloc))?;
+    for place in 0..count {
+        sets.push(Members::with_room(alloc, sizes[place])?)?;
     }
     Ok(sets)
 }
@@ -66,7 +82,7 @@ pub fn deal<K: Drop, D: Drop>(
     requires below { All (λ part. part < length parts.now) parts.now }
     ensures { IfOk result (λ sets. AreDealt all.items parts.now sets.items) }
 {
-    let mut sets = empty_sets(alloc, parts.len())?;
+    let mut sets = empty_sets(alloc, parts)?;
     let by_part = sets.as_mut_slice();
     let mut left = all.into_iter();
     for (number, part) in parts.iter().enumerate() {

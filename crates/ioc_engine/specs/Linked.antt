@@ -3,7 +3,7 @@
 -- this project's own.
 use Rattle.std.specs.Prelude.{ℕ, ◌≡◌, ◌⊎◌, Option, Contains}
 use Rattle.ioc_values.specs.declared.error.IocError.{IocError}
-use Rattle.ioc_values.specs.declared.error.IocError.TheVariants.{NoField}
+use Rattle.ioc_values.specs.declared.error.IocError.TheVariants.{NoField, Stopped}
 use Rattle.ioc_fields.specs.declared.field_no.FieldNo.{FieldNo}
 use Rattle.ioc_common.specs.declared.link_field.LinkField.{LinkField}
 use Rattle.ioc_common.specs.Links.{use_of, record_named}
@@ -12,6 +12,7 @@ use Rattle.ioc_members.specs.Joined.{HasLink}
 use Rattle.ioc_store.specs.World.{World}
 use Rattle.ioc_events.specs.declared.reply.Reply.{Reply}
 use Rattle.ioc_journal.specs.Account.{DeskView}
+use Rattle.ioc_journal.specs.Places.{IsNoPlace}
 use Rattle.ioc_topology.specs.Change.{AreLent, AreSound, LinkIsRefused}
 use Rattle.ioc_held.specs.Holding.{HeldView, numbers_of, IsSoundlyHeld}
 use Rattle.ioc_held.specs.Changing.{Relinks}
@@ -41,6 +42,8 @@ module _ {R : Type 0} (D : Type 0) (k : RecordRules R) (base : World R) where
     pub sound : IsSoundlyHeld k base held
     pub none : HasLink k held.set.records number field → ⊥
 
-  -- why a link change is no call: memory is wanting, a record is beyond the directory's, or the field is no link
+  -- why a link change is no call: the engine was closed, the journal has no place for it, memory is wanting, a record is beyond the directory's,
+  -- or the field is no link
   abbrev pub LinkWasRefused : ℕ → ℕ → FieldNo → LinkField → IocError → Type 0
-  LinkWasRefused count number field link error = LinkIsRefused count number (other_of link) error ⊎ ((error ≡ NoField) × IsNoLink number field)
+  LinkWasRefused count number field link error =
+      (error ≡ Stopped) ⊎ (IsNoPlace error ⊎ (LinkIsRefused count number (other_of link) error ⊎ ((error ≡ NoField) × IsNoLink number field)))

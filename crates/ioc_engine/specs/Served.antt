@@ -1,6 +1,8 @@
 -- What a call of the engine was.
 -- Application Developer's Guide, "Database Locking, Scanning, and Processing". The journal is this project's own.
-use Rattle.std.specs.Prelude.{ℕ, Contains}
+use Rattle.std.specs.Prelude.{ℕ, ◌≡◌, ◌⊎◌, Contains}
+use Rattle.ioc_values.specs.declared.error.IocError.{IocError}
+use Rattle.ioc_values.specs.declared.error.IocError.TheVariants.{Stopped}
 use Rattle.ioc_device.specs.declared.Ask.{Ask}
 use Rattle.ioc_device.specs.declared.Answer.{Answer}
 use Rattle.ioc_record.specs.RecordRules.{RecordRules}
@@ -8,7 +10,14 @@ use Rattle.ioc_store.specs.World.{World}
 use Rattle.ioc_events.specs.declared.event.Event.{Event}
 use Rattle.ioc_events.specs.declared.reply.Reply.{Reply}
 use Rattle.ioc_journal.specs.Account.{DeskView}
+use Rattle.ioc_journal.specs.Places.{IsNoPlace}
+use Rattle.ioc_topology.specs.Change.{IsRefused}
 use Rattle.ioc_held.specs.Holding.{HeldView, numbers_of, IsSoundlyHeld, Serves, Tells}
+
+-- why a call is none: the engine was closed, the journal has no place for it, there are no more records than its number says, or memory is
+-- wanting
+abbrev pub CallIsRefused : ℕ → ℕ → IocError → Type 0
+CallIsRefused count number error = (error ≡ Stopped) ⊎ (IsNoPlace error ⊎ IsRefused count number error)
 
 module _ {R : Type 0} (D : Type 0) (k : RecordRules R) (base : World R) where
   -- a question of a desk was answered by a set that has the record, was sound, and is so again

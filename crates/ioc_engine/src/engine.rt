@@ -1,13 +1,13 @@
 //! The engine.
-ghost use Rattle.std.specs.Prelude.{◌≡◌, true, [], ◌∷◌, IfOk, IfErr, IfSome, OnErr};
+ghost use Rattle.std.specs.Prelude.{◌≡◌, true, [], ◌∷◌, ◌⊎◌, IfOk, IfErr, OnErr};
+ghost use Rattle.ioc_values.specs.declared.error.IocError.TheVariants.{JournalFull, Stopped};
 ghost use Rattle.ioc_events.specs.declared.event.Event.TheVariants.{Get, Process, Put, Complete};
 ghost use Rattle.ioc_events.specs.Step.{names};
 ghost use Rattle.ioc_line.specs.Line.{longer, Begins};
 ghost use Rattle.ioc_set.specs.Doing.{is_ordinary};
 ghost use Rattle.ioc_set.specs.SetStore.{world_of};
 ghost use Rattle.ioc_journal.specs.Account.{IsAccount, calls, calls_by};
-ghost use Rattle.ioc_topology.specs.Change.{IsRefused};
-ghost use Rattle.ioc_engine.specs.Served.{WasTold, WasServed};
+ghost use Rattle.ioc_engine.specs.Served.{WasTold, WasServed, CallIsRefused};
 
 use ioc_device::Device;
 use ioc_events::{Event, Reply};
@@ -22,6 +22,7 @@ use ioc_values::{Finished, Input, IocError};
 use std::alloc::Global;
 use std::marker::Model;
 use std::sync::Wait;
+use std::sync::atomic::{AtomicBool, Ordering};
 
 /// The records of a database in their lock sets, each set under a lock of its own, and the journal of all calls. Contracts see it as the number
 /// of its records.
@@ -29,6 +30,8 @@ use std::sync::Wait;
 pub struct Engine<K: RecordKind + Drop, B: Base<K>, D: Drop> {
     pub(crate) sets: Directory<Held<K, B, D>>,
     pub(crate) book: Book<K, B>,
+    // Is raised once, and stays so.
+    pub(crate) closed: AtomicBool,
 }
 
 impl<K: RecordKind + Drop, B: Base<K>, D: Drop> Model for Engine<K, B, D> {
@@ -44,13 +47,35 @@ impl<K: RecordKind + Drop, B: Base<K>, D: Drop> Engine<K, B, D> {
     pub fn new(sets: Directory<Held<K, B, D>>, book: Book<K, B>) -> Self
         ensures { result ≡ sets }
     {
-        Engine { sets, book }
+        Engine {
+            sets,
+            book,
+            closed: AtomicBool::new(false),
+        }
     }
 
-    /// A desk, by which a caller makes its calls: it has made none. None where the numbers of desks are used up.
-    pub fn open_desk<R: Wait>(&self, rt: &R) -> Option<Desk<K, B>>
-        ensures new { IfSome result (λ d. (d.next ≡ 0) × (calls_by d.number (calls d.seen) ≡ [])) }
+    /// Closes the engine: no call is begun from then on. A call that has begun is done.
+    pub fn close(&self) {
+        self.closed.store(true, Ordering::SeqCst);
+    }
+
+    /// Was it closed?
+    pub fn is_closed(&self) -> bool {
+        self.closed.load(Ordering::SeqCst)
+    }
+
+    /// A desk, by which a caller makes its calls: it has made none.
+    ///
+    /// # Errors
+    ///
+    /// [`IocError::Stopped`] where the engine was closed, and [`IocError::JournalFull`] where the numbers of desks are used up.
+    pub fn open_desk<R: Wait>(&self, rt: &R) -> Result<Desk<K, B>, IocError>
+        ensures new { IfOk result (λ d. (d.next ≡ 0) × (calls_by d.number (calls d.seen) ≡ [])) }
+        ensures refused { IfErr result (λ error. (error ≡ Stopped) ⊎ (error ≡ JournalFull)) }
     {
+        if self.is_closed() {
+            return Err(IocError::Stopped);
+        }
         self.book.open_desk(rt)
     }
 
@@ -84,9 +109,12 @@ impl<K: RecordKind + Drop, B: Base<K>, D: Device> Engine<K, B, D> {
         requires names { names event.now ≡ number ∷ [] }
         ensures served { IfOk result (λ x. WasServed D K.rules B.base D.gives number desk.old moment event.now x.0 desk.new (world_of workplace.new.store)) }
         ensures receipt { IfOk result (λ x. x.1 ≡ desk.new.seen) }
-        ensures refused { IfErr result (IsRefused self.now number) }
+        ensures refused { IfErr result (CallIsRefused self.now number) }
         ensures err { OnErr result (desk.new ≡ desk.old) }
     {
+        if self.is_closed() {
+            return Err(IocError::Stopped);
+        }
         for _ in rt.forever() {
             let cell = self.sets.lock_of(rt, number)?;
             let mut held = cell.lock(rt);
@@ -106,7 +134,8 @@ impl<K: RecordKind + Drop, B: Base<K>, D: Device> Engine<K, B, D> {
     ///
     /// # Errors
     ///
-    /// [`IocError::NoRecord`]: there are no more records than the number says. [`IocError::NoMemory`]. Nothing has changed then.
+    /// [`IocError::Stopped`]: the engine was closed. [`IocError::NoRecord`]: there are no more records than the number says.
+    /// [`IocError::JournalFull`], [`IocError::NoMemory`]. Nothing has changed then.
     pub fn process<R: Wait>(
         &self,
         rt: &R,
@@ -118,7 +147,7 @@ impl<K: RecordKind + Drop, B: Base<K>, D: Device> Engine<K, B, D> {
     ) -> Result<(Reply, Receipt<K, B>), IocError>
         ensures served { IfOk result (λ x. WasServed D K.rules B.base D.gives number desk.old moment (Process number) x.0 desk.new (world_of workplace.new.store)) }
         ensures receipt { IfOk result (λ x. x.1 ≡ desk.new.seen) }
-        ensures refused { IfErr result (IsRefused self.now number) }
+        ensures refused { IfErr result (CallIsRefused self.now number) }
         ensures err { OnErr result (desk.new ≡ desk.old) }
     {
         let event = Event::Process(number);
@@ -129,8 +158,8 @@ impl<K: RecordKind + Drop, B: Base<K>, D: Device> Engine<K, B, D> {
     ///
     /// # Errors
     ///
-    /// [`IocError::NoRecord`]: there are no more records than the number says. [`IocError::NoMemory`]. Nothing has changed then. What else
-    /// is refused is a reply, and stands in the journal.
+    /// [`IocError::Stopped`]: the engine was closed. [`IocError::NoRecord`]: there are no more records than the number says.
+    /// [`IocError::JournalFull`], [`IocError::NoMemory`]. Nothing has changed then. What else is refused is a reply, and stands in the journal.
     pub fn put<R: Wait>(
         &self,
         rt: &R,
@@ -144,7 +173,7 @@ impl<K: RecordKind + Drop, B: Base<K>, D: Device> Engine<K, B, D> {
     ) -> Result<(Reply, Receipt<K, B>), IocError>
         ensures served { IfOk result (λ x. WasServed D K.rules B.base D.gives number desk.old moment (Put number field given) x.0 desk.new (world_of workplace.new.store)) }
         ensures receipt { IfOk result (λ x. x.1 ≡ desk.new.seen) }
-        ensures refused { IfErr result (IsRefused self.now number) }
+        ensures refused { IfErr result (CallIsRefused self.now number) }
         ensures err { OnErr result (desk.new ≡ desk.old) }
     {
         let event = Event::Put(number, field, given);
@@ -155,8 +184,8 @@ impl<K: RecordKind + Drop, B: Base<K>, D: Device> Engine<K, B, D> {
     ///
     /// # Errors
     ///
-    /// [`IocError::NoRecord`]: there are no more records than the number says. [`IocError::NoMemory`]. Nothing has changed then. What else
-    /// is refused is a reply, and stands in the journal.
+    /// [`IocError::Stopped`]: the engine was closed. [`IocError::NoRecord`]: there are no more records than the number says.
+    /// [`IocError::JournalFull`], [`IocError::NoMemory`]. Nothing has changed then. What else is refused is a reply, and stands in the journal.
     pub fn complete<R: Wait>(
         &self,
         rt: &R,
@@ -170,7 +199,7 @@ impl<K: RecordKind + Drop, B: Base<K>, D: Device> Engine<K, B, D> {
     ) -> Result<(Reply, Receipt<K, B>), IocError>
         ensures served { IfOk result (λ x. WasServed D K.rules B.base D.gives number desk.old moment (Complete number wait finished) x.0 desk.new (world_of workplace.new.store)) }
         ensures receipt { IfOk result (λ x. x.1 ≡ desk.new.seen) }
-        ensures refused { IfErr result (IsRefused self.now number) }
+        ensures refused { IfErr result (CallIsRefused self.now number) }
         ensures err { OnErr result (desk.new ≡ desk.old) }
     {
         let event = Event::Complete(number, wait, finished);
@@ -181,8 +210,8 @@ impl<K: RecordKind + Drop, B: Base<K>, D: Device> Engine<K, B, D> {
     ///
     /// # Errors
     ///
-    /// [`IocError::NoRecord`]: there are no more records than the number says. [`IocError::NoMemory`]. Nothing has changed then. What else
-    /// is refused is a reply, and stands in the journal.
+    /// [`IocError::Stopped`]: the engine was closed. [`IocError::NoRecord`]: there are no more records than the number says.
+    /// [`IocError::JournalFull`], [`IocError::NoMemory`]. Nothing has changed then. What else is refused is a reply, and stands in the journal.
     pub fn get<R: Wait>(
         &self,
         rt: &R,
@@ -194,9 +223,12 @@ impl<K: RecordKind + Drop, B: Base<K>, D: Device> Engine<K, B, D> {
     ) -> Result<(Reply, Receipt<K, B>), IocError>
         ensures told { IfOk result (λ x. WasTold D K.rules B.base number desk.old moment (Get number field) x.0 desk.new) }
         ensures receipt { IfOk result (λ x. x.1 ≡ desk.new.seen) }
-        ensures refused { IfErr result (IsRefused self.now number) }
+        ensures refused { IfErr result (CallIsRefused self.now number) }
         ensures err { OnErr result (desk.new ≡ desk.old) }
     {
+        if self.is_closed() {
+            return Err(IocError::Stopped);
+        }
         for _ in rt.forever() {
             let cell = self.sets.lock_of(rt, number)?;
             let mut held = cell.lock(rt);

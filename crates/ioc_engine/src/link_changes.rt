@@ -25,8 +25,9 @@ impl<K: RecordKind + Drop, B: Base<K>, D: Device> Engine<K, B, D> {
     ///
     /// # Errors
     ///
-    /// [`IocError::NoRecord`]: there are no more records than one of the two numbers says. [`IocError::NoField`]: the field is no link of the
-    /// record. [`IocError::NoMemory`]. Nothing stands in the journal then. That DISP forbids it is a reply, and stands in the journal.
+    /// [`IocError::Stopped`]: the engine was closed. [`IocError::NoRecord`]: there are no more records than one of the two numbers says.
+    /// [`IocError::NoField`]: the field is no link of the record. [`IocError::JournalFull`], [`IocError::NoMemory`]. Nothing stands in the
+    /// journal then. That DISP forbids it is a reply, and stands in the journal.
     pub fn set_link<R: Wait>(
         &self,
         rt: &R,
@@ -46,6 +47,9 @@ impl<K: RecordKind + Drop, B: Base<K>, D: Device> Engine<K, B, D> {
         ensures refused { IfErr result (LinkWasRefused D K.rules B.base self.now number field link) }
         ensures err { OnErr result (desk.new ≡ desk.old) }
     {
+        if self.is_closed() {
+            return Err(IocError::Stopped);
+        }
         let other = link.record_named();
         let _guard = self.sets.guard_topology(rt);
         let new = self.sets.new_places(rt, alloc)?;

@@ -1,11 +1,13 @@
 //! The end of the engine.
 ghost use Rattle.std.specs.Prelude.{◌≡◌, map, All, IfOk, IfErr};
+ghost use Rattle.ioc_line.specs.Line.{Begins};
+ghost use Rattle.ioc_journal.specs.Account.{IsEntryOf};
 ghost use Rattle.ioc_engine.specs.Ended.{IsAsTold, IsEnd};
 
 use crate::engine::Engine;
 use ioc_held::Held;
-use ioc_journal::{Base, Journal};
-use ioc_line::Cell;
+use ioc_journal::{Base, Journal, Receipt};
+use ioc_line::{Cell, JournalEntry};
 use ioc_record::RecordKind;
 use std::alloc::Global;
 use std::sync::Wait;
@@ -30,7 +32,7 @@ fn tell_all<K: RecordKind + Drop, B: Base<K>, D: Drop, R: Wait>(
 )
     requires table { cell.now.table.shared.table_id ≡ B.table }
     ensures sets { map (λ h. h.set) sets.new ≡ map (λ h. h.set) sets.old }
-    ensures told { All (IsAsTold K.rules B.base journal.old) sets.new }
+    ensures told { All (IsAsTold K.rules B.base journal.old.filled) sets.new }
     ensures journal { journal.new ≡ journal.old }
 {
     for place in 0..sets.len() {
@@ -45,13 +47,17 @@ impl<K: RecordKind + Drop, B: Base<K>, D: Drop> Engine<K, B, D> {
     ///
     /// The engine itself, as it was, where memory is wanting.
     pub fn stop<R: Wait>(self, rt: &R, alloc: Global) -> Result<Report<K, B, D>, Engine<K, B, D>>
-        ensures end { IfOk result (λ r. IsEnd K.rules B.base self r.journal r.sets.items) }
+        ensures end { IfOk result (λ r. IsEnd K.rules B.base self r.journal.filled r.sets.items) }
         ensures table { IfOk result (λ r. r.cell.table.shared.table_id ≡ B.table) }
         ensures err { IfErr result (λ e. e ≡ self) }
     {
-        let Engine { mut sets, book } = self;
+        let Engine {
+            mut sets,
+            book,
+            closed,
+        } = self;
         let Ok(mut all) = sets.gather(rt, alloc) else {
-            return Err(Engine { sets, book });
+            return Err(Engine { sets, book, closed });
         };
         let (cell, mut journal) = book.into_parts();
         journal.is_legal();
@@ -61,5 +67,26 @@ impl<K: RecordKind + Drop, B: Base<K>, D: Drop> Engine<K, B, D> {
             journal,
             cell,
         })
+    }
+}
+
+impl<K: RecordKind + Drop, B: Base<K>, D: Drop> Report<K, B, D> {
+    /// Tells the caller that the journal's list begins with what a receipt of the engine knows.
+    pub fn compare<R: Wait>(&mut self, rt: &R, receipt: &mut Receipt<K, B>)
+        requires table { self.old.cell.table.shared.table_id ≡ B.table }
+        ensures begins { Begins receipt.old self.old.journal.filled }
+        ensures receipt { receipt.new ≡ receipt.old }
+        ensures same { self.new ≡ self.old }
+    {
+        self.journal.compare_receipt(rt, &self.cell, receipt);
+    }
+
+    /// The call that a receipt was given for, which was compared: it stands at the receipt's place in the journal, and the receipt's list
+    /// ends with it.
+    pub fn entry(&self, receipt: &Receipt<K, B>) -> &JournalEntry
+        requires begins { Begins receipt.now self.now.journal.filled }
+        ensures { IsEntryOf receipt.now self.now.journal.filled result.now }
+    {
+        self.journal.entry_of(receipt)
     }
 }

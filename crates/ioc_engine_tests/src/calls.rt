@@ -9,7 +9,7 @@ use ioc_dealing::Loaded;
 use ioc_engine::Engine;
 use ioc_events::Reply;
 use ioc_fields::{CommonField, FieldNo, OwnField};
-use ioc_journal::{Base, Desk, PLACES};
+use ioc_journal::{Base, Desk, Limits, PLACES};
 use ioc_ledger::Outcome;
 use ioc_line::{Cell, Token};
 use ioc_names::RecordNo;
@@ -101,8 +101,15 @@ fn call_each<B: Base<Record>, R: Wait>(
     requires base { B.base ≡ loaded_world all.items }
     requires copies { All (λ l. l.base ≡ l.fields) all.items }
 {
-    let engine: Engine<Record, B, Holding> = start(alloc, cell, master, blank, all).ok()?;
-    let mut desk = engine.open_desk(rt)?;
+    let engine: Engine<Record, B, Holding> = start(
+        alloc,
+        cell,
+        master,
+        blank,
+        all,
+        Limits::default(),
+    ).ok()?;
+    let mut desk = engine.open_desk(rt).ok()?;
     let mut place = Workplace::new(alloc).ok()?;
     let a = RecordNo::new(0);
     let (reply, receipt) = engine
@@ -183,8 +190,15 @@ fn change_each<B: Base<Record>, R: Wait>(
     requires base { B.base ≡ loaded_world all.items }
     requires copies { All (λ l. l.base ≡ l.fields) all.items }
 {
-    let engine: Engine<Record, B, Holding> = start(alloc, cell, master, blank, all).ok()?;
-    let mut desk = engine.open_desk(rt)?;
+    let engine: Engine<Record, B, Holding> = start(
+        alloc,
+        cell,
+        master,
+        blank,
+        all,
+        Limits::default(),
+    ).ok()?;
+    let mut desk = engine.open_desk(rt).ok()?;
     let mut place = Workplace::new(alloc).ok()?;
     let first = moved(rt, alloc, &engine, &mut desk, &mut place, 2, None)?;
     let second = moved(rt, alloc, &engine, &mut desk, &mut place, 2, Some(10))?;

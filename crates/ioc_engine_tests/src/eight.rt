@@ -8,7 +8,7 @@ use crate::opened::{Holding, link_to, loaded};
 use ioc_dealing::Loaded;
 use ioc_engine::Engine;
 use ioc_fields::{CommonField, FieldNo, OwnField};
-use ioc_journal::{Base, Desk, PLACES};
+use ioc_journal::{Base, Desk, Limits, PLACES};
 use ioc_line::{Cell, Token};
 use ioc_names::RecordNo;
 use ioc_record::copy_link;
@@ -100,7 +100,7 @@ fn calls<B: Base<Record>, R: Wait>(
     engine: &Engine<Record, B, Holding>,
     first: u64,
 ) -> u32 {
-    let Some(mut desk) = engine.open_desk(rt) else {
+    let Ok(mut desk) = engine.open_desk(rt) else {
         return 0;
     };
     let Ok(mut place) = Workplace::new(alloc) else {
@@ -162,7 +162,14 @@ fn eight<B: Base<Record> + Send + Sync, R: Threads + Wait + Sync>(
     requires base { B.base ≡ loaded_world all.items }
     requires copies { All (λ l. l.base ≡ l.fields) all.items }
 {
-    let engine: Engine<Record, B, Holding> = start(alloc, cell, master, blank, all).ok()?;
+    let engine: Engine<Record, B, Holding> = start(
+        alloc,
+        cell,
+        master,
+        blank,
+        all,
+        Limits::default(),
+    ).ok()?;
     let shared = &engine;
     let (one, other) = thread::join(
         rt,

@@ -56,11 +56,11 @@ impl Device for Holding {
 }
 
 /// The records of a text, of which the first may have a device.
-pub fn loaded(
+pub fn loaded<D: Drop>(
     alloc: Global,
     text: &[u8],
-    device: Option<Holding>,
-) -> Result<Vec<Loaded<Record, Holding>>, IocError>
+    device: Option<D>,
+) -> Result<Vec<Loaded<Record, D>>, IocError>
     ensures { IfOk result (λ all. All (λ l. l.base ≡ l.fields) all.items) }
 {
     let Database { names: _, records } = load(alloc, text, &Macros::new(alloc))?;

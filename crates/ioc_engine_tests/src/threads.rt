@@ -9,7 +9,7 @@ use ioc_dealing::Loaded;
 use ioc_engine::Engine;
 use ioc_events::Reply;
 use ioc_fields::{CommonField, FieldNo, OwnField};
-use ioc_journal::{Base, PLACES};
+use ioc_journal::{Base, Limits, PLACES};
 use ioc_ledger::Outcome;
 use ioc_line::{Cell, Token};
 use ioc_names::RecordNo;
@@ -51,7 +51,7 @@ fn hold<B: Base<Record>, R: Wait>(
     alloc: Global,
     engine: &Engine<Record, B, Holding>,
 ) -> Option<Reply> {
-    let mut desk = engine.open_desk(rt)?;
+    let mut desk = engine.open_desk(rt).ok()?;
     let mut place = Workplace::new(alloc).ok()?;
     let d = RecordNo::new(0);
     let (_, _) = engine.process(rt, alloc, &mut desk, &mut place, d, 1).ok()?;
@@ -66,7 +66,7 @@ fn call_beside<B: Base<Record>, R: Wait>(
     engine: &Engine<Record, B, Holding>,
     beside: Beside,
 ) -> Option<Reply> {
-    let mut desk = engine.open_desk(rt)?;
+    let mut desk = engine.open_desk(rt).ok()?;
     let mut place = Workplace::new(alloc).ok()?;
     match beside {
         Beside::Request => {
@@ -115,7 +115,14 @@ fn both<B: Base<Record> + Send + Sync, R: Threads + Wait + Sync>(
     requires base { B.base ≡ loaded_world all.items }
     requires copies { All (λ l. l.base ≡ l.fields) all.items }
 {
-    let engine: Engine<Record, B, Holding> = start(alloc, cell, master, blank, all).ok()?;
+    let engine: Engine<Record, B, Holding> = start(
+        alloc,
+        cell,
+        master,
+        blank,
+        all,
+        Limits::default(),
+    ).ok()?;
     let shared = &engine;
     let (held, other) = thread::join(
         rt,

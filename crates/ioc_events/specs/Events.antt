@@ -1,6 +1,7 @@
 -- What the code of an event does, by what the event does.
 use Rattle.std.specs.Prelude.{◌≡◌, ℕ, Bool, drop, if◌then◌else◌, Option, Some, None as Nothing_, Result, Ok, Err}
-use Rattle.ioc_values.specs.declared.error.IocError.{IocError}
+use Rattle.ioc_record.specs.declared.put_fault.PutFault.{PutFault}
+use Rattle.ioc_record.specs.PutFaults.{error_of}
 use Rattle.ioc_ledger.specs.declared.outcome.Outcome.{Outcome}
 use Rattle.ioc_ledger.specs.declared.tally.Tally.{Tally}
 use Rattle.ioc_ledger.specs.Requests.{None, counted, counted_started}
@@ -15,10 +16,10 @@ use Rattle.ioc_events.specs.Starting.{all_started}
 use Rattle.ioc_events.specs.Step.{Stepped, is_refusal, tallied}
 
 -- the reply that tells what a request or a put came to: what became of the request, where there was one, or a refusal
-abbrev pub reply_of : Result (Option Outcome) IocError → Reply
+abbrev pub reply_of : Result (Option Outcome) PutFault → Reply
 reply_of (Ok (Some outcome)) = Outcome-reply outcome
 reply_of (Ok Nothing_) = Plain
-reply_of (Err e) = Refused e
+reply_of (Err e) = Refused (error_of e)
 
 -- the database, the reply and the tally after this event
 pub record Tells {R : Type 0} (w after : World R) (result : Reply) (before counts : Tally) (event : Event) (done : Stepped R) : Type 0 where

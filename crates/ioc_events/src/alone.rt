@@ -1,8 +1,12 @@
 //! What an event does by itself: a request, a put, a completion.
 ghost use Rattle.std.specs.FinMap.{len};
 ghost use Rattle.std.specs.Vec.{vec_capacity};
-ghost use Rattle.std.specs.Prelude.{◌≡◌, ◌≤◌, [], OnOk, OnErr, IfErr, Some, Ok, Err};
+ghost use Rattle.std.specs.Prelude.{◌≡◌, ◌≤◌, [], true, OnOk, OnErr, IfErr, Some, Ok, Err};
+ghost use Rattle.ioc_fields.specs.Table.{is_process_passive};
+ghost use Rattle.ioc_fields.specs.declared.field_no.FieldNo.TheVariants.{Own};
+ghost use Rattle.ioc_fields.specs.declared.field_no.OwnField.TheVariants.{Val};
 ghost use Rattle.ioc_values.specs.Conversion.{input_of};
+ghost use Rattle.ioc_record.specs.PutFaults.{error_of};
 ghost use Rattle.ioc_record.specs.Values.{put_field};
 ghost use Rattle.ioc_store.specs.World.{Has, at, put, common_at, IsClosed, Keeps};
 ghost use Rattle.ioc_store.specs.Given.{Begins};
@@ -13,25 +17,52 @@ ghost use Rattle.ioc_events.specs.Events.{Makes, reply_of};
 
 use crate::reply::{Effect, Reply};
 use ioc_common::Common;
-use ioc_fields::{FieldNo, is_process_passive};
+use ioc_fields::{FieldNo, OwnField, RecordType, is_process_passive};
 use ioc_ledger::{Outcome, Tally};
 use ioc_names::RecordNo;
 use ioc_process::outputs::is_proc;
 use ioc_process::process::{complete_record, request_record};
-use ioc_record::{RecordKind, put_field, put_spelled};
+use ioc_record::{PutFault, RecordKind, put_field, put_spelled};
 use ioc_store::frames::Frame;
 use ioc_store::scan_change::rescan;
 use ioc_store::steps::{mark_put, mark_reprocess};
 use ioc_store::store::Store;
 use ioc_values::{Finished, Input, IocError};
 
+// VAL is process-passive in each type.
+#[tactic(auto, unfolding(ioc_fields::specs::Table::is_process_passive, ioc_fields::specs::Table::row_of, ioc_fields::specs::Table::own_row, ioc_fields::specs::Table::numeric_input_row, ioc_fields::specs::Table::numeric_output_row, ioc_fields::specs::Table::output_row, ioc_fields::specs::Table::numeric_row, ioc_fields::specs::Table::bi_row, ioc_fields::specs::Table::bo_row, ioc_fields::specs::Table::two_state_row, ioc_fields::specs::Table::mbbi_row, ioc_fields::specs::Table::mbbo_row, ioc_fields::specs::Table::multi_state_row, ioc_fields::specs::Table::text_row, ioc_fields::specs::Table::text_input_row, ioc_fields::specs::Table::stringout_row, ioc_fields::specs::Table::fanout_row))]
+fn val_is_passive(record_type: RecordType)
+    ensures { is_process_passive record_type (Own Val) ≡ true }
+{
+    match record_type {
+        RecordType::Longin | RecordType::Longout => {}
+        RecordType::Int64in | RecordType::Int64out => {}
+        RecordType::Bi | RecordType::Bo => {}
+        RecordType::Mbbi | RecordType::Mbbo => {}
+        RecordType::Stringin | RecordType::Stringout => {}
+        RecordType::Fanout | RecordType::Event => {}
+    }
+}
+
+// Is the field process-passive? VAL, which each type has, is told before any other field, since most puts are to this.
+fn is_passive_field<K: RecordKind>(record: &K, field: FieldNo) -> bool
+    ensures { result ≡ is_process_passive (K.rules.record_type record.now) field }
+{
+    match field {
+        FieldNo::Own(OwnField::Val) => {
+            val_is_passive(record.record_type());
+            true
+        }
+        _ => is_process_passive(record.record_type(), field),
+    }
+}
+
 /// Does a put to the field process the record?
 #[tactic(auto, unfolding(crate::specs::Starting::processes))]
 pub fn processes<K: RecordKind>(record: &K, field: FieldNo) -> bool
     ensures { result ≡ processes K.rules record.now field }
 {
-    is_proc(field)
-        || (is_process_passive(record.record_type(), field) && record.common().is_passive())
+    is_proc(field) || (is_passive_field(record, field) && record.common().is_passive())
 }
 
 // Requests a record that is there, and answers what became of the request.
@@ -73,7 +104,7 @@ pub fn request<S: Store>(
     ensures room { vec_capacity frames.new ≡ vec_capacity frames.old }
 {
     if !store.has(number) {
-        return Err(IocError::NoRecord);
+        return Err(PutFault::NoRecord);
     }
     let outcome = tell(store, frames, number, tally);
     Ok(Some(outcome))
@@ -103,11 +134,11 @@ fn spell_into<S: Store>(
     number: RecordNo,
     field: FieldNo,
     text: &[u8],
-) -> Result<(), IocError>
+) -> Result<(), PutFault>
     requires { Has (S.world store.old) number }
     ensures ok { OnOk result (put_field S.Record.rules (at S.Record.rules (S.world store.old) number) field (input_of text.now) ≡ Ok (at S.Record.rules (S.world store.new) number)) }
     ensures stored { OnOk result (S.world store.new ≡ put (S.world store.old) number (at S.Record.rules (S.world store.new) number)) }
-    ensures err { IfErr result (λ e. put_field S.Record.rules (at S.Record.rules (S.world store.old) number) field (input_of text.now) ≡ Err e) }
+    ensures err { IfErr result (λ e. put_field S.Record.rules (at S.Record.rules (S.world store.old) number) field (input_of text.now) ≡ Err (error_of e)) }
     ensures same { OnErr result (S.world store.new ≡ S.world store.old) }
     ensures given { S.given store.new ≡ S.given store.old }
 {
@@ -155,26 +186,26 @@ pub fn put<S: Store>(
     field: FieldNo,
     given: Input,
     tally: &mut Tally,
-) -> Effect
+) -> Reply
     requires closed { IsClosed S.Record.rules (S.world store.old) }
     requires empty { frames.old.items ≡ [] }
     requires room { len (S.world store.old).records ≤ vec_capacity frames.old }
     ensures done { ForAnswers (S.given store.new) (λ answers.
-        Makes (S.world store.new) (reply_of result) tally.old tally.new (done_alone S.Record.rules answers (S.world store.old) (Put number field given))) }
+        Makes (S.world store.new) result tally.old tally.new (done_alone S.Record.rules answers (S.world store.old) (Put number field given))) }
     ensures keeps { Keeps S.Record.rules (S.world store.old) (S.world store.new) }
     ensures given { Begins S.Device.gives (S.given store.old) (S.given store.new) }
     ensures empty { frames.new.items ≡ [] }
     ensures room { vec_capacity frames.new ≡ vec_capacity frames.old }
 {
     if !store.has(number) {
-        return Err(IocError::NoRecord);
+        return Reply::Refused(IocError::NoRecord);
     }
     match put_into(store, number, field, given) {
         Ok(()) => {
             rescan(store, number, field);
-            Ok(process_after_put(store, frames, number, field, tally))
+            Reply::of(Ok(process_after_put(store, frames, number, field, tally)))
         }
-        Err(refused) => Err(refused),
+        Err(refused) => Reply::Refused(refused),
     }
 }
 
@@ -198,11 +229,15 @@ pub fn spell<S: Store>(
     ensures room { vec_capacity frames.new ≡ vec_capacity frames.old }
 {
     if !store.has(number) {
-        return Err(IocError::NoRecord);
+        return Err(PutFault::NoRecord);
     }
-    spell_into(store, number, field, text)?;
-    rescan(store, number, field);
-    Ok(process_after_put(store, frames, number, field, tally))
+    match spell_into(store, number, field, text) {
+        Ok(()) => {
+            rescan(store, number, field);
+            Ok(process_after_put(store, frames, number, field, tally))
+        }
+        Err(refused) => Err(refused),
+    }
 }
 
 // Does the record await the completion of this number?

@@ -220,9 +220,9 @@ pub fn run_put<S: Store>(
     ensures room { vec_capacity frames.new ≡ vec_capacity frames.old }
 {
     let asked = store.asked();
-    let effect = alone::put(store, frames, number, field, given, tally);
-    end_effect(store, frames, asked, &effect, tally);
-    Reply::of(effect)
+    let reply = alone::put(store, frames, number, field, given, tally);
+    end_event(store, frames, asked, &reply, tally);
+    reply
 }
 
 /// Puts what a text spells into a field as [`run_put`] does, and answers what that came to: the text is converted where it lies.

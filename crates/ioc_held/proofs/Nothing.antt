@@ -1,12 +1,15 @@
 -- A set of no records is held by whom it may.
-use Rattle.std.proofs.Common.{◌≡◌, ℕ, true, false, List, [], Option, None, sym, ap, ◌∙◌, subst, arith}
+use Rattle.std.proofs.Common.{◌≡◌, ℕ, true, false, List, [], Option, None, refl, sym, ap, ◌∙◌, subst, arith}
 use Rattle.std.specs.Prelude.{Contains, is_some, unwrap_or}
 use Rattle.std.specs.Ordering.{nat_cmp}
 use Rattle.std.specs.FinMap.{empty, get, get-empty, keys}
 use Rattle.atomic_table.specs.Seated.{TableId}
+use Rattle.ioc_ledger.specs.declared.tally.Tally.{Tally}
 use Rattle.ioc_record.specs.RecordRules.{RecordRules, targets}
+use Rattle.ioc_members.specs.Contents.{Records, Devices}
 use Rattle.ioc_store.specs.World.{World, IsClosed, at}
-use Rattle.ioc_set.specs.Held.{Held, resting, nothing_held}
+use Rattle.ioc_set.specs.Held.{Held, NoneIsLive, resting, nothing_held}
+use Rattle.ioc_set.specs.Linking.{anew}
 use Rattle.ioc_held.specs.Holding.{IsHeld}
 use Rattle.ioc_held.proofs.Keys.{no_keys}
 
@@ -31,7 +34,12 @@ module _ {R : Type 0} (k : RecordRules R) (missing : targets k k.missing ≡ [])
   nothing_is_held {D} base table h is = subst (λ (x : Held R D). IsHeld k base table None x) (sym is) (record {
     owner = λ n has. nowhere R n has;
     holds = record { records = λ n has. absurd (nowhere R n has); waiting = λ n has. absurd (nowhere R n has); within = λ x c. absurd (none_in x c); shut = closed; apart = λ a n out has names. nowhere R n has };
+    none_live = (refl, refl);
   })
 
 pub no_numbers : {R D : Type 0} (h : Held R D) → h ≡ nothing_held → keys h.records ≡ []
 no_numbers {R} {D} h is = ap (λ (x : Held R D). keys x.records) is ∙ no_keys R
+
+-- on a set that begins anew no put with notification is live
+pub none_anew : {R D : Type 0} (h : Held R D) (rs : Records R) (ds : Devices D) (counts : Tally) → h ≡ anew rs ds counts → NoneIsLive h
+none_anew {R} {D} h rs ds counts is = (ap (λ (x : Held R D). x.live) is, ap (λ (x : Held R D). x.waiting) is)

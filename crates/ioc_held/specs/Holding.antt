@@ -20,7 +20,7 @@ use Rattle.ioc_line.specs.declared.room.View.{View}
 use Rattle.ioc_holding.specs.Legal.{map_of}
 use Rattle.ioc_holding.specs.Held.{Holds, Cover}
 use Rattle.ioc_journal.specs.Account.{DeskView, IsHolder, AreRecords, Call}
-use Rattle.ioc_set.specs.Held.{Held, now_of}
+use Rattle.ioc_set.specs.Held.{Held, NoneIsLive, now_of}
 use Rattle.ioc_set.specs.Sound.{IsSound}
 use Rattle.ioc_set.specs.Doing.{Does}
 
@@ -52,10 +52,12 @@ pub record IsOwner {R : Type 0} (table id : TableId) (v : View) (w : World R) : 
   pub covers : Cover v.owns w
 
 module _ {R D : Type 0} (k : RecordRules R) (base : World R) where
-  -- the holder of a set has a pass for its records, and what the set holds is what the world of all records has there
+  -- the holder of a set has a pass for its records, and what the set holds is what the world of all records has there. For now no put with
+  -- notification is live on a set that is held
   pub record IsHeld (table : TableId) (pass : Option Pass) (h : Held R D) : Type 0 where
     pub owner : MatchOption pass ((n : ℕ) → Has (now_of h) n → ⊥) (λ (p : Pass). IsOwner table p.table_id (cell_view {V = View} p) (now_of h))
     pub holds : Holds k (map_of k base (seen_by pass)) (now_of h)
+    pub none_live : NoneIsLive h
 
   -- what holds of a set and of its holder whenever its lock is free
   pub record IsSoundlyHeld (v : HeldView R D) : Type 0 where

@@ -1,12 +1,13 @@
 //! A link change over the sets that are lent to it.
 ghost use Rattle.std.specs.Prelude.{◌≡◌, ◌⊎◌, ◌<◌, ◌-◌, ◌^◌, ◌∷◌, ℕ, false, [], IsSome, IfOk, IfErr, OnErr, Contains};
 ghost use Rattle.std.specs.FinMap.{get};
-ghost use Rattle.ioc_values.specs.declared.error.IocError.TheVariants.{NoField, NoMemory};
+ghost use Rattle.ioc_values.specs.declared.error.IocError.TheVariants.{NoField};
 ghost use Rattle.ioc_common.specs.Links.{use_of, named_by, record_named};
 ghost use Rattle.ioc_record.specs.Values.{stops_put};
 ghost use Rattle.ioc_members.specs.Joined.{HasLink};
 ghost use Rattle.ioc_store.specs.World.{common_at};
 ghost use Rattle.ioc_topology.specs.Change.{AreLent};
+ghost use Rattle.ioc_journal.specs.Places.{IsNoPlace};
 ghost use Rattle.ioc_set.specs.Held.{now_of};
 ghost use Rattle.ioc_set.specs.SetStore.{world_of};
 ghost use Rattle.ioc_held.specs.Holding.{HeldView, numbers_of};
@@ -23,7 +24,7 @@ use ioc_record::RecordKind;
 use ioc_set::Workplace;
 use ioc_topology::Locked;
 use ioc_values::IocError;
-use std::alloc::{AllocError, Global};
+use std::alloc::Global;
 use std::mem;
 use std::sync::Wait;
 
@@ -98,13 +99,14 @@ fn part_first<K: RecordKind + Drop, B: Base<K>, D: Device, R: Wait>(
     link: KeptLink,
     twin: KeptLink,
     moment: u64,
-) -> Result<Changed<K, B>, AllocError>
+) -> Result<Changed<K, B>, IocError>
     requires twin { twin ≡ link }
     requires field { HasLink K.rules first.old.set.records number field }
     requires allowed { stops_put (common_at K.rules (now_of first.old.set) number) field ≡ false }
     requires within { (t : ℕ) → Contains (named_by (use_of link)) t → IsSome (get first.old.set.records t) }
     ensures parts { (second : HeldView K D) → IfOk result (λ c. FellApart K.rules B.base first.old second spare.old desk.old moment number field link c.reply c.moved first.new second spare.new desk.new (world_of workplace.new.store)) }
     ensures receipt { IfOk result (λ c. c.receipt ≡ desk.new.seen) }
+    ensures refused { IfErr result IsNoPlace }
     ensures desk { OnErr result (desk.new ≡ desk.old) }
 {
     let (rest, receipt) = first.part(
@@ -134,13 +136,14 @@ fn lead_first<K: RecordKind + Drop, B: Base<K>, D: Device, R: Wait>(
     link: KeptLink,
     twin: KeptLink,
     moment: u64,
-) -> Result<Changed<K, B>, AllocError>
+) -> Result<Changed<K, B>, IocError>
     requires twin { twin ≡ link }
     requires field { HasLink K.rules first.old.set.records number field }
     requires allowed { stops_put (common_at K.rules (now_of first.old.set) number) field ≡ false }
     requires to { (t : ℕ) × (named_by (use_of link) ≡ t ∷ []) × IsSome (get second.old.set.records t) }
     ensures leads { IfOk result (λ c. WasLed K.rules B.base first.old second.old spare.old desk.old moment number field link c.reply c.moved first.new second.new spare.new desk.new (world_of workplace.new.store)) }
     ensures receipt { IfOk result (λ c. c.receipt ≡ desk.new.seen) }
+    ensures refused { IfErr result IsNoPlace }
     ensures desk { OnErr result (desk.new ≡ desk.old) }
 {
     let before = size(first);
@@ -163,8 +166,9 @@ fn lead_first<K: RecordKind + Drop, B: Base<K>, D: Device, R: Wait>(
 ///
 /// # Errors
 ///
-/// [`IocError::NoField`]: the field is no link of the record; nothing has changed then. [`IocError::NoMemory`]: nothing has changed then, but
-/// that the history may be forgotten. That DISP forbids it is a reply, which the journal keeps.
+/// [`IocError::NoField`]: the field is no link of the record; nothing has changed then. [`IocError::JournalFull`]: the journal has no place
+/// left. [`IocError::NoMemory`]: nothing has changed then, but that the history may be forgotten. That DISP forbids it is a reply, which the
+/// journal keeps.
 pub fn change_link<K: RecordKind + Drop, B: Base<K>, D: Device, R: Wait>(
     rt: &R,
     alloc: Global,
@@ -184,7 +188,7 @@ pub fn change_link<K: RecordKind + Drop, B: Base<K>, D: Device, R: Wait>(
     requires lent { AreLent numbers_of number (record_named (use_of link)) first.old second.old spare.old }
     ensures relinks { IfOk result (λ c. Relinks K.rules B.base first.old second.old spare.old desk.old moment number field link c.reply c.moved first.new second.new spare.new desk.new (world_of workplace.new.store)) }
     ensures receipt { IfOk result (λ c. c.receipt ≡ desk.new.seen) }
-    ensures refused { IfErr result (λ error. (error ≡ NoMemory) ⊎ ((error ≡ NoField) × (HasLink K.rules first.old.set.records number field → ⊥))) }
+    ensures refused { IfErr result (λ error. IsNoPlace error ⊎ ((error ≡ NoField) × (HasLink K.rules first.old.set.records number field → ⊥))) }
     ensures desk { OnErr result (desk.new ≡ desk.old) }
 {
     if !first.set.has_link(number, field) {

@@ -1,16 +1,17 @@
 //! Sets that are held.
-ghost use Rattle.std.specs.Prelude.{◌≡◌, ℕ, true, IfOk, OnErr, Contains};
+ghost use Rattle.std.specs.Prelude.{◌≡◌, ℕ, true, IfOk, IfErr, OnErr, Contains};
 ghost use Rattle.crossbeam_utils.specs.Seq.{cell_view};
 ghost use Rattle.ioc_events.specs.declared.event.Event.TheVariants.{Get, Process, Put, Complete};
 ghost use Rattle.ioc_events.specs.Step.{names};
 ghost use Rattle.ioc_holding.specs.Held.{Holds};
 ghost use Rattle.ioc_holding.specs.Legal.{map_of};
-ghost use Rattle.ioc_set.specs.Held.{now_of};
+ghost use Rattle.ioc_journal.specs.Places.{IsNoPlace};
+ghost use Rattle.ioc_set.specs.Held.{NoneIsLive, now_of};
 ghost use Rattle.ioc_set.specs.Doing.{is_ordinary};
 ghost use Rattle.ioc_set.specs.SetStore.{world_of};
 ghost use Rattle.ioc_held.specs.Holding.{IsOwner, held_view, numbers_of, Serves, Tells};
 
-use crate::running::{answers_in, run_in};
+use crate::running::run_in;
 use ioc_device::Device;
 use ioc_events::event_rules::{events_keep_records, rules_are_steps};
 use ioc_events::{Entry, Event, KeptAnswers, Reply};
@@ -20,9 +21,9 @@ use ioc_journal::{Base, Book, Desk, Receipt};
 use ioc_line::Token;
 use ioc_names::RecordNo;
 use ioc_record::RecordKind;
-use ioc_set::{LockSet, Workplace};
-use ioc_values::{Finished, Input};
-use std::alloc::{AllocError, Global};
+use ioc_set::{LockSet, Workplace, sets_stay_without_puts};
+use ioc_values::{Finished, Input, IocError};
+use std::alloc::Global;
 use std::marker::{Model, PhantomData};
 use std::sync::Wait;
 
@@ -55,6 +56,7 @@ impl<K: RecordKind, B: Base<K>, D> Held<K, B, D> {
     pub fn new(set: LockSet<K, D>, pass: Token) -> Self
         requires owner { IsOwner B.table pass.table_id (cell_view pass) (now_of set) }
         requires holds { Holds K.rules (map_of K.rules B.base (cell_view pass).seen) (now_of set) }
+        requires none { NoneIsLive set }
         ensures { result ≡ held_view set (cell_view pass).seen }
     {
         Held {
@@ -70,7 +72,7 @@ impl<K: RecordKind + Drop, B: Base<K>, D: Device> Held<K, B, D> {
     ///
     /// # Errors
     ///
-    /// [`AllocError`] where memory is wanting or the desk's numbers are used up: nothing has changed then.
+    /// [`IocError::JournalFull`] where the journal has no place left, and [`IocError::NoMemory`] where memory is wanting: nothing has changed then.
     pub fn serve<R: Wait>(
         &mut self,
         rt: &R,
@@ -80,11 +82,12 @@ impl<K: RecordKind + Drop, B: Base<K>, D: Device> Held<K, B, D> {
         workplace: &mut Workplace<K, D>,
         event: &Event,
         moment: u64,
-    ) -> Result<(Reply, Receipt<K, B>), AllocError>
+    ) -> Result<(Reply, Receipt<K, B>), IocError>
         requires ordinary { is_ordinary event.now ≡ true }
         requires there { (n : ℕ) → Contains (names event.now) n → Contains (numbers_of self.old) n }
         ensures serves { IfOk result (λ x. Serves K.rules D.gives B.base self.old desk.old moment event.now x.0 self.new desk.new (world_of workplace.new.store)) }
         ensures receipt { IfOk result (λ x. x.1 ≡ desk.new.seen) }
+        ensures refused { IfErr result IsNoPlace }
         ensures err { OnErr result ((self.new ≡ self.old) × (desk.new ≡ desk.old)) }
     {
         rules_are_steps::<K>();
@@ -92,20 +95,21 @@ impl<K: RecordKind + Drop, B: Base<K>, D: Device> Held<K, B, D> {
         holding_lasts::<K>();
         events_are_held::<K>();
         parts_share_what_is_held::<K>();
-        let room = Vec::with_capacity(alloc, 256)?;
-        let place = book.reserve(rt, desk)?;
-        let reply = match run_in(&mut self.set, workplace, alloc, event, moment) {
-            Ok(reply) => reply,
-            Err(refused) => {
+        sets_stay_without_puts::<K, D>();
+        self.set.is_sound();
+        let place = book.reserve(rt)?;
+        let (reply, answers) = match run_in(&mut self.set, workplace, alloc, event, moment) {
+            Ok(done) => done,
+            Err(_refused) => {
                 book.give_back(rt, place);
-                return Err(refused);
+                return Err(IocError::NoMemory);
             }
         };
         let answer = &reply;
         let entry = Entry {
             moment,
             event: *event,
-            answers: answers_in(workplace, room),
+            answers,
             reply: *answer,
         };
         let Some(mut pass) = self.pass.take() else {
@@ -120,7 +124,7 @@ impl<K: RecordKind + Drop, B: Base<K>, D: Device> Held<K, B, D> {
     ///
     /// # Errors
     ///
-    /// [`AllocError`] where memory is wanting or the desk's numbers are used up: nothing has changed then.
+    /// [`IocError::JournalFull`] where the journal has no place left, and [`IocError::NoMemory`] where memory is wanting: nothing has changed then.
     pub fn request<R: Wait>(
         &mut self,
         rt: &R,
@@ -130,10 +134,11 @@ impl<K: RecordKind + Drop, B: Base<K>, D: Device> Held<K, B, D> {
         workplace: &mut Workplace<K, D>,
         number: RecordNo,
         moment: u64,
-    ) -> Result<(Reply, Receipt<K, B>), AllocError>
+    ) -> Result<(Reply, Receipt<K, B>), IocError>
         requires there { Contains (numbers_of self.old) number }
         ensures serves { IfOk result (λ x. Serves K.rules D.gives B.base self.old desk.old moment (Process number) x.0 self.new desk.new (world_of workplace.new.store)) }
         ensures receipt { IfOk result (λ x. x.1 ≡ desk.new.seen) }
+        ensures refused { IfErr result IsNoPlace }
         ensures err { OnErr result ((self.new ≡ self.old) × (desk.new ≡ desk.old)) }
     {
         let event = Event::Process(number);
@@ -144,8 +149,8 @@ impl<K: RecordKind + Drop, B: Base<K>, D: Device> Held<K, B, D> {
     ///
     /// # Errors
     ///
-    /// [`AllocError`] where memory is wanting or the desk's numbers are used up: nothing has changed then. A refusal is a reply, which the
-    /// journal keeps too.
+    /// [`IocError::JournalFull`] where the journal has no place left, and [`IocError::NoMemory`] where memory is wanting: nothing has changed then.
+    /// A refusal is a reply, which the journal keeps too.
     pub fn put<R: Wait>(
         &mut self,
         rt: &R,
@@ -157,10 +162,11 @@ impl<K: RecordKind + Drop, B: Base<K>, D: Device> Held<K, B, D> {
         field: FieldNo,
         given: Input,
         moment: u64,
-    ) -> Result<(Reply, Receipt<K, B>), AllocError>
+    ) -> Result<(Reply, Receipt<K, B>), IocError>
         requires there { Contains (numbers_of self.old) number }
         ensures serves { IfOk result (λ x. Serves K.rules D.gives B.base self.old desk.old moment (Put number field given) x.0 self.new desk.new (world_of workplace.new.store)) }
         ensures receipt { IfOk result (λ x. x.1 ≡ desk.new.seen) }
+        ensures refused { IfErr result IsNoPlace }
         ensures err { OnErr result ((self.new ≡ self.old) × (desk.new ≡ desk.old)) }
     {
         let event = Event::Put(number, field, given);
@@ -171,8 +177,8 @@ impl<K: RecordKind + Drop, B: Base<K>, D: Device> Held<K, B, D> {
     ///
     /// # Errors
     ///
-    /// [`AllocError`] where memory is wanting or the desk's numbers are used up: nothing has changed then. A refusal is a reply, which the
-    /// journal keeps too.
+    /// [`IocError::JournalFull`] where the journal has no place left, and [`IocError::NoMemory`] where memory is wanting: nothing has changed then.
+    /// A refusal is a reply, which the journal keeps too.
     pub fn complete<R: Wait>(
         &mut self,
         rt: &R,
@@ -184,10 +190,11 @@ impl<K: RecordKind + Drop, B: Base<K>, D: Device> Held<K, B, D> {
         wait: u64,
         finished: Finished,
         moment: u64,
-    ) -> Result<(Reply, Receipt<K, B>), AllocError>
+    ) -> Result<(Reply, Receipt<K, B>), IocError>
         requires there { Contains (numbers_of self.old) number }
         ensures serves { IfOk result (λ x. Serves K.rules D.gives B.base self.old desk.old moment (Complete number wait finished) x.0 self.new desk.new (world_of workplace.new.store)) }
         ensures receipt { IfOk result (λ x. x.1 ≡ desk.new.seen) }
+        ensures refused { IfErr result IsNoPlace }
         ensures err { OnErr result ((self.new ≡ self.old) × (desk.new ≡ desk.old)) }
     {
         let event = Event::Complete(number, wait, finished);
@@ -198,8 +205,8 @@ impl<K: RecordKind + Drop, B: Base<K>, D: Device> Held<K, B, D> {
     ///
     /// # Errors
     ///
-    /// [`AllocError`] where memory is wanting or the desk's numbers are used up: nothing has changed then. A refusal is a reply, which the
-    /// journal keeps too.
+    /// [`IocError::JournalFull`] where the journal has no place left, and [`IocError::NoMemory`] where memory is wanting: nothing has changed then.
+    /// A refusal is a reply, which the journal keeps too.
     pub fn get<R: Wait>(
         &mut self,
         rt: &R,
@@ -209,15 +216,16 @@ impl<K: RecordKind + Drop, B: Base<K>, D: Device> Held<K, B, D> {
         number: RecordNo,
         field: FieldNo,
         moment: u64,
-    ) -> Result<(Reply, Receipt<K, B>), AllocError>
+    ) -> Result<(Reply, Receipt<K, B>), IocError>
         requires there { Contains (numbers_of self.old) number }
         ensures tells { IfOk result (λ x. Tells K.rules B.base self.old desk.old moment (Get number field) x.0 self.new desk.new) }
         ensures receipt { IfOk result (λ x. x.1 ≡ desk.new.seen) }
+        ensures refused { IfErr result IsNoPlace }
         ensures err { OnErr result ((self.new ≡ self.old) × (desk.new ≡ desk.old)) }
     {
         holding_lasts::<K>();
         events_are_held::<K>();
-        let place = book.reserve(rt, desk)?;
+        let place = book.reserve(rt)?;
         let reply = self.set.get(number, field);
         let text = &reply;
         let entry = Entry {

@@ -1,5 +1,5 @@
 //! Link changes of held sets, kept in the journal.
-ghost use Rattle.std.specs.Prelude.{◌≡◌, ◌<◌, ◌-◌, ◌^◌, ◌++◌, ◌∷◌, ℕ, List, [], None, true, false, IsSome, IfOk, OnErr, Contains};
+ghost use Rattle.std.specs.Prelude.{◌≡◌, ◌++◌, ◌∷◌, ℕ, List, [], None, true, false, IsSome, IfOk, IfErr, OnErr, Contains};
 ghost use Rattle.std.specs.FinMap.{get};
 ghost use Rattle.crossbeam_utils.specs.Seq.{cell_view};
 ghost use Rattle.ioc_values.specs.declared.error.IocError.TheVariants.{PutDisabled};
@@ -12,6 +12,7 @@ ghost use Rattle.ioc_line.specs.declared.entry.Note.{Note};
 ghost use Rattle.ioc_line.specs.Key.{Key, Has};
 ghost use Rattle.ioc_line.specs.Line.{holder};
 ghost use Rattle.ioc_journal.specs.Account.{IsHolder, AreRecords, BothMayFollow, Call, AddedByBoth};
+ghost use Rattle.ioc_journal.specs.Places.{IsNoPlace};
 ghost use Rattle.ioc_set.specs.Held.{now_of, folded};
 ghost use Rattle.ioc_set.specs.SetStore.{world_of};
 ghost use Rattle.ioc_held.specs.LinkChanges.{link_change, keys_of, IsKnown, Refuses, Parts, Leads};
@@ -29,7 +30,7 @@ use ioc_record::RecordKind;
 use ioc_relinking::laws::{led_sets_are_held, parted_sets_are_held};
 use ioc_set::{LockSet, Workplace};
 use ioc_values::IocError;
-use std::alloc::{AllocError, Global};
+use std::alloc::Global;
 use std::marker::{Brand, PhantomData};
 use std::sync::Wait;
 
@@ -49,7 +50,6 @@ fn keep_change<P: Keys, K: RecordKind, B: Base<K>, D, R: Wait>(
     link: LinkField,
     moment: u64,
 ) -> Receipt<K, B>
-    requires number { desk.old.next < 2 ^ 64 - 1 }
     requires table { (one.old.table_id ≡ B.table) × (other.old.table_id ≡ B.table) }
     requires one { IsHolder (cell_view one.old) × AreRecords (cell_view one.old).owns }
     requires other { IsHolder (cell_view other.old) × AreRecords (cell_view other.old).owns }
@@ -81,7 +81,8 @@ impl<K: RecordKind + Drop, B: Base<K>, D: Device> Held<K, B, D> {
     ///
     /// # Errors
     ///
-    /// [`AllocError`] where memory is wanting or the desk's numbers are used up: nothing has changed then, but that the history may be forgotten.
+    /// [`IocError::JournalFull`] where the journal has no place left, and [`IocError::NoMemory`] where memory is wanting: nothing has changed then,
+    /// but that the history may be forgotten.
     pub fn part<R: Wait>(
         &mut self,
         rt: &R,
@@ -94,30 +95,30 @@ impl<K: RecordKind + Drop, B: Base<K>, D: Device> Held<K, B, D> {
         link: KeptLink,
         twin: KeptLink,
         moment: u64,
-    ) -> Result<(Held<K, B, D>, Receipt<K, B>), AllocError>
+    ) -> Result<(Held<K, B, D>, Receipt<K, B>), IocError>
         requires twin { twin ≡ link }
         requires field { HasLink K.rules self.old.set.records number field }
         requires allowed { stops_put (common_at K.rules (now_of self.old.set) number) field ≡ false }
         requires within { (t : ℕ) → Contains (named_by (use_of link)) t → IsSome (get self.old.set.records t) }
         ensures parts { IfOk result (λ x. Parts K.rules B.base self.old desk.old moment number field link self.new x.0 desk.new (world_of workplace.new.store)) }
         ensures receipt { IfOk result (λ x. x.1 ≡ desk.new.seen) }
+        ensures refused { IfErr result IsNoPlace }
         ensures set { OnErr result (folded self.new.set ≡ folded self.old.set) }
         ensures seen { OnErr result (self.new.seen ≡ self.old.seen) }
         ensures desk { OnErr result (desk.new ≡ desk.old) }
     {
         holding_lasts::<K>();
         parted_sets_are_held::<K, D>();
-        self.set.none_is_live();
         let chosen = link.get();
-        let place = book.reserve(rt, desk)?;
+        let place = book.reserve(rt)?;
         let rest = match self
             .set
             .part(workplace, alloc, number, field, link, twin, moment)
         {
             Ok(rest) => rest,
-            Err(refused) => {
+            Err(_refused) => {
                 book.give_back(rt, place);
-                return Err(refused);
+                return Err(IocError::NoMemory);
             }
         };
         self.set.is_sound();
@@ -164,7 +165,8 @@ impl<K: RecordKind + Drop, B: Base<K>, D: Device> Held<K, B, D> {
     ///
     /// # Errors
     ///
-    /// [`AllocError`] where memory is wanting or the desk's numbers are used up: nothing has changed then, but that the history may be forgotten.
+    /// [`IocError::JournalFull`] where the journal has no place left, and [`IocError::NoMemory`] where memory is wanting: nothing has changed then,
+    /// but that the history may be forgotten.
     pub fn lead_into<R: Wait>(
         &mut self,
         rt: &R,
@@ -178,23 +180,22 @@ impl<K: RecordKind + Drop, B: Base<K>, D: Device> Held<K, B, D> {
         link: KeptLink,
         twin: KeptLink,
         moment: u64,
-    ) -> Result<(Held<K, B, D>, Receipt<K, B>), AllocError>
+    ) -> Result<(Held<K, B, D>, Receipt<K, B>), IocError>
         requires twin { twin ≡ link }
         requires field { HasLink K.rules self.old.set.records number field }
         requires allowed { stops_put (common_at K.rules (now_of self.old.set) number) field ≡ false }
         requires to { (t : ℕ) × (named_by (use_of link) ≡ t ∷ []) × IsSome (get other.old.set.records t) }
         ensures leads { IfOk result (λ x. Leads K.rules B.base self.old other.old desk.old moment number field link self.new other.new x.0 desk.new (world_of workplace.new.store)) }
         ensures receipt { IfOk result (λ x. x.1 ≡ desk.new.seen) }
+        ensures refused { IfErr result IsNoPlace }
         ensures set { OnErr result ((folded self.new.set ≡ folded self.old.set) × (other.new.set ≡ other.old.set)) }
         ensures desk { OnErr result (desk.new ≡ desk.old) }
     {
         holding_lasts::<K>();
         led_sets_are_held::<K, D>();
         self.compare(rt, book, other);
-        self.set.none_is_live();
-        other.set.none_is_live();
         let chosen = link.get();
-        let place = book.reserve(rt, desk)?;
+        let place = book.reserve(rt)?;
         let rest = match self.set.lead_into(
             &mut other.set,
             workplace,
@@ -206,9 +207,9 @@ impl<K: RecordKind + Drop, B: Base<K>, D: Device> Held<K, B, D> {
             moment,
         ) {
             Ok(rest) => rest,
-            Err(refused) => {
+            Err(_refused) => {
                 book.give_back(rt, place);
-                return Err(refused);
+                return Err(IocError::NoMemory);
             }
         };
         rest.is_sound();
@@ -246,7 +247,7 @@ impl<K: RecordKind + Drop, B: Base<K>, D: Device> Held<K, B, D> {
     ///
     /// # Errors
     ///
-    /// [`AllocError`] where memory is wanting or the desk's numbers are used up: nothing has changed then.
+    /// [`IocError::JournalFull`] where the journal has no place left, and [`IocError::NoMemory`] where memory is wanting: nothing has changed then.
     pub fn refuse_link<R: Wait>(
         &mut self,
         rt: &R,
@@ -257,18 +258,19 @@ impl<K: RecordKind + Drop, B: Base<K>, D: Device> Held<K, B, D> {
         field: FieldNo,
         link: LinkField,
         moment: u64,
-    ) -> Result<(Reply, Receipt<K, B>), AllocError>
+    ) -> Result<(Reply, Receipt<K, B>), IocError>
         requires field { HasLink K.rules self.old.set.records number field }
         requires forbidden { stops_put (common_at K.rules (now_of self.old.set) number) field ≡ true }
         requires known { (t : ℕ) → Contains (named_by (use_of link)) t → IsKnown K.rules B.base t }
         ensures refuses { IfOk result (λ x. Refuses K.rules B.base self.old desk.old moment number field link self.new desk.new) }
         ensures reply { IfOk result (λ x. x.0 ≡ Refused PutDisabled) }
         ensures receipt { IfOk result (λ x. x.1 ≡ desk.new.seen) }
+        ensures refused { IfErr result IsNoPlace }
         ensures err { OnErr result ((self.new ≡ self.old) × (desk.new ≡ desk.old)) }
     {
         holding_lasts::<K>();
         lists_leave_sound::<K>();
-        let place = book.reserve(rt, desk)?;
+        let place = book.reserve(rt)?;
         let event = Event::Link(number, field, link);
         let entry = Entry {
             moment,

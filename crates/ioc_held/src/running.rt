@@ -1,21 +1,18 @@
 //! The event of a call.
-ghost use Rattle.std.specs.Prelude.{◌≡◌, ◌≤◌, true, [], IfOk, OnErr, vec_len, vec_capacity};
+ghost use Rattle.std.specs.Prelude.{◌≡◌, true, IfOk, OnErr};
 ghost use Rattle.ioc_store.specs.Given.{answers_of};
 ghost use Rattle.ioc_set.specs.SetStore.{world_of};
 ghost use Rattle.ioc_set.specs.Doing.{Does, is_ordinary};
 
-use ioc_device::{Answer, Device};
+use ioc_device::Device;
 use ioc_events::{Event, KeptAnswers, Reply};
 use ioc_record::RecordKind;
+use ioc_set::workplace::kept_answers;
 use ioc_set::{LockSet, Workplace};
 use std::alloc::{AllocError, Global};
 
-/// Does a request, a put or a completion on a set.
-///
-/// # Errors
-///
-/// [`AllocError`] where memory is wanting: nothing has changed then.
-pub(crate) fn run_in<K: RecordKind + Drop, D: Device>(
+// Does a request, a put or a completion on a set; where memory is wanting, nothing has changed.
+fn do_in<K: RecordKind + Drop, D: Device>(
     set: &mut LockSet<K, D>,
     workplace: &mut Workplace<K, D>,
     alloc: Global,
@@ -38,13 +35,26 @@ pub(crate) fn run_in<K: RecordKind + Drop, D: Device>(
     }
 }
 
-/// The answers of devices in the last event, in room that was taken for them.
-pub(crate) fn answers_in<K, D>(workplace: &Workplace<K, D>, room: Vec<Answer>) -> KeptAnswers
-    requires none { (room.items ≡ []) × (vec_len room ≡ 0) }
-    requires room { 256 ≤ vec_capacity room }
-    ensures { result ≡ answers_of (world_of workplace.now.store).calls }
+/// Does a request, a put or a completion on a set: the reply, and what devices answered, in room of its own size.
+///
+/// # Errors
+///
+/// [`AllocError`] where memory is wanting: nothing has changed then.
+pub(crate) fn run_in<K: RecordKind + Drop, D: Device>(
+    set: &mut LockSet<K, D>,
+    workplace: &mut Workplace<K, D>,
+    alloc: Global,
+    event: &Event,
+    moment: u64,
+) -> Result<(Reply, KeptAnswers), AllocError>
+    requires ordinary { is_ordinary event.now ≡ true }
+    ensures ok { IfOk result (λ done. Does K.rules D.gives set.old moment event.now done.0 set.new (world_of workplace.new.store)) }
+    ensures answers { IfOk result (λ done. done.1 ≡ answers_of (world_of workplace.new.store).calls) }
+    ensures err { OnErr result (set.new ≡ set.old) }
 {
-    let mut kept = room;
-    workplace.store.event.calls.copy_answers(&mut kept);
-    KeptAnswers::new(kept)
+    // Taken before anything is done: after that nothing may be refused.
+    let mut spare = Vec::with_capacity(alloc, 256)?;
+    let reply = do_in(set, workplace, alloc, event, moment)?;
+    let answers = kept_answers(&workplace.store.event.calls, &mut spare, alloc);
+    Ok((reply, answers))
 }

@@ -1,5 +1,5 @@
 -- The calls of desks in a list.
-use Rattle.std.proofs.Common.{◌≡◌, ℕ, suc, ◌+◌, ◌<◌, ◌≤◌, List, [], ◌∷◌, ◌++◌, length, Bool, true, false, if◌then◌else◌, nat_eq, nat_le, refl, sym, ap, ◌∙◌, subst, inl, arith, ne_eqb, eq-eqb, append-nil}
+use Rattle.std.proofs.Common.{◌≡◌, ℕ, suc, ◌+◌, ◌<◌, ◌≤◌, List, [], ◌∷◌, ◌++◌, length, Bool, true, false, if◌then◌else◌, nat_eq, nat_le, refl, sym, ap, ◌∙◌, subst, inl, arith, length-append, ne_eqb, eq-eqb, append-nil}
 use Rattle.ioc_record.specs.RecordRules.{RecordRules}
 use Rattle.ioc_store.specs.World.{World}
 use Rattle.ioc_events.specs.declared.event.Entry.{Entry}
@@ -96,6 +96,14 @@ account_longer k base xs ys a b = go (nat_le (length xs) (length ys))
     go : (c : Bool) → IsAccount k base (if c then ys else xs)
     go true = b
     go false = a
+
+-- ---- a list that goes on is longer
+
+pub no_longer : (seen log : List Note) (ks : List Key) → Continues seen ks log → length seen ≤ length log
+no_longer seen log ks go = omega (arith, ap length go.1, length-append seen go.0)
+
+pub counted : (seen log : List Note) (ks : List Key) (n : Note) (next : ℕ) → next ≤ length seen → Continues seen ks log → next + 1 ≤ length (log ++ n ∷ [])
+counted seen log ks n next le go = omega (arith, le, no_longer seen log ks go, length-append log (n ∷ []))
 
 -- ---- one call more, of a desk that has seen a beginning of the list
 

@@ -1,6 +1,6 @@
 -- Desks, and the calls that they made, in one list of all that was done.
 -- The journal is this project's own.
-use Rattle.std.specs.Prelude.{◌≡◌, ℕ, ◌+◌, ◌<◌, List, [], ◌∷◌, ◌++◌, if◌then◌else◌, nat_eq}
+use Rattle.std.specs.Prelude.{◌≡◌, ℕ, ◌+◌, ◌<◌, List, [], ◌∷◌, ◌++◌, if◌then◌else◌, nat_eq, length, Some, slice_get}
 use Rattle.ioc_record.specs.RecordRules.{RecordRules}
 use Rattle.ioc_store.specs.World.{World}
 use Rattle.ioc_events.specs.declared.event.Entry.{Entry}
@@ -8,7 +8,7 @@ use Rattle.ioc_line.specs.declared.entry.JournalEntry.{JournalEntry}
 use Rattle.ioc_line.specs.declared.entry.Note.{Note}
 use Rattle.ioc_line.specs.declared.room.View.{View}
 use Rattle.ioc_line.specs.Key.{Key, Has}
-use Rattle.ioc_line.specs.Line.{holder, noted, Continues}
+use Rattle.ioc_line.specs.Line.{holder, noted, Continues, Begins}
 use Rattle.ioc_holding.specs.Legal.{IsLegal, IsSound}
 
 -- a desk: its number, that of its next call, and the list that it has seen
@@ -64,6 +64,14 @@ AreRecords keys = (key : Key) → Has key keys → key.0 ≡ 0
 -- a pass that has seen a beginning of the list, and owns keys
 abbrev pub IsHolder : View → Type 0
 IsHolder v = v ≡ holder v.seen v.owns
+
+-- an entry is what a receipt was given for: the receipt's list, with which all calls begin, ends with it
+pub record IsEntryOf (receipt all : List Note) (entry : JournalEntry) : Type 0 where
+  pub before : List Note
+  pub keys : List Key
+  pub ends : receipt ≡ before ++ noted entry keys ∷ []
+  pub begins : Begins receipt all
+  pub place : slice_get (calls all) (length before) ≡ Some entry
 
 module _ {R : Type 0} (k : RecordRules R) (base : World R) where
   -- the calls are a run of an engine with all records in one map, the numbers of each desk's calls rise, and each note has its desk's key

@@ -22,11 +22,13 @@ module _ {R : Type 0} (k : RecordRules R) (base : World R) (table id : TableId) 
     pub given : (key : Key) → Has key v.born → key.0 ≡ 1 → key.1 < desks
     pub new_desk : (d : ℕ) → desks ≤ d → Below d 0 (calls v.seen)
 
-  -- a desk's pass owns its key, its calls have numbers below the next, and the list that it has seen is legal
+  -- a desk's pass owns its key, its calls have numbers below the next, which isn't higher than the count of calls that it has seen, and the
+  -- list of these is legal
   pub record IsDesk (number next : ℕ) : Type 0 where
     pub same : id ≡ table
     pub holds : v ≡ holder v.seen (desk_key number ∷ [])
     pub below : Below number next (calls v.seen)
+    pub count : next ≤ length v.seen
     pub account : IsAccount k base v.seen
 
   -- a receipt's pass owns nothing, and its legal list ends at its place

@@ -1,10 +1,12 @@
 //! The journal under its lock.
-ghost use Rattle.std.specs.Prelude.{◌≡◌, ◌<◌, ◌-◌, ◌^◌, ◌++◌, List, [], OnOk, IfSome};
+ghost use Rattle.std.specs.Prelude.{◌≡◌, ◌++◌, List, [], IfOk, IfErr};
 ghost use Rattle.crossbeam_utils.specs.Seq.{cell_view};
 ghost use Rattle.ioc_line.specs.declared.entry.Note.{Note};
 ghost use Rattle.ioc_line.specs.Key.{Key, Has};
 ghost use Rattle.ioc_line.specs.Line.{holder};
 ghost use Rattle.ioc_journal.specs.Account.{IsHolder, AreRecords, MayFollow, BothMayFollow, Call, Added, AddedByBoth, AreKnown, calls, calls_by};
+ghost use Rattle.ioc_journal.specs.Places.{IsNoPlace};
+ghost use Rattle.ioc_values.specs.declared.error.IocError.TheVariants.{JournalFull};
 
 use crate::base::Base;
 use crate::desk::Desk;
@@ -14,7 +16,7 @@ use crate::receipt::Receipt;
 use ioc_events::Entry;
 use ioc_line::{Cell, Keys, Token};
 use ioc_record::RecordKind;
-use std::alloc::AllocError;
+use ioc_values::IocError;
 use std::marker::Model;
 use std::sync::{Mutex, Wait};
 
@@ -50,9 +52,14 @@ impl<K: RecordKind, B: Base<K>> Book<K, B> {
         }
     }
 
-    /// A desk that has seen all calls, and made none. None where the numbers of desks are used up.
-    pub fn open_desk<R: Wait>(&self, rt: &R) -> Option<Desk<K, B>>
-        ensures new { IfSome result (λ d. (d.next ≡ 0) × (calls_by d.number (calls d.seen) ≡ [])) }
+    /// A desk that has seen all calls, and made none.
+    ///
+    /// # Errors
+    ///
+    /// [`IocError::JournalFull`] where the numbers of desks are used up.
+    pub fn open_desk<R: Wait>(&self, rt: &R) -> Result<Desk<K, B>, IocError>
+        ensures new { IfOk result (λ d. (d.next ≡ 0) × (calls_by d.number (calls d.seen) ≡ [])) }
+        ensures refused { IfErr result (λ error. error ≡ JournalFull) }
     {
         self.journal.lock(rt).open_desk(&self.cell)
     }
@@ -64,18 +71,18 @@ impl<K: RecordKind, B: Base<K>> Book<K, B> {
         &self.cell
     }
 
-    /// Holds a place for a call of a desk.
+    /// Holds a place for a call.
     ///
     /// # Errors
     ///
-    /// [`AllocError`] where memory is wanting, or the desk's numbers are used up.
-    pub fn reserve<R: Wait>(&self, rt: &R, desk: &Desk<K, B>) -> Result<Place<K, B>, AllocError>
-        ensures number { OnOk result (desk.now.next < 2 ^ 64 - 1) }
+    /// [`IocError::JournalFull`] where entries and held places make the limit, and else [`IocError::NoMemory`] where memory is wanting.
+    pub fn reserve<R: Wait>(&self, rt: &R) -> Result<Place<K, B>, IocError>
+        ensures refused { IfErr result IsNoPlace }
     {
-        self.journal.lock(rt).reserve(desk)
+        self.journal.lock(rt).reserve()
     }
 
-    /// Takes back a place whose call wasn't made.
+    /// Takes back a place whose call wasn't made: it is free again.
     pub fn give_back<R: Wait>(&self, rt: &R, place: Place<K, B>) {
         self.journal.lock(rt).give_back(place);
     }
@@ -90,7 +97,6 @@ impl<K: RecordKind, B: Base<K>> Book<K, B> {
         desk: &mut Desk<K, B>,
         entry: Entry,
     ) -> Receipt<K, B>
-        requires number { desk.old.next < 2 ^ 64 - 1 }
         requires table { set.old.table_id ≡ B.table }
         requires set { IsHolder (cell_view set.old) × AreRecords (cell_view set.old).owns }
         requires follows { MayFollow K.rules B.base (cell_view set.old).seen (cell_view set.old).owns entry }
@@ -115,7 +121,6 @@ impl<K: RecordKind, B: Base<K>> Book<K, B> {
         desk: &mut Desk<K, B>,
         entry: Entry,
     ) -> Receipt<K, B>
-        requires number { desk.old.next < 2 ^ 64 - 1 }
         requires table { (one.old.table_id ≡ B.table) × (other.old.table_id ≡ B.table) }
         requires one { IsHolder (cell_view one.old) × AreRecords (cell_view one.old).owns }
         requires other { IsHolder (cell_view other.old) × AreRecords (cell_view other.old).owns }

@@ -31,9 +31,9 @@ impl<K: RecordKind, B: Base<K>> Journal<K, B> {
     pub fn tell_all<R: Wait>(&mut self, rt: &R, cell: &Cell, set: &mut Token)
         requires table { (cell.now.table.shared.table_id ≡ B.table) × (set.old.table_id ≡ B.table) }
         requires set { IsHolder (cell_view set.old) }
-        ensures set { (set.new.table_id ≡ set.old.table_id) × (cell_view set.new ≡ holder self.old (cell_view set.old).owns) }
-        ensures goes_on { Continues (cell_view set.old).seen (cell_view set.old).owns self.old }
-        ensures legal { IsSound K.rules B.base × IsLegal K.rules B.base self.old }
+        ensures set { (set.new.table_id ≡ set.old.table_id) × (cell_view set.new ≡ holder self.old.filled (cell_view set.old).owns) }
+        ensures goes_on { Continues (cell_view set.old).seen (cell_view set.old).owns self.old.filled }
+        ensures legal { IsSound K.rules B.base × IsLegal K.rules B.base self.old.filled }
         ensures same { self.new ≡ self.old }
     {
         tell(rt, cell, &mut self.pass, set);
@@ -42,7 +42,7 @@ impl<K: RecordKind, B: Base<K>> Journal<K, B> {
     /// The list is legal from the world at the load on, which is sound.
     pub fn is_legal(&self)
         ensures sound { IsSound K.rules B.base }
-        ensures account { IsAccount K.rules B.base self.now }
+        ensures account { IsAccount K.rules B.base self.now.filled }
     {
         let _ = &self.entries;
     }

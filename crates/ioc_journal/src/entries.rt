@@ -1,9 +1,13 @@
 //! The entries of a journal, and places for more, which are held before they are filled.
-ghost use Rattle.std.specs.Prelude.{◌≡◌, ◌+◌, ◌^◌, ◌-◌, [], ◌∷◌, ◌++◌, length};
+ghost use Rattle.std.specs.Prelude.{◌≡◌, ◌≤◌, ◌+◌, ◌^◌, ◌-◌, [], ◌∷◌, ◌++◌, length, IfOk, IfErr, OnErr, slice_get};
+ghost use Rattle.std.specs.Option.{option_map};
+ghost use Rattle.ioc_journal.specs.Places.{AreAllowed, places_of, one_more_held, HoldsOne, HoldsNone};
 
 use crate::base::Base;
+use crate::limits::Limits;
 use ioc_line::JournalEntry;
-use std::alloc::{AllocError, Global};
+use ioc_values::IocError;
+use std::alloc::Global;
 use std::marker::{Model, PhantomData};
 use std::sync::ledger::{Blank, Book, Ledger, Share};
 
@@ -29,37 +33,47 @@ pub struct Place<K, B: Base<K>> {
     ghost one: { (share.parts ≡ 1) × (share.amount ≡ 1) },
 }
 
-/// Entries, with room for each whose place is held. Contracts see the list of the entries.
+/// Entries, with room for each whose place is held. Contracts see the list of the entries, how many places are held, and how many there are.
 #[derive(Drop)]
 pub struct Entries<K, B: Base<K>> {
     items: Vec<JournalEntry>,
     held: u64,
+    limit: u64,
     book: Book<Places<K, B>>,
     pool: Share<Places<K, B>>,
 }
 
 impl<K, B: Base<K>> Model for Entries<K, B> {
-    ghost use Rattle.std.specs.Prelude.{◌≡◌, ◌+◌, ◌≤◌, List, vec_len, vec_capacity};
     ghost use Rattle.ioc_line.specs.declared.entry.JournalEntry.{JournalEntry};
+    ghost use Rattle.ioc_journal.specs.Places.{PlacesOf};
+    ghost use Rattle.ioc_journal.specs.PlacesCode.{entries_code};
 
-    ghost Value = { List JournalEntry };
+    ghost Value = { PlacesOf JournalEntry };
 
-    ghost view = { λ e. e.items.items };
+    ghost coded = { entries_code };
 
-    ghost invariant = { λ e. (e.held ≡ e.book.total) × (vec_len e.items + e.held ≤ vec_capacity e.items) × (e.pool.amount ≡ 0) × (e.pool.parts + e.book.total ≡ 18446744073709551615) };
+    ghost use Rattle.std.specs.Prelude.{◌≡◌, ◌+◌, ◌≤◌, vec_len, vec_capacity};
+    ghost use Rattle.ioc_journal.specs.Places.{places_of};
+
+    ghost view = { λ e. places_of e.items.items e.held e.limit };
+
+    ghost invariant = { λ e. (e.held ≡ e.book.total) × (vec_len e.items + e.held ≤ vec_capacity e.items) × (e.pool.amount ≡ 0) × (e.pool.parts + e.book.total ≡ 18446744073709551615)
+        × (vec_len e.items + e.held ≤ e.limit) × (e.limit ≤ 4194304) };
 }
 
 impl<K, B: Base<K>> Entries<K, B> {
     /// No entry, and no place is held. The parts are [`PLACES`].
-    pub fn new(alloc: Global, blank: Blank) -> Self
+    pub fn new(alloc: Global, blank: Blank, limits: Limits) -> Self
         requires name { blank.name ≡ B.places }
         requires parts { blank.parts ≡ 2 ^ 64 - 1 }
-        ensures { result ≡ [] }
+        requires limits { AreAllowed limits }
+        ensures { result ≡ places_of [] 0 limits.journal }
     {
         let (book, pool) = blank.open::<Places<K, B>>();
         Entries {
             items: Vec::new(alloc),
             held: 0,
+            limit: limits.journal,
             book,
             pool,
         }
@@ -67,23 +81,36 @@ impl<K, B: Base<K>> Entries<K, B> {
 
     /// How many entries there are.
     pub fn len(&self) -> usize
-        ensures { result ≡ length self.now }
+        ensures count { result ≡ length self.now.filled }
+        ensures within { length self.now.filled + self.now.held ≤ self.now.limit }
+        ensures few { self.now.limit ≤ 4194304 }
     {
         self.items.len()
+    }
+
+    /// The entry at a place, from 0 on; none past the last.
+    pub fn at(&self, place: u64) -> Option<&JournalEntry>
+        ensures { option_map (λ e. e.now) result ≡ slice_get self.now.filled place }
+    {
+        self.items.get(place as usize)
     }
 
     /// Holds a place for one entry more.
     ///
     /// # Errors
     ///
-    /// [`AllocError`] where memory is wanting.
-    pub fn hold(&mut self) -> Result<Place<K, B>, AllocError>
-        ensures { self.new ≡ self.old }
+    /// [`IocError::JournalFull`] where entries and held places make the limit, and else [`IocError::NoMemory`] where memory is wanting.
+    pub fn hold(&mut self) -> Result<Place<K, B>, IocError>
+        ensures held { IfOk result (λ _. HoldsOne self.old self.new) }
+        ensures refused { IfErr result (HoldsNone self.old) }
+        ensures same { OnErr result (self.new ≡ self.old) }
     {
-        if self.held == u64::MAX {
-            return Err(AllocError);
+        if self.items.len() as u64 + self.held == self.limit {
+            return Err(IocError::JournalFull);
         }
-        self.items.reserve(self.held as usize + 1)?;
+        let Ok(()) = self.items.reserve(self.held as usize + 1) else {
+            return Err(IocError::NoMemory);
+        };
         self.book.add(&mut self.pool, 1);
         self.held += 1;
         let share = self.pool.split_off(1, 1);
@@ -92,7 +119,8 @@ impl<K, B: Base<K>> Entries<K, B> {
 
     /// Fills a place. It takes no memory.
     pub fn fill(&mut self, place: Place<K, B>, entry: JournalEntry)
-        ensures { self.new ≡ self.old ++ entry ∷ [] }
+        ensures held { self.old.held ≡ self.new.held + 1 }
+        ensures filled { self.new ≡ places_of (self.old.filled ++ entry ∷ []) self.new.held self.old.limit }
     {
         let Place { mut share } = place;
         self.book.audit(&mut share);
@@ -102,9 +130,9 @@ impl<K, B: Base<K>> Entries<K, B> {
         self.items.push_reserved(entry);
     }
 
-    /// Takes a place back that isn't filled.
+    /// Takes a place back that isn't filled: it is free again.
     pub fn give_back(&mut self, place: Place<K, B>)
-        ensures { self.new ≡ self.old }
+        ensures { self.old ≡ one_more_held self.new }
     {
         let Place { mut share } = place;
         self.book.audit(&mut share);

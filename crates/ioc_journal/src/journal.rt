@@ -1,25 +1,30 @@
 //! All calls, in one order.
-ghost use Rattle.std.specs.Prelude.{◌≡◌, ◌<◌, ◌-◌, ◌^◌, ◌++◌, [], OnOk, IfSome};
+ghost use Rattle.std.specs.Prelude.{◌≡◌, ◌+◌, ◌-◌, ◌^◌, ◌++◌, [], IfOk, IfErr, OnErr};
 ghost use Rattle.crossbeam_utils.specs.Seq.{cell_view};
 ghost use Rattle.ioc_line.specs.Key.{Key, Has};
 ghost use Rattle.ioc_line.specs.Line.{keeper, holder, Continues};
 ghost use Rattle.ioc_holding.specs.Legal.{IsLegal, IsSound};
+ghost use Rattle.ioc_values.specs.declared.error.IocError.TheVariants.{JournalFull};
 ghost use Rattle.ioc_journal.specs.Account.{AreRecords, IsHolder, MayFollow, BothMayFollow, Call, Added, AddedByBoth, calls, calls_by};
+ghost use Rattle.ioc_journal.specs.Places.{AreAllowed, places_of, one_more_held, HoldsOne, HoldsNone};
 
 use crate::base::Base;
 use crate::dealing::deal;
 use crate::desk::Desk;
 use crate::entries::{Entries, Place};
+use crate::limits::Limits;
 use crate::receipt::Receipt;
 use ioc_events::Entry;
 use ioc_line::{Cell, JournalEntry, Keys, Token, pass};
 use ioc_record::RecordKind;
-use std::alloc::{AllocError, Global};
+use ioc_values::IocError;
+use std::alloc::Global;
 use std::marker::{Model, PhantomData};
 use std::sync::Wait;
 use std::sync::ledger::Blank;
 
-/// All calls of an engine, each with its desk and its number. Contracts see them as one list, with the keys that each call is about.
+/// All calls of an engine, each with its desk and its number. Contracts see them as one list, with the keys that each call is about, and how
+/// many places are held for more, and there are in all.
 #[derive(Drop)]
 pub struct Journal<K: RecordKind, B: Base<K>> {
     pub(crate) entries: Entries<K, B>,
@@ -28,50 +33,60 @@ pub struct Journal<K: RecordKind, B: Base<K>> {
 }
 
 impl<K: RecordKind, B: Base<K>> Model for Journal<K, B> {
-    ghost use Rattle.std.specs.Prelude.{List};
     ghost use Rattle.ioc_line.specs.declared.entry.Note.{Note};
+    ghost use Rattle.ioc_journal.specs.Places.{PlacesOf};
+    ghost use Rattle.ioc_journal.specs.PlacesCode.{notes_code};
 
-    ghost Value = { List Note };
+    ghost Value = { PlacesOf Note };
+
+    ghost coded = { notes_code };
 
     ghost use Rattle.crossbeam_utils.specs.Seq.{cell_view};
     ghost use Rattle.ioc_journal.specs.Kept.{IsKept};
+    ghost use Rattle.ioc_journal.specs.Places.{places_of};
 
-    ghost view = { λ j. (cell_view j.pass).seen };
+    ghost view = { λ j. places_of (cell_view j.pass).seen j.entries.held j.entries.limit };
 
-    ghost invariant = { λ j. IsKept K.rules B.base B.table j.pass.table_id (cell_view j.pass) j.entries j.desks };
+    ghost invariant = { λ j. IsKept K.rules B.base B.table j.pass.table_id (cell_view j.pass) j.entries.filled j.desks };
 }
 
 impl<K: RecordKind, B: Base<K>> Journal<K, B> {
     /// No call was made yet. The keeper's pass has given out keys of records alone.
-    pub fn new(alloc: Global, master: Token, blank: Blank) -> Self
+    pub fn new(alloc: Global, master: Token, blank: Blank, limits: Limits) -> Self
         requires table { master.table_id ≡ B.table }
         requires pass { cell_view master ≡ keeper [] (cell_view master).born }
         requires given { AreRecords (cell_view master).born }
         requires name { blank.name ≡ B.places }
         requires parts { blank.parts ≡ 2 ^ 64 - 1 }
+        requires limits { AreAllowed limits }
         requires sound { IsSound K.rules B.base }
-        ensures { result ≡ [] }
+        ensures { result ≡ places_of [] 0 limits.journal }
     {
         Journal {
-            entries: Entries::new(alloc, blank),
+            entries: Entries::new(alloc, blank, limits),
             desks: 0,
             pass: master,
         }
     }
 
-    /// A desk that has seen all calls, and made none. None where the numbers of desks are used up.
-    pub fn open_desk(&mut self, cell: &Cell) -> Option<Desk<K, B>>
+    /// A desk that has seen all calls, and made none.
+    ///
+    /// # Errors
+    ///
+    /// [`IocError::JournalFull`] where the numbers of desks are used up.
+    pub fn open_desk(&mut self, cell: &Cell) -> Result<Desk<K, B>, IocError>
         requires table { cell.now.table.shared.table_id ≡ B.table }
-        ensures desk { IfSome result (λ d. (d.next ≡ 0) × (d.seen ≡ self.old) × (calls_by d.number (calls d.seen) ≡ [])) }
+        ensures desk { IfOk result (λ d. (d.next ≡ 0) × (d.seen ≡ self.old.filled) × (calls_by d.number (calls d.seen) ≡ [])) }
+        ensures refused { IfErr result (λ error. error ≡ JournalFull) }
         ensures same { self.new ≡ self.old }
     {
         if self.desks == u64::MAX {
-            return None;
+            return Err(IocError::JournalFull);
         }
         let number = self.desks;
         let pass = pass::claim_key(cell, &mut self.pass, 1, number);
         self.desks += 1;
-        Some(Desk {
+        Ok(Desk {
             number,
             next: 0,
             pass,
@@ -80,24 +95,22 @@ impl<K: RecordKind, B: Base<K>> Journal<K, B> {
         })
     }
 
-    /// Holds a place for a call of a desk.
+    /// Holds a place for a call.
     ///
     /// # Errors
     ///
-    /// [`AllocError`] where memory is wanting, or the desk's numbers are used up.
-    pub fn reserve(&mut self, desk: &Desk<K, B>) -> Result<Place<K, B>, AllocError>
-        ensures number { OnOk result (desk.now.next < 2 ^ 64 - 1) }
-        ensures same { self.new ≡ self.old }
+    /// [`IocError::JournalFull`] where entries and held places make the limit, and else [`IocError::NoMemory`] where memory is wanting.
+    pub fn reserve(&mut self) -> Result<Place<K, B>, IocError>
+        ensures held { IfOk result (λ _. HoldsOne self.old self.new) }
+        ensures refused { IfErr result (HoldsNone self.old) }
+        ensures same { OnErr result (self.new ≡ self.old) }
     {
-        if desk.next == u64::MAX {
-            return Err(AllocError);
-        }
         self.entries.hold()
     }
 
-    /// Takes back a place whose call wasn't made.
+    /// Takes back a place whose call wasn't made: it is free again.
     pub fn give_back(&mut self, place: Place<K, B>)
-        ensures { self.new ≡ self.old }
+        ensures { self.old ≡ one_more_held self.new }
     {
         self.entries.give_back(place);
     }
@@ -112,15 +125,15 @@ impl<K: RecordKind, B: Base<K>> Journal<K, B> {
         desk: &mut Desk<K, B>,
         entry: Entry,
     ) -> Receipt<K, B>
-        requires number { desk.old.next < 2 ^ 64 - 1 }
         requires table { (cell.now.table.shared.table_id ≡ B.table) × (set.old.table_id ≡ B.table) }
         requires set { IsHolder (cell_view set.old) × AreRecords (cell_view set.old).owns }
         requires follows { MayFollow K.rules B.base (cell_view set.old).seen (cell_view set.old).owns entry }
         ensures call { Call K.rules B.base desk.old entry desk.new }
         ensures receipt { result ≡ desk.new.seen }
-        ensures list { desk.new.seen ≡ self.new }
-        ensures set { (set.new.table_id ≡ set.old.table_id) × (cell_view set.new ≡ holder self.new (cell_view set.old).owns) }
-        ensures added { Added K.rules B.base (cell_view set.old).seen (cell_view set.old).owns entry self.old self.new }
+        ensures list { self.new ≡ places_of desk.new.seen self.new.held self.old.limit }
+        ensures held { self.old.held ≡ self.new.held + 1 }
+        ensures set { (set.new.table_id ≡ set.old.table_id) × (cell_view set.new ≡ holder self.new.filled (cell_view set.old).owns) }
+        ensures added { Added K.rules B.base (cell_view set.old).seen (cell_view set.old).owns entry self.old.filled self.new.filled }
     {
         let made = JournalEntry {
             desk: desk.number,
@@ -151,7 +164,6 @@ impl<K: RecordKind, B: Base<K>> Journal<K, B> {
         desk: &mut Desk<K, B>,
         entry: Entry,
     ) -> Receipt<K, B>
-        requires number { desk.old.next < 2 ^ 64 - 1 }
         requires table { (cell.now.table.shared.table_id ≡ B.table) × (one.old.table_id ≡ B.table) × (other.old.table_id ≡ B.table) }
         requires one { IsHolder (cell_view one.old) × AreRecords (cell_view one.old).owns }
         requires other { IsHolder (cell_view other.old) × AreRecords (cell_view other.old).owns }
@@ -160,10 +172,11 @@ impl<K: RecordKind, B: Base<K>> Journal<K, B> {
         requires follows { BothMayFollow K.rules B.base (cell_view one.old).seen (cell_view one.old).owns (cell_view other.old).seen (cell_view other.old).owns entry }
         ensures call { Call K.rules B.base desk.old entry desk.new }
         ensures receipt { result ≡ desk.new.seen }
-        ensures list { desk.new.seen ≡ self.new }
-        ensures one { (one.new.table_id ≡ one.old.table_id) × (cell_view one.new ≡ holder self.new P.keys) }
-        ensures other { (other.new.table_id ≡ other.old.table_id) × (cell_view other.new ≡ holder self.new P.rest) }
-        ensures added { AddedByBoth K.rules B.base (cell_view one.old).seen (cell_view one.old).owns (cell_view other.old).seen (cell_view other.old).owns entry self.old self.new }
+        ensures list { self.new ≡ places_of desk.new.seen self.new.held self.old.limit }
+        ensures held { self.old.held ≡ self.new.held + 1 }
+        ensures one { (one.new.table_id ≡ one.old.table_id) × (cell_view one.new ≡ holder self.new.filled P.keys) }
+        ensures other { (other.new.table_id ≡ other.old.table_id) × (cell_view other.new ≡ holder self.new.filled P.rest) }
+        ensures added { AddedByBoth K.rules B.base (cell_view one.old).seen (cell_view one.old).owns (cell_view other.old).seen (cell_view other.old).owns entry self.old.filled self.new.filled }
     {
         let number = desk.number;
         let call = desk.next;
@@ -188,10 +201,10 @@ impl<K: RecordKind, B: Base<K>> Journal<K, B> {
     pub fn compare<R: Wait>(&mut self, rt: &R, cell: &Cell, one: &mut Token, other: &mut Token)
         requires table { (cell.now.table.shared.table_id ≡ B.table) × (one.old.table_id ≡ B.table) × (other.old.table_id ≡ B.table) }
         requires holders { IsHolder (cell_view one.old) × IsHolder (cell_view other.old) }
-        ensures one { (one.new.table_id ≡ one.old.table_id) × (cell_view one.new ≡ holder self.old (cell_view one.old).owns) }
-        ensures other { (other.new.table_id ≡ other.old.table_id) × (cell_view other.new ≡ holder self.old (cell_view other.old).owns) }
-        ensures goes_on { Continues (cell_view one.old).seen (cell_view one.old).owns self.old × Continues (cell_view other.old).seen (cell_view other.old).owns self.old }
-        ensures legal { IsSound K.rules B.base × IsLegal K.rules B.base self.old }
+        ensures one { (one.new.table_id ≡ one.old.table_id) × (cell_view one.new ≡ holder self.old.filled (cell_view one.old).owns) }
+        ensures other { (other.new.table_id ≡ other.old.table_id) × (cell_view other.new ≡ holder self.old.filled (cell_view other.old).owns) }
+        ensures goes_on { Continues (cell_view one.old).seen (cell_view one.old).owns self.old.filled × Continues (cell_view other.old).seen (cell_view other.old).owns self.old.filled }
+        ensures legal { IsSound K.rules B.base × IsLegal K.rules B.base self.old.filled }
         ensures apart { (key : Key) → Has key (cell_view one.old).owns → Has key (cell_view other.old).owns → ⊥ }
         ensures same { self.new ≡ self.old }
     {

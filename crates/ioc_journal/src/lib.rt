@@ -11,6 +11,8 @@ pub mod desk;
 mod ending;
 pub mod entries;
 pub mod journal;
+pub mod limits;
+mod lookup;
 pub mod receipt;
 
 pub use base::Base;
@@ -18,4 +20,5 @@ pub use book::Book;
 pub use desk::Desk;
 pub use entries::{Entries, PLACES, Place, Places};
 pub use journal::Journal;
+pub use limits::Limits;
 pub use receipt::Receipt;

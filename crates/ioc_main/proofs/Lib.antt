@@ -6,3 +6,4 @@ pub mod Reading
 pub mod Beginning
 pub mod Getting
 pub mod Bracing
+pub mod Telling

@@ -12,7 +12,7 @@ ghost use Rattle.ioc_machine.specs.SeenMachine.{machine_of};
 ghost use Rattle.ioc_main.specs.Replay.{Answered, channel, processed, got, were_put, answers_next, were_completed, given_value, carried_out, answered, were_notified, attended, ended_lines};
 ghost use Rattle.ioc_script.specs.Replies.{reply_words, tally_words, count_words};
 ghost use Rattle.ioc_main.specs.Relink.{were_linked};
-ghost use Rattle.ioc_script.specs.Script.{command_of};
+ghost use Rattle.ioc_script.specs.Script.{command_of, is_silent, put_of, before, behind};
 ghost use Rattle.ioc_script.specs.Seen.{seen};
 ghost use Rattle.ioc_main.specs.Sets.{sets_line};
 ghost use Rattle.ioc_main.specs.Coming.{Stands};
@@ -27,7 +27,9 @@ use ioc_names::Names;
 use ioc_notify::NotifyId;
 use ioc_record::add_text;
 use ioc_scan::{ListName, Period};
-use ioc_script::{Command, count_line, ended_line, say_effect, say_refusal, say_reply, tally_line};
+use ioc_script::{
+    Command, count_line, ended_line, say_effect, say_refusal, say_reply, split_before, tally_line,
+};
 use ioc_store::Store;
 use ioc_types::Record;
 use ioc_values::{Finished, Input, IocError, Text, Value};
@@ -397,6 +399,69 @@ impl Replay {
         Ok(())
     }
 
+    // Puts what the words behind `put` say: a command is as wide as the widest of all lines, and is made for none of these.
+    #[inline(always)]
+    #[tactic(auto, unfolding(crate::specs::Replay::carried_out))]
+    fn put_words(&mut self, words: &[u8], replies: &mut Replies) -> Result<(), AllocError>
+        requires { length replies.old + 256 ≤ 4096 }
+        ensures names { self.new.names ≡ self.old.names }
+        ensures machine { OnOk result (machine_of self.new.machine ≡ (carried_out record_rules self.old.names (machine_of self.old.machine) (put_of (before 32 words.now) (behind 32 words.now))).machine) }
+        ensures said { OnOk result (replies.new ≡ replies.old ++ (carried_out record_rules self.old.names (machine_of self.old.machine) (put_of (before 32 words.now) (behind 32 words.now))).said) }
+        ensures kept { OnErr result (replies.new ≡ replies.old) }
+    {
+        let (word, rest) = split_before(words, b' ');
+        let (record, named) = split_before(word, b'.');
+        match (named, rest) {
+            ([], _) => {
+                replies.extend(b"bad\n");
+                Ok(())
+            }
+            ([_, field @ ..], []) => self.put(record, field, b"", replies),
+            ([_, field @ ..], [_, text @ ..]) => self.put(record, field, text, replies),
+        }
+    }
+
+    // Does what a line of whatever kind asks for, and answers whether it asks for nothing. This isn't inlined, so that nothing is cleared
+    // for other lines where one puts.
+    #[inline(never)]
+    fn do_any(&mut self, line: &[u8], said: &mut Said) -> Result<bool, AllocError>
+        requires room { length said.old.replies + 256 ≤ 4096 }
+        requires none { said.old.more.items ≡ [] }
+        ensures silent { IfOk result (λ silent. silent ≡ is_silent (command_of line.now)) }
+        ensures names { self.new.names ≡ self.old.names }
+        ensures machine { OnOk result (machine_of self.new.machine ≡ (carried_out record_rules self.old.names (machine_of self.old.machine) (command_of line.now)).machine) }
+        ensures said { OnOk result (said.new.replies ++ said.new.more.items ≡ said.old.replies ++ (carried_out record_rules self.old.names (machine_of self.old.machine) (command_of line.now)).said) }
+        ensures stands { Stands said.old.replies said.new.replies }
+    {
+        let command = Command::from_line(line);
+        self.carry_out(&command, said)?;
+        Ok(command.is_silent())
+    }
+
+    // The same. A line that puts is told by its first bytes, since most lines with a value are these.
+    #[inline(always)]
+    #[tactic(auto, using(crate::proofs::Telling::put_command, crate::proofs::Telling::put_speaks, crate::proofs::Getting::said_shortly, crate::proofs::Getting::stands_before, crate::proofs::Getting::stands_alone))]
+    fn do_line(&mut self, line: &[u8], said: &mut Said) -> Result<bool, AllocError>
+        requires room { length said.old.replies + 256 ≤ 4096 }
+        requires none { said.old.more.items ≡ [] }
+        ensures silent { IfOk result (λ silent. silent ≡ is_silent (command_of line.now)) }
+        ensures names { self.new.names ≡ self.old.names }
+        ensures machine { OnOk result (machine_of self.new.machine ≡ (carried_out record_rules self.old.names (machine_of self.old.machine) (command_of line.now)).machine) }
+        ensures said { OnOk result (said.new.replies ++ said.new.more.items ≡ said.old.replies ++ (carried_out record_rules self.old.names (machine_of self.old.machine) (command_of line.now)).said) }
+        ensures stands { Stands said.old.replies said.new.replies }
+    {
+        if line.len() > 1024 {
+            return self.do_any(line, said);
+        }
+        match line {
+            [b'p', b'u', b't', b' ', words @ ..] => {
+                self.put_words(words, &mut said.replies)?;
+                Ok(false)
+            }
+            _ => self.do_any(line, said),
+        }
+    }
+
     // Tells which puts with notification have ended, each in a line, and forgets them. This isn't inlined, since after most lines none
     // has.
     #[inline(never)]
@@ -427,6 +492,7 @@ impl Replay {
     }
 
     // Serves the requests that wait, and tells which puts with notification have ended.
+    #[inline(always)]
     #[tactic(auto, unfolding(crate::specs::Replay::attended))]
     fn attend(&mut self, more: &mut Vec<u8>) -> Result<(), AllocError>
         ensures names { self.new.names ≡ self.old.names }
@@ -450,9 +516,8 @@ impl Session for Replay {
     /// Answers a line, then serves the requests that wait, and tells which puts with notification have ended since.
     #[tactic(auto, unfolding(crate::specs::Replay::answered))]
     fn answer(&mut self, line: &[u8], said: &mut Said) -> Result<(), AllocError> {
-        let command = Command::from_line(line);
-        self.carry_out(&command, said)?;
-        if !command.is_silent() {
+        let silent = self.do_line(line, said)?;
+        if !silent {
             self.attend(&mut said.more)?;
         }
         Ok(())

@@ -1,11 +1,12 @@
 //! Names as keys of a hash table.
 ghost use Rattle.std.specs.Prelude.{◌≡◌, ◌≤◌, nat_eq, length};
 ghost use Rattle.std.specs.Hash as fed;
-ghost use Rattle.std.specs.Cmp.Lexicographic.{pointwise, nat_list_eq_equiv};
+ghost use Rattle.std.specs.Cmp.Lexicographic.{pointwise, bytes_decides, nat_list_eq_equiv};
 ghost use Rattle.std.specs.Cmp.{partial_equiv_from_equiv};
 ghost use Rattle.std.specs.Cmp.Rules.{hashing};
-ghost use Rattle.std.proofs.Common.{rules};
+ghost use Rattle.std.proofs.Common.{ap, rules};
 
+use indexmap::Equivalent;
 use ioc_values::Name;
 use std::hash::{Hash, Hasher};
 use std::marker::Model;
@@ -49,6 +50,19 @@ impl PartialEq for NameKey {
 
 impl Eq for NameKey {
     ghost laws = { nat_list_eq_equiv };
+}
+
+/// The bytes of a name stand for its key, so that a name is looked up where it lies.
+impl Equivalent<NameKey> for &[u8] {
+    ghost equivalent = { λ q k. pointwise nat_eq q.now k };
+
+    ghost respects_hash = { λ q k h. ap (fed.slice fed.u8) ((bytes_decides q.now k).0 h) };
+
+    ghost respects_eq = { λ q x y. nat_list_eq_equiv.congr q.now x y };
+
+    fn equivalent(&self, key: &NameKey) -> bool {
+        *self == key.name.as_slice()
+    }
 }
 
 impl Hash for NameKey {

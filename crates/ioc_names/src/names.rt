@@ -67,8 +67,7 @@ impl Names {
         ensures known { IfSome result (λ number. number < self.now.count) }
     {
         let numbers = &self.numbers;
-        let key = NameKey::new(Name::from_slice(name)?);
-        numbers.get(&key).copied()
+        numbers.get(name).copied()
     }
 
     /// A new record has this name, and the next number, from 0 on. No record has the name yet: see `find`.

@@ -54,6 +54,13 @@ impl LiveNumbers {
         self.items.len()
     }
 
+    /// Those that are live, in the order in which they began.
+    pub fn as_slice(&self) -> &[Live]
+        ensures { result.now ≡ self.now.live }
+    {
+        self.items.as_slice()
+    }
+
     /// The notification of this number begins: one record or waiting list has it.
     pub fn begin(&mut self, number: NotifyId)
         requires { length self.old.live < 256 }

@@ -32,6 +32,11 @@ abbrev pub behind : ℕ → List ℕ → Option (List ℕ)
 behind separator [] = None
 behind separator (b ∷ bs) = if b == separator then Some bs else behind separator bs
 
+-- what stands behind the first byte, where there is one
+abbrev pub behind_first : List ℕ → Option (List ℕ)
+behind_first [] = None
+behind_first (b ∷ bs) = Some bs
+
 -- what a line asks for, its records and fields by their names
 pub data Command : Type 0 where
   Silent : Command

@@ -8,5 +8,5 @@ mod reply_line;
 
 pub use command::Command;
 pub use counts::{count_line, ended_line, notify_line, tally_line};
-pub use parts::cut_at;
+pub use parts::{cut_at, split_before};
 pub use reply_line::{LineReply, say_effect, say_refusal, say_reply};

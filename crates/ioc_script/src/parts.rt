@@ -1,7 +1,25 @@
 //! The parts of a line.
 ghost use Rattle.std.specs.Prelude.{◌≡◌};
 ghost use Rattle.std.specs.Prelude.{option_map};
-ghost use Rattle.ioc_script.specs.Script.{before, behind};
+ghost use Rattle.ioc_script.specs.Script.{before, behind, behind_first};
+
+/// What stands before the first such byte, and what stands from it on.
+#[inline(always)]
+pub fn split_before(bytes: &[u8], separator: u8) -> (&[u8], &[u8])
+    ensures front { result.0.now ≡ before separator bytes.now }
+    ensures back { behind_first result.1.now ≡ behind separator bytes.now }
+{
+    let mut rest = bytes;
+    let mut count = 0;
+    while let [first, after @ ..] = rest {
+        if *first == separator {
+            return bytes.split_at(count);
+        }
+        count += 1;
+        rest = after;
+    }
+    (bytes, &[])
+}
 
 /// What stands before the first such byte, and what stands behind it, where there is one.
 pub fn cut_at(bytes: &[u8], separator: u8) -> (&[u8], Option<&[u8]>)

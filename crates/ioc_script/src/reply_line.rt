@@ -61,6 +61,20 @@ pub fn say_reply<const CAP: usize>(out: &mut Room<CAP>, reply: &Reply)
     }
 }
 
+// Says the outcome of a request in a line, each of a length that is known where it is copied.
+#[tactic(auto, unfolding(crate::specs::Replies::outcome_words))]
+fn say_outcome<const CAP: usize>(out: &mut Room<CAP>, outcome: Outcome)
+    requires { length out.old + 256 ≤ CAP }
+    ensures { out.new ≡ out.old ++ outcome_words outcome ++ 10 ∷ [] }
+{
+    match outcome {
+        Outcome::Processed => out.extend(b"ok processed\n"),
+        Outcome::Disabled => out.extend(b"ok disabled\n"),
+        Outcome::Active => out.extend(b"ok active\n"),
+        Outcome::Reprocess => out.extend(b"ok reprocess\n"),
+    }
+}
+
 /// Says what a request or a put came to in a line behind others, its line feed included. There must be room for 256 bytes.
 #[tactic(auto, using(crate::proofs::Words::outcome_short))]
 pub fn say_effect<const CAP: usize>(out: &mut Room<CAP>, effect: &Effect)
@@ -68,9 +82,9 @@ pub fn say_effect<const CAP: usize>(out: &mut Room<CAP>, effect: &Effect)
     ensures { out.new ≡ out.old ++ reply_words (reply_of effect.now) ++ 10 ∷ [] }
 {
     match effect {
-        Ok(Some(outcome)) => say_words(out, outcome_words(*outcome).as_bytes()),
+        Ok(Some(outcome)) => say_outcome(out, *outcome),
         Ok(None) => say_words(out, b"ok"),
-        Err(refused) => say_refusal(out, *refused),
+        Err(refused) => say_refusal(out, refused.error()),
     }
 }
 

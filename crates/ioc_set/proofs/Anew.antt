@@ -1,35 +1,57 @@
 -- A set that begins anew: its history is forgotten.
-use Rattle.std.proofs.Common.{◌≡◌, List, [], refl, sym, subst}
+use Rattle.std.proofs.Common.{◌≡◌, List, [], refl, sym, ap, subst, ◌∙◌}
 use Rattle.ioc_ledger.specs.declared.tally.Tally.{Tally}
 use Rattle.ioc_record.specs.RecordRules.{RecordRules}
 use Rattle.ioc_members.specs.Contents.{Records, Contents, AreLike, RecordsAreLikeTheirBase, record_at}
 use Rattle.ioc_events.specs.declared.event.Entry.{Entry}
-use Rattle.ioc_set.specs.Held.{folded}
+use Rattle.ioc_set.specs.Puts.{Puts, no_puts, AreNone, begun_with}
+use Rattle.ioc_set.specs.Held.{Held, NoneIsLive, folded}
 use Rattle.ioc_set.specs.Doing.{held_by}
 use Rattle.ioc_set.specs.Linking.{anew}
 
+-- none is live or waits, and none was or did before the history
+abbrev pub WereNone : Puts → Type 0
+WereNone p = AreNone p × ((p.base_live ≡ []) × (p.base_waiting ≡ []))
+
+-- where none is live when a history begins, none was before it
+pub begun_none : (p q : Puts) → AreNone p → q ≡ begun_with p → WereNone q
+begun_none p q none is = (
+  (ap (λ (x : Puts). x.live) is ∙ none.0, ap (λ (x : Puts). x.waiting) is ∙ none.1),
+  (ap (λ (x : Puts). x.base_live) is ∙ none.0, ap (λ (x : Puts). x.base_waiting) is ∙ none.1),
+)
+
+pub were_none : (p : Puts) → p ≡ no_puts → WereNone p
+were_none p is = (
+  (ap (λ (x : Puts). x.live) is, ap (λ (x : Puts). x.waiting) is),
+  (ap (λ (x : Puts). x.base_live) is, ap (λ (x : Puts). x.base_waiting) is),
+)
+
 module _ {R D : Type 0} where
-  pub begun_anew : (c : Contents R D) (b t : Tally) (entries : List Entry) → c.base ≡ c.records → b ≡ t → entries ≡ [] → held_by c b t entries ≡ anew c.records c.devices t
-  begun_anew c b t entries base same none = λ i. record {
+  -- what is live on a set, by what it holds
+  pub none_inside : (c : Contents R D) (p : Puts) (b t : Tally) (entries : List Entry) (h : Held R D) → held_by c p b t entries ≡ h → NoneIsLive h → AreNone p
+  none_inside c p b t entries h is none = (ap (λ (x : Held R D). x.live) is ∙ none.0, ap (λ (x : Held R D). x.waiting) is ∙ none.1)
+
+  pub begun_anew : (c : Contents R D) (p : Puts) (b t : Tally) (entries : List Entry) → WereNone p → c.base ≡ c.records → b ≡ t → entries ≡ [] → held_by c p b t entries ≡ anew c.records c.devices t
+  begun_anew c p b t entries none base same forgotten = λ i. record {
     records = c.records;
     devices = c.devices;
-    live = [];
-    waiting = [];
+    live = none.0.0 i;
+    waiting = none.0.1 i;
     tally = t;
-    base = record { records = base i; live = []; waiting = []; tally = same i };
-    history = none i;
+    base = record { records = base i; live = none.1.0 i; waiting = none.1.1 i; tally = same i };
+    history = forgotten i;
   }
 
-  pub begun_folded : (before after : Contents R D) (b b' t : Tally) (entries entries' : List Entry) → after ≡ record before { base = before.records } → b' ≡ t → entries' ≡ []
-      → held_by after b' t entries' ≡ folded (held_by before b t entries)
-  begun_folded before after b b' t entries entries' is same none = λ i. record {
+  pub begun_folded : (before after : Contents R D) (p q : Puts) (b b' t : Tally) (entries entries' : List Entry) → after ≡ record before { base = before.records } → q ≡ begun_with p → b' ≡ t → entries' ≡ []
+      → held_by after q b' t entries' ≡ folded (held_by before p b t entries)
+  begun_folded before after p q b b' t entries entries' is puts same forgotten = λ i. record {
     records = (is i).records;
     devices = (is i).devices;
-    live = [];
-    waiting = [];
+    live = (puts i).live;
+    waiting = (puts i).waiting;
     tally = t;
-    base = record { records = (is i).base; live = []; waiting = []; tally = same i };
-    history = none i;
+    base = record { records = (is i).base; live = (puts i).base_live; waiting = (puts i).base_waiting; tally = same i };
+    history = forgotten i;
   }
 
   -- a record that is its own base is like it

@@ -1,8 +1,6 @@
 -- Counts that add up: none yet, and those of two sets together.
-use Rattle.std.proofs.Common.{◌≡◌, ◌+◌, ◌-◌, ◌^◌, inl, inr, arith}
-use Rattle.std.proofs.lemmas.Bool.{cases_lt}
+use Rattle.std.proofs.Common.{◌≡◌, inr, arith}
 use Rattle.ioc_ledger.specs.declared.tally.Tally.{Tally}
-use Rattle.ioc_ledger.specs.Requests.{AddsUp}
 use Rattle.ioc_set.specs.Linking.{added}
 use Rattle.ioc_set.specs.Sound.{CountsAddUp}
 use Rattle.ioc_set.proofs.Sums.{added_fits, added_adds_up}

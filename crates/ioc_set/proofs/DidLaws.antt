@@ -4,15 +4,17 @@ use Rattle.ioc_device.specs.declared.Ask.{Ask}
 use Rattle.ioc_device.specs.declared.Answer.{Answer}
 use Rattle.ioc_ledger.specs.declared.tally.Tally.{Tally}
 use Rattle.ioc_ledger.specs.Requests.{Requests}
+use Rattle.ioc_notify.specs.declared.live_numbers.Live.{Live}
+use Rattle.ioc_notify.specs.declared.waiting_lists.Waiting.{Waiting}
 use Rattle.ioc_record.specs.RecordRules.{RecordRules}
 use Rattle.ioc_members.specs.Contents.{Records, Contents, DevicesAreOwned, BaseHasTheSame}
 use Rattle.ioc_store.specs.declared.call.Call.{Call}
+use Rattle.ioc_store.specs.declared.notifications.Notifications.{Notifications}
 use Rattle.ioc_store.specs.World.{World, IsClosed, Keeps, at, begun, begun_at}
 use Rattle.ioc_store.specs.Given.{Answers, Begins, DevicesWork, calls_of, answers_of, listed}
 use Rattle.ioc_process.specs.Answering.{listed-accords}
 use Rattle.ioc_process.specs.Runs.{ForAnswers}
 use Rattle.ioc_events.specs.declared.event.Event.{Event}
-use Rattle.ioc_events.specs.declared.event.Event.TheVariants.{Get, Process, Put, Complete, Link, Notify, Cancel, IsLive}
 use Rattle.ioc_events.specs.declared.event.Entry.{Entry}
 use Rattle.ioc_events.specs.declared.reply.Reply.{Reply}
 use Rattle.ioc_events.specs.declared.reply.Reply.TheVariants.{Notify as Notify-reply}
@@ -23,30 +25,21 @@ use Rattle.ioc_events.specs.Holding.{IsCounted}
 use Rattle.ioc_set.specs.declared.set_store.SetStore.{SetStore}
 use Rattle.ioc_set.specs.SetStore.{world_of, given_of}
 use Rattle.ioc_set.specs.Attached.{AttachedGives, attached_in}
+use Rattle.ioc_set.specs.Puts.{Puts, AreNone, now_with}
 use Rattle.ioc_set.specs.Held.{resting}
 use Rattle.ioc_set.specs.Sound.{is_put_with_notification}
-use Rattle.ioc_set.specs.Doing.{is_ordinary, with_records, Did}
+use Rattle.ioc_set.specs.Doing.{with_kept, Did}
 use Rattle.ioc_set.proofs.AttachedLaws.{base_kept, worked}
 
-ordinary_alone : (event : Event) → is_ordinary event ≡ true → is_put_with_notification event ≡ true → ⊥
-ordinary_alone (Get s field) is put = absurd (let z : false ≡ true = is in cc)
-ordinary_alone (Process s) is put = absurd (let z : false ≡ true = put in cc)
-ordinary_alone (Put s field given) is put = absurd (let z : false ≡ true = put in cc)
-ordinary_alone (Complete s n x) is put = absurd (let z : false ≡ true = put in cc)
-ordinary_alone (Link s field link) is put = absurd (let z : false ≡ true = is in cc)
-ordinary_alone (Notify s n field given) is put = absurd (let z : false ≡ true = is in cc)
-ordinary_alone (Cancel n) is put = absurd (let z : false ≡ true = is in cc)
-ordinary_alone (IsLive n) is put = absurd (let z : false ≡ true = is in cc)
-
--- an event begins on a store that has these records, and no put with notification
-pub starts : {R D : Type 0} (s : SetStore R D) (rs : Records R) (moment : ℕ) → s.members.records ≡ rs → (world_of s).live ≡ [] → (world_of s).waiting ≡ []
-    → begun_at moment (world_of s) ≡ begun_at moment (resting rs [] [])
+-- an event begins on a store that has these records and these puts with notification
+pub starts : {R D : Type 0} (s : SetStore R D) (rs : Records R) (live : List Live) (waiting : List Waiting) (moment : ℕ) → s.members.records ≡ rs → (world_of s).live ≡ live → (world_of s).waiting ≡ waiting
+    → begun_at moment (world_of s) ≡ begun_at moment (resting rs live waiting)
 unfolding begun_at begun
-starts s rs moment r l w = λ i. record { records = r i; moment = moment; calls = []; outbox = []; dropped = 0; live = l i; ended = []; waiting = w i }
+starts s rs live waiting moment r l w = λ i. record { records = r i; moment = moment; calls = []; outbox = []; dropped = 0; live = l i; ended = []; waiting = w i }
 
-pub closed_begun : {R : Type 0} (k : RecordRules R) (rs : Records R) (moment : ℕ) → IsClosed k (resting rs [] []) → IsClosed k (begun_at moment (resting rs [] []))
+pub closed_begun : {R : Type 0} (k : RecordRules R) (rs : Records R) (live : List Live) (waiting : List Waiting) (moment : ℕ) → IsClosed k (resting rs live waiting) → IsClosed k (begun_at moment (resting rs live waiting))
 unfolding at begun_at begun
-closed_begun k rs moment c = record { closed = c.closed }
+closed_begun k rs live waiting moment c = record { closed = c.closed }
 
 no_calls : {R : Type 0} (moment : ℕ) (w : World R) → (begun_at moment w).calls ≡ []
 unfolding begun_at begun
@@ -60,12 +53,15 @@ module _ {R D : Type 0} (k : RecordRules R) (gives : D → Ask → ℕ → Answe
     (allowed : (answers : Answers) (w : World R) (event : Event) → Step k answers w event (stepped k answers w event).world (stepped k answers w event).reply (stepped k answers w event).requests)
     (stays : (w after : World R) (entry : Entry) → Replay k w (entry ∷ []) after → IsCounted k w → w.live ≡ [] → ((n : ℕ) → entry.reply ≢ Notify-reply n) → (after.live ≡ []) × (after.waiting ≡ []))
     (begin : (answers : Answers) (w after : World R) (event : Event) (reply : Reply) (requests : Requests) (n : ℕ) → Step k answers w event after reply requests → reply ≡ Notify-reply n → is_put_with_notification event ≡ true)
-    (before : Contents R D) (t counts : Tally) (s s' s'' : SetStore R D) (event : Event) (reply : Reply) (moment : ℕ) (answers : List Answer)
-    (start : world_of s ≡ begun_at moment (resting before.records [] []))
+    (before : Contents R D) (was : Puts) (t counts : Tally) (s s' : SetStore R D) (event : Event) (reply : Reply) (moment : ℕ) (answers : List Answer)
+    (start : world_of s ≡ begun_at moment (resting before.records was.live was.waiting))
     (tells : ForAnswers (given_of s') (λ given. Tells (world_of s) (world_of s') reply t counts event (stepped k given (world_of s) event)))
     (copied : answers ≡ answers_of (calls_of s'.event.calls)) where
+  abbrev w : World R
+  w = resting before.records was.live was.waiting
+
   abbrev w0 : World R
-  w0 = begun_at moment (resting before.records [] [])
+  w0 = begun_at moment w
 
   abbrev done : Stepped R
   done = stepped k (listed answers) w0 event
@@ -82,41 +78,55 @@ module _ {R D : Type 0} (k : RecordRules R) (gives : D → Ask → ℕ → Answe
   used : answers_of done.world.calls ≡ answers
   used = ap (λ (w : World R). answers_of w.calls) (sym told.world) ∙ sym copied
 
-  none : is_ordinary event ≡ true → IsCounted k (resting before.records [] []) → (done.world.live ≡ []) × (done.world.waiting ≡ [])
-  none ordinary counted =
+  none : (is_put_with_notification event ≡ true → ⊥) → IsCounted k w → was.live ≡ [] → (done.world.live ≡ []) × (done.world.waiting ≡ [])
+  none other counted nobody =
       let entry : Entry = record { moment = moment; event = event; answers = answers; reply = reply } in
-      stays (resting before.records [] []) done.world entry (and_then step used at_the_end) counted refl
-      (λ n is. ordinary_alone event ordinary (begin (listed answers) w0 done.world event reply done.requests n step is))
+      stays w done.world entry (and_then step used at_the_end) counted nobody
+      (λ n is. other (begin (listed answers) w0 done.world event reply done.requests n step is))
 
-  pub none_here : is_ordinary event ≡ true → IsCounted k (resting before.records [] []) → ((world_of s').live ≡ []) × ((world_of s').waiting ≡ [])
-  none_here ordinary counted = let n = none ordinary counted in (ap (λ (w : World R). w.live) told.world ∙ n.0, ap (λ (w : World R). w.waiting) told.world ∙ n.1)
+  -- where no room was taken for puts with notification, none is live after it
+  pub none_here : (is_put_with_notification event ≡ true → was.has_room ≡ true) → (was.has_room ≡ false → AreNone was) → IsCounted k w → was.has_room ≡ false → ((world_of s').live ≡ []) × ((world_of s').waiting ≡ [])
+  none_here room roomless counted without =
+      let n = none (λ put. let z : false ≡ true = sym without ∙ room put in cc) counted (roomless without).0 in
+      (ap (λ (w : World R). w.live) told.world ∙ n.0, ap (λ (w : World R). w.waiting) told.world ∙ n.1)
 
-  module _ (ordinary : is_ordinary event ≡ true) (counted : IsCounted k (resting before.records [] []))
-      (held : s.members ≡ before) (same_event : s''.event ≡ s'.event)
+  module _ (held : s.members ≡ before)
       (keeps : Keeps k (world_of s) (world_of s')) (begins : Begins (AttachedGives {R = R} gives) (given_of s) (given_of s'))
-      (owned : DevicesAreOwned before) (same : BaseHasTheSame before) (after : Contents R D) (now : after ≡ s'.members) (owned_then : DevicesAreOwned after) (same_then : BaseHasTheSame after) where
+      (owned : DevicesAreOwned before) (same : BaseHasTheSame before) (after : Contents R D) (now : after ≡ s'.members) (owned_then : DevicesAreOwned after) (same_then : BaseHasTheSame after)
+      (lent is : Puts) (was_lent : lent ≡ now_with was [] []) (taken : is ≡ now_with lent (world_of s').live (world_of s').waiting)
+      (left : Contents R D) (back : Notifications) (ended : back.ended.items ≡ (world_of s').ended) where
     work : DevicesWork (AttachedGives {R = R} gives) (attached_in before) moment done.world.calls (attached_in after)
     work =
         let calls : begins.more ≡ done.world.calls =
-        ap (λ (l : List Call). l ++ begins.more) (sym (ap (λ (w : World R). w.calls) start ∙ no_calls moment (resting before.records [] []))) ∙ sym begins.calls ∙ ap (λ (w : World R). w.calls) told.world in
-        let at : (given_of s).moment ≡ moment = ap (λ (w : World R). w.moment) start ∙ at_moment moment (resting before.records [] []) in
+        ap (λ (l : List Call). l ++ begins.more) (sym (ap (λ (w : World R). w.calls) start ∙ no_calls moment w)) ∙ sym begins.calls ∙ ap (λ (w : World R). w.calls) told.world in
+        let at : (given_of s).moment ≡ moment = ap (λ (w : World R). w.moment) start ∙ at_moment moment w in
         subst (λ (c : Contents R D). DevicesWork (AttachedGives {R = R} gives) (attached_in c) moment done.world.calls (attached_in after)) held
         (subst (λ (c : Contents R D). DevicesWork (AttachedGives {R = R} gives) (attached_in s.members) moment done.world.calls (attached_in c)) (sym now)
         (subst (λ (m : ℕ). DevicesWork (AttachedGives {R = R} gives) (attached_in s.members) m done.world.calls (attached_in s'.members)) at
         (subst (λ (l : List Call). DevicesWork (AttachedGives {R = R} gives) (attached_in s.members) (given_of s).moment l (attached_in s'.members)) calls begins.work)))
 
-    pub did : Did k gives before t (record { moment = moment; event = event; answers = answers; reply = reply }) after counts s''
+    -- what the event has come to, with what the set has taken back
+    same_world : with_kept after.records is.live is.waiting (world_of (record { members = left; event = record s'.event { notifications = back } })) ≡ world_of s'
+    same_world = λ i. record {
+      records = (now i).records;
+      moment = (world_of s').moment;
+      calls = (world_of s').calls;
+      outbox = (world_of s').outbox;
+      dropped = (world_of s').dropped;
+      live = (taken i).live;
+      ended = ended i;
+      waiting = (taken i).waiting;
+    }
+
+    pub did : Did k gives before was t (record { moment = moment; event = event; answers = answers; reply = reply }) after is counts (record { members = left; event = record s'.event { notifications = back } })
     did = record {
       reply = sym told.reply;
       answers = used;
       records = ap (λ (c : Contents R D). c.records) now ∙ ap (λ (w : World R). w.records) told.world;
       base = base_kept gives before after work;
-      none_live = (none ordinary counted).0;
-      none_waits = (none ordinary counted).1;
+      puts = taken ∙ (λ i. now_with (was_lent i) (told.world i).live (told.world i).waiting);
       tally = told.tally;
       work = worked gives before after work owned same owned_then same_then;
       keeps = subst (λ (w : World R). Keeps k w done.world) start (subst (λ (w : World R). Keeps k (world_of s) w) told.world keeps);
-      left =
-          (λ i. with_records (now i).records (world_of (record { members = s''.members; event = same_event i })))
-          ∙ told.world;
+      left = same_world ∙ told.world;
     }

@@ -6,6 +6,8 @@ use Rattle.std.specs.FinMap.{get}
 use Rattle.ioc_device.specs.declared.Ask.{Ask}
 use Rattle.ioc_device.specs.declared.Answer.{Answer}
 use Rattle.ioc_ledger.specs.declared.tally.Tally.{Tally}
+use Rattle.ioc_notify.specs.declared.live_numbers.Live.{Live}
+use Rattle.ioc_notify.specs.declared.waiting_lists.Waiting.{Waiting}
 use Rattle.ioc_record.specs.RecordRules.{RecordRules}
 use Rattle.ioc_members.specs.Contents.{Devices, Contents, RecordsAreLikeTheirBase}
 use Rattle.ioc_store.specs.World.{World, Keeps, at, begun, begun_at}
@@ -18,9 +20,10 @@ use Rattle.ioc_set.specs.declared.set_store.SetStore.{SetStore}
 use Rattle.ioc_set.specs.SetStore.{world_of}
 use Rattle.ioc_set.specs.Held.{Held, resting, now_of, folded, done_by, held_after}
 use Rattle.ioc_set.specs.Sound.{IsSound, TellsOf}
-use Rattle.ioc_set.specs.Doing.{is_ordinary, held_by, with_place, with_records, Did, Does}
+use Rattle.ioc_set.specs.Puts.{Puts}
+use Rattle.ioc_set.specs.Doing.{is_done_on_sets, held_by, with_place, with_kept, Did, Does}
 
-no_link : (event : Event) → is_ordinary event ≡ true → is_link_change event ≡ false
+no_link : (event : Event) → is_done_on_sets event ≡ true → is_link_change event ≡ false
 no_link (Get s field) is = refl
 no_link (Process s) is = refl
 no_link (Put s field given) is = refl
@@ -49,65 +52,82 @@ module _ {R D : Type 0} where
   placed_short true h is short = omega arith
   placed_short false h is short = below_full (length h.history) is short
 
+  -- a place for one event more changes nothing of what is there now
+  pub now_kept : (h h' : Held R D) → h' ≡ with_place h → now_of h' ≡ now_of h
+  now_kept h h' is = ap (λ (z : Held R D). now_of z) is ∙ placed_now (length h.history == 64) h
+
+  -- what a set holds speaks of no room
+  pub same_held : (c : Contents R D) (p q : Puts) (b t : Tally) (entries : List Entry) → q.live ≡ p.live → q.waiting ≡ p.waiting → q.base_live ≡ p.base_live → q.base_waiting ≡ p.base_waiting
+      → held_by c q b t entries ≡ held_by c p b t entries
+  same_held c p q b t entries live waiting base_live base_waiting = λ i. record {
+    records = c.records;
+    devices = c.devices;
+    live = live i;
+    waiting = waiting i;
+    tally = t;
+    base = record { records = c.base; live = base_live i; waiting = base_waiting i; tally = b };
+    history = entries;
+  }
+
   module _ (k : RecordRules R) where
     placed_sound : ((h : Held R D) → IsSound k h → IsSound k (folded h)) → (full : Bool) (h : Held R D) → IsSound k h → IsSound k (placed full h)
     placed_sound fold true h sound = fold h sound
     placed_sound fold false h sound = sound
 
-    alike : (before after : Contents R D) (moment : ℕ) (w : World R) → Keeps k (begun_at moment (resting before.records [] [])) w → after.records ≡ w.records → after.base ≡ before.base
+    alike : (before after : Contents R D) (live : List Live) (waiting : List Waiting) (moment : ℕ) (w : World R) → Keeps k (begun_at moment (resting before.records live waiting)) w → after.records ≡ w.records → after.base ≡ before.base
         → RecordsAreLikeTheirBase k before → RecordsAreLikeTheirBase k (record { records = w.records; devices = after.devices; base = before.base })
     unfolding at begun_at begun
-    alike before after moment w keeps rs base like q there =
+    alike before after live waiting moment w keeps rs base like q there =
         let was = like q (keeps.only q there) in
         let same = keeps.links q in
         record { same_type = was.same_type ∙ sym same.record_type; same_links = was.same_links ∙ sym same.links }
 
-    pub alike_after : (before after : Contents R D) (moment : ℕ) (w : World R) → Keeps k (begun_at moment (resting before.records [] [])) w → after.records ≡ w.records → after.base ≡ before.base
+    pub alike_after : (before after : Contents R D) (live : List Live) (waiting : List Waiting) (moment : ℕ) (w : World R) → Keeps k (begun_at moment (resting before.records live waiting)) w → after.records ≡ w.records → after.base ≡ before.base
         → RecordsAreLikeTheirBase k before → RecordsAreLikeTheirBase k after
-    alike_after before after moment w keeps rs base like =
+    alike_after before after live waiting moment w keeps rs base like =
         let same : record { records = w.records; devices = after.devices; base = before.base } ≡ after = λ i. record { records = sym rs i; devices = after.devices; base = sym base i } in
-        subst (λ (c : Contents R D). RecordsAreLikeTheirBase k c) same (alike before after moment w keeps rs base like)
+        subst (λ (c : Contents R D). RecordsAreLikeTheirBase k c) same (alike before after live waiting moment w keeps rs base like)
 
-    module _ (gives : D → Ask → ℕ → Answer → D → Type 0) (h : Held R D) (before : Contents R D) (b t : Tally) (entries : List Entry) (held : held_by before b t entries ≡ with_place h)
-        (entry : Entry) (after : Contents R D) (counts : Tally) (store : SetStore R D) (did : Did k gives before t entry after counts store) (ordinary : is_ordinary entry.event ≡ true)
+    module _ (gives : D → Ask → ℕ → Answer → D → Type 0) (h : Held R D) (before : Contents R D) (was : Puts) (b t : Tally) (entries : List Entry) (held : held_by before was b t entries ≡ with_place h)
+        (entry : Entry) (after : Contents R D) (is : Puts) (counts : Tally) (store : SetStore R D) (did : Did k gives before was t entry after is counts store) (done_here : is_done_on_sets entry.event ≡ true)
         (grown : List Entry) (grows : grown ≡ entries ++ entry ∷ []) where
-      same_after : held_by after b counts grown ≡ held_after k (held_by before b t entries) entry after.devices
+      same_after : held_by after is b counts grown ≡ held_after k (held_by before was b t entries) entry after.devices
       same_after = λ i. record {
         records = did.records i;
         devices = after.devices;
-        live = sym did.none_live i;
-        waiting = sym did.none_waits i;
+        live = (did.puts i).live;
+        waiting = (did.puts i).waiting;
         tally = did.tally i;
-        base = record { records = did.base i; live = []; waiting = []; tally = b };
+        base = record { records = did.base i; live = (did.puts i).base_live; waiting = (did.puts i).base_waiting; tally = b };
         history = grows i;
       }
 
-      tells : TellsOf k (held_by before b t entries) entry
-      tells = record { no_link_change = no_link entry.event ordinary; reply = did.reply; answers = did.answers }
+      tells : TellsOf k (held_by before was b t entries) entry
+      tells = record { no_link_change = no_link entry.event done_here; reply = did.reply; answers = did.answers }
 
       pub sound_then : ((h : Held R D) (entry : Entry) (devices : Devices D) → IsSound k h → length h.history < 64 → TellsOf k h entry → IsSound k (held_after k h entry devices))
-          → ((h : Held R D) → IsSound k h → IsSound k (folded h)) → IsSound k h → IsSound k (held_by after b counts grown)
+          → ((h : Held R D) → IsSound k h → IsSound k (folded h)) → IsSound k h → IsSound k (held_by after is b counts grown)
       sound_then event fold sound =
           let full = length h.history == 64 in
           let ready = subst (λ (z : Held R D). IsSound k z) (sym held) (placed_sound fold full h sound) in
           let short = subst (λ (z : Held R D). length z.history < 64) (sym held) (placed_short full h refl sound.short) in
-          subst (λ (z : Held R D). IsSound k z) (sym same_after) (event (held_by before b t entries) entry after.devices ready short tells)
+          subst (λ (z : Held R D). IsSound k z) (sym same_after) (event (held_by before was b t entries) entry after.devices ready short tells)
 
-      pub does : (moment : ℕ) (event : Event) → entry.moment ≡ moment → entry.event ≡ event → Does k gives h moment event entry.reply (held_by after b counts grown) (world_of store)
-      does moment event at_moment is =
+      pub does : (moment : ℕ) (event : Event) → entry.moment ≡ moment → entry.event ≡ event → Does k gives h moment event entry.reply (held_by after is b counts grown) (world_of store)
+      does moment event at_moment is_event =
           let full = length h.history == 64 in
-          let now : now_of (held_by before b t entries) ≡ now_of h = ap (λ (z : Held R D). now_of z) held ∙ placed_now full h in
+          let now : now_of (held_by before was b t entries) ≡ now_of h = ap (λ (z : Held R D). now_of z) held ∙ placed_now full h in
           let devices : before.devices ≡ h.devices = ap (λ (z : Held R D). z.devices) held ∙ placed_devices full h in
           record {
             entry = entry;
             moment = at_moment;
-            event = is;
+            event = is_event;
             answer = refl;
             tells = subst (λ (z : Held R D). TellsOf k z entry) held tells;
             after = same_after ∙ ap (λ (z : Held R D). held_after k z entry after.devices) held;
             work =
                 subst (λ (m : ℕ). DevicesWork gives (get h.devices) m (done_by k (now_of h) entry).world.calls (get after.devices)) at_moment
                 (subst (λ (w : World R). DevicesWork gives (get h.devices) entry.moment (done_by k w entry).world.calls (get after.devices)) now
-                (subst (λ (ds : Devices D). DevicesWork gives (get ds) entry.moment (done_by k (now_of (held_by before b t entries)) entry).world.calls (get after.devices)) devices did.work));
-            left = subst (λ (w : World R). with_records after.records (world_of store) ≡ (done_by k w entry).world) now did.left;
+                (subst (λ (ds : Devices D). DevicesWork gives (get ds) entry.moment (done_by k (now_of (held_by before was b t entries)) entry).world.calls (get after.devices)) devices did.work));
+            left = subst (λ (w : World R). with_kept after.records is.live is.waiting (world_of store) ≡ (done_by k w entry).world) now did.left;
           }

@@ -15,3 +15,4 @@ mod Linked
 mod PartLaws
 mod LeadLaws
 mod Sums
+mod Staying

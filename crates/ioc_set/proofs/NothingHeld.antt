@@ -13,9 +13,11 @@ use Rattle.ioc_process.specs.Rules.{IsSettled}
 use Rattle.ioc_events.specs.declared.event.Entry.{Entry}
 use Rattle.ioc_events.specs.StepRules.{at_the_end}
 use Rattle.ioc_events.specs.Holding.{IsCounted, HoldersAwait, holders, one_if_has}
-use Rattle.ioc_set.specs.Held.{resting}
+use Rattle.ioc_set.specs.Puts.{Puts, no_puts}
+use Rattle.ioc_set.specs.Held.{Held, resting, nothing_held, no_counts}
 use Rattle.ioc_set.specs.Sound.{IsSound, CountsAddUp}
 use Rattle.ioc_set.specs.Doing.{held_by}
+use Rattle.ioc_set.proofs.Anew.{WereNone}
 
 none_in : {A : Type 0} (x : A) → Contains [] x → ⊥
 none_in x c = let l = c.1 in omega arith
@@ -71,8 +73,20 @@ module _ {R : Type 0} (k : RecordRules R) (missing : targets k k.missing ≡ [])
     closed = λ a b n. absurd (none_some n.0 (sym (ap (λ (o : Option R). option_map (targets k) o) (none_at a)) ∙ n.1));
   }
 
+-- a set of nothing
+pub none_held : {R D : Type 0} (c : Contents R D) (p : Puts) (b t : Tally) (entries : List Entry) → c ≡ nothing → WereNone p → b ≡ no_counts → t ≡ no_counts → entries ≡ [] → held_by c p b t entries ≡ nothing_held
+none_held c p b t entries none puts before counts forgotten = λ i. record {
+  records = (none i).records;
+  devices = (none i).devices;
+  live = puts.0.0 i;
+  waiting = puts.0.1 i;
+  tally = counts i;
+  base = record { records = (none i).base; live = puts.1.0 i; waiting = puts.1.1 i; tally = before i };
+  history = forgotten i;
+}
+
 module _ {R D : Type 0} (k : RecordRules R) (missing : targets k k.missing ≡ []) where
-  sound : (t : Tally) → CountsAddUp t → IsSound k (held_by {R = R} {D = D} nothing t t [])
+  sound : (t : Tally) → CountsAddUp t → IsSound k (held_by {R = R} {D = D} nothing no_puts t t [])
   sound t counts = record {
     part = part k missing;
     settled = settled k missing;
@@ -85,11 +99,18 @@ module _ {R D : Type 0} (k : RecordRules R) (missing : targets k k.missing ≡ [
     short = omega arith;
   }
 
-  pub sound_anew : (c : Contents R D) (b t : Tally) (entries : List Entry) → c ≡ nothing → b ≡ t → entries ≡ [] → CountsAddUp t → IsSound k (held_by c b t entries)
-  sound_anew c b t entries none same forgotten counts =
-      subst (λ (m : Contents R D). IsSound k (held_by m b t entries)) (sym none)
-      (subst (λ (u : Tally). IsSound k (held_by {R = R} {D = D} nothing u t entries)) (sym same)
-      (subst (λ (l : List Entry). IsSound k (held_by {R = R} {D = D} nothing t t l)) (sym forgotten) (sound t counts)))
+  pub sound_anew : (c : Contents R D) (p : Puts) (b t : Tally) (entries : List Entry) → c ≡ nothing → WereNone p → b ≡ t → entries ≡ [] → CountsAddUp t → IsSound k (held_by c p b t entries)
+  sound_anew c p b t entries none puts same forgotten counts =
+      let is : held_by c p b t entries ≡ held_by {R = R} {D = D} nothing no_puts t t [] = λ i. record {
+        records = (none i).records;
+        devices = (none i).devices;
+        live = puts.0.0 i;
+        waiting = puts.0.1 i;
+        tally = t;
+        base = record { records = (none i).base; live = puts.1.0 i; waiting = puts.1.1 i; tally = same i };
+        history = forgotten i;
+      } in
+      subst (λ (h : Held R D). IsSound k h) (sym is) (sound t counts)
 
   pub like_anew : (c : Contents R D) → c ≡ nothing → RecordsAreLikeTheirBase k c
   like_anew c none = subst (λ (m : Contents R D). RecordsAreLikeTheirBase k m) (sym none) (λ q there. absurd (nowhere R q there))

@@ -1,21 +1,24 @@
--- One event on a lock set, as its caller finds it. For now no put with notification is live on a set.
--- Application Developer's Guide, "Runtime Database Access": dbGetField, dbPutField, dbProcess.
-use Rattle.std.specs.Prelude.{◌≡◌, ◌==◌, ℕ, Bool, true, false, if◌then◌else◌, List, [], length}
+-- One event on a lock set, as its caller finds it.
+-- Application Developer's Guide, "Runtime Database Access": dbGetField, dbPutField, dbProcess, dbPutNotify, dbNotifyCancel.
+use Rattle.std.specs.Prelude.{◌≡◌, ◌==◌, ℕ, Bool, true, false, if◌then◌else◌, List, length}
 use Rattle.std.specs.FinMap.{get}
 use Rattle.ioc_device.specs.declared.Ask.{Ask}
 use Rattle.ioc_device.specs.declared.Answer.{Answer}
 use Rattle.ioc_ledger.specs.declared.tally.Tally.{Tally}
+use Rattle.ioc_notify.specs.declared.live_numbers.Live.{Live}
+use Rattle.ioc_notify.specs.declared.waiting_lists.Waiting.{Waiting}
 use Rattle.ioc_record.specs.RecordRules.{RecordRules}
 use Rattle.ioc_members.specs.Contents.{Records, Contents}
 use Rattle.ioc_store.specs.World.{World, Keeps, begun_at}
 use Rattle.ioc_store.specs.Given.{DevicesWork, answers_of}
 use Rattle.ioc_events.specs.declared.event.Event.{Event}
-use Rattle.ioc_events.specs.declared.event.Event.TheVariants.{Process, Put, Complete}
+use Rattle.ioc_events.specs.declared.event.Event.TheVariants.{Process, Put, Complete, Notify, Cancel}
 use Rattle.ioc_events.specs.declared.event.Entry.{Entry}
 use Rattle.ioc_events.specs.declared.reply.Reply.{Reply}
 use Rattle.ioc_events.specs.Step.{tallied}
 use Rattle.ioc_set.specs.declared.set_store.SetStore.{SetStore}
 use Rattle.ioc_set.specs.SetStore.{world_of}
+use Rattle.ioc_set.specs.Puts.{Puts, now_with}
 use Rattle.ioc_set.specs.Held.{Held, now_of, resting, folded, done_by, held_after}
 use Rattle.ioc_set.specs.Sound.{TellsOf}
 
@@ -26,15 +29,24 @@ is_ordinary (Put s field given) = true
 is_ordinary (Complete s number finished) = true
 is_ordinary _ = false
 
--- what a set with these records, these counts and this history holds
-abbrev pub held_by : {R D : Type 0} → Contents R D → Tally → Tally → List Entry → Held R D
-held_by c before counts entries = record {
+-- an event that is done on a set: one of these, a put with notification or a cancel
+abbrev pub is_done_on_sets : Event → Bool
+is_done_on_sets (Process s) = true
+is_done_on_sets (Put s field given) = true
+is_done_on_sets (Complete s number finished) = true
+is_done_on_sets (Notify s number field given) = true
+is_done_on_sets (Cancel number) = true
+is_done_on_sets _ = false
+
+-- what a set with these records, these puts with notification, these counts and this history holds
+abbrev pub held_by : {R D : Type 0} → Contents R D → Puts → Tally → Tally → List Entry → Held R D
+held_by c puts before counts entries = record {
   records = c.records;
   devices = c.devices;
-  live = [];
-  waiting = [];
+  live = puts.live;
+  waiting = puts.waiting;
   tally = counts;
-  base = record { records = c.base; live = []; waiting = []; tally = before };
+  base = record { records = c.base; live = puts.base_live; waiting = puts.base_waiting; tally = before };
   history = entries;
 }
 
@@ -46,8 +58,12 @@ with_place h = if length h.history == 64 then folded h else h
 abbrev pub with_records : {R : Type 0} → Records R → World R → World R
 with_records rs w = record w { records = rs }
 
+-- and with these puts with notification, which a set takes back after the event
+abbrev pub with_kept : {R : Type 0} → Records R → List Live → List Waiting → World R → World R
+with_kept rs live waiting w = record w { records = rs; live = live; waiting = waiting }
+
 module _ {R D : Type 0} (k : RecordRules R) (gives : D → Ask → ℕ → Answer → D → Type 0) where
-  -- an event at a moment is done on what a set holds, and told behind its history: what it holds then, the reply, and what the event has come to beside the records.
+  -- an event at a moment is done on what a set holds, and told behind its history: what it holds then, the reply, and what the event has come to beside what the set keeps.
   -- Each device that was called, in the order of the calls, gave its answer by its own relation
   pub record Does (held : Held R D) (at_moment : ℕ) (done : Event) (reply : Reply) (held_then : Held R D) (come_to : World R) : Type 0 where
     pub entry : Entry
@@ -57,17 +73,16 @@ module _ {R D : Type 0} (k : RecordRules R) (gives : D → Ask → ℕ → Answe
     pub tells : TellsOf k (with_place held) entry
     pub after : held_then ≡ held_after k (with_place held) entry held_then.devices
     pub work : DevicesWork gives (get held.devices) at_moment (done_by k (now_of held) entry).world.calls (get held_then.devices)
-    pub left : with_records held_then.records come_to ≡ (done_by k (now_of held) entry).world
+    pub left : with_kept held_then.records held_then.live held_then.waiting come_to ≡ (done_by k (now_of held) entry).world
 
-  -- an event on the records of a set, no put with notification being live: what is there then, the counts, and the store with which it was done
-  pub record Did (before : Contents R D) (counts : Tally) (entry : Entry) (after : Contents R D) (counts_then : Tally) (store : SetStore R D) : Type 0 where
-    pub reply : (done_by k (resting before.records [] []) entry).reply ≡ entry.reply
-    pub answers : answers_of (done_by k (resting before.records [] []) entry).world.calls ≡ entry.answers
-    pub records : after.records ≡ (done_by k (resting before.records [] []) entry).world.records
+  -- an event on the records of a set with these puts with notification: what is there then, the counts, and the store with which it was done
+  pub record Did (before : Contents R D) (was : Puts) (counts : Tally) (entry : Entry) (after : Contents R D) (is : Puts) (counts_then : Tally) (store : SetStore R D) : Type 0 where
+    pub reply : (done_by k (resting before.records was.live was.waiting) entry).reply ≡ entry.reply
+    pub answers : answers_of (done_by k (resting before.records was.live was.waiting) entry).world.calls ≡ entry.answers
+    pub records : after.records ≡ (done_by k (resting before.records was.live was.waiting) entry).world.records
     pub base : after.base ≡ before.base
-    pub none_live : (done_by k (resting before.records [] []) entry).world.live ≡ []
-    pub none_waits : (done_by k (resting before.records [] []) entry).world.waiting ≡ []
-    pub tally : counts_then ≡ tallied counts (begun_at entry.moment (resting before.records [] [])) entry.event (done_by k (resting before.records [] []) entry)
-    pub work : DevicesWork gives (get before.devices) entry.moment (done_by k (resting before.records [] []) entry).world.calls (get after.devices)
-    pub keeps : Keeps k (begun_at entry.moment (resting before.records [] [])) (done_by k (resting before.records [] []) entry).world
-    pub left : with_records after.records (world_of store) ≡ (done_by k (resting before.records [] []) entry).world
+    pub puts : is ≡ now_with was (done_by k (resting before.records was.live was.waiting) entry).world.live (done_by k (resting before.records was.live was.waiting) entry).world.waiting
+    pub tally : counts_then ≡ tallied counts (begun_at entry.moment (resting before.records was.live was.waiting)) entry.event (done_by k (resting before.records was.live was.waiting) entry)
+    pub work : DevicesWork gives (get before.devices) entry.moment (done_by k (resting before.records was.live was.waiting) entry).world.calls (get after.devices)
+    pub keeps : Keeps k (begun_at entry.moment (resting before.records was.live was.waiting)) (done_by k (resting before.records was.live was.waiting) entry).world
+    pub left : with_kept after.records is.live is.waiting (world_of store) ≡ (done_by k (resting before.records was.live was.waiting) entry).world

@@ -1,6 +1,6 @@
 -- What a lock set holds between events, and what an event leaves of it.
 -- Application Developer's Guide, "Database Locking, Scanning, and Processing". The kept history is this project's own.
-use Rattle.std.specs.Prelude.{List, [], ◌∷◌, ◌++◌}
+use Rattle.std.specs.Prelude.{◌≡◌, List, [], ◌∷◌, ◌++◌}
 use Rattle.std.specs.FinMap.{empty}
 use Rattle.ioc_ledger.specs.declared.tally.Tally.{Tally}
 use Rattle.ioc_notify.specs.declared.live_numbers.Live.{Live}
@@ -37,6 +37,10 @@ pub record Held (R D : Type 0) : Type 0 where
 -- no records, no counts, and no history
 abbrev pub nothing_held : {R D : Type 0} → Held R D
 nothing_held = record { records = empty; devices = empty; live = []; waiting = []; tally = no_counts; base = record { records = empty; live = []; waiting = []; tally = no_counts }; history = [] }
+
+-- no put with notification is live on a set, and so none waits
+abbrev pub NoneIsLive : {R D : Type 0} → Held R D → Type 0
+NoneIsLive h = (h.live ≡ []) × (h.waiting ≡ [])
 
 -- a database at rest with these records and puts with notification
 abbrev pub resting : {R : Type 0} → Records R → List Live → List Waiting → World R

@@ -1,6 +1,7 @@
 pub mod Attached
 pub mod SetStore
 pub mod SetStoreLaws
+pub mod Puts
 pub mod Held
 pub mod Sound
 pub mod Doing

@@ -19,10 +19,12 @@ ghost use Rattle.ioc_events.specs.StepRules.{Replay, Step};
 ghost use Rattle.ioc_members.specs.Contents.{Records, Devices};
 ghost use Rattle.ioc_members.specs.Joined.{links_of, IsPart, HasLink};
 ghost use Rattle.ioc_events.specs.declared.event.Entry.{Entry};
-ghost use Rattle.ioc_set.specs.Held.{Held, folded, held_after};
+ghost use Rattle.ioc_set.specs.Held.{Held, NoneIsLive, folded, held_after};
+ghost use Rattle.ioc_set.specs.Doing.{is_ordinary, Does};
 ghost use Rattle.ioc_set.specs.Linking.{anew, AreCalm, with_link_changed};
 ghost use Rattle.ioc_set.specs.Sound.{CountsAddUp, IsSound, TellsOf, is_put_with_notification};
 
+use ioc_device::Device;
 use ioc_events::event_rules::{events_keep_links, events_leave_settled, rules_are_steps};
 use ioc_events::notification_rules::{
     events_count_holders, events_leave_holders_awaiting, events_leave_none_ready,
@@ -56,6 +58,16 @@ pub fn none_live_stays_so<K: RecordKind>()
 {
     events_count_holders::<K>();
     those_over_never_end::<K>();
+}
+
+/// Where no put with notification is live on a set, none is after a request, a put or a completion.
+pub fn sets_stay_without_puts<K: RecordKind, D: Device>()
+    ensures { (h after : Held K D) (moment : ℕ) (event : Event) (reply : Reply) (come_to : World K) → Does K.rules D.gives h moment event reply after come_to →
+        is_ordinary event ≡ true → IsSound K.rules h → NoneIsLive h → NoneIsLive after }
+{
+    rules_are_steps::<K>();
+    none_live_stays_so::<K>();
+    notifications_begin_by_notify::<K>();
 }
 
 /// A put with notification begins by no other event.

@@ -4,6 +4,7 @@
 pub mod attached;
 pub mod laws;
 pub mod linking;
+pub mod live_puts;
 pub mod lock_set;
 pub mod running;
 pub mod set_store;
@@ -12,8 +13,9 @@ pub mod workplace;
 pub use attached::Attached;
 pub use laws::{
     calm_records_are_sound, events_leave_sound, link_changes_are_events, none_live_stays_so,
-    notifications_begin_by_notify,
+    notifications_begin_by_notify, sets_stay_without_puts,
 };
+pub use live_puts::LivePuts;
 pub use lock_set::LockSet;
 pub use set_store::SetStore;
 pub use workplace::Workplace;

@@ -7,8 +7,10 @@ ghost use Rattle.ioc_store.specs.World.{begun_at};
 ghost use Rattle.ioc_set.specs.Doing.{with_records};
 ghost use Rattle.ioc_set.specs.Held.{resting};
 ghost use Rattle.ioc_set.specs.Linking.{added};
+ghost use Rattle.ioc_set.specs.Puts.{AreNone, begun_with};
 ghost use Rattle.ioc_set.specs.SetStore.{world_of};
 
+use crate::live_puts::LivePuts;
 use crate::workplace::Workplace;
 use ioc_device::Device;
 use ioc_events::Entry;
@@ -21,19 +23,23 @@ use ioc_store::scan_change::rewire;
 use ioc_values::Short;
 use std::mem;
 
-/// A set begins anew: its history is forgotten, so that each record is its own base.
+/// A set on which no put with notification is live begins anew: its history is forgotten, so that each record is its own base.
 pub fn begin_anew<K: RecordKind, D>(
     members: &mut Members<K, D>,
+    puts: &mut LivePuts,
     tally: &Tally,
     base_tally: &mut Tally,
     history: &mut Vec<Entry>,
 )
     requires like { RecordsAreLikeTheirBase K.rules members.old }
+    requires none { AreNone puts.old }
     ensures members { members.new ≡ record members.old { base = members.old.records } }
+    ensures puts { puts.new ≡ begun_with puts.old }
     ensures tally { base_tally.new ≡ tally.now }
     ensures history { history.new.items ≡ [] }
 {
     members.fold();
+    puts.begin_empty_history();
     *base_tally = *tally;
     history.clear();
 }

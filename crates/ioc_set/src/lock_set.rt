@@ -1,7 +1,9 @@
 //! Lock sets.
-ghost use Rattle.std.specs.Prelude.{◌≡◌, ◌<◌, ◌≤◌, ◌+◌, ◌^◌, ◌↔◌, ℕ, true, [], ◌∷◌, None, IsSome, IsTrue, Contains, IfOk, OnOk, OnErr, slice_get, vec_len, vec_capacity};
+ghost use Rattle.std.specs.Prelude.{◌≡◌, ◌<◌, ◌≤◌, ◌+◌, ◌^◌, ◌↔◌, ℕ, true, List, [], ◌∷◌, None, IsSome, IsTrue, Contains, IfOk, OnOk, OnErr, slice_get, vec_len, vec_capacity};
 ghost use Rattle.std.specs.FinMap as map;
-ghost use Rattle.ioc_events.specs.declared.event.Event.TheVariants.{Process, Put, Complete, Get};
+ghost use Rattle.ioc_notify.specs.declared.live_numbers.Live.{Live};
+ghost use Rattle.ioc_notify.specs.declared.waiting_lists.Waiting.{Waiting};
+ghost use Rattle.ioc_events.specs.declared.event.Event.TheVariants.{Process, Put, Complete, Get, Notify, Cancel, IsLive};
 ghost use Rattle.ioc_events.specs.Step.{stepped};
 ghost use Rattle.ioc_store.specs.Given.{Answers};
 ghost use Rattle.ioc_common.specs.Links.{use_of, named_by};
@@ -10,14 +12,15 @@ ghost use Rattle.ioc_record.specs.Values.{stops_put};
 ghost use Rattle.ioc_store.specs.World.{Has, at, common_at, begun_at};
 ghost use Rattle.ioc_members.specs.Contents.{RecordsAreLikeTheirBase};
 ghost use Rattle.ioc_members.specs.Joined.{links_of, IsPart, HasLink, HasFreeLink, relinked};
-ghost use Rattle.ioc_set.specs.Held.{now_of, resting, nothing_held, no_counts, folded};
+ghost use Rattle.ioc_set.specs.Held.{NoneIsLive, now_of, resting, nothing_held, no_counts, folded};
 ghost use Rattle.ioc_set.specs.Linking.{anew, AreCalm, FallsApart, BecomeOne, LeadsInto, link_change_of};
 ghost use Rattle.ioc_set.specs.Sound.{IsSound};
 ghost use Rattle.ioc_set.specs.SetStore.{world_of};
-ghost use Rattle.ioc_set.specs.Doing.{Does, held_by, with_place, with_records, is_ordinary};
+ghost use Rattle.ioc_set.specs.Doing.{Does, held_by, with_place, with_records, is_done_on_sets};
 
 use crate::laws::{calm_records_are_sound, events_leave_sound};
 use crate::linking::{add_counts, begin_anew, rescan_on};
+use crate::live_puts::LivePuts;
 use crate::running::run_on;
 use crate::workplace::Workplace;
 use ioc_common::KeptLink;
@@ -28,17 +31,19 @@ use ioc_ledger::Tally;
 use ioc_links::MAX_DEVICE_BYTES;
 use ioc_members::{Members, Room};
 use ioc_names::RecordNo;
+use ioc_notify::NotifyId;
 use ioc_record::{RecordKind, stops_put, text_of};
 use ioc_store::scan_change::device_of;
 use ioc_values::{Finished, Input, IocError, Short};
 use std::alloc::{AllocError, Global};
 use std::marker::Model;
 
-/// Records that links join, with their devices, the counts of their requests, and a history: the last events, at most 64, which lead from what
-/// was before them to what is there. For now no put with notification is live on a set.
+/// Records that links join, with their devices, the puts with notification that are live on them, the counts of their requests, and a history:
+/// the last events, at most 64, which lead from what was before them to what is there.
 #[derive(Drop)]
 pub struct LockSet<K: RecordKind, D> {
     members: Members<K, D>,
+    puts: LivePuts,
     tally: Tally,
     // The counts before the first event of the history.
     base_tally: Tally,
@@ -57,26 +62,30 @@ impl<K: RecordKind, D> Model for LockSet<K, D> {
     ghost use Rattle.ioc_set.specs.Sound.{IsSound};
     ghost use Rattle.ioc_members.specs.Contents.{RecordsAreLikeTheirBase};
 
-    ghost view = { λ s. held_by s.members s.base_tally s.tally s.history.items };
+    ghost view = { λ s. held_by s.members s.puts s.base_tally s.tally s.history.items };
 
-    ghost invariant = { λ s. IsSound K.rules (held_by s.members s.base_tally s.tally s.history.items) × RecordsAreLikeTheirBase K.rules s.members };
+    ghost invariant = { λ s. IsSound K.rules (held_by s.members s.puts s.base_tally s.tally s.history.items) × RecordsAreLikeTheirBase K.rules s.members };
 }
 
 // Makes a place in the history for one event more: a full history is forgotten.
 fn make_place<K: RecordKind, D>(
     members: &mut Members<K, D>,
+    puts: &mut LivePuts,
     tally: &Tally,
     base_tally: &mut Tally,
     history: &mut Vec<Entry>,
+    alloc: Global,
 ) -> Result<(), AllocError>
     requires like { RecordsAreLikeTheirBase K.rules members.old }
-    ensures held { OnOk result (held_by members.new base_tally.new tally.now history.new.items ≡ with_place (held_by members.old base_tally.old tally.now history.old.items)) }
+    ensures held { OnOk result (held_by members.new puts.new base_tally.new tally.now history.new.items ≡ with_place (held_by members.old puts.old base_tally.old tally.now history.old.items)) }
+    ensures puts { OnOk result (puts.new.has_room ≡ puts.old.has_room) }
     ensures like { RecordsAreLikeTheirBase K.rules members.new }
     ensures room { OnOk result (vec_len history.new < vec_capacity history.new) }
-    ensures err { OnErr result ((members.new ≡ members.old) × (base_tally.new ≡ base_tally.old) × (history.new.items ≡ history.old.items)) }
+    ensures err { OnErr result ((members.new ≡ members.old) × (puts.new ≡ puts.old) × (base_tally.new ≡ base_tally.old) × (history.new.items ≡ history.old.items)) }
 {
     history.reserve(1)?;
     if history.len() == 64 {
+        puts.begin_history(alloc)?;
         members.fold();
         *base_tally = *tally;
         history.clear();
@@ -87,7 +96,7 @@ fn make_place<K: RecordKind, D>(
 // The text of a field of a record of these.
 #[tactic(auto, unfolding(ioc_events::specs::Step::stepped, ioc_events::specs::Step::done_alone, ioc_events::specs::Step::done_there, ioc_store::specs::World::at))]
 fn text_in<K: RecordKind, D>(members: &Members<K, D>, number: RecordNo, field: FieldNo) -> Reply
-    ensures { (answers : Answers) → result ≡ (stepped K.rules answers (resting members.now.records [] []) (Get number field)).reply }
+    ensures { (answers : Answers) (live : List Live) (waiting : List Waiting) → result ≡ (stepped K.rules answers (resting members.now.records live waiting) (Get number field)).reply }
 {
     if !members.has(number) {
         return Reply::Refused(IocError::NoRecord);
@@ -107,6 +116,7 @@ impl<K: RecordKind, D> LockSet<K, D> {
         let tally = Tally::default();
         LockSet {
             members: Members::new(alloc),
+            puts: LivePuts::none(alloc),
             tally,
             base_tally: tally,
             history: Vec::new(alloc),
@@ -151,6 +161,21 @@ impl<K: RecordKind, D> LockSet<K, D> {
     {
         text_in(&self.members, number, field)
     }
+
+    /// Whether a put with notification is live.
+    #[tactic(auto, unfolding(ioc_events::specs::Step::stepped, ioc_events::specs::Step::done_alone, ioc_events::specs::Step::done_there))]
+    pub fn live(&self, number: NotifyId) -> Reply
+        ensures { (answers : Answers) → result ≡ (stepped K.rules answers (now_of self.now) (IsLive number)).reply }
+    {
+        Reply::Live(self.puts.is_live(number))
+    }
+
+    /// Is no put with notification live on the set? Then none waits either.
+    pub fn none_is_live(&self) -> bool
+        ensures { IsTrue result ↔ NoneIsLive self.now }
+    {
+        self.puts.are_none()
+    }
 }
 
 impl<K: RecordKind + Drop, D: Device> LockSet<K, D> {
@@ -162,21 +187,25 @@ impl<K: RecordKind + Drop, D: Device> LockSet<K, D> {
         event: &Event,
         moment: u64,
     ) -> Result<Reply, AllocError>
-        requires ordinary { is_ordinary event.now ≡ true }
+        requires done_here { is_done_on_sets event.now ≡ true }
         ensures ok { IfOk result (λ reply. Does K.rules D.gives self.old moment event.now reply self.new (world_of place.new.store)) }
         ensures err { OnErr result (self.new ≡ self.old) }
     {
         events_leave_sound::<K, D>();
         place.make_room(self.members.len())?;
+        self.puts.make_room_for(event, alloc)?;
         make_place(
             &mut self.members,
+            &mut self.puts,
             &self.tally,
             &mut self.base_tally,
             &mut self.history,
+            alloc,
         )?;
         let entry = run_on(
             place,
             &mut self.members,
+            &mut self.puts,
             moment,
             event,
             &mut self.tally,
@@ -255,6 +284,50 @@ impl<K: RecordKind + Drop, D: Device> LockSet<K, D> {
             moment,
         )
     }
+
+    /// Puts a value into a field as [`LockSet::put`] does, with a notification: it passes to the records that are processed for it, and ends
+    /// with the last of them. Where the record is active, has a notification or has one waiting, the put waits; it is tested and its value
+    /// converted at once. The caller gives each number to one put. Those that end by an event are told by [`Workplace::ended`].
+    ///
+    /// # Errors
+    ///
+    /// [`AllocError`] where memory is wanting: nothing has changed then. The reply is a refusal, those of [`LockSet::put`] and then
+    /// [`IocError::QueueFull`], where 256 are live on the set, or the number is that of one that is live.
+    pub fn put_notify(
+        &mut self,
+        place: &mut Workplace<K, D>,
+        alloc: Global,
+        notification: NotifyId,
+        number: RecordNo,
+        field: FieldNo,
+        given: Input,
+        moment: u64,
+    ) -> Result<Reply, AllocError>
+        ensures ok { IfOk result (λ reply. Does K.rules D.gives self.old moment (Notify number notification field given) reply self.new (world_of place.new.store)) }
+        ensures err { OnErr result (self.new ≡ self.old) }
+    {
+        let event = Event::Notify(number, notification, field, given);
+        self.do_event(place, alloc, &event, moment)
+    }
+
+    /// A put with notification is given up: no record of the set has it any more, it waits nowhere, and it doesn't end.
+    ///
+    /// # Errors
+    ///
+    /// [`AllocError`] where memory is wanting: nothing has changed then. The reply is a refusal, [`IocError::Stale`], where it isn't live on
+    /// the set.
+    pub fn cancel(
+        &mut self,
+        place: &mut Workplace<K, D>,
+        alloc: Global,
+        notification: NotifyId,
+        moment: u64,
+    ) -> Result<Reply, AllocError>
+        ensures ok { IfOk result (λ reply. Does K.rules D.gives self.old moment (Cancel notification) reply self.new (world_of place.new.store)) }
+        ensures err { OnErr result (self.new ≡ self.old) }
+    {
+        self.do_event(place, alloc, &Event::Cancel(notification), moment)
+    }
 }
 
 impl<K: RecordKind, D> LockSet<K, D> {
@@ -270,6 +343,7 @@ impl<K: RecordKind, D> LockSet<K, D> {
         let tally = Tally::default();
         LockSet {
             members,
+            puts: LivePuts::none(alloc),
             tally,
             base_tally: tally,
             history: Vec::new(alloc),
@@ -312,14 +386,6 @@ impl<K: RecordKind, D> LockSet<K, D> {
         self.members.is_apart(&other.members)
     }
 
-    /// On a free set no put with notification is live, and none waits.
-    pub fn none_is_live(&self)
-        ensures live { self.now.live ≡ [] }
-        ensures waiting { self.now.waiting ≡ [] }
-    {
-        let _ = &self.members;
-    }
-
     /// Fewer than 2^63 records are there: there is no memory for more.
     pub fn are_few(&self)
         ensures { map.len self.now.records < 2 ^ 63 }
@@ -327,12 +393,14 @@ impl<K: RecordKind, D> LockSet<K, D> {
         self.members.are_few();
     }
 
-    /// Forgets the history.
+    /// Forgets the history. No put with notification is live on the set.
     pub fn fold(&mut self)
+        requires none { NoneIsLive self.old }
         ensures { self.new ≡ folded self.old }
     {
         begin_anew(
             &mut self.members,
+            &mut self.puts,
             &self.tally,
             &mut self.base_tally,
             &mut self.history,
@@ -351,7 +419,7 @@ impl<K: RecordKind, D> LockSet<K, D> {
 impl<K: RecordKind + Drop, D: Drop> LockSet<K, D> {
     /// Sets a link of a record: to nowhere, or to a record of this set. The set keeps the record's part and the counts, and the records
     /// that no link joins to it any more come back as a set of their own, which may be empty. Nothing is sent yet: see [`LockSet::rescan`].
-    /// `link` and `twin` are alike.
+    /// No put with notification is live on the set. `link` and `twin` are alike.
     ///
     /// # Errors
     ///
@@ -364,6 +432,7 @@ impl<K: RecordKind + Drop, D: Drop> LockSet<K, D> {
         link: KeptLink,
         twin: KeptLink,
     ) -> Result<LockSet<K, D>, AllocError>
+        requires none { NoneIsLive self.old }
         requires twin { twin ≡ link }
         requires field { HasLink K.rules self.old.records number field }
         requires within { (t : ℕ) → Contains (named_by (use_of link)) t → IsSome (map.get self.old.records t) }
@@ -374,6 +443,7 @@ impl<K: RecordKind + Drop, D: Drop> LockSet<K, D> {
         calm_records_are_sound::<K, D>();
         begin_anew(
             &mut self.members,
+            &mut self.puts,
             &self.tally,
             &mut self.base_tally,
             &mut self.history,
@@ -386,8 +456,8 @@ impl<K: RecordKind + Drop, D: Drop> LockSet<K, D> {
 
 impl<K: RecordKind + Drop, D: Drop> LockSet<K, D> {
     /// Sets a link of a record, which stood nowhere, to a record of another set, and takes over that set with its devices and its
-    /// counts, in a room that was taken before. The other has nothing then. Nothing is sent yet: see [`LockSet::rescan`]. `link` and
-    /// `twin` are alike.
+    /// counts, in a room that was taken before. The other has nothing then. Nothing is sent yet: see [`LockSet::rescan`]. No put with
+    /// notification is live on the sets. `link` and `twin` are alike.
     pub fn unite(
         &mut self,
         room: Room<K, D>,
@@ -397,6 +467,7 @@ impl<K: RecordKind + Drop, D: Drop> LockSet<K, D> {
         link: KeptLink,
         twin: KeptLink,
     )
+        requires none { NoneIsLive self.old × NoneIsLive other.old }
         requires room { map.len self.old.records + map.len other.old.records ≤ room.count }
         requires twin { twin ≡ link }
         requires apart { (q : ℕ) → IsSome (map.get self.old.records q) → map.get other.old.records q ≡ None }
@@ -407,12 +478,14 @@ impl<K: RecordKind + Drop, D: Drop> LockSet<K, D> {
         calm_records_are_sound::<K, D>();
         begin_anew(
             &mut self.members,
+            &mut self.puts,
             &self.tally,
             &mut self.base_tally,
             &mut self.history,
         );
         begin_anew(
             &mut other.members,
+            &mut other.puts,
             &other.tally,
             &mut other.base_tally,
             &mut other.history,
@@ -429,7 +502,7 @@ impl<K: RecordKind + Drop, D: Drop> LockSet<K, D> {
 
 impl<K: RecordKind + Drop, D: Device> LockSet<K, D> {
     /// A link of a record that is there was set, whose device link had this text before: where it has another now, a change of its
-    /// scan list is sent. The set begins anew.
+    /// scan list is sent. The set begins anew. No put with notification is live on it.
     pub fn rescan(
         &mut self,
         place: &mut Workplace<K, D>,
@@ -437,7 +510,8 @@ impl<K: RecordKind + Drop, D: Device> LockSet<K, D> {
         before: Short<MAX_DEVICE_BYTES>,
         moment: u64,
     )
-        requires { Has (now_of self.old) number }
+        requires none { NoneIsLive self.old }
+        requires there { Has (now_of self.old) number }
         ensures left { with_records self.new.records (world_of place.new.store) ≡ rewired K.rules before (begun_at moment (now_of self.old)) number }
         ensures held { self.new ≡ anew self.new.records self.old.devices self.old.tally }
     {
@@ -445,6 +519,7 @@ impl<K: RecordKind + Drop, D: Device> LockSet<K, D> {
         rescan_on(place, &mut self.members, moment, number, before);
         begin_anew(
             &mut self.members,
+            &mut self.puts,
             &self.tally,
             &mut self.base_tally,
             &mut self.history,
@@ -453,7 +528,8 @@ impl<K: RecordKind + Drop, D: Device> LockSet<K, D> {
     }
 
     /// Changes a link of a record: it leads nowhere then, or to a record of this set. The set keeps the record's part and the counts,
-    /// and the records that no link joins to it any more come back as a set of their own, which may be empty. `link` and `twin` are alike.
+    /// and the records that no link joins to it any more come back as a set of their own, which may be empty. No put with notification is
+    /// live on the set. `link` and `twin` are alike.
     ///
     /// # Errors
     ///
@@ -468,6 +544,7 @@ impl<K: RecordKind + Drop, D: Device> LockSet<K, D> {
         twin: KeptLink,
         moment: u64,
     ) -> Result<LockSet<K, D>, AllocError>
+        requires none { NoneIsLive self.old }
         requires twin { twin ≡ link }
         requires field { HasLink K.rules self.old.records number field }
         requires within { (t : ℕ) → Contains (named_by (use_of link)) t → IsSome (map.get self.old.records t) }
@@ -475,7 +552,6 @@ impl<K: RecordKind + Drop, D: Device> LockSet<K, D> {
         ensures left { OnOk result (with_records (link_change_of K.rules self.old moment number field link).records (world_of place.new.store) ≡ link_change_of K.rules self.old moment number field link) }
         ensures err { OnErr result (self.new ≡ folded self.old) }
     {
-        self.none_is_live();
         let before = self.device_text(number);
         let rest = self.split(alloc, number, field, link, twin)?;
         self.rescan(place, number, before, moment);
@@ -484,7 +560,7 @@ impl<K: RecordKind + Drop, D: Device> LockSet<K, D> {
 
     /// Leads a link of a record of this set to a record of another, which it takes over with its devices and its counts. The records of this
     /// set that the link alone had joined to that record come back as a set of their own, which may be empty; the other has nothing then.
-    /// All memory is taken before anything changes. `link` and `twin` are alike.
+    /// All memory is taken before anything changes. No put with notification is live on the sets. `link` and `twin` are alike.
     ///
     /// # Errors
     ///
@@ -500,6 +576,7 @@ impl<K: RecordKind + Drop, D: Device> LockSet<K, D> {
         twin: KeptLink,
         moment: u64,
     ) -> Result<LockSet<K, D>, AllocError>
+        requires none { NoneIsLive self.old × NoneIsLive other.old }
         requires twin { twin ≡ link }
         requires apart { (q : ℕ) → IsSome (map.get self.old.records q) → map.get other.old.records q ≡ None }
         requires field { HasLink K.rules self.old.records number field }

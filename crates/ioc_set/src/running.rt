@@ -8,13 +8,15 @@ ghost use Rattle.ioc_events.specs.Step.{stepped};
 ghost use Rattle.ioc_events.specs.Events.{Tells};
 ghost use Rattle.ioc_events.specs.Holding.{IsCounted};
 ghost use Rattle.ioc_set.specs.Held.{resting};
-ghost use Rattle.ioc_set.specs.Doing.{is_ordinary, Did};
+ghost use Rattle.ioc_set.specs.Sound.{is_put_with_notification};
+ghost use Rattle.ioc_set.specs.Doing.{is_done_on_sets, Did};
 
 use crate::laws::{none_live_stays_so, notifications_begin_by_notify};
+use crate::live_puts::LivePuts;
 use crate::workplace::{Workplace, kept_answers};
 use ioc_device::Device;
 use ioc_events::event_rules::rules_are_steps;
-use ioc_events::{Entry, Event, Reply, run_complete, run_put, run_request};
+use ioc_events::{Entry, Event, Reply, run_cancel, run_complete, run_notify, run_put, run_request};
 use ioc_ledger::Tally;
 use ioc_members::Members;
 use ioc_record::RecordKind;
@@ -22,14 +24,14 @@ use ioc_store::{Frame, Store};
 use std::alloc::Global;
 use std::mem;
 
-/// A request, a put or a completion.
+/// A request, a put, a completion, a put with notification or a cancel.
 pub fn run_event<S: Store>(
     store: &mut S,
     frames: &mut Vec<Frame>,
     event: &Event,
     tally: &mut Tally,
 ) -> Reply
-    requires ordinary { is_ordinary event.now ≡ true }
+    requires done_here { is_done_on_sets event.now ≡ true }
     requires closed { IsClosed S.Record.rules (S.world store.old) }
     requires empty { frames.old.items ≡ [] }
     requires room { len (S.world store.old).records ≤ vec_capacity frames.old }
@@ -47,35 +49,45 @@ pub fn run_event<S: Store>(
         Event::Complete(number, wait, finished) => {
             run_complete(store, frames, *number, *wait, *finished, tally)
         }
+        Event::Notify(target, number, field, given) => {
+            run_notify(store, frames, *target, *number, *field, *given, tally)
+        }
+        Event::Cancel(number) => run_cancel(store, frames, *number, tally),
         _ => unreachable!(),
     }
 }
 
-/// Does an event on the members of a set, no put with notification being live, and tells it. There is room for the frames and the answers.
+/// Does an event on the members of a set and its puts with notification, and tells it. There is room for the frames and the answers, and for a
+/// put with notification, if it is one.
 pub fn run_on<K: RecordKind + Drop, D: Device>(
     place: &mut Workplace<K, D>,
     members: &mut Members<K, D>,
+    puts: &mut LivePuts,
     moment: u64,
     event: &Event,
     tally: &mut Tally,
     alloc: Global,
 ) -> Entry
-    requires ordinary { is_ordinary event.now ≡ true }
-    requires counted { IsCounted K.rules (resting members.old.records [] []) }
+    requires done_here { is_done_on_sets event.now ≡ true }
+    requires counted { IsCounted K.rules (resting members.old.records puts.old.live puts.old.waiting) }
+    requires puts { is_put_with_notification event.now ≡ true → puts.old.has_room ≡ true }
     requires frames { len members.old.records ≤ vec_capacity place.old.frames }
     requires answers { 256 ≤ vec_capacity place.old.spare }
     ensures moment { result.moment ≡ moment }
     ensures event { result.event ≡ event.now }
-    ensures did { Did K.rules D.gives members.old tally.old result members.new tally.new place.new.store }
+    ensures did { Did K.rules D.gives members.old puts.old tally.old result members.new puts.new tally.new place.new.store }
 {
     rules_are_steps::<K>();
     none_live_stays_so::<K>();
     notifications_begin_by_notify::<K>();
     members.devices_are_owned();
+    puts.none_without_room();
     mem::swap(&mut place.store.members, members);
+    puts.lend(&mut place.store.event.notifications);
     place.store.begin_at(moment);
     let reply = run_event(&mut place.store, &mut place.frames, event, tally);
     let answers = kept_answers(&place.store.event.calls, &mut place.spare, alloc);
+    puts.take_back(&mut place.store.event.notifications);
     mem::swap(members, &mut place.store.members);
     members.devices_are_owned();
     Entry {

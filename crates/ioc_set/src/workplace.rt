@@ -8,13 +8,14 @@ use crate::set_store::SetStore;
 use ioc_device::Answer;
 use ioc_events::KeptAnswers;
 use ioc_members::Members;
+use ioc_notify::NotifyId;
 use ioc_store::calls::Calls;
 use ioc_store::{EventStore, Frame, OutboxItem};
 use std::alloc::{AllocError, Global};
 use std::mem;
 
 /// What an event needs and no set has for itself: where its calls, what it sends and its open frames are kept. One of it serves any number of
-/// sets, one event after another. Between events it has no records and no open frame. For now no put with notification is live in it.
+/// sets, one event after another. Between events it has no records and no open frame, and no put with notification is live in it.
 #[derive(Drop)]
 pub struct Workplace<K, D> {
     pub store: SetStore<K, D>,
@@ -80,6 +81,13 @@ impl<K, D> Workplace<K, D> {
         ensures { result ≡ (world_of self.now.store).dropped }
     {
         self.store.event.outbox.dropped
+    }
+
+    /// Which puts with notification have ended in the last event, in order.
+    pub fn ended(&self) -> &[NotifyId]
+        ensures { result.now ≡ (world_of self.now.store).ended }
+    {
+        self.store.event.notifications.ended()
     }
 
     /// Takes room for the frames of an event on so many records, and for its answers.

@@ -1,17 +1,18 @@
 //! The start.
-ghost use Rattle.std.specs.Prelude.{◌≡◌, ◌-◌, ◌^◌, ◌↔◌, [], All, IsTrue, IfOk, IfErr, length};
+ghost use Rattle.std.specs.Prelude.{◌≡◌, ◌-◌, ◌^◌, ◌↔◌, [], All, IsTrue, IfOk, IfErr, OnOk, length};
 ghost use Rattle.crossbeam_utils.specs.Seq.{cell_view};
 ghost use Rattle.ioc_line.specs.Line.{keeper};
 ghost use Rattle.ioc_set.specs.Linking.{IsCalm};
+ghost use Rattle.ioc_journal.specs.Places.{AreAllowed};
 ghost use Rattle.ioc_start.specs.Loading.{loaded_world};
-ghost use Rattle.ioc_start.specs.declared.starting.StartError.TheVariants.{NotAtRest};
+ghost use Rattle.ioc_start.specs.declared.starting.StartError.TheVariants.{BadValue, NotAtRest};
 
 use crate::holding::hold_all;
 use ioc_dealing::laws::dealt_sets_are_parts;
 use ioc_dealing::{Loaded, deal, parts_of};
 use ioc_engine::Engine;
 use ioc_holding::laws::lists_leave_sound;
-use ioc_journal::{Base, Book, Journal};
+use ioc_journal::{Base, Book, Journal, Limits};
 use ioc_line::{Cell, Token};
 use ioc_record::RecordKind;
 use std::alloc::Global;
@@ -20,6 +21,8 @@ use std::sync::ledger::Blank;
 /// Why an engine isn't started.
 #[derive(Clone, Copy, PartialEq, Eq)]
 pub enum StartError {
+    /// A limit is out of its range.
+    BadValue,
     /// Memory is wanting.
     NoMemory,
     /// A record is active without awaiting a completion, or awaits one without being active, or has a put with notification.
@@ -55,6 +58,7 @@ pub fn start<K: RecordKind + Drop, B: Base<K>, D: Drop>(
     master: Token,
     blank: Blank,
     all: Vec<Loaded<K, D>>,
+    limits: Limits,
 ) -> Result<Engine<K, B, D>, StartError>
     requires table { (cell.table.shared.table_id ≡ B.table) × (master.table_id ≡ B.table) }
     requires master { cell_view master ≡ keeper [] [] }
@@ -62,8 +66,13 @@ pub fn start<K: RecordKind + Drop, B: Base<K>, D: Drop>(
     requires base { B.base ≡ loaded_world all.items }
     requires copies { All (λ l. l.base ≡ l.fields) all.items }
     ensures count { IfOk result (λ e. e ≡ length all.items) }
+    ensures limits { OnOk result (AreAllowed limits) }
+    ensures refused { IfErr result (λ e. (e ≡ BadValue) ↔ (AreAllowed limits → ⊥)) }
     ensures rest { IfErr result (λ e. e ≡ NotAtRest → All (λ l. IsCalm K.rules l.fields) all.items → ⊥) }
 {
+    if !limits.are_allowed() {
+        return Err(StartError::BadValue);
+    }
     if !are_at_rest(&all) {
         return Err(StartError::NotAtRest);
     }
@@ -83,6 +92,6 @@ pub fn start<K: RecordKind + Drop, B: Base<K>, D: Drop>(
         return Err(StartError::NoMemory);
     };
     lists_leave_sound::<K>();
-    let journal = Journal::new(alloc, master, blank);
+    let journal = Journal::new(alloc, master, blank, limits);
     Ok(Engine::new(directory, Book::new(cell, journal)))
 }

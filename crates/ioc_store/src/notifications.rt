@@ -4,8 +4,9 @@ ghost use Rattle.std.specs.Vec.{vec_capacity};
 ghost use Rattle.ioc_notify.specs.Living.{begun, gained, lost, forgotten, is_at_its_last, is_live};
 ghost use Rattle.ioc_notify.specs.Waits.{without};
 
-use ioc_notify::{LiveNumbers, NotifyId, Waiting, WaitingLists};
+use ioc_notify::{Live, LiveNumbers, NotifyId, Waiting, WaitingLists};
 use std::alloc::{AllocError, Global};
+use std::mem;
 
 /// The puts with notification that are live, at most 256, with how many have each, those of them that wait for their record, and those
 /// that have ended in the event, in order.
@@ -45,6 +46,27 @@ impl Notifications {
         ensures { result.now ≡ self.now.ended.items }
     {
         self.ended.as_slice()
+    }
+
+    /// Those that are live, in the order in which they began.
+    pub fn live(&self) -> &[Live]
+        ensures { result.now ≡ self.now.live.live }
+    {
+        self.live.as_slice()
+    }
+
+    /// Another, in which none is live, tells in its place which have ended.
+    pub fn tell_ended(&mut self, other: &mut Notifications)
+        requires none { other.old.live.live ≡ [] }
+        ensures live { self.new.live ≡ self.old.live }
+        ensures ended { self.new.ended.items ≡ [] }
+        ensures waiting { self.new.waiting ≡ self.old.waiting }
+        ensures other_live { other.new.live ≡ other.old.live }
+        ensures other_ended { other.new.ended.items ≡ self.old.ended.items }
+        ensures other_waiting { other.new.waiting ≡ other.old.waiting }
+    {
+        other.ended.clear();
+        mem::swap(&mut self.ended, &mut other.ended);
     }
 
     /// Forgets those that have ended.

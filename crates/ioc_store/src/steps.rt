@@ -264,6 +264,7 @@ fn come_to_rest<S: Store>(store: &mut S, number: RecordNo)
 }
 
 /// A record is done; one that was put down for another processing is sent to be requested once more.
+#[inline(always)]
 #[tactic(auto, unfolding(crate::specs::Rests::rested))]
 pub fn rest<S: Store>(store: &mut S, number: RecordNo)
     requires { Has (S.world store.old) number }

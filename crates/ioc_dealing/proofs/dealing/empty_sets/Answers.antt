@@ -5,5 +5,5 @@ use Rattle.ioc_dealing.proofs.dealing.empty_sets.Goals as goal
 
 pub loop-place-preserved : goal.loop-place-preserved
 loop-place-preserved g c =
-    c.in_ok-push.ensures.items ∙ ap (λ z. z ++ c.new.result ∷ []) c.loop-place.invariant
-    ∙ ap (λ m. replicate c.loop-place._place nothing ++ m ∷ []) c.new.ensures ∙ replicate_more c.loop-place._place nothing
+    c.in_ok-push.ensures.items ∙ ap (λ z. z ++ c.in_ok-with_room.field-0 ∷ []) c.loop-place.invariant
+    ∙ ap (λ m. replicate c.loop-place.place nothing ++ m ∷ []) c.in_ok-with_room.ensures ∙ replicate_more c.loop-place.place nothing

@@ -3,4 +3,4 @@ use Rattle.ioc_members.specs.Contents.{nothing}
 use Rattle.ioc_dealing.proofs.dealing.empty_sets.Given as goal
 
 abbrev pub invariant-loop-place : goal.invariant-loop-place
-invariant-loop-place g l = l.sets.items ≡ replicate l._place nothing
+invariant-loop-place g l = l.sets.items ≡ replicate l.place nothing

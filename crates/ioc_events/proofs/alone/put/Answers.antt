@@ -32,7 +32,7 @@ returns-in-Ok-clause-done g c = λ answers begins.
     let k = g.S.Record.RecordKind.rules in
     let w = g.S.Store.world c.args.store.now in
     let s = c.args.number in
-    rw (step-put k answers w s c.args.field c.args.given _ (sym c.has.ensures ∙ c.if-not-has.false) c.in-Ok.ensures.ok)
+    rw (c.of.ensures, step-put k answers w s c.args.field c.args.given _ (sym c.has.ensures ∙ c.if-not-has.false) c.in-Ok.ensures.ok)
     (rw (c.rescan.ensures.world, c.in-Ok.ensures.stored) at (c.process_after_put.ensures.after answers begins))
 
 pub returns-then-not-has-clause-given : goal.returns-then-not-has-clause-given

@@ -1,7 +1,7 @@
 use Rattle.std.proofs.Common.{refl, sym, ◌∙◌}
-use Rattle.std.proofs.lemmas.Result.{err_from_is_err_and}
 use Rattle.ioc_process.specs.Answering.{begins_same}
 use Rattle.ioc_values.specs.Conversion.{input_of}
+use Rattle.ioc_record.specs.PutFaults.{error_of}
 use Rattle.ioc_events.specs.declared.event.Event.TheVariants.{Put}
 use Rattle.ioc_store.specs.Worlds.{has-put}
 use Rattle.ioc_process.specs.Keeping.{keeps_on, closed_on}
@@ -16,48 +16,47 @@ returns-then-not-has-clause-done g c = λ answers begins.
 pub process_after_put-requires-clause-there : goal.process_after_put-requires-clause-there
 process_after_put-requires-clause-there g c =
     let k = g.S.Record.RecordKind.rules in
-    rw (c.rescan.ensures.world, c.in_ok-spell_into.ensures.stored) ((stored-keeps k g.met.S.Record.RecordKind.lawful (g.S.Store.world c.args.store.now) _ c.args.number c.args.field (input_of c.args.text.now) _ (sym c.has.ensures ∙ c.if-not-has.false) c.in_ok-spell_into.ensures.ok refl).has _ (sym c.has.ensures ∙ c.if-not-has.false))
+    rw (c.rescan.ensures.world, c.in-Ok.ensures.stored) ((stored-keeps k g.met.S.Record.RecordKind.lawful (g.S.Store.world c.args.store.now) _ c.args.number c.args.field (input_of c.args.text.now) _ (sym c.has.ensures ∙ c.if-not-has.false) c.in-Ok.ensures.ok refl).has _ (sym c.has.ensures ∙ c.if-not-has.false))
 
 pub process_after_put-requires-clause-closed : goal.process_after_put-requires-clause-closed
 process_after_put-requires-clause-closed g c =
     let k = g.S.Record.RecordKind.rules in
-    rw (c.rescan.ensures.world, c.in_ok-spell_into.ensures.stored) (closed_on k g.met.S.Record.RecordKind.lawful (stored-keeps k g.met.S.Record.RecordKind.lawful (g.S.Store.world c.args.store.now) _ c.args.number c.args.field (input_of c.args.text.now) _ (sym c.has.ensures ∙ c.if-not-has.false) c.in_ok-spell_into.ensures.ok refl) c.requires.closed)
+    rw (c.rescan.ensures.world, c.in-Ok.ensures.stored) (closed_on k g.met.S.Record.RecordKind.lawful (stored-keeps k g.met.S.Record.RecordKind.lawful (g.S.Store.world c.args.store.now) _ c.args.number c.args.field (input_of c.args.text.now) _ (sym c.has.ensures ∙ c.if-not-has.false) c.in-Ok.ensures.ok refl) c.requires.closed)
 
 pub process_after_put-requires-clause-room : goal.process_after_put-requires-clause-room
 process_after_put-requires-clause-room g c =
     let k = g.S.Record.RecordKind.rules in
-    let kept = stored-keeps k g.met.S.Record.RecordKind.lawful (g.S.Store.world c.args.store.now) _ c.args.number c.args.field (input_of c.args.text.now) _ (sym c.has.ensures ∙ c.if-not-has.false) c.in_ok-spell_into.ensures.ok refl in
-    rw (c.rescan.ensures.world, c.in_ok-spell_into.ensures.stored, kept.count) c.requires.room
+    let kept = stored-keeps k g.met.S.Record.RecordKind.lawful (g.S.Store.world c.args.store.now) _ c.args.number c.args.field (input_of c.args.text.now) _ (sym c.has.ensures ∙ c.if-not-has.false) c.in-Ok.ensures.ok refl in
+    rw (c.rescan.ensures.world, c.in-Ok.ensures.stored, kept.count) c.requires.room
 
-pub returns-clause-done : goal.returns-clause-done
-returns-clause-done g c = λ answers begins.
+pub returns-in-Ok-clause-done : goal.returns-in-Ok-clause-done
+returns-in-Ok-clause-done g c = λ answers begins.
     let k = g.S.Record.RecordKind.rules in
     let w = g.S.Store.world c.args.store.now in
     let s = c.args.number in
-    rw (step-put k answers w s c.args.field (input_of c.args.text.now) _ (sym c.has.ensures ∙ c.if-not-has.false) c.in_ok-spell_into.ensures.ok)
-    (rw (c.rescan.ensures.world, c.in_ok-spell_into.ensures.stored) at (c.process_after_put.ensures.after answers begins))
+    rw (step-put k answers w s c.args.field (input_of c.args.text.now) _ (sym c.has.ensures ∙ c.if-not-has.false) c.in-Ok.ensures.ok)
+    (rw (c.rescan.ensures.world, c.in-Ok.ensures.stored) at (c.process_after_put.ensures.after answers begins))
 
 pub returns-then-not-has-clause-given : goal.returns-then-not-has-clause-given
 returns-then-not-has-clause-given g c = begins_same refl
 
-pub returns-in_err-spell_into-clause-given : goal.returns-in_err-spell_into-clause-given
-returns-in_err-spell_into-clause-given g c = begins_same c.in_err-spell_into.ensures.given
+pub returns-in-Err-clause-given : goal.returns-in-Err-clause-given
+returns-in-Err-clause-given g c = begins_same c.in-Err.ensures.given
 
-pub returns-clause-given : goal.returns-clause-given
-returns-clause-given g c = rw (c.rescan.ensures.given, c.in_ok-spell_into.ensures.given) at c.process_after_put.ensures.given
+pub returns-in-Ok-clause-given : goal.returns-in-Ok-clause-given
+returns-in-Ok-clause-given g c = rw (c.rescan.ensures.given, c.in-Ok.ensures.given) at c.process_after_put.ensures.given
 
-pub returns-clause-keeps : goal.returns-clause-keeps
-returns-clause-keeps g c =
+pub returns-in-Ok-clause-keeps : goal.returns-in-Ok-clause-keeps
+returns-in-Ok-clause-keeps g c =
     let k = g.S.Record.RecordKind.rules in
-    keeps_on k (stored-keeps k g.met.S.Record.RecordKind.lawful (g.S.Store.world c.args.store.now) _ c.args.number c.args.field (input_of c.args.text.now) _ (sym c.has.ensures ∙ c.if-not-has.false) c.in_ok-spell_into.ensures.ok refl)
-    (rw (c.rescan.ensures.world, c.in_ok-spell_into.ensures.stored) at c.process_after_put.ensures.keeps)
+    keeps_on k (stored-keeps k g.met.S.Record.RecordKind.lawful (g.S.Store.world c.args.store.now) _ c.args.number c.args.field (input_of c.args.text.now) _ (sym c.has.ensures ∙ c.if-not-has.false) c.in-Ok.ensures.ok refl)
+    (rw (c.rescan.ensures.world, c.in-Ok.ensures.stored) at c.process_after_put.ensures.keeps)
 
-pub returns-in_err-spell_into-clause-done : goal.returns-in_err-spell_into-clause-done
-returns-in_err-spell_into-clause-done g c = λ answers begins.
-    let p = err_from_is_err_and c.from_residual.result c.from_residual.ensures.1 in
-    rw (p.1, p.2, c.in_err-spell_into.ensures.same, step-put_refused g.S.Record.RecordKind.rules answers (g.S.Store.world c.args.store.now) c.args.number c.args.field (input_of c.args.text.now) c.in_err-spell_into.field-0.0 (sym c.has.ensures ∙ c.if-not-has.false) c.in_err-spell_into.ensures.err)
+pub returns-in-Err-clause-done : goal.returns-in-Err-clause-done
+returns-in-Err-clause-done g c = λ answers begins.
+    rw (c.in-Err.ensures.same, step-put_refused g.S.Record.RecordKind.rules answers (g.S.Store.world c.args.store.now) c.args.number c.args.field (input_of c.args.text.now) (error_of c.in-Err.refused) (sym c.has.ensures ∙ c.if-not-has.false) c.in-Err.ensures.err)
     (record { world = refl; reply = refl; tally = refl })
 
 pub rescan-requires : goal.rescan-requires
 rescan-requires g c =
-    rw c.in_ok-spell_into.ensures.stored (has-put g.S.Record.RecordKind.rules (g.S.Store.world c.args.store.now) c.args.number c.args.number _ (sym c.has.ensures ∙ c.if-not-has.false))
+    rw c.in-Ok.ensures.stored (has-put g.S.Record.RecordKind.rules (g.S.Store.world c.args.store.now) c.args.number c.args.number _ (sym c.has.ensures ∙ c.if-not-has.false))

@@ -5,18 +5,18 @@ use Rattle.ioc_process.specs.Keeping.{keeps_on, closed_on}
 use Rattle.ioc_events.proofs.Stepping.{tells-event}
 use Rattle.ioc_events.proofs.events.run_put.Goals as goal
 
-pub end_effect-requires-clause-closed : goal.end_effect-requires-clause-closed
-end_effect-requires-clause-closed g c = closed_on g.S.Record.RecordKind.rules g.met.S.Record.RecordKind.lawful c.put-effect.ensures.keeps c.requires.closed
+pub end_event-requires-clause-closed : goal.end_event-requires-clause-closed
+end_event-requires-clause-closed g c = closed_on g.S.Record.RecordKind.rules g.met.S.Record.RecordKind.lawful c.put-reply.ensures.keeps c.requires.closed
 
-pub end_effect-requires-clause-room : goal.end_effect-requires-clause-room
-end_effect-requires-clause-room g c = rw (c.put-effect.ensures.keeps.count, c.put-effect.ensures.room) c.requires.room
+pub end_event-requires-clause-room : goal.end_event-requires-clause-room
+end_event-requires-clause-room g c = rw (c.put-reply.ensures.keeps.count, c.put-reply.ensures.room) c.requires.room
 
 pub returns-clause-step : goal.returns-clause-step
 returns-clause-step g c = λ answers begins.
-    rw c.of.ensures (tells-event g.S.Record.RecordKind.rules answers _ _ _ (Put c.args.number c.args.field c.args.given) _ _ _ _ _ _ c.asked-asked.ensures (c.put-effect.ensures.done answers (accords_before c.end_effect.ensures.given begins)) refl (c.end_effect.ensures.ends answers begins) refl)
+    tells-event g.S.Record.RecordKind.rules answers _ _ _ (Put c.args.number c.args.field c.args.given) _ _ _ _ _ _ c.asked-asked.ensures (c.put-reply.ensures.done answers (accords_before c.end_event.ensures.given begins)) refl (c.end_event.ensures.ends answers begins) refl
 
 pub returns-clause-keeps : goal.returns-clause-keeps
-returns-clause-keeps g c = keeps_on g.S.Record.RecordKind.rules c.put-effect.ensures.keeps c.end_effect.ensures.keeps
+returns-clause-keeps g c = keeps_on g.S.Record.RecordKind.rules c.put-reply.ensures.keeps c.end_event.ensures.keeps
 
 pub returns-clause-given : goal.returns-clause-given
-returns-clause-given g c = begins_on c.put-effect.ensures.given c.end_effect.ensures.given
+returns-clause-given g c = begins_on c.put-reply.ensures.given c.end_event.ensures.given

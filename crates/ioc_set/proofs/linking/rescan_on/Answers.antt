@@ -18,7 +18,7 @@ invariant_of-place g c =
     let rs = c.args.members.now.records in
     let place = c.args.place.now in
     let w = begun_at c.args.moment (resting rs [] []) in
-    let start = c.begin_at.ensures.world ∙ starts (record { members = c.swap.new.x; event = place.store.event }) rs c.args.moment (ap (λ (m : Contents g.row.K.Denot g.row.D.Denot). m.records) c.swap.ensures.x_after) place.none_live place.none_waits in
+    let start = c.begin_at.ensures.world ∙ starts (record { members = c.swap.new.x; event = place.store.event }) rs [] [] c.args.moment (ap (λ (m : Contents g.row.K.Denot g.row.D.Denot). m.records) c.swap.ensures.x_after) place.none_live place.none_waits in
     let is = c.rewire.ensures.world ∙ ap (λ (v : World g.row.K.Denot). rewired k c.args.before v c.args.number) start in
     record {
       no_record = ap (λ (m : Contents g.row.K.Denot g.row.D.Denot). len m.records) (c.swap-2.ensures.y_after ∙ c.swap.ensures.y_after) ∙ place.no_record;
@@ -33,7 +33,7 @@ returns-clause-left g c =
     let k = g.K.RecordKind.rules in
     let rs = c.args.members.now.records in
     let place = c.args.place.now in
-    let start = c.begin_at.ensures.world ∙ starts (record { members = c.swap.new.x; event = place.store.event }) rs c.args.moment (ap (λ (m : Contents g.row.K.Denot g.row.D.Denot). m.records) c.swap.ensures.x_after) place.none_live place.none_waits in
+    let start = c.begin_at.ensures.world ∙ starts (record { members = c.swap.new.x; event = place.store.event }) rs [] [] c.args.moment (ap (λ (m : Contents g.row.K.Denot g.row.D.Denot). m.records) c.swap.ensures.x_after) place.none_live place.none_waits in
     came_to c.rewire.new.store (record { members = c.swap-2.new.y; event = c.rewire.new.store.event }) c.swap-2.new.x (rewired k c.args.before (begun_at c.args.moment (resting rs [] [])) c.args.number)
     c.swap-2.ensures.x_after refl (c.rewire.ensures.world ∙ ap (λ (v : World g.row.K.Denot). rewired k c.args.before v c.args.number) start)
 

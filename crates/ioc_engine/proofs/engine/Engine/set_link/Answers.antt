@@ -58,7 +58,7 @@ returns-then-are_lent-clause-refused g c =
     let lent = c.are_lent.ensures.0 c.if-are_lent.true in
     err_then _ _ c.change_link-changed.result
     (λ e why. elim why [
-      | inl memory ↦ inl (inl (inr memory))
-      | inr p ↦ inr (p.0, record { held = c.deref_mut-first.result.now; here = lent.here; sound = c.all_sound.ensures.of_first; none = p.1 })
+      | inl none ↦ inr (inl none)
+      | inr p ↦ inr (inr (inr (p.0, record { held = c.deref_mut-first.result.now; here = lent.here; sound = c.all_sound.ensures.of_first; none = p.1 })))
     ])
     c.change_link-changed.ensures.refused

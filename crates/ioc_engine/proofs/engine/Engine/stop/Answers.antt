@@ -7,6 +7,7 @@ use Rattle.ioc_topology.specs.Gathered.{HoldEach}
 use Rattle.ioc_set.specs.Held.{Held}
 use Rattle.ioc_held.specs.Holding.{HeldView, numbers_of}
 use Rattle.ioc_journal.specs.Account.{IsAccount}
+use Rattle.ioc_journal.specs.Places.{PlacesOf}
 use Rattle.ioc_engine.specs.Ended.{IsAsTold, IsEnd}
 use Rattle.ioc_engine.proofs.Ending.{still_hold_each, whole}
 use Rattle.ioc_engine.proofs.engine.Engine.stop.Goals as goal
@@ -23,8 +24,8 @@ returns-clause-end g c =
     let many : length c.tell_all.new.sets ≡ length list = sym (length-map c.tell_all.new.sets (λ (h : HeldView g.row.K.Denot g.row.D.Denot). h.set)) ∙ ap (λ (l : List (Held g.row.K.Denot g.row.D.Denot)). length l) kept ∙ length-map list (λ (h : HeldView g.row.K.Denot g.row.D.Denot). h.set) in
     let as_long : c.in-Ok.all.len ≡ length list = search rules in
     let same = sym (whole c.tell_all.new.sets (drop (length c.tell_all.new.sets) list) c.in-Ok.all.len (as_long ∙ sym many)) in
-    subst (λ (l : List (HeldView g.row.K.Denot g.row.D.Denot)). IsEnd k base c.args.self c.tell_all.new.journal l) same (record {
+    subst (λ (l : List (HeldView g.row.K.Denot g.row.D.Denot)). IsEnd k base c.args.self c.tell_all.new.journal.filled l) same (record {
       each = still_hold_each (λ (h : HeldView g.row.K.Denot g.row.D.Denot). h.set) (λ (h : Held g.row.K.Denot g.row.D.Denot). keys h.records) list c.tell_all.new.sets kept c.args.self all;
-      told = subst (λ (l : List Note). All (IsAsTold k base l) c.tell_all.new.sets) (sym e.journal) e.told;
-      legal = subst (λ (l : List Note). IsAccount k base l) (sym e.journal) c.is_legal.ensures.account;
+      told = subst (λ (l : List Note). All (IsAsTold k base l) c.tell_all.new.sets) (sym (ap (λ (p : PlacesOf Note). p.filled) e.journal)) e.told;
+      legal = subst (λ (l : List Note). IsAccount k base l) (sym (ap (λ (p : PlacesOf Note). p.filled) e.journal)) c.is_legal.ensures.account;
     })

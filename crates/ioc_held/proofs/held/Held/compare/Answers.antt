@@ -34,6 +34,7 @@ invariant_of-self g c =
     record {
       owner = owner_on g.B.Room.table _ _ (cell_view c.in-Some.pass) (cell_view c.compare.new.one) e.known.0 (now_of set) (now_of set) held.owner e.table.0 known.one_knows (λ n has. has);
       holds = holds_known k c.holding_lasts.ensures base (now_of set) (cell_view c.in-Some.pass) (cell_view c.compare.new.one) e.known.0 held.owner.covers held.holds known.goes_on known.legal known.one_knows;
+      none_live = held.none_live;
     }
 
 pub invariant_of-other : goal.invariant_of-other
@@ -48,6 +49,7 @@ invariant_of-other g c =
     record {
       owner = owner_on g.B.Room.table _ _ (cell_view c.in-Some-take.beside) (cell_view c.compare.new.other) e.known.0 (now_of set) (now_of set) held.owner e.table.1 known.other_knows (λ n has. has);
       holds = holds_known k c.holding_lasts.ensures base (now_of set) (cell_view c.in-Some-take.beside) (cell_view c.compare.new.other) e.known.0 held.owner.covers held.holds known.also_goes_on known.legal known.other_knows;
+      none_live = held.none_live;
     }
 
 pub returns-clause-apart : goal.returns-clause-apart

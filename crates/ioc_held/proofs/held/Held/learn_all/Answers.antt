@@ -1,13 +1,8 @@
-use Rattle.std.proofs.Common.{◌≡◌, ℕ, Option, Some, None, refl, sym, ◌∙◌, subst}
-use Rattle.std.specs.Prelude.{IsSome}
-use Rattle.std.specs.FinMap.{get}
+use Rattle.std.proofs.Common.{◌≡◌, Option, Some, None, refl, sym, ◌∙◌, subst}
 use Rattle.crossbeam_utils.specs.Seq.{cell_view}
-use Rattle.ioc_holding.specs.Legal.{map_of}
-use Rattle.ioc_holding.specs.Held.{Holds}
-use Rattle.ioc_line.specs.declared.room.View.{View}
 use Rattle.ioc_line.specs.Line.{holder}
 use Rattle.ioc_set.specs.Held.{now_of}
-use Rattle.ioc_held.specs.Holding.{Pass, HeldView, IsHeld}
+use Rattle.ioc_held.specs.Holding.{Pass, IsHeld}
 use Rattle.ioc_held.proofs.Leading.{holds_known}
 use Rattle.ioc_held.proofs.Serving.{owner_on}
 use Rattle.ioc_held.proofs.held.Held.learn_all.Goals as goal
@@ -21,8 +16,9 @@ invariant_of-self-2 g c =
     let held = subst (λ (o : Option Pass). IsHeld k base g.B.Room.table o set) is c.self.invariant in
     let e = c.tell_all.ensures in
     record {
-      owner = owner_on g.B.Room.table _ _ (cell_view c.in-Some.pass) (cell_view c.tell_all.new.set) c.args.journal.now (now_of set) (now_of set) held.owner e.set.0 e.set.1 (λ n has. has);
-      holds = holds_known k c.holding_lasts.ensures base (now_of set) (cell_view c.in-Some.pass) (cell_view c.tell_all.new.set) c.args.journal.now held.owner.covers held.holds e.goes_on e.legal.1 e.set.1;
+      owner = owner_on g.B.Room.table _ _ (cell_view c.in-Some.pass) (cell_view c.tell_all.new.set) c.args.journal.now.filled (now_of set) (now_of set) held.owner e.set.0 e.set.1 (λ n has. has);
+      holds = holds_known k c.holding_lasts.ensures base (now_of set) (cell_view c.in-Some.pass) (cell_view c.tell_all.new.set) c.args.journal.now.filled held.owner.covers held.holds e.goes_on e.legal.1 e.set.1;
+      none_live = held.none_live;
     }
 
 pub invariant_of-self : goal.invariant_of-self
@@ -38,5 +34,5 @@ returns-clause-told g c =
     let is : c.self.inside.pass ≡ Some c.in-Some.pass = sym c.take.ensures.value ∙ c.in-Some.is in
     let held = subst (λ (o : Option Pass). IsHeld k base g.B.Room.table o set) is c.self.invariant in
     let e = c.tell_all.ensures in
-    let holds = holds_known k c.holding_lasts.ensures base (now_of set) (cell_view c.in-Some.pass) (holder c.args.journal.now (cell_view c.in-Some.pass).owns) c.args.journal.now held.owner.covers held.holds e.goes_on e.legal.1 refl in
+    let holds = holds_known k c.holding_lasts.ensures base (now_of set) (cell_view c.in-Some.pass) (holder c.args.journal.now.filled (cell_view c.in-Some.pass).owns) c.args.journal.now.filled held.owner.covers held.holds e.goes_on e.legal.1 refl in
     λ n some. holds.records n some

@@ -31,8 +31,8 @@ append-receipt-requires-clause-follows g c =
     let there : (n : ℕ) → Contains (names c.args.event.now) n → Has (now_of c.self.inside.set) n = λ n has.
     key_there c.self.inside.set.records n (subst (λ (v : HeldView g.row.K.Denot g.row.D.Denot). Contains (numbers_of v) n) (sym c.self.view_is) (c.requires.there n has)) in
     let does = c.in-Ok.ensures.ok in
-    let entry = entry_is k g.D.Device.gives c.self.inside.set c.run_in.new.set c.args.moment c.args.event.now c.in-Ok.reply (world_of c.run_in.new.workplace.store) does c.requires.ordinary there c.answers_in.result c.answers_in.ensures in
-    may_follow k g.D.Device.gives c.self.inside.set c.run_in.new.set c.args.moment c.args.event.now c.in-Ok.reply (world_of c.run_in.new.workplace.store) does c.requires.ordinary there
+    let entry = entry_is k g.D.Device.gives c.self.inside.set c.run_in.new.set c.args.moment c.args.event.now c.in-Ok.done.0 (world_of c.run_in.new.workplace.store) does c.requires.ordinary there c.in-Ok.done.1 c.in-Ok.ensures.answers in
+    may_follow k g.D.Device.gives c.self.inside.set c.run_in.new.set c.args.moment c.args.event.now c.in-Ok.done.0 (world_of c.run_in.new.workplace.store) does c.requires.ordinary there
     c.holding_lasts.ensures c.events_are_held.ensures.event c.parts_share_what_is_held.ensures.alike c.rules_are_steps.ensures.allowed c.events_keep_records.ensures
     g.B.Base.base (cell_view c.in-Some.pass).seen (cell_view c.in-Some.pass).owns held.owner.covers held.holds _ entry
 
@@ -44,18 +44,20 @@ invariant_of-self-2 g c =
     let there : (n : ℕ) → Contains (names c.args.event.now) n → Has (now_of c.self.inside.set) n = λ n has.
     key_there c.self.inside.set.records n (subst (λ (v : HeldView g.row.K.Denot g.row.D.Denot). Contains (numbers_of v) n) (sym c.self.view_is) (c.requires.there n has)) in
     let does = c.in-Ok.ensures.ok in
-    let entry = entry_is k g.D.Device.gives c.self.inside.set c.run_in.new.set c.args.moment c.args.event.now c.in-Ok.reply (world_of c.run_in.new.workplace.store) does c.requires.ordinary there c.answers_in.result c.answers_in.ensures in
+    let entry = entry_is k g.D.Device.gives c.self.inside.set c.run_in.new.set c.args.moment c.args.event.now c.in-Ok.done.0 (world_of c.run_in.new.workplace.store) does c.requires.ordinary there c.in-Ok.done.1 c.in-Ok.ensures.answers in
     let set = c.append-receipt.ensures.set in
     let added = c.append-receipt.ensures.added in
     record {
-      owner = owner_on g.B.Room.table _ _ (cell_view c.in-Some.pass) (cell_view c.append-receipt.new.set) _ (now_of c.self.inside.set) (now_of c.run_in.new.set) held.owner set.0 set.1 (only k g.D.Device.gives c.self.inside.set c.run_in.new.set c.args.moment c.args.event.now c.in-Ok.reply (world_of c.run_in.new.workplace.store) does c.requires.ordinary there
+      owner = owner_on g.B.Room.table _ _ (cell_view c.in-Some.pass) (cell_view c.append-receipt.new.set) _ (now_of c.self.inside.set) (now_of c.run_in.new.set) held.owner set.0 set.1 (only k g.D.Device.gives c.self.inside.set c.run_in.new.set c.args.moment c.args.event.now c.in-Ok.done.0 (world_of c.run_in.new.workplace.store) does c.requires.ordinary there
           c.holding_lasts.ensures c.events_are_held.ensures.event c.parts_share_what_is_held.ensures.alike c.rules_are_steps.ensures.allowed c.events_keep_records.ensures
           g.B.Base.base (cell_view c.in-Some.pass).seen (cell_view c.in-Some.pass).owns held.owner.covers held.holds);
       holds =
           subst (λ (x : View). Holds k (map_of k g.B.Base.base x.seen) (now_of c.run_in.new.set)) (sym set.1)
-          (held_then k g.D.Device.gives c.self.inside.set c.run_in.new.set c.args.moment c.args.event.now c.in-Ok.reply (world_of c.run_in.new.workplace.store) does c.requires.ordinary there
+          (held_then k g.D.Device.gives c.self.inside.set c.run_in.new.set c.args.moment c.args.event.now c.in-Ok.done.0 (world_of c.run_in.new.workplace.store) does c.requires.ordinary there
           c.holding_lasts.ensures c.events_are_held.ensures.event c.parts_share_what_is_held.ensures.alike c.rules_are_steps.ensures.allowed c.events_keep_records.ensures
           g.B.Base.base (cell_view c.in-Some.pass).seen (cell_view c.in-Some.pass).owns held.owner.covers held.holds _ entry added.0 _ added.1);
+      none_live =
+          c.sets_stay_without_puts.ensures c.self.inside.set c.run_in.new.set c.args.moment c.args.event.now c.in-Ok.reply (world_of c.run_in.new.workplace.store) does c.requires.ordinary c.is_sound.ensures held.none_live;
     }
 
 pub returns-clause-serves : goal.returns-clause-serves
@@ -66,8 +68,8 @@ returns-clause-serves g c =
     let there : (n : ℕ) → Contains (names c.args.event.now) n → Has (now_of c.self.inside.set) n = λ n has.
     key_there c.self.inside.set.records n (subst (λ (v : HeldView g.row.K.Denot g.row.D.Denot). Contains (numbers_of v) n) (sym c.self.view_is) (c.requires.there n has)) in
     let does = c.in-Ok.ensures.ok in
-    let entry = entry_is k g.D.Device.gives c.self.inside.set c.run_in.new.set c.args.moment c.args.event.now c.in-Ok.reply (world_of c.run_in.new.workplace.store) does c.requires.ordinary there c.answers_in.result c.answers_in.ensures in
+    let entry = entry_is k g.D.Device.gives c.self.inside.set c.run_in.new.set c.args.moment c.args.event.now c.in-Ok.done.0 (world_of c.run_in.new.workplace.store) does c.requires.ordinary there c.in-Ok.done.1 c.in-Ok.ensures.answers in
     let set = c.append-receipt.ensures.set in
-    subst (λ (v : HeldView g.row.K.Denot g.row.D.Denot). Serves k g.D.Device.gives g.B.Base.base v c.args.desk.now c.args.moment c.args.event.now c.in-Ok.reply
+    subst (λ (v : HeldView g.row.K.Denot g.row.D.Denot). Serves k g.D.Device.gives g.B.Base.base v c.args.desk.now c.args.moment c.args.event.now c.in-Ok.done.0
     (held_view c.run_in.new.set (cell_view c.append-receipt.new.set).seen) c.append-receipt.new.desk (world_of c.run_in.new.workplace.store)) c.self.view_is
     (record { does = does; call = subst (λ (x : Entry). Call k g.B.Base.base c.args.desk.now x c.append-receipt.new.desk) (sym entry) c.append-receipt.ensures.call; seen = ap (λ (v : View). v.seen) set.1 })

@@ -1,10 +1,11 @@
-use Rattle.std.proofs.Common.{rules, ◌≡◌, [], ◌∷◌, sym, ap, ◌∙◌, subst}
+use Rattle.std.proofs.Common.{rules, ◌≡◌, ◌≤◌, List, length, arith, [], ◌∷◌, sym, ap, ◌∙◌, subst}
 use Rattle.crossbeam_utils.specs.Seq.{cell_view}
+use Rattle.ioc_line.specs.declared.entry.Note.{Note}
 use Rattle.ioc_line.specs.declared.room.View.{View}
 use Rattle.ioc_line.specs.Key.{Has}
 use Rattle.ioc_line.specs.Line.{longer, Continues}
 use Rattle.ioc_journal.specs.Account.{DeskView, desk_key, calls, calls_by, Below, IsAccount}
-use Rattle.ioc_journal.proofs.Calls.{below_on, calls_on, account_longer}
+use Rattle.ioc_journal.proofs.Calls.{no_longer, below_on, calls_on, account_longer}
 use Rattle.ioc_journal.proofs.desk.Desk.learn.Goals as goal
 
 pub invariant_of-self : goal.invariant_of-self
@@ -24,6 +25,7 @@ invariant_of-self g c =
       same = e.kept.0 ∙ i.same;
       holds = e.kept.1 ∙ search rules;
       below = subst (λ l. Below d c.self.inside.next (calls l)) (sym seen) (below_on _ all d c.self.inside.next go account.keyed i.below);
+      count = subst (λ (l : List Note). c.self.inside.next ≤ length l) (sym seen) (let within = no_longer _ all (desk_key d ∷ []) go in omega (arith, i.count, within));
       account = subst (IsAccount k g.B.Base.base) (sym seen) account;
     }
 

@@ -1,12 +1,15 @@
-use Rattle.std.proofs.Common.{◌≡◌, ◌+◌, ◌<◌, List, [], ◌∷◌, ◌++◌, length, refl, sym, ap, ◌∙◌, subst, inl, ⊎_elim, arith, length-append, ap₂}
+use Rattle.std.proofs.Common.{◌≡◌, ◌+◌, ◌<◌, ◌≤◌, List, [], ◌∷◌, ◌++◌, length, refl, sym, ap, ◌∙◌, subst, inl, ⊎_elim, arith, length-append, ap₂}
 use Rattle.crossbeam_utils.specs.Seq.{cell_view}
+use Rattle.ioc_line.specs.declared.entry.JournalEntry.{JournalEntry}
 use Rattle.ioc_line.specs.declared.entry.Note.{Note}
 use Rattle.ioc_line.specs.declared.room.View.{View}
 use Rattle.ioc_line.specs.Key.{Has}
 use Rattle.ioc_line.specs.Line.{keeper, holder, noted}
 use Rattle.ioc_line.specs.KeyLaws.{has_either}
 use Rattle.ioc_journal.specs.Account.{DeskView, desk_view, desk_key, journalled, calls, Below, IsAccount, Call, AddedByBoth}
-use Rattle.ioc_journal.proofs.Calls.{calls-append, length-calls, below_other, account_then, below_then, called}
+use Rattle.ioc_journal.specs.Places.{PlacesOf}
+use Rattle.ioc_journal.proofs.Calls.{calls-append, length-calls, below_other, no_longer, counted, account_then, below_then, called}
+use Rattle.ioc_journal.proofs.Room.{as_many}
 use Rattle.ioc_journal.proofs.journal.Journal.append_two.Goals as goal
 
 pub deal-pass-requires-clause-apart_desk : goal.deal-pass-requires-clause-apart_desk
@@ -33,7 +36,7 @@ invariant_of-result g c =
     record {
       same = e.receipt.0 ∙ i.same;
       holds = e.receipt.2 ∙ ap (λ l. holder l []) (sym told);
-      ends = ap length seen ∙ omega (arith, length-append log (noted (journalled n next c.args.entry) (owns ++ own) ∷ []), length-calls log, ap length i.items_are, c.len-index.ensures);
+      ends = ap length seen ∙ omega (arith, length-append log (noted (journalled n next c.args.entry) (owns ++ own) ∷ []), length-calls log, ap length i.items_are, c.len-index.ensures.count);
       account = subst (IsAccount k g.B.Base.base) (sym seen) (account_then k g.B.Base.base log (cell_view c.desk.inside.pass).seen n next c.args.entry owns own (ap (λ (v : View). v.owns) d.holds) i.account e.goes_on.2 d.below leads);
     }
 
@@ -56,7 +59,7 @@ invariant_of-self g c =
     record {
       same = e.keeper.0 ∙ i.same;
       keeps = e.keeper.1 ∙ ap₂ keeper (sym seen) (sym born);
-      items_are = c.fill.ensures ∙ (ap (λ l. l ++ made ∷ []) i.items_are ∙ (sym (calls-append log (noted made (owns ++ own) ∷ [])) ∙ ap calls (sym seen)));
+      items_are = ap (λ (p : PlacesOf JournalEntry). p.filled) c.fill.ensures.filled ∙ (ap (λ l. l ++ made ∷ []) i.items_are ∙ (sym (calls-append log (noted made (owns ++ own) ∷ [])) ∙ ap calls (sym seen)));
       sound = i.sound;
       account = subst (IsAccount k g.B.Base.base) (sym seen) (account_then k g.B.Base.base log (cell_view c.desk.inside.pass).seen n next c.args.entry owns own (ap (λ (v : View). v.owns) d.holds) i.account e.goes_on.2 d.below leads);
       given = λ key has kind. i.given key (subst (Has key) born has) kind;
@@ -81,6 +84,7 @@ invariant_of-desk g c =
       same = e.desk.0 ∙ d.same;
       holds = e.desk.1 ∙ ap₂ holder (sym told) (ap (λ (v : View). v.owns) d.holds);
       below = subst (λ l. Below n (next + 1) (calls l)) (sym seen) (below_then k g.B.Base.base log (cell_view c.desk.inside.pass).seen n next c.args.entry owns own (ap (λ (v : View). v.owns) d.holds) i.account e.goes_on.2 d.below leads);
+      count = subst (λ (l : List Note). next + 1 ≤ length l) (sym seen) (counted (cell_view c.desk.inside.pass).seen log own (noted (journalled n next c.args.entry) (owns ++ own)) next d.count e.goes_on.2);
       account = subst (IsAccount k g.B.Base.base) (sym seen) (account_then k g.B.Base.base log (cell_view c.desk.inside.pass).seen n next c.args.entry owns own (ap (λ (v : View). v.owns) d.holds) i.account e.goes_on.2 d.below leads);
     }
 
@@ -104,7 +108,7 @@ pub returns-clause-added : goal.returns-clause-added
 returns-clause-added g c =
     let i = c.self.invariant in
     let e = c.deal-pass.ensures in
-    subst (λ (l : List Note). AddedByBoth g.K.RecordKind.rules g.B.Base.base (cell_view c.args.one.now).seen (cell_view c.args.one.now).owns (cell_view c.args.other.now).seen (cell_view c.args.other.now).owns c.args.entry l (cell_view c.deal-pass.new.master).seen) c.self.view_is
+    subst (λ (l : List Note). AddedByBoth g.K.RecordKind.rules g.B.Base.base (cell_view c.args.one.now).seen (cell_view c.args.one.now).owns (cell_view c.args.other.now).seen (cell_view c.args.other.now).owns c.args.entry l (cell_view c.deal-pass.new.master).seen) (ap (λ (p : PlacesOf Note). p.filled) c.self.view_is)
     (record {
       desk = c.desk.inside.number;
       call = c.desk.inside.next;
@@ -115,3 +119,14 @@ returns-clause-added g c =
       legal = i.account.legal;
       ends = ap (λ (v : View). v.seen) e.keeper.1;
     })
+
+pub overflow_add-desk : goal.overflow_add-desk
+overflow_add-desk g c =
+    let log = (cell_view c.self.inside.pass).seen in
+    let d = c.desk.invariant in
+    let many = as_many c.self.inside.entries.filled log c.self.invariant.items_are in
+    let count = d.count in
+    let longer = no_longer (cell_view c.desk.inside.pass).seen log (cell_view c.desk.inside.pass).owns c.deal-pass.ensures.goes_on.2 in
+    let within = c.len-index.ensures.within in
+    let few = c.len-index.ensures.few in
+    omega (arith, many, count, longer, within, few)

@@ -1,8 +1,10 @@
 use Rattle.std.proofs.Common.{sym, ap, ◌∙◌, subst, arith}
 use Rattle.crossbeam_utils.specs.Seq.{cell_view}
+use Rattle.ioc_line.specs.declared.entry.JournalEntry.{JournalEntry}
 use Rattle.ioc_line.specs.declared.room.View.{View}
 use Rattle.ioc_line.specs.Line.{keeper}
 use Rattle.ioc_journal.specs.Account.{calls, Below, IsAccount}
+use Rattle.ioc_journal.specs.Places.{PlacesOf}
 use Rattle.ioc_journal.proofs.journal.Journal.new.Goals as goal
 
 pub invariant_of-result : goal.invariant_of-result
@@ -12,7 +14,7 @@ invariant_of-result g c =
     record {
       same = c.requires.table;
       keeps = is ∙ ap (λ l. keeper l (cell_view c.args.master).born) (sym seen);
-      items_are = c.new.ensures ∙ ap calls (sym seen);
+      items_are = ap (λ (p : PlacesOf JournalEntry). p.filled) c.new.ensures ∙ ap calls (sym seen);
       sound = c.requires.sound;
       account = subst (IsAccount g.K.RecordKind.rules g.B.Base.base) (sym seen) (record { legal = tt; rising = tt; keyed = tt });
       given = λ key has kind. let none = c.requires.given key has in omega arith;

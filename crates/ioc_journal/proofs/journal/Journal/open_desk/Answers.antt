@@ -1,9 +1,11 @@
 use Rattle.std.proofs.Common.{◌≡◌, ◌<◌, [], ◌∷◌, refl, sym, ap, ap₂, ◌∙◌, subst, ⊎_elim, arith}
 use Rattle.crossbeam_utils.specs.Seq.{cell_view}
+use Rattle.ioc_line.specs.declared.entry.Note.{Note}
 use Rattle.ioc_line.specs.declared.room.View.{View}
 use Rattle.ioc_line.specs.Key.{Key, Has}
 use Rattle.ioc_line.specs.Line.{keeper, claiming}
 use Rattle.ioc_journal.specs.Account.{desk_key, calls, calls_by, Below, IsAccount}
+use Rattle.ioc_journal.specs.Places.{PlacesOf}
 use Rattle.ioc_journal.proofs.Calls.{none_below}
 use Rattle.ioc_journal.proofs.journal.Journal.open_desk.Goals as goal
 
@@ -35,4 +37,4 @@ returns-clause-desk g c =
     let i = c.self.invariant in
     let d = c.self.inside.desks in
     let seen = ap (λ (v : View). v.seen) c.claim_key-pass.ensures.given.2 in
-    (refl, seen ∙ c.self.view_is, ap (λ l. calls_by d (calls l)) seen ∙ none_below d (calls (cell_view c.self.inside.pass).seen) (i.new_desk d (omega arith)))
+    (refl, seen ∙ ap (λ (p : PlacesOf Note). p.filled) c.self.view_is, ap (λ l. calls_by d (calls l)) seen ∙ none_below d (calls (cell_view c.self.inside.pass).seen) (i.new_desk d (omega arith)))

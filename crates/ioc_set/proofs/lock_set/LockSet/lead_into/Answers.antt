@@ -1,4 +1,4 @@
-use Rattle.std.proofs.Common.{◌≡◌, ap, subst, sym}
+use Rattle.std.proofs.Common.{◌≡◌, ◌∙◌, ap, subst, sym}
 use Rattle.std.specs.Prelude.{IsSome, is_some}
 use Rattle.std.specs.FinMap.{get}
 use Rattle.ioc_members.specs.Contents.{Records}
@@ -25,8 +25,23 @@ unite-requires-clause-free g c =
     is-free k c.fold.new.self.records c.split.new.self.records c.in_ok-rest.rest.records c.args.number c.args.field c.empty.result c.in_ok-rest.ensures.apart.shared g.met.K.RecordKind.lawful
     (subst (λ (rs : Records g.row.K.Denot). HasLink k rs c.args.number c.args.field) (sym same) c.requires.field) c.in_ok-rest.ensures.apart.own c.empty.ensures
 
-pub rescan-requires : goal.rescan-requires
-rescan-requires g c =
+pub split-requires-clause-none : goal.split-requires-clause-none
+split-requires-clause-none g c =
+    let is = c.fold.ensures in
+    (ap (λ (h : Held g.row.K.Denot g.row.D.Denot). h.live) is ∙ c.requires.none.0.0, ap (λ (h : Held g.row.K.Denot g.row.D.Denot). h.waiting) is ∙ c.requires.none.0.1)
+
+pub unite-requires-clause-none : goal.unite-requires-clause-none
+unite-requires-clause-none g c =
+    let stays = c.in_ok-rest.ensures.apart.stays in
+    ((ap (λ (h : Held g.row.K.Denot g.row.D.Denot). h.live) stays, ap (λ (h : Held g.row.K.Denot g.row.D.Denot). h.waiting) stays), c.requires.none.1)
+
+pub rescan-requires-clause-none : goal.rescan-requires-clause-none
+rescan-requires-clause-none g c =
+    let all = c.unite.ensures.all in
+    (ap (λ (h : Held g.row.K.Denot g.row.D.Denot). h.live) all, ap (λ (h : Held g.row.K.Denot g.row.D.Denot). h.waiting) all)
+
+pub rescan-requires-clause-there : goal.rescan-requires-clause-there
+rescan-requires-clause-there g c =
     both-have g.K.RecordKind.rules c.unite.new.self.records c.split.new.self.records c.args.other.now.records c.args.number c.args.field c.args.link c.unite.ensures.shared
 
 pub returns-clause-led : goal.returns-clause-led

@@ -1,0 +1,59 @@
+#!/bin/sh
+# Counts what requests and link changes of lock sets take, by bench/sets.txt, built without proof (unproved.sh): instructions by valgrind's
+# callgrind, memory as the system tells it, and the time of one thread and of four.
+# Usage: sets.sh FOLDER
+set -eu
+bench=$(cd "$(dirname "$0")" && pwd)
+mkdir -p "$1"
+folder=$(cd "$1" && pwd)
+tree="$folder/tree"
+sh "$bench/engine_program.sh" "$tree" sets
+program="$folder/program"
+mv "$tree/program" "$program"
+sh "$bench/unproved.sh" "$tree" ioc_replay
+
+database() { # RECORDS CHAINED: as many records, of which the first ones stand in chains of ten
+  awk -v n="$1" -v chained="$2" 'BEGIN {
+    for (i = 0; i < n; i++) {
+      printf "record(longin,\"r%d\"){", i
+      if (i < chained && i % 10 != 9 && i % 10 != 0) printf "field(FLNK,\"r%d\")", i + 1
+      if (i < chained && i % 10 == 0) printf "field(SDIS,\"r%d\")", i + 1
+      print "}"
+    }
+  }'
+}
+database 1 0 > "$folder/one.db"
+database 4 0 > "$folder/four.db"
+database 1000 20 > "$folder/few.db"
+database 131072 20 > "$folder/many.db"
+
+count() { # DB MODE TIMES
+  valgrind --tool=callgrind --callgrind-out-file=/dev/null "$program" "$1" "$2" "$3" 2>&1 >/dev/null | awk '/Collected/ { print $4 }'
+}
+
+each() { # DB MODE: instructions a call, of the second thousand
+  echo $((($(count "$1" "$2" 2000) - $(count "$1" "$2" 1000)) / 1000))
+}
+
+memory() { # WORDS..: kilobytes at most, and kilobytes after three seconds
+  "$@" > "$folder/out" &
+  sleep 3
+  awk '/VmHWM/ { most = $2 } /VmRSS/ { rest = $2 } END { print most " kilobytes at most, " rest " at rest" }' "/proc/$!/status"
+  kill $!
+}
+
+for mode in alone bare engine; do
+  echo "a request of a lone longin, $mode: $(each "$folder/one.db" $mode) instructions"
+done
+for db in few many; do
+  echo "a link change between two sets of ten, $db records: $(each "$folder/$db.db" link) instructions"
+done
+for mode in load start; do
+  echo "131,072 records, $mode: $(memory "$program" "$folder/many.db" $mode 20)"
+done
+mkfifo "$folder/script"
+sleep 20 > "$folder/script" &
+echo "131,072 records, ioc-replay: $(memory "$tree/program" "$folder/many.db" "$folder/script")"
+for mode in one four; do
+  "$program" "$folder/four.db" $mode 200000
+done

@@ -1,0 +1,35 @@
+-- Places for calls: the list of entries has as many as the list of notes.
+use Rattle.std.proofs.Common.{◌≡◌, ◌≤◌, ◌<◌, ◌+◌, ℕ, List, length, Result, Ok, Err, inl, inr, ap, ◌∙◌, arith}
+use Rattle.std.specs.Prelude.{IfOk, IfErr, ◌⊎◌}
+use Rattle.ioc_values.specs.declared.error.IocError.{IocError}
+use Rattle.ioc_line.specs.declared.entry.JournalEntry.{JournalEntry}
+use Rattle.ioc_line.specs.declared.entry.Note.{Note}
+use Rattle.ioc_journal.specs.Account.{calls}
+use Rattle.ioc_journal.specs.Places.{PlacesOf, places_of, HoldsOne, HoldsNone}
+use Rattle.ioc_journal.proofs.Calls.{length-calls}
+
+pub as_many : (items : List JournalEntry) (seen : List Note) → items ≡ calls seen → length items ≡ length seen
+as_many items seen is = ap length is ∙ length-calls seen
+
+module _ (items then : PlacesOf JournalEntry) (seen : List Note) (is : items.filled ≡ calls seen) where
+  holds_one : HoldsOne items then → HoldsOne (places_of seen items.held items.limit) (places_of seen then.held then.limit)
+  holds_one h = record {
+    room = let many = as_many items.filled seen is in let room = h.room in omega (arith, many, room);
+    one = λ i. places_of seen ((h.one i).held) ((h.one i).limit);
+  }
+
+  holds_none : (error : IocError) → HoldsNone items error → HoldsNone (places_of seen items.held items.limit) error
+  holds_none error h =
+      let many = as_many items.filled seen is in
+      elim h [
+        | inl full ↦ inl ((let e = full.0 in omega (arith, many, e)), full.1)
+        | inr room ↦ inr ((let l = room.0 in omega (arith, many, l)), room.1)
+      ]
+
+  pub if_one : {A : Type 0} (r : Result A IocError) → IfOk r (λ _. HoldsOne items then) → IfOk r (λ _. HoldsOne (places_of seen items.held items.limit) (places_of seen then.held then.limit))
+  if_one (Ok x) h = holds_one h
+  if_one (Err e) h = h
+
+  pub if_none : {A : Type 0} (r : Result A IocError) → IfErr r (HoldsNone items) → IfErr r (HoldsNone (places_of seen items.held items.limit))
+  if_none (Ok x) h = h
+  if_none (Err e) h = holds_none e h

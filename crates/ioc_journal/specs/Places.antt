@@ -1,0 +1,43 @@
+-- A list of so many places at most, of which some are held before they are filled.
+-- This project's own.
+use Rattle.std.specs.Prelude.{◌≡◌, ◌⊎◌, ◌≤◌, ◌<◌, ◌+◌, ℕ, List, length}
+use Rattle.ioc_values.specs.declared.error.IocError.{IocError}
+use Rattle.ioc_values.specs.declared.error.IocError.TheVariants.{NoMemory, JournalFull}
+use Rattle.ioc_journal.specs.declared.limits.Limits.{Limits}
+
+-- what fills places, how many more are held, and how many there are in all
+pub record PlacesOf (X : Type 0) : Type 0 where
+  pub filled : List X
+  pub held : ℕ
+  pub limit : ℕ
+
+abbrev pub places_of : {X : Type 0} → List X → ℕ → ℕ → PlacesOf X
+places_of filled held limit = record { filled = filled; held = held; limit = limit }
+
+-- one more is held
+abbrev pub one_more_held : {X : Type 0} → PlacesOf X → PlacesOf X
+one_more_held p = places_of p.filled (p.held + 1) p.limit
+
+-- what is filled and what is held make the limit
+abbrev pub IsFull : {X : Type 0} → PlacesOf X → Type 0
+IsFull p = length p.filled + p.held ≡ p.limit
+
+abbrev pub HasRoom : {X : Type 0} → PlacesOf X → Type 0
+HasRoom p = length p.filled + p.held < p.limit
+
+-- a place that was free is held
+pub record HoldsOne {X : Type 0} (before after : PlacesOf X) : Type 0 where
+  pub room : HasRoom before
+  pub one : after ≡ one_more_held before
+
+-- no place can be held: there is none, or there is one, but no memory for it
+abbrev pub HoldsNone : {X : Type 0} → PlacesOf X → IocError → Type 0
+HoldsNone p error = (IsFull p × (error ≡ JournalFull)) ⊎ (HasRoom p × (error ≡ NoMemory))
+
+-- how a call that wants a place is refused
+abbrev pub IsNoPlace : IocError → Type 0
+IsNoPlace error = (error ≡ JournalFull) ⊎ (error ≡ NoMemory)
+
+-- how many places a journal may have
+abbrev pub AreAllowed : Limits → Type 0
+AreAllowed limits = (1 ≤ limits.journal) × (limits.journal ≤ 4194304)

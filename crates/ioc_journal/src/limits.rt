@@ -1,0 +1,27 @@
+//! What an engine is limited to.
+ghost use Rattle.std.specs.Prelude.{◌≡◌, ◌↔◌, IsTrue};
+ghost use Rattle.ioc_journal.specs.Places.{AreAllowed};
+
+/// The limits of an engine. The number of places in its journal is that of the calls it can take.
+#[derive(Clone, Copy, PartialEq, Eq, Debug)]
+pub struct Limits {
+    /// How many places the journal has, for entries and for those that are on their way: from 1 to 4,194,304.
+    pub journal: u64,
+}
+
+impl Default for Limits {
+    ghost is_default = { λ limits. limits.journal ≡ 100000 };
+
+    fn default() -> Limits {
+        Limits { journal: 100_000 }
+    }
+}
+
+impl Limits {
+    /// Are they within their ranges?
+    pub fn are_allowed(&self) -> bool
+        ensures { IsTrue result ↔ AreAllowed self.now }
+    {
+        self.journal >= 1 && self.journal <= 4_194_304
+    }
+}

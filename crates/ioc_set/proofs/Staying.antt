@@ -1,0 +1,51 @@
+-- Where no put with notification is live on a set, none is after a request, a put or a completion.
+use Rattle.std.proofs.Common.{◌≡◌, ◌≢◌, ℕ, true, false, [], ◌∷◌, refl, ap, ◌∙◌, subst}
+use Rattle.ioc_device.specs.declared.Ask.{Ask}
+use Rattle.ioc_device.specs.declared.Answer.{Answer}
+use Rattle.ioc_ledger.specs.Requests.{Requests}
+use Rattle.ioc_record.specs.RecordRules.{RecordRules}
+use Rattle.ioc_store.specs.World.{World, begun_at}
+use Rattle.ioc_store.specs.Given.{Answers, answers_of, listed}
+use Rattle.ioc_events.specs.declared.event.Event.{Event}
+use Rattle.ioc_events.specs.declared.event.Event.TheVariants.{Get, Process, Put, Complete, Link, Notify, Cancel, IsLive}
+use Rattle.ioc_events.specs.declared.event.Entry.{Entry}
+use Rattle.ioc_events.specs.declared.reply.Reply.{Reply}
+use Rattle.ioc_events.specs.declared.reply.Reply.TheVariants.{Notify as Notify-reply}
+use Rattle.ioc_events.specs.Step.{stepped}
+use Rattle.ioc_events.specs.StepRules.{Step, Replay, at_the_end, and_then}
+use Rattle.ioc_events.specs.Holding.{IsCounted}
+use Rattle.ioc_set.specs.Held.{Held, NoneIsLive, now_of, done_by}
+use Rattle.ioc_set.specs.Sound.{IsSound, is_put_with_notification}
+use Rattle.ioc_set.specs.Doing.{is_ordinary, with_place, Does}
+use Rattle.ioc_set.proofs.DoneLaws.{now_kept}
+
+ordinary_alone : (event : Event) → is_ordinary event ≡ true → is_put_with_notification event ≡ true → ⊥
+ordinary_alone (Get s field) is put = absurd (let z : false ≡ true = is in cc)
+ordinary_alone (Process s) is put = absurd (let z : false ≡ true = put in cc)
+ordinary_alone (Put s field given) is put = absurd (let z : false ≡ true = put in cc)
+ordinary_alone (Complete s n x) is put = absurd (let z : false ≡ true = put in cc)
+ordinary_alone (Link s field link) is put = absurd (let z : false ≡ true = is in cc)
+ordinary_alone (Notify s n field given) is put = absurd (let z : false ≡ true = is in cc)
+ordinary_alone (Cancel n) is put = absurd (let z : false ≡ true = is in cc)
+ordinary_alone (IsLive n) is put = absurd (let z : false ≡ true = is in cc)
+
+module _ {R D : Type 0} (k : RecordRules R) (gives : D → Ask → ℕ → Answer → D → Type 0)
+    (allowed : (answers : Answers) (w : World R) (event : Event) → Step k answers w event (stepped k answers w event).world (stepped k answers w event).reply (stepped k answers w event).requests)
+    (stays : (w after : World R) (entry : Entry) → Replay k w (entry ∷ []) after → IsCounted k w → w.live ≡ [] → ((n : ℕ) → entry.reply ≢ Notify-reply n) → (after.live ≡ []) × (after.waiting ≡ []))
+    (begin : (answers : Answers) (w after : World R) (event : Event) (reply : Reply) (requests : Requests) (n : ℕ) → Step k answers w event after reply requests → reply ≡ Notify-reply n → is_put_with_notification event ≡ true) where
+  pub stays_without : (h after : Held R D) (moment : ℕ) (event : Event) (reply : Reply) (come_to : World R) → Does k gives h moment event reply after come_to → is_ordinary event ≡ true → IsSound k h → NoneIsLive h → NoneIsLive after
+  stays_without h after moment event reply come_to does ordinary sound none =
+      let e = does.entry in
+      let answers = listed e.answers in
+      let w = begun_at e.moment (now_of h) in
+      let done = done_by k (now_of h) e in
+      let same : now_of (with_place h) ≡ now_of h = now_kept h (with_place h) refl in
+      let replied = subst (λ (v : World R). (done_by k v e).reply ≡ e.reply) same does.tells.reply in
+      let used = subst (λ (v : World R). answers_of (done_by k v e).world.calls ≡ e.answers) same does.tells.answers in
+      let ours : is_ordinary e.event ≡ true = ap is_ordinary does.event ∙ ordinary in
+      let step = subst (λ (r : Reply). Step k answers w e.event done.world r done.requests) replied (allowed answers w e.event) in
+      let left = stays (now_of h) done.world e (and_then step used at_the_end) sound.counted none.0
+      (λ n is. ordinary_alone e.event ours (begin answers w done.world e.event e.reply done.requests n step is)) in (
+        ap (λ (z : Held R D). z.live) does.after ∙ ap (λ (v : World R). (done_by k v e).world.live) same ∙ left.0,
+        ap (λ (z : Held R D). z.waiting) does.after ∙ ap (λ (v : World R). (done_by k v e).world.waiting) same ∙ left.1,
+      )
