@@ -29,6 +29,7 @@ use ioc_record::add_text;
 use ioc_scan::{ListName, Period};
 use ioc_script::{
     Command, count_line, ended_line, say_effect, say_refusal, say_reply, split_before, tally_line,
+    words_of_put,
 };
 use ioc_store::Store;
 use ioc_types::Record;
@@ -221,27 +222,16 @@ impl Replay {
     }
 
     #[inline(never)]
-    fn scan(&mut self, list: &ListName, replies: &mut Replies) -> Result<(), AllocError>
-        requires { length replies.old + 256 ≤ 4096 }
-        ensures names { self.new.names ≡ self.old.names }
-        ensures machine { OnOk result (machine_of self.new.machine ≡ (scanned record_rules (machine_of self.old.machine) list.now).machine) }
-        ensures said { OnOk result (replies.new ≡ replies.old ++ count_words (scanned record_rules (machine_of self.old.machine) list.now).count ++ 10 ∷ []) }
-        ensures kept { OnErr result (replies.new ≡ replies.old) }
-    {
-        let count = self.machine.scan(list)?;
-        replies.extend(count_line(count).as_slice());
-        Ok(())
-    }
-
-    #[inline(never)]
-    fn scan_period(&mut self, period: &Period, replies: &mut Replies) -> Result<(), AllocError>
+    fn scan(&mut self, period: &Period, replies: &mut Replies) -> Result<(), AllocError>
         requires { length replies.old + 256 ≤ 4096 }
         ensures names { self.new.names ≡ self.old.names }
         ensures machine { OnOk result (machine_of self.new.machine ≡ (scanned record_rules (machine_of self.old.machine) (Period-list period.now)).machine) }
         ensures said { OnOk result (replies.new ≡ replies.old ++ count_words (scanned record_rules (machine_of self.old.machine) (Period-list period.now)).count ++ 10 ∷ []) }
         ensures kept { OnErr result (replies.new ≡ replies.old) }
     {
-        self.scan(&ListName::Period(*period), replies)
+        let count = self.machine.scan(&ListName::Period(*period))?;
+        replies.extend(count_line(count).as_slice());
+        Ok(())
     }
 
     #[inline(never)]
@@ -382,7 +372,7 @@ impl Replay {
             )?,
             Command::Event(name) => self.post(name, &mut said.replies)?,
             Command::Interrupt(word) => self.interrupt(word, &mut said.replies)?,
-            Command::Scan(period) => self.scan_period(&period, &mut said.replies)?,
+            Command::Scan(period) => self.scan(&period, &mut said.replies)?,
             Command::Link(record, field, text) => {
                 self.link(record, field, text, &mut said.replies)?;
             }
@@ -440,7 +430,7 @@ impl Replay {
 
     // The same. A line that puts is told by its first bytes, since most lines with a value are these.
     #[inline(always)]
-    #[tactic(auto, using(crate::proofs::Telling::put_command, crate::proofs::Telling::put_speaks, crate::proofs::Getting::said_shortly, crate::proofs::Getting::stands_before, crate::proofs::Getting::stands_alone))]
+    #[tactic(auto, using(crate::proofs::Telling::put_speaks, crate::proofs::Getting::said_shortly, crate::proofs::Getting::stands_before, crate::proofs::Getting::stands_alone))]
     fn do_line(&mut self, line: &[u8], said: &mut Said) -> Result<bool, AllocError>
         requires room { length said.old.replies + 256 ≤ 4096 }
         requires none { said.old.more.items ≡ [] }
@@ -450,15 +440,12 @@ impl Replay {
         ensures said { OnOk result (said.new.replies ++ said.new.more.items ≡ said.old.replies ++ (carried_out record_rules self.old.names (machine_of self.old.machine) (command_of line.now)).said) }
         ensures stands { Stands said.old.replies said.new.replies }
     {
-        if line.len() > 1024 {
-            return self.do_any(line, said);
-        }
-        match line {
-            [b'p', b'u', b't', b' ', words @ ..] => {
+        match words_of_put(line) {
+            Some(words) => {
                 self.put_words(words, &mut said.replies)?;
                 Ok(false)
             }
-            _ => self.do_any(line, said),
+            None => self.do_any(line, said),
         }
     }
 

@@ -1,6 +1,7 @@
 //! What a line of a script asks for.
 ghost use Rattle.std.specs.Prelude.{◌≡◌, option_map};
-ghost use Rattle.ioc_script.specs.Script.{command_of, worded, by_verb, process_of, put_of, get_of, at_of, next_by, next_of, done_of, fault_of, by_device_verb, by_scan_verb, by_link_verb, link_of, interrupt_of, period_named, scan_of, by_notify_verb, notify_of, cancel_of, is_silent};
+ghost use Rattle.std.specs.Option.{IfSome};
+ghost use Rattle.ioc_script.specs.Script.{before, behind, command_of, worded, by_verb, process_of, put_of, get_of, at_of, next_by, next_of, done_of, fault_of, by_device_verb, by_scan_verb, by_link_verb, link_of, interrupt_of, period_named, scan_of, by_notify_verb, notify_of, cancel_of, is_silent};
 ghost use Rattle.ioc_script.specs.Seen.{seen, bytes};
 
 use crate::parts::cut_at;
@@ -94,6 +95,22 @@ fn worded(line: &[u8]) -> Command<'_>
             process(word, more)
         }
         _ => by_first_word(line),
+    }
+}
+
+/// The words behind `put`, where a line is one that puts. It is told by its first bytes, and no command is made for it: a command is as wide
+/// as the widest of all lines.
+#[inline(always)]
+#[tactic(auto, unfolding(crate::specs::Script::command_of), using(crate::proofs::Verbs::put_line))]
+pub fn words_of_put(line: &[u8]) -> Option<&[u8]>
+    ensures { IfSome result (λ words. command_of line.now ≡ put_of (before 32 words.now) (behind 32 words.now)) }
+{
+    if line.len() > 1024 {
+        return None;
+    }
+    match line {
+        [b'p', b'u', b't', b' ', words @ ..] => Some(words),
+        _ => None,
     }
 }
 

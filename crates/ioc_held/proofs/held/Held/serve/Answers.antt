@@ -57,7 +57,7 @@ invariant_of-self-2 g c =
           c.holding_lasts.ensures c.events_are_held.ensures.event c.parts_share_what_is_held.ensures.alike c.rules_are_steps.ensures.allowed c.events_keep_records.ensures
           g.B.Base.base (cell_view c.in-Some.pass).seen (cell_view c.in-Some.pass).owns held.owner.covers held.holds _ entry added.0 _ added.1);
       none_live =
-          c.sets_stay_without_puts.ensures c.self.inside.set c.run_in.new.set c.args.moment c.args.event.now c.in-Ok.reply (world_of c.run_in.new.workplace.store) does c.requires.ordinary c.is_sound.ensures held.none_live;
+          c.sets_stay_without_puts.ensures c.self.inside.set c.run_in.new.set c.args.moment c.args.event.now c.in-Ok.done.0 (world_of c.run_in.new.workplace.store) does c.requires.ordinary c.is_sound.ensures held.none_live;
     }
 
 pub returns-clause-serves : goal.returns-clause-serves
