@@ -1,6 +1,6 @@
 -- What a call of the engine was.
 -- Application Developer's Guide, "Database Locking, Scanning, and Processing". The journal is this project's own.
-use Rattle.std.specs.Prelude.{ℕ, ◌≡◌, ◌⊎◌, Contains}
+use Rattle.std.specs.Prelude.{ℕ, ◌≡◌, ◌⊎◌, Some, Contains}
 use Rattle.ioc_values.specs.declared.error.IocError.{IocError}
 use Rattle.ioc_values.specs.declared.error.IocError.TheVariants.{Stopped}
 use Rattle.ioc_device.specs.declared.Ask.{Ask}
@@ -11,15 +11,24 @@ use Rattle.ioc_events.specs.declared.event.Event.{Event}
 use Rattle.ioc_events.specs.declared.reply.Reply.{Reply}
 use Rattle.ioc_journal.specs.Account.{DeskView}
 use Rattle.ioc_journal.specs.Places.{IsNoPlace}
+use Rattle.ioc_set.specs.Held.{now_of}
+use Rattle.ioc_set.specs.NoCalls.{no_call}
 use Rattle.ioc_topology.specs.Change.{IsRefused}
 use Rattle.ioc_held.specs.Holding.{HeldView, numbers_of, IsSoundlyHeld, Serves, Tells}
 
--- why a call is none: the engine was closed, the journal has no place for it, there are no more records than its number says, or memory is
--- wanting
-abbrev pub CallIsRefused : ℕ → ℕ → IocError → Type 0
-CallIsRefused count number error = (error ≡ Stopped) ⊎ (IsNoPlace error ⊎ IsRefused count number error)
-
 module _ {R : Type 0} (D : Type 0) (k : RecordRules R) (base : World R) where
+  -- a sound set has the record, which has no such field, or it can't be put
+  pub record IsInVain (number : ℕ) (event : Event) (error : IocError) : Type 0 where
+    pub held : HeldView R D
+    pub here : Contains (numbers_of held) number
+    pub sound : IsSoundlyHeld k base held
+    pub none : no_call k (now_of held.set) event ≡ Some error
+
+  -- why a call is none: the engine was closed, the journal has no place for it, memory is wanting, there are no more records than its number
+  -- says, or the record has no such field, or it can't be put
+  abbrev pub CallIsRefused : ℕ → ℕ → Event → IocError → Type 0
+  CallIsRefused count number event error = (error ≡ Stopped) ⊎ (IsNoPlace error ⊎ (IsRefused count number error ⊎ IsInVain number event error))
+
   -- a question of a desk was answered by a set that has the record, was sound, and is so again
   pub record WasTold (number : ℕ) (desk : DeskView) (at_moment : ℕ) (asked : Event) (reply : Reply) (desk_then : DeskView) : Type 0 where
     pub held : HeldView R D

@@ -109,7 +109,7 @@ impl<K: RecordKind + Drop, B: Base<K>, D: Device> Engine<K, B, D> {
         requires names { names event.now ≡ number ∷ [] }
         ensures served { IfOk result (λ x. WasServed D K.rules B.base D.gives number desk.old moment event.now x.0 desk.new (world_of workplace.new.store)) }
         ensures receipt { IfOk result (λ x. x.1 ≡ desk.new.seen) }
-        ensures refused { IfErr result (CallIsRefused self.now number) }
+        ensures refused { IfErr result (CallIsRefused D K.rules B.base self.now number event.now) }
         ensures err { OnErr result (desk.new ≡ desk.old) }
     {
         if self.is_closed() {
@@ -147,7 +147,7 @@ impl<K: RecordKind + Drop, B: Base<K>, D: Device> Engine<K, B, D> {
     ) -> Result<(Reply, Receipt<K, B>), IocError>
         ensures served { IfOk result (λ x. WasServed D K.rules B.base D.gives number desk.old moment (Process number) x.0 desk.new (world_of workplace.new.store)) }
         ensures receipt { IfOk result (λ x. x.1 ≡ desk.new.seen) }
-        ensures refused { IfErr result (CallIsRefused self.now number) }
+        ensures refused { IfErr result (CallIsRefused D K.rules B.base self.now number (Process number)) }
         ensures err { OnErr result (desk.new ≡ desk.old) }
     {
         let event = Event::Process(number);
@@ -159,7 +159,8 @@ impl<K: RecordKind + Drop, B: Base<K>, D: Device> Engine<K, B, D> {
     /// # Errors
     ///
     /// [`IocError::Stopped`]: the engine was closed. [`IocError::NoRecord`]: there are no more records than the number says.
-    /// [`IocError::JournalFull`], [`IocError::NoMemory`]. Nothing has changed then. What else is refused is a reply, and stands in the journal.
+    /// [`IocError::NoField`]: the record has no such field. [`IocError::NoMod`]: the field can't be put. [`IocError::JournalFull`],
+    /// [`IocError::NoMemory`]. Nothing has changed then. What else is refused is a reply, and stands in the journal.
     pub fn put<R: Wait>(
         &self,
         rt: &R,
@@ -173,7 +174,7 @@ impl<K: RecordKind + Drop, B: Base<K>, D: Device> Engine<K, B, D> {
     ) -> Result<(Reply, Receipt<K, B>), IocError>
         ensures served { IfOk result (λ x. WasServed D K.rules B.base D.gives number desk.old moment (Put number field given) x.0 desk.new (world_of workplace.new.store)) }
         ensures receipt { IfOk result (λ x. x.1 ≡ desk.new.seen) }
-        ensures refused { IfErr result (CallIsRefused self.now number) }
+        ensures refused { IfErr result (CallIsRefused D K.rules B.base self.now number (Put number field given)) }
         ensures err { OnErr result (desk.new ≡ desk.old) }
     {
         let event = Event::Put(number, field, given);
@@ -199,7 +200,7 @@ impl<K: RecordKind + Drop, B: Base<K>, D: Device> Engine<K, B, D> {
     ) -> Result<(Reply, Receipt<K, B>), IocError>
         ensures served { IfOk result (λ x. WasServed D K.rules B.base D.gives number desk.old moment (Complete number wait finished) x.0 desk.new (world_of workplace.new.store)) }
         ensures receipt { IfOk result (λ x. x.1 ≡ desk.new.seen) }
-        ensures refused { IfErr result (CallIsRefused self.now number) }
+        ensures refused { IfErr result (CallIsRefused D K.rules B.base self.now number (Complete number wait finished)) }
         ensures err { OnErr result (desk.new ≡ desk.old) }
     {
         let event = Event::Complete(number, wait, finished);
@@ -211,7 +212,7 @@ impl<K: RecordKind + Drop, B: Base<K>, D: Device> Engine<K, B, D> {
     /// # Errors
     ///
     /// [`IocError::Stopped`]: the engine was closed. [`IocError::NoRecord`]: there are no more records than the number says.
-    /// [`IocError::JournalFull`], [`IocError::NoMemory`]. Nothing has changed then. What else is refused is a reply, and stands in the journal.
+    /// [`IocError::NoField`]: the record has no such field. [`IocError::JournalFull`], [`IocError::NoMemory`]. Nothing has changed then.
     pub fn get<R: Wait>(
         &self,
         rt: &R,
@@ -223,7 +224,7 @@ impl<K: RecordKind + Drop, B: Base<K>, D: Device> Engine<K, B, D> {
     ) -> Result<(Reply, Receipt<K, B>), IocError>
         ensures told { IfOk result (λ x. WasTold D K.rules B.base number desk.old moment (Get number field) x.0 desk.new) }
         ensures receipt { IfOk result (λ x. x.1 ≡ desk.new.seen) }
-        ensures refused { IfErr result (CallIsRefused self.now number) }
+        ensures refused { IfErr result (CallIsRefused D K.rules B.base self.now number (Get number field)) }
         ensures err { OnErr result (desk.new ≡ desk.old) }
     {
         if self.is_closed() {

@@ -1,6 +1,6 @@
 -- Sets under their locks, and the calls on them.
 -- Application Developer's Guide, "Database Locking, Scanning, and Processing". The journal is this project's own.
-use Rattle.std.specs.Prelude.{◌≡◌, ℕ, List, [], Option, MatchOption, unwrap_or}
+use Rattle.std.specs.Prelude.{◌≡◌, ◌⊎◌, ℕ, List, [], Option, Some, None, MatchOption, unwrap_or}
 use Rattle.std.specs.Option.{option_map}
 use Rattle.std.specs.FinMap.{keys}
 use Rattle.atomic_table.specs.Seated.{TableId}
@@ -19,9 +19,12 @@ use Rattle.ioc_line.specs.declared.entry.Note.{Note}
 use Rattle.ioc_line.specs.declared.room.View.{View}
 use Rattle.ioc_holding.specs.Legal.{map_of}
 use Rattle.ioc_holding.specs.Held.{Holds, Cover}
+use Rattle.ioc_values.specs.declared.error.IocError.{IocError}
 use Rattle.ioc_journal.specs.Account.{DeskView, IsHolder, AreRecords, Call}
+use Rattle.ioc_journal.specs.Places.{IsNoPlace}
 use Rattle.ioc_set.specs.Held.{Held, NoneIsLive, now_of}
 use Rattle.ioc_set.specs.Sound.{IsSound}
+use Rattle.ioc_set.specs.NoCalls.{no_call}
 use Rattle.ioc_set.specs.Doing.{Does}
 
 -- what a set holds, and the beginning of the journal's list that its holder has seen
@@ -51,6 +54,11 @@ pub record IsOwner {R : Type 0} (table id : TableId) (v : View) (w : World R) : 
   pub records : AreRecords v.owns
   pub covers : Cover v.owns w
 
+-- why an event on the records of a set is no call: its record has no such field or it can't be put, the journal has no place for it, or memory is
+-- wanting
+abbrev pub IsNoCall : {R D : Type 0} → RecordRules R → Held R D → Event → IocError → Type 0
+IsNoCall k h event error = (no_call k (now_of h) event ≡ Some error) ⊎ IsNoPlace error
+
 module _ {R D : Type 0} (k : RecordRules R) (base : World R) where
   -- the holder of a set has a pass for its records, and what the set holds is what the world of all records has there. For now no put with
   -- notification is live on a set that is held
@@ -66,6 +74,7 @@ module _ {R D : Type 0} (k : RecordRules R) (base : World R) where
 
   -- a question of a desk is answered by what a set holds, and stands at the end of the legal list that desk and holder have seen then
   pub record Tells (held : HeldView R D) (desk : DeskView) (at_moment : ℕ) (asked : Event) (reply : Reply) (held_then : HeldView R D) (desk_then : DeskView) : Type 0 where
+    pub is_call : no_call k (now_of held.set) asked ≡ None
     pub answer : (answers : Answers) → reply ≡ (stepped k answers (now_of held.set) asked).reply
     pub set : held_then.set ≡ held.set
     pub call : Call k base desk (record { moment = at_moment; event = asked; answers = []; reply = reply }) desk_then
@@ -74,6 +83,7 @@ module _ {R D : Type 0} (k : RecordRules R) (base : World R) where
 module _ {R D : Type 0} (k : RecordRules R) (gives : D → Ask → ℕ → Answer → D → Type 0) (base : World R) where
   -- an event of a desk is done on a set, and stands at the end of the legal list that desk and holder have seen then
   pub record Serves (held : HeldView R D) (desk : DeskView) (at_moment : ℕ) (done : Event) (reply : Reply) (held_then : HeldView R D) (desk_then : DeskView) (come_to : World R) : Type 0 where
+    pub is_call : no_call k (now_of held.set) done ≡ None
     pub does : Does k gives held.set at_moment done reply held_then.set come_to
     pub call : Call k base desk does.entry desk_then
     pub seen : held_then.seen ≡ desk_then.seen

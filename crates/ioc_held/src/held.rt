@@ -1,15 +1,15 @@
 //! Sets that are held.
-ghost use Rattle.std.specs.Prelude.{◌≡◌, ℕ, true, IfOk, IfErr, OnErr, Contains};
+ghost use Rattle.std.specs.Prelude.{◌≡◌, ℕ, true, None, Some, IfOk, IfErr, OnOk, OnErr, Contains};
 ghost use Rattle.crossbeam_utils.specs.Seq.{cell_view};
 ghost use Rattle.ioc_events.specs.declared.event.Event.TheVariants.{Get, Process, Put, Complete};
 ghost use Rattle.ioc_events.specs.Step.{names};
 ghost use Rattle.ioc_holding.specs.Held.{Holds};
 ghost use Rattle.ioc_holding.specs.Legal.{map_of};
-ghost use Rattle.ioc_journal.specs.Places.{IsNoPlace};
 ghost use Rattle.ioc_set.specs.Held.{NoneIsLive, now_of};
+ghost use Rattle.ioc_set.specs.NoCalls.{no_call};
 ghost use Rattle.ioc_set.specs.Doing.{is_ordinary};
 ghost use Rattle.ioc_set.specs.SetStore.{world_of};
-ghost use Rattle.ioc_held.specs.Holding.{IsOwner, held_view, numbers_of, Serves, Tells};
+ghost use Rattle.ioc_held.specs.Holding.{IsOwner, held_view, numbers_of, Serves, Tells, IsNoCall};
 
 use crate::running::run_in;
 use ioc_device::Device;
@@ -68,11 +68,25 @@ impl<K: RecordKind, B: Base<K>, D> Held<K, B, D> {
 }
 
 impl<K: RecordKind + Drop, B: Base<K>, D: Device> Held<K, B, D> {
+    // A question or a put that names no field of its record, or one that can't be put, is no call.
+    fn test_call(&self, event: &Event) -> Result<(), IocError>
+        requires there { (n : ℕ) → Contains (names event.now) n → Contains (numbers_of self.now) n }
+        ensures ok { OnOk result (no_call K.rules (now_of self.now.set) event.now ≡ None) }
+        ensures err { IfErr result (λ reason. no_call K.rules (now_of self.now.set) event.now ≡ Some reason) }
+    {
+        match self.set.no_call(event) {
+            Some(reason) => Err(reason),
+            None => Ok(()),
+        }
+    }
+
     /// Does a request, a put or a completion on the set, and keeps it in the journal.
     ///
     /// # Errors
     ///
+    /// [`IocError::NoField`] or [`IocError::NoMod`] where a put names a field that the record hasn't or that can't be put,
     /// [`IocError::JournalFull`] where the journal has no place left, and [`IocError::NoMemory`] where memory is wanting: nothing has changed then.
+    /// Any other refusal is a reply, which the journal keeps too.
     pub fn serve<R: Wait>(
         &mut self,
         rt: &R,
@@ -87,7 +101,7 @@ impl<K: RecordKind + Drop, B: Base<K>, D: Device> Held<K, B, D> {
         requires there { (n : ℕ) → Contains (names event.now) n → Contains (numbers_of self.old) n }
         ensures serves { IfOk result (λ x. Serves K.rules D.gives B.base self.old desk.old moment event.now x.0 self.new desk.new (world_of workplace.new.store)) }
         ensures receipt { IfOk result (λ x. x.1 ≡ desk.new.seen) }
-        ensures refused { IfErr result IsNoPlace }
+        ensures refused { IfErr result (IsNoCall K.rules self.old.set event.now) }
         ensures err { OnErr result ((self.new ≡ self.old) × (desk.new ≡ desk.old)) }
     {
         rules_are_steps::<K>();
@@ -97,6 +111,7 @@ impl<K: RecordKind + Drop, B: Base<K>, D: Device> Held<K, B, D> {
         parts_share_what_is_held::<K>();
         sets_stay_without_puts::<K, D>();
         self.set.is_sound();
+        self.test_call(event)?;
         let place = book.reserve(rt)?;
         let (reply, answers) = match run_in(&mut self.set, workplace, alloc, event, moment) {
             Ok(done) => done,
@@ -138,7 +153,7 @@ impl<K: RecordKind + Drop, B: Base<K>, D: Device> Held<K, B, D> {
         requires there { Contains (numbers_of self.old) number }
         ensures serves { IfOk result (λ x. Serves K.rules D.gives B.base self.old desk.old moment (Process number) x.0 self.new desk.new (world_of workplace.new.store)) }
         ensures receipt { IfOk result (λ x. x.1 ≡ desk.new.seen) }
-        ensures refused { IfErr result IsNoPlace }
+        ensures refused { IfErr result (IsNoCall K.rules self.old.set (Process number)) }
         ensures err { OnErr result ((self.new ≡ self.old) × (desk.new ≡ desk.old)) }
     {
         let event = Event::Process(number);
@@ -149,8 +164,9 @@ impl<K: RecordKind + Drop, B: Base<K>, D: Device> Held<K, B, D> {
     ///
     /// # Errors
     ///
-    /// [`IocError::JournalFull`] where the journal has no place left, and [`IocError::NoMemory`] where memory is wanting: nothing has changed then.
-    /// A refusal is a reply, which the journal keeps too.
+    /// [`IocError::NoField`] where the record has no such field, [`IocError::NoMod`] where it can't be put, [`IocError::JournalFull`] where the
+    /// journal has no place left, and [`IocError::NoMemory`] where memory is wanting: nothing has changed then. Any other refusal is a reply,
+    /// which the journal keeps too.
     pub fn put<R: Wait>(
         &mut self,
         rt: &R,
@@ -166,7 +182,7 @@ impl<K: RecordKind + Drop, B: Base<K>, D: Device> Held<K, B, D> {
         requires there { Contains (numbers_of self.old) number }
         ensures serves { IfOk result (λ x. Serves K.rules D.gives B.base self.old desk.old moment (Put number field given) x.0 self.new desk.new (world_of workplace.new.store)) }
         ensures receipt { IfOk result (λ x. x.1 ≡ desk.new.seen) }
-        ensures refused { IfErr result IsNoPlace }
+        ensures refused { IfErr result (IsNoCall K.rules self.old.set (Put number field given)) }
         ensures err { OnErr result ((self.new ≡ self.old) × (desk.new ≡ desk.old)) }
     {
         let event = Event::Put(number, field, given);
@@ -194,7 +210,7 @@ impl<K: RecordKind + Drop, B: Base<K>, D: Device> Held<K, B, D> {
         requires there { Contains (numbers_of self.old) number }
         ensures serves { IfOk result (λ x. Serves K.rules D.gives B.base self.old desk.old moment (Complete number wait finished) x.0 self.new desk.new (world_of workplace.new.store)) }
         ensures receipt { IfOk result (λ x. x.1 ≡ desk.new.seen) }
-        ensures refused { IfErr result IsNoPlace }
+        ensures refused { IfErr result (IsNoCall K.rules self.old.set (Complete number wait finished)) }
         ensures err { OnErr result ((self.new ≡ self.old) × (desk.new ≡ desk.old)) }
     {
         let event = Event::Complete(number, wait, finished);
@@ -205,8 +221,8 @@ impl<K: RecordKind + Drop, B: Base<K>, D: Device> Held<K, B, D> {
     ///
     /// # Errors
     ///
-    /// [`IocError::JournalFull`] where the journal has no place left, and [`IocError::NoMemory`] where memory is wanting: nothing has changed then.
-    /// A refusal is a reply, which the journal keeps too.
+    /// [`IocError::NoField`] where the record has no such field, [`IocError::JournalFull`] where the journal has no place left, and
+    /// [`IocError::NoMemory`] where memory is wanting: nothing has changed then.
     pub fn get<R: Wait>(
         &mut self,
         rt: &R,
@@ -220,17 +236,19 @@ impl<K: RecordKind + Drop, B: Base<K>, D: Device> Held<K, B, D> {
         requires there { Contains (numbers_of self.old) number }
         ensures tells { IfOk result (λ x. Tells K.rules B.base self.old desk.old moment (Get number field) x.0 self.new desk.new) }
         ensures receipt { IfOk result (λ x. x.1 ≡ desk.new.seen) }
-        ensures refused { IfErr result IsNoPlace }
+        ensures refused { IfErr result (IsNoCall K.rules self.old.set (Get number field)) }
         ensures err { OnErr result ((self.new ≡ self.old) × (desk.new ≡ desk.old)) }
     {
         holding_lasts::<K>();
         events_are_held::<K>();
+        let event = Event::Get(number, field);
+        self.test_call(&event)?;
         let place = book.reserve(rt)?;
         let reply = self.set.get(number, field);
         let text = &reply;
         let entry = Entry {
             moment,
-            event: Event::Get(number, field),
+            event,
             answers: KeptAnswers::new(Vec::new(alloc)),
             reply: *text,
         };

@@ -16,3 +16,4 @@ mod PartLaws
 mod LeadLaws
 mod Sums
 mod Staying
+mod NoCalls

@@ -7,3 +7,4 @@ pub mod Sound
 pub mod Doing
 pub mod HeldCode
 pub mod Linking
+pub mod NoCalls

@@ -6,6 +6,7 @@ pub mod laws;
 pub mod linking;
 pub mod live_puts;
 pub mod lock_set;
+mod no_calls;
 pub mod running;
 pub mod set_store;
 pub mod workplace;

@@ -4,7 +4,9 @@ ghost use Rattle.std.specs.FinMap as map;
 ghost use Rattle.ioc_notify.specs.declared.live_numbers.Live.{Live};
 ghost use Rattle.ioc_notify.specs.declared.waiting_lists.Waiting.{Waiting};
 ghost use Rattle.ioc_events.specs.declared.event.Event.TheVariants.{Process, Put, Complete, Get, Notify, Cancel, IsLive};
-ghost use Rattle.ioc_events.specs.Step.{stepped};
+ghost use Rattle.ioc_events.specs.Step.{stepped, names, refused};
+ghost use Rattle.ioc_set.specs.NoCalls.{no_call};
+ghost use Rattle.std.specs.Option.{IfSome};
 ghost use Rattle.ioc_store.specs.Given.{Answers};
 ghost use Rattle.ioc_common.specs.Links.{use_of, named_by};
 ghost use Rattle.ioc_store.specs.Scanning.{device_of, rewired};
@@ -21,6 +23,7 @@ ghost use Rattle.ioc_set.specs.Doing.{Does, held_by, with_place, with_records, i
 use crate::laws::{calm_records_are_sound, events_leave_sound};
 use crate::linking::{add_counts, begin_anew, rescan_on};
 use crate::live_puts::LivePuts;
+use crate::no_calls::{why_not_put, why_not_shown};
 use crate::running::run_on;
 use crate::workplace::Workplace;
 use ioc_common::KeptLink;
@@ -160,6 +163,27 @@ impl<K: RecordKind, D> LockSet<K, D> {
         ensures { (answers : Answers) → result ≡ (stepped K.rules answers (now_of self.now) (Get number field)).reply }
     {
         text_in(&self.members, number, field)
+    }
+
+    /// Why a question or a put on records that are there is no call: the record's type has no such field, or the field can't be put. It would
+    /// be refused for that, and change nothing.
+    #[tactic(auto, unfolding(crate::specs::NoCalls::no_call, ioc_store::specs::World::at), using(crate::proofs::NoCalls::no_call_is_refused))]
+    pub fn no_call(&self, event: &Event) -> Option<IocError>
+        requires there { (n : ℕ) → Contains (names event.now) n → Has (now_of self.now) n }
+        ensures none { result ≡ no_call K.rules (now_of self.now) event.now }
+        ensures refused { IfSome result (λ e. (answers : Answers) → stepped K.rules answers (now_of self.now) event.now ≡ refused (now_of self.now) e) }
+    {
+        match event {
+            Event::Get(number, field) => {
+                let record = self.members.record(*number);
+                why_not_shown(record.record_type(), *field)
+            }
+            Event::Put(number, field, _) => {
+                let record = self.members.record(*number);
+                why_not_put(record.record_type(), *field)
+            }
+            _ => None,
+        }
     }
 
     /// Whether a put with notification is live.

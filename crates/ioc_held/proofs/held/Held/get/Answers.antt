@@ -9,6 +9,7 @@ use Rattle.ioc_holding.specs.Legal.{map_of}
 use Rattle.ioc_line.specs.declared.room.View.{View}
 use Rattle.ioc_journal.specs.Account.{Call}
 use Rattle.ioc_set.specs.Held.{now_of}
+use Rattle.ioc_set.specs.NoCalls.{no_call}
 use Rattle.ioc_held.specs.Holding.{Pass, HeldView, held_view, numbers_of, IsHeld, Tells}
 use Rattle.ioc_held.proofs.Keys.{key_there}
 use Rattle.ioc_held.proofs.Serving.{owner_on, get_may_follow, held_after_get}
@@ -63,6 +64,7 @@ returns-clause-tells g c =
     subst (λ (v : HeldView g.row.K.Denot g.row.D.Denot). Tells k g.B.Base.base v c.args.desk.now c.args.moment (Get c.args.number c.args.field) c.get-reply.result
     (held_view c.self.inside.set (cell_view c.append-receipt.new.set).seen) c.append-receipt.new.desk) c.self.view_is
     (record {
+      is_call = subst (λ (v : HeldView g.row.K.Denot g.row.D.Denot). no_call k (now_of v.set) (Get c.args.number c.args.field) ≡ None) (sym c.self.view_is) c.in_ok-test_call.ensures.ok;
       answer = c.get-reply.ensures;
       set = refl;
       call = subst (λ (l : List Answer). Call k g.B.Base.base c.args.desk.now (record { moment = c.args.moment; event = Get c.args.number c.args.field; answers = l; reply = c.get-reply.result }) c.append-receipt.new.desk) none c.append-receipt.ensures.call;

@@ -9,6 +9,7 @@ use Rattle.ioc_holding.specs.Legal.{map_of}
 use Rattle.ioc_line.specs.declared.room.View.{View}
 use Rattle.ioc_journal.specs.Account.{Call}
 use Rattle.ioc_set.specs.Held.{now_of}
+use Rattle.ioc_set.specs.NoCalls.{no_call}
 use Rattle.ioc_set.specs.SetStore.{world_of}
 use Rattle.ioc_held.specs.Holding.{Pass, HeldView, held_view, numbers_of, IsHeld, Serves}
 use Rattle.ioc_held.proofs.Keys.{key_there}
@@ -72,4 +73,4 @@ returns-clause-serves g c =
     let set = c.append-receipt.ensures.set in
     subst (λ (v : HeldView g.row.K.Denot g.row.D.Denot). Serves k g.D.Device.gives g.B.Base.base v c.args.desk.now c.args.moment c.args.event.now c.in-Ok.done.0
     (held_view c.run_in.new.set (cell_view c.append-receipt.new.set).seen) c.append-receipt.new.desk (world_of c.run_in.new.workplace.store)) c.self.view_is
-    (record { does = does; call = subst (λ (x : Entry). Call k g.B.Base.base c.args.desk.now x c.append-receipt.new.desk) (sym entry) c.append-receipt.ensures.call; seen = ap (λ (v : View). v.seen) set.1 })
+    (record { is_call = subst (λ (v : HeldView g.row.K.Denot g.row.D.Denot). no_call k (now_of v.set) c.args.event.now ≡ None) (sym c.self.view_is) c.in_ok-test_call.ensures.ok; does = does; call = subst (λ (x : Entry). Call k g.B.Base.base c.args.desk.now x c.append-receipt.new.desk) (sym entry) c.append-receipt.ensures.call; seen = ap (λ (v : View). v.seen) set.1 })
