@@ -4,31 +4,24 @@ ghost use Rattle.crossbeam_utils.specs.Seq.{cell_view};
 ghost use Rattle.ioc_line.specs.Line.{keeper};
 ghost use Rattle.ioc_start.specs.Loading.{loaded_world};
 
-use crate::opened::{Holding, link_to, loaded};
+use crate::calling::{DISP, PACT, RVAL, Told, VAL, get, process, put, seat, set_link};
+use crate::opened::{Holding, loaded};
 use ioc_dealing::Loaded;
 use ioc_engine::Engine;
 use ioc_events::Reply;
-use ioc_fields::{CommonField, FieldNo, OwnField};
 use ioc_journal::{Base, Desk, Limits, PLACES};
 use ioc_ledger::Outcome;
 use ioc_line::{Cell, Token};
-use ioc_names::RecordNo;
-use ioc_record::{FieldText, copy_link};
+use ioc_record::FieldText;
 use ioc_set::Workplace;
 use ioc_start::{new_cell, start};
 use ioc_types::Record;
-use ioc_values::{Input, IocError};
+use ioc_values::IocError;
 use std::alloc::Global;
 use std::marker::Brand;
 use std::sync::Wait;
 use std::sync::ledger::Blank;
 use std::test::Fail;
-
-const VAL: FieldNo = FieldNo::Own(OwnField::Val);
-
-const DISP: FieldNo = FieldNo::Common(CommonField::Disp);
-
-const FLNK: FieldNo = FieldNo::Common(CommonField::Flnk);
 
 // Two records, of which the first forwards to the second.
 const PAIR: &[u8] = b"record(longin,\"a\"){field(FLNK,\"b\")}\nrecord(longin,\"b\"){}\n";
@@ -55,7 +48,92 @@ enum Seen {
     Not(u32),
 }
 
-// A link change, and how many records moved.
+// Was a call answered so, and is this its place?
+fn is_told(told: Result<Told, IocError>, reply: Reply, place: u64) -> bool {
+    match told {
+        Ok(told) => told.reply == reply && told.place == place,
+        Err(_) => false,
+    }
+}
+
+// What the calls of one desk were answered, with their places: what the record hasn't, what can't be put and what lies beyond the records takes
+// none; a put that DISP forbids takes one.
+fn calls_seen<B: Base<Record>, R: Wait>(
+    rt: &R,
+    alloc: Global,
+    engine: &Engine<Record, B, Holding>,
+    desk: &mut Desk<Record, B>,
+    place: &mut Workplace<Record, Holding>,
+) -> Seen {
+    if !is_told(
+        put(rt, alloc, engine, desk, place, 0, VAL, b"5"),
+        Reply::Outcome(Outcome::Processed),
+        0,
+    ) {
+        return Seen::Not(1);
+    }
+    if !is_told(
+        get(rt, alloc, engine, desk, 0, VAL),
+        Reply::Shown(FieldText::cut(b"5")),
+        1,
+    ) {
+        return Seen::Not(2);
+    }
+    if !is_told(
+        process(rt, alloc, engine, desk, place, 0),
+        Reply::Outcome(Outcome::Processed),
+        2,
+    ) {
+        return Seen::Not(3);
+    }
+    if get(rt, alloc, engine, desk, 2, VAL).err() != Some(IocError::NoRecord) {
+        return Seen::Not(4);
+    }
+    if put(rt, alloc, engine, desk, place, 0, PACT, b"1").err() != Some(IocError::NoMod) {
+        return Seen::Not(5);
+    }
+    if get(rt, alloc, engine, desk, 0, RVAL).err() != Some(IocError::NoField) {
+        return Seen::Not(6);
+    }
+    if !is_told(
+        put(rt, alloc, engine, desk, place, 0, DISP, b"1"),
+        Reply::Plain,
+        3,
+    ) {
+        return Seen::Not(7);
+    }
+    if !is_told(
+        put(rt, alloc, engine, desk, place, 0, VAL, b"6"),
+        Reply::Refused(IocError::PutDisabled),
+        4,
+    ) {
+        return Seen::Not(8);
+    }
+    Seen::AsItMust
+}
+
+// The checks of `Seen`; none where the engine isn't started.
+fn call_each<B: Base<Record>, R: Wait>(
+    rt: &R,
+    alloc: Global,
+    cell: Cell,
+    master: Token,
+    blank: Blank,
+    all: Vec<Loaded<Record, Holding>>,
+    limits: Limits,
+) -> Option<Seen>
+    requires table { (cell.table.shared.table_id ≡ B.table) × (master.table_id ≡ B.table) }
+    requires master { cell_view master ≡ keeper [] [] }
+    requires places { (blank.name ≡ B.places) × (blank.parts ≡ 2 ^ 64 - 1) }
+    requires base { B.base ≡ loaded_world all.items }
+    requires copies { All (λ l. l.base ≡ l.fields) all.items }
+{
+    let engine: Engine<Record, B, Holding> = start(alloc, cell, master, blank, all, limits).ok()?;
+    let (mut desk, mut place) = seat(rt, alloc, &engine)?;
+    Some(calls_seen(rt, alloc, &engine, &mut desk, &mut place))
+}
+
+// How many records a link change moved; none where it was refused.
 fn moved<B: Base<Record>, R: Wait>(
     rt: &R,
     alloc: Global,
@@ -65,114 +143,12 @@ fn moved<B: Base<Record>, R: Wait>(
     number: usize,
     target: Option<usize>,
 ) -> Option<usize> {
-    let link = link_to(alloc, target).ok()?;
-    let twin = copy_link(alloc, &link).ok()?;
-    let changed = engine
-        .set_link(
-            rt,
-            alloc,
-            desk,
-            place,
-            RecordNo::new(number),
-            FLNK,
-            link,
-            twin,
-            1,
-        )
-        .ok()?;
-    if changed.reply != Reply::Plain {
-        return None;
+    let (reply, moved) = set_link(rt, alloc, engine, desk, place, number, target)?;
+    if reply == Reply::Plain {
+        Some(moved)
+    } else {
+        None
     }
-    Some(changed.moved)
-}
-
-// The checks of `Calls`; none where a call is refused.
-fn call_each<B: Base<Record>, R: Wait>(
-    rt: &R,
-    alloc: Global,
-    cell: Cell,
-    master: Token,
-    blank: Blank,
-    all: Vec<Loaded<Record, Holding>>,
-) -> Option<Seen>
-    requires table { (cell.table.shared.table_id ≡ B.table) × (master.table_id ≡ B.table) }
-    requires master { cell_view master ≡ keeper [] [] }
-    requires places { (blank.name ≡ B.places) × (blank.parts ≡ 2 ^ 64 - 1) }
-    requires base { B.base ≡ loaded_world all.items }
-    requires copies { All (λ l. l.base ≡ l.fields) all.items }
-{
-    let engine: Engine<Record, B, Holding> = start(
-        alloc,
-        cell,
-        master,
-        blank,
-        all,
-        Limits::default(),
-    ).ok()?;
-    let mut desk = engine.open_desk(rt).ok()?;
-    let mut place = Workplace::new(alloc).ok()?;
-    let a = RecordNo::new(0);
-    let (reply, receipt) = engine
-        .put(
-            rt,
-            alloc,
-            &mut desk,
-            &mut place,
-            a,
-            VAL,
-            Input::from_text(b"5"),
-            1,
-        )
-        .ok()?;
-    if reply != Reply::Outcome(Outcome::Processed) || receipt.place() != 0 {
-        return Some(Seen::Not(1));
-    }
-    let (reply, receipt) = engine.get(rt, alloc, &mut desk, a, VAL, 2).ok()?;
-    if reply != Reply::Shown(FieldText::cut(b"5")) || receipt.place() != 1 {
-        return Some(Seen::Not(2));
-    }
-    let (reply, _) = engine.process(rt, alloc, &mut desk, &mut place, a, 3).ok()?;
-    if reply != Reply::Outcome(Outcome::Processed) {
-        return Some(Seen::Not(3));
-    }
-    if engine
-        .get(rt, alloc, &mut desk, RecordNo::new(2), VAL, 4)
-        .err()
-        != Some(IocError::NoRecord)
-    {
-        return Some(Seen::Not(4));
-    }
-    let (reply, receipt) = engine
-        .put(
-            rt,
-            alloc,
-            &mut desk,
-            &mut place,
-            a,
-            DISP,
-            Input::from_text(b"1"),
-            5,
-        )
-        .ok()?;
-    if reply != Reply::Plain || receipt.place() != 3 {
-        return Some(Seen::Not(5));
-    }
-    let (reply, receipt) = engine
-        .put(
-            rt,
-            alloc,
-            &mut desk,
-            &mut place,
-            a,
-            VAL,
-            Input::from_text(b"6"),
-            6,
-        )
-        .ok()?;
-    if reply != Reply::Refused(IocError::PutDisabled) || receipt.place() != 4 {
-        return Some(Seen::Not(6));
-    }
-    Some(Seen::AsItMust)
 }
 
 // How many records each of the changes moved, and how many sets there are at the end.
@@ -183,6 +159,7 @@ fn change_each<B: Base<Record>, R: Wait>(
     master: Token,
     blank: Blank,
     all: Vec<Loaded<Record, Holding>>,
+    limits: Limits,
 ) -> Option<([usize; 4], usize)>
     requires table { (cell.table.shared.table_id ≡ B.table) × (master.table_id ≡ B.table) }
     requires master { cell_view master ≡ keeper [] [] }
@@ -190,16 +167,8 @@ fn change_each<B: Base<Record>, R: Wait>(
     requires base { B.base ≡ loaded_world all.items }
     requires copies { All (λ l. l.base ≡ l.fields) all.items }
 {
-    let engine: Engine<Record, B, Holding> = start(
-        alloc,
-        cell,
-        master,
-        blank,
-        all,
-        Limits::default(),
-    ).ok()?;
-    let mut desk = engine.open_desk(rt).ok()?;
-    let mut place = Workplace::new(alloc).ok()?;
+    let engine: Engine<Record, B, Holding> = start(alloc, cell, master, blank, all, limits).ok()?;
+    let (mut desk, mut place) = seat(rt, alloc, &engine)?;
     let first = moved(rt, alloc, &engine, &mut desk, &mut place, 2, None)?;
     let second = moved(rt, alloc, &engine, &mut desk, &mut place, 2, Some(10))?;
     let third = moved(rt, alloc, &engine, &mut desk, &mut place, 2, Some(9))?;
@@ -213,7 +182,15 @@ fn calls_of_one_desk(rt: HostRuntime) -> Result<(), Fail> {
     let alloc = rt.alloc();
     let all = loaded(alloc, PAIR, None)?;
     let (cell, master) = new_cell(alloc)?;
-    let seen = call_each::<Brand, _>(&rt, alloc, cell, master, Blank::new(PLACES), all);
+    let seen = call_each::<Brand, _>(
+        &rt,
+        alloc,
+        cell,
+        master,
+        Blank::new(PLACES),
+        all,
+        Limits::default(),
+    );
     assert_eq!(rt; seen, Some(Seen::AsItMust));
     Ok(())
 }
@@ -223,7 +200,15 @@ fn moved_by_link_changes(rt: HostRuntime) -> Result<(), Fail> {
     let alloc = rt.alloc();
     let all = loaded(alloc, CHAIN, None)?;
     let (cell, master) = new_cell(alloc)?;
-    let moved = change_each::<Brand, _>(&rt, alloc, cell, master, Blank::new(PLACES), all);
+    let moved = change_each::<Brand, _>(
+        &rt,
+        alloc,
+        cell,
+        master,
+        Blank::new(PLACES),
+        all,
+        Limits::default(),
+    );
     assert_eq!(rt; moved, Some(([3, 1, 4, 0], 2)));
     Ok(())
 }

@@ -4,19 +4,16 @@ ghost use Rattle.crossbeam_utils.specs.Seq.{cell_view};
 ghost use Rattle.ioc_line.specs.Line.{keeper};
 ghost use Rattle.ioc_start.specs.Loading.{loaded_world};
 
-use crate::opened::{Holding, link_to, loaded};
+use crate::calling::{VAL, get, process, put, seat, set_link};
+use crate::opened::{Holding, loaded};
 use ioc_dealing::Loaded;
 use ioc_engine::Engine;
-use ioc_fields::{CommonField, FieldNo, OwnField};
 use ioc_journal::{Base, Desk, Limits, PLACES};
 use ioc_line::{Cell, Token};
-use ioc_names::RecordNo;
-use ioc_record::copy_link;
 use ioc_set::Workplace;
 use ioc_start::{new_cell, start};
 use ioc_topology::Locked;
 use ioc_types::Record;
-use ioc_values::Input;
 use std::alloc::{AllocError, Global};
 use std::fmt::Write;
 use std::marker::Brand;
@@ -25,10 +22,6 @@ use std::sync::ledger::Blank;
 use std::test::Fail;
 use std::thread;
 use std::thread::Threads;
-
-const VAL: FieldNo = FieldNo::Own(OwnField::Val);
-
-const FLNK: FieldNo = FieldNo::Common(CommonField::Flnk);
 
 // How many records there are, and how many calls each thread makes.
 const RECORDS: usize = 64;
@@ -55,27 +48,16 @@ fn call<B: Base<Record>, R: Wait>(
     place: &mut Workplace<Record, Holding>,
     seed: u64,
 ) -> Option<()> {
-    let number = RecordNo::new(record_of(seed));
+    let number = record_of(seed);
     match (seed >> 60) % 4 {
         0 => {
-            engine
-                .put(
-                    rt,
-                    alloc,
-                    desk,
-                    place,
-                    number,
-                    VAL,
-                    Input::from_text(b"3"),
-                    seed,
-                )
-                .ok()?;
+            put(rt, alloc, engine, desk, place, number, VAL, b"3").ok()?;
         }
         1 => {
-            engine.process(rt, alloc, desk, place, number, seed).ok()?;
+            process(rt, alloc, engine, desk, place, number).ok()?;
         }
         2 => {
-            engine.get(rt, alloc, desk, number, VAL, seed).ok()?;
+            get(rt, alloc, engine, desk, number, VAL).ok()?;
         }
         _ => {
             let target = if seed >> 62 & 1 == 0 {
@@ -83,11 +65,7 @@ fn call<B: Base<Record>, R: Wait>(
             } else {
                 Some(record_of(next_of(seed)))
             };
-            let link = link_to(alloc, target).ok()?;
-            let twin = copy_link(alloc, &link).ok()?;
-            engine
-                .set_link(rt, alloc, desk, place, number, FLNK, link, twin, seed)
-                .ok()?;
+            set_link(rt, alloc, engine, desk, place, number, target)?;
         }
     }
     Some(())
@@ -100,10 +78,7 @@ fn calls<B: Base<Record>, R: Wait>(
     engine: &Engine<Record, B, Holding>,
     first: u64,
 ) -> u32 {
-    let Ok(mut desk) = engine.open_desk(rt) else {
-        return 0;
-    };
-    let Ok(mut place) = Workplace::new(alloc) else {
+    let Some((mut desk, mut place)) = seat(rt, alloc, engine) else {
         return 0;
     };
     let mut seed = first;
@@ -155,6 +130,7 @@ fn eight<B: Base<Record> + Send + Sync, R: Threads + Wait + Sync>(
     master: Token,
     blank: Blank,
     all: Vec<Loaded<Record, Holding>>,
+    limits: Limits,
 ) -> Option<(u32, usize)>
     requires table { (cell.table.shared.table_id ≡ B.table) × (master.table_id ≡ B.table) }
     requires master { cell_view master ≡ keeper [] [] }
@@ -162,14 +138,7 @@ fn eight<B: Base<Record> + Send + Sync, R: Threads + Wait + Sync>(
     requires base { B.base ≡ loaded_world all.items }
     requires copies { All (λ l. l.base ≡ l.fields) all.items }
 {
-    let engine: Engine<Record, B, Holding> = start(
-        alloc,
-        cell,
-        master,
-        blank,
-        all,
-        Limits::default(),
-    ).ok()?;
+    let engine: Engine<Record, B, Holding> = start(alloc, cell, master, blank, all, limits).ok()?;
     let shared = &engine;
     let (one, other) = thread::join(
         rt,
@@ -201,7 +170,15 @@ fn eight_threads(rt: HostRuntime) -> Result<(), Fail> {
     let text = text(alloc)?;
     let all = loaded(alloc, text.as_bytes(), None)?;
     let (cell, master) = new_cell(alloc)?;
-    let seen = eight::<Brand, _>(&rt, alloc, cell, master, Blank::new(PLACES), all);
+    let seen = eight::<Brand, _>(
+        &rt,
+        alloc,
+        cell,
+        master,
+        Blank::new(PLACES),
+        all,
+        Limits::default(),
+    );
     assert_eq!(rt; seen, Some((8 * CALLS, RECORDS)));
     Ok(())
 }

@@ -4,17 +4,15 @@ ghost use Rattle.crossbeam_utils.specs.Seq.{cell_view};
 ghost use Rattle.ioc_line.specs.Line.{keeper};
 ghost use Rattle.ioc_start.specs.Loading.{loaded_world};
 
-use crate::opened::{Holding, link_to, loaded, seen};
+use crate::calling::{VAL, get, process, seat, set_link};
+use crate::opened::{Holding, loaded, seen};
 use ioc_dealing::Loaded;
 use ioc_engine::Engine;
 use ioc_events::Reply;
-use ioc_fields::{CommonField, FieldNo, OwnField};
 use ioc_journal::{Base, Limits, PLACES};
 use ioc_ledger::Outcome;
 use ioc_line::{Cell, Token};
-use ioc_names::RecordNo;
-use ioc_record::{FieldText, copy_link};
-use ioc_set::Workplace;
+use ioc_record::FieldText;
 use ioc_start::{new_cell, start};
 use ioc_types::Record;
 use ioc_values::IocError;
@@ -26,10 +24,6 @@ use std::sync::{Arc, Wait};
 use std::test::Fail;
 use std::thread;
 use std::thread::Threads;
-
-const VAL: FieldNo = FieldNo::Own(OwnField::Val);
-
-const FLNK: FieldNo = FieldNo::Common(CommonField::Flnk);
 
 // A record with a device, and three others.
 const TEXT: &[u8] = b"record(longin,\"d\"){field(INP,\"@line\")}
@@ -51,12 +45,10 @@ fn hold<B: Base<Record>, R: Wait>(
     alloc: Global,
     engine: &Engine<Record, B, Holding>,
 ) -> Option<Reply> {
-    let mut desk = engine.open_desk(rt).ok()?;
-    let mut place = Workplace::new(alloc).ok()?;
-    let d = RecordNo::new(0);
-    let (_, _) = engine.process(rt, alloc, &mut desk, &mut place, d, 1).ok()?;
-    let (reply, _) = engine.get(rt, alloc, &mut desk, d, VAL, 2).ok()?;
-    Some(reply)
+    let (mut desk, mut place) = seat(rt, alloc, engine)?;
+    process(rt, alloc, engine, &mut desk, &mut place, 0).ok()?;
+    let told = get(rt, alloc, engine, &mut desk, 0, VAL).ok()?;
+    Some(told.reply)
 }
 
 // A call of other sets.
@@ -66,32 +58,15 @@ fn call_beside<B: Base<Record>, R: Wait>(
     engine: &Engine<Record, B, Holding>,
     beside: Beside,
 ) -> Option<Reply> {
-    let mut desk = engine.open_desk(rt).ok()?;
-    let mut place = Workplace::new(alloc).ok()?;
+    let (mut desk, mut place) = seat(rt, alloc, engine)?;
     match beside {
         Beside::Request => {
-            let (reply, _) = engine
-                .process(rt, alloc, &mut desk, &mut place, RecordNo::new(1), 1)
-                .ok()?;
-            Some(reply)
+            let told = process(rt, alloc, engine, &mut desk, &mut place, 1).ok()?;
+            Some(told.reply)
         }
         Beside::LinkChange => {
-            let link = link_to(alloc, Some(3)).ok()?;
-            let twin = copy_link(alloc, &link).ok()?;
-            let changed = engine
-                .set_link(
-                    rt,
-                    alloc,
-                    &mut desk,
-                    &mut place,
-                    RecordNo::new(2),
-                    FLNK,
-                    link,
-                    twin,
-                    1,
-                )
-                .ok()?;
-            Some(changed.reply)
+            let (reply, _) = set_link(rt, alloc, engine, &mut desk, &mut place, 2, Some(3))?;
+            Some(reply)
         }
     }
 }
@@ -105,6 +80,7 @@ fn both<B: Base<Record> + Send + Sync, R: Threads + Wait + Sync>(
     master: Token,
     blank: Blank,
     all: Vec<Loaded<Record, Holding>>,
+    limits: Limits,
     asked: &AtomicU64,
     answered: &AtomicU64,
     beside: Beside,
@@ -115,14 +91,7 @@ fn both<B: Base<Record> + Send + Sync, R: Threads + Wait + Sync>(
     requires base { B.base ≡ loaded_world all.items }
     requires copies { All (λ l. l.base ≡ l.fields) all.items }
 {
-    let engine: Engine<Record, B, Holding> = start(
-        alloc,
-        cell,
-        master,
-        blank,
-        all,
-        Limits::default(),
-    ).ok()?;
+    let engine: Engine<Record, B, Holding> = start(alloc, cell, master, blank, all, limits).ok()?;
     let shared = &engine;
     let (held, other) = thread::join(
         rt,
@@ -168,6 +137,7 @@ fn beside_a_held_set<R: Threads + Wait + Sync>(
         master,
         Blank::new(PLACES),
         all,
+        Limits::default(),
         &asked,
         &answered,
         beside,

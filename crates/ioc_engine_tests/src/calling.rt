@@ -1,0 +1,133 @@
+//! Calls of a desk, each by itself, so that what one promises isn't carried along to the next.
+use crate::opened::{Holding, link_to};
+use ioc_engine::Engine;
+use ioc_events::Reply;
+use ioc_fields::{CommonField, FieldNo, OwnField};
+use ioc_journal::{Base, Desk};
+use ioc_names::RecordNo;
+use ioc_record::copy_link;
+use ioc_set::Workplace;
+use ioc_types::Record;
+use ioc_values::{Input, IocError};
+use std::alloc::Global;
+use std::sync::Wait;
+
+pub const VAL: FieldNo = FieldNo::Own(OwnField::Val);
+
+pub const DISP: FieldNo = FieldNo::Common(CommonField::Disp);
+
+pub const RVAL: FieldNo = FieldNo::Own(OwnField::Rval);
+
+pub const PACT: FieldNo = FieldNo::Common(CommonField::Pact);
+
+pub const FLNK: FieldNo = FieldNo::Common(CommonField::Flnk);
+
+/// What a call was answered, and its place in the journal.
+#[derive(Clone, Copy, PartialEq, Eq)]
+pub struct Told {
+    pub reply: Reply,
+    pub place: u64,
+}
+
+/// A desk and a workplace, with an engine.
+pub fn seat<B: Base<Record>, R: Wait>(
+    rt: &R,
+    alloc: Global,
+    engine: &Engine<Record, B, Holding>,
+) -> Option<(Desk<Record, B>, Workplace<Record, Holding>)> {
+    let Ok(desk) = engine.open_desk(rt) else {
+        return None;
+    };
+    let Ok(place) = Workplace::new(alloc) else {
+        return None;
+    };
+    Some((desk, place))
+}
+
+/// A put of a text.
+pub fn put<B: Base<Record>, R: Wait>(
+    rt: &R,
+    alloc: Global,
+    engine: &Engine<Record, B, Holding>,
+    desk: &mut Desk<Record, B>,
+    place: &mut Workplace<Record, Holding>,
+    number: usize,
+    field: FieldNo,
+    text: &[u8],
+) -> Result<Told, IocError> {
+    let given = Input::from_text(text);
+    let (reply, receipt) = engine.put(
+        rt,
+        alloc,
+        desk,
+        place,
+        RecordNo::new(number),
+        field,
+        given,
+        1,
+    )?;
+    Ok(Told {
+        reply,
+        place: receipt.place(),
+    })
+}
+
+/// A question.
+pub fn get<B: Base<Record>, R: Wait>(
+    rt: &R,
+    alloc: Global,
+    engine: &Engine<Record, B, Holding>,
+    desk: &mut Desk<Record, B>,
+    number: usize,
+    field: FieldNo,
+) -> Result<Told, IocError> {
+    let (reply, receipt) = engine.get(rt, alloc, desk, RecordNo::new(number), field, 1)?;
+    Ok(Told {
+        reply,
+        place: receipt.place(),
+    })
+}
+
+/// A request.
+pub fn process<B: Base<Record>, R: Wait>(
+    rt: &R,
+    alloc: Global,
+    engine: &Engine<Record, B, Holding>,
+    desk: &mut Desk<Record, B>,
+    place: &mut Workplace<Record, Holding>,
+    number: usize,
+) -> Result<Told, IocError> {
+    let (reply, receipt) = engine.process(rt, alloc, desk, place, RecordNo::new(number), 1)?;
+    Ok(Told {
+        reply,
+        place: receipt.place(),
+    })
+}
+
+/// A link change of FLNK, and how many records moved.
+pub fn set_link<B: Base<Record>, R: Wait>(
+    rt: &R,
+    alloc: Global,
+    engine: &Engine<Record, B, Holding>,
+    desk: &mut Desk<Record, B>,
+    place: &mut Workplace<Record, Holding>,
+    number: usize,
+    target: Option<usize>,
+) -> Option<(Reply, usize)> {
+    let link = link_to(alloc, target).ok()?;
+    let twin = copy_link(alloc, &link).ok()?;
+    let changed = engine
+        .set_link(
+            rt,
+            alloc,
+            desk,
+            place,
+            RecordNo::new(number),
+            FLNK,
+            link,
+            twin,
+            1,
+        )
+        .ok()?;
+    Some((changed.reply, changed.moved))
+}
