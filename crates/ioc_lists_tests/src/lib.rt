@@ -1,4 +1,4 @@
-//! Tests of devices, completions, notifications, connected parts, queues, scan lists and tickets, each on its own.
+//! Tests of devices, completions, notifications, tables of puts, connected parts, queues, scan lists and tickets, each on its own.
 #![tactic(auto)]
 
 #[cfg(test)]
@@ -11,6 +11,8 @@ mod devices;
 mod notifications;
 #[cfg(test)]
 mod parts;
+#[cfg(test)]
+mod put_table;
 #[cfg(test)]
 mod scans;
 #[cfg(test)]

@@ -1,0 +1,13 @@
+//! What the lines of a table tell. Each function's contract is a law; its body is empty.
+ghost use Rattle.std.specs.Prelude.{◌≡◌, ◌↔◌, ◌<◌, ◌≤◌, ℕ, List, IsTrue};
+ghost use Rattle.ioc_notify.specs.declared.live_numbers.Live.{Live};
+ghost use Rattle.ioc_notify.specs.Living.{holders_of, is_live};
+ghost use Rattle.ioc_put_table.specs.Counts.{IsTable, holders_in, lines_of};
+
+/// Where a number has one line at most, this line tells how many have it. It is live exactly where it has a line, and in a table exactly where
+/// somebody has it.
+pub fn lines_tell_holders()
+    ensures holders { (ls : List Live) (n : ℕ) → lines_of n ls ≤ 1 → holders_of n ls ≡ holders_in n ls }
+    ensures live { (ls : List Live) (n : ℕ) → IsTrue (is_live n ls) ↔ (0 < lines_of n ls) }
+    ensures held { (ls : List Live) (n : ℕ) → IsTable ls → IsTrue (is_live n ls) ↔ (0 < holders_in n ls) }
+{}

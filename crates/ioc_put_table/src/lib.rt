@@ -1,0 +1,7 @@
+//! The puts with notification of many lock sets, in one table.
+#![tactic(auto)]
+
+pub mod laws;
+pub mod put_table;
+
+pub use put_table::PutTable;
