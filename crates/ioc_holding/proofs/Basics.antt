@@ -25,6 +25,10 @@ same_option d None (Some y) s e = cc
 same_option d (Some x) None s e = cc
 same_option d (Some x) (Some y) s e = ap Some e
 
+pub is-none : {X : Type 0} (o : Option X) → (is_some o ≡ true → ⊥) → o ≡ None
+is-none None never = refl
+is-none (Some x) never = absurd (never refl)
+
 -- ---- lists that are filtered
 
 pub one-there : {X : Type 0} (x y : X) → Contains (x ∷ []) y → x ≡ y

@@ -1,4 +1,5 @@
 mod Basics
+mod Summing
 mod Lists
 mod Lasting
 mod Doing

@@ -9,8 +9,8 @@ use Rattle.ioc_notify.specs.declared.waiting_lists.Waiting.{Waiting}
 use Rattle.ioc_notify.specs.Waits.{at_record}
 use Rattle.ioc_store.specs.World.{World, Has}
 use Rattle.ioc_holding.specs.Held.{AreHalves, WaitsWithin}
-use Rattle.ioc_holding.proofs.Basics.{of-list}
-use Rattle.ioc_holding.proofs.Sharing.{is-none, none-there, there-as, one-in, turned, from-one}
+use Rattle.ioc_holding.proofs.Basics.{is-none, of-list}
+use Rattle.ioc_holding.proofs.Sharing.{none-there, there-as, one-in, turned, from-one}
 
 -- the first answer, or else the second
 abbrev pub first-of : {X : Type 0} → Option X → Option X → Option X

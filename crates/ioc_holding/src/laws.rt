@@ -1,6 +1,6 @@
 //! Laws of held records. Each function's contract is a law; its body only names the laws that it rests on.
 ghost use Rattle.ioc_holding.specs.EventLaws.{EventLaws};
-ghost use Rattle.ioc_holding.specs.Laws.{Lasts, OneMore, Asks, HeldAlike, Falls, Gathers, Opens, HoldsAll, Parts, Joins, LinkParts, LinkJoins, LinkMoves, RescansApart, BeginsSound, StaysSound, Replays};
+ghost use Rattle.ioc_holding.specs.Laws.{Lasts, LiveLasts, OneMore, HoldersMove, Asks, HeldAlike, Falls, Gathers, Opens, HoldsAll, Parts, Joins, LinkParts, LinkJoins, LinkMoves, RescansApart, BeginsSound, StaysSound, Replays};
 
 use ioc_events::event_rules::{events_keep_records, rules_are_steps};
 use ioc_events::local::{counted_waits_keep_apart, events_are_local};
@@ -23,6 +23,19 @@ fn events_have_laws<K: RecordKind>()
 pub fn holding_lasts<K: RecordKind>()
     ensures { Lasts K.rules }
 {}
+
+/// How many have each put with notification stays the same as long as no note has the key of these.
+pub fn live_lasts<K: RecordKind>()
+    ensures { LiveLasts K.rules }
+{}
+
+/// An event of held records changes how many have each put with notification by as much among all as among those held. So who owns the key
+/// of these adds what the count of a set changed by.
+pub fn holders_move<K: RecordKind>()
+    ensures { HoldersMove K.rules }
+{
+    events_have_laws::<K>();
+}
 
 /// An event that concerns held records alone is the same event of all records: the list with its note is legal, and what it leaves is held.
 /// A get leaves it as it was.
