@@ -28,7 +28,7 @@ use Rattle.ioc_holding.proofs.Summing.{point, same-point, holders-moved}
 module _ {R : Type 0} (k : RecordRules R) where
   -- ---- as an event begins
 
-  begun-counted : (moment : ℕ) (m : World R) → IsCounted k m → IsCounted k (begun_at moment m)
+  pub begun-counted : (moment : ℕ) (m : World R) → IsCounted k m → IsCounted k (begun_at moment m)
   unfolding at begun begun_at holders
   begun-counted moment m counted = record {
     closed = record { closed = counted.closed.closed };
@@ -155,7 +155,7 @@ module _ {R : Type 0} (k : RecordRules R) where
     all-within (Notify s number field given) named cancels = other-within (Notify s number field given) named (λ number is. cc)
     all-within (IsLive number) named cancels = other-within (IsLive number) named (λ number is. cc)
 
-    agree : AgreeEvent k mine first second (done k v n) (done k m n)
+    pub agree : AgreeEvent k mine first second (done k v n) (done k m n)
     unfolding done
     agree =
         laws.local mine (listed (entry_of n).answers) first second (entry_of n).event shut alike own-apart
@@ -166,17 +166,17 @@ module _ {R : Type 0} (k : RecordRules R) where
     outside r out = not_true (contains_key v.records r) out
 
     -- a record outside v is as it was, and so is its waiting list
-    same-outside : (r : ℕ) → (Has v r → ⊥) → get (done k m n).world.records r ≡ get m.records r
+    pub same-outside : (r : ℕ) → (Has v r → ⊥) → get (done k m n).world.records r ≡ get m.records r
     unfolding at begun begun_at
     same-outside r out =
         same_option k.missing (get (done k m n).world.records r) (get m.records r)
         (agree.other_spares.there r (outside r out)) (agree.other_spares.spared r (outside r out))
 
-    at-outside : (r : ℕ) → (Has v r → ⊥) → at k (done k m n).world r ≡ at k m r
+    pub at-outside : (r : ℕ) → (Has v r → ⊥) → at k (done k m n).world r ≡ at k m r
     unfolding at
     at-outside r out = ap (λ (o : Option R). unwrap_or o k.missing) (same-outside r out)
 
-    waiting-outside : (r : ℕ) → (Has v r → ⊥) → at_record r (done k m n).world.waiting ≡ at_record r m.waiting
+    pub waiting-outside : (r : ℕ) → (Has v r → ⊥) → at_record r (done k m n).world.waiting ≡ at_record r m.waiting
     unfolding begun begun_at
     waiting-outside r out = agree.other_spares.waiting r (outside r out)
 
@@ -202,7 +202,7 @@ module _ {R : Type 0} (k : RecordRules R) where
           | false ↦ λ isnt. subst (λ (x : R). Contains (targets k x) r) (at-outside a (λ there. not_both there isnt)) named
         ] refl
 
-    kept : KeepsRecords v (done k v n).world
+    pub kept : KeepsRecords v (done k v n).world
     kept = done-kept laws v n holds.shut
 
     -- at each record how many have a put with notification changes alike: at one of v as in v, and elsewhere not at all

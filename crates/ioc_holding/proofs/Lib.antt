@@ -11,3 +11,6 @@ mod Rescanning
 mod Uniting
 mod Moving
 mod Asking
+mod Giving
+mod Placing
+mod Ending

@@ -31,6 +31,10 @@ sum-none : (f : ℕ → ℕ) (n : ℕ) → ((q : ℕ) → f q ≡ 0) → sum-bel
 sum-none f zero none = refl
 sum-none f (suc n) none = let here = none n in let rest = sum-none f n none in omega arith
 
+sum-least : (f g : ℕ → ℕ) (n : ℕ) → ((q : ℕ) → f q ≤ g q) → sum-below f n ≤ sum-below g n
+sum-least f g zero least = omega arith
+sum-least f g (suc n) least = let here = least n in let rest = sum-least f g n least in omega arith
+
 -- a number alone counts
 module _ (is : ℕ → Bool) (a x : ℕ) (only : (q : ℕ) → is q ≡ true → q ≡ a) (self : is a ≡ true) where
   at-one : (n : ℕ) (b : Bool) → is n ≡ b → (b ≡ true → n ≡ a) → n ≢ a → cond b x 0 ≡ 0
@@ -154,6 +158,14 @@ module _ {R : Type 0} (k : RecordRules R) (number : ℕ) where
   holders-alike w v same =
       let n = reach w + reach v in
       holders-sum w n (omega arith) ∙ sum-same (point w) (point v) n same ∙ sym (holders-sum v n (omega arith))
+
+  pub holders-least : (w v : World R) → ((q : ℕ) → point w q ≤ point v q) → holders k w number ≤ holders k v number
+  holders-least w v least =
+      let n = reach w + reach v in
+      let one = holders-sum w n (omega arith) in
+      let other = holders-sum v n (omega arith) in
+      let all = sum-least (point w) (point v) n least in
+      omega (arith, one, other, all)
 
   -- and how many have it changes as it does at each record
   pub holders-moved : (a b c d : World R) → ((q : ℕ) → point a q + point b q ≡ point c q + point d q) → holders k a number + holders k b number ≡ holders k c number + holders k d number

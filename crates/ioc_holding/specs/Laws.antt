@@ -1,21 +1,21 @@
 -- The laws of held records: what lasts, what an event does, how records are parted and joined, and where a legal list leads.
 -- Application Developer's Guide, "Database Locking, Scanning, and Processing".
-use Rattle.std.specs.Prelude.{◌≡◌, true, ℕ, ◌+◌, List, [], ◌∷◌, ◌++◌, ◌<◌, ◌^◌, Contains}
+use Rattle.std.specs.Prelude.{◌≡◌, ◌↔◌, true, ℕ, ◌+◌, length, List, [], ◌∷◌, ◌++◌, ◌<◌, ◌^◌, Contains}
 use Rattle.std.specs.Prelude.{None as Nothing_}
 use Rattle.std.specs.FinMap.{len}
 use Rattle.ioc_fields.specs.declared.field_no.FieldNo.{FieldNo}
 use Rattle.ioc_common.specs.declared.link_field.LinkField.{LinkField}
 use Rattle.ioc_common.specs.Links.{use_of, named_by}
-use Rattle.ioc_notify.specs.Living.{holders_of}
+use Rattle.ioc_notify.specs.Living.{holders_of, is_live}
 use Rattle.ioc_record.specs.RecordRules.{RecordRules}
-use Rattle.ioc_store.specs.World.{World, Has, IsClosed, at, common_at, put, begun_at}
+use Rattle.ioc_store.specs.World.{World, Has, IsClosed, at, common_at, put, begun_at, cancelled, has_place}
 use Rattle.ioc_store.specs.Scanning.{device_of, rewired}
 use Rattle.ioc_line.specs.declared.entry.Note.{Note}
 use Rattle.ioc_line.specs.Key.{Key}
 use Rattle.ioc_line.specs.Line.{Spares}
 use Rattle.ioc_store.specs.Given.{Answers}
 use Rattle.ioc_events.specs.declared.event.Event.{Event}
-use Rattle.ioc_events.specs.Holding.{IsCounted, holders}
+use Rattle.ioc_events.specs.Holding.{IsCounted, IsHeld, holders}
 use Rattle.ioc_events.specs.Local.{AskAlike}
 use Rattle.ioc_events.specs.Step.{stepped, names}
 use Rattle.ioc_events.specs.StepRules.{Replay, KeepsRecords}
@@ -53,6 +53,32 @@ module _ {R : Type 0} (k : RecordRules R) where
   abbrev pub HoldersMove : Type 0
   HoldersMove = (base v w : World R) (log : List Note) (n : Note) → IsSound k base → IsLegal k base log → Holds k (map_of k base log) v
       → IsOf k (map_of k base log) v n → IsDone k v n w → MovesAlike (map_of k base log) (map_of k base (log ++ n ∷ [])) v w
+
+  -- an event of held records, counted, has ended a put with notification in the world of all exactly where it has ended in what is held and
+  -- nobody else has it
+  abbrev pub EndsOver : Type 0
+  EndsOver = (base v w : World R) (log : List Note) (n : Note) → IsSound k base → IsLegal k base log → Holds k (map_of k base log) v
+      → IsOf k (map_of k base log) v n → IsDone k v n w → IsCounted k v → (number : ℕ)
+      → Contains (map_of k base (log ++ n ∷ [])).ended number ↔ (Contains w.ended number × (IsHeld k (map_of k base (log ++ n ∷ [])) number → ⊥))
+
+  -- nobody has a put with notification of which none is counted
+  abbrev pub NobodyHas : Type 0
+  NobodyHas = (w : World R) → IsCounted k w → (number : ℕ) → (IsHeld k w number → ⊥) ↔ (holders_of number w.live ≡ 0)
+
+  -- where all that are live have numbers from a list of fewer than 256, there is a place for one more with a number that the list hasn't: in the
+  -- world of all, and in what is held of it and counted
+  abbrev pub PlaceForOneMore : Type 0
+  PlaceForOneMore = (m : World R) (numbers : List ℕ) (number moment : ℕ) → IsSound k m → ((n : ℕ) → is_live n m.live ≡ true → Contains numbers n)
+      → length numbers < 256 → (Contains numbers number → ⊥)
+      → (has_place (begun_at moment m) number ≡ true) × ((v : World R) → Holds k m v → IsCounted k v → has_place (begun_at moment v) number ≡ true)
+
+  -- where a put with notification is given up both in the world of all and in what is held, that is held
+  abbrev pub CancelIsHeld : Type 0
+  CancelIsHeld = (m v : World R) (number : ℕ) → Holds k m v → Holds k (cancelled k number m) (cancelled k number v)
+
+  -- and so it is where an event begins
+  abbrev pub BeginningIsHeld : Type 0
+  BeginningIsHeld = (m v : World R) (moment : ℕ) → Holds k m v → Holds k (begun_at moment m) (begun_at moment v)
 
   -- a get, and the question whether one is live, of held records: the same of all, and what is held is held as it was
   abbrev pub Asks : Type 0
