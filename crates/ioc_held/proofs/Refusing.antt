@@ -17,7 +17,7 @@ use Rattle.ioc_events.specs.Step.{Stepped, all_there, refused, stepped, done_alo
 use Rattle.ioc_line.specs.declared.entry.Note.{Note}
 use Rattle.ioc_line.specs.Key.{Key}
 use Rattle.ioc_line.specs.Line.{Continues, noted}
-use Rattle.ioc_holding.specs.Legal.{IsLegal, IsSound, IsUntouched, Fits, done, map_of}
+use Rattle.ioc_holding.specs.Legal.{AreLiveAlike, IsLegal, IsSound, IsUntouched, Fits, done, map_of}
 use Rattle.ioc_holding.specs.Held.{Holds, Cover}
 use Rattle.ioc_holding.specs.Laws.{Lasts, GoesOn, StaysSound}
 use Rattle.ioc_journal.specs.Account.{journalled, MayFollow, Added}
@@ -97,6 +97,7 @@ module _ {R : Type 0} (k : RecordRules R) (lasts : Lasts k) (stays : StaysSound 
     reply = ap (λ (e : Entry). e.reply) is ∙ sym (ap (λ (d : Stepped R). d.reply) comes);
     used = ap (λ (d : Stepped R). answers_of d.world.calls) comes ∙ sym (ap (λ (e : Entry). e.answers) is);
     untouched = λ r out. subst (λ (d : Stepped R). IsUntouched k r m d.world) (sym comes) (untouched m r);
+    live = λ out. subst (λ (d : Stepped R). AreLiveAlike m d.world) (sym comes) (λ number. refl);
   }
 
   refusal_goes_on : (log : List Note) (desk call : ℕ) (own : List Key) → IsSound k base → Continues seen owned log → IsLegal k base log

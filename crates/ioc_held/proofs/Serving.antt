@@ -15,6 +15,7 @@ use Rattle.ioc_events.specs.declared.event.Event.{Event}
 use Rattle.ioc_events.specs.declared.event.Event.TheVariants.{Get, Process, Put, Complete, Link, Notify, Cancel, IsLive}
 use Rattle.ioc_events.specs.declared.event.Entry.{Entry}
 use Rattle.ioc_events.specs.declared.reply.Reply.{Reply}
+use Rattle.ioc_events.specs.Holding.{IsCounted, holders}
 use Rattle.ioc_events.specs.Local.{AskAlike}
 use Rattle.ioc_events.specs.Step.{names, stepped}
 use Rattle.ioc_events.specs.StepRules.{Step, KeepsRecords}
@@ -23,12 +24,12 @@ use Rattle.ioc_line.specs.declared.room.View.{View}
 use Rattle.ioc_line.specs.Key.{Key}
 use Rattle.ioc_line.specs.Line.{Continues, holder, noted}
 use Rattle.ioc_line.specs.KeyLaws.{has_left}
-use Rattle.ioc_holding.specs.Legal.{IsLegal, IsSound, key_of, map_of, done}
-use Rattle.ioc_holding.specs.Held.{Holds, Cover, CancelsWithin, IsOf, question_note}
+use Rattle.ioc_holding.specs.Legal.{AreLiveAlike, IsLegal, IsSound, key_of, map_of, done}
+use Rattle.ioc_holding.specs.Held.{Holds, Cover, CancelsWithin, AreHeldAlike, question_note}
 use Rattle.ioc_holding.specs.Laws.{Lasts, OneMore, Asks, HeldAlike, GoesOn}
 use Rattle.ioc_journal.specs.Account.{journalled, AreRecords, IsHolder, MayFollow, Added}
 use Rattle.ioc_held.specs.Holding.{IsOwner}
-use Rattle.ioc_set.specs.Held.{Held, now_of, folded, done_by, held_after}
+use Rattle.ioc_set.specs.Held.{Held, NoneIsLive, now_of, folded, done_by, held_after}
 use Rattle.ioc_set.specs.Doing.{is_ordinary, with_place, Does}
 
 one-there : {X : Type 0} (x y : X) → Contains (x ∷ []) y → x ≡ y
@@ -94,6 +95,17 @@ module _ {R : Type 0} (k : RecordRules R) where
         subst (λ (l : List Note). Holds k (map_of k base l) v) (sym go.1)
         (lasts base v seen go.0 holds (λ r s. go.2 (key_of r) (covers r s)) (subst (λ (l : List Note). IsLegal k base l) go.1 legal))
 
+  live_alike : (v w : World R) → v.live ≡ w.live → AreLiveAlike v w
+  live_alike v w same number = rw same refl
+
+  counted_begun : (w : World R) (moment : ℕ) → IsCounted k w → IsCounted k (begun_at moment w)
+  unfolding at begun_at begun holders
+  counted_begun w moment c = record {
+    closed = closed_begun w moment c.closed;
+    few = c.few;
+    counted = record { counted = c.counted.counted; live = c.counted.live; waits_once = c.counted.waits_once };
+  }
+
   placed_now : {D : Type 0} (full : Bool) (h : Held R D) → now_of (cond full (folded h) h) ≡ now_of h
   placed_now true h = refl
   placed_now false h = refl
@@ -130,9 +142,23 @@ module _ {R D : Type 0} (k : RecordRules R) (gives : D → Ask → ℕ → Answe
   waiting_then : (now_of h').waiting ≡ after.waiting
   waiting_then = ap (λ (w : World R). w.waiting) now_then ∙ ap (λ (w : World R). (done_by k w e).world.waiting) was_now
 
+  live_then : (now_of h').live ≡ after.live
+  live_then = ap (λ (w : World R). w.live) now_then ∙ ap (λ (w : World R). (done_by k w e).world.live) was_now
+
+  -- where no put with notification is live before and after, nobody has one
+  pub none_held : (counted : (answers : Answers) (w after : World R) (event : Event) (reply : Reply) (requests : Requests) → Step k answers w event after reply requests → IsCounted k w → IsCounted k after)
+      → (allowed : (answers : Answers) (w : World R) (event : Event) → Step k answers w event (stepped k answers w event).world (stepped k answers w event).reply (stepped k answers w event).requests)
+      → IsCounted k (now_of h) → NoneIsLive h → NoneIsLive h' → AreHeldAlike k (now_of h) after
+  none_held counted allowed before none none_then number =
+      let done = done_by k (now_of h) e in
+      let step = allowed (listed e.answers) (begun_at e.moment (now_of h)) e.event in
+      let then = counted (listed e.answers) (begun_at e.moment (now_of h)) after e.event done.reply done.requests step (counted_begun k (now_of h) e.moment before) in
+      sym (before.counted.counted number) ∙ live_alike (now_of h) after (none.0 ∙ sym none_then.0 ∙ live_then) number ∙ then.counted.counted number
+
   module _ (lasts : Lasts k) (one_more : OneMore k) (alike : HeldAlike k)
       (allowed : (answers : Answers) (w : World R) (event : Event) → Step k answers w event (stepped k answers w event).world (stepped k answers w event).reply (stepped k answers w event).requests)
       (kept : (answers : Answers) (w after : World R) (event : Event) (reply : Reply) (requests : Requests) → Step k answers w event after reply requests → IsClosed k w → KeepsRecords w after)
+      (same : AreHeldAlike k (now_of h) after)
       (base : World R) (seen : List Note) (owned : List Key) (covers : Cover owned (now_of h)) (holds : Holds k (map_of k base seen) (now_of h)) where
     goes_on : (log : List Note) (desk call : ℕ) (own : List Key) → IsSound k base → Continues seen owned log → IsLegal k base log
         → GoesOn k base log (noted (journalled desk call e) (owned ++ own)) (λ m. Holds k m after)
@@ -145,6 +171,7 @@ module _ {R D : Type 0} (k : RecordRules R) (gives : D → Ask → ℕ → Answe
           cancels = no_cancel k (map_of k base log) (now_of h) e.event ours;
           asks = asks_nothing k (begun_at e.moment (now_of h)) (begun_at e.moment (map_of k base log)) e.event ours;
           covers = λ r s. has_left (key_of r) owned own (covers r s);
+          live = λ out. same;
         })
         (record { world = refl; reply = replied; used = used })
 
@@ -178,9 +205,9 @@ module _ {R : Type 0} (k : RecordRules R) (lasts : Lasts k) (asks : Asks k) (bas
       → GoesOn k base log (noted (journalled desk call got) (owned ++ own)) (λ m. Holds k m v)
   get_goes_on log desk call own sound go legal =
       let none : Answers = listed [] in
-      subst (λ (r : Reply). IsOf k (map_of k base log) v (question_note desk call moment (Get s field) r (owned ++ own)) → GoesOn k base log (question_note desk call moment (Get s field) r (owned ++ own)) (λ m. Holds k m v)) (sym (answer none))
-      (asks base v log desk call moment (Get s field) none (owned ++ own) refl sound legal (holds_on k lasts base v seen owned covers holds log go legal))
-      (record { named = λ r c. subst (λ (n : ℕ). Has v n) (one-there s r c) there; cancels = tt; asks = tt; covers = λ r h. has_left (key_of r) owned own (covers r h) })
+      subst (λ (r : Reply). GoesOn k base log (question_note desk call moment (Get s field) r (owned ++ own)) (λ m. Holds k m v)) (sym (answer none))
+      (asks base v log desk call moment (Get s field) none (owned ++ own) refl sound legal (holds_on k lasts base v seen owned covers holds log go legal)
+      (λ r c. subst (λ (n : ℕ). Has v n) (one-there s r c) there) tt (λ r h. has_left (key_of r) owned own (covers r h)))
 
   pub get_may_follow : (entry : Entry) → got ≡ entry → MayFollow k base seen owned entry
   get_may_follow entry is = subst (λ (x : Entry). MayFollow k base seen owned x) is (λ log desk call own sound go legal. (get_goes_on log desk call own sound go legal).legal)

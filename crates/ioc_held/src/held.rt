@@ -14,6 +14,7 @@ ghost use Rattle.ioc_held.specs.Holding.{IsOwner, held_view, numbers_of, Serves,
 use crate::running::run_in;
 use ioc_device::Device;
 use ioc_events::event_rules::{events_keep_records, rules_are_steps};
+use ioc_events::notification_rules::events_count_holders;
 use ioc_events::{Entry, Event, KeptAnswers, Reply};
 use ioc_fields::FieldNo;
 use ioc_holding::laws::{events_are_held, holding_lasts, parts_share_what_is_held};
@@ -106,6 +107,7 @@ impl<K: RecordKind + Drop, B: Base<K>, D: Device> Held<K, B, D> {
     {
         rules_are_steps::<K>();
         events_keep_records::<K>();
+        events_count_holders::<K>();
         holding_lasts::<K>();
         events_are_held::<K>();
         parts_share_what_is_held::<K>();

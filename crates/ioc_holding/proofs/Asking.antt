@@ -1,5 +1,5 @@
 -- A get and a question change nothing.
-use Rattle.std.proofs.Common.{◌≡◌, ℕ, Bool, true, false, cond, List, [], ◌∷◌, ◌++◌, refl, ap}
+use Rattle.std.proofs.Common.{◌≡◌, ℕ, Bool, true, false, cond, List, [], ◌∷◌, ◌++◌, refl, sym, ap, ◌∙◌}
 use Rattle.std.specs.Prelude.{is_some}
 use Rattle.std.specs.FinMap.{contains_key}
 use Rattle.ioc_values.specs.declared.error.IocError.TheVariants.{NoRecord, NoField}
@@ -14,10 +14,11 @@ use Rattle.ioc_store.specs.Given.{Answers, listed, answers_of}
 use Rattle.ioc_events.specs.declared.event.Event.{Event}
 use Rattle.ioc_events.specs.declared.event.Event.TheVariants.{Get, Process, Put, Complete, Link, Notify, Cancel, IsLive}
 use Rattle.ioc_events.specs.declared.reply.Reply.TheVariants.{Shown}
+use Rattle.ioc_events.specs.Holding.{holders}
 use Rattle.ioc_events.specs.Step.{Stepped, refused, stepped, done_alone, done_there}
 use Rattle.ioc_line.specs.Key.{Key}
 use Rattle.ioc_holding.specs.Legal.{done, map_of}
-use Rattle.ioc_holding.specs.Held.{IsDone, is_question, question_note}
+use Rattle.ioc_holding.specs.Held.{IsDone, IsOf, CancelsWithin, is_question, question_note}
 use Rattle.ioc_holding.specs.EventLaws.{EventLaws}
 use Rattle.ioc_holding.specs.Laws.{Asks}
 use Rattle.ioc_holding.proofs.Doing.{one-more}
@@ -62,6 +63,21 @@ module _ {R : Type 0} (k : RecordRules R) where
   question-reply answers others moment w (Notify s number field given) is = cc
   question-reply answers others moment w (Cancel number) is = cc
 
+  -- it cancels nothing
+  no-cancel : (m v : World R) (event : Event) → is_question event ≡ true → CancelsWithin k m v event
+  no-cancel m v (Get s field) is = tt
+  no-cancel m v (IsLive number) is = tt
+  no-cancel m v (Process s) is = tt
+  no-cancel m v (Put s field given) is = tt
+  no-cancel m v (Complete s number x) is = tt
+  no-cancel m v (Link s field link) is = tt
+  no-cancel m v (Notify s number field given) is = tt
+  no-cancel m v (Cancel number) is = cc
+
+  same-holders : (moment : ℕ) (v : World R) (number : ℕ) → holders k (begun_at moment v) number ≡ holders k v number
+  unfolding holders begun begun_at
+  same-holders moment v number = refl
+
 module _ {R : Type 0} (k : RecordRules R) (lawful : IsLawful k) (laws : EventLaws k) where
   question-done : (v : World R) (desk call moment : ℕ) (event : Event) (answers : Answers) (keys : List Key) → is_question event ≡ true
       → IsDone k v (question_note desk call moment event (stepped k answers v event).reply keys) (begun_at moment v)
@@ -72,7 +88,15 @@ module _ {R : Type 0} (k : RecordRules R) (lawful : IsLawful k) (laws : EventLaw
 
   pub asks : Asks k
   unfolding begun begun_at
-  asks base v log desk call moment event answers keys is sound legal holds of =
+  asks base v log desk call moment event answers keys is sound legal holds named asked covers =
       let n = question_note desk call moment event (stepped k answers v event).reply keys in
-      let more = one-more k lawful laws base v (begun_at moment v) log n sound legal holds of (question-done v desk call moment event answers keys is) in
+      let over = question-done v desk call moment event answers keys is in
+      let of : IsOf k (map_of k base log) v n = record {
+        named = named;
+        cancels = no-cancel k (map_of k base log) v event is;
+        asks = asked;
+        covers = covers;
+        live = λ out number. sym (ap (λ (w : World R). holders k w number) over.world ∙ same-holders k moment v number);
+      } in
+      let more = one-more k lawful laws base v (begun_at moment v) log n sound legal holds of over in
       record { legal = more.legal; known = held-alike k (map_of k base (log ++ n ∷ [])) (begun_at moment v) v (λ q. refl) refl more.known }

@@ -25,6 +25,10 @@ same_option d None (Some y) s e = cc
 same_option d (Some x) None s e = cc
 same_option d (Some x) (Some y) s e = ap Some e
 
+pub is-none : {X : Type 0} (o : Option X) → (is_some o ≡ true → ⊥) → o ≡ None
+is-none None never = refl
+is-none (Some x) never = absurd (never refl)
+
 -- ---- lists that are filtered
 
 pub one-there : {X : Type 0} (x y : X) → Contains (x ∷ []) y → x ≡ y
@@ -35,7 +39,7 @@ later : {X : Type 0} (y : X) (xs : List X) (x : X) → Contains xs x → Contain
 later y xs x (i, lt, is) = (suc i, omega (arith, lt), is)
 
 -- one that passes is among those that do, and nothing else is
-passes-there : {X : Type 0} (p : X → Bool) (xs : List X) (x : X) → Contains (filter p xs) x → Contains xs x × (p x ≡ true)
+pub passes-there : {X : Type 0} (p : X → Bool) (xs : List X) (x : X) → Contains (filter p xs) x → Contains xs x × (p x ≡ true)
 passes-there p [] x h = absurd (omega (arith, h.1))
 passes-there p (y ∷ xs) x h =
     elim (p y) as (λ b. p y ≡ b → Contains (cond b (y ∷ filter p xs) (filter p xs)) x → Contains (y ∷ xs) x × (p x ≡ true)) [
@@ -74,6 +78,13 @@ of-list xs target x h = let one = passes-there (λ (w : Waiting). nat_eq w.targe
 -- where a record has the same list, who waits for it in the one waits in the other
 pub waits-too : (xs ys : List Waiting) (x : Waiting) → at_record x.target xs ≡ at_record x.target ys → Contains xs x → Contains ys x
 waits-too xs ys x same h = (of-list ys x.target x (subst (λ (l : List Waiting). Contains l x) same (in-list xs x h))).0
+
+-- nobody waits for a record that none of these waits for
+pub nobody-waits : (xs : List Waiting) (n : ℕ) → ((x : Waiting) → Contains xs x → x.target ≡ n → ⊥) → at_record n xs ≡ []
+nobody-waits xs n none = elim (at_record n xs) as (λ l. at_record n xs ≡ l → l ≡ []) [
+  | [] ↦ λ is. refl
+  | (y ∷ ys) ↦ λ is. let one = of-list xs n y (subst (λ (l : List Waiting). Contains l y) (sym is) (0, omega arith, refl)) in absurd (none y one.0 one.1)
+] refl
 
 -- ---- a record that isn't there names none
 

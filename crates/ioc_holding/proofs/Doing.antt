@@ -1,5 +1,5 @@
 -- An event of held records is the same event of all.
-use Rattle.std.proofs.Common.{◌≡◌, ◌≢◌, ℕ, Bool, true, false, List, [], ◌∷◌, Option, Some, refl, sym, ap, subst, ◌∙◌, arith}
+use Rattle.std.proofs.Common.{◌≡◌, ◌≢◌, ℕ, ◌+◌, Bool, true, false, List, [], ◌∷◌, Option, Some, refl, sym, ap, subst, ◌∙◌, arith}
 use Rattle.std.specs.Prelude.{is_some, unwrap_or, Contains}
 use Rattle.std.specs.FinMap.{get, contains_key}
 use Rattle.ioc_notify.specs.declared.waiting_lists.Waiting.{Waiting}
@@ -20,14 +20,15 @@ use Rattle.ioc_line.specs.declared.entry.Note.{Note}
 use Rattle.ioc_holding.specs.Legal.{entry_of, done, map_of, Fits, IsSound}
 use Rattle.ioc_holding.specs.Held.{Holds, IsDone, IsOf, CancelsWithin}
 use Rattle.ioc_holding.specs.EventLaws.{EventLaws}
-use Rattle.ioc_holding.specs.Laws.{OneMore, BeginsSound, StaysSound}
-use Rattle.ioc_holding.proofs.Basics.{not_both, not_true, same_option, waits-too, missing-names}
-use Rattle.ioc_holding.proofs.Lists.{goes-on}
+use Rattle.ioc_holding.specs.Laws.{OneMore, HoldersMove, MovesAlike, BeginsSound, StaysSound}
+use Rattle.ioc_holding.proofs.Basics.{not_both, not_true, same_option, is-none, waits-too, missing-names}
+use Rattle.ioc_holding.proofs.Lists.{goes-on, map-join}
+use Rattle.ioc_holding.proofs.Summing.{point, same-point, holders-moved}
 
 module _ {R : Type 0} (k : RecordRules R) where
   -- ---- as an event begins
 
-  begun-counted : (moment : ℕ) (m : World R) → IsCounted k m → IsCounted k (begun_at moment m)
+  pub begun-counted : (moment : ℕ) (m : World R) → IsCounted k m → IsCounted k (begun_at moment m)
   unfolding at begun begun_at holders
   begun-counted moment m counted = record {
     closed = record { closed = counted.closed.closed };
@@ -46,6 +47,15 @@ module _ {R : Type 0} (k : RecordRules R) where
   -- ---- a sound world stays sound
 
   module _ (laws : EventLaws k) where
+    pub done-counted : (m : World R) (n : Note) → IsCounted k m → IsCounted k (done k m n).world
+    unfolding done
+    done-counted m n counted =
+        let answers = listed (entry_of n).answers in
+        let w = begun_at (entry_of n).moment m in
+        let event = (entry_of n).event in
+        let d = stepped k answers w event in
+        laws.counted answers w d.world event d.reply d.requests (laws.allowed answers w event) (begun-counted (entry_of n).moment m counted)
+
     pub done-sound : (m : World R) (n : Note) → IsSound k m → IsSound k (done k m n).world
     unfolding done
     done-sound m n sound =
@@ -55,7 +65,7 @@ module _ {R : Type 0} (k : RecordRules R) where
         let d = stepped k answers w event in
         let step = laws.allowed answers w event in
         record {
-          counted = laws.counted answers w d.world event d.reply d.requests step (begun-counted (entry_of n).moment m sound.counted);
+          counted = done-counted m n sound.counted;
           none_ready = laws.none_ready answers w d.world event d.reply d.requests step (begun-none (entry_of n).moment m sound.none_ready);
         }
 
@@ -145,7 +155,7 @@ module _ {R : Type 0} (k : RecordRules R) where
     all-within (Notify s number field given) named cancels = other-within (Notify s number field given) named (λ number is. cc)
     all-within (IsLive number) named cancels = other-within (IsLive number) named (λ number is. cc)
 
-    agree : AgreeEvent k mine first second (done k v n) (done k m n)
+    pub agree : AgreeEvent k mine first second (done k v n) (done k m n)
     unfolding done
     agree =
         laws.local mine (listed (entry_of n).answers) first second (entry_of n).event shut alike own-apart
@@ -156,17 +166,17 @@ module _ {R : Type 0} (k : RecordRules R) where
     outside r out = not_true (contains_key v.records r) out
 
     -- a record outside v is as it was, and so is its waiting list
-    same-outside : (r : ℕ) → (Has v r → ⊥) → get (done k m n).world.records r ≡ get m.records r
+    pub same-outside : (r : ℕ) → (Has v r → ⊥) → get (done k m n).world.records r ≡ get m.records r
     unfolding at begun begun_at
     same-outside r out =
         same_option k.missing (get (done k m n).world.records r) (get m.records r)
         (agree.other_spares.there r (outside r out)) (agree.other_spares.spared r (outside r out))
 
-    at-outside : (r : ℕ) → (Has v r → ⊥) → at k (done k m n).world r ≡ at k m r
+    pub at-outside : (r : ℕ) → (Has v r → ⊥) → at k (done k m n).world r ≡ at k m r
     unfolding at
     at-outside r out = ap (λ (o : Option R). unwrap_or o k.missing) (same-outside r out)
 
-    waiting-outside : (r : ℕ) → (Has v r → ⊥) → at_record r (done k m n).world.waiting ≡ at_record r m.waiting
+    pub waiting-outside : (r : ℕ) → (Has v r → ⊥) → at_record r (done k m n).world.waiting ≡ at_record r m.waiting
     unfolding begun begun_at
     waiting-outside r out = agree.other_spares.waiting r (outside r out)
 
@@ -192,8 +202,42 @@ module _ {R : Type 0} (k : RecordRules R) where
           | false ↦ λ isnt. subst (λ (x : R). Contains (targets k x) r) (at-outside a (λ there. not_both there isnt)) named
         ] refl
 
-    kept : KeepsRecords v (done k v n).world
+    pub kept : KeepsRecords v (done k v n).world
     kept = done-kept laws v n holds.shut
+
+    -- at each record how many have a put with notification changes alike: at one of v as in v, and elsewhere not at all
+    points-move : (number q : ℕ) → point k number (done k m n).world q + point k number v q ≡ point k number m q + point k number (done k v n).world q
+    points-move number q =
+        elim (contains_key v.records q) as (λ b. contains_key v.records q ≡ b → point k number (done k m n).world q + point k number v q ≡ point k number m q + point k number (done k v n).world q) [
+          | true ↦ λ there.
+              let after = same-point k number q (done k m n).world (done k v n).world (same-inside q there) (sym (agree.alike.same.waiting q there)) in
+              let before = same-point k number q m v (holds.records q there) (holds.waiting q there) in
+              omega (arith, after, before)
+          | false ↦ λ isnt.
+              let out : Has v q → ⊥ = λ there. not_both there isnt in
+              let none : get (done k v n).world.records q ≡ get v.records q = is-none (get (done k v n).world.records q) (λ has. out (kept.only q has)) ∙ sym (is-none (get v.records q) out) in
+              let all = same-point k number q (done k m n).world m (same-outside q out) (waiting-outside q out) in
+              let own = same-point k number q (done k v n).world v none (own-waiting-outside q out) in
+              omega (arith, all, own)
+        ] refl
+
+    pub done-moves : MovesAlike k m (done k m n).world v (done k v n).world
+    done-moves = record {
+      held = moved;
+      of_all = λ number.
+          let before = sound.counted.counted.counted number in
+          let after = (done-sound laws m n sound).counted.counted.counted number in
+          omega (arith, moved number, before, after);
+      live = λ counted number.
+          let before = sound.counted.counted.counted number in
+          let after = (done-sound laws m n sound).counted.counted.counted number in
+          let own_before = counted.counted.counted number in
+          let own_after = (done-counted laws v n counted).counted.counted number in
+          omega (arith, moved number, before, after, own_before, own_after);
+    }
+      where
+        moved : (number : ℕ) → holders k (done k m n).world number + holders k v number ≡ holders k m number + holders k (done k v n).world number
+        moved number = holders-moved k number (done k m n).world v m (done k v n).world (λ q. points-move number q)
 
     pub event-fits : (w : World R) → IsDone k v n w → Fits k m n
     event-fits w is = record {
@@ -204,6 +248,12 @@ module _ {R : Type 0} (k : RecordRules R) where
         waiting = waiting-outside r (λ there. out (of.covers r there));
         named = named-outside r (λ there. out (of.covers r there));
       };
+      live = λ out number.
+          let moved = done-moves.held number in
+          let before = sound.counted.counted.counted number in
+          let after = (done-sound laws m n sound).counted.counted.counted number in
+          let same = of.live out number in
+          omega (arith, moved, before, after, same);
     }
 
     done-within : (x : Waiting) → Contains (done k v n).world.waiting x → Has (done k v n).world x.target
@@ -232,6 +282,12 @@ module _ {R : Type 0} (k : RecordRules R) where
     }
 
 module _ {R : Type 0} (k : RecordRules R) (lawful : IsLawful k) (laws : EventLaws k) where
+  pub holders-move : HoldersMove k
+  holders-move base v w log n sound legal holds of is =
+      let m = map_of k base log in
+      let moves = done-moves k lawful laws m v n (sound-on k laws log base sound) holds of in
+      subst (λ (x : World R). MovesAlike k m x v w) (sym (map-join k log (n ∷ []) base)) (subst (λ (x : World R). MovesAlike k m (done k m n).world v x) is.world moves)
+
   pub one-more : OneMore k
   one-more base v w log n sound legal holds of is =
       let m = map_of k base log in

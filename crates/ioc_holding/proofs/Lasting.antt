@@ -1,11 +1,12 @@
 -- What is held is held as long as no note has its keys.
-use Rattle.std.proofs.Common.{List, [], ◌∷◌, sym, subst, ◌∙◌}
+use Rattle.std.proofs.Common.{List, [], ◌∷◌, refl, sym, subst, ◌∙◌}
 use Rattle.ioc_record.specs.RecordRules.{RecordRules}
 use Rattle.ioc_store.specs.World.{World}
 use Rattle.ioc_line.specs.declared.entry.Note.{Note}
-use Rattle.ioc_holding.specs.Legal.{done, map_of, Fits, IsLegal}
+use Rattle.ioc_line.specs.Line.{Spares}
+use Rattle.ioc_holding.specs.Legal.{AreLiveAlike, notifications_key, done, map_of, Fits, IsLegal}
 use Rattle.ioc_holding.specs.Held.{Holds, AreSpared}
-use Rattle.ioc_holding.specs.Laws.{Lasts}
+use Rattle.ioc_holding.specs.Laws.{Lasts, LiveLasts}
 use Rattle.ioc_holding.proofs.Lists.{legal-right, map-join}
 
 module _ {R : Type 0} (k : RecordRules R) where
@@ -23,6 +24,14 @@ module _ {R : Type 0} (k : RecordRules R) where
   spared-all (n ∷ notes) m v spared legal holds =
       spared-all notes (done k m n).world v (λ r there. (spared r there).1) legal.1
       (spared-one m v n (λ r there. ((spared r there).0, tt)) legal.0 holds)
+
+  live-all : (notes : List Note) (m : World R) → Spares notifications_key notes → IsLegal k m notes → AreLiveAlike m (map_of k m notes)
+  live-all [] m spared legal number = refl
+  live-all (n ∷ notes) m spared legal number = legal.0.live spared.0 number ∙ live-all notes (done k m n).world spared.1 legal.1 number
+
+  pub live-lasts : LiveLasts k
+  live-lasts base seen rest spared legal =
+      subst (λ (m : World R). AreLiveAlike (map_of k base seen) m) (sym (map-join k seen rest base)) (live-all rest (map_of k base seen) spared (legal-right k seen rest base legal))
 
   pub lasts : Lasts k
   lasts base v seen rest holds spared legal =

@@ -1,4 +1,5 @@
 mod Basics
+mod Summing
 mod Lists
 mod Lasting
 mod Doing
@@ -10,3 +11,6 @@ mod Rescanning
 mod Uniting
 mod Moving
 mod Asking
+mod Giving
+mod Placing
+mod Ending

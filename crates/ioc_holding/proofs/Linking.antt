@@ -14,9 +14,11 @@ use Rattle.ioc_record.specs.Values.{stops_put}
 use Rattle.ioc_record.specs.Laws.{IsLawful}
 use Rattle.ioc_store.specs.World.{World, Has, at, put, begun, begun_at}
 use Rattle.ioc_store.specs.Given.{listed, answers_of}
+use Rattle.ioc_store.specs.Weights.{weight_of}
 use Rattle.ioc_store.specs.Worlds.{at-put_same, has-put}
 use Rattle.ioc_events.specs.declared.event.Event.TheVariants.{Link}
 use Rattle.ioc_events.specs.declared.reply.Reply.TheVariants.{Plain}
+use Rattle.ioc_events.specs.Holding.{one_if_has}
 use Rattle.ioc_events.specs.Step.{Stepped, all_there}
 use Rattle.ioc_events.specs.StepRules.{by_itself, takes_link}
 use Rattle.ioc_line.specs.declared.entry.Note.{Note}
@@ -29,7 +31,8 @@ use Rattle.ioc_holding.proofs.Basics.{one-there}
 use Rattle.ioc_holding.specs.EventLaws.{EventLaws}
 use Rattle.ioc_holding.proofs.Doing.{one-more}
 use Rattle.ioc_holding.proofs.Sharing.{falls, gathers, either, from-one}
-use Rattle.ioc_holding.proofs.Rewiring.{set-at, changed-record, get-put, set-same, put-there, changed-get, changed-waiting, changed-calls, put-waiting, set-here, set-again, set-twice}
+use Rattle.ioc_holding.proofs.Rewiring.{set-at, changed-record, changed-point, get-put, set-same, put-there, changed-get, changed-waiting, changed-calls, put-waiting, set-here, set-again, set-twice}
+use Rattle.ioc_holding.proofs.Summing.{point, of-number, holders-alike}
 
 -- records that are each there are all there
 all-there : {R : Type 0} (w : World R) (ns : List ℕ) → ((n : ℕ) → Contains ns n → Has w n) → all_there w ns ≡ true
@@ -88,8 +91,21 @@ module _ {R : Type 0} (k : RecordRules R) (lawful : IsLawful k) (laws : EventLaw
       | inr later ↦ within r later
     ]
 
+    -- at each record as many have a put with notification as before
+    points-stay : (number q : ℕ) → point k number (done k a note).world q ≡ point k number a q
+    points-stay number q =
+        let records = ap (weight_of (one_if_has k number)) (done-get q) ∙ changed-point k lawful number a s field link takes.there q in
+        let waits = ap (λ (xs : List Waiting). of-number number (at_record q xs)) done-waiting in
+        omega (arith, records, waits)
+
     is-of : (m : World R) → Cover keys a → IsOf k m a note
-    is-of m covers = record { named = names-within; cancels = tt; asks = tt; covers = covers }
+    is-of m covers = record {
+      named = names-within;
+      cancels = tt;
+      asks = tt;
+      covers = covers;
+      live = λ out number. holders-alike k number a (done k a note).world (λ q. sym (points-stay number q));
+    }
 
   pub link-parts : LinkParts k
   link-parts base v stay rest log desk call moment s field link keys sound legal holds covers takes within halves closed other_closed =

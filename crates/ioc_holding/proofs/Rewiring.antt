@@ -6,15 +6,19 @@ use Rattle.std.specs.Ordering.{nat_cmp}
 use Rattle.std.specs.Cmp.Lexicographic.{pointwise}
 use Rattle.std.proofs.lemmas.Grind.{common_steps}
 use Rattle.ioc_fields.specs.declared.field_no.FieldNo.{FieldNo}
+use Rattle.ioc_common.specs.declared.common.Common.{Common}
 use Rattle.ioc_common.specs.declared.link_field.LinkField.{LinkField}
 use Rattle.ioc_common.specs.Steps.{change_numbered}
 use Rattle.ioc_record.specs.RecordRules.{RecordRules}
+use Rattle.ioc_record.specs.Laws.{IsLawful}
 use Rattle.ioc_store.specs.declared.outbox.OutboxItem.{OutboxItem}
 use Rattle.ioc_store.specs.declared.outbox.OutboxItem.TheVariants.{Change}
-use Rattle.ioc_store.specs.World.{World, Has, at, common_at, put, changed, sent, lost}
+use Rattle.ioc_store.specs.World.{World, Has, at, common_at, put, changed, sent, lost, is_notification}
 use Rattle.ioc_store.specs.Scanning.{device_of, moved, rewired}
 use Rattle.ioc_store.specs.ScanLaws.{rewired-either, moved-either}
+use Rattle.ioc_store.specs.Weights.{weight_of}
 use Rattle.ioc_store.specs.Worlds.{at-put_same, sent_by}
+use Rattle.ioc_events.specs.Holding.{one_if_has}
 use Rattle.ioc_holding.specs.LinkChange.{with_link_changed}
 
 -- the map with one record set, as it answers
@@ -129,3 +133,26 @@ module _ {R : Type 0} (k : RecordRules R) where
   pub changed-calls : (w : World R) (s : ℕ) (field : FieldNo) (link : LinkField) → (with_link_changed k w s field link).calls ≡ w.calls
   unfolding put
   changed-calls w s field link = rewired-calls (device_of k (at k w s)) (put w s (k.with_link (at k w s) field link)) s
+
+  -- ---- it changes no notification
+  module _ (lawful : IsLawful k) where
+    landed-holds : (before : List ℕ) (r : R) → (k.common (landed before r)).notification ≡ (k.common r).notification
+    landed-holds before r = elim (pointwise nat_eq before (device_of k r)) as (λ b. (k.common (cond b r (renumbered r))).notification ≡ (k.common r).notification) [
+      | true ↦ refl
+      | false ↦ elim (nat_lt (k.common r).last_change (2 ^ 64 - 1)) as (λ b. (k.common (cond b (k.with_common r (change_numbered (k.common r))) r)).notification ≡ (k.common r).notification) [
+        | true ↦ ap (λ (c : Common). c.notification) (lawful.common_set r (change_numbered (k.common r)))
+        | false ↦ refl
+      ]
+    ]
+
+    changed-holds : (field : FieldNo) (link : LinkField) (r : R) → (k.common (changed-record field link r)).notification ≡ (k.common r).notification
+    changed-holds field link r = landed-holds (device_of k r) (k.with_link r field link) ∙ ap (λ (c : Common). c.notification) (lawful.link_set_common r field link)
+
+    pub changed-point : (number : ℕ) (w : World R) (s : ℕ) (field : FieldNo) (link : LinkField) → Has w s → (q : ℕ)
+        → weight_of (one_if_has k number) (set-at s (changed-record field link (at k w s)) (get w.records) q) ≡ weight_of (one_if_has k number) (get w.records q)
+    changed-point number w s field link there q =
+        either-one (changed-record field link (at k w s)) (at k w s) (get w.records q) (eqb q s) (ap (λ (o : Option ℕ). cond (is_notification number o) 1 0) (changed-holds field link (at k w s))) ∙ ap (weight_of (one_if_has k number)) (sym (set-same w s there q))
+      where
+        either-one : (x y : R) (o : Option R) (b : Bool) → one_if_has k number x ≡ one_if_has k number y → weight_of (one_if_has k number) (cond b (Some x) o) ≡ weight_of (one_if_has k number) (cond b (Some y) o)
+        either-one x y o true same = same
+        either-one x y o false same = refl

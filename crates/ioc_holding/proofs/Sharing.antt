@@ -1,5 +1,5 @@
 -- Held records that fall apart, and held records together.
-use Rattle.std.proofs.Common.{◌≡◌, ◌⊎◌, ℕ, true, false, Option, Some, None, refl, sym, ap, subst, ◌∙◌, inl, inr, ⊎_elim}
+use Rattle.std.proofs.Common.{◌≡◌, ◌⊎◌, ℕ, true, false, Option, None, refl, sym, ap, subst, ◌∙◌, inl, inr, ⊎_elim}
 use Rattle.std.specs.Prelude.{is_some, unwrap_or, Contains}
 use Rattle.std.specs.FinMap.{get, contains_key, same_map, nat_cmp-IsAntisymmetric}
 use Rattle.std.specs.Cmp.{nat_cmp_total}
@@ -9,14 +9,10 @@ use Rattle.ioc_record.specs.Laws.{IsLawful}
 use Rattle.ioc_store.specs.World.{World, Has, IsClosed, at}
 use Rattle.ioc_holding.specs.Held.{Holds, AreHalves}
 use Rattle.ioc_holding.specs.Laws.{Falls, Opens, Gathers, HoldsAll}
-use Rattle.ioc_holding.proofs.Basics.{not_both, missing-names}
+use Rattle.ioc_holding.proofs.Basics.{not_both, is-none, missing-names}
 
 pub none-there : {X : Type 0} (o : Option X) → o ≡ None → is_some o ≡ true → ⊥
 none-there o none there = not_both there (ap (λ (p : Option _). is_some p) none)
-
-pub is-none : {X : Type 0} (o : Option X) → (is_some o ≡ true → ⊥) → o ≡ None
-is-none None never = refl
-is-none (Some x) never = absurd (never refl)
 
 pub there-as : {X : Type 0} (o p : Option X) → o ≡ p → is_some o ≡ true → is_some p ≡ true
 there-as o p same there = ap (λ (q : Option _). is_some q) (sym same) ∙ there

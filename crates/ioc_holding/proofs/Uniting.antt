@@ -1,6 +1,6 @@
 -- A world of what two worlds have that share no record.
-use Rattle.std.proofs.Common.{◌≡◌, ◌⊎◌, ℕ, true, false, cond, List, [], ◌∷◌, ◌++◌, Option, Some, None as Nothing_, refl, sym, ap, subst, ◌∙◌, inl, inr, ⊎_elim, arith, append-nil}
-use Rattle.std.specs.Prelude.{is_some, Contains}
+use Rattle.std.proofs.Common.{◌≡◌, ◌⊎◌, ℕ, true, false, cond, List, [], ◌∷◌, ◌++◌, Option, Some, None as Nothing_, refl, sym, ap, subst, ◌∙◌, inl, inr, ⊎_elim, append-nil}
+use Rattle.std.specs.Prelude.{is_some}
 use Rattle.std.specs.Ordering.{nat_cmp, eq_by_cmp}
 use Rattle.std.specs.Cmp.{nat_cmp_total}
 use Rattle.std.specs.FinMap.{get, find, entries, from_entries, get-entries, get-from_entries}
@@ -9,8 +9,8 @@ use Rattle.ioc_notify.specs.declared.waiting_lists.Waiting.{Waiting}
 use Rattle.ioc_notify.specs.Waits.{at_record}
 use Rattle.ioc_store.specs.World.{World, Has}
 use Rattle.ioc_holding.specs.Held.{AreHalves, WaitsWithin}
-use Rattle.ioc_holding.proofs.Basics.{of-list}
-use Rattle.ioc_holding.proofs.Sharing.{is-none, none-there, there-as, one-in, turned, from-one}
+use Rattle.ioc_holding.proofs.Basics.{is-none, nobody-waits}
+use Rattle.ioc_holding.proofs.Sharing.{none-there, there-as, one-in, turned, from-one}
 
 -- the first answer, or else the second
 abbrev pub first-of : {X : Type 0} → Option X → Option X → Option X
@@ -22,13 +22,6 @@ find-both (e ∷ es) fs q = elim (eq_by_cmp nat_cmp q e.0) as (λ b. cond b (Som
   | true ↦ refl
   | false ↦ find-both es fs q
 ]
-
--- nobody waits for a record that none of these waits for
-nobody-waits : (xs : List Waiting) (n : ℕ) → ((x : Waiting) → Contains xs x → x.target ≡ n → ⊥) → at_record n xs ≡ []
-nobody-waits xs n none = elim (at_record n xs) as (λ l. at_record n xs ≡ l → l ≡ []) [
-  | [] ↦ λ is. refl
-  | (y ∷ ys) ↦ λ is. let one = of-list xs n y (subst (λ (l : List Waiting). Contains l y) (sym is) (0, omega arith, refl)) in absurd (none y one.0 one.1)
-] refl
 
 pub united : {R : Type 0} → World R → World R → World R
 united a b = record a { records = from_entries (entries a.records ++ entries b.records); waiting = a.waiting ++ b.waiting }

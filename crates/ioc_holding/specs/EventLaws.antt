@@ -1,15 +1,16 @@
 -- The laws of events that the laws of held records rest on, in one.
-use Rattle.std.specs.Prelude.{◌≡◌, ◌≢◌, ℕ, ◌<◌, ◌^◌, Bool, true, [], Contains}
+use Rattle.std.specs.Prelude.{◌≡◌, ◌≢◌, ◌↔◌, ℕ, ◌<◌, ◌^◌, Bool, true, [], Contains}
 use Rattle.std.specs.Prelude.{None as Nothing_}
 use Rattle.std.specs.FinMap.{len}
 use Rattle.ioc_ledger.specs.Requests.{Requests}
+use Rattle.ioc_notify.specs.Living.{is_live}
 use Rattle.ioc_record.specs.RecordRules.{RecordRules}
 use Rattle.ioc_store.specs.World.{World, Has, IsClosed, common_at}
 use Rattle.ioc_store.specs.Given.{Answers}
 use Rattle.ioc_events.specs.declared.event.Event.{Event}
 use Rattle.ioc_events.specs.declared.event.Event.TheVariants.{Cancel}
 use Rattle.ioc_events.specs.declared.reply.Reply.{Reply}
-use Rattle.ioc_events.specs.Holding.{IsCounted}
+use Rattle.ioc_events.specs.Holding.{IsCounted, IsHeld, EndsExactly}
 use Rattle.ioc_events.specs.Local.{KeepsApart, IsWithin, EventIsLocal}
 use Rattle.ioc_events.specs.Starting.{NoneReady}
 use Rattle.ioc_events.specs.Step.{stepped, names}
@@ -24,6 +25,9 @@ pub record EventLaws {R : Type 0} (k : RecordRules R) : Type 0 where
   -- those that have a notification are counted at the load, and stay so
   pub first : (w : World R) → IsClosed k w → len w.records < 2 ^ 63 → w.live ≡ [] → w.waiting ≡ [] → ((n : ℕ) → Has w n → (common_at k w n).notification ≡ Nothing_) → IsCounted k w
   pub counted : (answers : Answers) (w after : World R) (event : Event) (reply : Reply) (requests : Requests) → Step k answers w event after reply requests → IsCounted k w → IsCounted k after
+  -- one ends exactly where nobody has it any more, and those are live that somebody has
+  pub ends : (answers : Answers) (w after : World R) (event : Event) (reply : Reply) (requests : Requests) → Step k answers w event after reply requests → IsCounted k w → w.ended ≡ [] → EndsExactly k w event reply after
+  pub live : (w : World R) (n : ℕ) → IsCounted k w → (is_live n w.live ≡ true) ↔ IsHeld k w n
   -- none that waits may start after an event
   pub none_ready : (answers : Answers) (w after : World R) (event : Event) (reply : Reply) (requests : Requests) → Step k answers w event after reply requests → NoneReady k w → NoneReady k after
   -- an event depends on the records that it concerns, and changes these alone

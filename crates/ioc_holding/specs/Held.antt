@@ -10,13 +10,14 @@ use Rattle.ioc_store.specs.Given.{answers_of}
 use Rattle.ioc_events.specs.declared.event.Event.{Event}
 use Rattle.ioc_events.specs.declared.event.Event.TheVariants.{Get, Cancel, IsLive}
 use Rattle.ioc_events.specs.declared.reply.Reply.{Reply}
+use Rattle.ioc_events.specs.Holding.{holders}
 use Rattle.ioc_events.specs.Local.{AskAlike}
 use Rattle.ioc_events.specs.Step.{names}
 use Rattle.ioc_members.specs.Joined.{AreShared}
 use Rattle.ioc_line.specs.declared.entry.Note.{Note}
 use Rattle.ioc_line.specs.Key.{Key, Has as Has_key}
 use Rattle.ioc_line.specs.Line.{Spares}
-use Rattle.ioc_holding.specs.Legal.{entry_of, key_of, done}
+use Rattle.ioc_holding.specs.Legal.{entry_of, key_of, notifications_key, done}
 
 -- all that waits waits for records that are there
 abbrev pub WaitsWithin : {R : Type 0} → World R → Type 0
@@ -52,13 +53,19 @@ CancelsWithin k m v (Cancel number) =
     × ((x : Waiting) → Contains m.waiting x → x.number ≡ number → Has v x.target)
 CancelsWithin k m v _ = Unit {0}
 
+-- as many have each put with notification in the one as in the other: records, and those that wait
+abbrev pub AreHeldAlike : {R : Type 0} → RecordRules R → World R → World R → Type 0
+AreHeldAlike k w v = (number : ℕ) → holders k w number ≡ holders k v number
+
 -- the event of the note concerns v alone: it names records of v, what it cancels is in v, and what it asks of all puts with notification
--- comes out in v as in the world of all. Its keys cover v
+-- comes out in v as in the world of all. Its keys cover v. Where it hasn't the key of the puts with notification, the event leaves as many
+-- in v with each
 pub record IsOf {R : Type 0} (k : RecordRules R) (m v : World R) (n : Note) : Type 0 where
   pub named : (r : ℕ) → Contains (names (entry_of n).event) r → Has v r
   pub cancels : CancelsWithin k m v (entry_of n).event
   pub asks : AskAlike (begun_at (entry_of n).moment v) (begun_at (entry_of n).moment m) (entry_of n).event
   pub covers : Cover n.keys v
+  pub live : (Has_key notifications_key n.keys → ⊥) → AreHeldAlike k v (done k v n).world
 
 -- one has records of all with their waiting lists, and nothing else waits in it
 pub record IsPartOf {R : Type 0} (one all : World R) : Type 0 where

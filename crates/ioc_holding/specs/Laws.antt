@@ -1,21 +1,25 @@
 -- The laws of held records: what lasts, what an event does, how records are parted and joined, and where a legal list leads.
 -- Application Developer's Guide, "Database Locking, Scanning, and Processing".
-use Rattle.std.specs.Prelude.{◌≡◌, true, ℕ, List, [], ◌∷◌, ◌++◌, ◌<◌, ◌^◌, Contains}
+use Rattle.std.specs.Prelude.{◌≡◌, ◌↔◌, true, ℕ, ◌+◌, length, List, [], ◌∷◌, ◌++◌, ◌<◌, ◌^◌, Contains}
 use Rattle.std.specs.Prelude.{None as Nothing_}
 use Rattle.std.specs.FinMap.{len}
 use Rattle.ioc_fields.specs.declared.field_no.FieldNo.{FieldNo}
 use Rattle.ioc_common.specs.declared.link_field.LinkField.{LinkField}
 use Rattle.ioc_common.specs.Links.{use_of, named_by}
+use Rattle.ioc_notify.specs.Living.{holders_of, is_live}
 use Rattle.ioc_record.specs.RecordRules.{RecordRules}
-use Rattle.ioc_store.specs.World.{World, Has, IsClosed, at, common_at, put}
+use Rattle.ioc_store.specs.World.{World, Has, IsClosed, at, common_at, put, begun_at, cancelled, has_place}
 use Rattle.ioc_store.specs.Scanning.{device_of, rewired}
 use Rattle.ioc_line.specs.declared.entry.Note.{Note}
 use Rattle.ioc_line.specs.Key.{Key}
+use Rattle.ioc_line.specs.Line.{Spares}
 use Rattle.ioc_store.specs.Given.{Answers}
 use Rattle.ioc_events.specs.declared.event.Event.{Event}
-use Rattle.ioc_events.specs.Step.{stepped}
+use Rattle.ioc_events.specs.Holding.{IsCounted, IsHeld, holders}
+use Rattle.ioc_events.specs.Local.{AskAlike}
+use Rattle.ioc_events.specs.Step.{stepped, names}
 use Rattle.ioc_events.specs.StepRules.{Replay, KeepsRecords}
-use Rattle.ioc_holding.specs.Legal.{IsLegal, IsSound, entries_of, map_of}
+use Rattle.ioc_holding.specs.Legal.{IsLegal, IsSound, AreLiveAlike, notifications_key, entries_of, map_of}
 use Rattle.ioc_holding.specs.Held.{Holds, AreSpared, IsDone, IsOf, Cover, AreHalves, WaitsWithin, is_question, question_note}
 use Rattle.ioc_holding.specs.LinkChange.{TakesLink, with_link_changed, link_note}
 
@@ -23,6 +27,10 @@ module _ {R : Type 0} (k : RecordRules R) where
   -- what is held of a world is held after notes that spare it
   abbrev pub Lasts : Type 0
   Lasts = (base v : World R) (seen rest : List Note) → Holds k (map_of k base seen) v → AreSpared v rest → IsLegal k base (seen ++ rest) → Holds k (map_of k base (seen ++ rest)) v
+
+  -- how many have each put with notification stays the same after notes without the key of these
+  abbrev pub LiveLasts : Type 0
+  LiveLasts = (base : World R) (seen rest : List Note) → Spares notifications_key rest → IsLegal k base (seen ++ rest) → AreLiveAlike (map_of k base seen) (map_of k base (seen ++ rest))
 
   -- the list with this note is legal, and leads to a world of which this is known
   pub record GoesOn (base : World R) (log : List Note) (n : Note) (Known : World R → Type 0) : Type 0 where
@@ -34,11 +42,49 @@ module _ {R : Type 0} (k : RecordRules R) where
   OneMore = (base v w : World R) (log : List Note) (n : Note) → IsSound k base → IsLegal k base log → Holds k (map_of k base log) v
       → IsOf k (map_of k base log) v n → IsDone k v n w → GoesOn base log n (λ m. Holds k m w)
 
+  -- from m to `after` how many have each put with notification changes by as much as from v to w. So it does by what is live in each, where
+  -- v is counted as well
+  pub record MovesAlike (m after v w : World R) : Type 0 where
+    pub held : (number : ℕ) → holders k after number + holders k v number ≡ holders k m number + holders k w number
+    pub of_all : (number : ℕ) → holders_of number after.live + holders k v number ≡ holders_of number m.live + holders k w number
+    pub live : IsCounted k v → (number : ℕ) → holders_of number after.live + holders_of number v.live ≡ holders_of number m.live + holders_of number w.live
+
+  -- an event of held records changes how many have each put with notification by as much among all as among those held
+  abbrev pub HoldersMove : Type 0
+  HoldersMove = (base v w : World R) (log : List Note) (n : Note) → IsSound k base → IsLegal k base log → Holds k (map_of k base log) v
+      → IsOf k (map_of k base log) v n → IsDone k v n w → MovesAlike (map_of k base log) (map_of k base (log ++ n ∷ [])) v w
+
+  -- an event of held records, counted, has ended a put with notification in the world of all exactly where it has ended in what is held and
+  -- nobody else has it
+  abbrev pub EndsOver : Type 0
+  EndsOver = (base v w : World R) (log : List Note) (n : Note) → IsSound k base → IsLegal k base log → Holds k (map_of k base log) v
+      → IsOf k (map_of k base log) v n → IsDone k v n w → IsCounted k v → (number : ℕ)
+      → Contains (map_of k base (log ++ n ∷ [])).ended number ↔ (Contains w.ended number × (IsHeld k (map_of k base (log ++ n ∷ [])) number → ⊥))
+
+  -- nobody has a put with notification of which none is counted
+  abbrev pub NobodyHas : Type 0
+  NobodyHas = (w : World R) → IsCounted k w → (number : ℕ) → (IsHeld k w number → ⊥) ↔ (holders_of number w.live ≡ 0)
+
+  -- where all that are live have numbers from a list of fewer than 256, there is a place for one more with a number that the list hasn't: in the
+  -- world of all, and in what is held of it and counted
+  abbrev pub PlaceForOneMore : Type 0
+  PlaceForOneMore = (m : World R) (numbers : List ℕ) (number moment : ℕ) → IsSound k m → ((n : ℕ) → is_live n m.live ≡ true → Contains numbers n)
+      → length numbers < 256 → (Contains numbers number → ⊥)
+      → (has_place (begun_at moment m) number ≡ true) × ((v : World R) → Holds k m v → IsCounted k v → has_place (begun_at moment v) number ≡ true)
+
+  -- where a put with notification is given up both in the world of all and in what is held, that is held
+  abbrev pub CancelIsHeld : Type 0
+  CancelIsHeld = (m v : World R) (number : ℕ) → Holds k m v → Holds k (cancelled k number m) (cancelled k number v)
+
+  -- and so it is where an event begins
+  abbrev pub BeginningIsHeld : Type 0
+  BeginningIsHeld = (m v : World R) (moment : ℕ) → Holds k m v → Holds k (begun_at moment m) (begun_at moment v)
+
   -- a get, and the question whether one is live, of held records: the same of all, and what is held is held as it was
   abbrev pub Asks : Type 0
   Asks = (base v : World R) (log : List Note) (desk call moment : ℕ) (event : Event) (answers : Answers) (keys : List Key)
       → is_question event ≡ true → IsSound k base → IsLegal k base log → Holds k (map_of k base log) v
-      → IsOf k (map_of k base log) v (question_note desk call moment event (stepped k answers v event).reply keys)
+      → ((r : ℕ) → Contains (names event) r → Has v r) → AskAlike (begun_at moment v) (begun_at moment (map_of k base log)) event → Cover keys v
       → GoesOn base log (question_note desk call moment event (stepped k answers v event).reply keys) (λ m. Holds k m v)
 
   -- what is held of a world is held with the same records and the same that wait, whatever else an event has come to

@@ -2,6 +2,7 @@
 -- Application Developer's Guide, "Database Locking, Scanning, and Processing": what is done in one lock set leaves all others alone.
 use Rattle.std.specs.Prelude.{◌≡◌, ℕ, List, [], ◌∷◌, map, Contains}
 use Rattle.std.specs.FinMap.{get}
+use Rattle.ioc_notify.specs.Living.{holders_of}
 use Rattle.ioc_notify.specs.Waits.{at_record}
 use Rattle.ioc_record.specs.RecordRules.{RecordRules, targets}
 use Rattle.ioc_store.specs.World.{World, at, begun_at}
@@ -24,6 +25,14 @@ entries_of notes = map (λ (n : Note). entry_of n) notes
 abbrev pub key_of : ℕ → Key
 key_of n = (0, n)
 
+-- the key of the puts with notification: who owns it knows how many have each
+abbrev pub notifications_key : Key
+notifications_key = (2, 0)
+
+-- as many have each put with notification in the one as in the other, by what is live in each
+abbrev pub AreLiveAlike : {R : Type 0} → World R → World R → Type 0
+AreLiveAlike w v = (number : ℕ) → holders_of number w.live ≡ holders_of number v.live
+
 module _ {R : Type 0} (k : RecordRules R) where
   -- what the event of a note does to a world, at its moment and with its answers
   unfoldable pub done : World R → Note → Stepped R
@@ -40,11 +49,13 @@ module _ {R : Type 0} (k : RecordRules R) where
     pub waiting : at_record r after.waiting ≡ at_record r before.waiting
     pub named : (a : ℕ) → Contains (targets k (at k after a)) r → Contains (targets k (at k before a)) r
 
-  -- the event has the reply of the note and uses all its answers, and each record whose key isn't noted is untouched
+  -- the event has the reply of the note and uses all its answers, and each record whose key isn't noted is untouched. Where the key of the
+  -- puts with notification isn't noted, as many have each as before
   pub record Fits (m : World R) (n : Note) : Type 0 where
     pub reply : (entry_of n).reply ≡ (done m n).reply
     pub used : answers_of (done m n).world.calls ≡ (entry_of n).answers
     pub untouched : (r : ℕ) → (Has_key (key_of r) n.keys → ⊥) → IsUntouched r m (done m n).world
+    pub live : (Has_key notifications_key n.keys → ⊥) → AreLiveAlike m (done m n).world
 
   -- each note fits the world that those before it lead to
   abbrev pub IsLegal : World R → List Note → Type 0

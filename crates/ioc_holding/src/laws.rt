@@ -1,10 +1,12 @@
 //! Laws of held records. Each function's contract is a law; its body only names the laws that it rests on.
 ghost use Rattle.ioc_holding.specs.EventLaws.{EventLaws};
-ghost use Rattle.ioc_holding.specs.Laws.{Lasts, OneMore, Asks, HeldAlike, Falls, Gathers, Opens, HoldsAll, Parts, Joins, LinkParts, LinkJoins, LinkMoves, RescansApart, BeginsSound, StaysSound, Replays};
+ghost use Rattle.ioc_holding.specs.Laws.{Lasts, LiveLasts, OneMore, HoldersMove, EndsOver, NobodyHas, PlaceForOneMore, CancelIsHeld, BeginningIsHeld, Asks, HeldAlike, Falls, Gathers, Opens, HoldsAll, Parts, Joins, LinkParts, LinkJoins, LinkMoves, RescansApart, BeginsSound, StaysSound, Replays};
 
 use ioc_events::event_rules::{events_keep_records, rules_are_steps};
 use ioc_events::local::{counted_waits_keep_apart, events_are_local};
-use ioc_events::notification_rules::{events_count_holders, events_leave_none_ready};
+use ioc_events::notification_rules::{
+    events_count_holders, events_end_what_nobody_has, events_leave_none_ready,
+};
 use ioc_record::RecordKind;
 
 // The laws of events that those below rest on.
@@ -16,6 +18,7 @@ fn events_have_laws<K: RecordKind>()
     events_are_local::<K>();
     counted_waits_keep_apart::<K>();
     events_count_holders::<K>();
+    events_end_what_nobody_has::<K>();
     events_leave_none_ready::<K>();
 }
 
@@ -23,6 +26,19 @@ fn events_have_laws<K: RecordKind>()
 pub fn holding_lasts<K: RecordKind>()
     ensures { Lasts K.rules }
 {}
+
+/// How many have each put with notification stays the same as long as no note has the key of these.
+pub fn live_lasts<K: RecordKind>()
+    ensures { LiveLasts K.rules }
+{}
+
+/// An event of held records changes how many have each put with notification by as much among all as among those held. So who owns the key
+/// of these adds what the count of a set changed by.
+pub fn holders_move<K: RecordKind>()
+    ensures { HoldersMove K.rules }
+{
+    events_have_laws::<K>();
+}
 
 /// An event that concerns held records alone is the same event of all records: the list with its note is legal, and what it leaves is held.
 /// A get leaves it as it was.
@@ -32,6 +48,27 @@ pub fn events_are_held<K: RecordKind>()
 {
     events_have_laws::<K>();
 }
+
+/// Where fewer than 256 numbers have all that are live among them, there is a place for one more put with notification under another number,
+/// in the world of all and in what is held.
+pub fn one_more_has_a_place<K: RecordKind>()
+    ensures { PlaceForOneMore K.rules }
+{}
+
+/// A put with notification has ended in the world of all exactly where it has ended in what is held and nobody else has it: none is counted
+/// there then.
+pub fn those_ended_are_over<K: RecordKind>()
+    ensures over { EndsOver K.rules }
+    ensures nobody { NobodyHas K.rules }
+{
+    events_have_laws::<K>();
+}
+
+/// What is held is held of the world at the beginning of an event, and where a put with notification is given up in both.
+pub fn changes_of_all_are_held<K: RecordKind>()
+    ensures begins { BeginningIsHeld K.rules }
+    ensures cancel { CancelIsHeld K.rules }
+{}
 
 /// An event of held records after which they fall apart: the list with its note is legal, and both parts are held. So it is of a link change
 /// of a held record to a held record, or to none.

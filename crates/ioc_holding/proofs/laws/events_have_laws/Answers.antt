@@ -10,5 +10,7 @@ returns g c = record {
   apart = c.counted_waits_keep_apart.ensures.apart;
   alone = c.rules_are_steps.ensures.alone;
   first = c.events_count_holders.ensures.first;
+  ends = c.events_end_what_nobody_has.ensures;
+  live = c.events_count_holders.ensures.live;
   within = c.counted_waits_keep_apart.ensures.within;
 }

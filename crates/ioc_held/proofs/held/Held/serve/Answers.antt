@@ -13,7 +13,7 @@ use Rattle.ioc_set.specs.NoCalls.{no_call}
 use Rattle.ioc_set.specs.SetStore.{world_of}
 use Rattle.ioc_held.specs.Holding.{Pass, HeldView, held_view, numbers_of, IsHeld, Serves}
 use Rattle.ioc_held.proofs.Keys.{key_there}
-use Rattle.ioc_held.proofs.Serving.{names_one, owner_on, entry_is, may_follow, held_then, only}
+use Rattle.ioc_held.proofs.Serving.{names_one, owner_on, entry_is, none_held, may_follow, held_then, only}
 use Rattle.ioc_held.proofs.held.Held.serve.Goals as goal
 
 pub unreachable-requires : goal.unreachable-requires
@@ -33,8 +33,11 @@ append-receipt-requires-clause-follows g c =
     key_there c.self.inside.set.records n (subst (λ (v : HeldView g.row.K.Denot g.row.D.Denot). Contains (numbers_of v) n) (sym c.self.view_is) (c.requires.there n has)) in
     let does = c.in-Ok.ensures.ok in
     let entry = entry_is k g.D.Device.gives c.self.inside.set c.run_in.new.set c.args.moment c.args.event.now c.in-Ok.done.0 (world_of c.run_in.new.workplace.store) does c.requires.ordinary there c.in-Ok.done.1 c.in-Ok.ensures.answers in
+    let same = none_held k g.D.Device.gives c.self.inside.set c.run_in.new.set c.args.moment c.args.event.now c.in-Ok.done.0 (world_of c.run_in.new.workplace.store) does c.requires.ordinary there
+    c.events_count_holders.ensures.event c.rules_are_steps.ensures.allowed c.is_sound.ensures.counted held.none_live
+    (c.sets_stay_without_puts.ensures c.self.inside.set c.run_in.new.set c.args.moment c.args.event.now c.in-Ok.done.0 (world_of c.run_in.new.workplace.store) does c.requires.ordinary c.is_sound.ensures held.none_live) in
     may_follow k g.D.Device.gives c.self.inside.set c.run_in.new.set c.args.moment c.args.event.now c.in-Ok.done.0 (world_of c.run_in.new.workplace.store) does c.requires.ordinary there
-    c.holding_lasts.ensures c.events_are_held.ensures.event c.parts_share_what_is_held.ensures.alike c.rules_are_steps.ensures.allowed c.events_keep_records.ensures
+    c.holding_lasts.ensures c.events_are_held.ensures.event c.parts_share_what_is_held.ensures.alike c.rules_are_steps.ensures.allowed c.events_keep_records.ensures same
     g.B.Base.base (cell_view c.in-Some.pass).seen (cell_view c.in-Some.pass).owns held.owner.covers held.holds _ entry
 
 pub invariant_of-self-2 : goal.invariant_of-self-2
@@ -48,14 +51,17 @@ invariant_of-self-2 g c =
     let entry = entry_is k g.D.Device.gives c.self.inside.set c.run_in.new.set c.args.moment c.args.event.now c.in-Ok.done.0 (world_of c.run_in.new.workplace.store) does c.requires.ordinary there c.in-Ok.done.1 c.in-Ok.ensures.answers in
     let set = c.append-receipt.ensures.set in
     let added = c.append-receipt.ensures.added in
+    let same = none_held k g.D.Device.gives c.self.inside.set c.run_in.new.set c.args.moment c.args.event.now c.in-Ok.done.0 (world_of c.run_in.new.workplace.store) does c.requires.ordinary there
+    c.events_count_holders.ensures.event c.rules_are_steps.ensures.allowed c.is_sound.ensures.counted held.none_live
+    (c.sets_stay_without_puts.ensures c.self.inside.set c.run_in.new.set c.args.moment c.args.event.now c.in-Ok.done.0 (world_of c.run_in.new.workplace.store) does c.requires.ordinary c.is_sound.ensures held.none_live) in
     record {
       owner = owner_on g.B.Room.table _ _ (cell_view c.in-Some.pass) (cell_view c.append-receipt.new.set) _ (now_of c.self.inside.set) (now_of c.run_in.new.set) held.owner set.0 set.1 (only k g.D.Device.gives c.self.inside.set c.run_in.new.set c.args.moment c.args.event.now c.in-Ok.done.0 (world_of c.run_in.new.workplace.store) does c.requires.ordinary there
-          c.holding_lasts.ensures c.events_are_held.ensures.event c.parts_share_what_is_held.ensures.alike c.rules_are_steps.ensures.allowed c.events_keep_records.ensures
+          c.holding_lasts.ensures c.events_are_held.ensures.event c.parts_share_what_is_held.ensures.alike c.rules_are_steps.ensures.allowed c.events_keep_records.ensures same
           g.B.Base.base (cell_view c.in-Some.pass).seen (cell_view c.in-Some.pass).owns held.owner.covers held.holds);
       holds =
           subst (λ (x : View). Holds k (map_of k g.B.Base.base x.seen) (now_of c.run_in.new.set)) (sym set.1)
           (held_then k g.D.Device.gives c.self.inside.set c.run_in.new.set c.args.moment c.args.event.now c.in-Ok.done.0 (world_of c.run_in.new.workplace.store) does c.requires.ordinary there
-          c.holding_lasts.ensures c.events_are_held.ensures.event c.parts_share_what_is_held.ensures.alike c.rules_are_steps.ensures.allowed c.events_keep_records.ensures
+          c.holding_lasts.ensures c.events_are_held.ensures.event c.parts_share_what_is_held.ensures.alike c.rules_are_steps.ensures.allowed c.events_keep_records.ensures same
           g.B.Base.base (cell_view c.in-Some.pass).seen (cell_view c.in-Some.pass).owns held.owner.covers held.holds _ entry added.0 _ added.1);
       none_live =
           c.sets_stay_without_puts.ensures c.self.inside.set c.run_in.new.set c.args.moment c.args.event.now c.in-Ok.done.0 (world_of c.run_in.new.workplace.store) does c.requires.ordinary c.is_sound.ensures held.none_live;
