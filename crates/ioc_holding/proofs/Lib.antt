@@ -1,5 +1,6 @@
 mod Basics
 mod Summing
+mod Few
 mod Lists
 mod Lasting
 mod Doing

@@ -1,6 +1,6 @@
 -- The laws of held records: what lasts, what an event does, how records are parted and joined, and where a legal list leads.
 -- Application Developer's Guide, "Database Locking, Scanning, and Processing".
-use Rattle.std.specs.Prelude.{◌≡◌, ◌↔◌, true, ℕ, ◌+◌, length, List, [], ◌∷◌, ◌++◌, ◌<◌, ◌^◌, Contains}
+use Rattle.std.specs.Prelude.{◌≡◌, ◌↔◌, true, ℕ, ◌+◌, length, List, [], ◌∷◌, ◌++◌, ◌<◌, ◌≤◌, ◌^◌, Contains}
 use Rattle.std.specs.Prelude.{None as Nothing_}
 use Rattle.std.specs.FinMap.{len}
 use Rattle.ioc_fields.specs.declared.field_no.FieldNo.{FieldNo}
@@ -64,6 +64,10 @@ module _ {R : Type 0} (k : RecordRules R) where
   -- nobody has a put with notification of which none is counted
   abbrev pub NobodyHas : Type 0
   NobodyHas = (w : World R) → IsCounted k w → (number : ℕ) → (IsHeld k w number → ⊥) ↔ (holders_of number w.live ≡ 0)
+
+  -- no put with notification has more holders than a number of 64 bits can tell
+  abbrev pub HoldersAreFew : Type 0
+  HoldersAreFew = (w : World R) → IsCounted k w → (number : ℕ) → holders_of number w.live ≤ 2 ^ 63
 
   -- where all that are live have numbers from a list of fewer than 256, there is a place for one more with a number that the list hasn't: in the
   -- world of all, and in what is held of it and counted

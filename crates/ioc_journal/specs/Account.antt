@@ -1,6 +1,6 @@
 -- Desks, and the calls that they made, in one list of all that was done.
 -- The journal is this project's own.
-use Rattle.std.specs.Prelude.{◌≡◌, ℕ, ◌+◌, ◌<◌, List, [], ◌∷◌, ◌++◌, if◌then◌else◌, nat_eq, length, Some, slice_get}
+use Rattle.std.specs.Prelude.{◌≡◌, ◌≢◌, ℕ, ◌+◌, ◌<◌, List, [], ◌∷◌, ◌++◌, if◌then◌else◌, nat_eq, length, Some, slice_get}
 use Rattle.ioc_record.specs.RecordRules.{RecordRules}
 use Rattle.ioc_store.specs.World.{World}
 use Rattle.ioc_events.specs.declared.event.Entry.{Entry}
@@ -57,9 +57,9 @@ abbrev pub Keyed : List Note → Type 0
 Keyed [] = Unit {0}
 Keyed (n ∷ ns) = Has (desk_key n.entry.desk) n.keys × Keyed ns
 
--- these are keys of records
-abbrev pub AreRecords : List Key → Type 0
-AreRecords keys = (key : Key) → Has key keys → key.0 ≡ 0
+-- none of these is the key of a desk
+abbrev pub AreNoDesks : List Key → Type 0
+AreNoDesks keys = (key : Key) → Has key keys → key.0 ≢ 1
 
 -- a pass that has seen a beginning of the list, and owns keys
 abbrev pub IsHolder : View → Type 0

@@ -1,5 +1,9 @@
 use Rattle.ioc_holding.proofs.Doing.{holders-move}
+use Rattle.ioc_holding.proofs.Few.{holders-few}
 use Rattle.ioc_holding.proofs.laws.holders_move.Goals as goal
 
-pub returns : goal.returns
-returns g c = holders-move g.K.RecordKind.rules g.met.K.RecordKind.lawful c.events_have_laws.ensures
+pub returns-clause-few : goal.returns-clause-few
+returns-clause-few g c = holders-few g.K.RecordKind.rules
+
+pub returns-clause-moves : goal.returns-clause-moves
+returns-clause-moves g c = holders-move g.K.RecordKind.rules g.met.K.RecordKind.lawful c.events_have_laws.ensures

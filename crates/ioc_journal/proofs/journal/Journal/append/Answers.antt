@@ -3,7 +3,7 @@ use Rattle.crossbeam_utils.specs.Seq.{cell_view}
 use Rattle.ioc_line.specs.declared.entry.JournalEntry.{JournalEntry}
 use Rattle.ioc_line.specs.declared.entry.Note.{Note}
 use Rattle.ioc_line.specs.declared.room.View.{View}
-use Rattle.ioc_line.specs.Key.{Has}
+use Rattle.ioc_line.specs.Key.{Key, Has}
 use Rattle.ioc_line.specs.Line.{keeper, holder, noted}
 use Rattle.ioc_line.specs.KeyLaws.{has_right}
 use Rattle.ioc_journal.specs.Account.{DeskView, desk_view, desk_key, journalled, calls, Below, IsAccount, Call, Added}
@@ -14,8 +14,7 @@ use Rattle.ioc_journal.proofs.journal.Journal.append.Goals as goal
 
 pub append-pass-requires-clause-apart : goal.append-pass-requires-clause-apart
 append-pass-requires-clause-apart g c = λ key a b.
-    let kind : key.0 ≡ 0 = c.requires.set.1 key a in
-    ⊎_elim (λ (e : desk_key c.desk.inside.number ≡ key). let one : 1 ≡ key.0 = ap (λ p. p.0) e in omega arith) (λ (b : ⊥). b) (subst (λ (v : View). Has key v.owns) c.desk.invariant.holds b)
+    ⊎_elim (λ (e : desk_key c.desk.inside.number ≡ key). c.requires.set.1 key a (sym (ap (λ (p : Key). p.0) e))) (λ (b : ⊥). b) (subst (λ (v : View). Has key v.owns) c.desk.invariant.holds b)
 
 pub invariant_of-result : goal.invariant_of-result
 invariant_of-result g c =

@@ -1,9 +1,9 @@
-use Rattle.std.proofs.Common.{◌≡◌, ◌+◌, ◌<◌, ◌≤◌, List, [], ◌∷◌, ◌++◌, length, refl, sym, ap, ◌∙◌, subst, inl, ⊎_elim, arith, length-append, ap₂}
+use Rattle.std.proofs.Common.{◌≡◌, ◌≢◌, ◌+◌, ◌<◌, ◌≤◌, List, [], ◌∷◌, ◌++◌, length, refl, sym, ap, ◌∙◌, subst, inl, ⊎_elim, arith, length-append, ap₂}
 use Rattle.crossbeam_utils.specs.Seq.{cell_view}
 use Rattle.ioc_line.specs.declared.entry.JournalEntry.{JournalEntry}
 use Rattle.ioc_line.specs.declared.entry.Note.{Note}
 use Rattle.ioc_line.specs.declared.room.View.{View}
-use Rattle.ioc_line.specs.Key.{Has}
+use Rattle.ioc_line.specs.Key.{Key, Has}
 use Rattle.ioc_line.specs.Line.{keeper, holder, noted}
 use Rattle.ioc_line.specs.KeyLaws.{has_either}
 use Rattle.ioc_journal.specs.Account.{DeskView, desk_view, desk_key, journalled, calls, Below, IsAccount, Call, AddedByBoth}
@@ -16,8 +16,8 @@ pub deal-pass-requires-clause-apart_desk : goal.deal-pass-requires-clause-apart_
 deal-pass-requires-clause-apart_desk g c = λ key a b.
     let owns = (cell_view c.args.one.now).owns in
     let more = (cell_view c.args.other.now).owns in
-    let kind : key.0 ≡ 0 = ⊎_elim (λ (x : Has key owns). c.requires.one.1 key x) (λ (y : Has key more). c.requires.other.1 key y) (has_either key owns more (c.requires.within key a)) in
-    ⊎_elim (λ (e : desk_key c.desk.inside.number ≡ key). let one : 1 ≡ key.0 = ap (λ p. p.0) e in omega arith) (λ (b : ⊥). b) (subst (λ (v : View). Has key v.owns) c.desk.invariant.holds b)
+    let no_desk : key.0 ≢ 1 = ⊎_elim (λ (x : Has key owns). c.requires.one.1 key x) (λ (y : Has key more). c.requires.other.1 key y) (has_either key owns more (c.requires.within key a)) in
+    ⊎_elim (λ (e : desk_key c.desk.inside.number ≡ key). no_desk (sym (ap (λ (p : Key). p.0) e))) (λ (b : ⊥). b) (subst (λ (v : View). Has key v.owns) c.desk.invariant.holds b)
 
 pub invariant_of-result : goal.invariant_of-result
 invariant_of-result g c =

@@ -17,6 +17,6 @@ invariant_of-result g c =
       items_are = ap (λ (p : PlacesOf JournalEntry). p.filled) c.new.ensures ∙ ap calls (sym seen);
       sound = c.requires.sound;
       account = subst (IsAccount g.K.RecordKind.rules g.B.Base.base) (sym seen) (record { legal = tt; rising = tt; keyed = tt });
-      given = λ key has kind. let none = c.requires.given key has in omega arith;
+      given = λ key has kind. absurd (c.requires.given key has kind);
       new_desk = λ m le. subst (λ l. Below m 0 (calls l)) (sym seen) tt;
     }
