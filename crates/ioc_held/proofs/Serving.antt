@@ -153,7 +153,7 @@ module _ {R D : Type 0} (k : RecordRules R) (gives : D → Ask → ℕ → Answe
       let done = done_by k (now_of h) e in
       let step = allowed (listed e.answers) (begun_at e.moment (now_of h)) e.event in
       let then = counted (listed e.answers) (begun_at e.moment (now_of h)) after e.event done.reply done.requests step (counted_begun k (now_of h) e.moment before) in
-      sym (before.counted.counted number) ∙ live_alike (now_of h) after (none.0 ∙ sym none_then.0 ∙ live_then) number ∙ then.counted.counted number
+      sym (before.counted.counted number) ∙ live_alike k (now_of h) after (none.0 ∙ sym none_then.0 ∙ live_then) number ∙ then.counted.counted number
 
   module _ (lasts : Lasts k) (one_more : OneMore k) (alike : HeldAlike k)
       (allowed : (answers : Answers) (w : World R) (event : Event) → Step k answers w event (stepped k answers w event).world (stepped k answers w event).reply (stepped k answers w event).requests)
