@@ -12,7 +12,7 @@ use Rattle.ioc_store.specs.World.{World, Has, begun, begun_at, has_place}
 use Rattle.ioc_store.specs.Weights.{weight_of}
 use Rattle.ioc_events.specs.Holding.{how_many, one_if_has, holders, IsCounted}
 use Rattle.ioc_holding.specs.Held.{Holds}
-use Rattle.ioc_holding.specs.Laws.{PlaceForOneMore}
+use Rattle.ioc_holding.specs.Laws.{PlaceForOneMore, HeldAreFewer}
 use Rattle.ioc_holding.proofs.Basics.{not_both, not_true, is-none, nobody-waits, passes-there}
 use Rattle.ioc_holding.proofs.Summing.{point, same-point, of-number, holders-least}
 
@@ -153,6 +153,13 @@ module _ {R : Type 0} (k : RecordRules R) where
             let none_waits = ap (of-number n) (nobody-waits v.waiting q (λ x c e. out (subst (λ (t : ℕ). Has v t) e (holds.within x c)))) in
             omega (arith, record_none, none_waits)
       ] refl
+
+  pub held-are-fewer : HeldAreFewer k
+  held-are-fewer m v holds counted own n =
+      let fewer = held-fewer m v holds n in
+      let all = counted.counted.counted n in
+      let held = own.counted.counted n in
+      omega (arith, fewer, all, held)
 
   pub place-for-one-more : PlaceForOneMore k
   place-for-one-more m numbers number moment sound live few free = (

@@ -65,6 +65,10 @@ module _ {R : Type 0} (k : RecordRules R) where
   abbrev pub NobodyHas : Type 0
   NobodyHas = (w : World R) → IsCounted k w → (number : ℕ) → (IsHeld k w number → ⊥) ↔ (holders_of number w.live ≡ 0)
 
+  -- no more have a put with notification among those held than among all
+  abbrev pub HeldAreFewer : Type 0
+  HeldAreFewer = (m v : World R) → Holds k m v → IsCounted k m → IsCounted k v → (number : ℕ) → holders_of number v.live ≤ holders_of number m.live
+
   -- no put with notification has more holders than a number of 64 bits can tell
   abbrev pub HoldersAreFew : Type 0
   HoldersAreFew = (w : World R) → IsCounted k w → (number : ℕ) → holders_of number w.live ≤ 2 ^ 63

@@ -1,6 +1,6 @@
 //! Laws of held records. Each function's contract is a law; its body only names the laws that it rests on.
 ghost use Rattle.ioc_holding.specs.EventLaws.{EventLaws};
-ghost use Rattle.ioc_holding.specs.Laws.{Lasts, LiveLasts, OneMore, HoldersMove, HoldersAreFew, EndsOver, NobodyHas, PlaceForOneMore, CancelIsHeld, BeginningIsHeld, Asks, HeldAlike, Falls, Gathers, Opens, HoldsAll, Parts, Joins, LinkParts, LinkJoins, LinkMoves, RescansApart, BeginsSound, StaysSound, Replays};
+ghost use Rattle.ioc_holding.specs.Laws.{Lasts, LiveLasts, OneMore, HoldersMove, HoldersAreFew, HeldAreFewer, EndsOver, NobodyHas, PlaceForOneMore, CancelIsHeld, BeginningIsHeld, Asks, HeldAlike, Falls, Gathers, Opens, HoldsAll, Parts, Joins, LinkParts, LinkJoins, LinkMoves, RescansApart, BeginsSound, StaysSound, Replays};
 
 use ioc_events::event_rules::{events_keep_records, rules_are_steps};
 use ioc_events::local::{counted_waits_keep_apart, events_are_local};
@@ -33,10 +33,12 @@ pub fn live_lasts<K: RecordKind>()
 {}
 
 /// An event of held records changes how many have each put with notification by as much among all as among those held. So who owns the key
-/// of these adds what the count of a set changed by. There are never more than a number of 64 bits can tell.
+/// of these adds what the count of a set changed by. There are never more than a number of 64 bits can
+/// tell, and never more among those held than among all.
 pub fn holders_move<K: RecordKind>()
     ensures moves { HoldersMove K.rules }
     ensures few { HoldersAreFew K.rules }
+    ensures fewer { HeldAreFewer K.rules }
 {
     events_have_laws::<K>();
 }

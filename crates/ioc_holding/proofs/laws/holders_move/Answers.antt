@@ -1,6 +1,10 @@
 use Rattle.ioc_holding.proofs.Doing.{holders-move}
 use Rattle.ioc_holding.proofs.Few.{holders-few}
+use Rattle.ioc_holding.proofs.Placing.{held-are-fewer}
 use Rattle.ioc_holding.proofs.laws.holders_move.Goals as goal
+
+pub returns-clause-fewer : goal.returns-clause-fewer
+returns-clause-fewer g c = held-are-fewer g.K.RecordKind.rules
 
 pub returns-clause-few : goal.returns-clause-few
 returns-clause-few g c = holders-few g.K.RecordKind.rules
