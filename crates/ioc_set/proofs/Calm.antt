@@ -68,7 +68,7 @@ module _ {R : Type 0} (k : RecordRules R) where
     shut = record { closed = λ n target named. linked_there (get rs target) (leads n target (get rs n) refl named) }
 
     pub calm_sound : ((w : World R) → IsClosed k w → len w.records < 2 ^ 63 → w.live ≡ [] → w.waiting ≡ [] → ((n : ℕ) → Has w n → (common_at k w n).notification ≡ None) → IsCounted k w)
-        → AreCalm k rs → len rs < 2 ^ 63 → {D : Type 0} (ds : Devices D) (counts : Tally) → CountsAddUp counts → IsSound k (anew rs ds counts)
+        → AreCalm k rs → len rs < 2 ^ 63 → {D : Type 0} (ds : Devices D) (counts : Tally) → CountsAddUp counts → IsSound k (anew rs ds [] [] counts)
     unfolding at
     calm_sound first calm few ds counts add_up = record {
       part = part;

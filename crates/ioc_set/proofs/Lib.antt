@@ -6,6 +6,12 @@ mod AttachedLaws
 mod DidLaws
 mod DoneLaws
 mod NothingHeld
+mod Entries
+mod Recounts
+mod Counting
+mod Counted
+mod Fewer
+mod Gathered
 mod Calm
 mod Anew
 mod Counts

@@ -1,10 +1,12 @@
 //! What events leave of a lock set. Each function's contract is a law; its body is empty.
-ghost use Rattle.std.specs.Prelude.{◌≡◌, ◌≢◌, ◌<◌, ◌^◌, ℕ, true, false, [], ◌∷◌, length};
+ghost use Rattle.std.specs.Prelude.{◌≡◌, ◌≢◌, ◌<◌, ◌≤◌, ◌^◌, ℕ, true, false, List, [], ◌∷◌, length};
 ghost use Rattle.std.specs.FinMap.{len};
 ghost use Rattle.ioc_fields.specs.declared.field_no.FieldNo.{FieldNo};
 ghost use Rattle.ioc_common.specs.declared.link_field.LinkField.{LinkField};
 ghost use Rattle.ioc_common.specs.Links.{use_of, named_by};
 ghost use Rattle.ioc_ledger.specs.declared.tally.Tally.{Tally};
+ghost use Rattle.ioc_notify.specs.declared.live_numbers.Live.{Live};
+ghost use Rattle.ioc_notify.specs.declared.waiting_lists.Waiting.{Waiting};
 ghost use Rattle.ioc_record.specs.Values.{stops_put};
 ghost use Rattle.ioc_ledger.specs.Requests.{Requests, None};
 ghost use Rattle.ioc_store.specs.Given.{Answers};
@@ -21,7 +23,8 @@ ghost use Rattle.ioc_members.specs.Joined.{links_of, IsPart, HasLink};
 ghost use Rattle.ioc_events.specs.declared.event.Entry.{Entry};
 ghost use Rattle.ioc_set.specs.Held.{Held, NoneIsLive, folded, held_after};
 ghost use Rattle.ioc_set.specs.Doing.{is_ordinary, Does};
-ghost use Rattle.ioc_set.specs.Linking.{anew, AreCalm, with_link_changed};
+ghost use Rattle.ioc_set.specs.Linking.{anew, AreCalm, AreHeld, MayBeOne, with_link_changed};
+ghost use Rattle.ioc_set.specs.Recounting.{AreLive};
 ghost use Rattle.ioc_set.specs.Sound.{CountsAddUp, IsSound, TellsOf, is_put_with_notification};
 
 use ioc_device::Device;
@@ -81,7 +84,19 @@ pub fn notifications_begin_by_notify<K: RecordKind>()
 pub fn calm_records_are_sound<K: RecordKind, D>()
     ensures calm { (h : Held K D) → IsSound K.rules h → h.live ≡ [] → AreCalm K.rules h.records }
     ensures sound { (rs : Records K) (ds : Devices D) (counts : Tally) → IsPart (links_of K.rules rs) → AreCalm K.rules rs → len rs < 2 ^ 63 →
-        CountsAddUp counts → IsSound K.rules (anew rs ds counts) }
+        CountsAddUp counts → IsSound K.rules (anew rs ds [] [] counts) }
+{
+    events_count_holders::<K>();
+}
+
+/// The records of a sound set are held with its puts with notification, which are live and wait once each; and records that are held with
+/// such puts, one part and fewer than 2^63, make a sound set that begins anew.
+pub fn held_records_are_sound<K: RecordKind, D>()
+    ensures held { (h : Held K D) → IsSound K.rules h → AreHeld K.rules h.records h.live h.waiting }
+    ensures live { (h : Held K D) → IsSound K.rules h → AreLive K.rules h.records h.waiting h.live }
+    ensures fewer { (h : Held K D) → IsSound K.rules h → length h.waiting ≤ length h.live }
+    ensures sound { (rs : Records K) (ds : Devices D) (live : List Live) (waiting : List Waiting) (counts : Tally) → IsPart (links_of K.rules rs) →
+        AreHeld K.rules rs live waiting → len rs < 2 ^ 63 → CountsAddUp counts → IsSound K.rules (anew rs ds live waiting counts) }
 {
     events_count_holders::<K>();
 }
