@@ -6,7 +6,7 @@ use Rattle.ioc_set.proofs.Counting.{one_if}
 
 module _ {B : Type 0} (g : B → ℕ) (m : ℕ) where
   -- without the first of this number
-  without_one : List B → List B
+  abbrev without_one : List B → List B
   without_one [] = []
   without_one (y ∷ ys) = cond (eqb (g y) m) ys (y ∷ without_one ys)
 
@@ -38,8 +38,8 @@ module _ {B : Type 0} (g : B → ℕ) (m : ℕ) where
       ] refl some
 
 one-first : (b : Bool) (a c : ℕ) → cond b (1 + a) a ≤ c → one_if b + a ≤ c
-one-first true a c le = le
-one-first false a c le = le
+one-first true a c le = omega (arith, le)
+one-first false a c le = omega (arith, le)
 
 pub fewer : {A B : Type 0} (f : A → ℕ) (g : B → ℕ) (xs : List A) (ys : List B) → ((n : ℕ) → how_many f n xs ≤ how_many g n ys) → length xs ≤ length ys
 fewer f g [] ys few = omega arith

@@ -155,7 +155,7 @@ both-begun n one other is =
     (λ some. begun-has n other (begun_each one []) some))
   where
     either : {P : Type 0} (a b : ℕ) → 1 ≤ a + b → (1 ≤ a → P) → (1 ≤ b → P) → P
-    either zero b some left right = right some
+    either zero b some left right = right (omega (arith, some))
     either (suc a) b some left right = left (omega arith)
 
 -- no more begin than are live on either

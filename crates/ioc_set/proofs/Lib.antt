@@ -12,6 +12,7 @@ mod Counting
 mod Counted
 mod Fewer
 mod Gathered
+mod HeldRecords
 mod Calm
 mod Anew
 mod Counts

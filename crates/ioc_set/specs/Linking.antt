@@ -81,8 +81,11 @@ module _ {R D : Type 0} where
     pub stays : stay ≡ anew stay.records stay.devices stay.live stay.waiting before.tally
     pub leaves : rest ≡ anew rest.records rest.devices rest.live rest.waiting no_counts
 
-  -- two sets may become one: no put waits in both, and what is live on either and what waits has room in one
+  -- two sets may become one: each put that waits does so for a record of its set, none waits in both, and what is live on either, and what
+  -- waits, has room in one
   pub record MayBeOne (before other : Held R D) : Type 0 where
+    pub own : (x : Waiting) → Contains before.waiting x → IsSome (get before.records x.target)
+    pub others_own : (x : Waiting) → Contains other.waiting x → IsSome (get other.records x.target)
     pub apart : (x y : Waiting) → Contains before.waiting x → Contains other.waiting y → x.number ≢ y.number
     pub live_fits : length (together before.live other.live) ≤ 256
     pub waiting_fits : length before.waiting + length other.waiting ≤ 256
