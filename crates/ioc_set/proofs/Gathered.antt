@@ -134,7 +134,7 @@ pub together-count : (n : ℕ) (one other : List Live) (b : Bool) → is_live n 
 together-count n one other b is =
     how_many-append (λ (l : Live). l.number) n one (filter (λ (l : Live). not (is_live l.number one)) other) ∙ ap (λ (x : ℕ). lives n one + x) (others-count n one other b is)
 
-dead : (n : ℕ) (ls : List Live) → is_live n ls ≡ false → lives n ls ≡ 0
+pub dead : (n : ℕ) (ls : List Live) → is_live n ls ≡ false → lives n ls ≡ 0
 dead n [] is = refl
 dead n (l ∷ ls) is = elim (eqb l.number n) as (λ b. b || is_live n ls ≡ false → cond b (1 + lives n ls) (lives n ls) ≡ 0) [
   | true ↦ λ no. absurd (let z : true ≡ false = no in cc)

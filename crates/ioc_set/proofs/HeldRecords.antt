@@ -26,8 +26,8 @@ use Rattle.ioc_store.specs.Worlds.{sent_by}
 use Rattle.ioc_events.specs.StepRules.{at_the_end}
 use Rattle.ioc_events.specs.Starting.{is_ready}
 use Rattle.ioc_events.specs.Holding.{IsCounted, IsHeld, by_a_record, in_a_waiting_list, HoldersAwait, HoldersCounted, holders, how_many, one_if_has}
-use Rattle.ioc_set.specs.Held.{Held, resting, now_of}
-use Rattle.ioc_set.specs.Linking.{anew, AreHeld}
+use Rattle.ioc_set.specs.Held.{Held, NoneIsLive, resting, now_of}
+use Rattle.ioc_set.specs.Linking.{anew, AreHeld, MayBeOne}
 use Rattle.ioc_set.specs.Recounting.{own_waiting, together, AreLive, WaitsGoAlong}
 use Rattle.ioc_set.specs.Sound.{IsSound, CountsAddUp}
 use Rattle.ioc_set.proofs.Calm.{none_some, none_in, get-insert, shut}
@@ -58,6 +58,9 @@ module _ {R : Type 0} (k : RecordRules R) where
       has = λ s n there is. (live (now_of h) n sound.counted).1 (by_a_record s there is);
       waits = λ x c. (live (now_of h) x.number sound.counted).1 (in_a_waiting_list x c);
     }
+
+    pub sound_holder : ((w : World R) (n : ℕ) → IsCounted k w → (is_live n w.live ≡ true) ↔ IsHeld k w n) → (n : ℕ) → is_live n h.live ≡ true → IsHeld k (now_of h) n
+    sound_holder live n is = (live (now_of h) n sound.counted).0 is
 
     pub sound_fewer : length h.waiting ≤ length h.live
     unfolding holders
@@ -219,6 +222,21 @@ module _ {R : Type 0} (k : RecordRules R) where
         rewired-either k (λ (x : World R). StaysHeld w.records x.records) before w s (itself-stays w counted)
         (moved-either k (λ (x : World R). StaysHeld w.records x.records) w s
         (λ item. subst (λ (x : World R). StaysHeld w.records x.records) (sent_by item (changed k w s change_numbered)) (numbered-stays w s there counted)) (itself-stays w counted))
+
+-- where none is live on either, two sets may become one
+pub none_may : {R D : Type 0} (h other : Held R D) → NoneIsLive h → NoneIsLive other → MayBeOne h other
+none_may h other none other_none =
+    let no : ℕ = length (together [] []) in
+    let live : length (together h.live other.live) ≡ no = ap (λ (l : List Live). length (together l other.live)) none.0 ∙ ap (λ (l : List Live). length (together [] l)) other_none.0 in
+    let waits : length h.waiting ≡ 0 = ap (λ (l : List Waiting). length l) none.1 in
+    let other_waits : length other.waiting ≡ 0 = ap (λ (l : List Waiting). length l) other_none.1 in
+    record {
+      own = λ x c. absurd (none_in x (subst (λ (l : List Waiting). Contains l x) none.1 c));
+      others_own = λ x c. absurd (none_in x (subst (λ (l : List Waiting). Contains l x) other_none.1 c));
+      apart = λ x y c d. absurd (none_in x (subst (λ (l : List Waiting). Contains l x) none.1 c));
+      live_fits = omega (arith, live);
+      waiting_fits = omega (arith, waits, other_waits);
+    }
 
 -- ---- those that wait go along
 

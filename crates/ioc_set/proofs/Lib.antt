@@ -13,6 +13,7 @@ mod Counted
 mod Fewer
 mod Gathered
 mod HeldRecords
+mod Joining
 mod Calm
 mod Anew
 mod Counts

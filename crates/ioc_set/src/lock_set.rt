@@ -88,7 +88,10 @@ fn make_place<K: RecordKind, D>(
 {
     history.reserve(1)?;
     if history.len() == 64 {
-        begin_anew(members, puts, tally, base_tally, history);
+        puts.begin_history();
+        members.fold();
+        *base_tally = *tally;
+        history.clear();
     }
     Ok(())
 }
@@ -415,6 +418,17 @@ impl<K: RecordKind, D> LockSet<K, D> {
         self.members.are_few();
     }
 
+    // Room for the puts with notification of both in one, where any is live; no room where none is.
+    fn puts_room_with(
+        &self,
+        other: &LockSet<K, D>,
+        alloc: Global,
+    ) -> Result<Option<PutsRoom>, AllocError>
+        ensures { IfOk result (λ room. room ≡ None → NoneIsLive self.now × NoneIsLive other.now) }
+    {
+        self.puts.room_with(&other.puts, alloc)
+    }
+
     /// Forgets the history.
     pub fn fold(&mut self)
         ensures { self.new ≡ folded self.old }
@@ -634,9 +648,10 @@ impl<K: RecordKind + Drop, D: Device> LockSet<K, D> {
         self.are_few();
         other.are_few();
         self.is_sound();
+        other.is_sound();
         self.fold();
         let room = Room::new(alloc, self.len() + other.len())?;
-        let puts_room = self.puts.room_with(&other.puts, alloc)?;
+        let puts_room = self.puts_room_with(other, alloc)?;
         let before = self.device_text(number);
         let rest = self.split(alloc, number, field, KeptLink::empty(), KeptLink::empty())?;
         self.is_sound();
