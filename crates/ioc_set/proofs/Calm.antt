@@ -1,29 +1,21 @@
 -- Calm records: where no put with notification is live, each record of a sound set is calm, and calm records make a sound set that begins anew.
-use Rattle.std.proofs.Common.{◌≡◌, ◌≢◌, ℕ, ◌<◌, ◌^◌, Bool, true, false, cond, eqb, List, [], Option, Some, None, refl, sym, ap, subst, ◌∙◌, ⊎_elim, arith}
-use Rattle.std.specs.Prelude.{◌↔◌, IsSome, IsTrue, is_some, unwrap_or, Contains}
+use Rattle.std.proofs.Common.{◌≡◌, ◌≢◌, ℕ, ◌<◌, ◌^◌, true, false, cond, eqb, List, [], Option, Some, None, refl, sym, ap, subst, ◌∙◌, arith}
+use Rattle.std.specs.Prelude.{◌↔◌, IsSome, is_some, unwrap_or, Contains}
 use Rattle.std.specs.Option.{option_map}
 use Rattle.std.specs.FinMap.{get, insert, gets, len}
 use Rattle.std.proofs.lemmas.Grind.{common_steps}
-use Rattle.ioc_fields.specs.declared.field_no.FieldNo.{FieldNo}
-use Rattle.ioc_common.specs.declared.common.Common.{Common}
-use Rattle.ioc_common.specs.declared.link_field.LinkField.{LinkField}
-use Rattle.ioc_common.specs.Steps.{change_numbered}
 use Rattle.ioc_ledger.specs.declared.tally.Tally.{Tally}
 use Rattle.ioc_notify.specs.declared.live_numbers.Live.{Live}
 use Rattle.ioc_notify.specs.declared.waiting_lists.Waiting.{Waiting}
 use Rattle.ioc_notify.specs.Living.{is_live}
 use Rattle.ioc_record.specs.RecordRules.{RecordRules, targets}
-use Rattle.ioc_record.specs.Laws.{IsLawful}
 use Rattle.ioc_members.specs.Contents.{Records, Devices, record_at}
-use Rattle.ioc_members.specs.Joined.{links_of, IsPart, AreShared, relinked}
-use Rattle.ioc_store.specs.World.{World, Has, IsClosed, at, common_at, put, changed, lost}
-use Rattle.ioc_store.specs.ScanLaws.{rewired-either, moved-either}
-use Rattle.ioc_store.specs.Scanning.{rewired}
-use Rattle.ioc_store.specs.Worlds.{sent_by}
+use Rattle.ioc_members.specs.Joined.{links_of, IsPart}
+use Rattle.ioc_store.specs.World.{World, Has, IsClosed, at, common_at}
 use Rattle.ioc_events.specs.StepRules.{at_the_end}
 use Rattle.ioc_events.specs.Holding.{IsCounted, IsHeld, by_a_record}
 use Rattle.ioc_set.specs.Held.{Held, resting, now_of}
-use Rattle.ioc_set.specs.Linking.{anew, IsCalm, AreCalm}
+use Rattle.ioc_set.specs.Linking.{anew, AreCalm}
 use Rattle.ioc_set.specs.Sound.{IsSound, CountsAddUp}
 
 pub none_in : {A : Type 0} (x : A) → Contains [] x → ⊥

@@ -1,21 +1,19 @@
 -- Who has each put with notification, counted anew: each is live as often as it has holders.
-use Rattle.std.proofs.Common.{◌≡◌, ◌≢◌, ℕ, zero, suc, ◌+◌, ◌-◌, ◌*◌, ◌^◌, ◌<◌, ◌≤◌, Bool, true, false, cond, not, ◌||◌, eqb, nat_eq, nat_lt, List, [], ◌∷◌, ◌++◌, length, get_or, Option, Some, None, is_some, unwrap_or, refl, sym, ap, subst, ◌∙◌, inl, inr, arith}
-use Rattle.std.specs.Prelude.{Contains, IsSome}
-use Rattle.std.specs.List.{filter, list_any}
-use Rattle.std.specs.FinMap.{entries, get, len, len-entries}
+use Rattle.std.proofs.Common.{◌≡◌, ℕ, zero, suc, ◌+◌, ◌-◌, ◌^◌, ◌<◌, ◌≤◌, Bool, true, false, cond, ◌||◌, eqb, nat_lt, List, [], ◌∷◌, length, get_or, Option, Some, None, is_some, unwrap_or, refl, sym, ap, subst, ◌∙◌, arith}
+use Rattle.std.specs.FinMap.{entries, len, len-entries}
 use Rattle.std.proofs.lemmas.Bool.{eqb-true}
 use Rattle.std.proofs.lemmas.List.{get_or_default}
 use Rattle.ioc_notify.specs.declared.live_numbers.Live.{Live}
 use Rattle.ioc_notify.specs.declared.waiting_lists.Waiting.{Waiting}
-use Rattle.ioc_notify.specs.Living.{holders_of, is_live, begun, gained, lost}
+use Rattle.ioc_notify.specs.Living.{is_live, begun, gained, lost}
 use Rattle.ioc_record.specs.RecordRules.{RecordRules}
-use Rattle.ioc_members.specs.Contents.{Records, record_at}
-use Rattle.ioc_store.specs.World.{World, total, is_notification}
+use Rattle.ioc_members.specs.Contents.{Records}
+use Rattle.ioc_store.specs.World.{total, is_notification}
 use Rattle.ioc_store.specs.Worlds.{ones_few}
 use Rattle.ioc_events.specs.Holding.{how_many, one_if_has, holders, HoldersCounted}
 use Rattle.ioc_set.specs.Held.{resting}
-use Rattle.ioc_set.specs.Recounting.{begun_each, gained_by, gained_each, gained_if, lost_each, together, AreBegun, AreLive}
-use Rattle.ioc_set.proofs.Counting.{lives, one_if, Counts, counts-gained, counts-lost, counts-same, few-one, live-lives, begun-lives, begun-holders, of_each, itself, another, how_many-append}
+use Rattle.ioc_set.specs.Recounting.{begun_each, gained_by, gained_each, gained_if, lost_each, AreBegun, AreLive}
+use Rattle.ioc_set.proofs.Counting.{lives, one_if, Counts, counts-gained, counts-lost, counts-same, few-one, live-lives, begun-lives, begun-holders, of_each, itself, another}
 use Rattle.ioc_set.proofs.Entries.{get-at}
 
 -- ---- live, and how often
@@ -102,10 +100,10 @@ counted-waiting [] held ls counts cover few = counts-same held (λ n. held n + 0
 counted-waiting (x ∷ xs) held ls counts cover few =
     let with_one : ℕ → ℕ = λ n. held n + one_if (eqb x.number n) in
     let same : (n : ℕ) → held n + cond (eqb x.number n) (1 + how_many (λ (y : Waiting). y.number) n xs) (how_many (λ (y : Waiting). y.number) n xs) ≡ with_one n + how_many (λ (y : Waiting). y.number) n xs =
-        λ n. elim (eqb x.number n) as (λ b. held n + cond b (1 + how_many (λ (y : Waiting). y.number) n xs) (how_many (λ (y : Waiting). y.number) n xs) ≡ held n + one_if b + how_many (λ (y : Waiting). y.number) n xs) [
-          | true ↦ omega arith
-          | false ↦ omega arith
-        ] in
+    λ n. elim (eqb x.number n) as (λ b. held n + cond b (1 + how_many (λ (y : Waiting). y.number) n xs) (how_many (λ (y : Waiting). y.number) n xs) ≡ held n + one_if b + how_many (λ (y : Waiting). y.number) n xs) [
+      | true ↦ omega arith
+      | false ↦ omega arith
+    ] in
     let here = itself x.number in
     let fits = few x.number in
     let all_here = same x.number in
@@ -118,10 +116,10 @@ pub counted-lost : (xs : List Live) (held : ℕ → ℕ) (ls : List Live) → Co
 counted-lost [] held ls counts = counts-same (λ n. 0 + held n) held ls counts (λ n. omega arith)
 counted-lost (x ∷ xs) held ls counts =
     let less : (n : ℕ) → lives n xs + held n + one_if (eqb x.number n) ≡ cond (eqb x.number n) (1 + lives n xs) (lives n xs) + held n =
-        λ n. elim (eqb x.number n) as (λ b. lives n xs + held n + one_if b ≡ cond b (1 + lives n xs) (lives n xs) + held n) [
-          | true ↦ omega arith
-          | false ↦ omega arith
-        ] in
+    λ n. elim (eqb x.number n) as (λ b. lives n xs + held n + one_if b ≡ cond b (1 + lives n xs) (lives n xs) + held n) [
+      | true ↦ omega arith
+      | false ↦ omega arith
+    ] in
     let here = itself x.number in
     let less_here = less x.number in
     counted-lost xs held (lost x.number ls) (counts-lost (λ n. cond (eqb x.number n) (1 + lives n xs) (lives n xs) + held n) (λ n. lives n xs + held n) x.number ls counts (omega (arith, here, less_here)) less)
@@ -141,8 +139,8 @@ module _ {R : Type 0} (k : RecordRules R) where
       let with_one : ℕ → ℕ = λ n. held n + one_if (is_notification n o) in
       let one = counted-if o held ls counts (cover 0 e (omega arith)) (λ n. let f = few n in omega (arith, f)) in
       let rest = counted-records es with_one (gained_if o ls) one
-          (λ i d within m is. let c = cover (suc i) d (omega (arith, within)) m is in omega (arith, c))
-          (λ n. let f = few n in let small = few-one (is_notification n o) in omega (arith, f, small)) in
+      (λ i d within m is. let c = cover (suc i) d (omega (arith, within)) m is in omega (arith, c))
+      (λ n. let f = few n in let small = few-one (is_notification n o) in omega (arith, f, small)) in
       counts-same (λ n. with_one n + total (one_if_has k n) es) _ (gained_by k es (gained_if o ls)) rest (λ n. omega arith)
 
   small : (n : ℕ) (r : R) → one_if_has k n r ≤ 1
@@ -160,12 +158,12 @@ module _ {R : Type 0} (k : RecordRules R) where
       } in
       let all : ℕ → ℕ = λ n. total (one_if_has k n) es + how_many (λ (x : Waiting). x.number) n ws in
       let records = counted-records es (λ n. lives n cs) cs first
-          (λ i d within m has. let there = get-at rs i d within in
-              live-some m cs (live.has (get_or es i d).0 m (ap (λ (o : Option R). is_some o) there) (ap (λ (o : Option R). (k.common (unwrap_or o k.missing)).notification) there ∙ has)))
-          (λ n. omega (arith, (are n).0, len-entries rs, few)) in
+      (λ i d within m has. let there = get-at rs i d within in
+      live-some m cs (live.has (get_or es i d).0 m (ap (λ (o : Option R). is_some o) there) (ap (λ (o : Option R). (k.common (unwrap_or o k.missing)).notification) there ∙ has)))
+      (λ n. omega (arith, (are n).0, len-entries rs, few)) in
       let waiting = counted-waiting ws (λ n. lives n cs + total (one_if_has k n) es) (gained_by k es cs) records
-          (λ i d within. let x = get_or ws i d in let some = live-some x.number cs (live.waits x (i, within, get_or_default ws i x d within)) in omega (arith, some))
-          (λ n. omega (arith, (are n).0, once n, ones_few (one_if_has k n) (small n) es, len-entries rs, few)) in
+      (λ i d within. let x = get_or ws i d in let some = live-some x.number cs (live.waits x (i, within, get_or_default ws i x d within)) in omega (arith, some))
+      (λ n. omega (arith, (are n).0, once n, ones_few (one_if_has k n) (small n) es, len-entries rs, few)) in
       let last = counted-lost cs all (gained_each ws (gained_by k es cs)) (counts-same (λ n. lives n cs + total (one_if_has k n) es + how_many (λ (x : Waiting). x.number) n ws) _ (gained_each ws (gained_by k es cs)) waiting (λ n. omega arith)) in
       let now = subst (λ (l : List Live). Counts all l) (sym is) last in
       record { counted = now.counted; live = now.live; waits_once = once }

@@ -1,5 +1,5 @@
 -- A list that has nothing more often than another is no longer.
-use Rattle.std.proofs.Common.{◌≡◌, ℕ, ◌+◌, ◌≤◌, Bool, true, false, cond, eqb, List, [], ◌∷◌, length, refl, sym, ap, subst, ◌∙◌, arith}
+use Rattle.std.proofs.Common.{◌≡◌, ℕ, ◌+◌, ◌≤◌, Bool, true, false, cond, eqb, List, [], ◌∷◌, length, refl, sym, ap, subst, arith}
 use Rattle.std.proofs.lemmas.Bool.{eqb-true, eq-eqb}
 use Rattle.ioc_events.specs.Holding.{how_many}
 use Rattle.ioc_set.proofs.Counting.{one_if}
@@ -49,7 +49,7 @@ fewer f g (x ∷ xs) ys few =
     let here : 1 + how_many f m xs ≤ how_many g m ys = subst (λ (b : Bool). cond b (1 + how_many f m xs) (how_many f m xs) ≤ how_many g m ys) same (few m) in
     let some : 1 ≤ how_many g m ys = omega (arith, here) in
     let rest : (n : ℕ) → how_many f n xs ≤ how_many g n (without_one g m ys) = λ n.
-        let less = without-counts g m n ys some in
-        let each : one_if (eqb m n) + how_many f n xs ≤ how_many g n ys = one-first (eqb m n) (how_many f n xs) (how_many g n ys) (few n) in
-        omega (arith, less, each) in
+    let less = without-counts g m n ys some in
+    let each : one_if (eqb m n) + how_many f n xs ≤ how_many g n ys = one-first (eqb m n) (how_many f n xs) (how_many g n ys) (few n) in
+    omega (arith, less, each) in
     omega (arith, without-shorter g m ys some, fewer f g xs (without_one g m ys) rest)

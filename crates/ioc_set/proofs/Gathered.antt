@@ -1,23 +1,21 @@
 -- The puts with notification that go along with some records, or come together from two sets.
-use Rattle.std.proofs.Common.{◌≡◌, ◌≢◌, ℕ, zero, suc, ◌+◌, ◌^◌, ◌<◌, ◌≤◌, Bool, true, false, cond, not, ◌||◌, eqb, nat_eq, List, [], ◌∷◌, ◌++◌, length, Option, Some, None, is_some, refl, sym, ap, subst, ◌∙◌, inl, inr, arith, length-append}
-use Rattle.std.specs.Prelude.{Contains, IsSome}
-use Rattle.std.specs.List.{filter, list_any}
-use Rattle.std.specs.FinMap.{entries, get, contains_key, len}
+use Rattle.std.proofs.Common.{◌≡◌, ℕ, zero, suc, ◌+◌, ◌^◌, ◌<◌, ◌≤◌, Bool, true, false, cond, not, ◌||◌, eqb, List, [], ◌∷◌, ◌++◌, length, Option, Some, None, refl, sym, ap, subst, ◌∙◌, inl, inr, arith, length-append}
+use Rattle.std.specs.Prelude.{Contains}
+use Rattle.std.specs.List.{filter}
+use Rattle.std.specs.FinMap.{entries, contains_key, len}
 use Rattle.std.proofs.lemmas.Bool.{eqb-true}
 use Rattle.std.proofs.lemmas.List.Elements.{Contains-append_cases}
 use Rattle.ioc_notify.specs.declared.live_numbers.Live.{Live}
 use Rattle.ioc_notify.specs.declared.waiting_lists.Waiting.{Waiting}
 use Rattle.ioc_notify.specs.Living.{is_live, begun}
-use Rattle.ioc_notify.specs.Waits.{at_record}
 use Rattle.ioc_record.specs.RecordRules.{RecordRules}
 use Rattle.ioc_members.specs.Contents.{Records}
 use Rattle.ioc_store.specs.declared.notifications.Notifications.{Notifications}
 use Rattle.ioc_events.specs.Holding.{how_many, HoldersCounted}
 use Rattle.ioc_set.specs.Held.{resting}
 use Rattle.ioc_set.specs.Puts.{Puts, puts_of, live_of, waiting_of, AreNone}
-use Rattle.ioc_set.specs.Recounting.{begun_each, own_waiting, together, AreLive, WaitsGoAlong}
-use Rattle.ioc_set.proofs.Calm.{none_in}
-use Rattle.ioc_set.proofs.Counting.{lives, how_many-append, live-lives}
+use Rattle.ioc_set.specs.Recounting.{begun_each, own_waiting, together, AreLive}
+use Rattle.ioc_set.proofs.Counting.{lives, how_many-append}
 use Rattle.ioc_set.proofs.Counted.{recounted, gained-none, none-begun, each-begun, live-some, some-live, begun-keeps, begun-has, begun-only}
 use Rattle.ioc_set.proofs.Fewer.{fewer}
 

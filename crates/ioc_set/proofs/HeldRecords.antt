@@ -1,10 +1,8 @@
 -- Records that are held with puts with notification: those of a sound set, and of sound sets that begin anew.
-use Rattle.std.proofs.Common.{◌≡◌, ◌≢◌, ◌⊎◌, ℕ, zero, suc, ◌+◌, ◌<◌, ◌≤◌, ◌^◌, Bool, true, false, cond, eqb, nat_eq, not, nat_lt, List, [], ◌∷◌, ◌++◌, length, Option, Some, None, refl, sym, ap, subst, ◌∙◌, ⊎_elim, inl, inr, arith}
+use Rattle.std.proofs.Common.{◌≡◌, ℕ, zero, suc, ◌+◌, ◌<◌, ◌≤◌, ◌^◌, Bool, true, false, cond, eqb, nat_eq, not, nat_lt, List, [], ◌∷◌, length, Option, Some, None, refl, sym, ap, subst, ◌∙◌, ⊎_elim, arith}
 use Rattle.std.specs.Prelude.{◌↔◌, ◌&&◌, IsSome, IsTrue, is_some, unwrap_or, Contains}
-use Rattle.std.specs.List.{filter}
 use Rattle.std.specs.FinMap.{get, insert, contains_key, entries, len}
 use Rattle.std.proofs.lemmas.Bool.{lt-ltb, eqb-true}
-use Rattle.std.proofs.lemmas.List.Elements.{Contains-append_cases}
 use Rattle.ioc_fields.specs.declared.field_no.FieldNo.{FieldNo}
 use Rattle.ioc_common.specs.declared.common.Common.{Common}
 use Rattle.ioc_common.specs.declared.link_field.LinkField.{LinkField}
@@ -18,23 +16,22 @@ use Rattle.ioc_record.specs.RecordRules.{RecordRules, targets}
 use Rattle.ioc_record.specs.Laws.{IsLawful}
 use Rattle.ioc_members.specs.Contents.{Records, Devices, record_at}
 use Rattle.ioc_members.specs.Joined.{links_of, IsPart, AreShared, relinked}
-use Rattle.ioc_store.specs.World.{World, Has, at, common_at, put, changed, lost, total, is_notification}
+use Rattle.ioc_store.specs.World.{World, Has, at, put, changed, lost, total, is_notification}
 use Rattle.ioc_store.specs.Weights.{weight_of, total-insert}
 use Rattle.ioc_store.specs.ScanLaws.{rewired-either, moved-either}
 use Rattle.ioc_store.specs.Scanning.{rewired}
 use Rattle.ioc_store.specs.Worlds.{sent_by}
 use Rattle.ioc_events.specs.StepRules.{at_the_end}
 use Rattle.ioc_events.specs.Starting.{is_ready}
-use Rattle.ioc_events.specs.Holding.{IsCounted, IsHeld, by_a_record, in_a_waiting_list, HoldersAwait, HoldersCounted, holders, how_many, one_if_has}
+use Rattle.ioc_events.specs.Holding.{IsCounted, IsHeld, by_a_record, in_a_waiting_list, HoldersCounted, holders, how_many, one_if_has}
 use Rattle.ioc_set.specs.Held.{Held, NoneIsLive, resting, now_of}
 use Rattle.ioc_set.specs.Linking.{anew, AreHeld, MayBeOne}
 use Rattle.ioc_set.specs.Recounting.{own_waiting, together, AreLive, WaitsGoAlong}
 use Rattle.ioc_set.specs.Sound.{IsSound, CountsAddUp}
 use Rattle.ioc_set.proofs.Calm.{none_some, none_in, get-insert, shut}
-use Rattle.ioc_set.proofs.Counting.{lives, one_if, how_many-append}
-use Rattle.ioc_set.proofs.Counted.{live-some, some-live}
+use Rattle.ioc_set.proofs.Counting.{lives, one_if}
 use Rattle.ioc_set.proofs.Fewer.{fewer}
-use Rattle.ioc_set.proofs.Gathered.{passes-there, together-count}
+use Rattle.ioc_set.proofs.Gathered.{passes-there}
 
 no_more : (t w l : ℕ) → w ≤ 1 → l ≡ cond (nat_lt 0 (t + w)) 1 0 → w ≤ l
 no_more t zero l once is = omega arith
@@ -75,8 +72,10 @@ module _ {R : Type 0} (k : RecordRules R) where
   held_sound missing rs part live waiting held few ds counts add_up = record {
     part = part;
     settled = record { closed = shut k missing rs part live waiting; quiet = record { quiet = λ n there. held.quiet n there } };
-    none_ready = record { none = λ x c. never_ready (contains_key rs x.target) (k.common (record_at k rs x.target)).active (is_some (k.common (record_at k rs x.target)).notification)
-        (λ there. (held.quiet x.target there).1 (held.holders_await.waiting x c there)) };
+    none_ready = record {
+      none = λ x c. never_ready (contains_key rs x.target) (k.common (record_at k rs x.target)).active (is_some (k.common (record_at k rs x.target)).notification)
+          (λ there. (held.quiet x.target there).1 (held.holders_await.waiting x c there));
+    };
     counted = record { closed = shut k missing rs part live waiting; few = few; counted = held.counted };
     holders_await = held.holders_await;
     leads = record { after = resting rs live waiting; replay = at_the_end; records = refl; live = refl; waiting = refl };

@@ -201,7 +201,7 @@ module _ {R D : Type 0} (k : RecordRules R) (before other stay : Held R D) (may 
   pub stay_may : MayBeOne stay other
   stay_may =
       let live_few = fewer (λ (l : Live). l.number) (λ (l : Live). l.number) (together stay.live other.live) (together before.live other.live)
-          (λ n. fewer-case n stay.live before.live other.live (λ is. held-before n (holder n is)) (once n) (other_once n) (is_live n stay.live) (is_live n before.live) refl refl) in
+      (λ n. fewer-case n stay.live before.live other.live (λ is. held-before n (holder n is)) (once n) (other_once n) (is_live n stay.live) (is_live n before.live) refl refl) in
       let waits_few = fewer (λ (x : Waiting). x.number) (λ (x : Waiting). x.number) stay.waiting before.waiting (λ n. waits-case n (how_many (λ (x : Waiting). x.number) n stay.waiting) refl (waits_once n)) in
       record {
         own = along.own;

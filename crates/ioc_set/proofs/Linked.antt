@@ -59,7 +59,7 @@ module _ {R : Type 0} (k : RecordRules R) where
     pub rescanned_held : (live : List Live) (waiting : List Waiting) → AreHeld k rs live waiting → AreHeld k after live waiting
     rescanned_held live waiting held =
         let stays = stays_begun k lawful rs (rewired k before (begun_at moment (resting rs [] [])) s).records moment live waiting
-            (rewired-stays k lawful live waiting before (begun_at moment (resting rs [] [])) s (has_begun rs [] [] moment s there) (counted_begun k rs moment live waiting held.counted)) in
+        (rewired-stays k lawful live waiting before (begun_at moment (resting rs [] [])) s (has_begun rs [] [] moment s there) (counted_begun k rs moment live waiting held.counted)) in
         subst (λ (x : Records R). AreHeld k x live waiting) (sym is)
         (part_held k rs (rewired k before (begun_at moment (resting rs [] [])) s).records live live waiting waiting stays.within held (λ x c. c) stays.counted)
 

@@ -1,12 +1,11 @@
 -- The loops that count anew who has each put with notification: a list's function, one item on.
-use Rattle.std.proofs.Common.{◌≡◌, ℕ, ◌+◌, ◌<◌, ◌≤◌, zero, suc, Bool, true, false, cond, List, [], ◌∷◌, ◌++◌, length, drop, take, get_or, Option, Some, None, refl, sym, ap, subst, ◌∙◌, length-append, arith}
+use Rattle.std.proofs.Common.{◌≡◌, ℕ, ◌+◌, ◌<◌, ◌≤◌, suc, Bool, true, false, cond, List, [], ◌∷◌, ◌++◌, length, drop, take, get_or, sym, ap, ◌∙◌, length-append, arith}
 use Rattle.std.specs.List.{filter}
 use Rattle.std.proofs.lemmas.List.{at_drop_more, length-take}
 use Rattle.ioc_notify.specs.declared.live_numbers.Live.{Live}
 use Rattle.ioc_notify.specs.declared.waiting_lists.Waiting.{Waiting}
 use Rattle.ioc_notify.specs.Living.{is_live, begun, gained, lost}
-use Rattle.ioc_record.specs.RecordRules.{RecordRules}
-use Rattle.ioc_set.specs.Recounting.{begun_each, gained_by, gained_each, gained_if, lost_each}
+use Rattle.ioc_set.specs.Recounting.{begun_each, gained_each, lost_each}
 
 pub begun_more : (xs ls : List Live) → length ls ≤ length (begun_each xs ls)
 begun_more [] ls = omega arith

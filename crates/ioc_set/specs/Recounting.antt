@@ -1,6 +1,6 @@
 -- The puts with notification of a lock set, counted anew: by the records that have them, and those that wait.
 -- Application Developer's Guide, "Put with Notification" (dbPutNotify). That they are counted anew after a link change is this project's own.
-use Rattle.std.specs.Prelude.{◌≡◌, ◌≢◌, ℕ, ◌+◌, ◌≤◌, true, not, if◌then◌else◌, IsSome, Contains, List, [], ◌∷◌, ◌++◌, length, Option, Some, None}
+use Rattle.std.specs.Prelude.{◌≡◌, ℕ, ◌≤◌, true, not, if◌then◌else◌, IsSome, Contains, List, [], ◌∷◌, ◌++◌, Option, Some, None}
 use Rattle.std.specs.List.{filter}
 use Rattle.std.specs.FinMap.{get, contains_key}
 use Rattle.ioc_notify.specs.declared.live_numbers.Live.{Live}

@@ -14,8 +14,8 @@ pub mod workplace;
 
 pub use attached::Attached;
 pub use laws::{
-    calm_records_are_sound, events_leave_sound, held_records_are_sound, link_changes_are_events, none_live_stays_so,
-    notifications_begin_by_notify, sets_stay_without_puts,
+    calm_records_are_sound, events_leave_sound, held_records_are_sound, link_changes_are_events,
+    none_live_stays_so, notifications_begin_by_notify, sets_stay_without_puts,
 };
 pub use live_puts::LivePuts;
 pub use lock_set::LockSet;

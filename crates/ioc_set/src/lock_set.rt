@@ -494,12 +494,12 @@ impl<K: RecordKind + Drop, D: Drop> LockSet<K, D> {
         let rest_puts = own_puts(&rest, &self.puts, rest_room, alloc);
         let stay_puts = own_puts(&self.members, &self.puts, stay_room, alloc);
         self.puts = stay_puts;
-        let tally = Tally::default();
+        let none = Tally::default();
         Ok(LockSet {
             members: rest,
             puts: rest_puts,
-            tally,
-            base_tally: tally,
+            tally: none,
+            base_tally: none,
             history: Vec::new(alloc),
         })
     }

@@ -1,10 +1,10 @@
-use Rattle.std.proofs.Common.{◌≡◌, ◌∙◌, ℕ, Some, None, ap, sym, subst, arith}
+use Rattle.std.proofs.Common.{◌∙◌, ℕ, Some, None, ap, sym, subst}
 use Rattle.ioc_notify.specs.declared.live_numbers.Live.{Live}
 use Rattle.ioc_common.specs.declared.common.Common.{Common}
 use Rattle.ioc_store.specs.declared.notifications.Notifications.{Notifications}
 use Rattle.std.proofs.Common.{List}
 use Rattle.std.specs.FinMap.{entries}
-use Rattle.ioc_set.specs.Recounting.{gained_by, gained_if}
+use Rattle.ioc_set.specs.Recounting.{gained_by}
 use Rattle.std.proofs.Common.{drop, ◌+◌, ◌<◌, ◌≤◌}
 use Rattle.ioc_set.proofs.Entries.{key_there, gained-at, none-past, gained-past}
 use Rattle.ioc_set.proofs.recount.count_records.Goals as goal
@@ -23,15 +23,13 @@ loop-place-preserved g c =
       | in-Some+in-Some-notification w ↦
           let has = sym (ap (λ (x : Common). x.notification) (w.common-common.ensures ∙ ap k.common w.record.ensures)) ∙ w.in-Some-notification.is in
           let next = gained-at k rs i w.in-Some.number (sym c.number_at.ensures ∙ w.in-Some.is) (Some w.in-Some-notification.notification) c.loop-place.into.live.live has in
-          let live = ap (λ (n : Notifications). n.live.live) w.into-is ∙ w.take_on.ensures.live in
-          (
+          let live = ap (λ (n : Notifications). n.live.live) w.into-is ∙ w.take_on.ensures.live in (
             ap (λ (ls : List Live). gained_by k (drop (i + 1) (entries rs)) ls) live ∙ sym next ∙ so_far.0,
             (ap (λ (n : Notifications). n.ended.items) w.into-is ∙ w.take_on.ensures.ended ∙ so_far.1.0, ap (λ (n : Notifications). n.waiting) w.into-is ∙ w.take_on.ensures.waiting ∙ so_far.1.1),
           )
       | in-Some+in_default-notification w ↦
           let has = sym (ap (λ (x : Common). x.notification) (w.common-common.ensures ∙ ap k.common w.record.ensures)) ∙ w.in_default-notification.is in
-          let next = gained-at k rs i w.in-Some.number (sym c.number_at.ensures ∙ w.in-Some.is) None c.loop-place.into.live.live has in
-          (
+          let next = gained-at k rs i w.in-Some.number (sym c.number_at.ensures ∙ w.in-Some.is) None c.loop-place.into.live.live has in (
             ap (λ (n : Notifications). gained_by k (drop (i + 1) (entries rs)) n.live.live) w.into-is ∙ sym next ∙ so_far.0,
             (ap (λ (n : Notifications). n.ended.items) w.into-is ∙ so_far.1.0, ap (λ (n : Notifications). n.waiting) w.into-is ∙ so_far.1.1),
           )

@@ -38,9 +38,11 @@ pub unite-requires-clause-puts_room : goal.unite-requires-clause-puts_room
 unite-requires-clause-puts_room g c no_room =
     let k = g.K.RecordKind.rules in
     let before = c.args.self.now in
-    let dead = c.in_ok-puts_room.ensures no_room in
-    (none_stays k before c.args.other.now c.fold.new.self c.split.new.self c.split.new.self c.in_ok-rest.rest before c.args.other.now c.args.moment c.args.number c.args.field c.empty.result c.args.link
-    c.fold.ensures c.empty.ensures c.in_ok-rest.ensures.apart dead.0, dead.1)
+    let dead = c.in_ok-puts_room.ensures no_room in (
+      none_stays k before c.args.other.now c.fold.new.self c.split.new.self c.split.new.self c.in_ok-rest.rest before c.args.other.now c.args.moment c.args.number c.args.field c.empty.result c.args.link
+          c.fold.ensures c.empty.ensures c.in_ok-rest.ensures.apart dead.0,
+      dead.1,
+    )
 
 pub rescan-requires : goal.rescan-requires
 rescan-requires g c =

@@ -1,9 +1,6 @@
-use Rattle.std.proofs.Common.{◌≡◌, ◌∙◌, ℕ, List, length, refl, ap, subst, sym, arith}
+use Rattle.std.proofs.Common.{◌≡◌, ◌∙◌, length, refl, ap, subst, sym, arith}
 use Rattle.std.specs.Prelude.{IsSome, is_some}
 use Rattle.std.specs.FinMap.{get}
-use Rattle.ioc_ledger.specs.declared.tally.Tally.{Tally}
-use Rattle.ioc_notify.specs.declared.live_numbers.Live.{Live}
-use Rattle.ioc_notify.specs.declared.waiting_lists.Waiting.{Waiting}
 use Rattle.ioc_members.specs.Contents.{Records, Contents}
 use Rattle.ioc_set.specs.Held.{Held, no_counts}
 use Rattle.ioc_set.specs.Puts.{Puts}
@@ -101,10 +98,10 @@ invariant_of-result g c =
     let held = begun_held k inside.members.records begun inside.puts puts anew c.begin_anew.ensures.puts (c.held_records_are_sound.ensures.held whole c.self.invariant.0) in
     let within = rest_within k lawful c.args.number c.args.field c.args.link begun c.part.new.self.records c.in_ok-rest.rest.records there c.in_ok-rest.ensures.shared in
     let own = c.own_puts-rest_puts in
-    anew_holds k c.held_records_are_sound.ensures.sound c.in_ok-rest.rest own.result c.default-tally.result c.default-tally.result c.new.result.items
+    anew_holds k c.held_records_are_sound.ensures.sound c.in_ok-rest.rest own.result c.default-none.result c.default-none.result c.new.result.items
     own.ensures.begun c.in_ok-rest.ensures.rest_base refl c.new.ensures.items c.in_ok-rest.ensures.rest
     (part_held k begun c.in_ok-rest.rest.records puts.live own.result.live puts.waiting own.result.waiting within held (of-before c.in_ok-rest.rest.records puts.waiting own.result.waiting own.ensures.waiting) own.ensures.counted)
-    c.are_few-3.ensures (none_add_up c.default-tally.result c.default-tally.ensures)
+    c.are_few-3.ensures (none_add_up c.default-none.result c.default-none.ensures)
 
 pub invariant_of-self-2 : goal.invariant_of-self-2
 invariant_of-self-2 g c =
@@ -128,8 +125,8 @@ pub returns-clause-apart : goal.returns-clause-apart
 returns-clause-apart g c =
     let k = g.K.RecordKind.rules in
     let inside = c.self.inside in
-    let zeros = c.default-tally.ensures in
-    let none : c.default-tally.result ≡ no_counts = λ i. record {
+    let zeros = c.default-none.ensures in
+    let none : c.default-none.result ≡ no_counts = λ i. record {
       begun = zeros.0 i;
       processed = zeros.1.0 i;
       disabled = zeros.1.1.0 i;
@@ -141,7 +138,7 @@ returns-clause-apart g c =
     let stay = c.own_puts-stay_puts in
     let rest = c.own_puts-rest_puts in
     fell_apart k c.args.number c.args.field c.args.link c.args.self.now c.begin_anew.new.members c.part.new.self c.in_ok-rest.rest c.begin_anew.new.puts stay.result rest.result
-    c.begin_anew.new.base_tally inside.tally c.default-tally.result c.default-tally.result c.begin_anew.new.history.items c.new.result.items
+    c.begin_anew.new.base_tally inside.tally c.default-none.result c.default-none.result c.begin_anew.new.history.items c.new.result.items
     (ap (λ (m : Contents g.row.K.Denot g.row.D.Denot). m.records) c.begin_anew.ensures.members ∙ ap (λ (h : Held g.row.K.Denot g.row.D.Denot). h.records) c.self.view_is)
     (ap (λ (m : Contents g.row.K.Denot g.row.D.Denot). m.devices) c.begin_anew.ensures.members ∙ ap (λ (h : Held g.row.K.Denot g.row.D.Denot). h.devices) c.self.view_is)
     (ap (λ (h : Held g.row.K.Denot g.row.D.Denot). h.tally) c.self.view_is)
