@@ -509,7 +509,8 @@ impl<K: RecordKind + Drop, D: Drop> LockSet<K, D> {
     /// Sets a link of a record, which stood nowhere, to a record of another set, and takes over that set with its devices and its
     /// counts, in a room that was taken before. The other has nothing then. Each record keeps the notification that it has, the puts that
     /// wait in the other come behind those that wait here, and the holders of each are counted anew: for that, too, room was taken before, if
-    /// any is live. Nothing is sent yet: see [`LockSet::rescan`]. `link` and `twin` are alike.
+    /// any is live. No put waits in both, and those that are live have room in one. Nothing is sent yet: see [`LockSet::rescan`]. `link` and
+    /// `twin` are alike.
     pub fn unite(
         &mut self,
         alloc: Global,
@@ -619,8 +620,8 @@ impl<K: RecordKind + Drop, D: Device> LockSet<K, D> {
 
     /// Leads a link of a record of this set to a record of another, which it takes over with its devices and its counts. The records of this
     /// set that the link alone had joined to that record come back as a set of their own, which may be empty; the other has nothing then.
-    /// Puts with notification that are live go with their records, as [`LockSet::split`] and [`LockSet::unite`] say. All memory is taken before
-    /// anything changes. `link` and `twin` are alike.
+    /// Puts with notification that are live go with their records, as [`LockSet::split`] and [`LockSet::unite`] say; no put waits in both sets,
+    /// and those that are live have room in one. All memory is taken before anything changes. `link` and `twin` are alike.
     ///
     /// # Errors
     ///
