@@ -1,5 +1,5 @@
 -- What the holder of a set knows after a link change in it.
-use Rattle.std.proofs.Common.{◌≡◌, ℕ, false, true, List, [], ◌++◌, Option, sym, ap, subst}
+use Rattle.std.proofs.Common.{◌≡◌, ℕ, false, true, List, ◌++◌, Option, sym, ap, subst}
 use Rattle.std.specs.Prelude.{Contains, IsSome, is_some, unwrap_or}
 use Rattle.std.specs.FinMap.{get}
 use Rattle.ioc_fields.specs.declared.field_no.FieldNo.{FieldNo}

@@ -1,9 +1,7 @@
 -- A link change of a held set after which it falls apart.
-use Rattle.std.proofs.Common.{◌≡◌, ℕ, List, [], refl, sym, ap, subst, ◌∙◌, arith}
-use Rattle.std.specs.Prelude.{Contains}
+use Rattle.std.proofs.Common.{◌≡◌, ℕ, List, refl, sym, ap, ◌∙◌}
 use Rattle.ioc_fields.specs.declared.field_no.FieldNo.{FieldNo}
 use Rattle.ioc_common.specs.declared.link_field.LinkField.{LinkField}
-use Rattle.ioc_notify.specs.declared.waiting_lists.Waiting.{Waiting}
 use Rattle.ioc_notify.specs.Waits.{at_record}
 use Rattle.ioc_record.specs.RecordRules.{RecordRules}
 use Rattle.ioc_store.specs.World.{World, Has, at, begun, begun_at, put, changed, lost}
@@ -12,7 +10,7 @@ use Rattle.ioc_store.specs.ScanLaws.{rewired-either, moved-either}
 use Rattle.ioc_store.specs.Worlds.{sent_by}
 use Rattle.ioc_line.specs.Key.{Key}
 use Rattle.ioc_holding.specs.Legal.{map_of}
-use Rattle.ioc_holding.specs.Held.{Holds, Cover, AreHalves, WaitsWithin}
+use Rattle.ioc_holding.specs.Held.{Holds, Cover, AreHalves}
 use Rattle.ioc_holding.specs.LinkChange.{TakesLink}
 use Rattle.ioc_holding.specs.Laws.{LinkParts, HeldAlike}
 use Rattle.ioc_set.specs.Held.{Held, now_of}
