@@ -3,6 +3,8 @@ mod Summing
 mod Few
 mod Lists
 mod Lasting
+mod Placing
+mod LiveFew
 mod Doing
 mod Sharing
 mod Replaying
@@ -13,5 +15,4 @@ mod Uniting
 mod Moving
 mod Asking
 mod Giving
-mod Placing
 mod Ending

@@ -18,7 +18,7 @@ use Rattle.ioc_holding.proofs.Summing.{point, same-point, of-number, holders-lea
 
 -- ---- as many as there are numbers
 
-there-counted : {A : Type 0} (number : A → ℕ) (xs : List A) (x : A) → Contains xs x → 1 ≤ how_many number (number x) xs
+pub there-counted : {A : Type 0} (number : A → ℕ) (xs : List A) (x : A) → Contains xs x → 1 ≤ how_many number (number x) xs
 there-counted number [] x (i, lt, is) = absurd (omega arith)
 there-counted number (y ∷ xs) x (zero, lt, is) = rw (eq-eqb (number y) (number x) (ap number is)) (omega arith)
 there-counted number (y ∷ xs) x (suc i, lt, is) =
@@ -61,7 +61,7 @@ among-rest n m ns (zero, lt, is) apart = absurd (apart is)
 among-rest n m ns (suc i, lt, is) apart = (i, omega (arith, lt), is)
 
 -- of those with numbers from a list, no two with the same, there are no more than numbers
-few-of : {A : Type 0} (number : A → ℕ) (ns : List ℕ) (xs : List A) → ((n : ℕ) → how_many number n xs ≤ 1) → ((x : A) → Contains xs x → Contains ns (number x)) → length xs ≤ length ns
+pub few-of : {A : Type 0} (number : A → ℕ) (ns : List ℕ) (xs : List A) → ((n : ℕ) → how_many number n xs ≤ 1) → ((x : A) → Contains xs x → Contains ns (number x)) → length xs ≤ length ns
 few-of number [] [] once among = omega arith
 few-of number [] (x ∷ xs) once among = let none = among x (0, omega arith, refl) in absurd (omega (arith, none.1))
 few-of {A} number (n ∷ ns) xs once among =
@@ -129,7 +129,7 @@ module _ {R : Type 0} (k : RecordRules R) where
     unfolding holders
     has-waiting x c = let some = there-counted (λ (y : Waiting). y.number) w.waiting x c in omega arith
 
-    live-once : (n : ℕ) → how_many (λ (l : Live). l.number) n w.live ≤ 1
+    pub live-once : (n : ℕ) → how_many (λ (l : Live). l.number) n w.live ≤ 1
     live-once n = let once = counted.counted.live n in let one = at-most-one (nat_lt 0 (holders k w n)) in omega arith
 
     place : (numbers : List ℕ) (number moment : ℕ) → ((n : ℕ) → 1 ≤ holders k w n → Contains numbers n) → length numbers < 256 → (Contains numbers number → ⊥) → has_place (begun_at moment w) number ≡ true
