@@ -1,5 +1,5 @@
 -- What the holders of two sets know after a link change that leads from one into the other.
-use Rattle.std.proofs.Common.{◌≡◌, ◌⊎◌, ℕ, List, [], ◌∷◌, ◌++◌, Option, Some, None, refl, sym, ap, subst, inl, inr, ⊎_elim}
+use Rattle.std.proofs.Common.{◌≡◌, ◌⊎◌, ℕ, List, [], ◌∷◌, ◌++◌, Option, Some, None, refl, sym, ap, subst, ◌∙◌, inl, inr, ⊎_elim}
 use Rattle.std.specs.Prelude.{IsSome}
 use Rattle.std.specs.FinMap.{get, insert}
 use Rattle.ioc_fields.specs.declared.field_no.FieldNo.{FieldNo}
@@ -21,7 +21,7 @@ use Rattle.ioc_holding.specs.Held.{Holds, Cover}
 use Rattle.ioc_holding.specs.Laws.{Lasts, GoesOn}
 use Rattle.ioc_holding.specs.LinkChange.{TakesLink, link_note}
 use Rattle.ioc_relinking.specs.Laws.{SetsLead}
-use Rattle.ioc_set.specs.Held.{Held, now_of, resting}
+use Rattle.ioc_set.specs.Held.{Held, NoneIsLive, now_of, resting}
 use Rattle.ioc_set.specs.Sound.{IsSound as IsSound-set}
 use Rattle.ioc_set.specs.Linking.{LeadsInto}
 use Rattle.ioc_held.specs.LinkChanges.{keys_of}
@@ -86,7 +86,7 @@ module _ {R D : Type 0} (k : RecordRules R) (before other after other_then rest 
       dealt_apart after rest
       (λ q one two. ⊎_elim (λ a. not_both (get freed) (get led.stay.records) (get rest.records) led.falls.shared q a two) (λ b. none_some (get other.records q) (apart q (fell q two)) b) (led_back q one))
 
-  module _ (lasts : Lasts k) (sets_lead : SetsLead D k) (none : before.waiting ≡ []) (other_none : other.waiting ≡ [])
+  module _ (lasts : Lasts k) (sets_lead : SetsLead D k)
       (to : (t : ℕ) × (named_by (use_of link) ≡ t ∷ []) × IsSome (get other.records t)) (rest_sound : IsSound-set k rest)
       (base : World R) (seen : List Note) (owned : List Key) (also_seen : List Note) (also : List Key) (covers : Cover owned (now_of before)) (holds : Holds k (map_of k base seen) (now_of before))
       (also_covers : Cover also (now_of other)) (also_holds : Holds k (map_of k base also_seen) (now_of other)) where
@@ -97,7 +97,15 @@ module _ {R D : Type 0} (k : RecordRules R) (before other after other_then rest 
         (holds_on k lasts base (now_of before) seen owned covers holds log go legal) (holds_on k lasts base (now_of other) also_seen also also_covers also_holds log also_go legal)
         (λ r has. has_left (key_of r) (owned ++ also) own (has_left (key_of r) owned also (covers r has)))
         (λ r has. has_left (key_of r) (owned ++ also) own (has_right (key_of r) owned also (also_covers r has)))
-        none other_none apart takes to led rest_sound
+        apart takes to led rest_sound
+
+-- where no put with notification is live on two sets, none is on what becomes of them
+pub lead_none : {R D : Type 0} (k : RecordRules R) (before other after other_then rest : Held R D) (moment s : ℕ) (field : FieldNo) (link : LinkField) (come_to : World R) → LeadsInto k before other moment s field link after other_then rest come_to
+    → NoneIsLive before → NoneIsLive other → NoneIsLive after × NoneIsLive rest
+lead_none {R} {D} k before other after other_then rest moment s field link come_to led none other_none =
+    let parted = led.falls.none_live none in
+    let both = led.joins.none_live parted.0 other_none in
+    ((ap (λ (x : Held R D). x.live) led.then_anew ∙ both.0, ap (λ (x : Held R D). x.waiting) led.then_anew ∙ both.1), parted.1)
 
 -- what a holder knows of a longer list without its keys, which it has seen then
 pub holds_known : {R : Type 0} (k : RecordRules R) → Lasts k → (base w : World R) (old view : View) (log : List Note) → Cover old.owns w → Holds k (map_of k base old.seen) w → Continues old.seen old.owns log → IsLegal k base log

@@ -4,12 +4,9 @@ use Rattle.std.specs.Prelude.{Contains, is_some, unwrap_or}
 use Rattle.std.specs.Ordering.{nat_cmp}
 use Rattle.std.specs.FinMap.{empty, get, get-empty, keys}
 use Rattle.atomic_table.specs.Seated.{TableId}
-use Rattle.ioc_ledger.specs.declared.tally.Tally.{Tally}
 use Rattle.ioc_record.specs.RecordRules.{RecordRules, targets}
-use Rattle.ioc_members.specs.Contents.{Records, Devices}
 use Rattle.ioc_store.specs.World.{World, IsClosed, at}
-use Rattle.ioc_set.specs.Held.{Held, NoneIsLive, resting, nothing_held}
-use Rattle.ioc_set.specs.Linking.{anew}
+use Rattle.ioc_set.specs.Held.{Held, resting, nothing_held}
 use Rattle.ioc_held.specs.Holding.{IsHeld}
 use Rattle.ioc_held.proofs.Keys.{no_keys}
 
@@ -39,7 +36,3 @@ module _ {R : Type 0} (k : RecordRules R) (missing : targets k k.missing ≡ [])
 
 pub no_numbers : {R D : Type 0} (h : Held R D) → h ≡ nothing_held → keys h.records ≡ []
 no_numbers {R} {D} h is = ap (λ (x : Held R D). keys x.records) is ∙ no_keys R
-
--- on a set that begins anew no put with notification is live
-pub none_anew : {R D : Type 0} (h : Held R D) (rs : Records R) (ds : Devices D) (counts : Tally) → h ≡ anew rs ds counts → NoneIsLive h
-none_anew {R} {D} h rs ds counts is = (ap (λ (x : Held R D). x.live) is, ap (λ (x : Held R D). x.waiting) is)

@@ -1,5 +1,5 @@
 -- What the holder of a set knows after a link change in it.
-use Rattle.std.proofs.Common.{◌≡◌, ℕ, false, true, List, [], ◌++◌, Option, sym, ap, subst}
+use Rattle.std.proofs.Common.{◌≡◌, ℕ, false, true, List, ◌++◌, Option, sym, ap, subst}
 use Rattle.std.specs.Prelude.{Contains, IsSome, is_some, unwrap_or}
 use Rattle.std.specs.FinMap.{get}
 use Rattle.ioc_fields.specs.declared.field_no.FieldNo.{FieldNo}
@@ -84,11 +84,11 @@ module _ {R D : Type 0} (k : RecordRules R) (before stay rest : Held R D) (momen
   pub part_apart : (key : Key) → Has_key key (keys_of stay) → Has_key key (keys_of rest) → ⊥
   part_apart = dealt_apart stay rest (λ q. not_both (get (link_change_of k before moment s field link).records) (get stay.records) (get rest.records) falls.shared q)
 
-  module _ (lasts : Lasts k) (set_parts : SetsPart D k) (none : before.waiting ≡ []) (within : (t : ℕ) → Contains (named_by (use_of link)) t → IsSome (get before.records t))
+  module _ (lasts : Lasts k) (set_parts : SetsPart D k) (within : (t : ℕ) → Contains (named_by (use_of link)) t → IsSome (get before.records t))
       (stay_sound : IsSound-set k stay) (rest_sound : IsSound-set k rest)
       (base : World R) (seen : List Note) (owned : List Key) (also_seen : List Note) (also : List Key) (covers : Cover owned (now_of before)) (holds : Holds k (map_of k base seen) (now_of before)) where
     pub part_goes_on : (log : List Note) (desk call : ℕ) (own : List Key) → IsSound k base → Continues seen owned log → Continues also_seen also log → IsLegal k base log
         → GoesOn k base log (link_note desk call moment s field link ((owned ++ also) ++ own)) (λ m. Holds k m (now_of stay) × Holds k m (now_of rest))
     part_goes_on log desk call own sound go also_go legal =
         set_parts base log before stay rest desk call moment s field link ((owned ++ also) ++ own) sound legal (holds_on k lasts base (now_of before) seen owned covers holds log go legal)
-        (λ r has. has_left (key_of r) (owned ++ also) own (has_left (key_of r) owned also (covers r has))) none takes within falls stay_sound rest_sound
+        (λ r has. has_left (key_of r) (owned ++ also) own (has_left (key_of r) owned also (covers r has))) takes within falls stay_sound rest_sound

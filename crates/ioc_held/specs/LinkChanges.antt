@@ -17,7 +17,7 @@ use Rattle.ioc_line.specs.Key.{Key, record_keys}
 use Rattle.ioc_holding.specs.Legal.{map_of}
 use Rattle.ioc_journal.specs.Account.{DeskView, Call}
 use Rattle.ioc_set.specs.Held.{Held, now_of}
-use Rattle.ioc_set.specs.Doing.{with_records}
+use Rattle.ioc_set.specs.Doing.{with_kept}
 use Rattle.ioc_set.specs.Linking.{FallsApart, LeadsInto, link_change_of}
 use Rattle.ioc_held.specs.Holding.{HeldView}
 
@@ -50,7 +50,7 @@ module _ {R D : Type 0} (k : RecordRules R) (base : World R) where
   -- stands at the end of the legal list that the desk and the holders of both parts have seen then
   pub record Parts (held : HeldView R D) (desk : DeskView) (moment number : ℕ) (field : FieldNo) (link : LinkField) (held_then rest : HeldView R D) (desk_then : DeskView) (come_to : World R) : Type 0 where
     pub falls : FallsApart held.set (link_change_of k held.set moment number field link).records number held_then.set rest.set
-    pub sent : with_records (link_change_of k held.set moment number field link).records come_to ≡ link_change_of k held.set moment number field link
+    pub sent : with_kept (link_change_of k held.set moment number field link).records held.set.live held.set.waiting come_to ≡ link_change_of k held.set moment number field link
     pub call : Call k base desk (link_change moment number field link) desk_then
     pub seen : held_then.seen ≡ desk_then.seen
     pub seen_of_rest : rest.seen ≡ desk_then.seen

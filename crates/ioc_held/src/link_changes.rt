@@ -28,7 +28,7 @@ use ioc_line::{Keys, Token, pass};
 use ioc_names::RecordNo;
 use ioc_record::RecordKind;
 use ioc_relinking::laws::{led_sets_are_held, parted_sets_are_held};
-use ioc_set::{LockSet, Workplace};
+use ioc_set::{LockSet, Workplace, held_records_are_sound};
 use ioc_values::IocError;
 use std::alloc::Global;
 use std::marker::{Brand, PhantomData};
@@ -193,6 +193,7 @@ impl<K: RecordKind + Drop, B: Base<K>, D: Device> Held<K, B, D> {
     {
         holding_lasts::<K>();
         led_sets_are_held::<K, D>();
+        held_records_are_sound::<K, D>();
         self.compare(rt, book, other);
         let chosen = link.get();
         let place = book.reserve(rt)?;

@@ -1,9 +1,7 @@
 -- A link change of a held set after which it falls apart.
-use Rattle.std.proofs.Common.{◌≡◌, ℕ, List, [], refl, sym, ap, subst, ◌∙◌, arith}
-use Rattle.std.specs.Prelude.{Contains}
+use Rattle.std.proofs.Common.{◌≡◌, ℕ, List, refl, sym, ap, ◌∙◌}
 use Rattle.ioc_fields.specs.declared.field_no.FieldNo.{FieldNo}
 use Rattle.ioc_common.specs.declared.link_field.LinkField.{LinkField}
-use Rattle.ioc_notify.specs.declared.waiting_lists.Waiting.{Waiting}
 use Rattle.ioc_notify.specs.Waits.{at_record}
 use Rattle.ioc_record.specs.RecordRules.{RecordRules}
 use Rattle.ioc_store.specs.World.{World, Has, at, begun, begun_at, put, changed, lost}
@@ -12,19 +10,12 @@ use Rattle.ioc_store.specs.ScanLaws.{rewired-either, moved-either}
 use Rattle.ioc_store.specs.Worlds.{sent_by}
 use Rattle.ioc_line.specs.Key.{Key}
 use Rattle.ioc_holding.specs.Legal.{map_of}
-use Rattle.ioc_holding.specs.Held.{Holds, Cover, AreHalves, WaitsWithin}
+use Rattle.ioc_holding.specs.Held.{Holds, Cover, AreHalves}
 use Rattle.ioc_holding.specs.LinkChange.{TakesLink}
 use Rattle.ioc_holding.specs.Laws.{LinkParts, HeldAlike}
 use Rattle.ioc_set.specs.Held.{Held, now_of}
 use Rattle.ioc_set.specs.Linking.{FallsApart, link_change_of}
 use Rattle.ioc_relinking.specs.Laws.{SetsPart}
-
-pub none_in : {A : Type 0} (x : A) → Contains [] x → ⊥
-none_in x c = let l = c.1 in omega arith
-
--- nothing waits within it where nothing waits
-pub within_none : {R : Type 0} (w : World R) → w.waiting ≡ [] → WaitsWithin w
-within_none w none x c = absurd (none_in x (subst (λ (l : List Waiting). Contains l x) none c))
 
 module _ {R : Type 0} (k : RecordRules R) where
   moved-waiting : (w : World R) (s : ℕ) → (moved k w s).waiting ≡ w.waiting
@@ -55,24 +46,21 @@ module _ {R : Type 0} (k : RecordRules R) where
   unfolding begun_at begun
   waiting-begun w moment = refl
 
-  module _ {D : Type 0} (h : Held R D) (none : h.waiting ≡ []) (moment s : ℕ) (field : FieldNo) (link : LinkField) where
-    changed-waiting : (link_change_of k h moment s field link).waiting ≡ []
+  module _ {D : Type 0} (h : Held R D) (moment s : ℕ) (field : FieldNo) (link : LinkField) where
+    changed-waiting : (link_change_of k h moment s field link).waiting ≡ h.waiting
     unfolding put
     changed-waiting = rewired-waiting (device_of k (at k (begun_at moment (now_of h)) s)) (put (begun_at moment (now_of h)) s (k.with_link (at k (begun_at moment (now_of h)) s) field link)) s
-        ∙ waiting-begun (now_of h) moment ∙ none
+        ∙ waiting-begun (now_of h) moment
 
     pub change-halves : (stay rest : Held R D) → FallsApart h (link_change_of k h moment s field link).records s stay rest → AreHalves (link_change_of k h moment s field link) (now_of stay) (now_of rest)
-    change-halves stay rest falls =
-        let stay_none : stay.waiting ≡ [] = ap (λ (x : Held R D). x.waiting) falls.stays in
-        let rest_none : rest.waiting ≡ [] = ap (λ (x : Held R D). x.waiting) falls.leaves in
-        record {
-          records = falls.shared;
-          first = record { waiting = λ n has. ap (at_record n) (stay_none ∙ sym changed-waiting); within = within_none (now_of stay) stay_none };
-          second = record { waiting = λ n has. ap (at_record n) (rest_none ∙ sym changed-waiting); within = within_none (now_of rest) rest_none };
-        }
+    change-halves stay rest falls = record {
+      records = falls.shared;
+      first = record { waiting = λ n has. falls.waiting.same n has ∙ ap (at_record n) (sym changed-waiting); within = falls.waiting.own };
+      second = record { waiting = λ n has. falls.rest_waiting.same n has ∙ ap (at_record n) (sym changed-waiting); within = falls.rest_waiting.own };
+    }
 
   pub sets-part : (D : Type 0) → LinkParts k → HeldAlike k → SetsPart D k
-  sets-part D parts alike base log before stay rest desk call moment s field link keys sound legal holds covers none takes within falls stay_sound rest_sound =
+  sets-part D parts alike base log before stay rest desk call moment s field link keys sound legal holds covers takes within falls stay_sound rest_sound =
       parts base (begun_at moment (now_of before)) (now_of stay) (now_of rest) log desk call moment s field link keys sound legal
       (holds-begun alike (map_of k base log) (now_of before) moment holds) (cover-begun keys (now_of before) moment covers) (takes-begun (now_of before) moment s field takes)
-      (λ t named. has-begun (now_of before) moment t (within t named)) (change-halves before none moment s field link stay rest falls) stay_sound.settled.closed rest_sound.settled.closed
+      (λ t named. has-begun (now_of before) moment t (within t named)) (change-halves before moment s field link stay rest falls) stay_sound.settled.closed rest_sound.settled.closed

@@ -22,7 +22,7 @@ module _ {R : Type 0} (D : Type 0) (k : RecordRules R) where
   -- a link of a held set is set to a record of it, or to none: what stays and the rest are held
   abbrev pub SetsPart : Type 0
   SetsPart = (base : World R) (log : List Note) (before stay rest : Held R D) (desk call moment s : ℕ) (field : FieldNo) (link : LinkField) (keys : List Key)
-      → IsSound-world k base → IsLegal k base log → Holds k (map_of k base log) (now_of before) → Cover keys (now_of before) → before.waiting ≡ []
+      → IsSound-world k base → IsLegal k base log → Holds k (map_of k base log) (now_of before) → Cover keys (now_of before)
       → TakesLink k (now_of before) s field → ((t : ℕ) → Contains (named_by (use_of link)) t → Has (now_of before) t)
       → FallsApart before (link_change_of k before moment s field link).records s stay rest → IsSound k stay → IsSound k rest
       → GoesOn k base log (link_note desk call moment s field link keys) (λ m. Holds k m (now_of stay) × Holds k m (now_of rest))
@@ -31,7 +31,7 @@ module _ {R : Type 0} (D : Type 0) (k : RecordRules R) where
   abbrev pub SetsLead : Type 0
   SetsLead = (base : World R) (log : List Note) (before other after other_then rest : Held R D) (come_to : World R) (desk call moment s : ℕ) (field : FieldNo) (link : LinkField) (keys : List Key)
       → IsSound-world k base → IsLegal k base log → Holds k (map_of k base log) (now_of before) → Holds k (map_of k base log) (now_of other)
-      → Cover keys (now_of before) → Cover keys (now_of other) → before.waiting ≡ [] → other.waiting ≡ []
+      → Cover keys (now_of before) → Cover keys (now_of other)
       → ((q : ℕ) → IsSome (get before.records q) → get other.records q ≡ None)
       → TakesLink k (now_of before) s field → (t : ℕ) × (named_by (use_of link) ≡ t ∷ []) × IsSome (get other.records t)
       → LeadsInto k before other moment s field link after other_then rest come_to → IsSound k rest

@@ -4,8 +4,8 @@ use Rattle.ioc_ledger.specs.declared.tally.Tally.{Tally}
 use Rattle.ioc_record.specs.RecordRules.{RecordRules}
 use Rattle.ioc_members.specs.Contents.{Records, Contents, AreLike, RecordsAreLikeTheirBase, record_at}
 use Rattle.ioc_events.specs.declared.event.Entry.{Entry}
-use Rattle.ioc_set.specs.Puts.{Puts, no_puts, AreNone, begun_with}
-use Rattle.ioc_set.specs.Held.{Held, NoneIsLive, folded}
+use Rattle.ioc_set.specs.Puts.{Puts, no_puts, AreNone, HasBegun, begun_with}
+use Rattle.ioc_set.specs.Held.{folded}
 use Rattle.ioc_set.specs.Doing.{held_by}
 use Rattle.ioc_set.specs.Linking.{anew}
 
@@ -13,11 +13,11 @@ use Rattle.ioc_set.specs.Linking.{anew}
 abbrev pub WereNone : Puts → Type 0
 WereNone p = AreNone p × ((p.base_live ≡ []) × (p.base_waiting ≡ []))
 
--- where none is live when a history begins, none was before it
-pub begun_none : (p q : Puts) → AreNone p → q ≡ begun_with p → WereNone q
-begun_none p q none is = (
-  (ap (λ (x : Puts). x.live) is ∙ none.0, ap (λ (x : Puts). x.waiting) is ∙ none.1),
-  (ap (λ (x : Puts). x.base_live) is ∙ none.0, ap (λ (x : Puts). x.base_waiting) is ∙ none.1),
+-- a history has begun
+pub begun_now : (p q : Puts) → q ≡ begun_with p → HasBegun q
+begun_now p q is = (
+  ap (λ (x : Puts). x.base_live) is ∙ sym (ap (λ (x : Puts). x.live) is),
+  ap (λ (x : Puts). x.base_waiting) is ∙ sym (ap (λ (x : Puts). x.waiting) is),
 )
 
 pub were_none : (p : Puts) → p ≡ no_puts → WereNone p
@@ -27,18 +27,26 @@ were_none p is = (
 )
 
 module _ {R D : Type 0} where
-  -- what is live on a set, by what it holds
-  pub none_inside : (c : Contents R D) (p : Puts) (b t : Tally) (entries : List Entry) (h : Held R D) → held_by c p b t entries ≡ h → NoneIsLive h → AreNone p
-  none_inside c p b t entries h is none = (ap (λ (x : Held R D). x.live) is ∙ none.0, ap (λ (x : Held R D). x.waiting) is ∙ none.1)
-
-  pub begun_anew : (c : Contents R D) (p : Puts) (b t : Tally) (entries : List Entry) → WereNone p → c.base ≡ c.records → b ≡ t → entries ≡ [] → held_by c p b t entries ≡ anew c.records c.devices t
-  begun_anew c p b t entries none base same forgotten = λ i. record {
+  -- a set on which none is live
+  pub none_anew : (c : Contents R D) (p : Puts) (b t : Tally) (entries : List Entry) → WereNone p → c.base ≡ c.records → b ≡ t → entries ≡ [] → held_by c p b t entries ≡ anew c.records c.devices [] [] t
+  none_anew c p b t entries none base same forgotten = λ i. record {
     records = c.records;
     devices = c.devices;
     live = none.0.0 i;
     waiting = none.0.1 i;
     tally = t;
     base = record { records = base i; live = none.1.0 i; waiting = none.1.1 i; tally = same i };
+    history = forgotten i;
+  }
+
+  pub begun_anew : (c : Contents R D) (p : Puts) (b t : Tally) (entries : List Entry) → HasBegun p → c.base ≡ c.records → b ≡ t → entries ≡ [] → held_by c p b t entries ≡ anew c.records c.devices p.live p.waiting t
+  begun_anew c p b t entries begun base same forgotten = λ i. record {
+    records = c.records;
+    devices = c.devices;
+    live = p.live;
+    waiting = p.waiting;
+    tally = t;
+    base = record { records = base i; live = begun.0 i; waiting = begun.1 i; tally = same i };
     history = forgotten i;
   }
 

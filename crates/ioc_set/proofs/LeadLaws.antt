@@ -1,21 +1,28 @@
 -- A link that is led from one set into another: what its steps come to.
-use Rattle.std.proofs.Common.{◌≡◌, ℕ, Bool, true, false, cond, eqb, List, [], Option, Some, None, refl, sym, ap, subst, ◌∙◌, ⊎_elim, arith}
+use Rattle.std.proofs.Common.{◌≡◌, ◌≤◌, ℕ, nat_lt, Bool, true, false, cond, eqb, List, [], Option, Some, None, refl, sym, ap, subst, ◌∙◌, ⊎_elim, arith}
 use Rattle.std.specs.Prelude.{IsSome, is_some, unwrap_or, Contains}
 use Rattle.std.specs.FinMap.{get, insert}
 use Rattle.std.proofs.lemmas.Grind.{common_steps}
 use Rattle.ioc_fields.specs.declared.field_no.FieldNo.{FieldNo}
 use Rattle.ioc_common.specs.declared.link_field.LinkField.{LinkField}
 use Rattle.ioc_common.specs.Links.{no_link, use_of, named_by, named_by_field}
+use Rattle.ioc_notify.specs.declared.live_numbers.Live.{Live}
+use Rattle.ioc_notify.specs.Living.{is_live}
 use Rattle.ioc_record.specs.RecordRules.{RecordRules}
+use Rattle.ioc_events.specs.Holding.{IsHeld, holders, how_many}
 use Rattle.ioc_record.specs.Laws.{IsLawful}
 use Rattle.ioc_members.specs.Contents.{Records, record_at}
 use Rattle.ioc_members.specs.Joined.{AreShared, HasLink, HasFreeLink, relinked}
 use Rattle.ioc_store.specs.World.{World, at, begun_at}
 use Rattle.ioc_store.specs.Scanning.{device_of, rewired}
-use Rattle.ioc_set.specs.Held.{Held, now_of, folded}
-use Rattle.ioc_set.specs.Doing.{with_records}
-use Rattle.ioc_set.specs.Linking.{anew, FallsApart, BecomeOne, LeadsInto}
+use Rattle.ioc_set.specs.Held.{Held, NoneIsLive, now_of, folded}
+use Rattle.ioc_set.specs.Doing.{with_kept}
+use Rattle.ioc_set.specs.Linking.{anew, FallsApart, MayBeOne, BecomeOne, LeadsInto}
 use Rattle.ioc_set.specs.Sound.{IsSound}
+use Rattle.ioc_set.specs.Recounting.{AreLive}
+use Rattle.ioc_set.proofs.Joining.{stay_may}
+use Rattle.ioc_set.proofs.Linked.{stay_within}
+use Rattle.ioc_set.proofs.Counting.{few-one}
 use Rattle.ioc_set.proofs.Calm.{get-insert, none_some, none_in}
 
 -- an empty link leads nowhere
@@ -78,15 +85,15 @@ module _ {R D : Type 0} (k : RecordRules R) (h other begun stay both rest after 
   apart falls =
       let now = subst (λ (x : Held R D). FallsApart x (relinked k x.records s field none) s stay rest) is_begun falls in
       let free = subst (λ (l : LinkField). FallsApart (folded h) (relinked k h.records s field l) s stay rest) is_none now in
-      record { shared = free.shared; devices = free.devices; own = free.own; stays = free.stays; leaves = free.leaves }
+      record { shared = free.shared; devices = free.devices; own = free.own; waiting = free.waiting; rest_waiting = free.rest_waiting; none_live = free.none_live; stays = free.stays; leaves = free.leaves }
 
   device_before : (before : List ℕ) → before ≡ device_of k (at k (now_of begun) s) → before ≡ device_of k (record_at k h.records s)
   unfolding at
   device_before before is = is ∙ ap (λ (x : Held R D). device_of k (record_at k x.records s)) is_begun
 
   pub leads : FallsApart begun (relinked k begun.records s field none) s stay rest → BecomeOne stay other (relinked k stay.records s field link) both other_then → IsSound k both
-      → (before : List ℕ) → before ≡ device_of k (at k (now_of begun) s) → (come_to : World R) → with_records after.records come_to ≡ rewired k before (begun_at moment (now_of both)) s
-      → after ≡ anew after.records both.devices both.tally → LeadsInto k h other moment s field link after other_then rest come_to
+      → (before : List ℕ) → before ≡ device_of k (at k (now_of begun) s) → (come_to : World R) → with_kept after.records both.live both.waiting come_to ≡ rewired k before (begun_at moment (now_of both)) s
+      → after ≡ anew after.records both.devices both.live both.waiting both.tally → LeadsInto k h other moment s field link after other_then rest come_to
   leads falls joins sound before is_before come_to left held = record {
     stay = stay;
     both = both;
@@ -96,3 +103,19 @@ module _ {R D : Type 0} (k : RecordRules R) (h other begun stay both rest after 
     sent = left ∙ ap (λ (d : List ℕ). rewired k d (begun_at moment (now_of both)) s) (device_before before is_before);
     then_anew = held;
   }
+
+  -- what stays may become one with the other, if the set may
+  module _ (falls : FallsApart begun (relinked k begun.records s field none) s stay rest) where
+    pub none_stays : NoneIsLive begun → NoneIsLive stay
+    none_stays dead = (falls.none_live dead).0
+
+    few_live : (x : Held R D) → IsSound k x → (n : ℕ) → how_many (λ (l : Live). l.number) n x.live ≤ 1
+    unfolding holders
+    few_live x sound n = subst (λ (a : ℕ). a ≤ 1) (sym (sound.counted.counted.live n)) (few-one (nat_lt 0 (holders k (now_of x) n)))
+
+    pub still_may : IsLawful k → IsSome (get h.records s) → MayBeOne h other → AreLive k h.records h.waiting h.live → ((n : ℕ) → is_live n stay.live ≡ true → IsHeld k (now_of stay) n)
+        → IsSound k stay → IsSound k other → MayBeOne stay other
+    still_may lawful there may live holder sound other_sound =
+        let now = apart falls in
+        stay_may k h other stay may (stay_within k lawful s field no_link h.records stay.records rest.records there now.shared) now.waiting live holder
+        (few_live stay sound) (few_live other other_sound) sound.counted.counted.waits_once

@@ -6,6 +6,14 @@ mod AttachedLaws
 mod DidLaws
 mod DoneLaws
 mod NothingHeld
+mod Entries
+mod Recounts
+mod Counting
+mod Counted
+mod Fewer
+mod Gathered
+mod HeldRecords
+mod Joining
 mod Calm
 mod Anew
 mod Counts

@@ -6,6 +6,8 @@ use Rattle.std.specs.Cmp.Lexicographic.{pointwise}
 use Rattle.std.proofs.lemmas.Grind.{common_steps}
 use Rattle.ioc_common.specs.Steps.{change_numbered}
 use Rattle.ioc_ledger.specs.Requests.{more}
+use Rattle.ioc_notify.specs.declared.live_numbers.Live.{Live}
+use Rattle.ioc_notify.specs.declared.waiting_lists.Waiting.{Waiting}
 use Rattle.ioc_record.specs.RecordRules.{RecordRules}
 use Rattle.ioc_record.specs.Laws.{IsLawful}
 use Rattle.ioc_members.specs.Contents.{Records, Contents, record_at}
@@ -19,7 +21,7 @@ use Rattle.ioc_store.specs.Worlds.{sent_by}
 use Rattle.ioc_set.specs.declared.set_store.SetStore.{SetStore}
 use Rattle.ioc_set.specs.SetStore.{world_of}
 use Rattle.ioc_set.specs.Held.{resting}
-use Rattle.ioc_set.specs.Doing.{with_records}
+use Rattle.ioc_set.specs.Doing.{with_records, with_kept}
 use Rattle.ioc_set.proofs.Calm.{get-insert, none_some}
 
 -- what an event has come to in a store whose records were exchanged for those of a set
@@ -55,20 +57,20 @@ module _ {R : Type 0} (k : RecordRules R) where
   rewired-keeps lawful before w s there = rewired-either k (Keeps k w) before w s (keeps_all k w) (moved-keeps k lawful w s there)
 
   module _ (moment s : ℕ) (before : List ℕ) where
-    -- an event begins on these records
-    abbrev begins : Records R → World R
-    begins rs = begun_at moment (resting rs [] [])
+    -- an event begins on these records, with these puts with notification
+    abbrev begins : List Live → List Waiting → Records R → World R
+    begins live waiting rs = begun_at moment (resting rs live waiting)
 
     -- the record stands for the same device, or not; and there is a number for a change of its scan list, or not
     abbrev numbered : R → R
     numbered r = k.with_common r (change_numbered (k.common r))
 
-    abbrev rescans : Bool → Bool → Records R → R → World R
-    rescans same room rs r =
-        cond same (begins rs)
+    abbrev rescans : List Live → List Waiting → Bool → Bool → Records R → R → World R
+    rescans live waiting same room rs r =
+        cond same (begins live waiting rs)
         (cond room
-        (record (begins (insert rs s (numbered r))) { outbox = Change (record { target = s; number = (k.common r).last_change + 1; scanning = (k.common r).scanning; device = device_of k r }) ∷ [] })
-        (record (begins rs) { dropped = more 0 }))
+        (record (begins live waiting (insert rs s (numbered r))) { outbox = Change (record { target = s; number = (k.common r).last_change + 1; scanning = (k.common r).scanning; device = device_of k r }) ∷ [] })
+        (record (begins live waiting rs) { dropped = more 0 }))
 
     abbrev is_same : R → Bool
     is_same r = pointwise nat_eq before (device_of k r)
@@ -76,28 +78,49 @@ module _ {R : Type 0} (k : RecordRules R) where
     abbrev has_room : R → Bool
     has_room r = nat_lt (k.common r).last_change (2 ^ 64 - 1)
 
-    goes : (rs : Records R) → rewired k before (begins rs) s ≡ rescans (is_same (record_at k rs s)) (has_room (record_at k rs s)) rs (record_at k rs s)
+    goes : (live : List Live) (waiting : List Waiting) (rs : Records R) → rewired k before (begins live waiting rs) s ≡ rescans live waiting (is_same (record_at k rs s)) (has_room (record_at k rs s)) rs (record_at k rs s)
     unfolding rewired moved changed put sent lost at begun_at begun
-    goes rs = refl
+    goes live waiting rs = refl
 
-    goes_on : (rs : Records R) (r : R) → record_at k rs s ≡ r → rewired k before (begins rs) s ≡ rescans (is_same r) (has_room r) rs r
-    goes_on rs r is = goes rs ∙ ap (λ (x : R). rescans (is_same x) (has_room x) rs x) is
+    goes_on : (live : List Live) (waiting : List Waiting) (rs : Records R) (r : R) → record_at k rs s ≡ r → rewired k before (begins live waiting rs) s ≡ rescans live waiting (is_same r) (has_room r) rs r
+    goes_on live waiting rs r is = goes live waiting rs ∙ ap (λ (x : R). rescans live waiting (is_same x) (has_room x) rs x) is
 
-    -- beside the records it comes to the same on other records, if that record is the same there
-    alike : (same room : Bool) (r : R) (some others : Records R) → with_records (rescans same room some r).records (rescans same room others r) ≡ rescans same room some r
+    -- beside the records and the puts with notification it comes to the same on others, if that record is the same there
+    alike : (live others_live : List Live) (waiting others_waiting : List Waiting) (same room : Bool) (r : R) (some others : Records R)
+        → with_kept (rescans live waiting same room some r).records live waiting (rescans others_live others_waiting same room others r) ≡ rescans live waiting same room some r
     unfolding begun_at begun
-    alike true room r some others = refl
-    alike false true r some others = refl
-    alike false false r some others = refl
+    alike live others_live waiting others_waiting true room r some others = refl
+    alike live others_live waiting others_waiting false true r some others = refl
+    alike live others_live waiting others_waiting false false r some others = refl
 
-    pub rescanned_left : (some others : Records R) → record_at k others s ≡ record_at k some s
-        → with_records (rewired k before (begins some) s).records (rewired k before (begins others) s) ≡ rewired k before (begins some) s
-    rescanned_left some others is =
+    pub rescanned_left : (live others_live : List Live) (waiting others_waiting : List Waiting) (some others : Records R) → record_at k others s ≡ record_at k some s
+        → with_kept (rewired k before (begins live waiting some) s).records live waiting (rewired k before (begins others_live others_waiting others) s) ≡ rewired k before (begins live waiting some) s
+    rescanned_left live others_live waiting others_waiting some others is =
         let r = record_at k some s in
-        ap (λ (w : World R). with_records w.records (rewired k before (begins others) s)) (goes some)
-        ∙ ap (λ (w : World R). with_records (rescans (is_same r) (has_room r) some r).records w) (goes_on others r is)
-        ∙ alike (is_same r) (has_room r) r some others
-        ∙ sym (goes some)
+        ap (λ (w : World R). with_kept w.records live waiting (rewired k before (begins others_live others_waiting others) s)) (goes live waiting some)
+        ∙ ap (λ (w : World R). with_kept (rescans live waiting (is_same r) (has_room r) some r).records live waiting w) (goes_on others_live others_waiting others r is)
+        ∙ alike live others_live waiting others_waiting (is_same r) (has_room r) r some others
+        ∙ sym (goes live waiting some)
+
+    -- the records come to the same whatever is live and waits
+    alike_records : (live others_live : List Live) (waiting others_waiting : List Waiting) (same room : Bool) (r : R) (rs : Records R) → (rescans live waiting same room rs r).records ≡ (rescans others_live others_waiting same room rs r).records
+    unfolding begun_at begun
+    alike_records live others_live waiting others_waiting true room r rs = refl
+    alike_records live others_live waiting others_waiting false true r rs = refl
+    alike_records live others_live waiting others_waiting false false r rs = refl
+
+    pub rewired_records : (live others_live : List Live) (waiting others_waiting : List Waiting) (rs : Records R) → (rewired k before (begins live waiting rs) s).records ≡ (rewired k before (begins others_live others_waiting rs) s).records
+    rewired_records live others_live waiting others_waiting rs =
+        let r = record_at k rs s in
+        ap (λ (w : World R). w.records) (goes live waiting rs) ∙ alike_records live others_live waiting others_waiting (is_same r) (has_room r) r rs ∙ sym (ap (λ (w : World R). w.records) (goes others_live others_waiting rs))
+
+    -- done with no puts with notification, it is the same with those that the set keeps
+    pub rewired_beside : (live : List Live) (waiting : List Waiting) (rs after : Records R) (come_to : World R) → with_records after come_to ≡ rewired k before (begins [] [] rs) s
+        → with_kept after live waiting come_to ≡ rewired k before (begins live waiting rs) s
+    rewired_beside live waiting rs after come_to left =
+        ap (λ (w : World R). with_kept w.records live waiting w) left
+        ∙ ap (λ (x : Records R). with_kept x live waiting (rewired k before (begins [] [] rs) s)) (rewired_records [] live [] waiting rs)
+        ∙ rescanned_left live [] waiting [] rs rs refl
 
     -- ---- records that are shared stay so
 
@@ -121,12 +144,12 @@ module _ {R : Type 0} (k : RecordRules R) where
         subst (λ (f : ℕ → Option R). AreShared f (get (insert one s x)) (get rest)) (sym whole)
         (subst (λ (f : ℕ → Option R). AreShared (set_in x (get all)) f (get rest)) (sym part) set)
 
-    shared_rescanned : (same room : Bool) (r : R) (all one rest : Records R) → AreShared (get all) (get one) (get rest) → IsSome (get one s)
-        → AreShared (get (rescans same room all r).records) (get (rescans same room one r).records) (get rest)
+    shared_rescanned : (live stay_live : List Live) (waiting stay_waiting : List Waiting) (same room : Bool) (r : R) (all one rest : Records R) → AreShared (get all) (get one) (get rest) → IsSome (get one s)
+        → AreShared (get (rescans live waiting same room all r).records) (get (rescans stay_live stay_waiting same room one r).records) (get rest)
     unfolding begun_at begun
-    shared_rescanned true room r all one rest shared there = shared
-    shared_rescanned false true r all one rest shared there = shared_set (numbered r) all one rest shared there
-    shared_rescanned false false r all one rest shared there = shared
+    shared_rescanned live stay_live waiting stay_waiting true room r all one rest shared there = shared
+    shared_rescanned live stay_live waiting stay_waiting false true r all one rest shared there = shared_set (numbered r) all one rest shared there
+    shared_rescanned live stay_live waiting stay_waiting false false r all one rest shared there = shared
 
     -- who has the record in one has it in all
     pub own_record : (all one rest : Records R) → AreShared (get all) (get one) (get rest) → IsSome (get one s) → record_at k one s ≡ record_at k all s
@@ -135,10 +158,10 @@ module _ {R : Type 0} (k : RecordRules R) where
       | inr p ↦ absurd (none_some (get one s) p.0 there)
     ]
 
-    pub rescanned_shared : (all one rest : Records R) → AreShared (get all) (get one) (get rest) → IsSome (get one s)
-        → AreShared (get (rewired k before (begins all) s).records) (get (rewired k before (begins one) s).records) (get rest)
-    rescanned_shared all one rest shared there =
+    pub rescanned_shared : (live stay_live : List Live) (waiting stay_waiting : List Waiting) (all one rest : Records R) → AreShared (get all) (get one) (get rest) → IsSome (get one s)
+        → AreShared (get (rewired k before (begins live waiting all) s).records) (get (rewired k before (begins stay_live stay_waiting one) s).records) (get rest)
+    rescanned_shared live stay_live waiting stay_waiting all one rest shared there =
         let r = record_at k all s in
-        subst (λ (w : World R). AreShared (get w.records) (get (rewired k before (begins one) s).records) (get rest)) (sym (goes all))
-        (subst (λ (w : World R). AreShared (get (rescans (is_same r) (has_room r) all r).records) (get w.records) (get rest)) (sym (goes_on one r (own_record all one rest shared there)))
-        (shared_rescanned (is_same r) (has_room r) r all one rest shared there))
+        subst (λ (w : World R). AreShared (get w.records) (get (rewired k before (begins stay_live stay_waiting one) s).records) (get rest)) (sym (goes live waiting all))
+        (subst (λ (w : World R). AreShared (get (rescans live waiting (is_same r) (has_room r) all r).records) (get w.records) (get rest)) (sym (goes_on stay_live stay_waiting one r (own_record all one rest shared there)))
+        (shared_rescanned live stay_live waiting stay_waiting (is_same r) (has_room r) r all one rest shared there))

@@ -6,5 +6,6 @@ pub mod Held
 pub mod Sound
 pub mod Doing
 pub mod HeldCode
+pub mod Recounting
 pub mod Linking
 pub mod NoCalls

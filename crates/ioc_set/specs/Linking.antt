@@ -1,30 +1,34 @@
 -- A link change on lock sets: one falls apart, or two become one, and a change of a scan list is sent.
 -- Application Developer's Guide, "Database Locking, Scanning, and Processing": a changed link parts lock sets or joins them.
-use Rattle.std.specs.Prelude.{◌≡◌, ◌↔◌, ℕ, [], IsSome, IsTrue, None}
+use Rattle.std.specs.Prelude.{◌≡◌, ◌≢◌, ◌↔◌, ℕ, ◌+◌, ◌≤◌, List, [], ◌++◌, length, Contains, IsSome, IsTrue, None}
 use Rattle.std.specs.FinMap.{get}
 use Rattle.ioc_fields.specs.declared.field_no.FieldNo.{FieldNo}
 use Rattle.ioc_common.specs.declared.link_field.LinkField.{LinkField}
 use Rattle.ioc_common.specs.Links.{no_link}
 use Rattle.ioc_ledger.specs.declared.tally.Tally.{Tally}
 use Rattle.ioc_ledger.specs.Requests.{filled}
+use Rattle.ioc_notify.specs.declared.live_numbers.Live.{Live}
+use Rattle.ioc_notify.specs.declared.waiting_lists.Waiting.{Waiting}
 use Rattle.ioc_record.specs.RecordRules.{RecordRules}
 use Rattle.ioc_members.specs.Contents.{Records, Devices, record_at}
 use Rattle.ioc_members.specs.Joined.{AreShared, relinked}
 use Rattle.ioc_store.specs.World.{World, at, put, begun_at}
 use Rattle.ioc_store.specs.Scanning.{device_of, rewired}
-use Rattle.ioc_set.specs.Held.{Held, now_of, no_counts, nothing_held}
-use Rattle.ioc_set.specs.Doing.{with_records}
+use Rattle.ioc_events.specs.Holding.{HoldersAwait, HoldersCounted}
+use Rattle.ioc_set.specs.Held.{Held, NoneIsLive, now_of, resting, no_counts, nothing_held}
+use Rattle.ioc_set.specs.Doing.{with_kept}
+use Rattle.ioc_set.specs.Recounting.{WaitsGoAlong, together}
 use Rattle.ioc_set.specs.Sound.{IsSound}
 
--- a set that begins anew with these records, devices and counts: it has no history, and no put with notification is live on it
-abbrev pub anew : {R D : Type 0} → Records R → Devices D → Tally → Held R D
-anew rs ds counts = record {
+-- a set that begins anew with these records, devices, puts with notification and counts: it has no history
+abbrev pub anew : {R D : Type 0} → Records R → Devices D → List Live → List Waiting → Tally → Held R D
+anew rs ds live waiting counts = record {
   records = rs;
   devices = ds;
-  live = [];
-  waiting = [];
+  live = live;
+  waiting = waiting;
   tally = counts;
-  base = record { records = rs; live = []; waiting = []; tally = counts };
+  base = record { records = rs; live = live; waiting = waiting; tally = counts };
   history = [];
 }
 
@@ -49,6 +53,13 @@ module _ {R : Type 0} (k : RecordRules R) where
   abbrev pub AreCalm : Records R → Type 0
   AreCalm rs = (n : ℕ) → IsSome (get rs n) → IsCalm (record_at k rs n)
 
+  -- records between events, with these puts with notification: each is active exactly where a completion of it is pending; one that has a
+  -- notification, or for which one waits, awaits a completion; and the holders of each are counted
+  pub record AreHeld (rs : Records R) (live : List Live) (waiting : List Waiting) : Type 0 where
+    pub quiet : (n : ℕ) → IsSome (get rs n) → IsTrue (k.common (record_at k rs n)).active ↔ IsSome (k.common (record_at k rs n)).pending
+    pub holders_await : HoldersAwait k (resting rs live waiting)
+    pub counted : HoldersCounted k (resting rs live waiting)
+
   -- with another link in the field, and a change of the record's scan list sent where it has another device link
   abbrev pub with_link_changed : World R → ℕ → FieldNo → LinkField → World R
   with_link_changed w s field link = rewired k (device_of k (at k w s)) (put w s (k.with_link (at k w s) field link)) s
@@ -59,20 +70,34 @@ module _ {R : Type 0} (k : RecordRules R) where
 
 module _ {R D : Type 0} where
   -- a set falls apart: each of these records, which are its own with a link changed, and each device is in exactly one of two that begin anew.
-  -- The one with the record of this number keeps the counts, and the rest has none
+  -- A put that waits goes with the record that it waits for. The one with the record of this number keeps the counts, and the rest has none
   pub record FallsApart (before : Held R D) (changed : Records R) (number : ℕ) (stay rest : Held R D) : Type 0 where
     pub shared : AreShared (get changed) (get stay.records) (get rest.records)
     pub devices : AreShared (get before.devices) (get stay.devices) (get rest.devices)
     pub own : IsSome (get stay.records number)
-    pub stays : stay ≡ anew stay.records stay.devices before.tally
-    pub leaves : rest ≡ anew rest.records rest.devices no_counts
+    pub waiting : WaitsGoAlong before.waiting stay.records stay.waiting
+    pub rest_waiting : WaitsGoAlong before.waiting rest.records rest.waiting
+    pub none_live : NoneIsLive before → NoneIsLive stay × NoneIsLive rest
+    pub stays : stay ≡ anew stay.records stay.devices stay.live stay.waiting before.tally
+    pub leaves : rest ≡ anew rest.records rest.devices rest.live rest.waiting no_counts
+
+  -- two sets may become one: each put that waits does so for a record of its set, none waits in both, and what is live on either, and what
+  -- waits, has room in one
+  pub record MayBeOne (before other : Held R D) : Type 0 where
+    pub own : (x : Waiting) → Contains before.waiting x → IsSome (get before.records x.target)
+    pub others_own : (x : Waiting) → Contains other.waiting x → IsSome (get other.records x.target)
+    pub apart : (x y : Waiting) → Contains before.waiting x → Contains other.waiting y → x.number ≢ y.number
+    pub live_fits : length (together before.live other.live) ≤ 256
+    pub waiting_fits : length before.waiting + length other.waiting ≤ 256
 
   -- two sets become one, which begins anew: it has these records, which are those of the one with a link changed, those of the other, the
-  -- devices of both, and their counts. The other has nothing then
+  -- devices of both, the puts that wait in the one and then those in the other, and the counts of both. The other has nothing then
   pub record BecomeOne (before other : Held R D) (changed : Records R) (both other_then : Held R D) : Type 0 where
     pub shared : AreShared (get both.records) (get changed) (get other.records)
     pub devices : AreShared (get both.devices) (get before.devices) (get other.devices)
-    pub all : both ≡ anew both.records both.devices (added before.tally other.tally)
+    pub waiting : both.waiting ≡ before.waiting ++ other.waiting
+    pub none_live : NoneIsLive before → NoneIsLive other → NoneIsLive both
+    pub all : both ≡ anew both.records both.devices both.live both.waiting (added before.tally other.tally)
     pub emptied : other_then ≡ nothing_held
 
   -- a link of a record is led from one set into another. With an empty link in its place the one falls apart into what stays with the
@@ -84,5 +109,5 @@ module _ {R D : Type 0} where
     pub falls : FallsApart before (relinked k before.records number field no_link) number stay rest
     pub joins : BecomeOne stay other (relinked k stay.records number field link) both other_then
     pub sound : IsSound k both
-    pub sent : with_records after.records come_to ≡ rewired k (device_of k (record_at k before.records number)) (begun_at moment (now_of both)) number
-    pub then_anew : after ≡ anew after.records both.devices both.tally
+    pub sent : with_kept after.records both.live both.waiting come_to ≡ rewired k (device_of k (record_at k before.records number)) (begun_at moment (now_of both)) number
+    pub then_anew : after ≡ anew after.records both.devices both.live both.waiting both.tally

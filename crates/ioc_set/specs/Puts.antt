@@ -25,6 +25,10 @@ now_with p live waiting = record p { live = live; waiting = waiting }
 abbrev pub begun_with : Puts → Puts
 begun_with p = record p { base_live = p.live; base_waiting = p.waiting }
 
+-- a history has begun with those that are there now
+abbrev pub HasBegun : Puts → Type 0
+HasBegun p = (p.base_live ≡ p.live) × (p.base_waiting ≡ p.waiting)
+
 -- none is live, and none waits
 abbrev pub AreNone : Puts → Type 0
 AreNone p = (p.live ≡ []) × (p.waiting ≡ [])

@@ -1,10 +1,13 @@
 //! What events leave of a lock set. Each function's contract is a law; its body is empty.
-ghost use Rattle.std.specs.Prelude.{◌≡◌, ◌≢◌, ◌<◌, ◌^◌, ℕ, true, false, [], ◌∷◌, length};
+ghost use Rattle.std.specs.Prelude.{◌≡◌, ◌≢◌, ◌<◌, ◌≤◌, ◌^◌, ℕ, true, false, List, [], ◌∷◌, length};
 ghost use Rattle.std.specs.FinMap.{len};
 ghost use Rattle.ioc_fields.specs.declared.field_no.FieldNo.{FieldNo};
 ghost use Rattle.ioc_common.specs.declared.link_field.LinkField.{LinkField};
 ghost use Rattle.ioc_common.specs.Links.{use_of, named_by};
 ghost use Rattle.ioc_ledger.specs.declared.tally.Tally.{Tally};
+ghost use Rattle.ioc_notify.specs.declared.live_numbers.Live.{Live};
+ghost use Rattle.ioc_notify.specs.declared.waiting_lists.Waiting.{Waiting};
+ghost use Rattle.ioc_notify.specs.Living.{is_live};
 ghost use Rattle.ioc_record.specs.Values.{stops_put};
 ghost use Rattle.ioc_ledger.specs.Requests.{Requests, None};
 ghost use Rattle.ioc_store.specs.Given.{Answers};
@@ -14,14 +17,15 @@ ghost use Rattle.ioc_store.specs.World.{World, common_at};
 ghost use Rattle.ioc_events.specs.declared.event.Event.TheVariants.{Link};
 ghost use Rattle.ioc_events.specs.declared.reply.Reply.TheVariants.{Notify, Plain};
 ghost use Rattle.ioc_events.specs.Step.{stepped, all_there};
-ghost use Rattle.ioc_events.specs.Holding.{IsCounted};
+ghost use Rattle.ioc_events.specs.Holding.{IsCounted, IsHeld};
 ghost use Rattle.ioc_events.specs.StepRules.{Replay, Step};
 ghost use Rattle.ioc_members.specs.Contents.{Records, Devices};
 ghost use Rattle.ioc_members.specs.Joined.{links_of, IsPart, HasLink};
 ghost use Rattle.ioc_events.specs.declared.event.Entry.{Entry};
-ghost use Rattle.ioc_set.specs.Held.{Held, NoneIsLive, folded, held_after};
+ghost use Rattle.ioc_set.specs.Held.{Held, NoneIsLive, now_of, folded, held_after};
 ghost use Rattle.ioc_set.specs.Doing.{is_ordinary, Does};
-ghost use Rattle.ioc_set.specs.Linking.{anew, AreCalm, with_link_changed};
+ghost use Rattle.ioc_set.specs.Linking.{anew, AreCalm, AreHeld, MayBeOne, with_link_changed};
+ghost use Rattle.ioc_set.specs.Recounting.{AreLive};
 ghost use Rattle.ioc_set.specs.Sound.{CountsAddUp, IsSound, TellsOf, is_put_with_notification};
 
 use ioc_device::Device;
@@ -81,7 +85,22 @@ pub fn notifications_begin_by_notify<K: RecordKind>()
 pub fn calm_records_are_sound<K: RecordKind, D>()
     ensures calm { (h : Held K D) → IsSound K.rules h → h.live ≡ [] → AreCalm K.rules h.records }
     ensures sound { (rs : Records K) (ds : Devices D) (counts : Tally) → IsPart (links_of K.rules rs) → AreCalm K.rules rs → len rs < 2 ^ 63 →
-        CountsAddUp counts → IsSound K.rules (anew rs ds counts) }
+        CountsAddUp counts → IsSound K.rules (anew rs ds [] [] counts) }
+{
+    events_count_holders::<K>();
+}
+
+/// The records of a sound set are held with its puts with notification: those are live that one of them has or that wait, and no more wait
+/// than are live. Records that are held with such puts, one part and fewer than 2^63, make a sound set that begins anew. And two sets
+/// on which none is live may become one.
+pub fn held_records_are_sound<K: RecordKind, D>()
+    ensures held { (h : Held K D) → IsSound K.rules h → AreHeld K.rules h.records h.live h.waiting }
+    ensures live { (h : Held K D) → IsSound K.rules h → AreLive K.rules h.records h.waiting h.live }
+    ensures holder { (h : Held K D) (n : ℕ) → IsSound K.rules h → is_live n h.live ≡ true → IsHeld K.rules (now_of h) n }
+    ensures fewer { (h : Held K D) → IsSound K.rules h → length h.waiting ≤ length h.live }
+    ensures sound { (rs : Records K) (ds : Devices D) (live : List Live) (waiting : List Waiting) (counts : Tally) → IsPart (links_of K.rules rs) →
+        AreHeld K.rules rs live waiting → len rs < 2 ^ 63 → CountsAddUp counts → IsSound K.rules (anew rs ds live waiting counts) }
+    ensures may_be_one { (h other : Held K D) → NoneIsLive h → NoneIsLive other → MayBeOne h other }
 {
     events_count_holders::<K>();
 }

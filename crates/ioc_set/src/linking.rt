@@ -1,5 +1,5 @@
 //! The steps of a link change on the members of lock sets.
-ghost use Rattle.std.specs.Prelude.{◌≡◌, [], IsSome};
+ghost use Rattle.std.specs.Prelude.{◌≡◌, ◌≤◌, [], length, IsSome};
 ghost use Rattle.std.specs.FinMap.{get};
 ghost use Rattle.ioc_members.specs.Contents.{RecordsAreLikeTheirBase};
 ghost use Rattle.ioc_store.specs.Scanning.{rewired};
@@ -7,7 +7,7 @@ ghost use Rattle.ioc_store.specs.World.{begun_at};
 ghost use Rattle.ioc_set.specs.Doing.{with_records};
 ghost use Rattle.ioc_set.specs.Held.{resting};
 ghost use Rattle.ioc_set.specs.Linking.{added};
-ghost use Rattle.ioc_set.specs.Puts.{AreNone, begun_with};
+ghost use Rattle.ioc_set.specs.Puts.{begun_with};
 ghost use Rattle.ioc_set.specs.SetStore.{world_of};
 
 use crate::live_puts::LivePuts;
@@ -23,7 +23,7 @@ use ioc_store::scan_change::rewire;
 use ioc_values::Short;
 use std::mem;
 
-/// A set on which no put with notification is live begins anew: its history is forgotten, so that each record is its own base.
+/// A set begins anew: its history is forgotten, so that each record is its own base, and the puts with notification are those before it.
 pub fn begin_anew<K: RecordKind, D>(
     members: &mut Members<K, D>,
     puts: &mut LivePuts,
@@ -32,14 +32,14 @@ pub fn begin_anew<K: RecordKind, D>(
     history: &mut Vec<Entry>,
 )
     requires like { RecordsAreLikeTheirBase K.rules members.old }
-    requires none { AreNone puts.old }
+    requires fits { length puts.old.waiting ≤ 256 }
     ensures members { members.new ≡ record members.old { base = members.old.records } }
     ensures puts { puts.new ≡ begun_with puts.old }
     ensures tally { base_tally.new ≡ tally.now }
     ensures history { history.new.items ≡ [] }
 {
     members.fold();
-    puts.begin_empty_history();
+    puts.begin_history();
     *base_tally = *tally;
     history.clear();
 }

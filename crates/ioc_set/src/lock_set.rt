@@ -1,5 +1,5 @@
 //! Lock sets.
-ghost use Rattle.std.specs.Prelude.{◌≡◌, ◌<◌, ◌≤◌, ◌+◌, ◌^◌, ◌↔◌, ℕ, true, List, [], ◌∷◌, None, IsSome, IsTrue, Contains, IfOk, OnOk, OnErr, slice_get, vec_len, vec_capacity};
+ghost use Rattle.std.specs.Prelude.{◌≡◌, ◌<◌, ◌≤◌, ◌+◌, ◌^◌, ◌↔◌, ℕ, true, List, [], ◌∷◌, length, None, IsSome, IsTrue, Contains, IfOk, OnOk, OnErr, slice_get, vec_len, vec_capacity};
 ghost use Rattle.std.specs.FinMap as map;
 ghost use Rattle.ioc_notify.specs.declared.live_numbers.Live.{Live};
 ghost use Rattle.ioc_notify.specs.declared.waiting_lists.Waiting.{Waiting};
@@ -15,14 +15,14 @@ ghost use Rattle.ioc_store.specs.World.{Has, at, common_at, begun_at};
 ghost use Rattle.ioc_members.specs.Contents.{RecordsAreLikeTheirBase};
 ghost use Rattle.ioc_members.specs.Joined.{links_of, IsPart, HasLink, HasFreeLink, relinked};
 ghost use Rattle.ioc_set.specs.Held.{NoneIsLive, now_of, resting, nothing_held, no_counts, folded};
-ghost use Rattle.ioc_set.specs.Linking.{anew, AreCalm, FallsApart, BecomeOne, LeadsInto, link_change_of};
+ghost use Rattle.ioc_set.specs.Linking.{anew, AreCalm, FallsApart, MayBeOne, BecomeOne, LeadsInto, link_change_of};
 ghost use Rattle.ioc_set.specs.Sound.{IsSound};
 ghost use Rattle.ioc_set.specs.SetStore.{world_of};
-ghost use Rattle.ioc_set.specs.Doing.{Does, held_by, with_place, with_records, is_done_on_sets};
+ghost use Rattle.ioc_set.specs.Doing.{Does, held_by, with_place, with_kept, is_done_on_sets};
 
-use crate::laws::{calm_records_are_sound, events_leave_sound};
+use crate::laws::{calm_records_are_sound, events_leave_sound, held_records_are_sound};
 use crate::linking::{add_counts, begin_anew, rescan_on};
-use crate::live_puts::LivePuts;
+use crate::live_puts::{LivePuts, PutsRoom, joined_puts, own_puts};
 use crate::no_calls::{why_not_put, why_not_shown};
 use crate::running::run_on;
 use crate::workplace::Workplace;
@@ -77,9 +77,9 @@ fn make_place<K: RecordKind, D>(
     tally: &Tally,
     base_tally: &mut Tally,
     history: &mut Vec<Entry>,
-    alloc: Global,
 ) -> Result<(), AllocError>
     requires like { RecordsAreLikeTheirBase K.rules members.old }
+    requires fits { length puts.old.waiting ≤ 256 }
     ensures held { OnOk result (held_by members.new puts.new base_tally.new tally.now history.new.items ≡ with_place (held_by members.old puts.old base_tally.old tally.now history.old.items)) }
     ensures puts { OnOk result (puts.new.has_room ≡ puts.old.has_room) }
     ensures like { RecordsAreLikeTheirBase K.rules members.new }
@@ -88,7 +88,7 @@ fn make_place<K: RecordKind, D>(
 {
     history.reserve(1)?;
     if history.len() == 64 {
-        puts.begin_history(alloc)?;
+        puts.begin_history();
         members.fold();
         *base_tally = *tally;
         history.clear();
@@ -216,6 +216,8 @@ impl<K: RecordKind + Drop, D: Device> LockSet<K, D> {
         ensures err { OnErr result (self.new ≡ self.old) }
     {
         events_leave_sound::<K, D>();
+        held_records_are_sound::<K, D>();
+        self.puts.are_few();
         place.make_room(self.members.len())?;
         self.puts.make_room_for(event, alloc)?;
         make_place(
@@ -224,7 +226,6 @@ impl<K: RecordKind + Drop, D: Device> LockSet<K, D> {
             &self.tally,
             &mut self.base_tally,
             &mut self.history,
-            alloc,
         )?;
         let entry = run_on(
             place,
@@ -360,7 +361,7 @@ impl<K: RecordKind, D> LockSet<K, D> {
         requires base { members.base ≡ members.records }
         requires part { IsPart (links_of K.rules members.records) }
         requires calm { AreCalm K.rules members.records }
-        ensures { result ≡ anew members.records members.devices no_counts }
+        ensures { result ≡ anew members.records members.devices [] [] no_counts }
     {
         calm_records_are_sound::<K, D>();
         members.are_few();
@@ -417,11 +418,23 @@ impl<K: RecordKind, D> LockSet<K, D> {
         self.members.are_few();
     }
 
-    /// Forgets the history. No put with notification is live on the set.
+    // Room for the puts with notification of both in one, where any is live; no room where none is.
+    fn puts_room_with(
+        &self,
+        other: &LockSet<K, D>,
+        alloc: Global,
+    ) -> Result<Option<PutsRoom>, AllocError>
+        ensures { IfOk result (λ room. room ≡ None → NoneIsLive self.now × NoneIsLive other.now) }
+    {
+        self.puts.room_with(&other.puts, alloc)
+    }
+
+    /// Forgets the history.
     pub fn fold(&mut self)
-        requires none { NoneIsLive self.old }
         ensures { self.new ≡ folded self.old }
     {
+        held_records_are_sound::<K, D>();
+        self.puts.are_few();
         begin_anew(
             &mut self.members,
             &mut self.puts,
@@ -442,8 +455,9 @@ impl<K: RecordKind, D> LockSet<K, D> {
 
 impl<K: RecordKind + Drop, D: Drop> LockSet<K, D> {
     /// Sets a link of a record: to nowhere, or to a record of this set. The set keeps the record's part and the counts, and the records
-    /// that no link joins to it any more come back as a set of their own, which may be empty. Nothing is sent yet: see [`LockSet::rescan`].
-    /// No put with notification is live on the set. `link` and `twin` are alike.
+    /// that no link joins to it any more come back as a set of their own, which may be empty. Each record keeps the notification that it has,
+    /// each put that waits goes with its record, and the holders of each are counted anew in both. Nothing is sent yet: see
+    /// [`LockSet::rescan`]. `link` and `twin` are alike.
     ///
     /// # Errors
     ///
@@ -456,7 +470,6 @@ impl<K: RecordKind + Drop, D: Drop> LockSet<K, D> {
         link: KeptLink,
         twin: KeptLink,
     ) -> Result<LockSet<K, D>, AllocError>
-        requires none { NoneIsLive self.old }
         requires twin { twin ≡ link }
         requires field { HasLink K.rules self.old.records number field }
         requires within { (t : ℕ) → Contains (named_by (use_of link)) t → IsSome (map.get self.old.records t) }
@@ -464,7 +477,8 @@ impl<K: RecordKind + Drop, D: Drop> LockSet<K, D> {
         ensures fewer { OnOk result (map.len self.new.records ≤ map.len self.old.records) }
         ensures err { OnErr result (self.new ≡ folded self.old) }
     {
-        calm_records_are_sound::<K, D>();
+        held_records_are_sound::<K, D>();
+        self.puts.are_few();
         begin_anew(
             &mut self.members,
             &mut self.puts,
@@ -472,26 +486,44 @@ impl<K: RecordKind + Drop, D: Drop> LockSet<K, D> {
             &mut self.base_tally,
             &mut self.history,
         );
+        let stay_room = self.puts.room(alloc)?;
+        let rest_room = self.puts.room(alloc)?;
         let rest = self.members.part(alloc, number, field, link, twin)?;
         self.members.are_few();
-        Ok(LockSet::of(alloc, rest))
+        rest.are_few();
+        let rest_puts = own_puts(&rest, &self.puts, rest_room, alloc);
+        let stay_puts = own_puts(&self.members, &self.puts, stay_room, alloc);
+        self.puts = stay_puts;
+        let none = Tally::default();
+        Ok(LockSet {
+            members: rest,
+            puts: rest_puts,
+            tally: none,
+            base_tally: none,
+            history: Vec::new(alloc),
+        })
     }
 }
 
 impl<K: RecordKind + Drop, D: Drop> LockSet<K, D> {
     /// Sets a link of a record, which stood nowhere, to a record of another set, and takes over that set with its devices and its
-    /// counts, in a room that was taken before. The other has nothing then. Nothing is sent yet: see [`LockSet::rescan`]. No put with
-    /// notification is live on the sets. `link` and `twin` are alike.
+    /// counts, in a room that was taken before. The other has nothing then. Each record keeps the notification that it has, the puts that
+    /// wait in the other come behind those that wait here, and the holders of each are counted anew: for that, too, room was taken before, if
+    /// any is live. No put waits in both, and those that are live have room in one. Nothing is sent yet: see [`LockSet::rescan`]. `link` and
+    /// `twin` are alike.
     pub fn unite(
         &mut self,
+        alloc: Global,
         room: Room<K, D>,
+        puts_room: Option<PutsRoom>,
         other: &mut LockSet<K, D>,
         number: RecordNo,
         field: FieldNo,
         link: KeptLink,
         twin: KeptLink,
     )
-        requires none { NoneIsLive self.old × NoneIsLive other.old }
+        requires one { MayBeOne self.old other.old }
+        requires puts_room { puts_room ≡ None → NoneIsLive self.old × NoneIsLive other.old }
         requires room { map.len self.old.records + map.len other.old.records ≤ room.count }
         requires twin { twin ≡ link }
         requires apart { (q : ℕ) → IsSome (map.get self.old.records q) → map.get other.old.records q ≡ None }
@@ -499,7 +531,9 @@ impl<K: RecordKind + Drop, D: Drop> LockSet<K, D> {
         requires to { (t : ℕ) × (named_by (use_of link) ≡ t ∷ []) × IsSome (map.get other.old.records t) }
         ensures { BecomeOne self.old other.old (relinked K.rules self.old.records number field link) self.new other.new }
     {
-        calm_records_are_sound::<K, D>();
+        held_records_are_sound::<K, D>();
+        self.puts.are_few();
+        other.puts.are_few();
         begin_anew(
             &mut self.members,
             &mut self.puts,
@@ -517,6 +551,9 @@ impl<K: RecordKind + Drop, D: Drop> LockSet<K, D> {
         self.members
             .join_in(room, &mut other.members, number, field, link, twin);
         self.members.are_few();
+        let puts = joined_puts(&self.members, &self.puts, &other.puts, puts_room, alloc);
+        self.puts = puts;
+        other.puts = LivePuts::none(alloc);
         add_counts(&mut self.tally, &other.tally);
         self.base_tally = self.tally;
         other.tally = Tally::default();
@@ -526,7 +563,7 @@ impl<K: RecordKind + Drop, D: Drop> LockSet<K, D> {
 
 impl<K: RecordKind + Drop, D: Device> LockSet<K, D> {
     /// A link of a record that is there was set, whose device link had this text before: where it has another now, a change of its
-    /// scan list is sent. The set begins anew. No put with notification is live on it.
+    /// scan list is sent. The set begins anew.
     pub fn rescan(
         &mut self,
         place: &mut Workplace<K, D>,
@@ -534,12 +571,12 @@ impl<K: RecordKind + Drop, D: Device> LockSet<K, D> {
         before: Short<MAX_DEVICE_BYTES>,
         moment: u64,
     )
-        requires none { NoneIsLive self.old }
         requires there { Has (now_of self.old) number }
-        ensures left { with_records self.new.records (world_of place.new.store) ≡ rewired K.rules before (begun_at moment (now_of self.old)) number }
-        ensures held { self.new ≡ anew self.new.records self.old.devices self.old.tally }
+        ensures left { with_kept self.new.records self.old.live self.old.waiting (world_of place.new.store) ≡ rewired K.rules before (begun_at moment (now_of self.old)) number }
+        ensures held { self.new ≡ anew self.new.records self.old.devices self.old.live self.old.waiting self.old.tally }
     {
-        calm_records_are_sound::<K, D>();
+        held_records_are_sound::<K, D>();
+        self.puts.are_few();
         rescan_on(place, &mut self.members, moment, number, before);
         begin_anew(
             &mut self.members,
@@ -552,8 +589,8 @@ impl<K: RecordKind + Drop, D: Device> LockSet<K, D> {
     }
 
     /// Changes a link of a record: it leads nowhere then, or to a record of this set. The set keeps the record's part and the counts,
-    /// and the records that no link joins to it any more come back as a set of their own, which may be empty. No put with notification is
-    /// live on the set. `link` and `twin` are alike.
+    /// and the records that no link joins to it any more come back as a set of their own, which may be empty. Puts with notification that are
+    /// live go with their records, as [`LockSet::split`] says. `link` and `twin` are alike.
     ///
     /// # Errors
     ///
@@ -568,12 +605,11 @@ impl<K: RecordKind + Drop, D: Device> LockSet<K, D> {
         twin: KeptLink,
         moment: u64,
     ) -> Result<LockSet<K, D>, AllocError>
-        requires none { NoneIsLive self.old }
         requires twin { twin ≡ link }
         requires field { HasLink K.rules self.old.records number field }
         requires within { (t : ℕ) → Contains (named_by (use_of link)) t → IsSome (map.get self.old.records t) }
         ensures apart { IfOk result (λ rest. FallsApart self.old (link_change_of K.rules self.old moment number field link).records number self.new rest) }
-        ensures left { OnOk result (with_records (link_change_of K.rules self.old moment number field link).records (world_of place.new.store) ≡ link_change_of K.rules self.old moment number field link) }
+        ensures left { OnOk result (with_kept (link_change_of K.rules self.old moment number field link).records self.old.live self.old.waiting (world_of place.new.store) ≡ link_change_of K.rules self.old moment number field link) }
         ensures err { OnErr result (self.new ≡ folded self.old) }
     {
         let before = self.device_text(number);
@@ -584,7 +620,8 @@ impl<K: RecordKind + Drop, D: Device> LockSet<K, D> {
 
     /// Leads a link of a record of this set to a record of another, which it takes over with its devices and its counts. The records of this
     /// set that the link alone had joined to that record come back as a set of their own, which may be empty; the other has nothing then.
-    /// All memory is taken before anything changes. No put with notification is live on the sets. `link` and `twin` are alike.
+    /// Puts with notification that are live go with their records, as [`LockSet::split`] and [`LockSet::unite`] say; no put waits in both sets,
+    /// and those that are live have room in one. All memory is taken before anything changes. `link` and `twin` are alike.
     ///
     /// # Errors
     ///
@@ -600,7 +637,7 @@ impl<K: RecordKind + Drop, D: Device> LockSet<K, D> {
         twin: KeptLink,
         moment: u64,
     ) -> Result<LockSet<K, D>, AllocError>
-        requires none { NoneIsLive self.old × NoneIsLive other.old }
+        requires one { MayBeOne self.old other.old }
         requires twin { twin ≡ link }
         requires apart { (q : ℕ) → IsSome (map.get self.old.records q) → map.get other.old.records q ≡ None }
         requires field { HasLink K.rules self.old.records number field }
@@ -608,13 +645,18 @@ impl<K: RecordKind + Drop, D: Device> LockSet<K, D> {
         ensures led { IfOk result (λ rest. LeadsInto K.rules self.old other.old moment number field link self.new other.new rest (world_of place.new.store)) }
         ensures err { OnErr result ((self.new ≡ folded self.old) × (other.new ≡ other.old)) }
     {
+        held_records_are_sound::<K, D>();
         self.are_few();
         other.are_few();
+        self.is_sound();
+        other.is_sound();
         self.fold();
         let room = Room::new(alloc, self.len() + other.len())?;
+        let puts_room = self.puts_room_with(other, alloc)?;
         let before = self.device_text(number);
         let rest = self.split(alloc, number, field, KeptLink::empty(), KeptLink::empty())?;
-        self.unite(room, other, number, field, link, twin);
+        self.is_sound();
+        self.unite(alloc, room, puts_room, other, number, field, link, twin);
         self.is_sound();
         self.rescan(place, number, before, moment);
         Ok(rest)

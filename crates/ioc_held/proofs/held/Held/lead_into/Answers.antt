@@ -12,13 +12,13 @@ use Rattle.ioc_holding.specs.Legal.{map_of}
 use Rattle.ioc_journal.specs.Account.{BothMayFollow, AddedByBoth}
 use Rattle.ioc_line.specs.declared.entry.Note.{Note}
 use Rattle.ioc_line.specs.declared.room.View.{View}
-use Rattle.ioc_set.specs.Held.{Held, now_of, no_counts}
+use Rattle.ioc_set.specs.Held.{Held, now_of}
 use Rattle.ioc_set.specs.SetStore.{world_of}
 use Rattle.ioc_held.specs.Holding.{Pass, HeldView, IsHeld}
 use Rattle.ioc_held.specs.LinkChanges.{link_change}
 use Rattle.ioc_held.proofs.Dealing.{dealt_owner, both_may_follow, known_then}
-use Rattle.ioc_held.proofs.Leading.{lead_within, lead_apart, lead_goes_on}
-use Rattle.ioc_held.proofs.Nothing.{nothing_is_held, none_anew}
+use Rattle.ioc_held.proofs.Leading.{lead_within, lead_apart, lead_goes_on, lead_none}
+use Rattle.ioc_held.proofs.Nothing.{nothing_is_held}
 use Rattle.ioc_held.proofs.Parting.{takes_link}
 use Rattle.ioc_held.proofs.held.Held.lead_into.Goals as goal
 
@@ -86,7 +86,7 @@ keep_change-receipt-requires-clause-follows g c =
     let also_held = subst (λ (o : Option Pass). IsHeld k base g.B.Room.table o also) (sym c.take-2.ensures.value ∙ c.in-Some-take.is) c.other.invariant in
     let to = subst (λ (h : Held g.row.K.Denot g.row.D.Denot). (t : ℕ) × (named_by (use_of c.args.link) ≡ t ∷ []) × IsSome (get h.records t)) (sym also_same) c.requires.to in
     let goes = lead_goes_on k before also c.lead_into.new.self c.lead_into.new.other c.in-Ok.rest c.args.moment c.args.number c.args.field c.args.link (world_of c.lead_into.new.place.store) takes c.in-Ok.ensures.led apart
-    c.holding_lasts.ensures c.led_sets_are_held.ensures held.none_live.1 also_held.none_live.1 to c.is_sound.ensures
+    c.holding_lasts.ensures c.led_sets_are_held.ensures to c.is_sound.ensures
     base pass.seen pass.owns beside.seen beside.owns held.owner.covers held.holds also_held.owner.covers also_held.holds in
     subst (λ (l : LinkField). BothMayFollow k base pass.seen pass.owns beside.seen beside.owns (link_change c.args.moment c.args.number c.args.field l)) (sym c.get-chosen.ensures)
     (both_may_follow k base c.args.moment c.args.number c.args.field c.args.link pass.seen pass.owns beside.seen beside.owns (λ (m : World g.row.K.Denot). Holds k m (now_of c.lead_into.new.self) × Holds k m (now_of c.in-Ok.rest)) goes)
@@ -110,7 +110,7 @@ invariant_of-self-2 g c =
     let also_held = subst (λ (o : Option Pass). IsHeld k base g.B.Room.table o also) (sym c.take-2.ensures.value ∙ c.in-Some-take.is) c.other.invariant in
     let to = subst (λ (h : Held g.row.K.Denot g.row.D.Denot). (t : ℕ) × (named_by (use_of c.args.link) ≡ t ∷ []) × IsSome (get h.records t)) (sym also_same) c.requires.to in
     let goes = lead_goes_on k before also c.lead_into.new.self c.lead_into.new.other c.in-Ok.rest c.args.moment c.args.number c.args.field c.args.link (world_of c.lead_into.new.place.store) takes c.in-Ok.ensures.led apart
-    c.holding_lasts.ensures c.led_sets_are_held.ensures held.none_live.1 also_held.none_live.1 to c.is_sound.ensures
+    c.holding_lasts.ensures c.led_sets_are_held.ensures to c.is_sound.ensures
     base pass.seen pass.owns beside.seen beside.owns held.owner.covers held.holds also_held.owner.covers also_held.holds in
     let added = subst (λ (l : LinkField). (log : List Note) × AddedByBoth k base pass.seen pass.owns beside.seen beside.owns (link_change c.args.moment c.args.number c.args.field l) log c.keep_change-receipt.new.desk.seen)
     c.get-chosen.ensures c.keep_change-receipt.ensures.added in
@@ -119,7 +119,7 @@ invariant_of-self-2 g c =
     record {
       owner = dealt_owner g.B.Room.table _ (cell_view c.keep_change-receipt.new.one) c.keep_change-receipt.new.desk.seen c.lead_into.new.self one.0 one.1;
       holds = subst (λ (x : View). Holds k (map_of k base x.seen) (now_of c.lead_into.new.self)) (sym one.1) then.0;
-      none_live = none_anew c.lead_into.new.self c.lead_into.new.self.records c.in-Ok.ensures.led.both.devices c.in-Ok.ensures.led.both.tally c.in-Ok.ensures.led.then_anew;
+      none_live = (lead_none k before also c.lead_into.new.self c.lead_into.new.other c.in-Ok.rest c.args.moment c.args.number c.args.field c.args.link (world_of c.lead_into.new.place.store) c.in-Ok.ensures.led held.none_live also_held.none_live).0;
     }
 
 pub invariant_of-rest : goal.invariant_of-rest
@@ -141,7 +141,7 @@ invariant_of-rest g c =
     let also_held = subst (λ (o : Option Pass). IsHeld k base g.B.Room.table o also) (sym c.take-2.ensures.value ∙ c.in-Some-take.is) c.other.invariant in
     let to = subst (λ (h : Held g.row.K.Denot g.row.D.Denot). (t : ℕ) × (named_by (use_of c.args.link) ≡ t ∷ []) × IsSome (get h.records t)) (sym also_same) c.requires.to in
     let goes = lead_goes_on k before also c.lead_into.new.self c.lead_into.new.other c.in-Ok.rest c.args.moment c.args.number c.args.field c.args.link (world_of c.lead_into.new.place.store) takes c.in-Ok.ensures.led apart
-    c.holding_lasts.ensures c.led_sets_are_held.ensures held.none_live.1 also_held.none_live.1 to c.is_sound.ensures
+    c.holding_lasts.ensures c.led_sets_are_held.ensures to c.is_sound.ensures
     base pass.seen pass.owns beside.seen beside.owns held.owner.covers held.holds also_held.owner.covers also_held.holds in
     let added = subst (λ (l : LinkField). (log : List Note) × AddedByBoth k base pass.seen pass.owns beside.seen beside.owns (link_change c.args.moment c.args.number c.args.field l) log c.keep_change-receipt.new.desk.seen)
     c.get-chosen.ensures c.keep_change-receipt.ensures.added in
@@ -150,7 +150,7 @@ invariant_of-rest g c =
     record {
       owner = dealt_owner g.B.Room.table _ (cell_view c.keep_change-receipt.new.other) c.keep_change-receipt.new.desk.seen c.in-Ok.rest two.0 two.1;
       holds = subst (λ (x : View). Holds k (map_of k base x.seen) (now_of c.in-Ok.rest)) (sym two.1) then.1;
-      none_live = none_anew c.in-Ok.rest c.in-Ok.rest.records c.in-Ok.rest.devices no_counts c.in-Ok.ensures.led.falls.leaves;
+      none_live = (lead_none k before also c.lead_into.new.self c.lead_into.new.other c.in-Ok.rest c.args.moment c.args.number c.args.field c.args.link (world_of c.lead_into.new.place.store) c.in-Ok.ensures.led held.none_live also_held.none_live).1;
     }
 
 pub invariant_of-other-2 : goal.invariant_of-other-2

@@ -12,11 +12,10 @@ use Rattle.ioc_holding.specs.Legal.{map_of}
 use Rattle.ioc_journal.specs.Account.{IsHolder, AreNoDesks, BothMayFollow, AddedByBoth}
 use Rattle.ioc_line.specs.declared.entry.Note.{Note}
 use Rattle.ioc_line.specs.declared.room.View.{View}
-use Rattle.ioc_set.specs.Held.{now_of, no_counts}
+use Rattle.ioc_set.specs.Held.{now_of}
 use Rattle.ioc_held.specs.Holding.{Pass, HeldView, IsHeld}
 use Rattle.ioc_held.specs.LinkChanges.{link_change}
 use Rattle.ioc_held.proofs.Dealing.{dealt_owner, both_may_follow, known_then}
-use Rattle.ioc_held.proofs.Nothing.{none_anew}
 use Rattle.ioc_held.proofs.Parting.{takes_link, part_within, part_apart, part_goes_on}
 use Rattle.ioc_held.proofs.held.Held.part.Goals as goal
 
@@ -67,7 +66,7 @@ keep_change-receipt-requires-clause-follows g c =
     let known = subst (λ (x : View). Cover x.owns (now_of before) × Holds k (map_of k base x.seen) (now_of before)) (sym c.again-other.ensures.kept.1) (held.owner.covers, held.holds) in
     let other = cell_view c.again-other.result in
     let goes = part_goes_on k before c.part.new.self c.in-Ok.rest c.args.moment c.args.number c.args.field c.args.link takes c.in-Ok.ensures.apart
-    c.holding_lasts.ensures c.parted_sets_are_held.ensures held.none_live.1 within c.is_sound.ensures c.is_sound-2.ensures
+    c.holding_lasts.ensures c.parted_sets_are_held.ensures within c.is_sound.ensures c.is_sound-2.ensures
     base pass.seen pass.owns other.seen other.owns known.0 known.1 in
     subst (λ (l : LinkField). BothMayFollow k base pass.seen pass.owns other.seen other.owns (link_change c.args.moment c.args.number c.args.field l)) (sym c.get-chosen.ensures)
     (both_may_follow k base c.args.moment c.args.number c.args.field c.args.link pass.seen pass.owns other.seen other.owns (λ (m : World g.row.K.Denot). Holds k m (now_of c.part.new.self) × Holds k m (now_of c.in-Ok.rest)) goes)
@@ -87,7 +86,7 @@ invariant_of-self-2 g c =
     let known = subst (λ (x : View). Cover x.owns (now_of before) × Holds k (map_of k base x.seen) (now_of before)) (sym c.again-other.ensures.kept.1) (held.owner.covers, held.holds) in
     let other = cell_view c.again-other.result in
     let goes = part_goes_on k before c.part.new.self c.in-Ok.rest c.args.moment c.args.number c.args.field c.args.link takes c.in-Ok.ensures.apart
-    c.holding_lasts.ensures c.parted_sets_are_held.ensures held.none_live.1 within c.is_sound.ensures c.is_sound-2.ensures
+    c.holding_lasts.ensures c.parted_sets_are_held.ensures within c.is_sound.ensures c.is_sound-2.ensures
     base pass.seen pass.owns other.seen other.owns known.0 known.1 in
     let added = subst (λ (l : LinkField). (log : List Note) × AddedByBoth k base pass.seen pass.owns other.seen other.owns (link_change c.args.moment c.args.number c.args.field l) log c.keep_change-receipt.new.desk.seen)
     c.get-chosen.ensures c.keep_change-receipt.ensures.added in
@@ -96,7 +95,7 @@ invariant_of-self-2 g c =
     record {
       owner = dealt_owner g.B.Room.table _ (cell_view c.keep_change-receipt.new.one) c.keep_change-receipt.new.desk.seen c.part.new.self one.0 one.1;
       holds = subst (λ (x : View). Holds k (map_of k base x.seen) (now_of c.part.new.self)) (sym one.1) then.0;
-      none_live = none_anew c.part.new.self c.part.new.self.records c.part.new.self.devices before.tally c.in-Ok.ensures.apart.stays;
+      none_live = (c.in-Ok.ensures.apart.none_live held.none_live).0;
     }
 
 pub invariant_of-rest : goal.invariant_of-rest
@@ -114,7 +113,7 @@ invariant_of-rest g c =
     let known = subst (λ (x : View). Cover x.owns (now_of before) × Holds k (map_of k base x.seen) (now_of before)) (sym c.again-other.ensures.kept.1) (held.owner.covers, held.holds) in
     let other = cell_view c.again-other.result in
     let goes = part_goes_on k before c.part.new.self c.in-Ok.rest c.args.moment c.args.number c.args.field c.args.link takes c.in-Ok.ensures.apart
-    c.holding_lasts.ensures c.parted_sets_are_held.ensures held.none_live.1 within c.is_sound.ensures c.is_sound-2.ensures
+    c.holding_lasts.ensures c.parted_sets_are_held.ensures within c.is_sound.ensures c.is_sound-2.ensures
     base pass.seen pass.owns other.seen other.owns known.0 known.1 in
     let added = subst (λ (l : LinkField). (log : List Note) × AddedByBoth k base pass.seen pass.owns other.seen other.owns (link_change c.args.moment c.args.number c.args.field l) log c.keep_change-receipt.new.desk.seen)
     c.get-chosen.ensures c.keep_change-receipt.ensures.added in
@@ -123,5 +122,5 @@ invariant_of-rest g c =
     record {
       owner = dealt_owner g.B.Room.table _ (cell_view c.keep_change-receipt.new.other) c.keep_change-receipt.new.desk.seen c.in-Ok.rest two.0 two.1;
       holds = subst (λ (x : View). Holds k (map_of k base x.seen) (now_of c.in-Ok.rest)) (sym two.1) then.1;
-      none_live = none_anew c.in-Ok.rest c.in-Ok.rest.records c.in-Ok.rest.devices no_counts c.in-Ok.ensures.apart.leaves;
+      none_live = (c.in-Ok.ensures.apart.none_live held.none_live).1;
     }

@@ -1,11 +1,14 @@
-use Rattle.ioc_set.proofs.Anew.{none_inside}
+use Rattle.std.proofs.Common.{arith}
+use Rattle.ioc_set.specs.Doing.{held_by}
 use Rattle.ioc_set.proofs.Linked.{folded_holds}
 use Rattle.ioc_set.proofs.lock_set.LockSet.fold.Goals as goal
 
-pub begin_anew-requires-clause-none : goal.begin_anew-requires-clause-none
-begin_anew-requires-clause-none g c =
+pub begin_anew-requires-clause-fits : goal.begin_anew-requires-clause-fits
+begin_anew-requires-clause-fits g c =
     let inside = c.self.inside in
-    none_inside inside.members inside.puts inside.base_tally inside.tally inside.history.items c.args.self.now c.self.view_is c.requires.none
+    let few = c.are_few.ensures in
+    let fewer = c.held_records_are_sound.ensures.fewer (held_by inside.members inside.puts inside.base_tally inside.tally inside.history.items) c.self.invariant.0 in
+    omega (arith, few, fewer)
 
 pub invariant_of-self : goal.invariant_of-self
 invariant_of-self g c =
