@@ -1,10 +1,10 @@
-mod Basics
+pub mod Basics
 mod Summing
 mod Few
 mod Lists
 mod Lasting
-mod Placing
-mod LiveFew
+pub mod Placing
+pub mod LiveFew
 mod Doing
 mod Sharing
 mod Replaying

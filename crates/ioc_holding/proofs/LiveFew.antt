@@ -24,17 +24,17 @@ use Rattle.ioc_holding.proofs.Placing.{there-counted, few-of, some-live, live-on
 
 -- ---- the numbers of those that are live
 
-abbrev numbers : List Live → List ℕ
+abbrev pub numbers : List Live → List ℕ
 numbers ls = map (λ (l : Live). l.number) ls
 
-number-there : (n : ℕ) (ls : List Live) → is_live n ls ≡ true → Contains (numbers ls) n
+pub number-there : (n : ℕ) (ls : List Live) → is_live n ls ≡ true → Contains (numbers ls) n
 number-there n [] is = cc
 number-there n (l ∷ ls) is = elim (eqb l.number n) as (λ b. eqb l.number n ≡ b → (b || is_live n ls) ≡ true → Contains (l.number ∷ numbers ls) n) [
   | true ↦ λ e _. (0, omega arith, eqb-true l.number n e)
   | false ↦ λ _ rest. later l.number (numbers ls) n (number-there n ls rest)
 ] refl is
 
-entry-live : (ls : List Live) (l : Live) → Contains ls l → is_live l.number ls ≡ true
+pub entry-live : (ls : List Live) (l : Live) → Contains ls l → is_live l.number ls ≡ true
 entry-live ls l c = some-live l.number ls (there-counted (λ (x : Live). x.number) ls l c)
 
 same-number : {a b : ℕ} → Notify-reply a ≡ Notify-reply b → a ≡ b

@@ -119,13 +119,13 @@ module _ {R : Type 0} (k : RecordRules R) where
     pub has-live : (n : ℕ) → is_live n w.live ≡ true → 1 ≤ holders k w n
     has-live n is = let some = live-some n w.live is in let once = counted.counted.live n in one-if (holders k w n) (omega arith)
 
-    is-held-live : (n : ℕ) → 1 ≤ holders k w n → is_live n w.live ≡ true
+    pub is-held-live : (n : ℕ) → 1 ≤ holders k w n → is_live n w.live ≡ true
     is-held-live n some = let once = counted.counted.live n in let one = if-one (holders k w n) some in some-live n w.live (omega arith)
 
     has-entry : (l : Live) → Contains w.live l → 1 ≤ holders k w l.number
     has-entry l c = let some = there-counted (λ (x : Live). x.number) w.live l c in let once = counted.counted.live l.number in one-if (holders k w l.number) (omega arith)
 
-    has-waiting : (x : Waiting) → Contains w.waiting x → 1 ≤ holders k w x.number
+    pub has-waiting : (x : Waiting) → Contains w.waiting x → 1 ≤ holders k w x.number
     unfolding holders
     has-waiting x c = let some = there-counted (λ (y : Waiting). y.number) w.waiting x c in omega arith
 
@@ -153,6 +153,13 @@ module _ {R : Type 0} (k : RecordRules R) where
             let none_waits = ap (of-number n) (nobody-waits v.waiting q (λ x c e. out (subst (λ (t : ℕ). Has v t) e (holds.within x c)))) in
             omega (arith, record_none, none_waits)
       ] refl
+
+  -- what is live in what is held is live in all
+  pub held-live : (m v : World R) → Holds k m v → IsCounted k m → IsCounted k v → (n : ℕ) → is_live n v.live ≡ true → is_live n m.live ≡ true
+  held-live m v holds counted own n is =
+      let fewer = held-fewer m v holds n in
+      let some = has-live v own n is in
+      is-held-live m counted n (omega (arith, fewer, some))
 
   pub held-are-fewer : HeldAreFewer k
   held-are-fewer m v holds counted own n =
