@@ -35,7 +35,7 @@ pub one-there : {X : Type 0} (x y : X) → Contains (x ∷ []) y → x ≡ y
 one-there x y (zero, lt, is) = is
 one-there x y (suc i, lt, is) = absurd (omega arith)
 
-later : {X : Type 0} (y : X) (xs : List X) (x : X) → Contains xs x → Contains (y ∷ xs) x
+pub later : {X : Type 0} (y : X) (xs : List X) (x : X) → Contains xs x → Contains (y ∷ xs) x
 later y xs x (i, lt, is) = (suc i, omega (arith, lt), is)
 
 -- one that passes is among those that do, and nothing else is

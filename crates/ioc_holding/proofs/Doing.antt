@@ -1,7 +1,8 @@
 -- An event of held records is the same event of all.
-use Rattle.std.proofs.Common.{◌≡◌, ◌≢◌, ℕ, ◌+◌, Bool, true, false, List, [], ◌∷◌, Option, Some, refl, sym, ap, subst, ◌∙◌, arith}
+use Rattle.std.proofs.Common.{◌≡◌, ◌≢◌, ℕ, ◌+◌, Bool, true, false, length, List, [], ◌∷◌, Option, Some, refl, sym, ap, subst, ◌∙◌, arith}
 use Rattle.std.specs.Prelude.{is_some, unwrap_or, Contains}
 use Rattle.std.specs.FinMap.{get, contains_key}
+use Rattle.ioc_notify.specs.declared.live_numbers.Live.{Live}
 use Rattle.ioc_notify.specs.declared.waiting_lists.Waiting.{Waiting}
 use Rattle.ioc_notify.specs.Waits.{at_record}
 use Rattle.ioc_record.specs.RecordRules.{RecordRules, targets}
@@ -17,12 +18,13 @@ use Rattle.ioc_events.specs.Starting.{NoneReady, is_ready}
 use Rattle.ioc_events.specs.Step.{stepped, names}
 use Rattle.ioc_events.specs.StepRules.{KeepsRecords}
 use Rattle.ioc_line.specs.declared.entry.Note.{Note}
-use Rattle.ioc_holding.specs.Legal.{entry_of, done, map_of, Fits, IsSound}
+use Rattle.ioc_holding.specs.Legal.{entry_of, done, map_of, Fits, IsLegal, IsSound}
 use Rattle.ioc_holding.specs.Held.{Holds, IsDone, IsOf, CancelsWithin}
 use Rattle.ioc_holding.specs.EventLaws.{EventLaws}
 use Rattle.ioc_holding.specs.Laws.{OneMore, HoldersMove, MovesAlike, BeginsSound, StaysSound}
 use Rattle.ioc_holding.proofs.Basics.{not_both, not_true, same_option, is-none, waits-too, missing-names}
 use Rattle.ioc_holding.proofs.Lists.{goes-on, map-join}
+use Rattle.ioc_holding.proofs.LiveFew.{done-few}
 use Rattle.ioc_holding.proofs.Summing.{point, same-point, holders-moved}
 
 module _ {R : Type 0} (k : RecordRules R) where
@@ -56,22 +58,25 @@ module _ {R : Type 0} (k : RecordRules R) where
         let d = stepped k answers w event in
         laws.counted answers w d.world event d.reply d.requests (laws.allowed answers w event) (begun-counted (entry_of n).moment m counted)
 
-    pub done-sound : (m : World R) (n : Note) → IsSound k m → IsSound k (done k m n).world
+    done-none : (m : World R) (n : Note) → NoneReady k m → NoneReady k (done k m n).world
     unfolding done
-    done-sound m n sound =
+    done-none m n none =
         let answers = listed (entry_of n).answers in
         let w = begun_at (entry_of n).moment m in
         let event = (entry_of n).event in
         let d = stepped k answers w event in
-        let step = laws.allowed answers w event in
-        record {
-          counted = done-counted m n sound.counted;
-          none_ready = laws.none_ready answers w d.world event d.reply d.requests step (begun-none (entry_of n).moment m sound.none_ready);
-        }
+        laws.none_ready answers w d.world event d.reply d.requests (laws.allowed answers w event) (begun-none (entry_of n).moment m none)
 
-    pub sound-on : (notes : List Note) (m : World R) → IsSound k m → IsSound k (map_of k m notes)
-    sound-on [] m sound = sound
-    sound-on (n ∷ notes) m sound = sound-on notes (done k m n).world (done-sound m n sound)
+    done-sound : (m : World R) (n : Note) → IsSound k m → Fits k m n → IsSound k (done k m n).world
+    done-sound m n sound fits = record {
+      counted = done-counted m n sound.counted;
+      none_ready = done-none m n sound.none_ready;
+      few = done-few k laws m n fits sound.counted (done-counted m n sound.counted) sound.few;
+    }
+
+    pub sound-on : (notes : List Note) (m : World R) → IsSound k m → IsLegal k m notes → IsSound k (map_of k m notes)
+    sound-on [] m sound legal = sound
+    sound-on (n ∷ notes) m sound legal = sound-on notes (done k m n).world (done-sound m n sound legal.0) legal.1
 
     done-kept : (v : World R) (n : Note) → IsClosed k v → KeepsRecords v (done k v n).world
     unfolding begun begun_at done
@@ -226,11 +231,11 @@ module _ {R : Type 0} (k : RecordRules R) where
       held = moved;
       of_all = λ number.
           let before = sound.counted.counted.counted number in
-          let after = (done-sound laws m n sound).counted.counted.counted number in
+          let after = (done-counted laws m n sound.counted).counted.counted number in
           omega (arith, moved number, before, after);
       live = λ counted number.
           let before = sound.counted.counted.counted number in
-          let after = (done-sound laws m n sound).counted.counted.counted number in
+          let after = (done-counted laws m n sound.counted).counted.counted number in
           let own_before = counted.counted.counted number in
           let own_after = (done-counted laws v n counted).counted.counted number in
           omega (arith, moved number, before, after, own_before, own_after);
@@ -251,7 +256,7 @@ module _ {R : Type 0} (k : RecordRules R) where
       live = λ out number.
           let moved = done-moves.held number in
           let before = sound.counted.counted.counted number in
-          let after = (done-sound laws m n sound).counted.counted.counted number in
+          let after = (done-counted laws m n sound.counted).counted.counted number in
           let same = of.live out number in
           omega (arith, moved, before, after, same);
     }
@@ -285,31 +290,40 @@ module _ {R : Type 0} (k : RecordRules R) (lawful : IsLawful k) (laws : EventLaw
   pub holders-move : HoldersMove k
   holders-move base v w log n sound legal holds of is =
       let m = map_of k base log in
-      let moves = done-moves k lawful laws m v n (sound-on k laws log base sound) holds of in
+      let moves = done-moves k lawful laws m v n (sound-on k laws log base sound legal) holds of in
       subst (λ (x : World R). MovesAlike k m x v w) (sym (map-join k log (n ∷ []) base)) (subst (λ (x : World R). MovesAlike k m (done k m n).world v x) is.world moves)
 
   pub one-more : OneMore k
   one-more base v w log n sound legal holds of is =
       let m = map_of k base log in
-      let known = sound-on k laws log base sound in
+      let known = sound-on k laws log base sound legal in
       goes-on k base log n (λ (m : World R). Holds k m w) legal (event-fits k lawful laws m v n known holds of w is)
       (subst (λ (x : World R). Holds k (done k m n).world x) is.world (done-held k lawful laws m v n known holds of))
 
-  kept-on : (notes : List Note) (m : World R) → IsSound k m → KeepsRecords m (map_of k m notes)
-  kept-on [] m sound = record { has = λ n h. h; only = λ n h. h; count = refl }
-  kept-on (n ∷ notes) m sound =
-      let first = done-kept k laws m n sound.counted.closed in
-      let rest = kept-on notes (done k m n).world (done-sound k laws m n sound) in
+  kept-on : (notes : List Note) (m : World R) → IsCounted k m → KeepsRecords m (map_of k m notes)
+  kept-on [] m counted = record { has = λ n h. h; only = λ n h. h; count = refl }
+  kept-on (n ∷ notes) m counted =
+      let first = done-kept k laws m n counted.closed in
+      let rest = kept-on notes (done k m n).world (done-counted k laws m n counted) in
       record { has = λ r h. rest.has r (first.has r h); only = λ r h. first.only r (rest.only r h); count = rest.count ∙ first.count }
 
+  counted-on : (notes : List Note) (m : World R) → IsCounted k m → IsCounted k (map_of k m notes)
+  counted-on [] m counted = counted
+  counted-on (n ∷ notes) m counted = counted-on notes (done k m n).world (done-counted k laws m n counted)
+
+  none-on : (notes : List Note) (m : World R) → NoneReady k m → NoneReady k (map_of k m notes)
+  none-on [] m none = none
+  none-on (n ∷ notes) m none = none-on notes (done k m n).world (done-none k laws m n none)
+
   pub stays-sound : StaysSound k
-  stays-sound base log sound = (sound-on k laws log base sound, kept-on log base sound)
+  stays-sound base log sound = (λ legal. sound-on k laws log base sound legal, kept-on log base sound.counted, counted-on log base sound.counted, none-on log base sound.none_ready)
 
 module _ {R : Type 0} (k : RecordRules R) (laws : EventLaws k) where
   pub begins-sound : BeginsSound k
   begins-sound w closed few live waiting held = record {
     counted = laws.first w closed few live waiting held;
     none_ready = record { none = λ x c. absurd (nobody x (subst (λ (l : List Waiting). Contains l x) waiting c)) };
+    few = let none = ap (λ (ls : List Live). length ls) live in omega (arith, none);
   }
     where
       nobody : (x : Waiting) → Contains {X = Waiting} [] x → ⊥

@@ -114,7 +114,7 @@ module _ {R : Type 0} (k : RecordRules R) (lawful : IsLawful k) (laws : EventLaw
   pub ends-over : EndsOver k
   ends-over base v w log n sound legal holds of is counted number =
       let m = map_of k base log in
-      let known = sound-on k laws log base sound in
+      let known = sound-on k laws log base sound legal in
       subst (λ (x : World R). Contains x.ended number ↔ (Contains w.ended number × (IsHeld k x number → ⊥))) (sym (map-join k log (n ∷ []) base))
       (subst (λ (x : World R). Contains (done k m n).world.ended number ↔ (Contains x.ended number × (IsHeld k (done k m n).world number → ⊥))) is.world
       ((λ over. ends-in-part m v n known holds of counted number over), (λ both. ends-in-all m v n known holds of counted number both.0 both.1)))

@@ -1,10 +1,10 @@
 -- No put with notification has more holders than a number of 64 bits can tell.
-use Rattle.std.proofs.Common.{◌≡◌, ℕ, ◌+◌, ◌^◌, ◌<◌, ◌≤◌, Bool, true, false, cond, List, [], ◌∷◌, length, refl, sym, ap, ◌∙◌, arith}
-use Rattle.std.specs.FinMap.{entries, len}
+use Rattle.std.proofs.Common.{ℕ, ◌≤◌, Bool, true, false, cond, List, [], ◌∷◌, length, arith}
+use Rattle.std.specs.FinMap.{entries}
 use Rattle.std.specs.FinMap.{len-entries}
 use Rattle.ioc_record.specs.RecordRules.{RecordRules}
-use Rattle.ioc_store.specs.World.{World, total, is_notification}
-use Rattle.ioc_events.specs.Holding.{IsCounted, how_many, one_if_has, holders}
+use Rattle.ioc_store.specs.World.{total, is_notification}
+use Rattle.ioc_events.specs.Holding.{one_if_has, holders}
 use Rattle.ioc_holding.specs.Laws.{HoldersAreFew}
 
 one-least : (b : Bool) → cond b 1 0 ≤ 1

@@ -1,8 +1,10 @@
-mod Basics
+pub mod Basics
 mod Summing
 mod Few
 mod Lists
 mod Lasting
+pub mod Placing
+pub mod LiveFew
 mod Doing
 mod Sharing
 mod Replaying
@@ -13,5 +15,4 @@ mod Uniting
 mod Moving
 mod Asking
 mod Giving
-mod Placing
 mod Ending

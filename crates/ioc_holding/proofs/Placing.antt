@@ -18,7 +18,7 @@ use Rattle.ioc_holding.proofs.Summing.{point, same-point, of-number, holders-lea
 
 -- ---- as many as there are numbers
 
-there-counted : {A : Type 0} (number : A → ℕ) (xs : List A) (x : A) → Contains xs x → 1 ≤ how_many number (number x) xs
+pub there-counted : {A : Type 0} (number : A → ℕ) (xs : List A) (x : A) → Contains xs x → 1 ≤ how_many number (number x) xs
 there-counted number [] x (i, lt, is) = absurd (omega arith)
 there-counted number (y ∷ xs) x (zero, lt, is) = rw (eq-eqb (number y) (number x) (ap number is)) (omega arith)
 there-counted number (y ∷ xs) x (suc i, lt, is) =
@@ -61,7 +61,7 @@ among-rest n m ns (zero, lt, is) apart = absurd (apart is)
 among-rest n m ns (suc i, lt, is) apart = (i, omega (arith, lt), is)
 
 -- of those with numbers from a list, no two with the same, there are no more than numbers
-few-of : {A : Type 0} (number : A → ℕ) (ns : List ℕ) (xs : List A) → ((n : ℕ) → how_many number n xs ≤ 1) → ((x : A) → Contains xs x → Contains ns (number x)) → length xs ≤ length ns
+pub few-of : {A : Type 0} (number : A → ℕ) (ns : List ℕ) (xs : List A) → ((n : ℕ) → how_many number n xs ≤ 1) → ((x : A) → Contains xs x → Contains ns (number x)) → length xs ≤ length ns
 few-of number [] [] once among = omega arith
 few-of number [] (x ∷ xs) once among = let none = among x (0, omega arith, refl) in absurd (omega (arith, none.1))
 few-of {A} number (n ∷ ns) xs once among =
@@ -119,17 +119,17 @@ module _ {R : Type 0} (k : RecordRules R) where
     pub has-live : (n : ℕ) → is_live n w.live ≡ true → 1 ≤ holders k w n
     has-live n is = let some = live-some n w.live is in let once = counted.counted.live n in one-if (holders k w n) (omega arith)
 
-    is-held-live : (n : ℕ) → 1 ≤ holders k w n → is_live n w.live ≡ true
+    pub is-held-live : (n : ℕ) → 1 ≤ holders k w n → is_live n w.live ≡ true
     is-held-live n some = let once = counted.counted.live n in let one = if-one (holders k w n) some in some-live n w.live (omega arith)
 
     has-entry : (l : Live) → Contains w.live l → 1 ≤ holders k w l.number
     has-entry l c = let some = there-counted (λ (x : Live). x.number) w.live l c in let once = counted.counted.live l.number in one-if (holders k w l.number) (omega arith)
 
-    has-waiting : (x : Waiting) → Contains w.waiting x → 1 ≤ holders k w x.number
+    pub has-waiting : (x : Waiting) → Contains w.waiting x → 1 ≤ holders k w x.number
     unfolding holders
     has-waiting x c = let some = there-counted (λ (y : Waiting). y.number) w.waiting x c in omega arith
 
-    live-once : (n : ℕ) → how_many (λ (l : Live). l.number) n w.live ≤ 1
+    pub live-once : (n : ℕ) → how_many (λ (l : Live). l.number) n w.live ≤ 1
     live-once n = let once = counted.counted.live n in let one = at-most-one (nat_lt 0 (holders k w n)) in omega arith
 
     place : (numbers : List ℕ) (number moment : ℕ) → ((n : ℕ) → 1 ≤ holders k w n → Contains numbers n) → length numbers < 256 → (Contains numbers number → ⊥) → has_place (begun_at moment w) number ≡ true
@@ -153,6 +153,13 @@ module _ {R : Type 0} (k : RecordRules R) where
             let none_waits = ap (of-number n) (nobody-waits v.waiting q (λ x c e. out (subst (λ (t : ℕ). Has v t) e (holds.within x c)))) in
             omega (arith, record_none, none_waits)
       ] refl
+
+  -- what is live in what is held is live in all
+  pub held-live : (m v : World R) → Holds k m v → IsCounted k m → IsCounted k v → (n : ℕ) → is_live n v.live ≡ true → is_live n m.live ≡ true
+  held-live m v holds counted own n is =
+      let fewer = held-fewer m v holds n in
+      let some = has-live v own n is in
+      is-held-live m counted n (omega (arith, fewer, some))
 
   pub held-are-fewer : HeldAreFewer k
   held-are-fewer m v holds counted own n =

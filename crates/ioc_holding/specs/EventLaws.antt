@@ -1,5 +1,5 @@
 -- The laws of events that the laws of held records rest on, in one.
-use Rattle.std.specs.Prelude.{◌≡◌, ◌≢◌, ◌↔◌, ℕ, ◌<◌, ◌^◌, Bool, true, [], Contains}
+use Rattle.std.specs.Prelude.{◌≡◌, ◌≢◌, ◌↔◌, ℕ, ◌<◌, ◌^◌, Bool, true, List, [], ◌∷◌, Contains}
 use Rattle.std.specs.Prelude.{None as Nothing_}
 use Rattle.std.specs.FinMap.{len}
 use Rattle.ioc_ledger.specs.Requests.{Requests}
@@ -7,14 +7,15 @@ use Rattle.ioc_notify.specs.Living.{is_live}
 use Rattle.ioc_record.specs.RecordRules.{RecordRules}
 use Rattle.ioc_store.specs.World.{World, Has, IsClosed, common_at}
 use Rattle.ioc_store.specs.Given.{Answers}
+use Rattle.ioc_events.specs.declared.event.Entry.{Entry}
 use Rattle.ioc_events.specs.declared.event.Event.{Event}
 use Rattle.ioc_events.specs.declared.event.Event.TheVariants.{Cancel}
 use Rattle.ioc_events.specs.declared.reply.Reply.{Reply}
-use Rattle.ioc_events.specs.Holding.{IsCounted, IsHeld, EndsExactly}
+use Rattle.ioc_events.specs.Holding.{IsCounted, IsHeld, EndsExactly, IsOver, NoneBegins}
 use Rattle.ioc_events.specs.Local.{KeepsApart, IsWithin, EventIsLocal}
 use Rattle.ioc_events.specs.Starting.{NoneReady}
 use Rattle.ioc_events.specs.Step.{stepped, names}
-use Rattle.ioc_events.specs.StepRules.{Step, KeepsRecords}
+use Rattle.ioc_events.specs.StepRules.{Step, Replay, KeepsRecords}
 
 pub record EventLaws {R : Type 0} (k : RecordRules R) : Type 0 where
   -- the rules of an event allow what the function gives, and nothing else
@@ -28,6 +29,8 @@ pub record EventLaws {R : Type 0} (k : RecordRules R) : Type 0 where
   -- one ends exactly where nobody has it any more, and those are live that somebody has
   pub ends : (answers : Answers) (w after : World R) (event : Event) (reply : Reply) (requests : Requests) → Step k answers w event after reply requests → IsCounted k w → w.ended ≡ [] → EndsExactly k w event reply after
   pub live : (w : World R) (n : ℕ) → IsCounted k w → (is_live n w.live ≡ true) ↔ IsHeld k w n
+  -- one that nobody has, and that no event of a run begins, nobody has after it
+  pub free : (w after : World R) (number : ℕ) (entry : Entry) (entries : List Entry) → Replay k w (entry ∷ entries) after → IsCounted k w → (IsHeld k w number → ⊥) → NoneBegins (entry ∷ entries) number → IsOver k after number
   -- none that waits may start after an event
   pub none_ready : (answers : Answers) (w after : World R) (event : Event) (reply : Reply) (requests : Requests) → Step k answers w event after reply requests → NoneReady k w → NoneReady k after
   -- an event depends on the records that it concerns, and changes these alone

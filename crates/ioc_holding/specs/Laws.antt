@@ -17,6 +17,7 @@ use Rattle.ioc_store.specs.Given.{Answers}
 use Rattle.ioc_events.specs.declared.event.Event.{Event}
 use Rattle.ioc_events.specs.Holding.{IsCounted, IsHeld, holders}
 use Rattle.ioc_events.specs.Local.{AskAlike}
+use Rattle.ioc_events.specs.Starting.{NoneReady}
 use Rattle.ioc_events.specs.Step.{stepped, names}
 use Rattle.ioc_events.specs.StepRules.{Replay, KeepsRecords}
 use Rattle.ioc_holding.specs.Legal.{IsLegal, IsSound, AreLiveAlike, notifications_key, entries_of, map_of}
@@ -165,9 +166,11 @@ module _ {R : Type 0} (k : RecordRules R) where
   BeginsSound = (w : World R) → IsClosed k w → len w.records < 2 ^ 63 → w.live ≡ [] → w.waiting ≡ []
       → ((n : ℕ) → Has w n → (common_at k w n).notification ≡ Nothing_) → IsSound k w
 
-  -- the world that a list leads to is sound if that before it was, and has the same records
+  -- the world that a legal list leads to is sound if that before it was. That which any list leads to has the same records, those that have a
+  -- notification are counted in it, and none that waits may start
   abbrev pub StaysSound : Type 0
-  StaysSound = (base : World R) (log : List Note) → IsSound k base → IsSound k (map_of k base log) × KeepsRecords base (map_of k base log)
+  StaysSound = (base : World R) (log : List Note) → IsSound k base
+      → (IsLegal k base log → IsSound k (map_of k base log)) × KeepsRecords base (map_of k base log) × IsCounted k (map_of k base log) × NoneReady k (map_of k base log)
 
   -- a legal list is a run by the rules of events, each with its moment, its answers and its reply
   abbrev pub Replays : Type 0

@@ -1,6 +1,6 @@
 -- One list of what was done, as an engine with all records in one map could have done it.
 -- Application Developer's Guide, "Database Locking, Scanning, and Processing": what is done in one lock set leaves all others alone.
-use Rattle.std.specs.Prelude.{◌≡◌, ℕ, List, [], ◌∷◌, map, Contains}
+use Rattle.std.specs.Prelude.{◌≡◌, ◌≤◌, ℕ, List, [], ◌∷◌, map, length, Contains}
 use Rattle.std.specs.FinMap.{get}
 use Rattle.ioc_notify.specs.Living.{holders_of}
 use Rattle.ioc_notify.specs.Waits.{at_record}
@@ -62,7 +62,9 @@ module _ {R : Type 0} (k : RecordRules R) where
   IsLegal m [] = Unit {0}
   IsLegal m (n ∷ notes) = Fits m n × IsLegal (done m n).world notes
 
-  -- a world of all records between events: no link leaves it, those that have a notification are counted, and none that waits may start
+  -- a world of all records between events: no link leaves it, those that have a notification are counted, none that waits may start, and at
+  -- most 256 puts with notification are live
   pub record IsSound (m : World R) : Type 0 where
     pub counted : IsCounted k m
     pub none_ready : NoneReady k m
+    pub few : length m.live ≤ 256

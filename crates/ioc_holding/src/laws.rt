@@ -5,7 +5,7 @@ ghost use Rattle.ioc_holding.specs.Laws.{Lasts, LiveLasts, OneMore, HoldersMove,
 use ioc_events::event_rules::{events_keep_records, rules_are_steps};
 use ioc_events::local::{counted_waits_keep_apart, events_are_local};
 use ioc_events::notification_rules::{
-    events_count_holders, events_end_what_nobody_has, events_leave_none_ready,
+    events_count_holders, events_end_what_nobody_has, events_leave_none_ready, those_over_never_end,
 };
 use ioc_record::RecordKind;
 
@@ -20,6 +20,7 @@ fn events_have_laws<K: RecordKind>()
     events_count_holders::<K>();
     events_end_what_nobody_has::<K>();
     events_leave_none_ready::<K>();
+    those_over_never_end::<K>();
 }
 
 /// Who holds records knows them as long as no note has their keys.
@@ -104,7 +105,8 @@ pub fn parts_share_what_is_held<K: RecordKind>()
     ensures rescans { RescansApart K.rules }
 {}
 
-/// The world at the load is sound, and whatever is noted, it stays so between events, and no record comes or goes.
+/// The world at the load is sound, and where each event is noted as it went, it stays so between events. Whatever is noted, no record comes
+/// or goes, those that have a notification stay counted, and none that waits may start.
 pub fn lists_leave_sound<K: RecordKind>()
     ensures first { BeginsSound K.rules }
     ensures after { StaysSound K.rules }

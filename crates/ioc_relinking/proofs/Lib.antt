@@ -1,2 +1,3 @@
 mod Parting
 mod Leading
+mod Together

@@ -16,7 +16,7 @@ use Rattle.ioc_holding.specs.LinkChange.{TakesLink, link_note}
 use Rattle.ioc_holding.specs.Laws.{GoesOn}
 use Rattle.ioc_set.specs.Held.{Held, now_of}
 use Rattle.ioc_set.specs.Sound.{IsSound}
-use Rattle.ioc_set.specs.Linking.{FallsApart, LeadsInto, link_change_of}
+use Rattle.ioc_set.specs.Linking.{FallsApart, LeadsInto, MayBeOne, link_change_of}
 
 module _ {R : Type 0} (D : Type 0) (k : RecordRules R) where
   -- a link of a held set is set to a record of it, or to none: what stays and the rest are held
@@ -26,6 +26,12 @@ module _ {R : Type 0} (D : Type 0) (k : RecordRules R) where
       → TakesLink k (now_of before) s field → ((t : ℕ) → Contains (named_by (use_of link)) t → Has (now_of before) t)
       → FallsApart before (link_change_of k before moment s field link).records s stay rest → IsSound k stay → IsSound k rest
       → GoesOn k base log (link_note desk call moment s field link keys) (λ m. Holds k m (now_of stay) × Holds k m (now_of rest))
+
+  -- two held sets with no record together may become one
+  abbrev pub SetsMayBeOne : Type 0
+  SetsMayBeOne = (m : World R) (before other : Held R D) → IsSound-world k m → IsSound k before → IsSound k other
+      → Holds k m (now_of before) → Holds k m (now_of other) → ((q : ℕ) → IsSome (get before.records q) → get other.records q ≡ None)
+      → MayBeOne before other
 
   -- a link of a held set is led into another that is held: what has become of the two is held
   abbrev pub SetsLead : Type 0

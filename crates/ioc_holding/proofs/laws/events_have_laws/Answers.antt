@@ -12,5 +12,6 @@ returns g c = record {
   first = c.events_count_holders.ensures.first;
   ends = c.events_end_what_nobody_has.ensures;
   live = c.events_count_holders.ensures.live;
+  free = c.those_over_never_end.ensures.not_held;
   within = c.counted_waits_keep_apart.ensures.within;
 }
