@@ -17,7 +17,7 @@ use Rattle.ioc_holding.specs.Legal.{IsLegal, IsSound, map_of}
 use Rattle.ioc_holding.specs.Held.{Cover}
 use Rattle.ioc_holding.specs.Laws.{GoesOn}
 use Rattle.ioc_holding.specs.LinkChange.{link_note}
-use Rattle.ioc_journal.specs.Account.{IsHolder, AreNoDesks, BothMayFollow, AddedByBoth}
+use Rattle.ioc_journal.specs.Account.{IsHolder, AreRecords, BothMayFollow, AddedByBoth}
 use Rattle.ioc_set.specs.Held.{Held, now_of}
 use Rattle.ioc_held.specs.Holding.{IsOwner}
 use Rattle.ioc_held.specs.LinkChanges.{keys_of, link_change}
@@ -82,7 +82,7 @@ module _ {R D : Type 0} where
   dealt_owner table id v seen h same is = record {
     same = same;
     holder = subst (λ (x : View). IsHolder x) (sym is) refl;
-    records = subst (λ (x : View). AreNoDesks x.owns) (sym is) (λ key has desk. let record_key = record_kind key (keys h.records) has in omega (arith, record_key, desk));
+    records = subst (λ (x : View). AreRecords x.owns) (sym is) (λ key has. record_kind key (keys h.records) has);
     covers = subst (λ (x : View). Cover x.owns (now_of h)) (sym is) (λ n has. contains_record n (keys h.records) (there_key h.records n has));
   }
 

@@ -27,7 +27,7 @@ use Rattle.ioc_line.specs.KeyLaws.{has_left}
 use Rattle.ioc_holding.specs.Legal.{AreLiveAlike, IsLegal, IsSound, key_of, map_of, done}
 use Rattle.ioc_holding.specs.Held.{Holds, Cover, CancelsWithin, AreHeldAlike, question_note}
 use Rattle.ioc_holding.specs.Laws.{Lasts, OneMore, Asks, HeldAlike, GoesOn}
-use Rattle.ioc_journal.specs.Account.{journalled, AreNoDesks, IsHolder, MayFollow, Added}
+use Rattle.ioc_journal.specs.Account.{journalled, AreRecords, IsHolder, MayFollow, Added}
 use Rattle.ioc_held.specs.Holding.{IsOwner}
 use Rattle.ioc_set.specs.Held.{Held, NoneIsLive, now_of, folded, done_by, held_after}
 use Rattle.ioc_set.specs.Doing.{is_ordinary, with_place, Does}
@@ -55,7 +55,7 @@ pub owner_on : {R : Type 0} (table id id' : TableId) (v v' : View) (seen : List 
 owner_on table id id' v v' seen w w' owner same is only = record {
   same = same ∙ owner.same;
   holder = subst (λ (x : View). IsHolder x) (sym is) refl;
-  records = subst (λ (x : View). AreNoDesks x.owns) (sym is) owner.records;
+  records = subst (λ (x : View). AreRecords x.owns) (sym is) owner.records;
   covers = subst (λ (x : View). Cover x.owns w') (sym is) (λ r s. owner.covers r (only r s));
 }
 

@@ -20,7 +20,7 @@ use Rattle.ioc_line.specs.declared.room.View.{View}
 use Rattle.ioc_holding.specs.Legal.{map_of}
 use Rattle.ioc_holding.specs.Held.{Holds, Cover}
 use Rattle.ioc_values.specs.declared.error.IocError.{IocError}
-use Rattle.ioc_journal.specs.Account.{DeskView, IsHolder, AreNoDesks, Call}
+use Rattle.ioc_journal.specs.Account.{DeskView, IsHolder, AreRecords, Call}
 use Rattle.ioc_journal.specs.Places.{IsNoPlace}
 use Rattle.ioc_set.specs.Held.{Held, NoneIsLive, now_of}
 use Rattle.ioc_set.specs.Sound.{IsSound}
@@ -51,7 +51,7 @@ seen_by pass = unwrap_or (option_map (λ (p : Pass). (cell_view {V = View} p).se
 pub record IsOwner {R : Type 0} (table id : TableId) (v : View) (w : World R) : Type 0 where
   pub same : id ≡ table
   pub holder : IsHolder v
-  pub records : AreNoDesks v.owns
+  pub records : AreRecords v.owns
   pub covers : Cover v.owns w
 
 -- why an event on the records of a set is no call: its record has no such field or it can't be put, the journal has no place for it, or memory is

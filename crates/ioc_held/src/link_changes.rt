@@ -11,7 +11,7 @@ ghost use Rattle.ioc_events.specs.declared.reply.Reply.TheVariants.{Refused};
 ghost use Rattle.ioc_line.specs.declared.entry.Note.{Note};
 ghost use Rattle.ioc_line.specs.Key.{Key, Has};
 ghost use Rattle.ioc_line.specs.Line.{holder};
-ghost use Rattle.ioc_journal.specs.Account.{IsHolder, AreNoDesks, BothMayFollow, Call, AddedByBoth};
+ghost use Rattle.ioc_journal.specs.Account.{IsHolder, AreRecords, BothMayFollow, Call, AddedByBoth};
 ghost use Rattle.ioc_journal.specs.Places.{IsNoPlace};
 ghost use Rattle.ioc_set.specs.Held.{now_of, folded};
 ghost use Rattle.ioc_set.specs.SetStore.{world_of};
@@ -51,8 +51,8 @@ fn keep_change<P: Keys, K: RecordKind, B: Base<K>, D, R: Wait>(
     moment: u64,
 ) -> Receipt<K, B>
     requires table { (one.old.table_id ≡ B.table) × (other.old.table_id ≡ B.table) }
-    requires one { IsHolder (cell_view one.old) × AreNoDesks (cell_view one.old).owns }
-    requires other { IsHolder (cell_view other.old) × AreNoDesks (cell_view other.old).owns }
+    requires one { IsHolder (cell_view one.old) × AreRecords (cell_view one.old).owns }
+    requires other { IsHolder (cell_view other.old) × AreRecords (cell_view other.old).owns }
     requires keys { (P.keys ≡ keys_of stay.now) × (P.rest ≡ keys_of rest.now) }
     requires within { (key : Key) → Has key (P.keys ++ P.rest) → Has key ((cell_view one.old).owns ++ (cell_view other.old).owns) }
     requires apart { (key : Key) → Has key P.keys → Has key P.rest → ⊥ }

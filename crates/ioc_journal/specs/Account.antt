@@ -57,6 +57,10 @@ abbrev pub Keyed : List Note → Type 0
 Keyed [] = Unit {0}
 Keyed (n ∷ ns) = Has (desk_key n.entry.desk) n.keys × Keyed ns
 
+-- these are keys of records
+abbrev pub AreRecords : List Key → Type 0
+AreRecords keys = (key : Key) → Has key keys → key.0 ≡ 0
+
 -- none of these is the key of a desk
 abbrev pub AreNoDesks : List Key → Type 0
 AreNoDesks keys = (key : Key) → Has key keys → key.0 ≢ 1

@@ -4,7 +4,7 @@ ghost use Rattle.crossbeam_utils.specs.Seq.{cell_view};
 ghost use Rattle.ioc_line.specs.declared.entry.Note.{Note};
 ghost use Rattle.ioc_line.specs.Key.{Key, Has};
 ghost use Rattle.ioc_line.specs.Line.{holder};
-ghost use Rattle.ioc_journal.specs.Account.{IsHolder, AreNoDesks, MayFollow, BothMayFollow, Call, Added, AddedByBoth, AreKnown, calls, calls_by};
+ghost use Rattle.ioc_journal.specs.Account.{IsHolder, AreNoDesks, AreRecords, MayFollow, BothMayFollow, Call, Added, AddedByBoth, AreKnown, calls, calls_by};
 ghost use Rattle.ioc_journal.specs.Places.{IsNoPlace};
 ghost use Rattle.ioc_values.specs.declared.error.IocError.TheVariants.{JournalFull};
 
@@ -98,7 +98,7 @@ impl<K: RecordKind, B: Base<K>> Book<K, B> {
         entry: Entry,
     ) -> Receipt<K, B>
         requires table { set.old.table_id ≡ B.table }
-        requires set { IsHolder (cell_view set.old) × AreNoDesks (cell_view set.old).owns }
+        requires set { IsHolder (cell_view set.old) × AreRecords (cell_view set.old).owns }
         requires follows { MayFollow K.rules B.base (cell_view set.old).seen (cell_view set.old).owns entry }
         ensures call { Call K.rules B.base desk.old entry desk.new }
         ensures receipt { result ≡ desk.new.seen }
@@ -122,7 +122,7 @@ impl<K: RecordKind, B: Base<K>> Book<K, B> {
         entry: Entry,
     ) -> Receipt<K, B>
         requires table { (one.old.table_id ≡ B.table) × (other.old.table_id ≡ B.table) }
-        requires one { IsHolder (cell_view one.old) × AreNoDesks (cell_view one.old).owns }
+        requires one { IsHolder (cell_view one.old) × AreRecords (cell_view one.old).owns }
         requires other { IsHolder (cell_view other.old) × AreNoDesks (cell_view other.old).owns }
         requires within { (key : Key) → Has key (P.keys ++ P.rest) → Has key ((cell_view one.old).owns ++ (cell_view other.old).owns) }
         requires apart { (key : Key) → Has key P.keys → Has key P.rest → ⊥ }

@@ -5,7 +5,7 @@ ghost use Rattle.ioc_line.specs.Key.{Key, Has};
 ghost use Rattle.ioc_line.specs.Line.{keeper, holder, Continues};
 ghost use Rattle.ioc_holding.specs.Legal.{IsLegal, IsSound};
 ghost use Rattle.ioc_values.specs.declared.error.IocError.TheVariants.{JournalFull};
-ghost use Rattle.ioc_journal.specs.Account.{AreNoDesks, IsHolder, MayFollow, BothMayFollow, Call, Added, AddedByBoth, calls, calls_by};
+ghost use Rattle.ioc_journal.specs.Account.{AreNoDesks, AreRecords, IsHolder, MayFollow, BothMayFollow, Call, Added, AddedByBoth, calls, calls_by};
 ghost use Rattle.ioc_journal.specs.Places.{AreAllowed, places_of, one_more_held, HoldsOne, HoldsNone};
 
 use crate::base::Base;
@@ -126,7 +126,7 @@ impl<K: RecordKind, B: Base<K>> Journal<K, B> {
         entry: Entry,
     ) -> Receipt<K, B>
         requires table { (cell.now.table.shared.table_id ≡ B.table) × (set.old.table_id ≡ B.table) }
-        requires set { IsHolder (cell_view set.old) × AreNoDesks (cell_view set.old).owns }
+        requires set { IsHolder (cell_view set.old) × AreRecords (cell_view set.old).owns }
         requires follows { MayFollow K.rules B.base (cell_view set.old).seen (cell_view set.old).owns entry }
         ensures call { Call K.rules B.base desk.old entry desk.new }
         ensures receipt { result ≡ desk.new.seen }
@@ -165,7 +165,7 @@ impl<K: RecordKind, B: Base<K>> Journal<K, B> {
         entry: Entry,
     ) -> Receipt<K, B>
         requires table { (cell.now.table.shared.table_id ≡ B.table) × (one.old.table_id ≡ B.table) × (other.old.table_id ≡ B.table) }
-        requires one { IsHolder (cell_view one.old) × AreNoDesks (cell_view one.old).owns }
+        requires one { IsHolder (cell_view one.old) × AreRecords (cell_view one.old).owns }
         requires other { IsHolder (cell_view other.old) × AreNoDesks (cell_view other.old).owns }
         requires within { (key : Key) → Has key (P.keys ++ P.rest) → Has key ((cell_view one.old).owns ++ (cell_view other.old).owns) }
         requires apart { (key : Key) → Has key P.keys → Has key P.rest → ⊥ }

@@ -1,10 +1,13 @@
-use Rattle.std.proofs.Common.{List, sym, ◌∙◌, subst}
+use Rattle.std.proofs.Common.{List, sym, ◌∙◌, subst, arith}
 use Rattle.crossbeam_utils.specs.Seq.{cell_view}
 use Rattle.ioc_device.specs.declared.Answer.{Answer}
 use Rattle.ioc_events.specs.declared.event.Event.TheVariants.{Link}
 use Rattle.ioc_events.specs.declared.reply.Reply.TheVariants.{Plain}
 use Rattle.ioc_journal.specs.Account.{BothMayFollow, Call, AddedByBoth}
 use Rattle.ioc_held.proofs.link_changes.keep_change.Goals as goal
+
+pub append_two-requires-clause-other : goal.append_two-requires-clause-other
+append_two-requires-clause-other g c = (c.requires.other.0, λ key has desk. let record_key = c.requires.other.1 key has in absurd (omega (arith, record_key, desk)))
 
 pub append_two-requires-clause-follows : goal.append_two-requires-clause-follows
 append_two-requires-clause-follows g c =

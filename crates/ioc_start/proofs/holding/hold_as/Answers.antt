@@ -1,11 +1,11 @@
-use Rattle.std.proofs.Common.{List, [], refl, sym, ◌∙◌, subst, arith}
+use Rattle.std.proofs.Common.{List, [], refl, sym, ◌∙◌, subst}
 use Rattle.std.specs.FinMap.{keys}
 use Rattle.crossbeam_utils.specs.Seq.{cell_view}
 use Rattle.ioc_line.specs.declared.room.View.{View}
 use Rattle.ioc_line.specs.Key.{Key, Has}
 use Rattle.ioc_line.specs.KeyLaws.{record_kind}
 use Rattle.ioc_holding.specs.Held.{Cover}
-use Rattle.ioc_journal.specs.Account.{IsHolder, AreNoDesks}
+use Rattle.ioc_journal.specs.Account.{IsHolder, AreRecords}
 use Rattle.ioc_set.specs.Held.{Held, resting, now_of}
 use Rattle.ioc_held.specs.Holding.{IsOwner}
 use Rattle.ioc_start.proofs.Keys.{contains_record, there_key}
@@ -24,6 +24,6 @@ new-requires-clause-owner g c =
     (record {
       same = given.0 ∙ c.requires.table.1;
       holder = subst (λ (x : View). IsHolder x) (sym is) refl;
-      records = subst (λ (x : View). AreNoDesks x.owns) (sym is) (subst AreNoDesks same (λ key has desk. let record_key = record_kind key (keys rs) has in omega (arith, record_key, desk)));
+      records = subst (λ (x : View). AreRecords x.owns) (sym is) (subst AreRecords same (λ key has. record_kind key (keys rs) has));
       covers = subst (λ (x : View). Cover x.owns (resting rs [] [])) (sym is) (subst (λ (l : List Key). Cover l (resting rs [] [])) same (λ n has. contains_record n (keys rs) (there_key rs n has)));
     })

@@ -9,7 +9,7 @@ use Rattle.ioc_members.specs.Joined.{HasLink}
 use Rattle.ioc_store.specs.World.{World, common_at}
 use Rattle.ioc_holding.specs.Held.{Holds, Cover}
 use Rattle.ioc_holding.specs.Legal.{map_of}
-use Rattle.ioc_journal.specs.Account.{IsHolder, AreNoDesks, BothMayFollow, AddedByBoth}
+use Rattle.ioc_journal.specs.Account.{IsHolder, AreRecords, BothMayFollow, AddedByBoth}
 use Rattle.ioc_line.specs.declared.entry.Note.{Note}
 use Rattle.ioc_line.specs.declared.room.View.{View}
 use Rattle.ioc_set.specs.Held.{now_of}
@@ -23,7 +23,7 @@ pub keep_change-receipt-requires-clause-one : goal.keep_change-receipt-requires-
 keep_change-receipt-requires-clause-one g c =
     let is : c.self.inside.pass ≡ Some c.in-Some.pass = sym c.take.ensures.value ∙ c.in-Some.is in
     let held = subst (λ (o : Option Pass). IsHeld g.K.RecordKind.rules g.B.Base.base g.B.Room.table o c.self.inside.set) is c.self.invariant in
-    subst (λ (x : View). IsHolder x × AreNoDesks x.owns) (sym c.again-other.ensures.kept.1) (held.owner.holder, held.owner.records)
+    subst (λ (x : View). IsHolder x × AreRecords x.owns) (sym c.again-other.ensures.kept.1) (held.owner.holder, held.owner.records)
 
 pub keep_change-receipt-requires-clause-within : goal.keep_change-receipt-requires-clause-within
 keep_change-receipt-requires-clause-within g c =

@@ -16,7 +16,7 @@ pub deal-pass-requires-clause-apart_desk : goal.deal-pass-requires-clause-apart_
 deal-pass-requires-clause-apart_desk g c = λ key a b.
     let owns = (cell_view c.args.one.now).owns in
     let more = (cell_view c.args.other.now).owns in
-    let no_desk : key.0 ≢ 1 = ⊎_elim (λ (x : Has key owns). c.requires.one.1 key x) (λ (y : Has key more). c.requires.other.1 key y) (has_either key owns more (c.requires.within key a)) in
+    let no_desk : key.0 ≢ 1 = ⊎_elim (λ (x : Has key owns). λ (desk : key.0 ≡ 1). let record_key = c.requires.one.1 key x in absurd (omega (arith, record_key, desk))) (λ (y : Has key more). c.requires.other.1 key y) (has_either key owns more (c.requires.within key a)) in
     ⊎_elim (λ (e : desk_key c.desk.inside.number ≡ key). no_desk (sym (ap (λ (p : Key). p.0) e))) (λ (b : ⊥). b) (subst (λ (v : View). Has key v.owns) c.desk.invariant.holds b)
 
 pub invariant_of-result : goal.invariant_of-result
