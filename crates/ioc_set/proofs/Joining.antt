@@ -1,8 +1,8 @@
 -- Two sets become one: the puts with notification of both.
-use Rattle.std.proofs.Common.{◌≡◌, ◌≢◌, ◌⊎◌, ℕ, zero, suc, ◌+◌, ◌≤◌, Bool, true, false, cond, eqb, nat_eq, ◌||◌, List, [], ◌∷◌, ◌++◌, length, Option, Some, None, refl, sym, ap, subst, ◌∙◌, ⊎_elim, inl, inr, arith}
-use Rattle.std.specs.Prelude.{◌↔◌, IsSome, IsTrue, is_some, unwrap_or, Contains}
+use Rattle.std.proofs.Common.{◌≡◌, ◌≢◌, ◌⊎◌, ℕ, zero, suc, ◌+◌, ◌≤◌, Bool, true, false, cond, eqb, nat_eq, List, [], ◌∷◌, ◌++◌, Option, Some, refl, sym, ap, subst, ◌∙◌, ⊎_elim, inl, inr, arith}
+use Rattle.std.specs.Prelude.{◌↔◌, IsSome, IsTrue, unwrap_or, Contains}
 use Rattle.std.specs.List.{filter}
-use Rattle.std.specs.FinMap.{get, insert}
+use Rattle.std.specs.FinMap.{get}
 use Rattle.std.proofs.lemmas.Bool.{eqb-true, eq-eqb}
 use Rattle.std.proofs.lemmas.List.Elements.{Contains-append_cases}
 use Rattle.ioc_fields.specs.declared.field_no.FieldNo.{FieldNo}
@@ -10,13 +10,12 @@ use Rattle.ioc_common.specs.declared.link_field.LinkField.{LinkField}
 use Rattle.ioc_notify.specs.declared.live_numbers.Live.{Live}
 use Rattle.ioc_notify.specs.declared.waiting_lists.Waiting.{Waiting}
 use Rattle.ioc_notify.specs.Living.{is_live}
-use Rattle.ioc_notify.specs.Waits.{at_record}
 use Rattle.ioc_record.specs.RecordRules.{RecordRules}
 use Rattle.ioc_record.specs.Laws.{IsLawful}
 use Rattle.ioc_members.specs.Contents.{Records, record_at}
 use Rattle.ioc_members.specs.Joined.{AreShared, relinked}
 use Rattle.ioc_store.specs.World.{at}
-use Rattle.ioc_events.specs.Holding.{IsHeld, by_a_record, in_a_waiting_list, HoldersAwait, HoldersCounted, how_many}
+use Rattle.ioc_events.specs.Holding.{IsHeld, by_a_record, in_a_waiting_list, HoldersCounted, how_many}
 use Rattle.ioc_set.specs.Held.{Held, resting, now_of}
 use Rattle.ioc_set.specs.Linking.{AreHeld, MayBeOne}
 use Rattle.ioc_set.specs.Recounting.{together, AreLive, WaitsGoAlong}

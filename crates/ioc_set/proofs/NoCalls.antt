@@ -1,5 +1,5 @@
 -- What is no call would be refused for that, and change nothing.
-use Rattle.std.proofs.Common.{◌≡◌, ℕ, ◌<◌, zero, Bool, true, false, if◌then◌else◌, List, [], ◌∷◌, Option, Some, None, Result, Ok, Err, IsTrue, refl, sym, ap, ◌∙◌, arith}
+use Rattle.std.proofs.Common.{◌≡◌, ℕ, zero, true, false, if◌then◌else◌, List, [], ◌∷◌, Option, Some, None, Result, Ok, Err, refl, sym, ap, arith}
 use Rattle.std.specs.Prelude.{Contains, is_some, unwrap_or}
 use Rattle.std.specs.Option.{IfSome}
 use Rattle.ioc_values.specs.declared.error.IocError.{IocError}

@@ -1,4 +1,4 @@
-use Rattle.std.proofs.Common.{◌∙◌, ℕ, List, ap, subst, sym, arith}
+use Rattle.std.proofs.Common.{◌∙◌, List, ap, subst, sym, arith}
 use Rattle.std.specs.Prelude.{IsSome}
 use Rattle.std.specs.FinMap.{get}
 use Rattle.ioc_notify.specs.declared.live_numbers.Live.{Live}
