@@ -40,7 +40,7 @@ fn hold_as<P: Keys, K: RecordKind, B: Base<K>, D>(
     requires holds { Holds K.rules B.base (resting members.records [] []) }
     ensures table { master.new.table_id ≡ B.table }
     ensures master { cell_view master.new ≡ keeper [] (record_keys (map.keys members.records) ++ (cell_view master.old).born) }
-    ensures held { result ≡ held_view (anew members.records members.devices no_counts) [] }
+    ensures held { result ≡ held_view (anew members.records members.devices [] [] no_counts) [] }
 {
     let pass = pass::claim::<P>(cell, master);
     let set = LockSet::of(alloc, members);
@@ -63,7 +63,7 @@ pub fn hold<K: RecordKind, B: Base<K>, D>(
     requires holds { Holds K.rules B.base (resting members.records [] []) }
     ensures table { master.new.table_id ≡ B.table }
     ensures master { cell_view master.new ≡ keeper [] (record_keys (map.keys members.records) ++ (cell_view master.old).born) }
-    ensures held { result ≡ held_view (anew members.records members.devices no_counts) [] }
+    ensures held { result ≡ held_view (anew members.records members.devices [] [] no_counts) [] }
 {
     hold_as::<Brand, K, B, D>(alloc, cell, master, members)
 }
@@ -84,7 +84,7 @@ fn hold_part<K: RecordKind, B: Base<K>, D>(
     ensures table { master.new.table_id ≡ B.table }
     ensures master { cell_view master.new ≡ keeper [] (cell_view master.new).born }
     ensures born { AreOfPartsBelow parts.now (part + 1) (cell_view master.new).born }
-    ensures held { result ≡ held_view (anew members.records members.devices no_counts) [] }
+    ensures held { result ≡ held_view (anew members.records members.devices [] [] no_counts) [] }
 {
     hold(alloc, cell, master, members)
 }
