@@ -6,4 +6,5 @@ mod Parting
 mod Serving
 mod Refusing
 mod Lending
+mod Beside
 mod Counting
