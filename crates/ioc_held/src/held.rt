@@ -5,7 +5,7 @@ ghost use Rattle.ioc_events.specs.declared.event.Event.TheVariants.{Get, Process
 ghost use Rattle.ioc_events.specs.Step.{names};
 ghost use Rattle.ioc_holding.specs.Held.{Holds};
 ghost use Rattle.ioc_holding.specs.Legal.{map_of};
-ghost use Rattle.ioc_set.specs.Held.{NoneIsLive, now_of};
+ghost use Rattle.ioc_set.specs.Held.{now_of};
 ghost use Rattle.ioc_set.specs.NoCalls.{no_call};
 ghost use Rattle.ioc_set.specs.Doing.{is_ordinary};
 ghost use Rattle.ioc_set.specs.SetStore.{world_of};
@@ -57,7 +57,6 @@ impl<K: RecordKind, B: Base<K>, D> Held<K, B, D> {
     pub fn new(set: LockSet<K, D>, pass: Token) -> Self
         requires owner { IsOwner B.table pass.table_id (cell_view pass) (now_of set) }
         requires holds { Holds K.rules (map_of K.rules B.base (cell_view pass).seen) (now_of set) }
-        requires none { NoneIsLive set }
         ensures { result ≡ held_view set (cell_view pass).seen }
     {
         Held {
