@@ -59,7 +59,6 @@ invariant_of-self g c =
           (link_there k held_set c.args.number c.args.field has) (link_has k held_set c.args.number c.args.field has) stops c.requires.known
           (cell_view c.in-Some.pass).seen (cell_view c.in-Some.pass).owns held.owner.covers held.holds _
           (λ i. record { moment = c.args.moment; event = Link c.args.number c.args.field c.args.link; answers = sym none i; reply = Refused PutDisabled }) added.0 _ added.1);
-      none_live = held.none_live;
     }
 
 pub returns-clause-refuses : goal.returns-clause-refuses
