@@ -12,7 +12,7 @@ use Rattle.ioc_put_table.specs.Counts.{holders_in, lines_of}
 use Rattle.ioc_events.specs.declared.event.Event.{Event}
 use Rattle.ioc_events.specs.declared.event.Entry.{Entry}
 use Rattle.ioc_events.specs.declared.reply.Reply.{Reply}
-use Rattle.ioc_events.specs.Holding.{IsCounted, how_many}
+use Rattle.ioc_events.specs.Holding.{IsCounted, how_many, holders}
 use Rattle.ioc_events.specs.Local.{AskAlike}
 use Rattle.ioc_events.specs.Step.{names}
 use Rattle.ioc_line.specs.declared.entry.Note.{Note}
@@ -45,7 +45,7 @@ one_at_most false = omega arith
 
 -- what is live in a world that is counted has one line each
 pub once_live : {R : Type 0} (k : RecordRules R) (w : World R) → IsCounted k w → (n : ℕ) → lines_of n w.live ≤ 1
-once_live k w counted n = let lines = lines_are n w.live in let once = counted.counted.live n in let one = one_at_most (nat_lt 0 _) in omega (arith, lines, once, one)
+once_live k w counted n = let lines = lines_are n w.live in let once = counted.counted.live n in let one = one_at_most (nat_lt 0 (holders k w n)) in omega (arith, lines, once, one)
 
 module _ {R D : Type 0} (k : RecordRules R) (gives : D → Ask → ℕ → Answer → D → Type 0) (h h' : Held R D) (moment : ℕ) (event : Event) (reply : Reply) (come_to : World R)
     (does : Does k gives h moment event reply h' come_to) (there : (n : ℕ) → Contains (names event) n → Has (now_of h) n)

@@ -7,4 +7,6 @@ mod Serving
 mod Refusing
 mod Lending
 mod Beside
+mod Counted
+mod Telling
 mod Counting

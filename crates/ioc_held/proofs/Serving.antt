@@ -60,7 +60,7 @@ owner_on table id id' v v' seen w w' owner same is only = record {
 }
 
 module _ {R : Type 0} (k : RecordRules R) where
-  no_cancel : (m v : World R) (event : Event) → is_ordinary event ≡ true → CancelsWithin k m v event
+  pub no_cancel : (m v : World R) (event : Event) → is_ordinary event ≡ true → CancelsWithin k m v event
   no_cancel m v (Get s field) is = tt
   no_cancel m v (Process s) is = tt
   no_cancel m v (Put s field given) is = tt
@@ -70,7 +70,7 @@ module _ {R : Type 0} (k : RecordRules R) where
   no_cancel m v (Cancel n) is = absurd (false_true is)
   no_cancel m v (IsLive n) is = tt
 
-  asks_nothing : (w v : World R) (event : Event) → is_ordinary event ≡ true → AskAlike w v event
+  pub asks_nothing : (w v : World R) (event : Event) → is_ordinary event ≡ true → AskAlike w v event
   asks_nothing w v (Get s field) is = tt
   asks_nothing w v (Process s) is = tt
   asks_nothing w v (Put s field given) is = tt
@@ -136,13 +136,13 @@ module _ {R D : Type 0} (k : RecordRules R) (gives : D → Ask → ℕ → Answe
   now_then : now_of h' ≡ now_of (held_after k (with_place h) e h'.devices)
   now_then = ap (λ (z : Held R D). now_of z) does.after
 
-  records_then : (now_of h').records ≡ after.records
+  pub records_then : (now_of h').records ≡ after.records
   records_then = ap (λ (w : World R). w.records) now_then ∙ ap (λ (w : World R). (done_by k w e).world.records) was_now
 
-  waiting_then : (now_of h').waiting ≡ after.waiting
+  pub waiting_then : (now_of h').waiting ≡ after.waiting
   waiting_then = ap (λ (w : World R). w.waiting) now_then ∙ ap (λ (w : World R). (done_by k w e).world.waiting) was_now
 
-  live_then : (now_of h').live ≡ after.live
+  pub live_then : (now_of h').live ≡ after.live
   live_then = ap (λ (w : World R). w.live) now_then ∙ ap (λ (w : World R). (done_by k w e).world.live) was_now
 
   -- where no put with notification is live before and after, nobody has one

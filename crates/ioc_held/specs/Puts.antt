@@ -9,6 +9,13 @@ use Rattle.ioc_notify.specs.Living.{holders_of, is_live}
 use Rattle.ioc_record.specs.RecordRules.{RecordRules}
 use Rattle.ioc_store.specs.World.{World}
 use Rattle.ioc_put_table.specs.Counts.{Table, holders_in}
+use Rattle.ioc_values.specs.declared.error.IocError.TheVariants.{Stale}
+use Rattle.ioc_events.specs.declared.event.Event.{Event}
+use Rattle.ioc_events.specs.declared.event.Event.TheVariants.{Cancel, IsLive}
+use Rattle.ioc_events.specs.declared.event.Entry.{Entry}
+use Rattle.ioc_events.specs.declared.reply.Reply.{Reply}
+use Rattle.ioc_events.specs.declared.reply.Reply.TheVariants.{Live as Live-reply, Refused}
+use Rattle.ioc_journal.specs.Account.{DeskView, Call}
 use Rattle.ioc_line.specs.declared.entry.Note.{Note}
 use Rattle.ioc_line.specs.declared.room.View.{View}
 use Rattle.ioc_line.specs.Key.{Key}
@@ -60,3 +67,22 @@ module _ {R : Type 0} (k : RecordRules R) (base : World R) where
     pub fewer : (n : ℕ) → holders_in n before ≤ holders_of n (map_of k base log).live
     pub fits : (n : ℕ) → holders_of n (map_of k base longer).live ≤ 2 ^ 63
     pub few : length (map_of k base longer).live ≤ 256
+
+-- what the journal keeps of a question or of a refusal: no device is asked
+abbrev pub told_at : (moment : ℕ) → Event → Reply → Entry
+told_at moment event reply = record { moment = moment; event = event; answers = []; reply = reply }
+
+module _ {R : Type 0} (k : RecordRules R) (base : World R) (puts : PutsView) (desk : DeskView) (moment number : ℕ) (reply : Reply) (puts_then : PutsView) (desk_then : DeskView) where
+  -- it was asked whether a put with notification is live: so it is where it is in the table. The question stands at the end of the legal list that
+  -- the desk and the keeper have seen then, and nothing else has changed
+  pub record WasAsked : Type 0 where
+    pub answer : reply ≡ Live-reply (is_live number puts.live)
+    pub call : Call k base desk (told_at moment (IsLive number) reply) desk_then
+    pub kept : puts_then ≡ puts_view puts.live puts.last desk_then.seen
+
+  -- a put with notification wasn't given up, since it isn't live. The refusal stands at the end of that list, and nothing else has changed
+  pub record WasStale : Type 0 where
+    pub none : is_live number puts.live ≡ false
+    pub answer : reply ≡ Refused Stale
+    pub call : Call k base desk (told_at moment (Cancel number) reply) desk_then
+    pub kept : puts_then ≡ puts_view puts.live puts.last desk_then.seen

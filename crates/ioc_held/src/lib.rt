@@ -4,6 +4,7 @@
 //! engine with all records in one map could have done it, with the same replies.
 #![tactic(auto)]
 
+mod asking;
 mod beginning;
 pub mod changing;
 mod ending;

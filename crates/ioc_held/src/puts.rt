@@ -135,5 +135,6 @@ pub(crate) fn keep_beside<K: RecordKind, B: Base<K>, D, R: Wait>(
     tables_are_short();
     let receipt = book.append_two::<Brand, R>(rt, place, pass, &mut all.pass, desk, entry);
     count_anew(&mut all.table, before, set.live_puts());
+    all.table.is_table();
     receipt
 }

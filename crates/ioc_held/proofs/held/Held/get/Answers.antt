@@ -49,7 +49,6 @@ invariant_of-self g c =
           subst (λ (x : View). Holds k (map_of k g.B.Base.base x.seen) (now_of c.self.inside.set)) (sym set.1)
           (held_after_get k c.holding_lasts.ensures c.events_are_held.ensures.asks g.B.Base.base (now_of c.self.inside.set) c.args.moment c.args.number c.args.field c.get-reply.result c.get-reply.ensures there
           (cell_view c.in-Some.pass).seen (cell_view c.in-Some.pass).owns held.owner.covers held.holds _ (λ i. record { moment = c.args.moment; event = Get c.args.number c.args.field; answers = sym none i; reply = c.get-reply.result }) added.0 _ added.1);
-      none_live = held.none_live;
     }
 
 pub returns-clause-tells : goal.returns-clause-tells
