@@ -6,6 +6,7 @@ mod Parting
 mod Serving
 mod Refusing
 mod Lending
+mod Places
 mod Beside
 mod Counted
 mod Telling

@@ -32,9 +32,9 @@ use Rattle.ioc_held.specs.Holding.{IsOwner}
 use Rattle.ioc_set.specs.Held.{Held, NoneIsLive, now_of, folded, done_by, held_after}
 use Rattle.ioc_set.specs.Doing.{is_ordinary, with_place, Does}
 
-one-there : {X : Type 0} (x y : X) → Contains (x ∷ []) y → x ≡ y
-one-there x y (zero, lt, is) = is
-one-there x y (suc i, lt, is) = absurd (omega arith)
+pub one_there : {X : Type 0} (x y : X) → Contains (x ∷ []) y → x ≡ y
+one_there x y (zero, lt, is) = is
+one_there x y (suc i, lt, is) = absurd (omega arith)
 
 false_true : false ≡ true → ⊥
 false_true e = cc
@@ -227,7 +227,7 @@ module _ {R : Type 0} (k : RecordRules R) (lasts : Lasts k) (asks : Asks k) (bas
       let none : Answers = listed [] in
       subst (λ (r : Reply). GoesOn k base log (question_note desk call moment (Get s field) r (owned ++ own)) (λ m. Holds k m v)) (sym (answer none))
       (asks base v log desk call moment (Get s field) none (owned ++ own) refl sound legal (holds_on k lasts base v seen owned covers holds log go legal)
-      (λ r c. subst (λ (n : ℕ). Has v n) (one-there s r c) there) tt (λ r h. has_left (key_of r) owned own (covers r h)))
+      (λ r c. subst (λ (n : ℕ). Has v n) (one_there s r c) there) tt (λ r h. has_left (key_of r) owned own (covers r h)))
 
   pub get_may_follow : (entry : Entry) → got ≡ entry → MayFollow k base seen owned entry
   get_may_follow entry is = subst (λ (x : Entry). MayFollow k base seen owned x) is (λ log desk call own sound go legal. (get_goes_on log desk call own sound go legal).legal)

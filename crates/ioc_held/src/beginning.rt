@@ -63,6 +63,7 @@ impl<K: RecordKind + Drop, B: Base<K>, D: Device> Held<K, B, D> {
         parts_share_what_is_held::<K>();
         lines_tell_holders();
         self.set.is_sound();
+        all.is_counted();
         let event = Event::Notify(target, notification, field, given);
         let ran = run_counted(rt, alloc, book, &mut self.set, workplace, &event, moment)?;
         self.set.puts_are_few();

@@ -3,11 +3,11 @@ ghost use Rattle.std.specs.Prelude.{◌≡◌, ◌+◌, ◌≤◌, ◌<◌, ◌^
 ghost use Rattle.std.specs.Option.{IfSome};
 ghost use Rattle.crossbeam_utils.specs.Seq.{cell_view};
 ghost use Rattle.ioc_notify.specs.Living.{is_live};
-ghost use Rattle.ioc_put_table.specs.Counts.{holders_in};
+ghost use Rattle.ioc_put_table.specs.Counts.{IsTable, holders_in};
 ghost use Rattle.ioc_line.specs.declared.entry.Note.{Note};
 ghost use Rattle.ioc_line.specs.Line.{holder};
 ghost use Rattle.ioc_journal.specs.Account.{IsHolder, AreRecords, BothMayFollow, Call, AddedByBoth};
-ghost use Rattle.ioc_held.specs.Puts.{puts_view, puts_keys, CanBegin, NoneCanBegin, AreMoved};
+ghost use Rattle.ioc_held.specs.Puts.{puts_view, puts_keys, CanBegin, NoneCanBegin, AreCounted, AreMoved};
 
 use ioc_events::Entry;
 use ioc_holding::laws::live_lasts;
@@ -71,6 +71,14 @@ impl<K: RecordKind, B: Base<K>> AllPuts<K, B> {
             of: PhantomData,
             kind: PhantomData,
         })
+    }
+
+    /// What is always true of it: each is live once, and the lines tell how many have it in the world of all.
+    pub fn is_counted(&self)
+        ensures table { IsTable self.now.live }
+        ensures counted { AreCounted K.rules B.base self.now.live self.now.seen }
+    {
+        self.table.is_table();
     }
 
     /// The number under which the next may begin; none where none may.
