@@ -77,8 +77,8 @@ fn keep_change<P: Keys, K: RecordKind, B: Base<K>, D, R: Wait>(
 
 impl<K: RecordKind + Drop, B: Base<K>, D: Device> Held<K, B, D> {
     /// Changes a link of a record, which leads nowhere then, or to a record of this set, and keeps that in the journal. The set keeps the
-    /// record's part, and the records that no link joins to it any more come back as a held set of their own, which may have none. `link` and
-    /// `twin` are alike.
+    /// record's part, and the records that no link joins to it any more come back as a held set of their own, which may have none. Puts with
+    /// notification that are live go with their records, as [`LockSet::part`] says. `link` and `twin` are alike.
     ///
     /// # Errors
     ///
@@ -167,7 +167,7 @@ impl<K: RecordKind + Drop, B: Base<K>, D: Device> Held<K, B, D> {
 
     /// Leads a link of a record of this set to a record of another, which it takes over, and keeps that in the journal. The records of this set
     /// that the link alone had joined to that record come back as a held set of their own, which may have none; the other has nothing then.
-    /// `link` and `twin` are alike.
+    /// Puts with notification that are live go with their records, as [`LockSet::lead_into`] says. `link` and `twin` are alike.
     ///
     /// # Errors
     ///
