@@ -29,7 +29,7 @@ use Rattle.ioc_held.specs.Puts.{puts_keys, AreMoved}
 use Rattle.ioc_held.proofs.Serving.{holds_on, live_then, records_then, waiting_then, noted_on, moved_on}
 
 -- lines of a number, counted either way
-lines_are : (n : ℕ) (ls : List Live) → lines_of n ls ≡ how_many (λ (l : Live). l.number) n ls
+pub lines_are : (n : ℕ) (ls : List Live) → lines_of n ls ≡ how_many (λ (l : Live). l.number) n ls
 lines_are n [] = refl
 lines_are n (x ∷ xs) =
     let rest = lines_are n xs in

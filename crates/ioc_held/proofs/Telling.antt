@@ -68,7 +68,7 @@ module _ {R : Type 0} (k : RecordRules R) where
 
   untouched : (m : World R) (moment r : ℕ) → IsUntouched k r m (begun_at moment m)
   unfolding at begun begun_at
-  untouched m moment r = record { same = refl; waiting = refl; named = λ a n c. c }
+  untouched m moment r = record { same = refl; waiting = refl; named = λ a c. c }
 
   live_begun : (m : World R) (moment : ℕ) → AreLiveAlike m (begun_at moment m)
   unfolding begun begun_at
