@@ -1,6 +1,6 @@
 -- A put with notification that is given up in all held sets that have it: one event of all records.
-use Rattle.std.proofs.Common.{◌≡◌, ◌≢◌, ◌⊎◌, ℕ, ◌+◌, ◌≤◌, Bool, true, false, cond, not, eqb, nat_eq, ◌||◌, List, [], ◌∷◌, ◌++◌, length, Option, Some, None, refl, sym, ap, subst, ◌∙◌, inl, inr, arith}
-use Rattle.std.specs.Prelude.{◌↔◌, is_some, unwrap_or, IsSome, Contains}
+use Rattle.std.proofs.Common.{◌≡◌, ◌≢◌, ℕ, ◌+◌, ◌≤◌, Bool, true, false, cond, not, eqb, nat_eq, ◌||◌, List, [], ◌∷◌, ◌++◌, length, Option, Some, None, refl, sym, ap, subst, ◌∙◌, inl, inr, arith}
+use Rattle.std.specs.Prelude.{is_some, unwrap_or, IsSome, Contains}
 use Rattle.std.specs.List.{filter, AllPairs}
 use Rattle.std.specs.FinMap.{get}
 use Rattle.std.proofs.lemmas.Bool.{eqb-true, eq-eqb, ne_eqb}
@@ -19,26 +19,22 @@ use Rattle.ioc_store.specs.Weights.{weight_of}
 use Rattle.ioc_store.specs.Given.{listed, answers_of}
 use Rattle.ioc_store.specs.Freeing.{get-mapped, at_cancelled-either}
 use Rattle.ioc_store.specs.StepFrames.{targets-set}
-use Rattle.ioc_events.specs.declared.event.Entry.{Entry}
 use Rattle.ioc_events.specs.declared.event.Event.{Event}
 use Rattle.ioc_events.specs.declared.event.Event.TheVariants.{Cancel}
-use Rattle.ioc_events.specs.declared.reply.Reply.{Reply}
 use Rattle.ioc_events.specs.declared.reply.Reply.TheVariants.{Plain}
-use Rattle.ioc_events.specs.Holding.{how_many, one_if_has, holders, IsCounted}
+use Rattle.ioc_events.specs.Holding.{how_many, one_if_has, holders}
 use Rattle.ioc_events.specs.Starting.{NoneReady}
 use Rattle.ioc_events.specs.Step.{Stepped, stepped}
 use Rattle.ioc_line.specs.declared.entry.Note.{Note}
 use Rattle.ioc_line.specs.Key.{Key, Has as Has_key}
 use Rattle.ioc_holding.specs.Legal.{key_of, notifications_key, done, map_of, Fits, IsLegal, IsUntouched}
-use Rattle.ioc_holding.specs.Legal.{IsSound as IsSound-world}
 use Rattle.ioc_holding.specs.Held.{Holds}
 use Rattle.ioc_holding.specs.Laws.{StaysSound, CancelIsHeld, BeginningIsHeld, HeldAlike}
-use Rattle.ioc_holding.proofs.Basics.{not_both}
 use Rattle.ioc_holding.proofs.Placing.{live-once}
 use Rattle.ioc_set.specs.Held.{Held, now_of, folded, done_by}
-use Rattle.ioc_set.specs.Doing.{Does, with_place}
+use Rattle.ioc_set.specs.Doing.{with_place}
 use Rattle.ioc_set.specs.Sound.{IsSound}
-use Rattle.ioc_cancelling.specs.Laws.{cancel_note, ShareNone, holders_in_all, GivesUp, IsHeldSoundly, IsGivenUpByAll, SetsGiveUp, CancelGivesUp, IsCancelled, CameToNothing}
+use Rattle.ioc_cancelling.specs.Laws.{cancel_note, ShareNone, holders_in_all, GivesUp, IsHeldSoundly, SetsGiveUp, CancelGivesUp, CameToNothing}
 use Rattle.ioc_cancelling.proofs.Summing.{point, of-number}
 use Rattle.ioc_cancelling.proofs.Among.{some-or-none, nobody-outside}
 use Rattle.ioc_cancelling.proofs.Cancelling.{cancel-steps, AreActive, none-then, begun-none, begun-active}

@@ -1,6 +1,6 @@
 -- A put with notification that is given up in all lock sets that hold it.
 -- Application Developer's Guide, "Put with Notification" (dbNotifyCancel): nobody has it any more, and it doesn't end.
-use Rattle.std.specs.Prelude.{◌≡◌, ◌≢◌, ℕ, true, List, [], ◌∷◌, IsSome, Contains, None}
+use Rattle.std.specs.Prelude.{◌≡◌, ◌≢◌, ℕ, true, List, [], IsSome, Contains, None}
 use Rattle.std.specs.List.{AllPairs, sum_by}
 use Rattle.std.specs.FinMap.{get}
 use Rattle.ioc_device.specs.declared.Ask.{Ask}

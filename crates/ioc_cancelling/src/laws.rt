@@ -2,9 +2,7 @@
 ghost use Rattle.ioc_cancelling.specs.Laws.{SetsGiveUp, CancelGivesUp};
 
 use ioc_device::Device;
-use ioc_holding::laws::{
-    changes_of_all_are_held, lists_leave_sound, parts_share_what_is_held,
-};
+use ioc_holding::laws::{changes_of_all_are_held, lists_leave_sound, parts_share_what_is_held};
 use ioc_record::RecordKind;
 
 /// Held sets that share no record, and in which as many have a put with notification as among all, give it up in one event: the list with
