@@ -1,7 +1,9 @@
 //! Puts with notification by calls of the engine.
 ghost use Rattle.std.specs.Prelude.{◌≡◌, ◌⊎◌, ℕ, IfOk, IfErr, OnErr};
-ghost use Rattle.ioc_values.specs.declared.error.IocError.TheVariants.{QueueFull};
+ghost use Rattle.ioc_values.specs.declared.error.IocError.TheVariants.{QueueFull, Stopped};
 ghost use Rattle.ioc_events.specs.declared.event.Event.TheVariants.{Put, Notify};
+ghost use Rattle.ioc_journal.specs.Places.{IsNoPlace};
+ghost use Rattle.ioc_held.specs.Puts.{PutsView, WasAsked};
 ghost use Rattle.ioc_set.specs.SetStore.{world_of};
 ghost use Rattle.ioc_engine.specs.Served.{WasServed, CallIsRefused};
 
@@ -11,6 +13,7 @@ use ioc_events::Reply;
 use ioc_fields::FieldNo;
 use ioc_journal::{Base, Desk, Receipt};
 use ioc_names::RecordNo;
+use ioc_notify::NotifyId;
 use ioc_record::RecordKind;
 use ioc_set::Workplace;
 use ioc_topology::Locked;
@@ -61,5 +64,30 @@ impl<K: RecordKind + Drop, B: Base<K>, D: Device> Engine<K, B, D> {
             }
         }
         unreachable!()
+    }
+
+    /// Is the put with notification of this number live? It is from its call until the last that has it is done, or it is given up.
+    ///
+    /// # Errors
+    ///
+    /// [`IocError::Stopped`]: the engine was closed. [`IocError::JournalFull`], [`IocError::NoMemory`]. Nothing has changed then.
+    pub fn live<R: Wait>(
+        &self,
+        rt: &R,
+        alloc: Global,
+        desk: &mut Desk<K, B>,
+        number: NotifyId,
+        moment: u64,
+    ) -> Result<(Reply, Receipt<K, B>), IocError>
+        ensures asked { IfOk result (λ x. (puts puts_then : PutsView) × WasAsked K.rules B.base puts desk.old moment number x.0 puts_then desk.new) }
+        ensures receipt { IfOk result (λ x. x.1 ≡ desk.new.seen) }
+        ensures refused { IfErr result (λ error. (error ≡ Stopped) ⊎ IsNoPlace error) }
+        ensures err { OnErr result (desk.new ≡ desk.old) }
+    {
+        if self.is_closed() {
+            return Err(IocError::Stopped);
+        }
+        let mut puts = self.puts.lock(rt);
+        puts.ask(rt, alloc, &self.book, desk, number, moment)
     }
 }

@@ -74,6 +74,11 @@ module _ {R : Type 0} (k : RecordRules R) where
   unfolding begun begun_at
   live_begun m moment number = refl
 
+  -- those live where an event begins are those before it
+  pub live_at : (m : World R) (moment number : ℕ) → is_live number m.live ≡ is_live number (begun_at moment m).live
+  unfolding begun begun_at
+  live_at m moment number = refl
+
   none_called : (m : World R) (moment : ℕ) → answers_of (begun_at moment m).calls ≡ []
   unfolding begun begun_at
   none_called m moment = refl

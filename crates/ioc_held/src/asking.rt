@@ -70,15 +70,15 @@ impl<K: RecordKind, B: Base<K>> AllPuts<K, B> {
         lines_tell_holders();
         self.table.is_table();
         let place = book.reserve(rt)?;
-        let reply = Reply::Live(self.table.is_live(number));
+        let is_live = self.table.is_live(number);
         let entry = Entry {
             moment,
             event: Event::IsLive(number),
             answers: KeptAnswers::new(Vec::new(alloc)),
-            reply,
+            reply: Reply::Live(is_live),
         };
         let receipt = self.keep_told(rt, book, place, desk, entry);
-        Ok((reply, receipt))
+        Ok((Reply::Live(is_live), receipt))
     }
 
     /// Refuses to give up a put with notification that isn't live; the journal keeps the refusal.
@@ -106,14 +106,13 @@ impl<K: RecordKind, B: Base<K>> AllPuts<K, B> {
         lines_tell_holders();
         self.table.is_table();
         let place = book.reserve(rt)?;
-        let reply = Reply::Refused(IocError::Stale);
         let entry = Entry {
             moment,
             event: Event::Cancel(number),
             answers: KeptAnswers::new(Vec::new(alloc)),
-            reply,
+            reply: Reply::Refused(IocError::Stale),
         };
         let receipt = self.keep_told(rt, book, place, desk, entry);
-        Ok((reply, receipt))
+        Ok((Reply::Refused(IocError::Stale), receipt))
     }
 }

@@ -115,14 +115,15 @@ impl<K: RecordKind + Drop, B: Base<K>, D: Device> Held<K, B, D> {
         ensures refused { IfErr result (λ error. (error ≡ QueueFull) ⊎ IsNoCall K.rules self.old.set (Put target field given) error) }
         ensures err { OnErr result ((self.new ≡ self.old) × (desk.new ≡ desk.old)) }
     {
-        self.test_call(&Event::Put(target, field, given))?;
+        let value = &given;
+        self.test_call(&Event::Put(target, field, *value))?;
         let mut guard = puts.lock(rt);
         let all = &mut *guard;
         let Some(number) = all.next_number() else {
             return Err(IocError::QueueFull);
         };
         self.begin_counted(
-            rt, alloc, book, all, desk, workplace, number, target, field, given, moment,
+            rt, alloc, book, all, desk, workplace, number, target, field, *value, moment,
         )
     }
 }

@@ -5,7 +5,7 @@ ghost use Rattle.ioc_events.specs.declared.event.Event.TheVariants.{Get, Process
 ghost use Rattle.ioc_events.specs.Step.{names};
 ghost use Rattle.ioc_holding.specs.Held.{Holds};
 ghost use Rattle.ioc_holding.specs.Legal.{map_of};
-ghost use Rattle.ioc_set.specs.Held.{now_of};
+ghost use Rattle.ioc_set.specs.Held.{NoneIsLive, now_of};
 ghost use Rattle.ioc_set.specs.NoCalls.{no_call};
 ghost use Rattle.ioc_set.specs.Doing.{is_ordinary};
 ghost use Rattle.ioc_journal.specs.Places.{IsNoPlace};
