@@ -1,6 +1,6 @@
 -- Places for calls: the list of entries has as many as the list of notes.
-use Rattle.std.proofs.Common.{◌≡◌, ◌≤◌, ◌<◌, ◌+◌, ℕ, List, length, Result, Ok, Err, inl, inr, ap, ◌∙◌, arith}
-use Rattle.std.specs.Prelude.{IfOk, IfErr, ◌⊎◌}
+use Rattle.std.proofs.Common.{◌≡◌, List, length, Result, Ok, Err, inl, inr, ap, ◌∙◌, arith}
+use Rattle.std.specs.Prelude.{IfOk, IfErr}
 use Rattle.ioc_values.specs.declared.error.IocError.{IocError}
 use Rattle.ioc_line.specs.declared.entry.JournalEntry.{JournalEntry}
 use Rattle.ioc_line.specs.declared.entry.Note.{Note}

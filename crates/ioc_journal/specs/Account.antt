@@ -137,3 +137,13 @@ module _ {R : Type 0} (k : RecordRules R) (base : World R) where
     pub also_goes_on : Continues other.seen other.owns log
     pub one_knows : one_then ≡ holder log one.owns
     pub other_knows : other_then ≡ holder log other.owns
+
+  -- the first of two who have seen lists owns the keys of both then, and the second none; both know a legal list, which goes on from each
+  -- without its keys
+  pub record AreMerged (one other : View) (log : List Note) (one_then other_then : View) : Type 0 where
+    pub sound : IsSound k base
+    pub legal : IsLegal k base log
+    pub goes_on : Continues one.seen one.owns log
+    pub also_goes_on : Continues other.seen other.owns log
+    pub one_owns : one_then ≡ holder log (one.owns ++ other.owns)
+    pub other_owns : other_then ≡ holder log []

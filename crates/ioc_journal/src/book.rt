@@ -4,7 +4,7 @@ ghost use Rattle.crossbeam_utils.specs.Seq.{cell_view};
 ghost use Rattle.ioc_line.specs.declared.entry.Note.{Note};
 ghost use Rattle.ioc_line.specs.Key.{Key, Has};
 ghost use Rattle.ioc_line.specs.Line.{holder};
-ghost use Rattle.ioc_journal.specs.Account.{IsHolder, AreNoDesks, AreRecords, MayFollow, BothMayFollow, Call, Added, AddedByBoth, AreKnown, calls, calls_by};
+ghost use Rattle.ioc_journal.specs.Account.{IsHolder, AreNoDesks, AreRecords, MayFollow, BothMayFollow, Call, Added, AddedByBoth, AreKnown, AreMerged, calls, calls_by};
 ghost use Rattle.ioc_journal.specs.Places.{IsNoPlace};
 ghost use Rattle.ioc_values.specs.declared.error.IocError.TheVariants.{JournalFull};
 
@@ -98,7 +98,7 @@ impl<K: RecordKind, B: Base<K>> Book<K, B> {
         entry: Entry,
     ) -> Receipt<K, B>
         requires table { set.old.table_id ≡ B.table }
-        requires set { IsHolder (cell_view set.old) × AreRecords (cell_view set.old).owns }
+        requires set { IsHolder (cell_view set.old) × AreNoDesks (cell_view set.old).owns }
         requires follows { MayFollow K.rules B.base (cell_view set.old).seen (cell_view set.old).owns entry }
         ensures call { Call K.rules B.base desk.old entry desk.new }
         ensures receipt { result ≡ desk.new.seen }
@@ -149,5 +149,18 @@ impl<K: RecordKind, B: Base<K>> Book<K, B> {
         let mut guard = self.journal.lock(rt);
         let journal = &mut *guard;
         journal.compare(rt, &self.cell, one, other);
+    }
+
+    /// The first pass takes over the keys of the other, which owns nothing then. Both know the same list.
+    pub fn merge<R: Wait>(&self, rt: &R, one: &mut Token, other: &mut Token)
+        requires table { (one.old.table_id ≡ B.table) × (other.old.table_id ≡ B.table) }
+        requires holders { IsHolder (cell_view one.old) × IsHolder (cell_view other.old) }
+        ensures table { (one.new.table_id ≡ one.old.table_id) × (other.new.table_id ≡ other.old.table_id) }
+        ensures merged { (log : List Note) × AreMerged K.rules B.base (cell_view one.old) (cell_view other.old) log (cell_view one.new) (cell_view other.new) }
+        ensures apart { (key : Key) → Has key (cell_view one.old).owns → Has key (cell_view other.old).owns → ⊥ }
+    {
+        let mut guard = self.journal.lock(rt);
+        let journal = &mut *guard;
+        journal.merge(rt, &self.cell, one, other);
     }
 }

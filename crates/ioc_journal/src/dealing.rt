@@ -1,4 +1,4 @@
-//! A call about what two passes own, after which their keys are dealt anew.
+//! Passes whose keys are dealt anew: by a call about what two of them own, or without one.
 ghost use Rattle.std.specs.Prelude.{◌≡◌, [], ◌∷◌, ◌++◌};
 ghost use Rattle.crossbeam_utils.specs.Seq.{cell_view};
 ghost use Rattle.ioc_line.specs.Key.{Key, Has};
@@ -6,7 +6,7 @@ ghost use Rattle.ioc_line.specs.Line.{keeper, holder, noted, Continues};
 ghost use Rattle.ioc_journal.specs.Account.{IsHolder};
 
 use ioc_line::relink::relink;
-use ioc_line::{Cell, JournalEntry, Keys, Said, Token};
+use ioc_line::{Cell, JournalEntry, Keys, Said, Token, pass};
 use std::marker::Brand;
 use std::sync::Wait;
 
@@ -70,4 +70,30 @@ pub(crate) fn deal<P: Keys, R: Wait>(
     ensures born { (k : Key) → Has k (cell_view desk.old).owns → Has k (cell_view master.old).born }
 {
     relink_as::<Brand, Brand, Brand, R>(rt, cell, master, one, other, desk, entry)
+}
+
+/// A pass takes over the keys of another, which owns nothing then. Both know the whole list.
+pub(crate) fn take_over<R: Wait>(
+    rt: &R,
+    cell: &Cell,
+    master: &mut Token,
+    one: &mut Token,
+    other: &mut Token,
+)
+    requires table { (master.old.table_id ≡ cell.now.table.shared.table_id) × (one.old.table_id ≡ master.old.table_id) × (other.old.table_id ≡ master.old.table_id) }
+    requires keeper { cell_view master.old ≡ keeper (cell_view master.old).seen (cell_view master.old).born }
+    requires one { IsHolder (cell_view one.old) }
+    requires other { IsHolder (cell_view other.old) }
+    ensures keeper { (master.new.table_id ≡ master.old.table_id) × (cell_view master.new ≡ cell_view master.old) }
+    ensures one { (one.new.table_id ≡ one.old.table_id) × (cell_view one.new ≡ holder (cell_view master.old).seen ((cell_view one.old).owns ++ (cell_view other.old).owns)) }
+    ensures other { (other.new.table_id ≡ other.old.table_id) × (cell_view other.new ≡ holder (cell_view master.old).seen []) }
+    ensures goes_on { Continues (cell_view one.old).seen (cell_view one.old).owns (cell_view master.old).seen × Continues (cell_view other.old).seen (cell_view other.old).owns (cell_view master.old).seen }
+    ensures apart { (k : Key) → Has k (cell_view one.old).owns → Has k (cell_view other.old).owns → ⊥ }
+{
+    let own = pass::whole(cell, one);
+    pass::take_in(rt, cell, master, own);
+    let theirs = pass::whole(cell, other);
+    pass::take_in(rt, cell, master, theirs);
+    *one = pass::rest(cell, master);
+    *other = pass::again(cell, master);
 }

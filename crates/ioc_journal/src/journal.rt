@@ -5,11 +5,11 @@ ghost use Rattle.ioc_line.specs.Key.{Key, Has};
 ghost use Rattle.ioc_line.specs.Line.{keeper, holder, Continues};
 ghost use Rattle.ioc_holding.specs.Legal.{IsLegal, IsSound};
 ghost use Rattle.ioc_values.specs.declared.error.IocError.TheVariants.{JournalFull};
-ghost use Rattle.ioc_journal.specs.Account.{AreNoDesks, AreRecords, IsHolder, MayFollow, BothMayFollow, Call, Added, AddedByBoth, calls, calls_by};
+ghost use Rattle.ioc_journal.specs.Account.{AreNoDesks, AreRecords, IsHolder, MayFollow, BothMayFollow, Call, Added, AddedByBoth, AreMerged, calls, calls_by};
 ghost use Rattle.ioc_journal.specs.Places.{AreAllowed, places_of, one_more_held, HoldsOne, HoldsNone};
 
 use crate::base::Base;
-use crate::dealing::deal;
+use crate::dealing::{deal, take_over};
 use crate::desk::Desk;
 use crate::entries::{Entries, Place};
 use crate::limits::Limits;
@@ -126,7 +126,7 @@ impl<K: RecordKind, B: Base<K>> Journal<K, B> {
         entry: Entry,
     ) -> Receipt<K, B>
         requires table { (cell.now.table.shared.table_id ≡ B.table) × (set.old.table_id ≡ B.table) }
-        requires set { IsHolder (cell_view set.old) × AreRecords (cell_view set.old).owns }
+        requires set { IsHolder (cell_view set.old) × AreNoDesks (cell_view set.old).owns }
         requires follows { MayFollow K.rules B.base (cell_view set.old).seen (cell_view set.old).owns entry }
         ensures call { Call K.rules B.base desk.old entry desk.new }
         ensures receipt { result ≡ desk.new.seen }
@@ -209,5 +209,17 @@ impl<K: RecordKind, B: Base<K>> Journal<K, B> {
         ensures same { self.new ≡ self.old }
     {
         pass::compare(rt, cell, &mut self.pass, one, other);
+    }
+
+    /// The first pass takes over the keys of the other, which owns nothing then. Both know the whole list.
+    pub fn merge<R: Wait>(&mut self, rt: &R, cell: &Cell, one: &mut Token, other: &mut Token)
+        requires table { (cell.now.table.shared.table_id ≡ B.table) × (one.old.table_id ≡ B.table) × (other.old.table_id ≡ B.table) }
+        requires holders { IsHolder (cell_view one.old) × IsHolder (cell_view other.old) }
+        ensures table { (one.new.table_id ≡ one.old.table_id) × (other.new.table_id ≡ other.old.table_id) }
+        ensures merged { AreMerged K.rules B.base (cell_view one.old) (cell_view other.old) self.old.filled (cell_view one.new) (cell_view other.new) }
+        ensures apart { (key : Key) → Has key (cell_view one.old).owns → Has key (cell_view other.old).owns → ⊥ }
+        ensures same { self.new ≡ self.old }
+    {
+        take_over(rt, cell, &mut self.pass, one, other);
     }
 }

@@ -35,7 +35,7 @@ use ioc_ledger::Tally;
 use ioc_links::MAX_DEVICE_BYTES;
 use ioc_members::{Members, Room};
 use ioc_names::RecordNo;
-use ioc_notify::NotifyId;
+use ioc_notify::{Live, NotifyId};
 use ioc_record::{RecordKind, stops_put, text_of};
 use ioc_store::scan_change::device_of;
 use ioc_values::{Finished, Input, IocError, Short};
@@ -193,6 +193,20 @@ impl<K: RecordKind, D> LockSet<K, D> {
         ensures { (answers : Answers) → result ≡ (stepped K.rules answers (now_of self.now) (IsLive number)).reply }
     {
         Reply::Live(self.puts.is_live(number))
+    }
+
+    /// The puts with notification that are live on the set, with how many of its records and waiting lists have each.
+    pub fn live_puts(&self) -> &[Live]
+        ensures { result.now ≡ self.now.live }
+    {
+        self.puts.live()
+    }
+
+    /// No more than 256 are live on the set: there is no room for more.
+    pub fn puts_are_few(&self)
+        ensures { length self.now.live ≤ 256 }
+    {
+        self.puts.are_few();
     }
 
     /// Is no put with notification live on the set? Then none waits either.

@@ -10,9 +10,10 @@ use crate::holding::hold_all;
 use ioc_dealing::laws::dealt_sets_are_parts;
 use ioc_dealing::{Loaded, deal, parts_of};
 use ioc_engine::Engine;
+use ioc_held::AllPuts;
 use ioc_holding::laws::lists_leave_sound;
 use ioc_journal::{Base, Book, Journal, Limits};
-use ioc_line::{Cell, Token};
+use ioc_line::{Cell, Token, pass};
 use ioc_record::RecordKind;
 use std::alloc::Global;
 use std::sync::ledger::Blank;
@@ -90,7 +91,11 @@ pub fn start<K: RecordKind + Drop, B: Base<K>, D: Drop>(
     else {
         return Err(StartError::NoMemory);
     };
+    let pass = pass::claim_key(&cell, &mut master, 2, 0);
+    let Ok(puts) = AllPuts::new(alloc, pass) else {
+        return Err(StartError::NoMemory);
+    };
     lists_leave_sound::<K>();
     let journal = Journal::new(alloc, master, blank, limits);
-    Ok(Engine::new(directory, Book::new(cell, journal)))
+    Ok(Engine::new(directory, Book::new(cell, journal), puts))
 }

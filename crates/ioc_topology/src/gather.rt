@@ -38,7 +38,11 @@ impl<S: Locked> Directory<S> {
     }
 
     // The cells of all sets.
-    fn all_cells(&self, rt: &impl Wait, alloc: Global) -> Result<Vec<Cell<S>>, AllocError> {
+    pub(crate) fn all_cells(
+        &self,
+        rt: &impl Wait,
+        alloc: Global,
+    ) -> Result<Vec<Cell<S>>, AllocError> {
         let cells = self.cells.read(rt);
         let mut all = Vec::with_capacity(alloc, cells.len())?;
         for (_, cell) in cells.iter() {

@@ -11,8 +11,10 @@ pub mod lent;
 pub mod locked;
 pub mod places;
 mod relink;
+pub mod taken;
 
 pub use directory::{Directory, Place};
 pub use lent::Lent;
 pub use locked::Locked;
 pub use places::{BothPlaces, NewPlaces, all_sound, are_lent};
+pub use taken::Taken;

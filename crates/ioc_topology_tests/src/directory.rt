@@ -182,6 +182,25 @@ fn sets_join_and_part(rt: HostRuntime) -> Result<(), Fail> {
 }
 
 #[test]
+fn sets_are_taken_and_put_back(rt: HostRuntime) -> Result<(), Fail> {
+    let alloc = rt.alloc();
+    let sets = singles(alloc, 4)?;
+    assert_eq!(rt; join_sets(&rt, alloc, &sets, 3, 0), Ok(()));
+    let guard = sets.guard_topology(&rt);
+    let taken = sets.take_where(&rt, alloc, &|set: &Numbers| set.list.len() == 2)?;
+    assert_eq!(rt; taken.sets.len(), 1);
+    assert!(rt; taken.sets[0].list.contains(&3));
+    let others = sets.take_where(&rt, alloc, &|set: &Numbers| set.list.len() != 0)?;
+    assert_eq!(rt; others.sets.len(), 2);
+    sets.put_back(&rt, others);
+    sets.put_back(&rt, taken);
+    drop(guard);
+    assert_eq!(rt; size_of_set(&rt, &sets, 0), Ok(2));
+    assert_eq!(rt; size_of_set(&rt, &sets, 2), Ok(1));
+    Ok(())
+}
+
+#[test]
 fn gather_finds_all(rt: HostRuntime) -> Result<(), Fail> {
     let alloc = rt.alloc();
     let mut sets = singles(alloc, 4)?;

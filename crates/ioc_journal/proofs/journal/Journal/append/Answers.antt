@@ -14,7 +14,7 @@ use Rattle.ioc_journal.proofs.journal.Journal.append.Goals as goal
 
 pub append-pass-requires-clause-apart : goal.append-pass-requires-clause-apart
 append-pass-requires-clause-apart g c = λ key a b.
-    ⊎_elim (λ (e : desk_key c.desk.inside.number ≡ key). let record_key : key.0 ≡ 0 = c.requires.set.1 key a in let desk = ap (λ (p : Key). p.0) e in absurd (omega (arith, record_key, desk))) (λ (b : ⊥). b) (subst (λ (v : View). Has key v.owns) c.desk.invariant.holds b)
+    ⊎_elim (λ (e : desk_key c.desk.inside.number ≡ key). c.requires.set.1 key a (sym (ap (λ (p : Key). p.0) e))) (λ (b : ⊥). b) (subst (λ (v : View). Has key v.owns) c.desk.invariant.holds b)
 
 pub invariant_of-result : goal.invariant_of-result
 invariant_of-result g c =

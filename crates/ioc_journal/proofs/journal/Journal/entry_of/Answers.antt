@@ -1,5 +1,4 @@
-use Rattle.std.proofs.Common.{◌≡◌, ◌<◌, ◌+◌, Option, Some, None, length, sym, ap, ◌∙◌, subst, arith}
-use Rattle.std.proofs.lemmas.Option.{slice_get-get_or}
+use Rattle.std.proofs.Common.{sym, ap, ◌∙◌, subst}
 use Rattle.std.specs.Option.{option_map}
 use Rattle.std.specs.Borrow.{Bor}
 use Rattle.std.specs.Prelude.{slice_get, List}
@@ -7,7 +6,7 @@ use Rattle.crossbeam_utils.specs.Seq.{cell_view}
 use Rattle.ioc_line.specs.declared.entry.JournalEntry.{JournalEntry}
 use Rattle.ioc_line.specs.declared.entry.Note.{Note}
 use Rattle.ioc_line.specs.Line.{Begins}
-use Rattle.ioc_journal.specs.Account.{calls, IsEntryOf}
+use Rattle.ioc_journal.specs.Account.{IsEntryOf}
 use Rattle.ioc_journal.specs.Places.{PlacesOf}
 use Rattle.ioc_journal.proofs.Ends.{is_entry_of, is_within}
 use Rattle.ioc_journal.proofs.journal.Journal.entry_of.Goals as goal

@@ -1,4 +1,4 @@
-use Rattle.std.proofs.Common.{sym, ap, ◌∙◌, subst, arith}
+use Rattle.std.proofs.Common.{sym, ap, ◌∙◌, subst}
 use Rattle.crossbeam_utils.specs.Seq.{cell_view}
 use Rattle.ioc_line.specs.declared.entry.JournalEntry.{JournalEntry}
 use Rattle.ioc_line.specs.declared.room.View.{View}

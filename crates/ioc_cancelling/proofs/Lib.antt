@@ -1,0 +1,4 @@
+mod Summing
+mod Among
+mod Cancelling
+mod Giving

@@ -1,0 +1,84 @@
+-- A put with notification that is given up in all lock sets that hold it.
+-- Application Developer's Guide, "Put with Notification" (dbNotifyCancel): nobody has it any more, and it doesn't end.
+use Rattle.std.specs.Prelude.{◌≡◌, ◌≢◌, ℕ, true, List, [], IsSome, Contains, None}
+use Rattle.std.specs.List.{AllPairs, sum_by}
+use Rattle.std.specs.FinMap.{get}
+use Rattle.ioc_device.specs.declared.Ask.{Ask}
+use Rattle.ioc_device.specs.declared.Answer.{Answer}
+use Rattle.ioc_notify.specs.Living.{holders_of, is_live}
+use Rattle.ioc_record.specs.RecordRules.{RecordRules}
+use Rattle.ioc_store.specs.World.{World, cancelled}
+use Rattle.ioc_events.specs.declared.event.Event.TheVariants.{Cancel}
+use Rattle.ioc_events.specs.declared.reply.Reply.{Reply}
+use Rattle.ioc_events.specs.declared.reply.Reply.TheVariants.{Plain}
+use Rattle.ioc_line.specs.declared.entry.Note.{Note}
+use Rattle.ioc_line.specs.Key.{Key, Has as Has_key}
+use Rattle.ioc_holding.specs.Legal.{IsLegal, map_of, notifications_key}
+use Rattle.ioc_holding.specs.Legal.{IsSound as IsSound-world}
+use Rattle.ioc_holding.specs.Held.{Holds, Cover}
+use Rattle.ioc_holding.specs.Laws.{GoesOn}
+use Rattle.ioc_set.specs.Held.{Held, now_of}
+use Rattle.ioc_set.specs.Sound.{IsSound}
+use Rattle.ioc_set.specs.Doing.{Does}
+
+-- the note of a cancel that was done, in which no device answers
+abbrev pub cancel_note : (desk call moment number : ℕ) → List Key → Note
+cancel_note desk call moment number keys =
+    record { entry = record { desk = desk; call = call; entry = record { moment = moment; event = Cancel number; answers = []; reply = Plain } }; keys = keys }
+
+-- no record is in both sets
+abbrev pub ShareNone : {R D : Type 0} → Held R D → Held R D → Type 0
+ShareNone one other = (q : ℕ) → IsSome (get one.records q) → get other.records q ≡ None
+
+-- how many have it in all these sets
+abbrev pub holders_in_all : {R D : Type 0} → ℕ → List (Held R D) → ℕ
+holders_in_all number sets = sum_by (λ h. holders_of number h.live) sets
+
+-- what a cancel has come to beside that: no device was called, nothing is sent and nothing has ended
+pub record CameToNothing {R : Type 0} (come_to : World R) : Type 0 where
+  pub calls : come_to.calls ≡ []
+  pub outbox : come_to.outbox ≡ []
+  pub ended : come_to.ended ≡ []
+
+module _ {R D : Type 0} (k : RecordRules R) where
+  -- a set has what it had, but this put with notification, which is given up
+  pub record GivesUp (number : ℕ) (before after : Held R D) : Type 0 where
+    pub records : after.records ≡ (cancelled k number (now_of before)).records
+    pub waiting : after.waiting ≡ (cancelled k number (now_of before)).waiting
+    pub live : after.live ≡ (cancelled k number (now_of before)).live
+
+  -- a set is sound and held, and these keys are those of its records, and maybe others
+  pub record IsHeldSoundly (m : World R) (keys : List Key) (h : Held R D) : Type 0 where
+    pub sound : IsSound k h
+    pub holds : Holds k m (now_of h)
+    pub covers : Cover keys (now_of h)
+
+  -- what each of the sets has once the put is given up is held in the world of all then, in which nobody has it, and as many as before have
+  -- each other
+  pub record IsGivenUpByAll (number : ℕ) (sets : List (Held R D)) (before after : World R) : Type 0 where
+    pub held : (h then : Held R D) → Contains sets h → GivesUp number h then → Holds k after (now_of then)
+    pub nobody : holders_of number after.live ≡ 0
+    pub others : (other : ℕ) → other ≢ number → holders_of other after.live ≡ holders_of other before.live
+
+  -- a cancel that was done on a set
+  pub record IsCancelled (number : ℕ) (before : Held R D) (reply : Reply) (after : Held R D) (come_to : World R) : Type 0 where
+    pub answer : reply ≡ Plain
+    pub gives_up : GivesUp number before after
+    pub nothing : CameToNothing come_to
+
+  -- a cancel of a put with notification that is live on a sound set gives it up there, and that is all
+  abbrev pub CancelGivesUp : (D → Ask → ℕ → Answer → D → Type 0) → Type 0
+  CancelGivesUp gives = (before after : Held R D) (moment number : ℕ) (reply : Reply) (come_to : World R)
+      → IsSound k before → is_live number before.live ≡ true → Does k gives before moment (Cancel number) reply after come_to
+      → IsCancelled number before reply after come_to
+
+module _ {R : Type 0} (D : Type 0) (k : RecordRules R) where
+  -- Sets that share no record, in which as many have a put with notification as in the world of all, give it up: that is one event of all
+  -- records. Its note has the keys of all the sets and that of the puts with notification
+  abbrev pub SetsGiveUp : Type 0
+  SetsGiveUp = (base : World R) (log : List Note) (sets : List (Held R D)) (desk call moment number : ℕ) (keys : List Key)
+      → IsSound-world k base → IsLegal k base log
+      → ((h : Held R D) → Contains sets h → IsHeldSoundly k (map_of k base log) keys h) → AllPairs ShareNone sets
+      → holders_in_all number sets ≡ holders_of number (map_of k base log).live → holders_of number (map_of k base log).live ≢ 0
+      → Has_key notifications_key keys
+      → GoesOn k base log (cancel_note desk call moment number keys) (IsGivenUpByAll k number sets (map_of k base log))

@@ -1,0 +1,77 @@
+//! Sets that are taken out of their cells for a while, for a call that is about all of them at once.
+ghost use Rattle.std.specs.Prelude.{true, All, IfOk, IfSome};
+ghost use Rattle.std.specs.Borrow.{Bor};
+ghost use Rattle.std.specs.Fn.{FnReturnsAt};
+
+use crate::directory::{Cell, Directory};
+use crate::locked::Locked;
+use std::alloc::{AllocError, Global};
+use std::mem;
+use std::sync::Wait;
+
+/// Sets that were taken out of their cells. Who looks for one of their records meanwhile finds a set of no records, and looks again, as
+/// while a record moves.
+#[derive(Drop)]
+pub struct Taken<S: Locked> {
+    /// The sets. Who works on them adds none and takes none away.
+    pub sets: Vec<S>,
+    // The cell of each, in the same order.
+    cells: Vec<Cell<S>>,
+}
+
+impl<S: Locked> Directory<S> {
+    /// Takes each set that meets the test out of its cell. The caller holds the topology guard until all are put back: so none parts or
+    /// joins meanwhile. One cell is locked after another, and the test takes no lock of the directory.
+    ///
+    /// # Errors
+    ///
+    /// [`AllocError`] where memory is wanting: nothing has changed then.
+    pub fn take_where<F: Fn(&S) -> bool, R: Wait>(
+        &self,
+        rt: &R,
+        alloc: Global,
+        test: &F,
+    ) -> Result<Taken<S>, AllocError>
+        requires { (s : Bor S) → S.sound s.now → F.pre test.now s }
+        ensures sound { IfOk result (λ t. All S.sound t.sets.items) }
+        ensures met { IfOk result (λ t. All (λ s. FnReturnsAt F.Fn test.now s true) t.sets.items) }
+    {
+        let mut all = self.all_cells(rt, alloc)?;
+        let mut sets = Vec::with_capacity(alloc, all.len())?;
+        let mut cells = Vec::with_capacity(alloc, all.len())?;
+        while let Some(cell) = all.pop() {
+            if let Some(set) = take_if(rt, alloc, &cell, test) {
+                sets.push_reserved(set);
+                cells.push_reserved(cell);
+            }
+        }
+        Ok(Taken { sets, cells })
+    }
+
+    /// Puts the sets back into their cells, where they are found again.
+    pub fn put_back<R: Wait>(&self, rt: &R, taken: Taken<S>) {
+        for (cell, set) in taken.cells.into_iter().zip(taken.sets) {
+            *cell.lock(rt) = set;
+        }
+    }
+}
+
+// The set of a cell, if it meets the test; a set of no records is left there.
+fn take_if<S: Locked, F: Fn(&S) -> bool, R: Wait>(
+    rt: &R,
+    alloc: Global,
+    cell: &Cell<S>,
+    test: &F,
+) -> Option<S>
+    requires { (s : Bor S) → S.sound s.now → F.pre test.now s }
+    ensures sound { IfSome result S.sound }
+    ensures met { IfSome result (λ s. FnReturnsAt F.Fn test.now s true) }
+{
+    let mut set = cell.lock(rt);
+    set.is_sound();
+    if test(&set) {
+        Some(mem::replace(&mut *set, S::empty(alloc)))
+    } else {
+        None
+    }
+}
