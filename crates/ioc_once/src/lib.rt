@@ -1,0 +1,7 @@
+//! Records that are to be requested once more, each with a ticket for its request.
+//! Application Developer's Guide, "Scanning": scanOnce.
+#![tactic(auto)]
+
+pub mod once_list;
+
+pub use once_list::{OnceList, OnceRequest};

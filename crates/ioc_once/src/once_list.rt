@@ -1,0 +1,130 @@
+//! The once list.
+ghost use Rattle.std.specs.Prelude.{◌≡◌, ◌<◌, ◌+◌, ◌-◌, ◌^◌, [], length, IfOk};
+ghost use Rattle.ioc_tickets.specs.Counts.{counts, AddUp};
+ghost use Rattle.ioc_once.specs.Waiting.{once_view, tickets_in, IsKept, IsDropped};
+
+use ioc_callback::queue::Queue;
+use ioc_names::RecordNo;
+use ioc_tickets::{Ledger, Ticket};
+use std::alloc::{AllocError, Global};
+use std::marker::Model;
+use std::sync::ledger;
+use std::sync::ledger::Blank;
+
+/// A record that is to be requested once more, with the ticket of its request.
+#[derive(Drop)]
+pub struct OnceRequest<L: ledger::Ledger> {
+    pub record: RecordNo,
+    pub ticket: Ticket<L>,
+}
+
+/// Records that are to be requested once more, at most 1,000, in the order of coming. Each has a ticket, which is out while it waits.
+#[derive(Drop)]
+pub struct OnceList<L: ledger::Ledger> {
+    queue: Queue<OnceRequest<L>, 1000>,
+    ledger: Ledger<L>,
+    dropped: u64,
+}
+
+impl<L: ledger::Ledger> Model for OnceList<L> {
+    ghost use Rattle.ioc_once.specs.Waiting.{OnceView};
+    ghost use Rattle.ioc_once.specs.WaitingCode.{once_code};
+
+    ghost Value = { OnceView };
+
+    ghost coded = { once_code };
+
+    ghost use Rattle.std.specs.Prelude.{◌≡◌};
+    ghost use Rattle.ioc_once.specs.Waiting.{once_view, records_of, tickets_in};
+
+    ghost view = { λ l. once_view (records_of l.queue) l.ledger l.dropped };
+
+    ghost invariant = { λ l. l.ledger.out ≡ tickets_in l.queue };
+}
+
+impl<L: ledger::Ledger> OnceList<L> {
+    /// None waits, and no ticket was begun. All room is taken now. The parts of the ledger are [`ioc_tickets::PARTS`].
+    ///
+    /// # Errors
+    ///
+    /// [`AllocError`] where memory is wanting.
+    pub fn new(alloc: Global, blank: Blank) -> Result<Self, AllocError>
+        requires name { blank.name ≡ L.name }
+        requires parts { (blank.parts ≡ L.parts) × (blank.parts ≡ 2 ^ 64 - 1) }
+        ensures { IfOk result (λ l. l ≡ once_view [] (counts 0 0 0 0) 0) }
+    {
+        let queue = Queue::new(alloc)?;
+        Ok(OnceList {
+            queue,
+            ledger: Ledger::new(blank),
+            dropped: 0,
+        })
+    }
+
+    /// Puts a request of a record at the end, with a ticket of its own. Where 1,000 wait it is dropped and counted, and its ticket handed back.
+    pub fn add(&mut self, number: RecordNo)
+        ensures kept { length self.old.waiting < 1000 → IsKept number self.old self.new }
+        ensures dropped { length self.old.waiting ≡ 1000 → IsDropped self.old self.new }
+    {
+        // A count of tickets is a number of 64 bits.
+        let _begun = self.ledger.begun();
+        let ticket = self.ledger.begin();
+        let request = OnceRequest {
+            record: number,
+            ticket,
+        };
+        if let Err(request) = self.queue.push(request) {
+            self.ledger.hand_back(request.ticket);
+            self.dropped = self.dropped.saturating_add(1);
+        }
+    }
+
+    /// No request waits any more: the tickets of those that did are handed back.
+    pub fn hand_back_all(&mut self)
+        ensures waiting { self.new.waiting ≡ [] }
+        ensures begun { self.new.tickets.begun ≡ self.old.tickets.begun }
+        ensures spent { self.new.tickets.spent ≡ self.old.tickets.spent }
+        ensures out { self.new.tickets.out ≡ 0 }
+        ensures dropped { self.new.dropped ≡ self.old.dropped }
+    {
+        while let Some(request) = self.queue.pop() {
+            self.ledger.hand_back(request.ticket);
+        }
+    }
+
+    /// How many wait.
+    pub fn len(&self) -> usize
+        ensures { result ≡ length self.now.waiting }
+    {
+        self.queue.len()
+    }
+
+    /// How many tickets were begun.
+    pub fn begun(&self) -> u64
+        ensures { result ≡ self.now.tickets.begun }
+    {
+        self.ledger.begun()
+    }
+
+    /// How many were handed back.
+    pub fn handed_back(&self) -> u64
+        ensures { result ≡ self.now.tickets.back }
+    {
+        self.ledger.handed_back()
+    }
+
+    /// How many are out.
+    pub fn out(&self) -> u64
+        ensures out { result ≡ self.now.tickets.out }
+        ensures all { AddUp self.now.tickets }
+    {
+        self.ledger.out()
+    }
+
+    /// How many requests found no room. A count that reaches 2^64 - 1 is full and stays there.
+    pub fn dropped(&self) -> u64
+        ensures { result ≡ self.now.dropped }
+    {
+        self.dropped
+    }
+}
