@@ -9,12 +9,14 @@ ghost use Rattle.ioc_set.specs.SetStore.{world_of};
 ghost use Rattle.ioc_journal.specs.Account.{IsAccount, calls, calls_by};
 ghost use Rattle.ioc_engine.specs.Served.{WasTold, WasServed, CallIsRefused};
 
+use crate::sending::OnceTickets;
 use ioc_device::Device;
 use ioc_events::{Event, Reply};
 use ioc_fields::FieldNo;
 use ioc_held::{AllPuts, Held};
 use ioc_journal::{Base, Book, Desk, Receipt};
 use ioc_names::RecordNo;
+use ioc_once::OnceList;
 use ioc_record::RecordKind;
 use ioc_set::Workplace;
 use ioc_topology::{Directory, Locked};
@@ -32,6 +34,8 @@ pub struct Engine<K: RecordKind + Drop, B: Base<K>, D: Drop> {
     pub(crate) book: Book<K, B>,
     // Its lock is taken while the lock of a set is held, and before that of the journal.
     pub(crate) puts: Mutex<AllPuts<K, B>>,
+    // Its lock is taken while no other is held.
+    pub(crate) once: Mutex<OnceList<OnceTickets<K, B>>>,
     // Is raised once, and stays so.
     pub(crate) closed: AtomicBool,
 }
@@ -45,14 +49,21 @@ impl<K: RecordKind + Drop, B: Base<K>, D: Drop> Model for Engine<K, B, D> {
 }
 
 impl<K: RecordKind + Drop, B: Base<K>, D: Drop> Engine<K, B, D> {
-    /// The engine of these sets, whose calls are kept in this journal, and whose puts with notification are counted in this table.
-    pub fn new(sets: Directory<Held<K, B, D>>, book: Book<K, B>, puts: AllPuts<K, B>) -> Self
+    /// The engine of these sets, whose calls are kept in this journal, whose puts with notification are counted in this table, and in whose list
+    /// records wait that are to be requested once more.
+    pub fn new(
+        sets: Directory<Held<K, B, D>>,
+        book: Book<K, B>,
+        puts: AllPuts<K, B>,
+        once: OnceList<OnceTickets<K, B>>,
+    ) -> Self
         ensures { result ≡ sets }
     {
         Engine {
             sets,
             book,
             puts: Mutex::new(puts),
+            once: Mutex::new(once),
             closed: AtomicBool::new(false),
         }
     }
@@ -97,7 +108,7 @@ impl<K: RecordKind + Drop, B: Base<K>, D: Drop> Engine<K, B, D> {
 }
 
 impl<K: RecordKind + Drop, B: Base<K>, D: Device> Engine<K, B, D> {
-    // Does an event on the set of a record.
+    // Does an event on the set of a record, and then what it has sent.
     fn serve<R: Wait>(
         &self,
         rt: &R,
@@ -127,6 +138,8 @@ impl<K: RecordKind + Drop, B: Base<K>, D: Device> Engine<K, B, D> {
                     rt, alloc, &self.book, &self.puts, desk, workplace, event, moment,
                 )?;
                 held.is_sound();
+                drop(held);
+                self.do_sent(rt, workplace);
                 return Ok((reply, receipt));
             }
         }

@@ -8,6 +8,8 @@ pub mod engine;
 mod link_changes;
 mod notifications;
 pub mod report;
+pub mod sending;
 
 pub use engine::Engine;
-pub use report::Report;
+pub use report::{OnceTally, Report};
+pub use sending::OnceTickets;

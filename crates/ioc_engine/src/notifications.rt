@@ -60,6 +60,8 @@ impl<K: RecordKind + Drop, B: Base<K>, D: Device> Engine<K, B, D> {
                     moment,
                 )?;
                 held.is_sound();
+                drop(held);
+                self.do_sent(rt, workplace);
                 return Ok((reply, receipt));
             }
         }

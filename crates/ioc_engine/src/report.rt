@@ -1,5 +1,5 @@
 //! The end of the engine.
-ghost use Rattle.std.specs.Prelude.{◌≡◌, map, All, IfOk, IfErr};
+ghost use Rattle.std.specs.Prelude.{◌≡◌, ◌+◌, map, All, IfOk, IfErr};
 ghost use Rattle.ioc_line.specs.Line.{Begins};
 ghost use Rattle.ioc_journal.specs.Account.{IsEntryOf};
 ghost use Rattle.ioc_engine.specs.Ended.{IsAsTold, IsEnd};
@@ -8,9 +8,11 @@ use crate::engine::Engine;
 use ioc_held::Held;
 use ioc_journal::{Base, Journal, Receipt};
 use ioc_line::{Cell, JournalEntry};
+use ioc_once::OnceList;
 use ioc_record::RecordKind;
 use std::alloc::Global;
 use std::sync::Wait;
+use std::sync::ledger::Ledger;
 
 /// What an engine leaves.
 #[derive(Drop)]
@@ -21,6 +23,35 @@ pub struct Report<K: RecordKind + Drop, B: Base<K>, D: Drop> {
     pub journal: Journal<K, B>,
     /// The cell that ties the passes of receipts and desks to the journal.
     pub cell: Cell,
+    /// What came of the requests that were to be made once more.
+    pub once: OnceTally,
+}
+
+/// The tickets of requests that were to be made once more. Each was begun with its request.
+#[derive(Clone, Copy, PartialEq, Eq)]
+pub struct OnceTally {
+    /// How many were begun: as many as such requests were sent.
+    pub begun: u64,
+    /// How many were handed back: those whose request waited at the end, or found no room.
+    pub handed_back: u64,
+    /// How many requests found no room.
+    pub dropped: u64,
+}
+
+// The requests that wait are given up: their tickets are handed back.
+fn give_up_all<L: Ledger>(once: OnceList<L>) -> OnceTally
+    ensures begun { result.begun ≡ once.tickets.begun }
+    ensures back { result.handed_back + once.tickets.spent ≡ once.tickets.begun }
+    ensures dropped { result.dropped ≡ once.dropped }
+{
+    let mut list = once;
+    list.hand_back_all();
+    let _out = list.out();
+    OnceTally {
+        begun: list.begun(),
+        handed_back: list.handed_back(),
+        dropped: list.dropped(),
+    }
 }
 
 // The holders of sets learn all calls.
@@ -55,6 +86,7 @@ impl<K: RecordKind + Drop, B: Base<K>, D: Drop> Engine<K, B, D> {
             mut sets,
             book,
             puts,
+            once,
             closed,
         } = self;
         let Ok(mut all) = sets.gather(rt, alloc) else {
@@ -62,6 +94,7 @@ impl<K: RecordKind + Drop, B: Base<K>, D: Drop> Engine<K, B, D> {
                 sets,
                 book,
                 puts,
+                once,
                 closed,
             });
         };
@@ -72,6 +105,7 @@ impl<K: RecordKind + Drop, B: Base<K>, D: Drop> Engine<K, B, D> {
             sets: all,
             journal,
             cell,
+            once: give_up_all(once.into_inner()),
         })
     }
 }

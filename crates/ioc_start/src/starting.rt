@@ -14,6 +14,7 @@ use ioc_held::AllPuts;
 use ioc_holding::laws::lists_leave_sound;
 use ioc_journal::{Base, Book, Journal, Limits};
 use ioc_line::{Cell, Token, pass};
+use ioc_once::OnceList;
 use ioc_record::RecordKind;
 use std::alloc::Global;
 use std::sync::ledger::Blank;
@@ -47,7 +48,7 @@ fn are_at_rest<K: RecordKind, D>(all: &[Loaded<K, D>]) -> bool
 }
 
 /// The engine of these records, each with its device, of which none was requested yet. Its name is `B`, which stands for its cell, the world at the
-/// load and the ledger of places: who starts it calls a function for any such name with `Brand` in the place of `B`.
+/// load, the ledger of places and that of once tickets: who starts it calls a function for any such name with `Brand` in the place of `B`.
 ///
 /// # Errors
 ///
@@ -57,12 +58,14 @@ pub fn start<K: RecordKind + Drop, B: Base<K>, D: Drop>(
     cell: Cell,
     master: Token,
     blank: Blank,
+    tickets: Blank,
     all: Vec<Loaded<K, D>>,
     limits: Limits,
 ) -> Result<Engine<K, B, D>, StartError>
     requires table { (cell.table.shared.table_id ≡ B.table) × (master.table_id ≡ B.table) }
     requires master { cell_view master ≡ keeper [] [] }
     requires places { (blank.name ≡ B.places) × (blank.parts ≡ 2 ^ 64 - 1) }
+    requires tickets { (tickets.name ≡ B.tickets) × (tickets.parts ≡ 2 ^ 64 - 1) }
     requires base { B.base ≡ loaded_world all.items }
     requires copies { All (λ l. l.base ≡ l.fields) all.items }
     ensures count { IfOk result (λ e. e ≡ length all.items) }
@@ -95,7 +98,10 @@ pub fn start<K: RecordKind + Drop, B: Base<K>, D: Drop>(
     let Ok(puts) = AllPuts::new(alloc, pass) else {
         return Err(StartError::NoMemory);
     };
+    let Ok(once) = OnceList::new(alloc, tickets) else {
+        return Err(StartError::NoMemory);
+    };
     lists_leave_sound::<K>();
     let journal = Journal::new(alloc, master, blank, limits);
-    Ok(Engine::new(directory, Book::new(cell, journal), puts))
+    Ok(Engine::new(directory, Book::new(cell, journal), puts, once))
 }
