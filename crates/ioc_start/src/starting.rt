@@ -2,6 +2,7 @@
 ghost use Rattle.std.specs.Prelude.{◌≡◌, ◌-◌, ◌^◌, ◌↔◌, [], All, IsTrue, IfOk, IfErr, OnOk, length};
 ghost use Rattle.crossbeam_utils.specs.Seq.{cell_view};
 ghost use Rattle.ioc_line.specs.Line.{keeper};
+ghost use Rattle.ioc_journal.specs.Account.{AreNoDesks, AreRecords};
 ghost use Rattle.ioc_journal.specs.Places.{AreAllowed};
 ghost use Rattle.ioc_start.specs.Loading.{loaded_world, IsIdle};
 ghost use Rattle.ioc_start.specs.declared.starting.StartError.TheVariants.{BadValue, NotAtRest};
@@ -9,14 +10,14 @@ ghost use Rattle.ioc_start.specs.declared.starting.StartError.TheVariants.{BadVa
 use crate::holding::hold_all;
 use ioc_dealing::laws::dealt_sets_are_parts;
 use ioc_dealing::{Loaded, deal, parts_of};
-use ioc_engine::Engine;
+use ioc_engine::{Engine, OnceTickets};
 use ioc_held::AllPuts;
 use ioc_holding::laws::lists_leave_sound;
 use ioc_journal::{Base, Book, Journal, Limits};
 use ioc_line::{Cell, Token, pass};
 use ioc_once::OnceList;
 use ioc_record::RecordKind;
-use std::alloc::Global;
+use std::alloc::{AllocError, Global};
 use std::sync::ledger::Blank;
 
 /// Why an engine isn't started.
@@ -45,6 +46,28 @@ fn are_at_rest<K: RecordKind, D>(all: &[Loaded<K, D>]) -> bool
     ensures { IsTrue result ↔ All (λ l. IsIdle K.rules l.fields) all.now }
 {
     all.iter().all(|loaded| is_at_rest(&loaded.fields))
+}
+
+// The table of all puts with notification, whose keeper gets their key, and the list of requests that are to be made once more: both are empty.
+fn new_lists<K: RecordKind, B: Base<K>>(
+    alloc: Global,
+    cell: &Cell,
+    master: &mut Token,
+    tickets: Blank,
+) -> Result<(AllPuts<K, B>, OnceList<OnceTickets<K, B>>), AllocError>
+    requires table { (cell.now.table.shared.table_id ≡ B.table) × (master.old.table_id ≡ B.table) }
+    requires master { cell_view master.old ≡ keeper [] (cell_view master.old).born }
+    requires born { AreRecords (cell_view master.old).born }
+    requires tickets { (tickets.name ≡ B.tickets) × (tickets.parts ≡ 2 ^ 64 - 1) }
+    requires none { B.base.live ≡ [] }
+    ensures table { master.new.table_id ≡ B.table }
+    ensures master { cell_view master.new ≡ keeper [] (cell_view master.new).born }
+    ensures born { AreNoDesks (cell_view master.new).born }
+{
+    let pass = pass::claim_key(cell, master, 2, 0);
+    let puts = AllPuts::new(alloc, pass)?;
+    let once = OnceList::new(alloc, tickets)?;
+    Ok((puts, once))
 }
 
 /// The engine of these records, each with its device, of which none was requested yet. Its name is `B`, which stands for its cell, the world at the
@@ -94,11 +117,7 @@ pub fn start<K: RecordKind + Drop, B: Base<K>, D: Drop>(
     else {
         return Err(StartError::NoMemory);
     };
-    let pass = pass::claim_key(&cell, &mut master, 2, 0);
-    let Ok(puts) = AllPuts::new(alloc, pass) else {
-        return Err(StartError::NoMemory);
-    };
-    let Ok(once) = OnceList::new(alloc, tickets) else {
+    let Ok((puts, once)) = new_lists::<K, B>(alloc, &cell, &mut master, tickets) else {
         return Err(StartError::NoMemory);
     };
     lists_leave_sound::<K>();
