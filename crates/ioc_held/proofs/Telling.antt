@@ -26,6 +26,10 @@ use Rattle.ioc_journal.specs.Account.{journalled, MayFollow, Added}
 use Rattle.ioc_held.specs.Puts.{puts_keys, told_at}
 use Rattle.ioc_held.proofs.Beside.{lines_are}
 
+-- an entry, with these answers
+abbrev pub entry_with : ℕ → Event → Reply → List Answer → Entry
+entry_with moment event reply answers = record { moment = moment; event = event; answers = answers; reply = reply }
+
 both_same : (a b : Bool) → (a ≡ true → b ≡ true) → (b ≡ true → a ≡ true) → a ≡ b
 both_same true b there back = sym (there refl)
 both_same false true there back = let no : false ≡ true = back refl in cc

@@ -86,10 +86,10 @@ invariant_of-self-2 g c =
           (only k g.D.Device.gives c.self.inside.set c.run_counted.new.set c.args.moment c.args.event.now c.in_ok-ran.ran.reply come_to does there c.rules_are_steps.ensures.allowed c.events_keep_records.ensures held.holds.shut);
       holds = subst (λ (x : View). Holds k (map_of k base x.seen) (now_of c.run_counted.new.set)) (sym pass.1)
           (held_beside k g.D.Device.gives c.self.inside.set c.run_counted.new.set c.args.moment c.args.event.now c.in_ok-ran.ran.reply come_to does there
-    c.holding_lasts.ensures c.events_are_held.ensures.event c.holders_move.ensures.moves c.parts_share_what_is_held.ensures.alike
-    base (cell_view c.in-Some.pass).seen also (cell_view c.in-Some.pass).owns held.owner.covers held.holds
-    (λ log sound go legal h. no_cancel k (map_of k base log) (now_of c.self.inside.set) c.args.event.now c.requires.ordinary)
-    (λ log sound go legal h. asks_nothing k (begun_at c.args.moment (now_of c.self.inside.set)) (begun_at c.args.moment (map_of k base log)) c.args.event.now c.requires.ordinary) _ entry added.0 _ added.1);
+          c.holding_lasts.ensures c.events_are_held.ensures.event c.holders_move.ensures.moves c.parts_share_what_is_held.ensures.alike
+          base (cell_view c.in-Some.pass).seen also (cell_view c.in-Some.pass).owns held.owner.covers held.holds
+          (λ log sound go legal h. no_cancel k (map_of k base log) (now_of c.self.inside.set) c.args.event.now c.requires.ordinary)
+          (λ log sound go legal h. asks_nothing k (begun_at c.args.moment (now_of c.self.inside.set)) (begun_at c.args.moment (map_of k base log)) c.args.event.now c.requires.ordinary) _ entry added.0 _ added.1);
     }
 
 pub returns-clause-serves : goal.returns-clause-serves
