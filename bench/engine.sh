@@ -13,6 +13,6 @@ for file in "$bench"/engine/*.txt; do
 done
 line=$(grep '^ioc_engine_tests' "$folder/crates.txt")
 grep -v '^ioc_engine_tests' "$folder/crates.txt" > "$folder/others.txt"
-(cat "$folder/others.txt" && echo "$line ioc_held ioc_machine") > "$folder/crates.txt"
+(cat "$folder/others.txt" && echo "$line ioc_held ioc_store") > "$folder/crates.txt"
 cd "$folder/crates/ioc_engine_tests"
 rt try --test

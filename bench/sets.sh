@@ -23,6 +23,7 @@ database() { # RECORDS CHAINED: as many records, of which the first ones stand i
   }'
 }
 database 1 0 > "$folder/one.db"
+echo 'record(longin,"r0"){field(INP,"@d")}' > "$folder/device.db"
 database 4 0 > "$folder/four.db"
 database 1000 20 > "$folder/few.db"
 database 131072 20 > "$folder/many.db"
@@ -45,6 +46,7 @@ memory() { # WORDS..: kilobytes at most, and kilobytes after three seconds
 for mode in alone bare engine; do
   echo "a request of a lone longin, $mode: $(each "$folder/one.db" $mode) instructions"
 done
+echo "a put with notification and its completion: $(each "$folder/device.db" notify) instructions"
 for db in few many; do
   echo "a link change between two sets of ten, $db records: $(each "$folder/$db.db" link) instructions"
 done

@@ -1,14 +1,15 @@
 //! Calls of a desk, each by itself, so that what one promises isn't carried along to the next.
-use crate::opened::{Holding, link_to};
+use crate::opened::{Holding, Later, link_to};
 use ioc_engine::Engine;
 use ioc_events::Reply;
 use ioc_fields::{CommonField, FieldNo, OwnField};
 use ioc_journal::{Base, Desk};
 use ioc_names::RecordNo;
+use ioc_notify::NotifyId;
 use ioc_record::copy_link;
 use ioc_set::Workplace;
 use ioc_types::Record;
-use ioc_values::{Input, IocError};
+use ioc_values::{Finished, Input, IocError, Value};
 use std::alloc::Global;
 use std::sync::Wait;
 
@@ -130,4 +131,74 @@ pub fn set_link<B: Base<Record>, R: Wait>(
         )
         .ok()?;
     Some((changed.reply, changed.moved))
+}
+
+/// A put of a text with notification.
+pub fn put_notify<B: Base<Record>, R: Wait>(
+    rt: &R,
+    alloc: Global,
+    engine: &Engine<Record, B, Later>,
+    desk: &mut Desk<Record, B>,
+    place: &mut Workplace<Record, Later>,
+    number: usize,
+    text: &[u8],
+) -> Result<Told, IocError> {
+    let given = Input::from_text(text);
+    let (reply, receipt) = engine.put_notify(
+        rt,
+        alloc,
+        desk,
+        place,
+        RecordNo::new(number),
+        VAL,
+        given,
+        1,
+    )?;
+    Ok(Told {
+        reply,
+        place: receipt.place(),
+    })
+}
+
+/// The question whether a put with notification is live.
+pub fn live<B: Base<Record>, R: Wait>(
+    rt: &R,
+    alloc: Global,
+    engine: &Engine<Record, B, Later>,
+    desk: &mut Desk<Record, B>,
+    number: u64,
+) -> Result<Told, IocError> {
+    let (reply, receipt) = engine.live(rt, alloc, desk, NotifyId::new(number), 1)?;
+    Ok(Told {
+        reply,
+        place: receipt.place(),
+    })
+}
+
+/// A completion.
+pub fn complete<B: Base<Record>, R: Wait>(
+    rt: &R,
+    alloc: Global,
+    engine: &Engine<Record, B, Later>,
+    desk: &mut Desk<Record, B>,
+    place: &mut Workplace<Record, Later>,
+    number: usize,
+    wait: u64,
+    value: i32,
+) -> Result<Told, IocError> {
+    let given = Finished::Done(Value::Long(value));
+    let (reply, receipt) = engine.complete(
+        rt,
+        alloc,
+        desk,
+        place,
+        RecordNo::new(number),
+        wait,
+        given,
+        1,
+    )?;
+    Ok(Told {
+        reply,
+        place: receipt.place(),
+    })
 }

@@ -8,6 +8,8 @@ mod calls;
 #[cfg(test)]
 mod eight;
 #[cfg(test)]
+mod notifying;
+#[cfg(test)]
 mod opened;
 #[cfg(test)]
 mod threads;

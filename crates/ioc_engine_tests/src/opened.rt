@@ -55,6 +55,22 @@ impl Device for Holding {
     }
 }
 
+/// A device whose answers all come later.
+#[derive(Drop)]
+pub struct Later;
+
+impl Device for Later {
+    ghost gives = { λ _ _ _ _ _. Unit {0} };
+
+    fn read(&mut self, _moment: u64) -> Answer {
+        Answer::Later
+    }
+
+    fn write(&mut self, _value: Value, _moment: u64) -> Answer {
+        Answer::Later
+    }
+}
+
 /// The records of a text, of which the first may have a device.
 pub fn loaded<D: Drop>(
     alloc: Global,
