@@ -119,16 +119,20 @@ fn call_each<B: Base<Record>, R: Wait>(
     cell: Cell,
     master: Token,
     blank: Blank,
+    tickets: Blank,
     all: Vec<Loaded<Record, Holding>>,
     limits: Limits,
 ) -> Option<Seen>
     requires table { (cell.table.shared.table_id ≡ B.table) × (master.table_id ≡ B.table) }
     requires master { cell_view master ≡ keeper [] [] }
     requires places { (blank.name ≡ B.places) × (blank.parts ≡ 2 ^ 64 - 1) }
+    requires tickets { (tickets.name ≡ B.tickets) × (tickets.parts ≡ 2 ^ 64 - 1) }
     requires base { B.base ≡ loaded_world all.items }
     requires copies { All (λ l. l.base ≡ l.fields) all.items }
 {
-    let engine: Engine<Record, B, Holding> = start(alloc, cell, master, blank, all, limits).ok()?;
+    let engine: Engine<Record, B, Holding> = start(
+        alloc, cell, master, blank, tickets, all, limits,
+    ).ok()?;
     let (mut desk, mut place) = seat(rt, alloc, &engine)?;
     Some(calls_seen(rt, alloc, &engine, &mut desk, &mut place))
 }
@@ -158,16 +162,20 @@ fn change_each<B: Base<Record>, R: Wait>(
     cell: Cell,
     master: Token,
     blank: Blank,
+    tickets: Blank,
     all: Vec<Loaded<Record, Holding>>,
     limits: Limits,
 ) -> Option<([usize; 4], usize)>
     requires table { (cell.table.shared.table_id ≡ B.table) × (master.table_id ≡ B.table) }
     requires master { cell_view master ≡ keeper [] [] }
     requires places { (blank.name ≡ B.places) × (blank.parts ≡ 2 ^ 64 - 1) }
+    requires tickets { (tickets.name ≡ B.tickets) × (tickets.parts ≡ 2 ^ 64 - 1) }
     requires base { B.base ≡ loaded_world all.items }
     requires copies { All (λ l. l.base ≡ l.fields) all.items }
 {
-    let engine: Engine<Record, B, Holding> = start(alloc, cell, master, blank, all, limits).ok()?;
+    let engine: Engine<Record, B, Holding> = start(
+        alloc, cell, master, blank, tickets, all, limits,
+    ).ok()?;
     let (mut desk, mut place) = seat(rt, alloc, &engine)?;
     let first = moved(rt, alloc, &engine, &mut desk, &mut place, 2, None)?;
     let second = moved(rt, alloc, &engine, &mut desk, &mut place, 2, Some(10))?;
@@ -188,6 +196,7 @@ fn calls_of_one_desk(rt: HostRuntime) -> Result<(), Fail> {
         cell,
         master,
         Blank::new(PLACES),
+        Blank::new(PLACES),
         all,
         Limits::default(),
     );
@@ -205,6 +214,7 @@ fn moved_by_link_changes(rt: HostRuntime) -> Result<(), Fail> {
         alloc,
         cell,
         master,
+        Blank::new(PLACES),
         Blank::new(PLACES),
         all,
         Limits::default(),

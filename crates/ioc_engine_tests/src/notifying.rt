@@ -80,16 +80,20 @@ fn notify_each<B: Base<Record>, R: Wait>(
     cell: Cell,
     master: Token,
     blank: Blank,
+    tickets: Blank,
     all: Vec<Loaded<Record, Later>>,
     limits: Limits,
 ) -> Option<[Reply; 6]>
     requires table { (cell.table.shared.table_id ≡ B.table) × (master.table_id ≡ B.table) }
     requires master { cell_view master ≡ keeper [] [] }
     requires places { (blank.name ≡ B.places) × (blank.parts ≡ 2 ^ 64 - 1) }
+    requires tickets { (tickets.name ≡ B.tickets) × (tickets.parts ≡ 2 ^ 64 - 1) }
     requires base { B.base ≡ loaded_world all.items }
     requires copies { All (λ l. l.base ≡ l.fields) all.items }
 {
-    let engine: Engine<Record, B, Later> = start(alloc, cell, master, blank, all, limits).ok()?;
+    let engine: Engine<Record, B, Later> = start(
+        alloc, cell, master, blank, tickets, all, limits,
+    ).ok()?;
     let mut desk = engine.open_desk(rt).ok()?;
     let mut place = Workplace::new(alloc).ok()?;
     answers(rt, alloc, &engine, &mut desk, &mut place)
@@ -105,6 +109,7 @@ fn live_until_done(rt: HostRuntime) -> Result<(), Fail> {
         alloc,
         cell,
         master,
+        Blank::new(PLACES),
         Blank::new(PLACES),
         all,
         Limits::default(),

@@ -79,6 +79,7 @@ fn both<B: Base<Record> + Send + Sync, R: Threads + Wait + Sync>(
     cell: Cell,
     master: Token,
     blank: Blank,
+    tickets: Blank,
     all: Vec<Loaded<Record, Holding>>,
     limits: Limits,
     asked: &AtomicU64,
@@ -88,10 +89,13 @@ fn both<B: Base<Record> + Send + Sync, R: Threads + Wait + Sync>(
     requires table { (cell.table.shared.table_id ≡ B.table) × (master.table_id ≡ B.table) }
     requires master { cell_view master ≡ keeper [] [] }
     requires places { (blank.name ≡ B.places) × (blank.parts ≡ 2 ^ 64 - 1) }
+    requires tickets { (tickets.name ≡ B.tickets) × (tickets.parts ≡ 2 ^ 64 - 1) }
     requires base { B.base ≡ loaded_world all.items }
     requires copies { All (λ l. l.base ≡ l.fields) all.items }
 {
-    let engine: Engine<Record, B, Holding> = start(alloc, cell, master, blank, all, limits).ok()?;
+    let engine: Engine<Record, B, Holding> = start(
+        alloc, cell, master, blank, tickets, all, limits,
+    ).ok()?;
     let shared = &engine;
     let (held, other) = thread::join(
         rt,
@@ -135,6 +139,7 @@ fn beside_a_held_set<R: Threads + Wait + Sync>(
         alloc,
         cell,
         master,
+        Blank::new(PLACES),
         Blank::new(PLACES),
         all,
         Limits::default(),
