@@ -1,3 +1,4 @@
 pub mod Served
 pub mod Ended
 pub mod Linked
+pub mod Seen

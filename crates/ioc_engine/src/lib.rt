@@ -7,6 +7,7 @@
 pub mod engine;
 mod link_changes;
 mod notifications;
+mod parts;
 pub mod report;
 pub mod sending;
 

@@ -1,0 +1,88 @@
+//! Which records are in one lock set.
+ghost use Rattle.std.specs.Prelude.{◌≡◌, All, IfOk, IfErr};
+ghost use Rattle.ioc_held.specs.Holding.{numbers_of};
+ghost use Rattle.ioc_topology.specs.Change.{IsRefused};
+ghost use Rattle.ioc_engine.specs.Seen.{IsPartSeen};
+
+use crate::engine::Engine;
+use ioc_held::Held;
+use ioc_journal::Base;
+use ioc_names::RecordNo;
+use ioc_record::RecordKind;
+use ioc_topology::Locked;
+use ioc_values::IocError;
+use std::alloc::{AllocError, Global};
+use std::sync::Wait;
+
+// The numbers of a set's records.
+fn numbers_in<K: RecordKind + Drop, B: Base<K>, D: Drop>(
+    alloc: Global,
+    held: &Held<K, B, D>,
+) -> Result<Vec<RecordNo>, AllocError>
+    ensures { IfOk result (λ v. v.items ≡ numbers_of held.now) }
+{
+    let mut numbers = Vec::with_capacity(alloc, held.len())?;
+    for place in 0..held.len() {
+        numbers.push(held.number_at(place))?;
+    }
+    Ok(numbers)
+}
+
+// These records have been seen.
+fn mark_all(numbers: &[RecordNo], marks: &mut [bool]) {
+    for number in numbers {
+        if let Some(mark) = marks.get_mut(number.index()) {
+            *mark = true;
+        }
+    }
+}
+
+impl<K: RecordKind + Drop, B: Base<K>, D: Drop> Engine<K, B, D> {
+    // The records of the set that has this one.
+    fn part_of<R: Wait>(
+        &self,
+        rt: &R,
+        alloc: Global,
+        number: RecordNo,
+    ) -> Result<Vec<RecordNo>, IocError>
+        ensures seen { IfOk result (λ v. IsPartSeen D K.rules B.base v.items) }
+        ensures refused { IfErr result (IsRefused self.now number) }
+    {
+        for _ in rt.forever() {
+            let cell = self.sets.lock_of(rt, number)?;
+            let held = cell.lock(rt);
+            if held.has(number) {
+                held.is_sound();
+                let Ok(numbers) = numbers_in(alloc, &held) else {
+                    return Err(IocError::NoMemory);
+                };
+                return Ok(numbers);
+            }
+        }
+        unreachable!()
+    }
+
+    /// The records of each set, as they were while its lock was held: sets that link changes part and join meanwhile may be seen before or after that.
+    ///
+    /// # Errors
+    ///
+    /// [`IocError::Stopped`]: the engine was closed. [`IocError::NoMemory`].
+    pub fn parts<R: Wait>(&self, rt: &R, alloc: Global) -> Result<Vec<Vec<RecordNo>>, IocError>
+        ensures { IfOk result (λ all. All (λ v. IsPartSeen D K.rules B.base v.items) all.items) }
+    {
+        if self.is_closed() {
+            return Err(IocError::Stopped);
+        }
+        let mut marks = vec![in alloc; false; self.sets.len()]?;
+        let mut parts = Vec::new(alloc);
+        for number in 0..self.sets.len() {
+            if let Some(true) = marks.get(number) {
+                continue;
+            }
+            let part = self.part_of(rt, alloc, RecordNo::new(number))?;
+            mark_all(part.as_slice(), marks.as_mut_slice());
+            parts.push(part)?;
+        }
+        Ok(parts)
+    }
+}
