@@ -27,7 +27,7 @@ use Rattle.ioc_together.specs.Passes.{Slot, view_in, OwnApart, AreTakenOver, put
 use Rattle.ioc_together.specs.Sets.{EachGivesUp, EachIsHeldBy, HaveAll, cancel_entry}
 use Rattle.ioc_together.proofs.TakingOver.{continues_on}
 
-get_or_same : {X : Type 0} (xs : List X) (k : ℕ) (d e : X) → k < length xs → get_or xs k d ≡ get_or xs k e
+pub get_or_same : {X : Type 0} (xs : List X) (k : ℕ) (d e : X) → k < length xs → get_or xs k d ≡ get_or xs k e
 get_or_same xs k d e lt = grind (arith, common_steps)
 
 module _ {R : Type 0} (k : RecordRules R) (base : World R) where

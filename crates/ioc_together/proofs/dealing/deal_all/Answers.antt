@@ -1,6 +1,5 @@
 use Rattle.std.proofs.Common.{◌≡◌, ◌≢◌, ℕ, ◌+◌, ◌<◌, List, Some, refl, sym, ap, ap₂, subst, ◌∙◌, length, get_or, get_or-set_other, get_or-set_same, below_more, arith, rules}
 use Rattle.std.specs.Prelude.{slice_set}
-use Rattle.std.proofs.lemmas.Grind.{common_steps}
 use Rattle.ioc_line.specs.declared.room.View.{View}
 use Rattle.ioc_line.specs.Key.{Key, Has}
 use Rattle.ioc_line.specs.Line.{holder}
@@ -9,11 +8,9 @@ use Rattle.ioc_holding.specs.Held.{Cover}
 use Rattle.ioc_set.specs.Held.{Held, now_of}
 use Rattle.ioc_cancelling.specs.Laws.{ShareNone}
 use Rattle.ioc_together.specs.Passes.{Slot, view_of, keys_of, IsDealt}
+use Rattle.ioc_together.proofs.Following.{get_or_same}
 use Rattle.ioc_together.proofs.Keys.{others_cover, puts_among}
 use Rattle.ioc_together.proofs.dealing.deal_all.Goals as goal
-
-get_or_same : {X : Type 0} (xs : List X) (k : ℕ) (d e : X) → k < length xs → get_or xs k d ≡ get_or xs k e
-get_or_same xs k d e lt = grind (arith, common_steps)
 
 pub loop-i-preserved : goal.loop-i-preserved
 loop-i-preserved g c =
