@@ -1,13 +1,13 @@
 -- What follows once one pass owns the keys of all sets that have a put with notification, and of the puts with notification.
-use Rattle.std.proofs.Common.{◌≡◌, ◌≢◌, ℕ, ◌<◌, List, [], ◌∷◌, ◌++◌, length, get_or, Option, None, true, refl, sym, ap, subst, ◌∙◌, inl, arith}
-use Rattle.std.specs.Prelude.{IsSome, is_some, All, Contains}
+use Rattle.std.proofs.Common.{◌≡◌, ◌≢◌, ℕ, ◌<◌, List, ◌++◌, length, get_or, Option, None, true, refl, sym, ap, subst, ◌∙◌, inl, arith}
+use Rattle.std.specs.Prelude.{IsSome, is_some, Contains}
 use Rattle.std.specs.List.{AllPairs}
 use Rattle.std.specs.FinMap.{get, contains_key}
 use Rattle.std.proofs.lemmas.Grind.{common_steps}
 use Rattle.atomic_table.specs.Seated.{TableId}
 use Rattle.ioc_notify.specs.Living.{holders_of}
 use Rattle.ioc_record.specs.RecordRules.{RecordRules}
-use Rattle.ioc_store.specs.World.{World, Has, cancelled}
+use Rattle.ioc_store.specs.World.{World}
 use Rattle.ioc_store.specs.Freeing.{has-cancelled}
 use Rattle.ioc_line.specs.declared.entry.Note.{Note}
 use Rattle.ioc_line.specs.declared.room.View.{View}
@@ -22,8 +22,8 @@ use Rattle.ioc_holding.proofs.Basics.{is-none}
 use Rattle.ioc_journal.specs.Account.{MayFollow, Added}
 use Rattle.ioc_set.specs.Held.{Held, now_of}
 use Rattle.ioc_set.specs.Sound.{IsSound}
-use Rattle.ioc_cancelling.specs.Laws.{cancel_note, ShareNone, GivesUp, IsHeldSoundly, IsGivenUpByAll, SetsGiveUp}
-use Rattle.ioc_together.specs.Passes.{Slot, view_in, OwnApart, AreTakenOver, puts_key}
+use Rattle.ioc_cancelling.specs.Laws.{cancel_note, ShareNone, IsHeldSoundly, IsGivenUpByAll, SetsGiveUp}
+use Rattle.ioc_together.specs.Passes.{Slot, view_in, AreTakenOver, puts_key}
 use Rattle.ioc_together.specs.Sets.{EachGivesUp, EachIsHeldBy, HaveAll, cancel_entry}
 use Rattle.ioc_together.proofs.TakingOver.{continues_on}
 

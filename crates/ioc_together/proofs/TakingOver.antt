@@ -1,5 +1,5 @@
 -- One more pass whose keys were taken over.
-use Rattle.std.proofs.Common.{◌≡◌, ℕ, ◌<◌, List, [], ◌∷◌, ◌++◌, length, get_or, refl, sym, ap, subst, ◌∙◌, ⊎_elim, append_assoc, arith}
+use Rattle.std.proofs.Common.{◌≡◌, List, [], ◌∷◌, ◌++◌, get_or, refl, sym, ap, subst, ◌∙◌, ⊎_elim, append_assoc, arith}
 use Rattle.std.proofs.lemmas.List.Elements.{All-push}
 use Rattle.std.proofs.lemmas.List.Quantifiers.{all_pairs_push}
 use Rattle.atomic_table.specs.Seated.{TableId}
@@ -62,12 +62,12 @@ module _ {R : Type 0} (k : RecordRules R) (base : World R) where
       owned = λ key has. still key (taken.owned key has);
       taken = All-push (IsTakenOver v') ps p
           (λ i d lt. record {
-          goes_on = goes_still (view_in (get_or ps i d)).seen (view_in (get_or ps i d)).owns (taken.taken i d lt).goes_on (taken.taken i d lt).owned;
-          owned = λ key has. still key ((taken.taken i d lt).owned key has);
-        })
+            goes_on = goes_still (view_in (get_or ps i d)).seen (view_in (get_or ps i d)).owns (taken.taken i d lt).goes_on (taken.taken i d lt).owned;
+            owned = λ key has. still key ((taken.taken i d lt).owned key has);
+          })
           (record {
-          goes_on = subst (λ (l : List Note). Continues (view_in p).seen (view_in p).owns l) (sym seen_then) merged.also_goes_on;
-          owned = λ key has. subst (Has key) (sym owns_then) (has_right key v.owns (view_in p).owns has);
-        });
+            goes_on = subst (λ (l : List Note). Continues (view_in p).seen (view_in p).owns l) (sym seen_then) merged.also_goes_on;
+            owned = λ key has. subst (Has key) (sym owns_then) (has_right key v.owns (view_in p).owns has);
+          });
       apart = all_pairs_push OwnApart ps p taken.apart (λ i d lt. λ key here there. apart key ((taken.taken i d lt).owned key here) there);
     }

@@ -1,4 +1,4 @@
-use Rattle.std.proofs.Common.{◌≡◌, ◌≢◌, ℕ, ◌+◌, ◌<◌, List, Some, refl, sym, ap, ap₂, subst, ◌∙◌, length, get_or, get_or-set_other, get_or-set_same, below_more, arith, rules}
+use Rattle.std.proofs.Common.{◌≡◌, ◌≢◌, ℕ, ◌<◌, List, Some, sym, ap, ap₂, subst, ◌∙◌, length, get_or, get_or-set_other, get_or-set_same, below_more, arith, rules}
 use Rattle.std.specs.Prelude.{slice_set}
 use Rattle.ioc_line.specs.declared.room.View.{View}
 use Rattle.ioc_line.specs.Key.{Key, Has}

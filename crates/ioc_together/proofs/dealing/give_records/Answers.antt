@@ -1,4 +1,4 @@
-use Rattle.std.proofs.Common.{◌++◌, List, ap₂, subst, ◌∙◌}
+use Rattle.std.proofs.Common.{◌++◌, List, ap₂, subst}
 use Rattle.crossbeam_utils.specs.Seq.{cell_view}
 use Rattle.ioc_line.specs.Key.{Key, Has}
 use Rattle.ioc_together.proofs.Keys.{own_within, own_apart}

@@ -1,4 +1,4 @@
-use Rattle.std.proofs.Common.{◌≡◌, ◌≢◌, ◌<◌, ℕ, List, length, get_or, refl, sym, ap, subst, ◌∙◌, arith}
+use Rattle.std.proofs.Common.{List, get_or, sym, ap, subst, ◌∙◌, arith}
 use Rattle.atomic_table.specs.Seated.{TableId}
 use Rattle.crossbeam_utils.specs.Seq.{cell_view}
 use Rattle.ioc_device.specs.declared.Answer.{Answer}
@@ -59,13 +59,13 @@ returns-clause-gave_up g c =
       dealt = λ i d e lt. subst (λ (t : TableId). IsDealt t longer (get_or after i d) (get_or c.deal_all.new.passes i e)) table
           (subst (λ (l : List Note). IsDealt c.append-receipt.new.set.table_id l (get_or after i d) (get_or c.deal_all.new.passes i e)) seen (c.deal_all.ensures.dealt i d e lt));
       holds = λ i d lt. held_then g.K.RecordKind.rules g.B.Base.base c.holding_lasts.ensures c.live_lasts.ensures c.cancelled_sets_are_held.ensures g.B.Room.table c.args.number c.args.moment c.args.sets.now c.args.passes.now (cell_view c.args.keeper.now) (cell_view c.merge_all.new.keeper)
-    c.requires.keeper.1 c.requires.held c.requires.have c.all_sound.ensures c.requires.beside c.merge_all.ensures.merged
+          c.requires.keeper.1 c.requires.held c.requires.have c.all_sound.ensures c.requires.beside c.merge_all.ensures.merged
           log longer added after c.in_default.ensures.ok i d (let same = c.cancel_all.auto.sets in omega (arith, lt, same));
       keeps = c.deal_all.ensures.keeper.1 ∙ ap (λ (l : List Note). holder l puts_key) seen;
       nobody = nobody_then g.K.RecordKind.rules g.B.Base.base c.holding_lasts.ensures c.live_lasts.ensures c.cancelled_sets_are_held.ensures g.B.Room.table c.args.number c.args.moment c.args.sets.now c.args.passes.now (cell_view c.args.keeper.now) (cell_view c.merge_all.new.keeper)
-    c.requires.keeper.1 c.requires.held c.requires.have c.all_sound.ensures c.requires.beside c.merge_all.ensures.merged
+          c.requires.keeper.1 c.requires.held c.requires.have c.all_sound.ensures c.requires.beside c.merge_all.ensures.merged
           log longer added;
       others = others_then g.K.RecordKind.rules g.B.Base.base c.holding_lasts.ensures c.live_lasts.ensures c.cancelled_sets_are_held.ensures g.B.Room.table c.args.number c.args.moment c.args.sets.now c.args.passes.now (cell_view c.args.keeper.now) (cell_view c.merge_all.new.keeper)
-    c.requires.keeper.1 c.requires.held c.requires.have c.all_sound.ensures c.requires.beside c.merge_all.ensures.merged
+          c.requires.keeper.1 c.requires.held c.requires.have c.all_sound.ensures c.requires.beside c.merge_all.ensures.merged
           log longer added;
     }

@@ -1,6 +1,5 @@
 use Rattle.std.proofs.Common.{◌≡◌, ◌≢◌, ◌<◌, ◌++◌, ◌∷◌, [], List, Some, refl, sym, ap, subst, ◌∙◌, length, get_or, take, get_or-set_other, arith, rules}
 use Rattle.std.proofs.lemmas.List.{take_more}
-use Rattle.crossbeam_utils.specs.Seq.{cell_view}
 use Rattle.ioc_together.specs.Passes.{Slot, view_of, IsPassIn, AreTakenOver}
 use Rattle.ioc_together.proofs.TakingOver.{none_taken, one_more_taken, pass_then}
 use Rattle.ioc_together.proofs.merging.merge_all.Goals as goal

@@ -1,4 +1,4 @@
-use Rattle.std.proofs.Common.{◌≡◌, ℕ, ◌≤◌, ◌<◌, length, take}
+use Rattle.std.proofs.Common.{◌≡◌, ℕ, ◌≤◌, take}
 use Rattle.std.specs.Prelude.{slice_index_or}
 use Rattle.ioc_together.specs.Passes.{Slot, view_of, IsPassOf, AreTakenOver}
 use Rattle.ioc_together.proofs.merging.merge_all.Given as goal
