@@ -12,7 +12,7 @@ ghost use Rattle.ioc_engine.specs.Served.{WasTold, WasServed, CallIsRefused};
 use ioc_device::Device;
 use ioc_events::{Event, Reply};
 use ioc_fields::FieldNo;
-use ioc_held::Held;
+use ioc_held::{AllPuts, Held};
 use ioc_journal::{Base, Book, Desk, Receipt};
 use ioc_names::RecordNo;
 use ioc_record::RecordKind;
@@ -21,8 +21,8 @@ use ioc_topology::{Directory, Locked};
 use ioc_values::{Finished, Input, IocError};
 use std::alloc::Global;
 use std::marker::Model;
-use std::sync::Wait;
 use std::sync::atomic::{AtomicBool, Ordering};
+use std::sync::{Mutex, Wait};
 
 /// The records of a database in their lock sets, each set under a lock of its own, and the journal of all calls. Contracts see it as the number
 /// of its records.
@@ -30,6 +30,8 @@ use std::sync::atomic::{AtomicBool, Ordering};
 pub struct Engine<K: RecordKind + Drop, B: Base<K>, D: Drop> {
     pub(crate) sets: Directory<Held<K, B, D>>,
     pub(crate) book: Book<K, B>,
+    // Its lock is taken while the lock of a set is held, and before that of the journal.
+    pub(crate) puts: Mutex<AllPuts<K, B>>,
     // Is raised once, and stays so.
     pub(crate) closed: AtomicBool,
 }
@@ -43,13 +45,14 @@ impl<K: RecordKind + Drop, B: Base<K>, D: Drop> Model for Engine<K, B, D> {
 }
 
 impl<K: RecordKind + Drop, B: Base<K>, D: Drop> Engine<K, B, D> {
-    /// The engine of these sets, whose calls are kept in this journal.
-    pub fn new(sets: Directory<Held<K, B, D>>, book: Book<K, B>) -> Self
+    /// The engine of these sets, whose calls are kept in this journal, and whose puts with notification are counted in this table.
+    pub fn new(sets: Directory<Held<K, B, D>>, book: Book<K, B>, puts: AllPuts<K, B>) -> Self
         ensures { result ≡ sets }
     {
         Engine {
             sets,
             book,
+            puts: Mutex::new(puts),
             closed: AtomicBool::new(false),
         }
     }
@@ -121,7 +124,7 @@ impl<K: RecordKind + Drop, B: Base<K>, D: Device> Engine<K, B, D> {
             if held.has(number) {
                 held.is_sound();
                 let (reply, receipt) = held.serve(
-                    rt, alloc, &self.book, desk, workplace, event, moment,
+                    rt, alloc, &self.book, &self.puts, desk, workplace, event, moment,
                 )?;
                 held.is_sound();
                 return Ok((reply, receipt));

@@ -6,6 +6,7 @@
 
 pub mod engine;
 mod link_changes;
+mod notifications;
 pub mod report;
 
 pub use engine::Engine;

@@ -54,10 +54,16 @@ impl<K: RecordKind + Drop, B: Base<K>, D: Drop> Engine<K, B, D> {
         let Engine {
             mut sets,
             book,
+            puts,
             closed,
         } = self;
         let Ok(mut all) = sets.gather(rt, alloc) else {
-            return Err(Engine { sets, book, closed });
+            return Err(Engine {
+                sets,
+                book,
+                puts,
+                closed,
+            });
         };
         let (cell, mut journal) = book.into_parts();
         journal.is_legal();

@@ -1,5 +1,5 @@
 -- What the holders of two sets know after a link change that leads from one into the other.
-use Rattle.std.proofs.Common.{◌≡◌, ◌⊎◌, ℕ, List, [], ◌∷◌, ◌++◌, Option, Some, None, refl, sym, ap, subst, ◌∙◌, inl, inr, ⊎_elim}
+use Rattle.std.proofs.Common.{◌≡◌, ◌⊎◌, ℕ, List, [], ◌∷◌, ◌++◌, Option, Some, None, refl, sym, ap, subst, inl, inr, ⊎_elim}
 use Rattle.std.specs.Prelude.{IsSome}
 use Rattle.std.specs.FinMap.{get, insert}
 use Rattle.ioc_fields.specs.declared.field_no.FieldNo.{FieldNo}
@@ -18,12 +18,13 @@ use Rattle.ioc_line.specs.KeyLaws.{has_left, has_right}
 use Rattle.ioc_line.specs.Line.{Continues, holder}
 use Rattle.ioc_holding.specs.Legal.{IsLegal, IsSound, key_of, map_of}
 use Rattle.ioc_holding.specs.Held.{Holds, Cover}
-use Rattle.ioc_holding.specs.Laws.{Lasts, GoesOn}
+use Rattle.ioc_holding.specs.Laws.{Lasts, GoesOn, StaysSound}
 use Rattle.ioc_holding.specs.LinkChange.{TakesLink, link_note}
-use Rattle.ioc_relinking.specs.Laws.{SetsLead}
-use Rattle.ioc_set.specs.Held.{Held, NoneIsLive, now_of, resting}
+use Rattle.ioc_relinking.specs.Laws.{SetsLead, SetsMayBeOne}
+use Rattle.ioc_journal.specs.Account.{AreKnown}
+use Rattle.ioc_set.specs.Held.{Held, now_of, resting}
 use Rattle.ioc_set.specs.Sound.{IsSound as IsSound-set}
-use Rattle.ioc_set.specs.Linking.{LeadsInto}
+use Rattle.ioc_set.specs.Linking.{LeadsInto, MayBeOne}
 use Rattle.ioc_held.specs.LinkChanges.{keys_of}
 use Rattle.ioc_held.proofs.Dealing.{none_some, of_first, of_other, not_both, dealt_within, dealt_apart}
 use Rattle.ioc_held.proofs.Parting.{rewired_back, begun_there, begun_back}
@@ -99,14 +100,6 @@ module _ {R D : Type 0} (k : RecordRules R) (before other after other_then rest 
         (λ r has. has_left (key_of r) (owned ++ also) own (has_right (key_of r) owned also (also_covers r has)))
         apart takes to led rest_sound
 
--- where no put with notification is live on two sets, none is on what becomes of them
-pub lead_none : {R D : Type 0} (k : RecordRules R) (before other after other_then rest : Held R D) (moment s : ℕ) (field : FieldNo) (link : LinkField) (come_to : World R) → LeadsInto k before other moment s field link after other_then rest come_to
-    → NoneIsLive before → NoneIsLive other → NoneIsLive after × NoneIsLive rest
-lead_none {R} {D} k before other after other_then rest moment s field link come_to led none other_none =
-    let parted = led.falls.none_live none in
-    let both = led.joins.none_live parted.0 other_none in
-    ((ap (λ (x : Held R D). x.live) led.then_anew ∙ both.0, ap (λ (x : Held R D). x.waiting) led.then_anew ∙ both.1), parted.1)
-
 -- what a holder knows of a longer list without its keys, which it has seen then
 pub holds_known : {R : Type 0} (k : RecordRules R) → Lasts k → (base w : World R) (old view : View) (log : List Note) → Cover old.owns w → Holds k (map_of k base old.seen) w → Continues old.seen old.owns log → IsLegal k base log
     → view ≡ holder log old.owns → Holds k (map_of k base view.seen) w
@@ -117,3 +110,14 @@ holds_known k lasts base w old view log covers holds go legal is =
 pub sets_apart : {R D : Type 0} (one other : Held R D) (owned also : List Key) → Cover owned (now_of one) → Cover also (now_of other) → ((key : Key) → Has_key key owned → Has_key key also → ⊥)
     → (q : ℕ) → IsSome (get one.records q) → get other.records q ≡ None
 sets_apart one other owned also covers also_covers apart q has = not_some (get other.records q) (λ there. apart (key_of q) (covers q has) (also_covers q there))
+
+-- two sets that are held, whose keys are apart, may become one: the world that their holders know then is sound
+pub sets_may_be_one : {R D : Type 0} (k : RecordRules R) → Lasts k → StaysSound k → SetsMayBeOne D k → (base : World R) (one other : Held R D) → IsSound-set k one → IsSound-set k other
+    → (v also one_then other_then : View) (log : List Note) → AreKnown k base v also log one_then other_then
+    → Cover v.owns (now_of one) → Holds k (map_of k base v.seen) (now_of one) → Cover also.owns (now_of other) → Holds k (map_of k base also.seen) (now_of other)
+    → ((key : Key) → Has_key key v.owns → Has_key key also.owns → ⊥) → MayBeOne one other
+sets_may_be_one k lasts stays may_be_one base one other one_sound other_sound v also one_then other_then log known covers holds also_covers also_holds apart =
+    let world = (stays base log known.sound).0 known.legal in
+    let here = holds_on k lasts base (now_of one) v.seen v.owns covers holds log known.goes_on known.legal in
+    let there = holds_on k lasts base (now_of other) also.seen also.owns also_covers also_holds log known.also_goes_on known.legal in
+    may_be_one (map_of k base log) one other world one_sound other_sound here there (sets_apart one other v.owns also.owns covers also_covers apart)

@@ -6,4 +6,8 @@ mod Parting
 mod Serving
 mod Refusing
 mod Lending
+mod Places
+mod Beside
+mod Counted
+mod Telling
 mod Counting

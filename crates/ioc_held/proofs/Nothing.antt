@@ -1,5 +1,5 @@
 -- A set of no records is held by whom it may.
-use Rattle.std.proofs.Common.{◌≡◌, ℕ, true, false, List, [], Option, None, refl, sym, ap, ◌∙◌, subst, arith}
+use Rattle.std.proofs.Common.{◌≡◌, ℕ, true, false, List, [], Option, None, sym, ap, ◌∙◌, subst, arith}
 use Rattle.std.specs.Prelude.{Contains, is_some, unwrap_or}
 use Rattle.std.specs.Ordering.{nat_cmp}
 use Rattle.std.specs.FinMap.{empty, get, get-empty, keys}
@@ -31,7 +31,6 @@ module _ {R : Type 0} (k : RecordRules R) (missing : targets k k.missing ≡ [])
   nothing_is_held {D} base table h is = subst (λ (x : Held R D). IsHeld k base table None x) (sym is) (record {
     owner = λ n has. nowhere R n has;
     holds = record { records = λ n has. absurd (nowhere R n has); waiting = λ n has. absurd (nowhere R n has); within = λ x c. absurd (none_in x c); shut = closed; apart = λ a n out has names. nowhere R n has };
-    none_live = (refl, refl);
   })
 
 pub no_numbers : {R D : Type 0} (h : Held R D) → h ≡ nothing_held → keys h.records ≡ []

@@ -21,20 +21,20 @@ use Rattle.ioc_events.specs.Step.{names, stepped}
 use Rattle.ioc_events.specs.StepRules.{Step, KeepsRecords}
 use Rattle.ioc_line.specs.declared.entry.Note.{Note}
 use Rattle.ioc_line.specs.declared.room.View.{View}
-use Rattle.ioc_line.specs.Key.{Key}
+use Rattle.ioc_line.specs.Key.{Key, Has as Has_key}
 use Rattle.ioc_line.specs.Line.{Continues, holder, noted}
 use Rattle.ioc_line.specs.KeyLaws.{has_left}
-use Rattle.ioc_holding.specs.Legal.{AreLiveAlike, IsLegal, IsSound, key_of, map_of, done}
-use Rattle.ioc_holding.specs.Held.{Holds, Cover, CancelsWithin, AreHeldAlike, question_note}
-use Rattle.ioc_holding.specs.Laws.{Lasts, OneMore, Asks, HeldAlike, GoesOn}
+use Rattle.ioc_holding.specs.Legal.{AreLiveAlike, IsLegal, IsSound, key_of, notifications_key, map_of, done}
+use Rattle.ioc_holding.specs.Held.{Holds, Cover, CancelsWithin, AreHeldAlike, IsOf, IsDone, question_note}
+use Rattle.ioc_holding.specs.Laws.{Lasts, OneMore, HoldersMove, MovesAlike, Asks, HeldAlike, GoesOn}
 use Rattle.ioc_journal.specs.Account.{journalled, AreRecords, IsHolder, MayFollow, Added}
 use Rattle.ioc_held.specs.Holding.{IsOwner}
 use Rattle.ioc_set.specs.Held.{Held, NoneIsLive, now_of, folded, done_by, held_after}
 use Rattle.ioc_set.specs.Doing.{is_ordinary, with_place, Does}
 
-one-there : {X : Type 0} (x y : X) → Contains (x ∷ []) y → x ≡ y
-one-there x y (zero, lt, is) = is
-one-there x y (suc i, lt, is) = absurd (omega arith)
+pub one_there : {X : Type 0} (x y : X) → Contains (x ∷ []) y → x ≡ y
+one_there x y (zero, lt, is) = is
+one_there x y (suc i, lt, is) = absurd (omega arith)
 
 false_true : false ≡ true → ⊥
 false_true e = cc
@@ -60,7 +60,7 @@ owner_on table id id' v v' seen w w' owner same is only = record {
 }
 
 module _ {R : Type 0} (k : RecordRules R) where
-  no_cancel : (m v : World R) (event : Event) → is_ordinary event ≡ true → CancelsWithin k m v event
+  pub no_cancel : (m v : World R) (event : Event) → is_ordinary event ≡ true → CancelsWithin k m v event
   no_cancel m v (Get s field) is = tt
   no_cancel m v (Process s) is = tt
   no_cancel m v (Put s field given) is = tt
@@ -70,7 +70,7 @@ module _ {R : Type 0} (k : RecordRules R) where
   no_cancel m v (Cancel n) is = absurd (false_true is)
   no_cancel m v (IsLive n) is = tt
 
-  asks_nothing : (w v : World R) (event : Event) → is_ordinary event ≡ true → AskAlike w v event
+  pub asks_nothing : (w v : World R) (event : Event) → is_ordinary event ≡ true → AskAlike w v event
   asks_nothing w v (Get s field) is = tt
   asks_nothing w v (Process s) is = tt
   asks_nothing w v (Put s field given) is = tt
@@ -111,7 +111,7 @@ module _ {R : Type 0} (k : RecordRules R) where
   placed_now false h = refl
 
 module _ {R D : Type 0} (k : RecordRules R) (gives : D → Ask → ℕ → Answer → D → Type 0) (h h' : Held R D) (moment : ℕ) (event : Event) (reply : Reply) (come_to : World R)
-    (does : Does k gives h moment event reply h' come_to) (ordinary : is_ordinary event ≡ true) (there : (n : ℕ) → Contains (names event) n → Has (now_of h) n) where
+    (does : Does k gives h moment event reply h' come_to) (there : (n : ℕ) → Contains (names event) n → Has (now_of h) n) where
   abbrev e : Entry
   e = does.entry
 
@@ -136,13 +136,13 @@ module _ {R D : Type 0} (k : RecordRules R) (gives : D → Ask → ℕ → Answe
   now_then : now_of h' ≡ now_of (held_after k (with_place h) e h'.devices)
   now_then = ap (λ (z : Held R D). now_of z) does.after
 
-  records_then : (now_of h').records ≡ after.records
+  pub records_then : (now_of h').records ≡ after.records
   records_then = ap (λ (w : World R). w.records) now_then ∙ ap (λ (w : World R). (done_by k w e).world.records) was_now
 
-  waiting_then : (now_of h').waiting ≡ after.waiting
+  pub waiting_then : (now_of h').waiting ≡ after.waiting
   waiting_then = ap (λ (w : World R). w.waiting) now_then ∙ ap (λ (w : World R). (done_by k w e).world.waiting) was_now
 
-  live_then : (now_of h').live ≡ after.live
+  pub live_then : (now_of h').live ≡ after.live
   live_then = ap (λ (w : World R). w.live) now_then ∙ ap (λ (w : World R). (done_by k w e).world.live) was_now
 
   -- where no put with notification is live before and after, nobody has one
@@ -155,25 +155,53 @@ module _ {R D : Type 0} (k : RecordRules R) (gives : D → Ask → ℕ → Answe
       let then = counted (listed e.answers) (begun_at e.moment (now_of h)) after e.event done.reply done.requests step (counted_begun k (now_of h) e.moment before) in
       sym (before.counted.counted number) ∙ live_alike k (now_of h) after (none.0 ∙ sym none_then.0 ∙ live_then) number ∙ then.counted.counted number
 
-  module _ (lasts : Lasts k) (one_more : OneMore k) (alike : HeldAlike k)
-      (allowed : (answers : Answers) (w : World R) (event : Event) → Step k answers w event (stepped k answers w event).world (stepped k answers w event).reply (stepped k answers w event).requests)
-      (kept : (answers : Answers) (w after : World R) (event : Event) (reply : Reply) (requests : Requests) → Step k answers w event after reply requests → IsClosed k w → KeepsRecords w after)
-      (same : AreHeldAlike k (now_of h) after)
+  -- the event, noted with these keys, goes on from a legal list to which what is held belongs: what it leaves is held, and as many have each put
+  -- with notification more or less as in what is held
+  module _ (one_more : OneMore k) (moves : HoldersMove k) (base : World R) (log : List Note) (desk call : ℕ) (keys : List Key) (sound : IsSound k base) (legal : IsLegal k base log)
+      (holds : Holds k (map_of k base log) (now_of h)) (covers : Cover keys (now_of h)) (cancels : CancelsWithin k (map_of k base log) (now_of h) event)
+      (asks : AskAlike (begun_at moment (now_of h)) (begun_at moment (map_of k base log)) event) (same : (Has_key notifications_key keys → ⊥) → AreHeldAlike k (now_of h) after) where
+    abbrev note : Note
+    note = noted (journalled desk call e) keys
+
+    is_of : IsOf k (map_of k base log) (now_of h) note
+    unfolding done
+    is_of = record {
+      named = λ r c. there r (subst (λ (x : Event). Contains (names x) r) does.event c);
+      cancels = subst (λ (x : Event). CancelsWithin k (map_of k base log) (now_of h) x) (sym does.event) cancels;
+      asks = subst (λ (t : ℕ). AskAlike (begun_at t (now_of h)) (begun_at t (map_of k base log)) e.event) (sym does.moment) (subst (λ (x : Event). AskAlike (begun_at moment (now_of h)) (begun_at moment (map_of k base log)) x) (sym does.event) asks);
+      covers = covers;
+      live = same;
+    }
+
+    is_done : IsDone k (now_of h) note after
+    unfolding done
+    is_done = record { world = refl; reply = replied; used = used }
+
+    pub noted_on : GoesOn k base log note (λ m. Holds k m after)
+    noted_on = one_more base (now_of h) after log note sound legal holds is_of is_done
+
+    pub moved_on : MovesAlike k (map_of k base log) (map_of k base (log ++ note ∷ [])) (now_of h) after
+    moved_on = moves base (now_of h) after log note sound legal holds is_of is_done
+
+  -- no record has come
+  pub only : ((answers : Answers) (w : World R) (event : Event) → Step k answers w event (stepped k answers w event).world (stepped k answers w event).reply (stepped k answers w event).requests)
+      → ((answers : Answers) (w after : World R) (event : Event) (reply : Reply) (requests : Requests) → Step k answers w event after reply requests → IsClosed k w → KeepsRecords w after)
+      → IsClosed k (now_of h) → (n : ℕ) → Has (now_of h') n → Has (now_of h) n
+  only allowed kept shut n has =
+      let step = allowed (listed e.answers) (begun_at e.moment (now_of h)) e.event in
+      there_begun k (now_of h) e.moment n
+      ((kept (listed e.answers) (begun_at e.moment (now_of h)) after e.event (done_by k (now_of h) e).reply (done_by k (now_of h) e).requests step (closed_begun k (now_of h) e.moment shut)).only n
+      (subst (λ (rs : FinMap nat_cmp R). is_some (get rs n) ≡ true) records_then has))
+
+  -- an event that asks nothing of all puts with notification, and leaves as many in what is held with each
+  module _ (lasts : Lasts k) (one_more : OneMore k) (moves : HoldersMove k) (alike : HeldAlike k) (ordinary : is_ordinary event ≡ true) (same : AreHeldAlike k (now_of h) after)
       (base : World R) (seen : List Note) (owned : List Key) (covers : Cover owned (now_of h)) (holds : Holds k (map_of k base seen) (now_of h)) where
     goes_on : (log : List Note) (desk call : ℕ) (own : List Key) → IsSound k base → Continues seen owned log → IsLegal k base log
         → GoesOn k base log (noted (journalled desk call e) (owned ++ own)) (λ m. Holds k m after)
-    unfolding done
     goes_on log desk call own sound go legal =
-        let ours : is_ordinary e.event ≡ true = ap is_ordinary does.event ∙ ordinary in
-        one_more base (now_of h) after log (noted (journalled desk call e) (owned ++ own)) sound legal (holds_on k lasts base (now_of h) seen owned covers holds log go legal)
-        (record {
-          named = λ r c. there r (subst (λ (x : Event). Contains (names x) r) does.event c);
-          cancels = no_cancel k (map_of k base log) (now_of h) e.event ours;
-          asks = asks_nothing k (begun_at e.moment (now_of h)) (begun_at e.moment (map_of k base log)) e.event ours;
-          covers = λ r s. has_left (key_of r) owned own (covers r s);
-          live = λ out. same;
-        })
-        (record { world = refl; reply = replied; used = used })
+        noted_on one_more moves base log desk call (owned ++ own) sound legal (holds_on k lasts base (now_of h) seen owned covers holds log go legal)
+        (λ r s. has_left (key_of r) owned own (covers r s)) (no_cancel k (map_of k base log) (now_of h) event ordinary)
+        (asks_nothing k (begun_at moment (now_of h)) (begun_at moment (map_of k base log)) event ordinary) (λ out. same)
 
     -- any legal list goes on with it
     pub may_follow : (done_entry : Entry) → e ≡ done_entry → MayFollow k base seen owned done_entry
@@ -185,14 +213,6 @@ module _ {R D : Type 0} (k : RecordRules R) (gives : D → Ask → ℕ → Answe
         let a = subst (λ (x : Entry). Added k base seen owned x log longer) (sym is) added in
         let known = (goes_on log a.desk a.call a.own a.sound a.goes_on a.legal).known in
         alike (map_of k base longer) after (now_of h') (subst (λ (l : List Note). Holds k (map_of k base l) after) (sym a.ends) known) records_then waiting_then
-
-    -- no record has come
-    pub only : (n : ℕ) → Has (now_of h') n → Has (now_of h) n
-    only n has =
-        let step = allowed (listed e.answers) (begun_at e.moment (now_of h)) e.event in
-        there_begun k (now_of h) e.moment n
-        ((kept (listed e.answers) (begun_at e.moment (now_of h)) after e.event (done_by k (now_of h) e).reply (done_by k (now_of h) e).requests step (closed_begun k (now_of h) e.moment holds.shut)).only n
-        (subst (λ (rs : FinMap nat_cmp R). is_some (get rs n) ≡ true) records_then has))
 
 -- a get that what is held answers
 module _ {R : Type 0} (k : RecordRules R) (lasts : Lasts k) (asks : Asks k) (base v : World R) (moment s : ℕ) (field : FieldNo) (reply : Reply)
@@ -207,7 +227,7 @@ module _ {R : Type 0} (k : RecordRules R) (lasts : Lasts k) (asks : Asks k) (bas
       let none : Answers = listed [] in
       subst (λ (r : Reply). GoesOn k base log (question_note desk call moment (Get s field) r (owned ++ own)) (λ m. Holds k m v)) (sym (answer none))
       (asks base v log desk call moment (Get s field) none (owned ++ own) refl sound legal (holds_on k lasts base v seen owned covers holds log go legal)
-      (λ r c. subst (λ (n : ℕ). Has v n) (one-there s r c) there) tt (λ r h. has_left (key_of r) owned own (covers r h)))
+      (λ r c. subst (λ (n : ℕ). Has v n) (one_there s r c) there) tt (λ r h. has_left (key_of r) owned own (covers r h)))
 
   pub get_may_follow : (entry : Entry) → got ≡ entry → MayFollow k base seen owned entry
   get_may_follow entry is = subst (λ (x : Entry). MayFollow k base seen owned x) is (λ log desk call own sound go legal. (get_goes_on log desk call own sound go legal).legal)

@@ -22,7 +22,7 @@ use Rattle.ioc_holding.specs.Held.{Holds, Cover}
 use Rattle.ioc_values.specs.declared.error.IocError.{IocError}
 use Rattle.ioc_journal.specs.Account.{DeskView, IsHolder, AreRecords, Call}
 use Rattle.ioc_journal.specs.Places.{IsNoPlace}
-use Rattle.ioc_set.specs.Held.{Held, NoneIsLive, now_of}
+use Rattle.ioc_set.specs.Held.{Held, now_of}
 use Rattle.ioc_set.specs.Sound.{IsSound}
 use Rattle.ioc_set.specs.NoCalls.{no_call}
 use Rattle.ioc_set.specs.Doing.{Does}
@@ -60,12 +60,10 @@ abbrev pub IsNoCall : {R D : Type 0} → RecordRules R → Held R D → Event �
 IsNoCall k h event error = (no_call k (now_of h) event ≡ Some error) ⊎ IsNoPlace error
 
 module _ {R D : Type 0} (k : RecordRules R) (base : World R) where
-  -- the holder of a set has a pass for its records, and what the set holds is what the world of all records has there. For now no put with
-  -- notification is live on a set that is held
+  -- the holder of a set has a pass for its records, and what the set holds is what the world of all records has there
   pub record IsHeld (table : TableId) (pass : Option Pass) (h : Held R D) : Type 0 where
     pub owner : MatchOption pass ((n : ℕ) → Has (now_of h) n → ⊥) (λ (p : Pass). IsOwner table p.table_id (cell_view {V = View} p) (now_of h))
     pub holds : Holds k (map_of k base (seen_by pass)) (now_of h)
-    pub none_live : NoneIsLive h
 
   -- what holds of a set and of its holder whenever its lock is free
   pub record IsSoundlyHeld (v : HeldView R D) : Type 0 where

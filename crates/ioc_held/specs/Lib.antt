@@ -2,3 +2,5 @@ pub mod Holding
 pub mod HeldViewCode
 pub mod LinkChanges
 pub mod Changing
+pub mod Puts
+pub mod PutsViewCode

@@ -8,25 +8,30 @@ ghost use Rattle.ioc_holding.specs.Legal.{map_of};
 ghost use Rattle.ioc_set.specs.Held.{NoneIsLive, now_of};
 ghost use Rattle.ioc_set.specs.NoCalls.{no_call};
 ghost use Rattle.ioc_set.specs.Doing.{is_ordinary};
+ghost use Rattle.ioc_journal.specs.Places.{IsNoPlace};
 ghost use Rattle.ioc_set.specs.SetStore.{world_of};
 ghost use Rattle.ioc_held.specs.Holding.{IsOwner, held_view, numbers_of, Serves, Tells, IsNoCall};
 
-use crate::running::run_in;
+use crate::puts::{AllPuts, keep_beside};
+use crate::running::{run_counted, run_in};
 use ioc_device::Device;
 use ioc_events::event_rules::{events_keep_records, rules_are_steps};
 use ioc_events::notification_rules::events_count_holders;
 use ioc_events::{Entry, Event, KeptAnswers, Reply};
 use ioc_fields::FieldNo;
-use ioc_holding::laws::{events_are_held, holding_lasts, parts_share_what_is_held};
+use ioc_holding::laws::{
+    events_are_held, holders_move, holding_lasts, lists_leave_sound, parts_share_what_is_held,
+};
 use ioc_journal::{Base, Book, Desk, Receipt};
 use ioc_line::Token;
 use ioc_names::RecordNo;
+use ioc_put_table::laws::lines_tell_holders;
 use ioc_record::RecordKind;
 use ioc_set::{LockSet, Workplace, sets_stay_without_puts};
 use ioc_values::{Finished, Input, IocError};
 use std::alloc::Global;
 use std::marker::{Model, PhantomData};
-use std::sync::Wait;
+use std::sync::{Mutex, Wait};
 
 /// A set, and the pass that owns the keys of its records; a set of no records needs none. Contracts see what the set holds, and the beginning
 /// of the journal's list that its holder has seen: what the set holds is what the world of all records has there.
@@ -57,7 +62,6 @@ impl<K: RecordKind, B: Base<K>, D> Held<K, B, D> {
     pub fn new(set: LockSet<K, D>, pass: Token) -> Self
         requires owner { IsOwner B.table pass.table_id (cell_view pass) (now_of set) }
         requires holds { Holds K.rules (map_of K.rules B.base (cell_view pass).seen) (now_of set) }
-        requires none { NoneIsLive set }
         ensures { result ≡ held_view set (cell_view pass).seen }
     {
         Held {
@@ -70,7 +74,7 @@ impl<K: RecordKind, B: Base<K>, D> Held<K, B, D> {
 
 impl<K: RecordKind + Drop, B: Base<K>, D: Device> Held<K, B, D> {
     // A question or a put that names no field of its record, or one that can't be put, is no call.
-    fn test_call(&self, event: &Event) -> Result<(), IocError>
+    pub(crate) fn test_call(&self, event: &Event) -> Result<(), IocError>
         requires there { (n : ℕ) → Contains (names event.now) n → Contains (numbers_of self.now) n }
         ensures ok { OnOk result (no_call K.rules (now_of self.now.set) event.now ≡ None) }
         ensures err { IfErr result (λ reason. no_call K.rules (now_of self.now.set) event.now ≡ Some reason) }
@@ -81,14 +85,8 @@ impl<K: RecordKind + Drop, B: Base<K>, D: Device> Held<K, B, D> {
         }
     }
 
-    /// Does a request, a put or a completion on the set, and keeps it in the journal.
-    ///
-    /// # Errors
-    ///
-    /// [`IocError::NoField`] or [`IocError::NoMod`] where a put names a field that the record hasn't or that can't be put,
-    /// [`IocError::JournalFull`] where the journal has no place left, and [`IocError::NoMemory`] where memory is wanting: nothing has changed then.
-    /// Any other refusal is a reply, which the journal keeps too.
-    pub fn serve<R: Wait>(
+    // Does a request, a put or a completion on the set, on which no put with notification is live.
+    fn serve_alone<R: Wait>(
         &mut self,
         rt: &R,
         alloc: Global,
@@ -100,9 +98,11 @@ impl<K: RecordKind + Drop, B: Base<K>, D: Device> Held<K, B, D> {
     ) -> Result<(Reply, Receipt<K, B>), IocError>
         requires ordinary { is_ordinary event.now ≡ true }
         requires there { (n : ℕ) → Contains (names event.now) n → Contains (numbers_of self.old) n }
+        requires is_call { no_call K.rules (now_of self.old.set) event.now ≡ None }
+        requires none { NoneIsLive self.old.set }
         ensures serves { IfOk result (λ x. Serves K.rules D.gives B.base self.old desk.old moment event.now x.0 self.new desk.new (world_of workplace.new.store)) }
         ensures receipt { IfOk result (λ x. x.1 ≡ desk.new.seen) }
-        ensures refused { IfErr result (IsNoCall K.rules self.old.set event.now) }
+        ensures refused { IfErr result IsNoPlace }
         ensures err { OnErr result ((self.new ≡ self.old) × (desk.new ≡ desk.old)) }
     {
         rules_are_steps::<K>();
@@ -110,10 +110,10 @@ impl<K: RecordKind + Drop, B: Base<K>, D: Device> Held<K, B, D> {
         events_count_holders::<K>();
         holding_lasts::<K>();
         events_are_held::<K>();
+        holders_move::<K>();
         parts_share_what_is_held::<K>();
         sets_stay_without_puts::<K, D>();
         self.set.is_sound();
-        self.test_call(event)?;
         let place = book.reserve(rt)?;
         let (reply, answers) = match run_in(&mut self.set, workplace, alloc, event, moment) {
             Ok(done) => done,
@@ -137,6 +137,90 @@ impl<K: RecordKind + Drop, B: Base<K>, D: Device> Held<K, B, D> {
         Ok((*answer, receipt))
     }
 
+    // Does a request, a put or a completion on the set, on which puts with notification are live: all are counted anew with it.
+    fn serve_counted<R: Wait>(
+        &mut self,
+        rt: &R,
+        alloc: Global,
+        book: &Book<K, B>,
+        puts: &Mutex<AllPuts<K, B>>,
+        desk: &mut Desk<K, B>,
+        workplace: &mut Workplace<K, D>,
+        event: &Event,
+        moment: u64,
+    ) -> Result<(Reply, Receipt<K, B>), IocError>
+        requires ordinary { is_ordinary event.now ≡ true }
+        requires there { (n : ℕ) → Contains (names event.now) n → Contains (numbers_of self.old) n }
+        requires is_call { no_call K.rules (now_of self.old.set) event.now ≡ None }
+        ensures serves { IfOk result (λ x. Serves K.rules D.gives B.base self.old desk.old moment event.now x.0 self.new desk.new (world_of workplace.new.store)) }
+        ensures receipt { IfOk result (λ x. x.1 ≡ desk.new.seen) }
+        ensures refused { IfErr result IsNoPlace }
+        ensures err { OnErr result ((self.new ≡ self.old) × (desk.new ≡ desk.old)) }
+    {
+        rules_are_steps::<K>();
+        events_keep_records::<K>();
+        events_count_holders::<K>();
+        holding_lasts::<K>();
+        events_are_held::<K>();
+        holders_move::<K>();
+        lists_leave_sound::<K>();
+        parts_share_what_is_held::<K>();
+        lines_tell_holders();
+        self.set.is_sound();
+        let ran = run_counted(rt, alloc, book, &mut self.set, workplace, event, moment)?;
+        self.set.puts_are_few();
+        self.set.is_sound();
+        let Some(mut pass) = self.pass.take() else {
+            unreachable!();
+        };
+        let mut guard = puts.lock(rt);
+        let receipt = keep_beside(
+            rt,
+            book,
+            ran.place,
+            &mut pass,
+            &mut guard,
+            desk,
+            ran.entry,
+            &ran.before,
+            &self.set,
+        );
+        self.pass = Some(pass);
+        Ok((ran.reply, receipt))
+    }
+
+    /// Does a request, a put or a completion on the set, and keeps it in the journal.
+    ///
+    /// # Errors
+    ///
+    /// [`IocError::NoField`] or [`IocError::NoMod`] where a put names a field that the record hasn't or that can't be put,
+    /// [`IocError::JournalFull`] where the journal has no place left, and [`IocError::NoMemory`] where memory is wanting: nothing has changed then.
+    /// Any other refusal is a reply, which the journal keeps too.
+    pub fn serve<R: Wait>(
+        &mut self,
+        rt: &R,
+        alloc: Global,
+        book: &Book<K, B>,
+        puts: &Mutex<AllPuts<K, B>>,
+        desk: &mut Desk<K, B>,
+        workplace: &mut Workplace<K, D>,
+        event: &Event,
+        moment: u64,
+    ) -> Result<(Reply, Receipt<K, B>), IocError>
+        requires ordinary { is_ordinary event.now ≡ true }
+        requires there { (n : ℕ) → Contains (names event.now) n → Contains (numbers_of self.old) n }
+        ensures serves { IfOk result (λ x. Serves K.rules D.gives B.base self.old desk.old moment event.now x.0 self.new desk.new (world_of workplace.new.store)) }
+        ensures receipt { IfOk result (λ x. x.1 ≡ desk.new.seen) }
+        ensures refused { IfErr result (IsNoCall K.rules self.old.set event.now) }
+        ensures err { OnErr result ((self.new ≡ self.old) × (desk.new ≡ desk.old)) }
+    {
+        self.test_call(event)?;
+        if self.set.none_is_live() {
+            return self.serve_alone(rt, alloc, book, desk, workplace, event, moment);
+        }
+        self.serve_counted(rt, alloc, book, puts, desk, workplace, event, moment)
+    }
+
     /// Requests a record, and keeps it in the journal.
     ///
     /// # Errors
@@ -147,6 +231,7 @@ impl<K: RecordKind + Drop, B: Base<K>, D: Device> Held<K, B, D> {
         rt: &R,
         alloc: Global,
         book: &Book<K, B>,
+        puts: &Mutex<AllPuts<K, B>>,
         desk: &mut Desk<K, B>,
         workplace: &mut Workplace<K, D>,
         number: RecordNo,
@@ -159,7 +244,7 @@ impl<K: RecordKind + Drop, B: Base<K>, D: Device> Held<K, B, D> {
         ensures err { OnErr result ((self.new ≡ self.old) × (desk.new ≡ desk.old)) }
     {
         let event = Event::Process(number);
-        self.serve(rt, alloc, book, desk, workplace, &event, moment)
+        self.serve(rt, alloc, book, puts, desk, workplace, &event, moment)
     }
 
     /// Puts a value into a field, as [`LockSet::put`] does, and keeps it in the journal.
@@ -174,6 +259,7 @@ impl<K: RecordKind + Drop, B: Base<K>, D: Device> Held<K, B, D> {
         rt: &R,
         alloc: Global,
         book: &Book<K, B>,
+        puts: &Mutex<AllPuts<K, B>>,
         desk: &mut Desk<K, B>,
         workplace: &mut Workplace<K, D>,
         number: RecordNo,
@@ -188,7 +274,7 @@ impl<K: RecordKind + Drop, B: Base<K>, D: Device> Held<K, B, D> {
         ensures err { OnErr result ((self.new ≡ self.old) × (desk.new ≡ desk.old)) }
     {
         let event = Event::Put(number, field, given);
-        self.serve(rt, alloc, book, desk, workplace, &event, moment)
+        self.serve(rt, alloc, book, puts, desk, workplace, &event, moment)
     }
 
     /// The device of a record has answered at last, as for [`LockSet::complete`]; the journal keeps it.
@@ -202,6 +288,7 @@ impl<K: RecordKind + Drop, B: Base<K>, D: Device> Held<K, B, D> {
         rt: &R,
         alloc: Global,
         book: &Book<K, B>,
+        puts: &Mutex<AllPuts<K, B>>,
         desk: &mut Desk<K, B>,
         workplace: &mut Workplace<K, D>,
         number: RecordNo,
@@ -216,7 +303,7 @@ impl<K: RecordKind + Drop, B: Base<K>, D: Device> Held<K, B, D> {
         ensures err { OnErr result ((self.new ≡ self.old) × (desk.new ≡ desk.old)) }
     {
         let event = Event::Complete(number, wait, finished);
-        self.serve(rt, alloc, book, desk, workplace, &event, moment)
+        self.serve(rt, alloc, book, puts, desk, workplace, &event, moment)
     }
 
     /// The text of a field, kept in the journal with its moment. It changes nothing in the set.

@@ -4,12 +4,16 @@
 //! engine with all records in one map could have done it, with the same replies.
 #![tactic(auto)]
 
+mod asking;
+mod beginning;
 pub mod changing;
 mod ending;
 pub mod held;
 mod link_changes;
 mod locked;
+pub mod puts;
 mod running;
 
 pub use changing::{Changed, change_link};
 pub use held::Held;
+pub use puts::AllPuts;

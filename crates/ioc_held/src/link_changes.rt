@@ -14,6 +14,7 @@ ghost use Rattle.ioc_line.specs.Line.{holder};
 ghost use Rattle.ioc_journal.specs.Account.{IsHolder, AreRecords, BothMayFollow, Call, AddedByBoth};
 ghost use Rattle.ioc_journal.specs.Places.{IsNoPlace};
 ghost use Rattle.ioc_set.specs.Held.{now_of, folded};
+ghost use Rattle.ioc_set.specs.Linking.{MayBeOne};
 ghost use Rattle.ioc_set.specs.SetStore.{world_of};
 ghost use Rattle.ioc_held.specs.LinkChanges.{link_change, keys_of, IsKnown, Refuses, Parts, Leads};
 
@@ -27,8 +28,8 @@ use ioc_journal::{Base, Book, Desk, Place, Receipt};
 use ioc_line::{Keys, Token, pass};
 use ioc_names::RecordNo;
 use ioc_record::RecordKind;
-use ioc_relinking::laws::{led_sets_are_held, parted_sets_are_held};
-use ioc_set::{LockSet, Workplace, held_records_are_sound};
+use ioc_relinking::laws::{held_sets_may_be_one, led_sets_are_held, parted_sets_are_held};
+use ioc_set::{LockSet, Workplace};
 use ioc_values::IocError;
 use std::alloc::Global;
 use std::marker::{Brand, PhantomData};
@@ -76,8 +77,8 @@ fn keep_change<P: Keys, K: RecordKind, B: Base<K>, D, R: Wait>(
 
 impl<K: RecordKind + Drop, B: Base<K>, D: Device> Held<K, B, D> {
     /// Changes a link of a record, which leads nowhere then, or to a record of this set, and keeps that in the journal. The set keeps the
-    /// record's part, and the records that no link joins to it any more come back as a held set of their own, which may have none. `link` and
-    /// `twin` are alike.
+    /// record's part, and the records that no link joins to it any more come back as a held set of their own, which may have none. Puts with
+    /// notification that are live go with their records, as [`LockSet::part`] says. `link` and `twin` are alike.
     ///
     /// # Errors
     ///
@@ -140,14 +141,19 @@ impl<K: RecordKind + Drop, B: Base<K>, D: Device> Held<K, B, D> {
         Ok((rest, receipt))
     }
 
-    // No record is in both of two held sets, of which each has one. Both holders know the same list then.
+    // No record is in both of two held sets, of which each has one, and they may become one. Both holders know the same list then.
     fn compare<R: Wait>(&mut self, rt: &R, book: &Book<K, B>, other: &mut Held<K, B, D>)
         requires one { (n : ℕ) × IsSome (get self.old.set.records n) }
         requires other { (n : ℕ) × IsSome (get other.old.set.records n) }
         ensures apart { (q : ℕ) → IsSome (get self.old.set.records q) → get other.old.set.records q ≡ None }
+        ensures one { MayBeOne self.old.set other.old.set }
         ensures same { (self.new.set ≡ self.old.set) × (other.new.set ≡ other.old.set) }
     {
         holding_lasts::<K>();
+        lists_leave_sound::<K>();
+        held_sets_may_be_one::<K, D>();
+        self.set.is_sound();
+        other.set.is_sound();
         let Some(mut pass) = self.pass.take() else {
             unreachable!();
         };
@@ -161,7 +167,7 @@ impl<K: RecordKind + Drop, B: Base<K>, D: Device> Held<K, B, D> {
 
     /// Leads a link of a record of this set to a record of another, which it takes over, and keeps that in the journal. The records of this set
     /// that the link alone had joined to that record come back as a held set of their own, which may have none; the other has nothing then.
-    /// `link` and `twin` are alike.
+    /// Puts with notification that are live go with their records, as [`LockSet::lead_into`] says. `link` and `twin` are alike.
     ///
     /// # Errors
     ///
@@ -193,7 +199,6 @@ impl<K: RecordKind + Drop, B: Base<K>, D: Device> Held<K, B, D> {
     {
         holding_lasts::<K>();
         led_sets_are_held::<K, D>();
-        held_records_are_sound::<K, D>();
         self.compare(rt, book, other);
         let chosen = link.get();
         let place = book.reserve(rt)?;

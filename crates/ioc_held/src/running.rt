@@ -1,17 +1,33 @@
 //! The event of a call.
-ghost use Rattle.std.specs.Prelude.{◌≡◌, true, IfOk, OnErr};
+ghost use Rattle.std.specs.Prelude.{◌≡◌, true, IfOk, IfErr, OnErr};
 ghost use Rattle.ioc_store.specs.Given.{answers_of};
+ghost use Rattle.ioc_journal.specs.Places.{IsNoPlace};
 ghost use Rattle.ioc_set.specs.SetStore.{world_of};
-ghost use Rattle.ioc_set.specs.Doing.{Does, is_ordinary};
+ghost use Rattle.ioc_set.specs.Doing.{Does, is_done_on_sets};
 
 use ioc_device::Device;
-use ioc_events::{Event, KeptAnswers, Reply};
+use ioc_events::{Entry, Event, KeptAnswers, Reply};
+use ioc_journal::{Base, Book, Place};
+use ioc_notify::Live;
 use ioc_record::RecordKind;
 use ioc_set::workplace::kept_answers;
 use ioc_set::{LockSet, Workplace};
+use ioc_values::IocError;
 use std::alloc::{AllocError, Global};
+use std::sync::Wait;
 
-// Does a request, a put or a completion on a set; where memory is wanting, nothing has changed.
+/// What an event has come to that was done on a set with live puts with notification, and isn't in the journal yet.
+#[derive(Drop)]
+pub(crate) struct Ran<K: RecordKind, B: Base<K>> {
+    /// The place that is held for it.
+    pub place: Place<K, B>,
+    /// The puts with notification that were live on the set.
+    pub before: Vec<Live>,
+    pub reply: Reply,
+    pub entry: Entry,
+}
+
+// Does an event on a set; where memory is wanting, nothing has changed.
 fn do_in<K: RecordKind + Drop, D: Device>(
     set: &mut LockSet<K, D>,
     workplace: &mut Workplace<K, D>,
@@ -19,7 +35,7 @@ fn do_in<K: RecordKind + Drop, D: Device>(
     event: &Event,
     moment: u64,
 ) -> Result<Reply, AllocError>
-    requires ordinary { is_ordinary event.now ≡ true }
+    requires done_here { is_done_on_sets event.now ≡ true }
     ensures ok { IfOk result (λ reply. Does K.rules D.gives set.old moment event.now reply set.new (world_of workplace.new.store)) }
     ensures err { OnErr result (set.new ≡ set.old) }
 {
@@ -31,11 +47,15 @@ fn do_in<K: RecordKind + Drop, D: Device>(
         Event::Complete(number, wait, finished) => {
             set.complete(workplace, alloc, *number, *wait, *finished, moment)
         }
+        Event::Notify(target, number, field, given) => {
+            set.put_notify(workplace, alloc, *number, *target, *field, *given, moment)
+        }
+        Event::Cancel(number) => set.cancel(workplace, alloc, *number, moment),
         _ => unreachable!(),
     }
 }
 
-/// Does a request, a put or a completion on a set: the reply, and what devices answered, in room of its own size.
+/// Does an event on a set: the reply, and what devices answered, in room of its own size.
 ///
 /// # Errors
 ///
@@ -47,7 +67,7 @@ pub(crate) fn run_in<K: RecordKind + Drop, D: Device>(
     event: &Event,
     moment: u64,
 ) -> Result<(Reply, KeptAnswers), AllocError>
-    requires ordinary { is_ordinary event.now ≡ true }
+    requires done_here { is_done_on_sets event.now ≡ true }
     ensures ok { IfOk result (λ done. Does K.rules D.gives set.old moment event.now done.0 set.new (world_of workplace.new.store)) }
     ensures answers { IfOk result (λ done. done.1 ≡ answers_of (world_of workplace.new.store).calls) }
     ensures err { OnErr result (set.new ≡ set.old) }
@@ -57,4 +77,51 @@ pub(crate) fn run_in<K: RecordKind + Drop, D: Device>(
     let reply = do_in(set, workplace, alloc, event, moment)?;
     let answers = kept_answers(&workplace.store.event.calls, &mut spare, alloc);
     Ok((reply, answers))
+}
+
+/// Holds a place in the journal for an event, and does it on a set, whose live puts with notification are told as they were.
+///
+/// # Errors
+///
+/// [`IocError::JournalFull`] where the journal has no place left, and [`IocError::NoMemory`] where memory is wanting: nothing has changed then.
+pub(crate) fn run_counted<K: RecordKind + Drop, B: Base<K>, D: Device, R: Wait>(
+    rt: &R,
+    alloc: Global,
+    book: &Book<K, B>,
+    set: &mut LockSet<K, D>,
+    workplace: &mut Workplace<K, D>,
+    event: &Event,
+    moment: u64,
+) -> Result<Ran<K, B>, IocError>
+    requires done_here { is_done_on_sets event.now ≡ true }
+    ensures does { IfOk result (λ ran. Does K.rules D.gives set.old moment event.now ran.reply set.new (world_of workplace.new.store)) }
+    ensures entry { IfOk result (λ ran. ran.entry ≡ record { moment = moment; event = event.now; answers = answers_of (world_of workplace.new.store).calls; reply = ran.reply }) }
+    ensures before { IfOk result (λ ran. ran.before.items ≡ set.old.live) }
+    ensures refused { IfErr result IsNoPlace }
+    ensures err { OnErr result (set.new ≡ set.old) }
+{
+    let Ok(before) = set.live_puts().to_vec(alloc) else {
+        return Err(IocError::NoMemory);
+    };
+    let place = book.reserve(rt)?;
+    let (reply, answers) = match run_in(set, workplace, alloc, event, moment) {
+        Ok(done) => done,
+        Err(_refused) => {
+            book.give_back(rt, place);
+            return Err(IocError::NoMemory);
+        }
+    };
+    let answer = &reply;
+    let entry = Entry {
+        moment,
+        event: *event,
+        answers,
+        reply: *answer,
+    };
+    Ok(Ran {
+        place,
+        before,
+        reply: *answer,
+        entry,
+    })
 }

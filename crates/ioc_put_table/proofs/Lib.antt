@@ -1,2 +1,3 @@
+mod Short
 mod Tables
 mod Telling

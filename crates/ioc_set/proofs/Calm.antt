@@ -14,6 +14,7 @@ use Rattle.ioc_members.specs.Joined.{links_of, IsPart}
 use Rattle.ioc_store.specs.World.{World, Has, IsClosed, at, common_at}
 use Rattle.ioc_events.specs.StepRules.{at_the_end}
 use Rattle.ioc_events.specs.Holding.{IsCounted, IsHeld, by_a_record}
+use Rattle.ioc_awaiting.specs.Awaiting.{awaited}
 use Rattle.ioc_set.specs.Held.{Held, resting, now_of}
 use Rattle.ioc_set.specs.Linking.{anew, AreCalm}
 use Rattle.ioc_set.specs.Sound.{IsSound, CountsAddUp}
@@ -54,7 +55,7 @@ module _ {R : Type 0} (k : RecordRules R) where
     shut live waiting = record { closed = λ n target named. linked_there (get rs target) (leads n target (get rs n) refl named) }
 
     pub calm_sound : ((w : World R) → IsClosed k w → len w.records < 2 ^ 63 → w.live ≡ [] → w.waiting ≡ [] → ((n : ℕ) → Has w n → (common_at k w n).notification ≡ None) → IsCounted k w)
-        → AreCalm k rs → len rs < 2 ^ 63 → {D : Type 0} (ds : Devices D) (counts : Tally) → CountsAddUp counts → IsSound k (anew rs ds [] [] counts)
+        → AreCalm k rs → len rs < 2 ^ 63 → {D : Type 0} (ds : Devices D) (counts : Tally) → CountsAddUp counts (awaited k rs) → IsSound k (anew rs ds [] [] counts)
     unfolding at
     calm_sound first calm few ds counts add_up = record {
       part = part;

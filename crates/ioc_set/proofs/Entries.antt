@@ -14,6 +14,8 @@ use Rattle.ioc_store.specs.Weights.{first, second, less}
 use Rattle.ioc_notify.specs.declared.live_numbers.Live.{Live}
 use Rattle.ioc_record.specs.RecordRules.{RecordRules}
 use Rattle.ioc_members.specs.Contents.{Records, record_at}
+use Rattle.ioc_store.specs.World.{total}
+use Rattle.ioc_awaiting.specs.Awaiting.{one_if_awaits}
 use Rattle.ioc_set.specs.Recounting.{gained_by, gained_if}
 use Rattle.ioc_set.proofs.Calm.{none_some}
 
@@ -68,3 +70,12 @@ module _ {R : Type 0} (k : RecordRules R) (m : Records R) where
   -- past the last nothing is left
   pub gained-past : (i : ℕ) (ls : List Live) → len m ≤ i → ls ≡ gained_by k (drop i (entries m)) ls
   gained-past i ls past = sym (ap (λ (es : List (ℕ × R)). gained_by k es ls) (drop_all i (entries m) (subst (λ (n : ℕ). n ≤ i) (len-entries m) past)))
+
+  -- how many await a completion from a place on
+  pub awaits-at : (i q : ℕ) → slice_get (keys m) i ≡ Some q → (o : Option ℕ) → (k.common (record_at k m q)).pending ≡ o
+      → total (one_if_awaits k) (drop i (entries m)) ≡ cond (is_some o) 1 0 + total (one_if_awaits k) (drop (i + 1) (entries m))
+  awaits-at i q is o has =
+      ap (total (one_if_awaits k)) (entry-next i q is) ∙ ap (λ (p : Option ℕ). cond {A = ℕ} (is_some p) 1 0 + total (one_if_awaits k) (drop (i + 1) (entries m))) has
+
+  pub awaits-past : (i : ℕ) → len m ≤ i → total (one_if_awaits k) (drop i (entries m)) ≡ 0
+  awaits-past i past = ap (total (one_if_awaits k)) (drop_all i (entries m) (subst (λ (n : ℕ). n ≤ i) (len-entries m) past))

@@ -24,6 +24,7 @@ use Rattle.ioc_store.specs.Worlds.{sent_by}
 use Rattle.ioc_events.specs.StepRules.{at_the_end}
 use Rattle.ioc_events.specs.Starting.{is_ready}
 use Rattle.ioc_events.specs.Holding.{IsCounted, IsHeld, by_a_record, in_a_waiting_list, HoldersCounted, holders, how_many, one_if_has}
+use Rattle.ioc_awaiting.specs.Awaiting.{awaited}
 use Rattle.ioc_set.specs.Held.{Held, NoneIsLive, resting, now_of}
 use Rattle.ioc_set.specs.Linking.{anew, AreHeld, MayBeOne}
 use Rattle.ioc_set.specs.Recounting.{own_waiting, together, AreLive, WaitsGoAlong}
@@ -67,7 +68,7 @@ module _ {R : Type 0} (k : RecordRules R) where
   -- ---- a set of records that are held
 
   pub held_sound : targets k k.missing ≡ [] → (rs : Records R) → IsPart (links_of k rs) → (live : List Live) (waiting : List Waiting) → AreHeld k rs live waiting → len rs < 2 ^ 63
-      → {D : Type 0} (ds : Devices D) (counts : Tally) → CountsAddUp counts → IsSound k (anew rs ds live waiting counts)
+      → {D : Type 0} (ds : Devices D) (counts : Tally) → CountsAddUp counts (awaited k rs) → IsSound k (anew rs ds live waiting counts)
   unfolding at is_ready
   held_sound missing rs part live waiting held few ds counts add_up = record {
     part = part;

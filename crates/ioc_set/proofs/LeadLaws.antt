@@ -85,7 +85,7 @@ module _ {R D : Type 0} (k : RecordRules R) (h other begun stay both rest after 
   apart falls =
       let now = subst (λ (x : Held R D). FallsApart x (relinked k x.records s field none) s stay rest) is_begun falls in
       let free = subst (λ (l : LinkField). FallsApart (folded h) (relinked k h.records s field l) s stay rest) is_none now in
-      record { shared = free.shared; devices = free.devices; own = free.own; waiting = free.waiting; rest_waiting = free.rest_waiting; none_live = free.none_live; stays = free.stays; leaves = free.leaves }
+      record { shared = free.shared; devices = free.devices; own = free.own; waiting = free.waiting; rest_waiting = free.rest_waiting; none_live = free.none_live; stays = free.stays; leaves = free.leaves; few = free.few; together = free.together }
 
   device_before : (before : List ℕ) → before ≡ device_of k (at k (now_of begun) s) → before ≡ device_of k (record_at k h.records s)
   unfolding at

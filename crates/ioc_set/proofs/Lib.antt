@@ -17,6 +17,7 @@ mod Joining
 mod Calm
 mod Anew
 mod Counts
+mod AwaitedSums
 mod Rescans
 mod LinkEvents
 mod Linked

@@ -15,11 +15,12 @@ use Rattle.ioc_store.specs.World.{Has, Keeps, at, begun, begun_at}
 use Rattle.ioc_store.specs.Scanning.{rewired}
 use Rattle.ioc_events.specs.declared.event.Entry.{Entry}
 use Rattle.ioc_events.specs.Holding.{HoldersCounted}
+use Rattle.ioc_awaiting.specs.Awaiting.{awaited}
 use Rattle.ioc_set.specs.Puts.{Puts, AreNone, HasBegun, begun_with}
 use Rattle.ioc_set.specs.Recounting.{own_waiting, AreLive}
 use Rattle.ioc_set.specs.Held.{Held, resting, now_of, no_counts}
 use Rattle.ioc_set.specs.Doing.{held_by}
-use Rattle.ioc_set.specs.Linking.{anew, added, AreCalm, AreHeld, FallsApart, BecomeOne}
+use Rattle.ioc_set.specs.Linking.{anew, added, AreCalm, AreHeld, FallsApart, BecomeOne, less_awaited, awaited_alone}
 use Rattle.ioc_set.specs.Sound.{IsSound, CountsAddUp}
 use Rattle.ioc_set.proofs.Anew.{WereNone, none_anew, begun_anew, begun_folded, own_base}
 use Rattle.ioc_set.proofs.HeldRecords.{StaysHeld, rewired-stays, part_held, goes_along, Within, within_on, within_relinked, within_first, within_second}
@@ -90,17 +91,17 @@ module _ {R D : Type 0} (k : RecordRules R) where
   )
 
   -- and of one that begins anew
-  module _ (sound : (rs : Records R) (ds : Devices D) (live : List Live) (waiting : List Waiting) (counts : Tally) → IsPart (links_of k rs) → AreHeld k rs live waiting → len rs < 2 ^ 63 → CountsAddUp counts
+  module _ (sound : (rs : Records R) (ds : Devices D) (live : List Live) (waiting : List Waiting) (counts : Tally) → IsPart (links_of k rs) → AreHeld k rs live waiting → len rs < 2 ^ 63 → CountsAddUp counts (awaited k rs)
       → IsSound k (anew rs ds live waiting counts)) where
     pub anew_holds : (c : Contents R D) (p : Puts) (b t : Tally) (entries : List Entry) → HasBegun p → c.base ≡ c.records → b ≡ t → entries ≡ [] → IsPart (links_of k c.records) → AreHeld k c.records p.live p.waiting
-        → len c.records < 2 ^ 63 → CountsAddUp t → IsSound k (held_by c p b t entries) × RecordsAreLikeTheirBase k c
+        → len c.records < 2 ^ 63 → CountsAddUp t (awaited k c.records) → IsSound k (held_by c p b t entries) × RecordsAreLikeTheirBase k c
     anew_holds c p b t entries begun base same none part held few add_up = (
       subst (λ (h : Held R D). IsSound k h) (sym (begun_anew c p b t entries begun base same none)) (sound c.records c.devices p.live p.waiting t part held few add_up),
       own_base k c base,
     )
 
-  pub calm_holds : ((rs : Records R) (ds : Devices D) (counts : Tally) → IsPart (links_of k rs) → AreCalm k rs → len rs < 2 ^ 63 → CountsAddUp counts → IsSound k (anew rs ds [] [] counts))
-      → (c : Contents R D) (p : Puts) (b t : Tally) (entries : List Entry) → WereNone p → c.base ≡ c.records → b ≡ t → entries ≡ [] → IsPart (links_of k c.records) → AreCalm k c.records → len c.records < 2 ^ 63 → CountsAddUp t
+  pub calm_holds : ((rs : Records R) (ds : Devices D) (counts : Tally) → IsPart (links_of k rs) → AreCalm k rs → len rs < 2 ^ 63 → CountsAddUp counts (awaited k rs) → IsSound k (anew rs ds [] [] counts))
+      → (c : Contents R D) (p : Puts) (b t : Tally) (entries : List Entry) → WereNone p → c.base ≡ c.records → b ≡ t → entries ≡ [] → IsPart (links_of k c.records) → AreCalm k c.records → len c.records < 2 ^ 63 → CountsAddUp t (awaited k c.records)
       → IsSound k (held_by c p b t entries) × RecordsAreLikeTheirBase k c
   calm_holds sound c p b t entries puts base same none part calm few add_up = (
     subst (λ (h : Held R D). IsSound k h) (sym (none_anew c p b t entries puts base same none)) (sound c.records c.devices t part calm few add_up),
@@ -109,22 +110,31 @@ module _ {R D : Type 0} (k : RecordRules R) where
 
   -- ---- a set falls apart, or two become one
 
-  pub fell_apart : (s : ℕ) (field : FieldNo) (link : LinkField) (h : Held R D) (was stay rest : Contents R D) (whole p q : Puts) (b t u v : Tally) (entries rest_entries : List Entry)
-      → was.records ≡ h.records → was.devices ≡ h.devices → t ≡ h.tally → whole.live ≡ h.live → whole.waiting ≡ h.waiting
+  pub fell_apart : (s : ℕ) (field : FieldNo) (link : LinkField) (h : Held R D) (was stay rest : Contents R D) (whole p q : Puts) (count : ℕ) (b t u v : Tally) (entries rest_entries : List Entry)
+      → was.records ≡ h.records → was.devices ≡ h.devices → t ≡ less_awaited h.tally count → whole.live ≡ h.live → whole.waiting ≡ h.waiting
       → AreShared (get (relinked k was.records s field link)) (get stay.records) (get rest.records) → AreShared (get was.devices) (get stay.devices) (get rest.devices) → IsSome (get stay.records s)
       → p.waiting ≡ own_waiting stay.records whole.waiting → q.waiting ≡ own_waiting rest.records whole.waiting → (AreNone whole → AreNone p) → (AreNone whole → AreNone q)
-      → HasBegun p → stay.base ≡ stay.records → b ≡ t → entries ≡ [] → HasBegun q → rest.base ≡ rest.records → u ≡ v → v ≡ no_counts → rest_entries ≡ []
+      → HasBegun p → stay.base ≡ stay.records → b ≡ t → entries ≡ [] → HasBegun q → rest.base ≡ rest.records → u ≡ v → v ≡ awaited_alone count → rest_entries ≡ []
+      → count < 2 ^ 63 → added (less_awaited h.tally count) (awaited_alone count) ≡ h.tally
       → FallsApart h (relinked k h.records s field link) s (held_by stay p b t entries) (held_by rest q u v rest_entries)
-  fell_apart s field link h was stay rest whole p q b t u v entries rest_entries rs ds counts live waits shared devices own stay_waits rest_waits stay_none rest_none begun base same none rest_begun rest_base rest_same zero rest_forgotten = record {
-    shared = subst (λ (x : Records R). AreShared (get (relinked k x s field link)) (get stay.records) (get rest.records)) rs shared;
-    devices = subst (λ (x : Devices D). AreShared (get x) (get stay.devices) (get rest.devices)) ds devices;
-    own = own;
-    waiting = goes_along stay.records h.waiting p.waiting (stay_waits ∙ ap (λ (l : List Waiting). own_waiting stay.records l) waits);
-    rest_waiting = goes_along rest.records h.waiting q.waiting (rest_waits ∙ ap (λ (l : List Waiting). own_waiting rest.records l) waits);
-    none_live = λ dead. let nobody : AreNone whole = (live ∙ dead.0, waits ∙ dead.1) in (stay_none nobody, rest_none nobody);
-    stays = begun_anew stay p b t entries begun base same none ∙ ap (λ (x : Tally). anew stay.records stay.devices p.live p.waiting x) counts;
-    leaves = begun_anew rest q u v rest_entries rest_begun rest_base rest_same rest_forgotten ∙ ap (λ (x : Tally). anew rest.records rest.devices q.live q.waiting x) zero;
-  }
+  fell_apart s field link h was stay rest whole p q count b t u v entries rest_entries rs ds counts live waits shared devices own stay_waits rest_waits stay_none rest_none begun base same none rest_begun rest_base rest_same alone rest_forgotten few together =
+      let started : v.started ≡ count = ap (λ (x : Tally). x.started) alone in
+      record {
+        shared = subst (λ (x : Records R). AreShared (get (relinked k x s field link)) (get stay.records) (get rest.records)) rs shared;
+        devices = subst (λ (x : Devices D). AreShared (get x) (get stay.devices) (get rest.devices)) ds devices;
+        own = own;
+        waiting = goes_along stay.records h.waiting p.waiting (stay_waits ∙ ap (λ (l : List Waiting). own_waiting stay.records l) waits);
+        rest_waiting = goes_along rest.records h.waiting q.waiting (rest_waits ∙ ap (λ (l : List Waiting). own_waiting rest.records l) waits);
+        none_live = λ dead. let nobody : AreNone whole = (live ∙ dead.0, waits ∙ dead.1) in (stay_none nobody, rest_none nobody);
+        stays =
+            begun_anew stay p b t entries begun base same none
+            ∙ ap (λ (x : Tally). anew stay.records stay.devices p.live p.waiting x) (counts ∙ ap (λ (n : ℕ). less_awaited h.tally n) (sym started));
+        leaves =
+            begun_anew rest q u v rest_entries rest_begun rest_base rest_same rest_forgotten
+            ∙ ap (λ (x : Tally). anew rest.records rest.devices q.live q.waiting x) (alone ∙ ap awaited_alone (sym started));
+        few = subst (λ (n : ℕ). n < 2 ^ 63) (sym started) few;
+        together = ap (λ (x : Tally). added x v) counts ∙ ap (λ (x : Tally). added (less_awaited h.tally count) x) alone ∙ together;
+      }
 
   pub became_one : (s : ℕ) (field : FieldNo) (link : LinkField) (h o : Held R D) (was others both left : Contents R D) (one two p q : Puts) (t u sum : Tally) (none : Tally) (entries other_entries : List Entry)
       → was.records ≡ h.records → was.devices ≡ h.devices → t ≡ h.tally → one.live ≡ h.live → one.waiting ≡ h.waiting

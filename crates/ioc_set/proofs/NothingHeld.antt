@@ -13,6 +13,7 @@ use Rattle.ioc_process.specs.Rules.{IsSettled}
 use Rattle.ioc_events.specs.declared.event.Entry.{Entry}
 use Rattle.ioc_events.specs.StepRules.{at_the_end}
 use Rattle.ioc_events.specs.Holding.{IsCounted, HoldersAwait, holders, one_if_has}
+use Rattle.ioc_awaiting.specs.Awaiting.{one_if_awaits, awaited}
 use Rattle.ioc_set.specs.Puts.{Puts, no_puts}
 use Rattle.ioc_set.specs.Held.{Held, resting, nothing_held, no_counts}
 use Rattle.ioc_set.specs.Sound.{IsSound, CountsAddUp}
@@ -73,6 +74,11 @@ module _ {R : Type 0} (k : RecordRules R) (missing : targets k k.missing ≡ [])
     closed = λ a b n. absurd (none_some n.0 (sym (ap (λ (o : Option R). option_map (targets k) o) (none_at a)) ∙ n.1));
   }
 
+-- no record awaits a completion
+none_awaited : {R : Type 0} (k : RecordRules R) → awaited k (empty {K = ℕ} {X = R} {R = nat_cmp}) ≡ 0
+unfolding awaited
+none_awaited k = ap (total (one_if_awaits k)) no_entries
+
 -- a set of nothing
 pub none_held : {R D : Type 0} (c : Contents R D) (p : Puts) (b t : Tally) (entries : List Entry) → c ≡ nothing → WereNone p → b ≡ no_counts → t ≡ no_counts → entries ≡ [] → held_by c p b t entries ≡ nothing_held
 none_held c p b t entries none puts before counts forgotten = λ i. record {
@@ -86,7 +92,7 @@ none_held c p b t entries none puts before counts forgotten = λ i. record {
 }
 
 module _ {R D : Type 0} (k : RecordRules R) (missing : targets k k.missing ≡ []) where
-  sound : (t : Tally) → CountsAddUp t → IsSound k (held_by {R = R} {D = D} nothing no_puts t t [])
+  sound : (t : Tally) → CountsAddUp t 0 → IsSound k (held_by {R = R} {D = D} nothing no_puts t t [])
   sound t counts = record {
     part = part k missing;
     settled = settled k missing;
@@ -95,11 +101,11 @@ module _ {R D : Type 0} (k : RecordRules R) (missing : targets k k.missing ≡ [
     holders_await = awaits k missing;
     leads = record { after = at_rest k missing; replay = at_the_end; records = refl; live = refl; waiting = refl };
     tally = refl;
-    counts = counts;
+    counts = subst (CountsAddUp t) (sym (none_awaited k)) counts;
     short = omega arith;
   }
 
-  pub sound_anew : (c : Contents R D) (p : Puts) (b t : Tally) (entries : List Entry) → c ≡ nothing → WereNone p → b ≡ t → entries ≡ [] → CountsAddUp t → IsSound k (held_by c p b t entries)
+  pub sound_anew : (c : Contents R D) (p : Puts) (b t : Tally) (entries : List Entry) → c ≡ nothing → WereNone p → b ≡ t → entries ≡ [] → CountsAddUp t 0 → IsSound k (held_by c p b t entries)
   sound_anew c p b t entries none puts same forgotten counts =
       let is : held_by c p b t entries ≡ held_by {R = R} {D = D} nothing no_puts t t [] = λ i. record {
         records = (none i).records;

@@ -15,7 +15,7 @@ use Rattle.ioc_store.specs.World.{World, Has, Keeps, at, begun, begun_at, put}
 use Rattle.ioc_store.specs.Scanning.{device_of, rewired}
 use Rattle.ioc_set.specs.Held.{Held, now_of, resting}
 use Rattle.ioc_set.specs.Doing.{with_kept}
-use Rattle.ioc_set.specs.Linking.{anew, FallsApart, link_change_of}
+use Rattle.ioc_set.specs.Linking.{anew, added, FallsApart, link_change_of}
 use Rattle.ioc_set.proofs.Linked.{has_begun, was_begun}
 use Rattle.ioc_set.proofs.Rescans.{rewired-keeps, own_record, rescanned_left, rescanned_shared}
 
@@ -82,6 +82,8 @@ module _ {R D : Type 0} (k : RecordRules R) (h : Held R D) (moment s : ℕ) (fie
           ∙ ap (λ (l : List Waiting). anew after.records after.devices after.live l stay.tally) (sym waiting_then)
           ∙ ap (λ (x : Held R D). anew after.records after.devices after.live after.waiting x.tally) falls.stays;
       leaves = falls.leaves;
+      few = falls.few;
+      together = ap (λ (x : Held R D). added x.tally rest.tally) held ∙ falls.together;
     }
 
     pub comes_to : with_kept changed.records h.live h.waiting come_to ≡ changed

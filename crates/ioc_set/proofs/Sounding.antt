@@ -1,5 +1,5 @@
 -- What holds of a lock set whenever it is free, after an event.
-use Rattle.std.proofs.Common.{◌≡◌, ℕ, ◌<◌, Option, Some, None, false, true, List, [], ◌∷◌, ◌++◌, length, refl, sym, ap, ◌∙◌, subst, arith}
+use Rattle.std.proofs.Common.{◌≡◌, ℕ, ◌<◌, ◌+◌, Option, Some, None, false, true, List, [], ◌∷◌, ◌++◌, length, refl, sym, ap, ◌∙◌, subst, arith}
 use Rattle.std.specs.Prelude.{IsSome, Bool, if◌then◌else◌, unwrap_or}
 use Rattle.std.specs.Option.{option_map}
 use Rattle.std.specs.FinMap.{get}
@@ -22,8 +22,10 @@ use Rattle.ioc_events.specs.Step.{Stepped, stepped, tallied, completes, calls_si
 use Rattle.ioc_events.specs.StepRules.{Step, Replay, at_the_end, and_then}
 use Rattle.ioc_events.specs.Starting.{NoneReady, is_ready}
 use Rattle.ioc_events.specs.Holding.{IsCounted, HoldersAwait, holders}
+use Rattle.ioc_awaiting.specs.Awaiting.{awaited, one_if_completes}
 use Rattle.ioc_set.specs.Held.{Held, resting, now_of, before_of, done_by, counted_on, held_after, folded}
 use Rattle.ioc_set.specs.Sound.{IsSound, TellsOf}
+use Rattle.ioc_set.proofs.Counts.{AnswersAddUp, answers_same, answers_then}
 
 -- later answers and completions are counted beside the requests
 fits_beside : (completes : Bool) (t : Tally) (later : ℕ) → Fits t → Fits (if completes then counted_completion (counted_started t later) else counted_started t later)
@@ -122,6 +124,18 @@ module _ {R : Type 0} (k : RecordRules R) where
     unfolding tallied
     adds_after t w event done fits adds = adds_beside (completes event done.reply) (counted t done.requests) (later_among (calls_since w done.world)) (up t done.requests fits adds)
 
+    answers_after : (t : Tally) (w : World R) (event : Event) (done : Stepped R) (still after : ℕ) → Fits t → AnswersAddUp t still
+        → after + one_if_completes event done.reply ≡ still + later_among (calls_since w done.world) → AnswersAddUp (tallied t w event done) after
+    unfolding tallied
+    answers_after t w event done still after fits one law =
+        let requests = each t done.requests fits in
+        answers_then (completes event done.reply) (counted t done.requests) still (later_among (calls_since w done.world)) after
+        (answers_same t (counted t done.requests) still requests.started requests.completed one) law
+
+  awaited_begun : (rs : Records R) (live : List Live) (waiting : List Waiting) (moment : ℕ) → awaited k (begun_at moment (resting rs live waiting)).records ≡ awaited k rs
+  unfolding begun_at begun
+  awaited_begun rs live waiting moment = refl
+
   module _ (allowed : (answers : Answers) (w : World R) (event : Event) → Step k answers w event (stepped k answers w event).world (stepped k answers w event).reply (stepped k answers w event).requests)
       (alone : (answers : Answers) (w after : World R) (event : Event) (reply : Reply) (requests : Requests) → Step k answers w event after reply requests
       → stepped k answers w event ≡ record { world = after; reply = reply; requests = requests }) where
@@ -139,25 +153,29 @@ module _ {R : Type 0} (k : RecordRules R) where
         (awaits : (answers : Answers) (w after : World R) (event : Event) (reply : Reply) (requests : Requests) → Step k answers w event after reply requests → IsSettled k w → HoldersAwait k w → HoldersAwait k after)
         (each : (t : Tally) (requests : Requests) → Fits t → CountsEach t (counted t requests) requests)
         (up : (t : Tally) (requests : Requests) → Fits t → AddsUp t → AddsUp (counted t requests))
+        (awaitings : (answers : Answers) (w after : World R) (event : Event) (reply : Reply) (requests : Requests) → Step k answers w event after reply requests → IsSettled k w
+        → awaited k after.records + one_if_completes event reply ≡ awaited k w.records + later_among (calls_since w after))
         {D : Type 0} (h : Held R D) where
       pub sound_after : (entry : Entry) (devices : Devices D) → IsSound k h → length h.history < 64 → TellsOf k h entry → IsSound k (held_after k h entry devices)
       sound_after entry devices sound room tells =
-          let answers = listed entry.answers in
+          let given = listed entry.answers in
           let m = entry.moment in
           let w = begun_at m (now_of h) in
           let done = done_by k (now_of h) entry in
-          let step = allowed answers w entry.event in
+          let step = allowed given w entry.event in
           let quiet = settled_begun h.records h.live h.waiting m sound.settled in
           let alike = begins_alike sound.leads.after h.records h.live h.waiting m sound.leads.records sound.leads.live sound.leads.waiting in
-          let told : Step k answers (begun_at m sound.leads.after) entry.event done.world entry.reply done.requests =
-          subst (λ (z : World R). Step k answers z entry.event done.world entry.reply done.requests) (sym alike)
-          (subst (λ (z : Reply). Step k answers w entry.event done.world z done.requests) tells.reply step) in
+          let told : Step k given (begun_at m sound.leads.after) entry.event done.world entry.reply done.requests =
+          subst (λ (z : World R). Step k given z entry.event done.world entry.reply done.requests) (sym alike)
+          (subst (λ (z : Reply). Step k given w entry.event done.world z done.requests) tells.reply step) in
+          let law = awaitings given w done.world entry.event done.reply done.requests step quiet ∙ ap (λ (n : ℕ). n + later_among (calls_since w done.world)) (awaited_begun h.records h.live h.waiting m) in
+          let answers = answers_after each up h.tally w entry.event done (awaited k h.records) (awaited k done.world.records) sound.counts.fits (record { fit = sound.counts.answers_fit; add_up = sound.counts.answers_add_up }) law in
           record {
-            part = part_kept h.records h.live h.waiting m done.world (keeps answers w done.world entry.event done.reply done.requests step tells.no_link_change quiet.closed) sound.part;
-            settled = settled_rest done.world (settles answers w done.world entry.event done.reply done.requests step quiet);
-            none_ready = none_rest done.world (readies answers w done.world entry.event done.reply done.requests step (none_begun h.records h.live h.waiting m sound.none_ready));
-            counted = counted_rest done.world (counts answers w done.world entry.event done.reply done.requests step (counted_begun h.records h.live h.waiting m sound.counted));
-            holders_await = awaits_rest done.world (awaits answers w done.world entry.event done.reply done.requests step quiet (awaits_begun h.records h.live h.waiting m sound.holders_await));
+            part = part_kept h.records h.live h.waiting m done.world (keeps given w done.world entry.event done.reply done.requests step tells.no_link_change quiet.closed) sound.part;
+            settled = settled_rest done.world (settles given w done.world entry.event done.reply done.requests step quiet);
+            none_ready = none_rest done.world (readies given w done.world entry.event done.reply done.requests step (none_begun h.records h.live h.waiting m sound.none_ready));
+            counted = counted_rest done.world (counts given w done.world entry.event done.reply done.requests step (counted_begun h.records h.live h.waiting m sound.counted));
+            holders_await = awaits_rest done.world (awaits given w done.world entry.event done.reply done.requests step quiet (awaits_begun h.records h.live h.waiting m sound.holders_await));
             leads = record {
               after = done.world;
               replay = replay_more h.history entry sound.leads.replay told tells.answers;
@@ -167,11 +185,13 @@ module _ {R : Type 0} (k : RecordRules R) where
             };
             tally =
                 ap (λ t. tallied t w entry.event done) sound.tally
-                ∙ ap (λ (z : World R). tallied (counted_on k h.base.tally (before_of h.base) h.history) z entry.event (stepped k answers z entry.event)) (sym alike)
+                ∙ ap (λ (z : World R). tallied (counted_on k h.base.tally (before_of h.base) h.history) z entry.event (stepped k given z entry.event)) (sym alike)
                 ∙ sym (counted_more h.base.tally h.history entry sound.leads.replay);
             counts = record {
               fits = fits_after each up h.tally w entry.event done sound.counts.fits;
               adds_up = adds_after each up h.tally w entry.event done sound.counts.fits sound.counts.adds_up;
+              answers_fit = answers.fit;
+              answers_add_up = answers.add_up;
             };
             short = omega (arith, room, length_push h.history entry);
           }

@@ -5,7 +5,7 @@ use Rattle.ioc_ledger.specs.declared.tally.Tally.{Tally}
 use Rattle.ioc_ledger.specs.Requests.{filled, Fits, AddsUp}
 use Rattle.ioc_set.specs.Linking.{added}
 
-filled-fits : (n a : ℕ) → filled n a < 2 ^ 64
+pub filled-fits : (n a : ℕ) → filled n a < 2 ^ 64
 filled-fits n a = omega arith
 
 full : (n a : ℕ) → n ≡ 2 ^ 64 - 1 → filled n a ≡ 2 ^ 64 - 1

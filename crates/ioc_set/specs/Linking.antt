@@ -1,6 +1,6 @@
 -- A link change on lock sets: one falls apart, or two become one, and a change of a scan list is sent.
 -- Application Developer's Guide, "Database Locking, Scanning, and Processing": a changed link parts lock sets or joins them.
-use Rattle.std.specs.Prelude.{◌≡◌, ◌≢◌, ◌↔◌, ℕ, ◌+◌, ◌≤◌, List, [], ◌++◌, length, Contains, IsSome, IsTrue, None}
+use Rattle.std.specs.Prelude.{◌≡◌, ◌≢◌, ◌↔◌, ℕ, ◌+◌, ◌-◌, ◌^◌, ◌<◌, ◌≤◌, ◌==◌, if◌then◌else◌, List, [], ◌++◌, length, Contains, IsSome, IsTrue, None}
 use Rattle.std.specs.FinMap.{get}
 use Rattle.ioc_fields.specs.declared.field_no.FieldNo.{FieldNo}
 use Rattle.ioc_common.specs.declared.link_field.LinkField.{LinkField}
@@ -44,6 +44,14 @@ added t u = record {
   completed = filled t.completed u.completed;
 }
 
+-- counts with so many fewer answers that were to come later: another set counts these. A full count stays full
+abbrev pub less_awaited : Tally → ℕ → Tally
+less_awaited t count = record t { started = if t.started == 2 ^ 64 - 1 then t.started else t.started - count }
+
+-- no counts but of so many answers that are to come later
+abbrev pub awaited_alone : ℕ → Tally
+awaited_alone count = record no_counts { started = count }
+
 module _ {R : Type 0} (k : RecordRules R) where
   -- a record between events that no put with notification has: it is active exactly where a completion of it is pending
   pub record IsCalm (r : R) : Type 0 where
@@ -52,6 +60,10 @@ module _ {R : Type 0} (k : RecordRules R) where
 
   abbrev pub AreCalm : Records R → Type 0
   AreCalm rs = (n : ℕ) → IsSome (get rs n) → IsCalm (record_at k rs n)
+
+  -- none of these records awaits a completion
+  abbrev pub NoneAwaits : Records R → Type 0
+  NoneAwaits rs = (n : ℕ) → IsSome (get rs n) → (k.common (record_at k rs n)).pending ≡ None
 
   -- records between events, with these puts with notification: each is active exactly where a completion of it is pending; one that has a
   -- notification, or for which one waits, awaits a completion; and the holders of each are counted
@@ -70,7 +82,8 @@ module _ {R : Type 0} (k : RecordRules R) where
 
 module _ {R D : Type 0} where
   -- a set falls apart: each of these records, which are its own with a link changed, and each device is in exactly one of two that begin anew.
-  -- A put that waits goes with the record that it waits for. The one with the record of this number keeps the counts, and the rest has none
+  -- A put that waits goes with the record that it waits for. The one with the record of this number keeps the counts, but for the answers that
+  -- the records of the rest still await: these the rest counts, and nothing else. Both together have the counts that were
   pub record FallsApart (before : Held R D) (changed : Records R) (number : ℕ) (stay rest : Held R D) : Type 0 where
     pub shared : AreShared (get changed) (get stay.records) (get rest.records)
     pub devices : AreShared (get before.devices) (get stay.devices) (get rest.devices)
@@ -78,8 +91,10 @@ module _ {R D : Type 0} where
     pub waiting : WaitsGoAlong before.waiting stay.records stay.waiting
     pub rest_waiting : WaitsGoAlong before.waiting rest.records rest.waiting
     pub none_live : NoneIsLive before → NoneIsLive stay × NoneIsLive rest
-    pub stays : stay ≡ anew stay.records stay.devices stay.live stay.waiting before.tally
-    pub leaves : rest ≡ anew rest.records rest.devices rest.live rest.waiting no_counts
+    pub stays : stay ≡ anew stay.records stay.devices stay.live stay.waiting (less_awaited before.tally rest.tally.started)
+    pub leaves : rest ≡ anew rest.records rest.devices rest.live rest.waiting (awaited_alone rest.tally.started)
+    pub few : rest.tally.started < 2 ^ 63
+    pub together : added stay.tally rest.tally ≡ before.tally
 
   -- two sets may become one: each put that waits does so for a record of its set, none waits in both, and what is live on either, and what
   -- waits, has room in one

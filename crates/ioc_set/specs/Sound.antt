@@ -1,6 +1,6 @@
 -- What holds of a lock set whenever it is free.
 -- Application Developer's Guide, "Database Locking, Scanning, and Processing": records that links join are in one lock set.
-use Rattle.std.specs.Prelude.{◌≡◌, ◌≤◌, Bool, true, false, length}
+use Rattle.std.specs.Prelude.{◌≡◌, ◌⊎◌, ℕ, ◌+◌, ◌-◌, ◌^◌, ◌<◌, ◌≤◌, Bool, true, false, length}
 use Rattle.ioc_ledger.specs.declared.tally.Tally.{Tally}
 use Rattle.ioc_ledger.specs.Requests.{Fits, AddsUp}
 use Rattle.ioc_record.specs.RecordRules.{RecordRules}
@@ -15,6 +15,7 @@ use Rattle.ioc_events.specs.Step.{is_link_change}
 use Rattle.ioc_events.specs.StepRules.{Replay}
 use Rattle.ioc_events.specs.Starting.{NoneReady}
 use Rattle.ioc_events.specs.Holding.{IsCounted, HoldersAwait}
+use Rattle.ioc_awaiting.specs.Awaiting.{awaited}
 use Rattle.ioc_set.specs.Held.{Held, now_of, before_of, done_by, counted_on}
 
 -- a put with notification
@@ -22,10 +23,13 @@ abbrev pub is_put_with_notification : Event → Bool
 is_put_with_notification (Notify s number field given) = true
 is_put_with_notification _ = false
 
--- the requests begun are those processed, disabled, active or put down for reprocessing, in numbers of 64 bits
-pub record CountsAddUp (t : Tally) : Type 0 where
+-- the requests begun are those processed, disabled, active or put down for reprocessing; and the answers that were to come later are those
+-- completed and those still awaited, which are so many. Each count is a number of 64 bits, and one that is full says no more
+pub record CountsAddUp (t : Tally) (still_awaited : ℕ) : Type 0 where
   pub fits : Fits t
   pub adds_up : AddsUp t
+  pub answers_fit : (t.started < 2 ^ 64) × (t.completed < 2 ^ 64)
+  pub answers_add_up : (t.started ≡ 2 ^ 64 - 1) ⊎ (t.started ≡ t.completed + still_awaited)
 
 module _ {R D : Type 0} (k : RecordRules R) where
   -- the events of the history, one after another, lead from what was before them to what is there
@@ -38,7 +42,8 @@ module _ {R D : Type 0} (k : RecordRules R) where
 
   -- the records are one connected part or none, and no link leaves them; a record is active exactly where a completion is pending; none that
   -- waits may start; the holders of each put with notification are counted, and await a completion; the history leads here, the counts too; and
-  -- the requests begun are those processed, disabled, active or put down for reprocessing
+  -- the requests begun are those processed, disabled, active or put down for reprocessing; and the answers that were to come later those completed
+  -- and those that its records still await
   pub record IsSound (h : Held R D) : Type 0 where
     pub part : IsPart (links_of k h.records)
     pub settled : IsSettled k (now_of h)
@@ -47,7 +52,7 @@ module _ {R D : Type 0} (k : RecordRules R) where
     pub holders_await : HoldersAwait k (now_of h)
     pub leads : LeadsHere h
     pub tally : h.tally ≡ counted_on k h.base.tally (before_of h.base) h.history
-    pub counts : CountsAddUp h.tally
+    pub counts : CountsAddUp h.tally (awaited k h.records)
     pub short : length h.history ≤ 64
 
   -- an entry tells what its event did on what the set holds: all its answers were used, and its reply was given

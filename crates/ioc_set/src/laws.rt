@@ -22,12 +22,14 @@ ghost use Rattle.ioc_events.specs.StepRules.{Replay, Step};
 ghost use Rattle.ioc_members.specs.Contents.{Records, Devices};
 ghost use Rattle.ioc_members.specs.Joined.{links_of, IsPart, HasLink};
 ghost use Rattle.ioc_events.specs.declared.event.Entry.{Entry};
+ghost use Rattle.ioc_awaiting.specs.Awaiting.{awaited};
 ghost use Rattle.ioc_set.specs.Held.{Held, NoneIsLive, now_of, folded, held_after};
 ghost use Rattle.ioc_set.specs.Doing.{is_ordinary, Does};
 ghost use Rattle.ioc_set.specs.Linking.{anew, AreCalm, AreHeld, MayBeOne, with_link_changed};
 ghost use Rattle.ioc_set.specs.Recounting.{AreLive};
 ghost use Rattle.ioc_set.specs.Sound.{CountsAddUp, IsSound, TellsOf, is_put_with_notification};
 
+use ioc_awaiting::laws::events_count_awaited;
 use ioc_device::Device;
 use ioc_events::event_rules::{events_keep_links, events_leave_settled, rules_are_steps};
 use ioc_events::notification_rules::{
@@ -52,6 +54,7 @@ pub fn events_leave_sound<K: RecordKind, D>()
     events_leave_none_ready::<K>();
     tallies_count_each_request();
     tallies_add_up();
+    events_count_awaited::<K>();
 }
 
 /// Where no put with notification is live, none is live or waits after an event, unless it is answered that one has begun. So a set
@@ -85,7 +88,7 @@ pub fn notifications_begin_by_notify<K: RecordKind>()
 pub fn calm_records_are_sound<K: RecordKind, D>()
     ensures calm { (h : Held K D) → IsSound K.rules h → h.live ≡ [] → AreCalm K.rules h.records }
     ensures sound { (rs : Records K) (ds : Devices D) (counts : Tally) → IsPart (links_of K.rules rs) → AreCalm K.rules rs → len rs < 2 ^ 63 →
-        CountsAddUp counts → IsSound K.rules (anew rs ds [] [] counts) }
+        CountsAddUp counts (awaited K.rules rs) → IsSound K.rules (anew rs ds [] [] counts) }
 {
     events_count_holders::<K>();
 }
@@ -99,7 +102,7 @@ pub fn held_records_are_sound<K: RecordKind, D>()
     ensures holder { (h : Held K D) (n : ℕ) → IsSound K.rules h → is_live n h.live ≡ true → IsHeld K.rules (now_of h) n }
     ensures fewer { (h : Held K D) → IsSound K.rules h → length h.waiting ≤ length h.live }
     ensures sound { (rs : Records K) (ds : Devices D) (live : List Live) (waiting : List Waiting) (counts : Tally) → IsPart (links_of K.rules rs) →
-        AreHeld K.rules rs live waiting → len rs < 2 ^ 63 → CountsAddUp counts → IsSound K.rules (anew rs ds live waiting counts) }
+        AreHeld K.rules rs live waiting → len rs < 2 ^ 63 → CountsAddUp counts (awaited K.rules rs) → IsSound K.rules (anew rs ds live waiting counts) }
     ensures may_be_one { (h other : Held K D) → NoneIsLive h → NoneIsLive other → MayBeOne h other }
 {
     events_count_holders::<K>();

@@ -2,6 +2,7 @@
 #![tactic(auto)]
 
 pub mod attached;
+mod awaited;
 pub mod laws;
 pub mod linking;
 pub mod live_puts;

@@ -122,6 +122,16 @@ impl LivePuts {
         }
     }
 
+    /// Those that are live, with how many have each.
+    pub fn live(&self) -> &[Live]
+        ensures { result.now ≡ self.now.live }
+    {
+        match &self.kept {
+            Some(kept) => kept.live(),
+            None => &[],
+        }
+    }
+
     /// Where no room was taken, none is live.
     pub fn none_without_room(&self)
         ensures { self.now.has_room ≡ false → AreNone self.now }

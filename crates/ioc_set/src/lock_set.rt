@@ -15,11 +15,12 @@ ghost use Rattle.ioc_store.specs.World.{Has, at, common_at, begun_at};
 ghost use Rattle.ioc_members.specs.Contents.{RecordsAreLikeTheirBase};
 ghost use Rattle.ioc_members.specs.Joined.{links_of, IsPart, HasLink, HasFreeLink, relinked};
 ghost use Rattle.ioc_set.specs.Held.{NoneIsLive, now_of, resting, nothing_held, no_counts, folded};
-ghost use Rattle.ioc_set.specs.Linking.{anew, AreCalm, FallsApart, MayBeOne, BecomeOne, LeadsInto, link_change_of};
+ghost use Rattle.ioc_set.specs.Linking.{anew, AreCalm, NoneAwaits, FallsApart, MayBeOne, BecomeOne, LeadsInto, link_change_of};
 ghost use Rattle.ioc_set.specs.Sound.{IsSound};
 ghost use Rattle.ioc_set.specs.SetStore.{world_of};
 ghost use Rattle.ioc_set.specs.Doing.{Does, held_by, with_place, with_kept, is_done_on_sets};
 
+use crate::awaited::take_awaited;
 use crate::laws::{calm_records_are_sound, events_leave_sound, held_records_are_sound};
 use crate::linking::{add_counts, begin_anew, rescan_on};
 use crate::live_puts::{LivePuts, PutsRoom, joined_puts, own_puts};
@@ -34,7 +35,7 @@ use ioc_ledger::Tally;
 use ioc_links::MAX_DEVICE_BYTES;
 use ioc_members::{Members, Room};
 use ioc_names::RecordNo;
-use ioc_notify::NotifyId;
+use ioc_notify::{Live, NotifyId};
 use ioc_record::{RecordKind, stops_put, text_of};
 use ioc_store::scan_change::device_of;
 use ioc_values::{Finished, Input, IocError, Short};
@@ -192,6 +193,20 @@ impl<K: RecordKind, D> LockSet<K, D> {
         ensures { (answers : Answers) → result ≡ (stepped K.rules answers (now_of self.now) (IsLive number)).reply }
     {
         Reply::Live(self.puts.is_live(number))
+    }
+
+    /// The puts with notification that are live on the set, with how many of its records and waiting lists have each.
+    pub fn live_puts(&self) -> &[Live]
+        ensures { result.now ≡ self.now.live }
+    {
+        self.puts.live()
+    }
+
+    /// No more than 256 are live on the set: there is no room for more.
+    pub fn puts_are_few(&self)
+        ensures { length self.now.live ≤ 256 }
+    {
+        self.puts.are_few();
     }
 
     /// Is no put with notification live on the set? Then none waits either.
@@ -356,11 +371,12 @@ impl<K: RecordKind + Drop, D: Device> LockSet<K, D> {
 }
 
 impl<K: RecordKind, D> LockSet<K, D> {
-    /// A set of these members, with no counts and no history yet.
+    /// A set of these members, with no counts and no history yet: none of them awaits a completion.
     pub fn of(alloc: Global, members: Members<K, D>) -> Self
         requires base { members.base ≡ members.records }
         requires part { IsPart (links_of K.rules members.records) }
         requires calm { AreCalm K.rules members.records }
+        requires idle { NoneAwaits K.rules members.records }
         ensures { result ≡ anew members.records members.devices [] [] no_counts }
     {
         calm_records_are_sound::<K, D>();
@@ -455,7 +471,8 @@ impl<K: RecordKind, D> LockSet<K, D> {
 
 impl<K: RecordKind + Drop, D: Drop> LockSet<K, D> {
     /// Sets a link of a record: to nowhere, or to a record of this set. The set keeps the record's part and the counts, and the records
-    /// that no link joins to it any more come back as a set of their own, which may be empty. Each record keeps the notification that it has,
+    /// that no link joins to it any more come back as a set of their own, which may be empty, and which counts the answers that they still
+    /// await. Each record keeps the notification that it has,
     /// each put that waits goes with its record, and the holders of each are counted anew in both. Nothing is sent yet: see
     /// [`LockSet::rescan`]. `link` and `twin` are alike.
     ///
@@ -494,12 +511,13 @@ impl<K: RecordKind + Drop, D: Drop> LockSet<K, D> {
         let rest_puts = own_puts(&rest, &self.puts, rest_room, alloc);
         let stay_puts = own_puts(&self.members, &self.puts, stay_room, alloc);
         self.puts = stay_puts;
-        let none = Tally::default();
+        let rest_tally = take_awaited(&mut self.tally, &rest);
+        self.base_tally = self.tally;
         Ok(LockSet {
             members: rest,
             puts: rest_puts,
-            tally: none,
-            base_tally: none,
+            tally: rest_tally,
+            base_tally: rest_tally,
             history: Vec::new(alloc),
         })
     }

@@ -1,6 +1,6 @@
 -- The set of one part of a database at rest.
 use Rattle.std.proofs.Common.{◌≡◌, ℕ, zero, suc, ◌<◌, ◌≤◌, ◌+◌, Bool, true, false, cond, List, [], ◌∷◌, ◌++◌, length, map, Option, Some, None, refl, sym, ap, ◌∙◌, subst, ⊎_elim, arith}
-use Rattle.std.specs.Prelude.{◌==◌, Contains, IsSome, is_some, unwrap_or, slice_get, slice_index}
+use Rattle.std.specs.Prelude.{◌==◌, ◌↔◌, IsTrue, Contains, IsSome, is_some, unwrap_or, slice_get, slice_index}
 use Rattle.std.specs.Option.{option_map}
 use Rattle.std.specs.FinMap.{get, keys, len}
 use Rattle.std.proofs.Math.ListN.{get_or, set}
@@ -8,7 +8,7 @@ use Rattle.std.proofs.lemmas.List.{get_or-set_other, length-set, length-map}
 use Rattle.std.proofs.lemmas.Option.{slice_get-map}
 use Rattle.ioc_notify.specs.Waits.{at_record}
 use Rattle.ioc_record.specs.RecordRules.{RecordRules, targets}
-use Rattle.ioc_members.specs.Contents.{Contents, nothing}
+use Rattle.ioc_members.specs.Contents.{Contents, nothing, record_at}
 use Rattle.ioc_members.specs.Joined.{links_of, Names, IsPart}
 use Rattle.ioc_store.specs.OneMapLaws.{get-numbered, len-numbered}
 use Rattle.ioc_store.specs.World.{World, Has, IsClosed, at, common_at}
@@ -17,11 +17,11 @@ use Rattle.ioc_line.specs.Key.{Has as Has_key}
 use Rattle.ioc_line.specs.KeyLaws.{has_either, record_kind}
 use Rattle.ioc_holding.specs.Held.{Holds}
 use Rattle.ioc_set.specs.Held.{resting}
-use Rattle.ioc_set.specs.Linking.{AreCalm, IsCalm}
+use Rattle.ioc_set.specs.Linking.{AreCalm, IsCalm, NoneAwaits}
 use Rattle.ioc_dealing.specs.declared.dealing.Loaded.{Loaded}
 use Rattle.ioc_dealing.specs.Dealing.{HasPart}
 use Rattle.ioc_dealing.specs.Linked.{AreParts, links_in}
-use Rattle.ioc_start.specs.Loading.{loaded_world, AreOfPartsBelow, IsAtRest, IsSetOf, AreSetsFrom}
+use Rattle.ioc_start.specs.Loading.{loaded_world, AreOfPartsBelow, IsIdle, IsAtRest, IsSetOf, AreSetsFrom}
 use Rattle.ioc_start.proofs.Keys.{record_contains, key_there}
 
 none_in : {A : Type 0} (x : A) → Contains [] x → ⊥
@@ -52,16 +52,25 @@ some_below (x ∷ xs) (suc q) lt = some_below xs q (omega (arith, lt))
 some_same : {A : Type 0} {x y : A} → Some x ≡ Some y → x ≡ y
 some_same e = cc
 
+-- one that is idle is calm
+neither : (b : Bool) (o : Option ℕ) → b ≡ false → o ≡ None → IsTrue b ↔ IsSome o
+neither true o idle none = cc
+neither false None idle none = (λ is. cc, λ is. cc)
+neither false (Some n) idle none = cc
+
+idle_calm : {R : Type 0} {k : RecordRules R} {r : R} → IsIdle k r → IsCalm k r
+idle_calm idle = record { quiet = neither _ _ idle.inactive idle.nothing_awaited; free = idle.free }
+
 same : (m n : ℕ) → (m == n) ≡ true → m ≡ n
 same m n e = search (e, arith)
 
 is_same : (m n : ℕ) → m ≡ n → (m == n) ≡ true
 is_same m n e = search (e, arith)
 
-calm_of : {R D : Type 0} {k : RecordRules R} (all : List (Loaded R D)) (q : ℕ) (l : Loaded R D) → slice_get all q ≡ Some l → ((i : ℕ) (d : Loaded R D) → i < length all → IsCalm k (get_or all i d).fields) → IsCalm k l.fields
-calm_of [] q l found calm = absurd (none_some (Some l) (sym found) refl)
-calm_of {R = R} {D = D} {k = k} (x ∷ xs) zero l found calm = subst (λ (y : Loaded R D). IsCalm k y.fields) (some_same found) (calm zero x (omega arith))
-calm_of (x ∷ xs) (suc q) l found calm = calm_of xs q l found (λ i d lt. calm (suc i) d (omega (arith, lt)))
+idle_of : {R D : Type 0} {k : RecordRules R} (all : List (Loaded R D)) (q : ℕ) (l : Loaded R D) → slice_get all q ≡ Some l → ((i : ℕ) (d : Loaded R D) → i < length all → IsIdle k (get_or all i d).fields) → IsIdle k l.fields
+idle_of [] q l found idle = absurd (none_some (Some l) (sym found) refl)
+idle_of {R = R} {D = D} {k = k} (x ∷ xs) zero l found idle = subst (λ (y : Loaded R D). IsIdle k y.fields) (some_same found) (idle zero x (omega arith))
+idle_of (x ∷ xs) (suc q) l found idle = idle_of xs q l found (λ i d lt. idle (suc i) d (omega (arith, lt)))
 
 module _ {R D : Type 0} (k : RecordRules R) (missing : targets k k.missing ≡ []) (base : World R) (parts : List ℕ) (all : List (Loaded R D)) (rest : IsAtRest k base parts all)
     (part : ℕ) (c : Contents R D) (has : HasPart all parts part c) where
@@ -79,12 +88,18 @@ module _ {R D : Type 0} (k : RecordRules R) (missing : targets k k.missing ≡ [
   there q is = choose (λ (l : Loaded R D). l.fields) (slice_get all q) (slice_index parts q == part) (get c.records q) (has.records q) (is_same (slice_index parts q) part is) ∙ sym (loaded q)
 
   -- what holds of all that were loaded holds of what is found
-  calm_at : (q : ℕ) (o : Option (Loaded R D)) (x : Option R) → slice_get all q ≡ o → x ≡ option_map (λ (l : Loaded R D). l.fields) o → IsSome x → IsCalm k (unwrap_or x k.missing)
-  calm_at q None x found is some = absurd (none_some x is some)
-  calm_at q (Some l) x found is some = subst (λ (y : Option R). IsCalm k (unwrap_or y k.missing)) (sym is) (calm_of all q l found rest.calm)
+  idle_at : (q : ℕ) (o : Option (Loaded R D)) (x : Option R) → slice_get all q ≡ o → x ≡ option_map (λ (l : Loaded R D). l.fields) o → IsSome x → IsIdle k (unwrap_or x k.missing)
+  idle_at q None x found is some = absurd (none_some x is some)
+  idle_at q (Some l) x found is some = subst (λ (y : Option R). IsIdle k (unwrap_or y k.missing)) (sym is) (idle_of all q l found rest.idle)
+
+  set_is_idle : (n : ℕ) → IsSome (get c.records n) → IsIdle k (record_at k c.records n)
+  set_is_idle n some = idle_at n (slice_get all n) (get c.records n) refl ((here n some).1 ∙ loaded n) some
 
   pub set_is_calm : AreCalm k c.records
-  set_is_calm n some = calm_at n (slice_get all n) (get c.records n) refl ((here n some).1 ∙ loaded n) some
+  set_is_calm n some = idle_calm (set_is_idle n some)
+
+  pub set_awaits_none : NoneAwaits k c.records
+  set_awaits_none n some = (set_is_idle n some).nothing_awaited
 
   -- what a record's links name, as the record is there
   names_of : (a t : ℕ) (o : Option (Loaded R D)) → slice_get all a ≡ o → Contains (targets k (unwrap_or (option_map (λ (l : Loaded R D). l.fields) o) k.missing)) t → Names (links_in k all) a t
@@ -137,7 +152,7 @@ module _ {R D : Type 0} (k : RecordRules R) (missing : targets k k.missing ≡ [
       (has_either key (record_keys (keys c.records)) born h)
 
 -- a database at rest, as a whole
-module _ {R D : Type 0} (k : RecordRules R) (missing : targets k k.missing ≡ []) (parts : List ℕ) (all : List (Loaded R D)) (calm : (i : ℕ) (d : Loaded R D) → i < length all → IsCalm k (get_or all i d).fields) (are : AreParts k all parts) where
+module _ {R D : Type 0} (k : RecordRules R) (missing : targets k k.missing ≡ []) (parts : List ℕ) (all : List (Loaded R D)) (idle : (i : ℕ) (d : Loaded R D) → i < length all → IsIdle k (get_or all i d).fields) (are : AreParts k all parts) where
   fields_at : (q : ℕ) → get (loaded_world all).records q ≡ option_map (λ (l : Loaded R D). l.fields) (slice_get all q)
   fields_at q = get-numbered (map (λ (l : Loaded R D). l.fields) all) q ∙ slice_get-map (λ (l : Loaded R D). l.fields) all q
 
@@ -152,9 +167,9 @@ module _ {R D : Type 0} (k : RecordRules R) (missing : targets k k.missing ≡ [
   unfolding at
   database_is_shut = record { closed = λ n target named. there_below target (are.together n target (names_there n target (slice_get all n) refl (subst (λ (o : Option R). Contains (targets k (unwrap_or o k.missing)) target) (fields_at n) named))).0 }
 
-  free_at : (q : ℕ) (o : Option (Loaded R D)) (x : Option R) → slice_get all q ≡ o → x ≡ option_map (λ (l : Loaded R D). l.fields) o → IsSome x → IsCalm k (unwrap_or x k.missing)
+  free_at : (q : ℕ) (o : Option (Loaded R D)) (x : Option R) → slice_get all q ≡ o → x ≡ option_map (λ (l : Loaded R D). l.fields) o → IsSome x → IsIdle k (unwrap_or x k.missing)
   free_at q None x found is some = absurd (none_some x is some)
-  free_at q (Some l) x found is some = subst (λ (y : Option R). IsCalm k (unwrap_or y k.missing)) (sym is) (calm_of all q l found calm)
+  free_at q (Some l) x found is some = subst (λ (y : Option R). IsIdle k (unwrap_or y k.missing)) (sym is) (idle_of all q l found idle)
 
   pub database_is_free : (n : ℕ) → Has (loaded_world all) n → (common_at k (loaded_world all) n).notification ≡ None
   unfolding at

@@ -1,6 +1,6 @@
 -- A loaded database before its first event.
 -- Application Developer's Guide, "Database Locking, Scanning, and Processing": records that links join are in one lock set.
-use Rattle.std.specs.Prelude.{◌≡◌, ℕ, ◌<◌, ◌≤◌, List, [], map, length, All, slice_index, slice_index_or}
+use Rattle.std.specs.Prelude.{◌≡◌, ℕ, ◌<◌, ◌≤◌, false, None, List, [], map, length, All, slice_index, slice_index_or}
 use Rattle.ioc_record.specs.RecordRules.{RecordRules}
 use Rattle.ioc_members.specs.Contents.{Contents, nothing}
 use Rattle.ioc_members.specs.Joined.{links_of, IsPart}
@@ -8,7 +8,6 @@ use Rattle.ioc_store.specs.OneMap.{numbered}
 use Rattle.ioc_store.specs.World.{World}
 use Rattle.ioc_line.specs.Key.{Key, Has}
 use Rattle.ioc_set.specs.Held.{resting}
-use Rattle.ioc_set.specs.Linking.{IsCalm}
 use Rattle.ioc_dealing.specs.declared.dealing.Loaded.{Loaded}
 use Rattle.ioc_dealing.specs.Dealing.{HasPart}
 use Rattle.ioc_dealing.specs.Linked.{AreParts}
@@ -21,11 +20,17 @@ loaded_world all = resting (numbered (map (λ l. l.fields) all)) [] []
 abbrev pub AreOfPartsBelow : List ℕ → ℕ → List Key → Type 0
 AreOfPartsBelow parts part keys = (key : Key) → Has key keys → (key.0 ≡ 0) × (slice_index parts key.1 < part)
 
+-- a record as it is loaded: it is idle, awaits no completion, and no put with notification has it
+pub record IsIdle {R : Type 0} (k : RecordRules R) (r : R) : Type 0 where
+  pub inactive : (k.common r).active ≡ false
+  pub nothing_awaited : (k.common r).pending ≡ None
+  pub free : (k.common r).notification ≡ None
+
 module _ {R D : Type 0} (k : RecordRules R) where
-  -- the world is that of these records, which are at rest, and their links make these parts
+  -- the world is that of these records, which are idle, and their links make these parts
   pub record IsAtRest (base : World R) (parts : List ℕ) (all : List (Loaded R D)) : Type 0 where
     pub world : base ≡ loaded_world all
-    pub calm : All (λ l. IsCalm k l.fields) all
+    pub idle : All (λ l. IsIdle k l.fields) all
     pub parts_are : AreParts k all parts
 
   -- a set that has the records of a part of such a world

@@ -7,8 +7,8 @@ ghost use Rattle.ioc_line.specs.Line.{keeper};
 ghost use Rattle.ioc_holding.specs.Held.{Holds};
 ghost use Rattle.ioc_members.specs.Joined.{links_of, IsPart};
 ghost use Rattle.ioc_set.specs.Held.{resting, no_counts};
-ghost use Rattle.ioc_set.specs.Linking.{anew, AreCalm};
-ghost use Rattle.ioc_journal.specs.Account.{AreNoDesks};
+ghost use Rattle.ioc_set.specs.Linking.{anew, AreCalm, NoneAwaits};
+ghost use Rattle.ioc_journal.specs.Account.{AreRecords};
 ghost use Rattle.ioc_held.specs.Holding.{held_view};
 ghost use Rattle.ioc_start.specs.Loading.{IsSetOf, AreSetsFrom, AreOfPartsBelow};
 
@@ -37,6 +37,7 @@ fn hold_as<P: Keys, K: RecordKind, B: Base<K>, D>(
     requires base { members.base ≡ members.records }
     requires part { IsPart (links_of K.rules members.records) }
     requires calm { AreCalm K.rules members.records }
+    requires idle { NoneAwaits K.rules members.records }
     requires holds { Holds K.rules B.base (resting members.records [] []) }
     ensures table { master.new.table_id ≡ B.table }
     ensures master { cell_view master.new ≡ keeper [] (record_keys (map.keys members.records) ++ (cell_view master.old).born) }
@@ -60,6 +61,7 @@ pub fn hold<K: RecordKind, B: Base<K>, D>(
     requires base { members.base ≡ members.records }
     requires part { IsPart (links_of K.rules members.records) }
     requires calm { AreCalm K.rules members.records }
+    requires idle { NoneAwaits K.rules members.records }
     requires holds { Holds K.rules B.base (resting members.records [] []) }
     ensures table { master.new.table_id ≡ B.table }
     ensures master { cell_view master.new ≡ keeper [] (record_keys (map.keys members.records) ++ (cell_view master.old).born) }
@@ -107,7 +109,7 @@ pub fn hold_all<K: RecordKind + Drop, B: Base<K>, D: Drop>(
     ensures count { IfOk result (λ d. d ≡ length parts.now) }
     ensures table { OnOk result (master.new.table_id ≡ B.table) }
     ensures master { OnOk result (cell_view master.new ≡ keeper [] (cell_view master.new).born) }
-    ensures born { OnOk result (AreNoDesks (cell_view master.new).born) }
+    ensures born { OnOk result (AreRecords (cell_view master.new).born) }
 {
     let mut directory = Directory::new(alloc, parts.len())?;
     for part in 0..sets.len() {

@@ -2,18 +2,18 @@
 ghost use Rattle.std.specs.Prelude.{◌≡◌, ◌-◌, ◌^◌, ◌↔◌, [], All, IsTrue, IfOk, IfErr, OnOk, length};
 ghost use Rattle.crossbeam_utils.specs.Seq.{cell_view};
 ghost use Rattle.ioc_line.specs.Line.{keeper};
-ghost use Rattle.ioc_set.specs.Linking.{IsCalm};
 ghost use Rattle.ioc_journal.specs.Places.{AreAllowed};
-ghost use Rattle.ioc_start.specs.Loading.{loaded_world};
+ghost use Rattle.ioc_start.specs.Loading.{loaded_world, IsIdle};
 ghost use Rattle.ioc_start.specs.declared.starting.StartError.TheVariants.{BadValue, NotAtRest};
 
 use crate::holding::hold_all;
 use ioc_dealing::laws::dealt_sets_are_parts;
 use ioc_dealing::{Loaded, deal, parts_of};
 use ioc_engine::Engine;
+use ioc_held::AllPuts;
 use ioc_holding::laws::lists_leave_sound;
 use ioc_journal::{Base, Book, Journal, Limits};
-use ioc_line::{Cell, Token};
+use ioc_line::{Cell, Token, pass};
 use ioc_record::RecordKind;
 use std::alloc::Global;
 use std::sync::ledger::Blank;
@@ -25,23 +25,23 @@ pub enum StartError {
     BadValue,
     /// Memory is wanting.
     NoMemory,
-    /// A record is active without awaiting a completion, or awaits one without being active, or has a put with notification.
+    /// A record is active, awaits a completion, or has a put with notification.
     NotAtRest,
     /// A link leads to a record that isn't there.
     LinkLeaves,
 }
 
-// Is a record between events, and has no put with notification?
+// Is a record idle, and awaits nothing, and has no put with notification?
 fn is_at_rest<K: RecordKind>(item: &K) -> bool
-    ensures { IsTrue result ↔ IsCalm K.rules item.now }
+    ensures { IsTrue result ↔ IsIdle K.rules item.now }
 {
     let common = item.common();
-    common.active == common.pending.is_some() && common.notification.is_none()
+    !common.active && common.pending.is_none() && common.notification.is_none()
 }
 
 // Is each record?
 fn are_at_rest<K: RecordKind, D>(all: &[Loaded<K, D>]) -> bool
-    ensures { IsTrue result ↔ All (λ l. IsCalm K.rules l.fields) all.now }
+    ensures { IsTrue result ↔ All (λ l. IsIdle K.rules l.fields) all.now }
 {
     all.iter().all(|loaded| is_at_rest(&loaded.fields))
 }
@@ -68,7 +68,7 @@ pub fn start<K: RecordKind + Drop, B: Base<K>, D: Drop>(
     ensures count { IfOk result (λ e. e ≡ length all.items) }
     ensures limits { OnOk result (AreAllowed limits) }
     ensures refused { IfErr result (λ e. (e ≡ BadValue) ↔ (AreAllowed limits → ⊥)) }
-    ensures rest { IfErr result (λ e. e ≡ NotAtRest → All (λ l. IsCalm K.rules l.fields) all.items → ⊥) }
+    ensures rest { IfErr result (λ e. e ≡ NotAtRest → All (λ l. IsIdle K.rules l.fields) all.items → ⊥) }
 {
     if !limits.are_allowed() {
         return Err(StartError::BadValue);
@@ -91,7 +91,11 @@ pub fn start<K: RecordKind + Drop, B: Base<K>, D: Drop>(
     else {
         return Err(StartError::NoMemory);
     };
+    let pass = pass::claim_key(&cell, &mut master, 2, 0);
+    let Ok(puts) = AllPuts::new(alloc, pass) else {
+        return Err(StartError::NoMemory);
+    };
     lists_leave_sound::<K>();
     let journal = Journal::new(alloc, master, blank, limits);
-    Ok(Engine::new(directory, Book::new(cell, journal)))
+    Ok(Engine::new(directory, Book::new(cell, journal), puts))
 }

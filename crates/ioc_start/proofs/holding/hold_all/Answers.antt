@@ -22,4 +22,4 @@ loop-part-preserved g c =
     }
 
 pub returns-clause-born : goal.returns-clause-born
-returns-clause-born g c = λ key has desk. let record_key = (c.loop-part.invariant.born key has).0 in omega (arith, record_key, desk)
+returns-clause-born g c = λ key has. (c.loop-part.invariant.born key has).0

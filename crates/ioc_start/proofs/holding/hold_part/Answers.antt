@@ -2,7 +2,7 @@ use Rattle.std.proofs.Common.{◌+◌, subst, sym}
 use Rattle.crossbeam_utils.specs.Seq.{cell_view}
 use Rattle.ioc_line.specs.declared.room.View.{View}
 use Rattle.ioc_start.specs.Loading.{AreOfPartsBelow}
-use Rattle.ioc_start.proofs.Parts.{set_is_calm, set_holds, set_is_fresh, set_is_born}
+use Rattle.ioc_start.proofs.Parts.{set_is_calm, set_awaits_none, set_holds, set_is_fresh, set_is_born}
 use Rattle.ioc_start.proofs.holding.hold_part.Goals as goal
 
 pub hold-requires-clause-fresh : goal.hold-requires-clause-fresh
@@ -14,6 +14,11 @@ pub hold-requires-clause-calm : goal.hold-requires-clause-calm
 hold-requires-clause-calm g c =
     let p = c.requires.part in
     set_is_calm g.K.RecordKind.rules g.met.K.RecordKind.lawful.missing_targets g.B.Base.base c.args.parts.now p.all p.rest c.args.part c.args.members p.has
+
+pub hold-requires-clause-idle : goal.hold-requires-clause-idle
+hold-requires-clause-idle g c =
+    let p = c.requires.part in
+    set_awaits_none g.K.RecordKind.rules g.met.K.RecordKind.lawful.missing_targets g.B.Base.base c.args.parts.now p.all p.rest c.args.part c.args.members p.has
 
 pub hold-requires-clause-holds : goal.hold-requires-clause-holds
 hold-requires-clause-holds g c =

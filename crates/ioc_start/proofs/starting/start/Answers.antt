@@ -3,11 +3,10 @@ use Rattle.std.specs.Prelude.{IsTrue, All, ℕ}
 use Rattle.ioc_members.specs.Contents.{Contents, nothing}
 use Rattle.ioc_store.specs.World.{World}
 use Rattle.ioc_holding.specs.Legal.{IsSound}
-use Rattle.ioc_set.specs.Linking.{IsCalm}
 use Rattle.ioc_dealing.specs.declared.dealing.Loaded.{Loaded}
 use Rattle.ioc_dealing.specs.Dealing.{AreDealt}
 use Rattle.ioc_dealing.specs.Linked.{AreParts}
-use Rattle.ioc_start.specs.Loading.{loaded_world, IsAtRest, AreSetsFrom}
+use Rattle.ioc_start.specs.Loading.{loaded_world, IsIdle, IsAtRest, AreSetsFrom}
 use Rattle.ioc_start.proofs.Parts.{database_is_shut, database_is_free, database_is_small}
 use Rattle.ioc_start.proofs.starting.start.Goals as goal
 
@@ -29,8 +28,8 @@ hold_all-requires-clause-parts g c =
     let found : AreParts k c.deref-2.result.now parts = search rules in
     let are : AreParts k all parts = subst (λ (l : List (Loaded g.row.K.Denot g.row.D.Denot)). AreParts k l parts) c.deref-2.ensures.value found in
     let passed : IsTrue c.are_at_rest.result = search rules in
-    let calm = c.are_at_rest.ensures.0 passed in
-    let rest : IsAtRest k base parts all = record { world = c.requires.base; calm = subst (λ (s : List (Loaded g.row.K.Denot g.row.D.Denot)). All (λ (l : Loaded g.row.K.Denot g.row.D.Denot). IsCalm k l.fields) s) c.deref.ensures.value calm; parts_are = are } in
+    let still = c.are_at_rest.ensures.0 passed in
+    let rest : IsAtRest k base parts all = record { world = c.requires.base; idle = subst (λ (s : List (Loaded g.row.K.Denot g.row.D.Denot)). All (λ (l : Loaded g.row.K.Denot g.row.D.Denot). IsIdle k l.fields) s) c.deref.ensures.value still; parts_are = are } in
     let dealt : AreDealt all parts sets = subst (λ (l : List ℕ). AreDealt all l sets) c.deref-3.ensures.value c.in-Ok-deal.ensures in
     subst (λ (l : List ℕ). AreSetsFrom k base l 0 c.as_mut_slice.result.now) (sym c.deref-4.ensures.value)
     (subst (λ (s : List (Contents g.row.K.Denot g.row.D.Denot)). AreSetsFrom k base parts 0 s) (sym c.as_mut_slice.ensures.value)
@@ -51,7 +50,7 @@ new-journal-requires-clause-sound g c =
     let are : AreParts k all parts = subst (λ (l : List (Loaded g.row.K.Denot g.row.D.Denot)). AreParts k l parts) c.deref-2.ensures.value found in
     let passed : IsTrue c.are_at_rest.result = search rules in
     let still = c.are_at_rest.ensures.0 passed in
-    let calm = subst (λ (s : List (Loaded g.row.K.Denot g.row.D.Denot)). All (λ (l : Loaded g.row.K.Denot g.row.D.Denot). IsCalm k l.fields) s) c.deref.ensures.value still in
+    let idle = subst (λ (s : List (Loaded g.row.K.Denot g.row.D.Denot)). All (λ (l : Loaded g.row.K.Denot g.row.D.Denot). IsIdle k l.fields) s) c.deref.ensures.value still in
     let few : length all < 2 ^ 63 = search rules in
     subst (λ (w : World g.row.K.Denot). IsSound k w) (sym c.requires.base)
-    (c.lists_leave_sound.ensures.first (loaded_world all) (database_is_shut k missing parts all calm are) (database_is_small k missing parts all calm are (2 ^ 63) few) refl refl (database_is_free k missing parts all calm are))
+    (c.lists_leave_sound.ensures.first (loaded_world all) (database_is_shut k missing parts all idle are) (database_is_small k missing parts all idle are (2 ^ 63) few) refl refl (database_is_free k missing parts all idle are))

@@ -13,17 +13,25 @@ use Rattle.ioc_journal.specs.Account.{BothMayFollow, AddedByBoth}
 use Rattle.ioc_line.specs.declared.entry.Note.{Note}
 use Rattle.ioc_line.specs.declared.room.View.{View}
 use Rattle.ioc_set.specs.Held.{Held, now_of}
+use Rattle.ioc_set.specs.Linking.{MayBeOne}
 use Rattle.ioc_set.specs.SetStore.{world_of}
 use Rattle.ioc_held.specs.Holding.{Pass, HeldView, IsHeld}
 use Rattle.ioc_held.specs.LinkChanges.{link_change}
 use Rattle.ioc_held.proofs.Dealing.{dealt_owner, both_may_follow, known_then}
-use Rattle.ioc_held.proofs.Leading.{lead_within, lead_apart, lead_goes_on, lead_none}
+use Rattle.ioc_held.proofs.Leading.{lead_within, lead_apart, lead_goes_on}
 use Rattle.ioc_held.proofs.Nothing.{nothing_is_held}
 use Rattle.ioc_held.proofs.Parting.{takes_link}
 use Rattle.ioc_held.proofs.held.Held.lead_into.Goals as goal
 
 pub compare-requires-clause-one : goal.compare-requires-clause-one
 compare-requires-clause-one g c = (c.args.number, ap (λ (o : Option g.row.K.Denot). is_some o) c.requires.field.1)
+
+pub lead_into-requires-clause-one : goal.lead_into-requires-clause-one
+lead_into-requires-clause-one g c =
+    let same : c.self.inside.set ≡ c.args.self.now.set = ap (λ (v : HeldView g.row.K.Denot g.row.D.Denot). v.set) c.self.view_is ∙ c.compare.ensures.same.0 in
+    let also_same : c.other.inside.set ≡ c.args.other.now.set = ap (λ (v : HeldView g.row.K.Denot g.row.D.Denot). v.set) c.other.view_is ∙ c.compare.ensures.same.1 in
+    subst (λ (h : Held g.row.K.Denot g.row.D.Denot). MayBeOne h c.other.inside.set) (sym same)
+    (subst (λ (h : Held g.row.K.Denot g.row.D.Denot). MayBeOne c.args.self.now.set h) (sym also_same) c.compare.ensures.one)
 
 pub unreachable-requires-in_default-take : goal.unreachable-requires-in_default-take
 unreachable-requires-in_default-take g c =
@@ -119,7 +127,6 @@ invariant_of-self-2 g c =
     record {
       owner = dealt_owner g.B.Room.table _ (cell_view c.keep_change-receipt.new.one) c.keep_change-receipt.new.desk.seen c.lead_into.new.self one.0 one.1;
       holds = subst (λ (x : View). Holds k (map_of k base x.seen) (now_of c.lead_into.new.self)) (sym one.1) then.0;
-      none_live = (lead_none k before also c.lead_into.new.self c.lead_into.new.other c.in-Ok.rest c.args.moment c.args.number c.args.field c.args.link (world_of c.lead_into.new.place.store) c.in-Ok.ensures.led held.none_live also_held.none_live).0;
     }
 
 pub invariant_of-rest : goal.invariant_of-rest
@@ -150,7 +157,6 @@ invariant_of-rest g c =
     record {
       owner = dealt_owner g.B.Room.table _ (cell_view c.keep_change-receipt.new.other) c.keep_change-receipt.new.desk.seen c.in-Ok.rest two.0 two.1;
       holds = subst (λ (x : View). Holds k (map_of k base x.seen) (now_of c.in-Ok.rest)) (sym two.1) then.1;
-      none_live = (lead_none k before also c.lead_into.new.self c.lead_into.new.other c.in-Ok.rest c.args.moment c.args.number c.args.field c.args.link (world_of c.lead_into.new.place.store) c.in-Ok.ensures.led held.none_live also_held.none_live).1;
     }
 
 pub invariant_of-other-2 : goal.invariant_of-other-2

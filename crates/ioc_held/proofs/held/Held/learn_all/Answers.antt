@@ -18,7 +18,6 @@ invariant_of-self-2 g c =
     record {
       owner = owner_on g.B.Room.table _ _ (cell_view c.in-Some.pass) (cell_view c.tell_all.new.set) c.args.journal.now.filled (now_of set) (now_of set) held.owner e.set.0 e.set.1 (λ n has. has);
       holds = holds_known k c.holding_lasts.ensures base (now_of set) (cell_view c.in-Some.pass) (cell_view c.tell_all.new.set) c.args.journal.now.filled held.owner.covers held.holds e.goes_on e.legal.1 e.set.1;
-      none_live = held.none_live;
     }
 
 pub invariant_of-self : goal.invariant_of-self

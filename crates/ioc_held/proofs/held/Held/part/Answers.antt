@@ -95,7 +95,6 @@ invariant_of-self-2 g c =
     record {
       owner = dealt_owner g.B.Room.table _ (cell_view c.keep_change-receipt.new.one) c.keep_change-receipt.new.desk.seen c.part.new.self one.0 one.1;
       holds = subst (λ (x : View). Holds k (map_of k base x.seen) (now_of c.part.new.self)) (sym one.1) then.0;
-      none_live = (c.in-Ok.ensures.apart.none_live held.none_live).0;
     }
 
 pub invariant_of-rest : goal.invariant_of-rest
@@ -122,5 +121,4 @@ invariant_of-rest g c =
     record {
       owner = dealt_owner g.B.Room.table _ (cell_view c.keep_change-receipt.new.other) c.keep_change-receipt.new.desk.seen c.in-Ok.rest two.0 two.1;
       holds = subst (λ (x : View). Holds k (map_of k base x.seen) (now_of c.in-Ok.rest)) (sym two.1) then.1;
-      none_live = (c.in-Ok.ensures.apart.none_live held.none_live).1;
     }

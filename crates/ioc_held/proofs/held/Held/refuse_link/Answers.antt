@@ -1,4 +1,4 @@
-use Rattle.std.proofs.Common.{◌≡◌, true, List, Option, Some, None, refl, sym, ap, ◌∙◌, subst}
+use Rattle.std.proofs.Common.{◌≡◌, true, List, Option, Some, None, refl, sym, ap, ◌∙◌, subst, arith}
 use Rattle.crossbeam_utils.specs.Seq.{cell_view}
 use Rattle.ioc_values.specs.declared.error.IocError.TheVariants.{PutDisabled}
 use Rattle.ioc_device.specs.declared.Answer.{Answer}
@@ -25,6 +25,12 @@ unreachable-requires g c =
     let held = subst (λ (o : Option Pass). IsHeld k g.B.Base.base g.B.Room.table o c.self.inside.set) none c.self.invariant in
     let has = subst (λ (v : HeldView g.row.K.Denot g.row.D.Denot). HasLink k v.set.records c.args.number c.args.field) (sym c.self.view_is) c.requires.field in
     held.owner c.args.number (link_there k c.self.inside.set c.args.number c.args.field has)
+
+pub append-receipt-requires-clause-set : goal.append-receipt-requires-clause-set
+append-receipt-requires-clause-set g c =
+    let is : c.self.inside.pass ≡ Some c.in-Some.pass = sym c.take.ensures.value ∙ c.in-Some.is in
+    let held = subst (λ (o : Option Pass). IsHeld g.K.RecordKind.rules g.B.Base.base g.B.Room.table o c.self.inside.set) is c.self.invariant in
+    (held.owner.holder, λ key has desk. let record_key = held.owner.records key has in omega (arith, record_key, desk))
 
 pub append-receipt-requires-clause-follows : goal.append-receipt-requires-clause-follows
 append-receipt-requires-clause-follows g c =
@@ -59,7 +65,6 @@ invariant_of-self g c =
           (link_there k held_set c.args.number c.args.field has) (link_has k held_set c.args.number c.args.field has) stops c.requires.known
           (cell_view c.in-Some.pass).seen (cell_view c.in-Some.pass).owns held.owner.covers held.holds _
           (λ i. record { moment = c.args.moment; event = Link c.args.number c.args.field c.args.link; answers = sym none i; reply = Refused PutDisabled }) added.0 _ added.1);
-      none_live = held.none_live;
     }
 
 pub returns-clause-refuses : goal.returns-clause-refuses

@@ -10,6 +10,6 @@ invariant_of-result g c =
     let tally = c.default-tally.result in
     let none = c.default-tally.ensures in (
       sound_anew g.K.RecordKind.rules missing c.new.result c.none.result tally tally c.new-2.result.items c.new.ensures (were_none c.none.result c.none.ensures) refl c.new-2.ensures.items
-          (none_add_up tally none),
+          (none_add_up tally none 0 refl),
       like_anew g.K.RecordKind.rules missing c.new.result c.new.ensures,
     )

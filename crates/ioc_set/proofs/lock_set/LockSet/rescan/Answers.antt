@@ -9,9 +9,11 @@ use Rattle.ioc_store.specs.Scanning.{rewired}
 use Rattle.ioc_set.specs.Held.{Held, resting}
 use Rattle.ioc_set.specs.Puts.{Puts}
 use Rattle.ioc_set.specs.Linking.{AreHeld}
+use Rattle.ioc_set.specs.Sound.{CountsAddUp}
 use Rattle.ioc_set.specs.Doing.{held_by, with_kept}
 use Rattle.ioc_set.specs.SetStore.{world_of}
 use Rattle.ioc_set.proofs.Anew.{begun_now}
+use Rattle.ioc_set.proofs.AwaitedSums.{awaited-rescanned}
 use Rattle.ioc_set.proofs.Linked.{anew_holds, rescanned_part, rescanned_held, rescanned_like}
 use Rattle.ioc_set.proofs.Rescans.{rewired_beside}
 use Rattle.ioc_set.proofs.lock_set.LockSet.rescan.Goals as goal
@@ -46,7 +48,8 @@ invariant_of-self g c =
     (rescanned_part k lawful inside.members.records c.begin_anew.new.members.records c.args.before c.args.moment c.args.number there is c.self.invariant.0.part)
     (subst (λ (l : List Live). AreHeld k c.begin_anew.new.members.records l c.begin_anew.new.puts.waiting) (sym live)
     (subst (λ (w : List Waiting). AreHeld k c.begin_anew.new.members.records inside.puts.live w) (sym waiting) then))
-    c.are_few-2.ensures c.self.invariant.0.counts
+    c.are_few-2.ensures
+    (subst (CountsAddUp inside.tally) (sym (awaited-rescanned k lawful inside.members.records c.begin_anew.new.members.records c.args.before c.args.moment c.args.number there is)) c.self.invariant.0.counts)
 
 pub returns-clause-left : goal.returns-clause-left
 returns-clause-left g c =

@@ -1,11 +1,16 @@
-use Rattle.std.proofs.Common.{◌≡◌, ◌∙◌, length, refl, ap, subst, sym, arith}
+use Rattle.std.proofs.Common.{◌≡◌, ◌+◌, ◌^◌, ◌<◌, ◌∙◌, length, refl, ap, subst, sym, arith}
 use Rattle.std.specs.Prelude.{IsSome, is_some}
 use Rattle.std.specs.FinMap.{get}
 use Rattle.ioc_members.specs.Contents.{Records, Contents}
-use Rattle.ioc_set.specs.Held.{Held, no_counts}
+use Rattle.ioc_ledger.specs.declared.tally.Tally.{Tally}
+use Rattle.ioc_awaiting.specs.Awaiting.{awaited}
+use Rattle.ioc_set.specs.Held.{Held}
+use Rattle.ioc_set.specs.Linking.{added, less_awaited, awaited_alone}
+use Rattle.ioc_set.specs.Sound.{CountsAddUp}
 use Rattle.ioc_set.specs.Puts.{Puts}
 use Rattle.ioc_set.specs.Doing.{held_by}
-use Rattle.ioc_set.proofs.Counts.{none_add_up}
+use Rattle.ioc_set.proofs.AwaitedSums.{awaited-few, awaited-parted}
+use Rattle.ioc_set.proofs.Counts.{rest_adds_up, stay_adds_up, parts_add_up}
 use Rattle.ioc_set.proofs.Linked.{folded_holds, anew_holds, begun_live, begun_held, stay_within, rest_within, fell_apart}
 use Rattle.ioc_set.proofs.HeldRecords.{part_live, part_held, of-before}
 use Rattle.ioc_set.proofs.lock_set.LockSet.split.Goals as goal
@@ -98,10 +103,12 @@ invariant_of-result g c =
     let held = begun_held k inside.members.records begun inside.puts puts anew c.begin_anew.ensures.puts (c.held_records_are_sound.ensures.held whole c.self.invariant.0) in
     let within = rest_within k lawful c.args.number c.args.field c.args.link begun c.part.new.self.records c.in_ok-rest.rest.records there c.in_ok-rest.ensures.shared in
     let own = c.own_puts-rest_puts in
-    anew_holds k c.held_records_are_sound.ensures.sound c.in_ok-rest.rest own.result c.default-none.result c.default-none.result c.new.result.items
+    let few : awaited k c.in_ok-rest.rest.records < 2 ^ 63 = omega (arith, awaited-few k c.in_ok-rest.rest.records, c.are_few-3.ensures) in
+    anew_holds k c.held_records_are_sound.ensures.sound c.in_ok-rest.rest own.result c.take_awaited-rest_tally.result c.take_awaited-rest_tally.result c.new.result.items
     own.ensures.begun c.in_ok-rest.ensures.rest_base refl c.new.ensures.items c.in_ok-rest.ensures.rest
     (part_held k begun c.in_ok-rest.rest.records puts.live own.result.live puts.waiting own.result.waiting within held (of-before c.in_ok-rest.rest.records puts.waiting own.result.waiting own.ensures.waiting) own.ensures.counted)
-    c.are_few-3.ensures (none_add_up c.default-none.result c.default-none.ensures)
+    c.are_few-3.ensures
+    (subst (λ (t : Tally). CountsAddUp t (awaited k c.in_ok-rest.rest.records)) (sym c.take_awaited-rest_tally.ensures.leaves) (rest_adds_up (awaited k c.in_ok-rest.rest.records) few))
 
 pub invariant_of-self-2 : goal.invariant_of-self-2
 invariant_of-self-2 g c =
@@ -116,35 +123,40 @@ invariant_of-self-2 g c =
     let held = begun_held k inside.members.records begun inside.puts puts anew c.begin_anew.ensures.puts (c.held_records_are_sound.ensures.held whole c.self.invariant.0) in
     let within = stay_within k lawful c.args.number c.args.field c.args.link begun c.part.new.self.records c.in_ok-rest.rest.records there c.in_ok-rest.ensures.shared in
     let own = c.own_puts-stay_puts in
-    anew_holds k c.held_records_are_sound.ensures.sound c.part.new.self own.result c.begin_anew.new.base_tally inside.tally c.begin_anew.new.history.items
-    own.ensures.begun c.in_ok-rest.ensures.base c.begin_anew.ensures.tally c.begin_anew.ensures.history c.in_ok-rest.ensures.stay
+    let parts : awaited k inside.members.records ≡ awaited k c.part.new.self.records + awaited k c.in_ok-rest.rest.records =
+    ap (awaited k) (sym anew) ∙ awaited-parted k lawful begun c.part.new.self.records c.in_ok-rest.rest.records c.args.number c.args.field c.args.link there c.in_ok-rest.ensures.shared in
+    anew_holds k c.held_records_are_sound.ensures.sound c.part.new.self own.result c.take_awaited-rest_tally.new.tally c.take_awaited-rest_tally.new.tally c.begin_anew.new.history.items
+    own.ensures.begun c.in_ok-rest.ensures.base refl c.begin_anew.ensures.history c.in_ok-rest.ensures.stay
     (part_held k begun c.part.new.self.records puts.live own.result.live puts.waiting own.result.waiting within held (of-before c.part.new.self.records puts.waiting own.result.waiting own.ensures.waiting) own.ensures.counted)
-    c.are_few-2.ensures c.self.invariant.0.counts
+    c.are_few-2.ensures
+    (subst (λ (t : Tally). CountsAddUp t (awaited k c.part.new.self.records)) (sym c.take_awaited-rest_tally.ensures.stays)
+    (stay_adds_up inside.tally (awaited k inside.members.records) (awaited k c.part.new.self.records) (awaited k c.in_ok-rest.rest.records) c.self.invariant.0.counts parts))
 
 pub returns-clause-apart : goal.returns-clause-apart
 returns-clause-apart g c =
     let k = g.K.RecordKind.rules in
     let inside = c.self.inside in
-    let zeros = c.default-none.ensures in
-    let none : c.default-none.result ≡ no_counts = λ i. record {
-      begun = zeros.0 i;
-      processed = zeros.1.0 i;
-      disabled = zeros.1.1.0 i;
-      active = zeros.1.1.1.0 i;
-      reprocess = zeros.1.1.1.1.0 i;
-      started = zeros.1.1.1.1.1.0 i;
-      completed = zeros.1.1.1.1.1.1 i;
-    } in
+    let lawful = g.met.K.RecordKind.lawful in
+    let begun = c.begin_anew.new.members.records in
+    let anew : begun ≡ inside.members.records = ap (λ (m : Contents g.row.K.Denot g.row.D.Denot). m.records) c.begin_anew.ensures.members in
+    let there = subst (λ (rs : Records g.row.K.Denot). IsSome (get rs c.args.number)) (sym (anew ∙ ap (λ (h : Held g.row.K.Denot g.row.D.Denot). h.records) c.self.view_is)) (ap is_some c.requires.field.1) in
+    let parts : awaited k inside.members.records ≡ awaited k c.part.new.self.records + awaited k c.in_ok-rest.rest.records =
+    ap (awaited k) (sym anew) ∙ awaited-parted k lawful begun c.part.new.self.records c.in_ok-rest.rest.records c.args.number c.args.field c.args.link there c.in_ok-rest.ensures.shared in
+    let count = awaited k c.in_ok-rest.rest.records in
+    let few : count < 2 ^ 63 = omega (arith, awaited-few k c.in_ok-rest.rest.records, c.are_few-3.ensures) in
+    let was : inside.tally ≡ c.args.self.now.tally = ap (λ (h : Held g.row.K.Denot g.row.D.Denot). h.tally) c.self.view_is in
+    let together = parts_add_up inside.tally (awaited k inside.members.records) (awaited k c.part.new.self.records) count c.self.invariant.0.counts parts in
     let stay = c.own_puts-stay_puts in
     let rest = c.own_puts-rest_puts in
-    fell_apart k c.args.number c.args.field c.args.link c.args.self.now c.begin_anew.new.members c.part.new.self c.in_ok-rest.rest c.begin_anew.new.puts stay.result rest.result
-    c.begin_anew.new.base_tally inside.tally c.default-none.result c.default-none.result c.begin_anew.new.history.items c.new.result.items
+    fell_apart k c.args.number c.args.field c.args.link c.args.self.now c.begin_anew.new.members c.part.new.self c.in_ok-rest.rest c.begin_anew.new.puts stay.result rest.result count
+    c.take_awaited-rest_tally.new.tally c.take_awaited-rest_tally.new.tally c.take_awaited-rest_tally.result c.take_awaited-rest_tally.result c.begin_anew.new.history.items c.new.result.items
     (ap (λ (m : Contents g.row.K.Denot g.row.D.Denot). m.records) c.begin_anew.ensures.members ∙ ap (λ (h : Held g.row.K.Denot g.row.D.Denot). h.records) c.self.view_is)
     (ap (λ (m : Contents g.row.K.Denot g.row.D.Denot). m.devices) c.begin_anew.ensures.members ∙ ap (λ (h : Held g.row.K.Denot g.row.D.Denot). h.devices) c.self.view_is)
-    (ap (λ (h : Held g.row.K.Denot g.row.D.Denot). h.tally) c.self.view_is)
+    (c.take_awaited-rest_tally.ensures.stays ∙ ap (λ (t : Tally). less_awaited t count) was)
     (ap (λ (p : Puts). p.live) c.begin_anew.ensures.puts ∙ ap (λ (h : Held g.row.K.Denot g.row.D.Denot). h.live) c.self.view_is)
     (ap (λ (p : Puts). p.waiting) c.begin_anew.ensures.puts ∙ ap (λ (h : Held g.row.K.Denot g.row.D.Denot). h.waiting) c.self.view_is)
     c.in_ok-rest.ensures.shared c.in_ok-rest.ensures.devices c.in_ok-rest.ensures.own
     stay.ensures.waiting rest.ensures.waiting stay.ensures.none rest.ensures.none
-    stay.ensures.begun c.in_ok-rest.ensures.base c.begin_anew.ensures.tally c.begin_anew.ensures.history
-    rest.ensures.begun c.in_ok-rest.ensures.rest_base refl none c.new.ensures.items
+    stay.ensures.begun c.in_ok-rest.ensures.base refl c.begin_anew.ensures.history
+    rest.ensures.begun c.in_ok-rest.ensures.rest_base refl c.take_awaited-rest_tally.ensures.leaves c.new.ensures.items
+    few (subst (λ (t : Tally). added (less_awaited t count) (awaited_alone count) ≡ t) was together)

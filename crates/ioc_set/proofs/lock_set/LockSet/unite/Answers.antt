@@ -1,4 +1,4 @@
-use Rattle.std.proofs.Common.{◌≡◌, ◌∙◌, List, refl, ap, subst, sym}
+use Rattle.std.proofs.Common.{◌≡◌, ◌+◌, ◌∙◌, List, refl, ap, subst, sym}
 use Rattle.std.specs.Prelude.{IsSome, is_some, Contains}
 use Rattle.std.specs.FinMap.{get}
 use Rattle.ioc_ledger.specs.declared.tally.Tally.{Tally}
@@ -8,7 +8,9 @@ use Rattle.ioc_set.specs.Held.{Held, no_counts}
 use Rattle.ioc_set.specs.Puts.{Puts}
 use Rattle.ioc_set.specs.Sound.{CountsAddUp}
 use Rattle.ioc_set.specs.Doing.{held_by}
+use Rattle.ioc_awaiting.specs.Awaiting.{awaited}
 use Rattle.ioc_set.proofs.Anew.{were_none}
+use Rattle.ioc_set.proofs.AwaitedSums.{awaited-joined}
 use Rattle.ioc_set.proofs.Joining.{joined_live, joined_once, joined_held}
 use Rattle.ioc_set.proofs.Linked.{anew_holds, begun_live, begun_held, became_one}
 use Rattle.ioc_set.proofs.NothingHeld.{sound_anew, like_anew}
@@ -80,6 +82,8 @@ invariant_of-self g c =
     let held = begun_held k one.members.records begun one.puts c.begin_anew.new.puts anew c.begin_anew.ensures.puts (c.held_records_are_sound.ensures.held whole c.self.invariant.0) in
     let other_held = begun_held k two.members.records others two.puts c.begin_anew-2.new.puts others_anew c.begin_anew-2.ensures.puts (c.held_records_are_sound.ensures.held other c.other.invariant.0) in
     let joined = c.joined_puts-puts in
+    let both = awaited-joined k lawful begun others c.join_in.new.self.records c.args.number c.args.field c.args.link there c.join_in.ensures.shared
+    ∙ ap (λ (rs : Records g.row.K.Denot). awaited k rs + awaited k others) anew ∙ ap (λ (rs : Records g.row.K.Denot). awaited k one.members.records + awaited k rs) others_anew in
     anew_holds k c.held_records_are_sound.ensures.sound c.join_in.new.self joined.result c.add_counts.new.tally c.add_counts.new.tally c.begin_anew.new.history.items
     joined.ensures.begun c.join_in.ensures.base refl c.begin_anew.ensures.history c.join_in.ensures.part
     (joined_held k lawful begun others c.join_in.new.self.records c.args.number c.args.field c.args.link there c.join_in.ensures.shared
@@ -88,13 +92,14 @@ invariant_of-self g c =
     (λ x in_other. subst (λ (rs : Records g.row.K.Denot). IsSome (get rs x.target)) (sym other_is) (c.requires.one.others_own x (subst (λ (l : List Waiting). Contains l x) other_waits in_other)))
     joined.ensures.waiting joined.ensures.counted)
     c.are_few-3.ensures
-    (subst (λ (t : Tally). CountsAddUp t) (sym c.add_counts.ensures) (both_add_up one.tally two.tally c.self.invariant.0.counts c.other.invariant.0.counts))
+    (subst (λ (t : Tally). CountsAddUp t (awaited k c.join_in.new.self.records)) (sym c.add_counts.ensures)
+    (both_add_up one.tally two.tally (awaited k one.members.records) (awaited k two.members.records) (awaited k c.join_in.new.self.records) c.self.invariant.0.counts c.other.invariant.0.counts both))
 
 pub invariant_of-other : goal.invariant_of-other
 invariant_of-other g c =
     let missing = g.met.K.RecordKind.lawful.missing_targets in (
       sound_anew g.K.RecordKind.rules missing c.join_in.new.other c.none.result c.default-other-inside.result c.default-other-inside.result c.begin_anew-2.new.history.items c.join_in.ensures.emptied
-          (were_none c.none.result c.none.ensures) refl c.begin_anew-2.ensures.history (none_add_up c.default-other-inside.result c.default-other-inside.ensures),
+          (were_none c.none.result c.none.ensures) refl c.begin_anew-2.ensures.history (none_add_up c.default-other-inside.result c.default-other-inside.ensures 0 refl),
       like_anew g.K.RecordKind.rules missing c.join_in.new.other c.join_in.ensures.emptied,
     )
 

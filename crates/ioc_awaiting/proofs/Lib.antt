@@ -1,0 +1,4 @@
+pub mod Alike
+pub mod Counting
+pub mod Requests
+pub mod Events

@@ -1,0 +1,93 @@
+//! Puts with notification by calls of the engine.
+ghost use Rattle.std.specs.Prelude.{◌≡◌, ◌⊎◌, ℕ, IfOk, IfErr, OnErr};
+ghost use Rattle.ioc_values.specs.declared.error.IocError.TheVariants.{QueueFull, Stopped};
+ghost use Rattle.ioc_events.specs.declared.event.Event.TheVariants.{Put, Notify};
+ghost use Rattle.ioc_journal.specs.Places.{IsNoPlace};
+ghost use Rattle.ioc_held.specs.Puts.{PutsView, WasAsked};
+ghost use Rattle.ioc_set.specs.SetStore.{world_of};
+ghost use Rattle.ioc_engine.specs.Served.{WasServed, CallIsRefused};
+
+use crate::engine::Engine;
+use ioc_device::Device;
+use ioc_events::Reply;
+use ioc_fields::FieldNo;
+use ioc_journal::{Base, Desk, Receipt};
+use ioc_names::RecordNo;
+use ioc_notify::NotifyId;
+use ioc_record::RecordKind;
+use ioc_set::Workplace;
+use ioc_topology::Locked;
+use ioc_values::{Input, IocError};
+use std::alloc::Global;
+use std::sync::Wait;
+
+impl<K: RecordKind + Drop, B: Base<K>, D: Device> Engine<K, B, D> {
+    /// Puts a value into a field, as [`Engine::put`] does, with a notification: it passes to the records that are processed for it, and ends when the
+    /// last of them is done. Its number is in the reply. Where the record awaits its device, the put waits for it.
+    ///
+    /// # Errors
+    ///
+    /// [`IocError::Stopped`]: the engine was closed. [`IocError::NoRecord`]: there are no more records than the number says.
+    /// [`IocError::NoField`]: the record has no such field. [`IocError::NoMod`]: the field can't be put. [`IocError::QueueFull`]: 256 are live,
+    /// or the numbers are used up. [`IocError::JournalFull`], [`IocError::NoMemory`]. Nothing has changed then. What else is refused is a
+    /// reply, and stands in the journal.
+    pub fn put_notify<R: Wait>(
+        &self,
+        rt: &R,
+        alloc: Global,
+        desk: &mut Desk<K, B>,
+        workplace: &mut Workplace<K, D>,
+        number: RecordNo,
+        field: FieldNo,
+        given: Input,
+        moment: u64,
+    ) -> Result<(Reply, Receipt<K, B>), IocError>
+        ensures served { IfOk result (λ x. (n : ℕ) × WasServed D K.rules B.base D.gives number desk.old moment (Notify number n field given) x.0 desk.new (world_of workplace.new.store)) }
+        ensures receipt { IfOk result (λ x. x.1 ≡ desk.new.seen) }
+        ensures refused { IfErr result (λ error. (error ≡ QueueFull) ⊎ CallIsRefused D K.rules B.base self.now number (Put number field given) error) }
+        ensures err { OnErr result (desk.new ≡ desk.old) }
+    {
+        if self.is_closed() {
+            return Err(IocError::Stopped);
+        }
+        for _ in rt.forever() {
+            let cell = self.sets.lock_of(rt, number)?;
+            let mut held = cell.lock(rt);
+            if held.has(number) {
+                held.is_sound();
+                let (reply, receipt) = held.put_notify(
+                    rt, alloc, &self.book, &self.puts, desk, workplace, number, field, given,
+                    moment,
+                )?;
+                held.is_sound();
+                return Ok((reply, receipt));
+            }
+        }
+        unreachable!()
+    }
+
+    /// Is the put with notification of this number live? It is from its call until the last that has it is done, or it is given up.
+    ///
+    /// # Errors
+    ///
+    /// [`IocError::Stopped`]: the engine was closed. [`IocError::JournalFull`], [`IocError::NoMemory`]. Nothing has changed then.
+    pub fn live<R: Wait>(
+        &self,
+        rt: &R,
+        alloc: Global,
+        desk: &mut Desk<K, B>,
+        number: NotifyId,
+        moment: u64,
+    ) -> Result<(Reply, Receipt<K, B>), IocError>
+        ensures asked { IfOk result (λ x. (puts puts_then : PutsView) × WasAsked K.rules B.base puts desk.old moment number x.0 puts_then desk.new) }
+        ensures receipt { IfOk result (λ x. x.1 ≡ desk.new.seen) }
+        ensures refused { IfErr result (λ error. (error ≡ Stopped) ⊎ IsNoPlace error) }
+        ensures err { OnErr result (desk.new ≡ desk.old) }
+    {
+        if self.is_closed() {
+            return Err(IocError::Stopped);
+        }
+        let mut puts = self.puts.lock(rt);
+        puts.ask(rt, alloc, &self.book, desk, number, moment)
+    }
+}

@@ -1,0 +1,118 @@
+//! Calls about puts with notification that concern no set.
+ghost use Rattle.std.specs.Prelude.{◌≡◌, ◌∷◌, false, List, IfOk, IfErr, OnErr};
+ghost use Rattle.ioc_events.specs.declared.event.Event.TheVariants.{Cancel, IsLive};
+ghost use Rattle.ioc_notify.specs.Living.{is_live};
+ghost use Rattle.ioc_line.specs.declared.entry.Note.{Note};
+ghost use Rattle.ioc_holding.specs.Legal.{AreLiveAlike, map_of};
+ghost use Rattle.ioc_journal.specs.Account.{Call, MayFollow, Added};
+ghost use Rattle.ioc_journal.specs.Places.{IsNoPlace};
+ghost use Rattle.ioc_held.specs.Puts.{puts_view, puts_keys, WasAsked, WasStale};
+
+use crate::puts::AllPuts;
+use ioc_events::{Entry, Event, KeptAnswers, Reply};
+use ioc_holding::laws::{lists_leave_sound, live_lasts};
+use ioc_journal::{Base, Book, Desk, Place, Receipt};
+use ioc_notify::NotifyId;
+use ioc_put_table::laws::lines_tell_holders;
+use ioc_record::RecordKind;
+use ioc_values::IocError;
+use std::alloc::Global;
+use std::sync::Wait;
+
+impl<K: RecordKind, B: Base<K>> AllPuts<K, B> {
+    /// Is the put with notification of this number live?
+    pub fn is_live(&self, number: NotifyId) -> bool
+        ensures { result ≡ is_live number self.now.live }
+    {
+        self.table.is_live(number)
+    }
+
+    // Keeps in the journal what leaves all puts with notification as they are.
+    fn keep_told<R: Wait>(
+        &mut self,
+        rt: &R,
+        book: &Book<K, B>,
+        place: Place<K, B>,
+        desk: &mut Desk<K, B>,
+        entry: Entry,
+    ) -> Receipt<K, B>
+        requires follows { MayFollow K.rules B.base self.old.seen puts_keys entry }
+        requires alike { (log longer : List Note) → Added K.rules B.base self.old.seen puts_keys entry log longer → AreLiveAlike (map_of K.rules B.base log) (map_of K.rules B.base longer) }
+        ensures call { Call K.rules B.base desk.old entry desk.new }
+        ensures receipt { result ≡ desk.new.seen }
+        ensures kept { self.new ≡ puts_view self.old.live self.old.last desk.new.seen }
+    {
+        live_lasts::<K>();
+        book.append(rt, place, &mut self.pass, desk, entry)
+    }
+
+    /// Answers whether a put with notification is live; the journal keeps the question.
+    ///
+    /// # Errors
+    ///
+    /// [`IocError::JournalFull`] where the journal has no place left, and [`IocError::NoMemory`] where memory is wanting: nothing has changed then.
+    pub fn ask<R: Wait>(
+        &mut self,
+        rt: &R,
+        alloc: Global,
+        book: &Book<K, B>,
+        desk: &mut Desk<K, B>,
+        number: NotifyId,
+        moment: u64,
+    ) -> Result<(Reply, Receipt<K, B>), IocError>
+        ensures asked { IfOk result (λ x. WasAsked K.rules B.base self.old desk.old moment number x.0 self.new desk.new) }
+        ensures receipt { IfOk result (λ x. x.1 ≡ desk.new.seen) }
+        ensures refused { IfErr result IsNoPlace }
+        ensures err { OnErr result ((self.new ≡ self.old) × (desk.new ≡ desk.old)) }
+    {
+        live_lasts::<K>();
+        lists_leave_sound::<K>();
+        lines_tell_holders();
+        self.table.is_table();
+        let place = book.reserve(rt)?;
+        let is_live = self.table.is_live(number);
+        let entry = Entry {
+            moment,
+            event: Event::IsLive(number),
+            answers: KeptAnswers::new(Vec::new(alloc)),
+            reply: Reply::Live(is_live),
+        };
+        let receipt = self.keep_told(rt, book, place, desk, entry);
+        Ok((Reply::Live(is_live), receipt))
+    }
+
+    /// Refuses to give up a put with notification that isn't live; the journal keeps the refusal.
+    ///
+    /// # Errors
+    ///
+    /// [`IocError::JournalFull`] where the journal has no place left, and [`IocError::NoMemory`] where memory is wanting: nothing has changed then.
+    pub fn refuse_cancel<R: Wait>(
+        &mut self,
+        rt: &R,
+        alloc: Global,
+        book: &Book<K, B>,
+        desk: &mut Desk<K, B>,
+        number: NotifyId,
+        moment: u64,
+    ) -> Result<(Reply, Receipt<K, B>), IocError>
+        requires none { is_live number self.old.live ≡ false }
+        ensures stale { IfOk result (λ x. WasStale K.rules B.base self.old desk.old moment number x.0 self.new desk.new) }
+        ensures receipt { IfOk result (λ x. x.1 ≡ desk.new.seen) }
+        ensures refused { IfErr result IsNoPlace }
+        ensures err { OnErr result ((self.new ≡ self.old) × (desk.new ≡ desk.old)) }
+    {
+        live_lasts::<K>();
+        lists_leave_sound::<K>();
+        lines_tell_holders();
+        self.table.is_table();
+        let place = book.reserve(rt)?;
+        let entry = Entry {
+            moment,
+            event: Event::Cancel(number),
+            answers: KeptAnswers::new(Vec::new(alloc)),
+            reply: Reply::Refused(IocError::Stale),
+        };
+        let receipt = self.keep_told(rt, book, place, desk, entry);
+        Ok((Reply::Refused(IocError::Stale), receipt))
+    }
+}

@@ -1,0 +1,43 @@
+use Rattle.std.proofs.Common.{◌≡◌, ◌∙◌, ◌+◌, ◌<◌, ◌≤◌, ℕ, Some, None, drop, ap, sym, subst, arith}
+use Rattle.std.specs.FinMap.{entries}
+use Rattle.ioc_common.specs.declared.common.Common.{Common}
+use Rattle.ioc_record.specs.RecordRules.{RecordRules}
+use Rattle.ioc_members.specs.Contents.{Records}
+use Rattle.ioc_store.specs.World.{total}
+use Rattle.ioc_awaiting.specs.Awaiting.{one_if_awaits, awaited}
+use Rattle.ioc_set.proofs.Entries.{key_there, awaits-at, none-past, awaits-past}
+use Rattle.ioc_set.proofs.awaited.count_awaited.Goals as goal
+use Rattle.ioc_set.proofs.awaited.count_awaited.Goals.{in-Some+in-Some-pending, in-Some+in_default-pending, in_default}
+
+-- nothing is left past the last
+all_counted : {R : Type 0} (k : RecordRules R) (rs : Records R) (count i : ℕ) → total (one_if_awaits k) (drop i (entries rs)) ≡ 0
+    → count + total (one_if_awaits k) (drop i (entries rs)) ≡ total (one_if_awaits k) (entries rs) → count ≡ awaited k rs
+unfolding awaited
+all_counted k rs count i none all = omega (arith, none, all)
+
+pub record-requires : goal.record-requires
+record-requires g c = key_there g.K.RecordKind.rules c.args.members.now.records c.loop-place.place c.in-Some.number (sym c.number_at.ensures ∙ c.in-Some.is)
+
+pub loop-place-preserved : goal.loop-place-preserved
+loop-place-preserved g c =
+    let k = g.K.RecordKind.rules in
+    let rs = c.args.members.now.records in
+    let i = c.loop-place.place in
+    let so_far = c.loop-place.invariant in
+    elim c.match-number_at.branch [
+      | in-Some+in-Some-pending w ↦
+          let has = sym (ap (λ (x : Common). x.pending) (w.common-common.ensures ∙ ap k.common w.record.ensures)) ∙ w.in-Some-pending.is in
+          let next = awaits-at k rs i w.in-Some.number (sym c.number_at.ensures ∙ w.in-Some.is) (Some w.in-Some-pending.field-0) has in
+          (omega (arith, next, w.count-is, so_far.0), omega (arith, w.count-is, so_far.1))
+      | in-Some+in_default-pending w ↦
+          let has = sym (ap (λ (x : Common). x.pending) (w.common-common.ensures ∙ ap k.common w.record.ensures)) ∙ w.in_default-pending.is in
+          let next = awaits-at k rs i w.in-Some.number (sym c.number_at.ensures ∙ w.in-Some.is) None has in
+          (omega (arith, next, w.count-is, so_far.0), omega (arith, w.count-is, so_far.1))
+      | in_default w ↦ absurd (none-past k rs i (sym c.number_at.ensures ∙ w.in_default.is) (subst (λ (n : ℕ). i < n) c.len-place-end.ensures c.loop-place-test.true))
+    ]
+
+pub returns : goal.returns
+returns g c =
+    let k = g.K.RecordKind.rules in
+    let rs = c.args.members.now.records in
+    all_counted k rs c.loop-place.count c.loop-place.place (awaits-past k rs c.loop-place.place (subst (λ (n : ℕ). n ≤ c.loop-place.place) c.len-place-end.ensures c.loop-place-test.false)) c.loop-place.invariant.0

@@ -1,0 +1,39 @@
+//! The completions that the records of a set await.
+ghost use Rattle.std.specs.Prelude.{◌≡◌};
+ghost use Rattle.ioc_awaiting.specs.Awaiting.{awaited};
+ghost use Rattle.ioc_set.specs.Linking.{less_awaited, awaited_alone};
+
+use ioc_ledger::Tally;
+use ioc_members::Members;
+use ioc_record::RecordKind;
+
+/// How many of these records await a completion.
+pub fn count_awaited<K: RecordKind, D>(members: &Members<K, D>) -> u64
+    ensures { result ≡ awaited K.rules members.now.records }
+{
+    let mut count = 0;
+    for place in 0..members.len() {
+        if let Some(number) = members.number_at(place) {
+            let common = members.record(number).common();
+            if let Some(_) = common.pending {
+                count += 1;
+            }
+        }
+    }
+    count
+}
+
+/// What the rest of a set counts that falls apart: the answers that its own records still await. What stays counts them no more; a full count
+/// stays full.
+pub fn take_awaited<K: RecordKind, D>(tally: &mut Tally, rest: &Members<K, D>) -> Tally
+    ensures stays { tally.new ≡ less_awaited tally.old (awaited K.rules rest.now.records) }
+    ensures leaves { result ≡ awaited_alone (awaited K.rules rest.now.records) }
+{
+    let count = count_awaited(rest);
+    if tally.started != u64::MAX {
+        tally.started = tally.started.saturating_sub(count);
+    }
+    let mut own = Tally::default();
+    own.started = count;
+    own
+}
