@@ -2,6 +2,7 @@
 #![tactic(auto)]
 
 pub mod cancelling;
+pub mod counting;
 pub mod dealing;
 pub mod giving_up;
 pub mod merging;
