@@ -1,4 +1,4 @@
-use Rattle.std.proofs.Common.{◌≡◌, ℕ, ◌<◌, true, length, get_or, sym, ap, subst, ◌∙◌, below_more, rules}
+use Rattle.std.proofs.Common.{◌≡◌, ℕ, ◌<◌, true, length, get_or, subst, ◌∙◌, below_more, rules}
 use Rattle.ioc_notify.specs.Living.{is_live}
 use Rattle.ioc_set.specs.Held.{Held}
 use Rattle.ioc_together.proofs.Following.{get_or_same}
