@@ -8,6 +8,7 @@ mod asking;
 mod beginning;
 pub mod changing;
 mod ending;
+mod giving_up;
 pub mod held;
 mod link_changes;
 mod locked;
