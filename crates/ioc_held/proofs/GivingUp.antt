@@ -89,25 +89,23 @@ module _ {R D : Type 0} (k : RecordRules R) (base : World R) (table : TableId) w
         holds = subst (λ (l : List Note). Holds k (map_of k base l) (now_of (get_or sets_then i d))) (sym (ap (λ (v : View). v.seen) dealt.holds)) (gu.holds i d lt);
       }
 
-  pub lent_then : {A E : Type 0} (given : Result (Option A) E) (moment number : ℕ) (desk desk_then : DeskView) (sets sets_then : List (Held R D)) (passes passes_then : List (Option Pass)) (kept kept_then : View)
-      → IfOk given (λ o. IfSome o (λ _. GaveUp k base table moment number desk sets kept desk_then sets_then passes_then kept_then)) → IfOk given (λ o. IfNone o ((sets_then ≡ sets) × (passes_then ≡ passes))) → OnErr given ((sets_then ≡ sets) × (passes_then ≡ passes))
+  pub lent_then : {A E : Type 0} (Q S : Type 0) (given : Result (Option A) E) (moment number : ℕ) (desk desk_then : DeskView) (sets sets_then : List (Held R D)) (passes passes_then : List (Option Pass)) (kept kept_then : View)
+      → IfOk given (λ o. IfSome o (λ _. GaveUp k base table moment number desk sets kept desk_then sets_then passes_then kept_then)) → IfOk given (λ o. IfNone o ((sets_then ≡ sets) × (passes_then ≡ passes) × Q × S)) → OnErr given ((sets_then ≡ sets) × (passes_then ≡ passes) × Q × S)
       → EachIsLent k base table sets passes → EachIsLent k base table sets_then passes_then
-  lent_then (Ok (Some r)) moment number desk desk_then sets sets_then passes passes_then kept kept_then gave missing refused lent = lent_of moment number desk desk_then sets sets_then passes_then kept kept_then gave
-  lent_then (Ok None) moment number desk desk_then sets sets_then passes passes_then kept kept_then gave missing refused lent = as_same sets sets_then passes passes_then missing lent
-  lent_then (Err e) moment number desk desk_then sets sets_then passes passes_then kept kept_then gave missing refused lent = as_same sets sets_then passes passes_then refused lent
+  lent_then Q S (Ok (Some r)) moment number desk desk_then sets sets_then passes passes_then kept kept_then gave missing refused lent = lent_of moment number desk desk_then sets sets_then passes_then kept kept_then gave
+  lent_then Q S (Ok None) moment number desk desk_then sets sets_then passes passes_then kept kept_then gave missing refused lent = as_same sets sets_then passes passes_then (missing.0, missing.1) lent
+  lent_then Q S (Err e) moment number desk desk_then sets sets_then passes passes_then kept kept_then gave missing refused lent = as_same sets sets_then passes passes_then (refused.0, refused.1) lent
 
   abbrev AreBack : (held_then : List (HeldView R D)) (sets : List (Held R D)) (passes : List (Option Pass)) → Type 0
   AreBack held_then sets passes = (i : ℕ) (d : HeldView R D) (e : Held R D) (f : Option Pass) → i < length held_then → get_or held_then i d ≡ held_view (get_or sets i e) (seen_by (get_or passes i f))
 
-  pub gave_back : (moment number : ℕ) (desk desk_then : DeskView) (held held_then : List (HeldView R D)) (sets_then : List (Held R D)) (passes_then : List (Option Pass)) (kept kept_then : View)
-      → GaveUp k base table moment number desk (sets_of held) kept desk_then sets_then passes_then kept_then → AreBack held_then sets_then passes_then → length held_then ≡ length held → length sets_then ≡ length held
-      → HeldGaveUp k base moment number desk held kept desk_then held_then kept_then
-  gave_back moment number desk desk_then held held_then sets_then passes_then kept kept_then gu back long sets_are = record {
+  gave_back : (moment number : ℕ) (desk desk_then : DeskView) (sets : List (Held R D)) (held_then : List (HeldView R D)) (sets_then : List (Held R D)) (passes_then : List (Option Pass)) (kept kept_then : View)
+      → GaveUp k base table moment number desk sets kept desk_then sets_then passes_then kept_then → AreBack held_then sets_then passes_then → length held_then ≡ length sets → length sets_then ≡ length sets
+      → HeldGaveUp k base moment number desk sets kept desk_then held_then kept_then
+  gave_back moment number desk desk_then sets held_then sets_then passes_then kept kept_then gu back long sets_are = record {
     gives_up = λ i d e lt.
         let then : i < length held_then = omega (arith, lt, long) in
-        let here : i < length (sets_of held) = let many = sets_long held in omega (arith, lt, many) in
-        subst (λ (h : Held R D). GivesUp k number h (get_or held_then i e).set) (set_at held i d d.set lt)
-        (subst (λ (v : HeldView R D). GivesUp k number (get_or (sets_of held) i d.set) v.set) (sym (back i e d.set None then)) (gu.gives_up i d.set here));
+        subst (λ (v : HeldView R D). GivesUp k number (get_or sets i d) v.set) (sym (back i e d None then)) (gu.gives_up i d lt);
     call = gu.call;
     seen = λ i d lt.
         let within : i < length sets_then = omega (arith, lt, long, sets_are) in
@@ -118,18 +116,36 @@ module _ {R D : Type 0} (k : RecordRules R) (base : World R) (table : TableId) w
     others = gu.others;
   }
 
-  pub same_back : (held held_then : List (HeldView R D)) (sets_then : List (Held R D)) (passes_then : List (Option Pass)) → sets_then ≡ sets_of held → AreBack held_then sets_then passes_then → length held_then ≡ length held → AreSameSets held held_then
-  same_back held held_then sets_then passes_then same back long i d e lt =
+  same_back : (sets : List (Held R D)) (held_then : List (HeldView R D)) (sets_then : List (Held R D)) (passes_then : List (Option Pass)) → sets_then ≡ sets → AreBack held_then sets_then passes_then → length held_then ≡ length sets → AreSameSets sets held_then
+  same_back sets held_then sets_then passes_then same back long i d e lt =
       let then : i < length held_then = omega (arith, lt, long) in
-      ap (λ (v : HeldView R D). v.set) (back i e d.set None then) ∙ ap (λ (l : List (Held R D)). get_or l i d.set) same ∙ set_at held i d d.set lt
+      ap (λ (v : HeldView R D). v.set) (back i e d None then) ∙ ap (λ (l : List (Held R D)). get_or l i d) same
 
-pub itself_same : {R D : Type 0} (held : List (HeldView R D)) → AreSameSets held held
-itself_same held i d e lt = ap (λ (v : HeldView _ _). v.set) (get_or_same held i e d lt)
+  module _ {A E : Type 0} (moment number : ℕ) (desk desk_then : DeskView) (sets : List (Held R D)) (held_then : List (HeldView R D)) (sets_then : List (Held R D)) (passes_then : List (Option Pass)) (kept kept_then : View)
+      (back : AreBack held_then sets_then passes_then) (long : length held_then ≡ length sets) (sets_are : length sets_then ≡ length sets) where
+    pub gave_all : (given : Result (Option A) E) → IfOk given (λ o. IfSome o (λ _. GaveUp k base table moment number desk sets kept desk_then sets_then passes_then kept_then))
+        → IfOk given (λ o. IfSome o (λ _. HeldGaveUp k base moment number desk sets kept desk_then held_then kept_then))
+    gave_all (Ok (Some r)) gu = gave_back moment number desk desk_then sets held_then sets_then passes_then kept kept_then gu back long sets_are
+    gave_all (Ok None) gu = gu
+    gave_all (Err e) gu = gu
+
+  pub missing_all : {A E : Type 0} (Q S : Type 0) (given : Result (Option A) E) (sets : List (Held R D)) (held_then : List (HeldView R D)) (sets_then : List (Held R D)) (passes passes_then : List (Option Pass))
+      → AreBack held_then sets_then passes_then → length held_then ≡ length sets
+      → IfOk given (λ o. IfNone o ((sets_then ≡ sets) × (passes_then ≡ passes) × Q × S)) → IfOk given (λ o. IfNone o (AreSameSets sets held_then × Q × S))
+  missing_all Q S (Ok (Some r)) sets held_then sets_then passes passes_then back long h = h
+  missing_all Q S (Ok None) sets held_then sets_then passes passes_then back long h = (same_back sets held_then sets_then passes_then h.0 back long, h.2, h.3)
+  missing_all Q S (Err e) sets held_then sets_then passes passes_then back long h = h
+
+  pub refused_all : {A E : Type 0} (Q S : Type 0) (given : Result (Option A) E) (sets : List (Held R D)) (held_then : List (HeldView R D)) (sets_then : List (Held R D)) (passes passes_then : List (Option Pass))
+      → AreBack held_then sets_then passes_then → length held_then ≡ length sets
+      → OnErr given ((sets_then ≡ sets) × (passes_then ≡ passes) × Q × S) → OnErr given (AreSameSets sets held_then × Q × S)
+  refused_all Q S (Ok o) sets held_then sets_then passes passes_then back long h = h
+  refused_all Q S (Err e) sets held_then sets_then passes passes_then back long h = (same_back sets held_then sets_then passes_then h.0 back long, h.2, h.3)
+
+no_desks : (owns : List Key) → AreRecords owns → AreNoDesks owns
+no_desks owns records key has desk = let record_key = records key has in absurd (omega (arith, record_key, desk))
 
 module _ {R D : Type 0} (k : RecordRules R) (base : World R) (table : TableId) where
-  no_desks : (owns : List Key) → AreRecords owns → AreNoDesks owns
-  no_desks owns records key has desk = let record_key = records key has in absurd (omega (arith, record_key, desk))
-
   pub held_by : (sets : List (Held R D)) (passes : List (Option Pass)) → EachIsLent k base table sets passes → EachIsHeldBy k base table sets passes
   held_by sets passes each i d e lt =
       let one = each i d e lt in

@@ -35,21 +35,22 @@ module _ {R D : Type 0} (k : RecordRules R) (base : World R) where
 abbrev pub sets_of : {R D : Type 0} → List (HeldView R D) → List (Held R D)
 sets_of held = map (λ (h : HeldView _ _). h.set) held
 
--- each holds what it held
-abbrev pub AreSameSets : {R D : Type 0} → List (HeldView R D) → List (HeldView R D) → Type 0
-AreSameSets {R} {D} before after = (i : ℕ) (d e : HeldView R D) → i < length before → (slice_index_or after i e).set ≡ (slice_index_or before i d).set
+-- each holds one of these sets
+abbrev pub AreSameSets : {R D : Type 0} → List (Held R D) → List (HeldView R D) → Type 0
+AreSameSets {R} {D} before after = (i : ℕ) (d : Held R D) (e : HeldView R D) → i < length before → (slice_index_or after i e).set ≡ slice_index_or before i d
 
-module _ {R D : Type 0} (k : RecordRules R) (base : World R) (moment number : ℕ) (desk : DeskView) (before : List (HeldView R D)) where
+module _ {R D : Type 0} (k : RecordRules R) (base : World R) (moment number : ℕ) (desk : DeskView) (before : List (Held R D)) where
   -- each of these held sets has given it up in one call of a desk, which stands at the end of the legal list that the desk, the holders and the keeper
   -- of the puts with notification have seen then. Nobody has it any more, and as many as before have each other
   pub record HeldGaveUp (kept : View) (desk_then : DeskView) (after : List (HeldView R D)) (kept_then : View) : Type 0 where
-    pub gives_up : (i : ℕ) (d e : HeldView R D) → i < length before → GivesUp k number (slice_index_or before i d).set (slice_index_or after i e).set
+    pub gives_up : (i : ℕ) (d : Held R D) (e : HeldView R D) → i < length before → GivesUp k number (slice_index_or before i d) (slice_index_or after i e).set
     pub call : Call k base desk (told_at moment (Cancel number) Plain) desk_then
     pub seen : (i : ℕ) (d : HeldView R D) → i < length after → (slice_index_or after i d).seen ≡ desk_then.seen
     pub keeps : kept_then ≡ holder desk_then.seen puts_keys
     pub nobody : holders_of number (map_of k base desk_then.seen).live ≡ 0
     pub others : (other : ℕ) → other ≢ number → holders_of other (map_of k base desk_then.seen).live ≡ holders_of other (map_of k base kept.seen).live
 
+module _ {R D : Type 0} (k : RecordRules R) (base : World R) (moment number : ℕ) (desk : DeskView) (before : List (HeldView R D)) where
   -- and so do the lines of the table tell
   pub record GaveUpOn (puts : PutsView) (reply : Reply) (desk_then : DeskView) (after : List (HeldView R D)) (puts_then : PutsView) : Type 0 where
     pub answer : reply ≡ Plain

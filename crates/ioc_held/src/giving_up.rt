@@ -92,8 +92,8 @@ fn take_back_all<K: RecordKind + Drop, B: Base<K>, D: Drop>(
     }
 }
 
-// Gives a put with notification up on held sets, where all that have it are in them: so many.
-fn give_up_on<K: RecordKind + Drop, B: Base<K>, D: Device, R: Wait>(
+// Gives a put with notification up on sets that were taken apart, where all that have it are in them: so many. Then they are put together again.
+fn give_up_lent<K: RecordKind + Drop, B: Base<K>, D: Device, R: Wait>(
     rt: &R,
     alloc: Global,
     book: &Book<K, B>,
@@ -101,6 +101,8 @@ fn give_up_on<K: RecordKind + Drop, B: Base<K>, D: Device, R: Wait>(
     workplace: &mut Workplace<K, D>,
     keeper: &mut Token,
     held: &mut [Held<K, B, D>],
+    sets: &mut [LockSet<K, D>],
+    passes: &mut [Option<Token>],
     number: NotifyId,
     total: u64,
     moment: u64,
@@ -108,29 +110,18 @@ fn give_up_on<K: RecordKind + Drop, B: Base<K>, D: Device, R: Wait>(
     requires keeper { (keeper.old.table_id ≡ B.table) × (cell_view keeper.old ≡ holder (cell_view keeper.old).seen puts_keys) }
     requires total { total ≡ holders_of number (map_of K.rules B.base (cell_view keeper.old).seen).live }
     requires some { total ≢ 0 }
-    ensures gave_up { IfOk result (λ given. IfSome given (λ _. HeldGaveUp K.rules B.base moment number desk.old held.old (cell_view keeper.old) desk.new held.new (cell_view keeper.new))) }
+    requires count { (length sets.old ≡ length held.old) × (length passes.old ≡ length held.old) }
+    requires lent { EachIsLent K.rules B.base B.table sets.old passes.old }
+    ensures gave_up { IfOk result (λ given. IfSome given (λ _. HeldGaveUp K.rules B.base moment number desk.old sets.old (cell_view keeper.old) desk.new held.new (cell_view keeper.new))) }
     ensures receipt { IfOk result (λ given. IfSome given (λ receipt. receipt ≡ desk.new.seen)) }
     ensures table { keeper.new.table_id ≡ B.table }
-    ensures missing { IfOk result (λ given. IfNone given (AreSameSets held.old held.new × (cell_view keeper.new ≡ cell_view keeper.old) × (desk.new ≡ desk.old))) }
+    ensures missing { IfOk result (λ given. IfNone given (AreSameSets sets.old held.new × (keeper.new ≡ keeper.old) × (desk.new ≡ desk.old))) }
     ensures refused { IfErr result IsNoPlace }
-    ensures err { OnErr result (AreSameSets held.old held.new × (cell_view keeper.new ≡ cell_view keeper.old) × (desk.new ≡ desk.old)) }
+    ensures err { OnErr result (AreSameSets sets.old held.new × (keeper.new ≡ keeper.old) × (desk.new ≡ desk.old)) }
 {
-    let mut sets = Vec::with_capacity(alloc, held.len())?;
-    let mut passes = Vec::with_capacity(alloc, held.len())?;
-    lend_all(alloc, book.cell(), keeper, held, &mut sets, &mut passes);
     let given = give_up_all(
-        rt,
-        alloc,
-        book,
-        desk,
-        workplace,
-        keeper,
-        sets.as_mut_slice(),
-        passes.as_mut_slice(),
-        number,
-        total,
-        moment,
+        rt, alloc, book, desk, workplace, keeper, sets, passes, number, total, moment,
     );
-    take_back_all(alloc, held, sets.as_mut_slice(), passes.as_mut_slice());
+    take_back_all(alloc, held, sets, passes);
     given
 }
