@@ -1,5 +1,9 @@
 -- Held sets that are taken apart and put together again.
-use Rattle.std.proofs.Common.{◌≡◌, ℕ, zero, suc, ◌+◌, ◌<◌, List, [], ◌∷◌, ◌++◌, length, get_or, Option, Some, None, Result, Ok, Err, refl, sym, ap, subst, ◌∙◌, below_more, arith, length-append}
+use Rattle.std.proofs.lemmas.Bool.{eq-eqb, ne_eqb}
+use Rattle.std.proofs.lemmas.List.Sums.{sum_by-cons}
+use Rattle.ioc_notify.specs.declared.live_numbers.Live.{Live}
+use Rattle.ioc_put_table.specs.Counts.{holders_in, has_by}
+use Rattle.std.proofs.Common.{◌≡◌, ◌≢◌, Bool, cond, ℕ, zero, suc, ◌+◌, ◌<◌, List, [], ◌∷◌, ◌++◌, length, get_or, Option, Some, None, Result, Ok, Err, refl, sym, ap, subst, ◌∙◌, below_more, arith, length-append}
 use Rattle.std.specs.Prelude.{IfOk, IfNone, OnErr}
 use Rattle.std.specs.Option.{IfSome}
 use Rattle.std.proofs.lemmas.Grind.{common_steps}
@@ -151,3 +155,19 @@ module _ {R D : Type 0} (k : RecordRules R) (base : World R) (table : TableId) w
       let one = each i d e lt in
       subst (λ (s : Option Pass). IsHeldBy k base table (get_or sets i d) s) (sym one.there)
       (record { pass = record { same = one.owner.same; holder = one.owner.holder; no_desks = no_desks (cell_view {V = View} one.pass).owns one.owner.records }; covers = one.owner.covers; holds = one.holds })
+
+-- ---- one line of a table
+
+pub line_has : (n h : ℕ) → holders_in n (record { number = n; holders = h } ∷ []) ≡ h
+line_has n h =
+    let l : Live = record { number = n; holders = h } in
+    let all = sum_by-cons (has_by n) l [] in
+    let here : has_by n l ≡ h = ap (λ (b : Bool). cond b h 0) (eq-eqb n n refl) in
+    omega (arith, all, here)
+
+pub line_other : (n other h : ℕ) → other ≢ n → holders_in other (record { number = n; holders = h } ∷ []) ≡ 0
+line_other n other h apart =
+    let l : Live = record { number = n; holders = h } in
+    let all = sum_by-cons (has_by other) l [] in
+    let here : has_by other l ≡ 0 = ap (λ (b : Bool). cond b h 0) (ne_eqb n other (λ e. apart (sym e))) in
+    omega (arith, all, here)

@@ -10,13 +10,16 @@ ghost use Rattle.std.specs.Vec.{vec_len, vec_capacity};
 ghost use Rattle.crossbeam_utils.specs.Seq.{cell_view};
 ghost use Rattle.ioc_set.specs.Held.{Held as SetHeld};
 ghost use Rattle.ioc_held.specs.Holding.{Pass, HeldView, held_view, seen_by};
-ghost use Rattle.ioc_held.specs.GivingUp.{IsLent, EachIsLent, sets_of, AreSameSets, HeldGaveUp};
+ghost use Rattle.ioc_held.specs.GivingUp.{IsLent, EachIsLent, sets_of, AreSameSets, HeldGaveUp, GaveUpOn};
 
 use crate::held::Held;
+use crate::puts::AllPuts;
 use ioc_device::Device;
+use ioc_events::Reply;
 use ioc_journal::{Base, Book, Desk, Receipt};
 use ioc_line::{Cell, Token, pass};
-use ioc_notify::NotifyId;
+use ioc_notify::{Live, NotifyId};
+use ioc_put_table::laws::lines_tell_holders;
 use ioc_record::RecordKind;
 use ioc_set::{LockSet, Workplace};
 use ioc_together::giving_up::give_up_all;
@@ -124,4 +127,70 @@ fn give_up_lent<K: RecordKind + Drop, B: Base<K>, D: Device, R: Wait>(
     );
     take_back_all(alloc, held, sets, passes);
     given
+}
+
+/// Gives a put with notification up on held sets, where they hold all that have it, and keeps that in the journal as one call. Where they don't, the
+/// sets hold what they held, and nothing else has changed.
+///
+/// # Errors
+///
+/// [`IocError::JournalFull`] where the journal has no place left, and [`IocError::NoMemory`] where memory is wanting: nothing has changed then.
+pub fn cancel_on<K: RecordKind + Drop, B: Base<K>, D: Device, R: Wait>(
+    rt: &R,
+    alloc: Global,
+    book: &Book<K, B>,
+    desk: &mut Desk<K, B>,
+    workplace: &mut Workplace<K, D>,
+    all: &mut AllPuts<K, B>,
+    held: &mut [Held<K, B, D>],
+    number: NotifyId,
+    moment: u64,
+) -> Result<Option<(Reply, Receipt<K, B>)>, IocError>
+    ensures gave_up { IfOk result (λ given. IfSome given (λ x. GaveUpOn K.rules B.base moment number desk.old held.old all.old x.0 desk.new held.new all.new)) }
+    ensures receipt { IfOk result (λ given. IfSome given (λ x. x.1 ≡ desk.new.seen)) }
+    ensures missing { IfOk result (λ given. IfNone given (AreSameSets (sets_of held.old) held.new × (all.new ≡ all.old) × (desk.new ≡ desk.old))) }
+    ensures refused { IfErr result IsNoPlace }
+    ensures err { OnErr result (AreSameSets (sets_of held.old) held.new × (all.new ≡ all.old) × (desk.new ≡ desk.old)) }
+{
+    lines_tell_holders();
+    all.table.is_table();
+    let total = all.table.holders(number);
+    if total == 0 {
+        return Ok(None);
+    }
+    let mut sets = Vec::with_capacity(alloc, held.len())?;
+    let mut passes = Vec::with_capacity(alloc, held.len())?;
+    lend_all(
+        alloc,
+        book.cell(),
+        &mut all.pass,
+        held,
+        &mut sets,
+        &mut passes,
+    );
+    let given = give_up_lent(
+        rt,
+        alloc,
+        book,
+        desk,
+        workplace,
+        &mut all.pass,
+        held,
+        sets.as_mut_slice(),
+        passes.as_mut_slice(),
+        number,
+        total,
+        moment,
+    );
+    match given {
+        Ok(Some(receipt)) => {
+            all.table.take_off(&[Live {
+                number,
+                holders: total,
+            }]);
+            Ok(Some((Reply::Plain, receipt)))
+        }
+        Ok(None) => Ok(None),
+        Err(refused) => Err(refused),
+    }
 }

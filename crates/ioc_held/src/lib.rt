@@ -16,5 +16,6 @@ pub mod puts;
 mod running;
 
 pub use changing::{Changed, change_link};
+pub use giving_up::cancel_on;
 pub use held::Held;
 pub use puts::AllPuts;
