@@ -11,3 +11,4 @@ mod Beside
 mod Counted
 mod Telling
 mod Counting
+mod GivingUp

@@ -1,12 +1,11 @@
 -- A table has no more lines than other lines that have all its numbers.
-use Rattle.std.proofs.Common.{◌≡◌, ◌≢◌, ℕ, zero, suc, ◌+◌, ◌<◌, ◌≤◌, Bool, true, false, not, cond, ◌||◌, nat_eq, List, [], ◌∷◌, length, refl, sym, ap, subst, arith}
+use Rattle.std.proofs.Common.{◌≡◌, ◌≢◌, ℕ, ◌+◌, ◌<◌, ◌≤◌, Bool, true, false, not, cond, nat_eq, List, [], ◌∷◌, length, refl, ap, subst, arith}
 use Rattle.std.specs.List.{filter}
 use Rattle.std.proofs.lemmas.Bool.{eq-eqb, eqb-true}
 use Rattle.std.proofs.lemmas.List.Sums.{sum_by-cons}
 use Rattle.ioc_notify.specs.declared.live_numbers.Live.{Live}
 use Rattle.ioc_notify.specs.Living.{holders_of}
-use Rattle.ioc_put_table.specs.Counts.{has_by, holders_in, lines_of, IsTable}
-use Rattle.ioc_put_table.proofs.Tables.{none_has}
+use Rattle.ioc_put_table.specs.Counts.{holders_in, lines_of, IsTable}
 
 abbrev one_if : ℕ → Live → ℕ
 one_if n l = cond (nat_eq l.number n) 1 0

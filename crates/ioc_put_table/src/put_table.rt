@@ -2,7 +2,7 @@
 ghost use Rattle.std.specs.Prelude.{◌≡◌, ℕ, ◌+◌, ◌<◌, ◌≤◌, ◌^◌, ◌==◌, ◌&&◌, not, nat_lt, [], length, IfOk, OnOk, OnErr};
 ghost use Rattle.std.specs.Vec.{vec_capacity};
 ghost use Rattle.std.specs.List.{position};
-ghost use Rattle.ioc_notify.specs.Living.{is_live};
+ghost use Rattle.ioc_notify.specs.Living.{holders_of, is_live};
 ghost use Rattle.ioc_put_table.specs.Counts.{IsTable, has_by, holders_in};
 
 use ioc_notify::{Live, NotifyId};
@@ -69,6 +69,13 @@ impl PutTable {
         ensures { result ≡ is_live number self.now.live }
     {
         self.items.iter().any(|live| live.number == number)
+    }
+
+    /// How many have the one of this number; 0 where it isn't live.
+    pub fn holders(&self, number: NotifyId) -> u64
+        ensures { result ≡ holders_of number self.now.live }
+    {
+        holders_by(self.items.as_slice(), number)
     }
 
     /// A set's puts are taken off: what each had by them it has no more.
@@ -143,6 +150,18 @@ fn add_on_one(items: &mut Vec<Live>, number: NotifyId, holders: u64)
         }
         None => items.push_reserved(Live { number, holders }),
     }
+}
+
+// How many have the one of this number by its first line.
+fn holders_by(items: &[Live], number: NotifyId) -> u64
+    ensures { result ≡ holders_of number items.now }
+{
+    for line in items {
+        if line.number == number {
+            return line.holders;
+        }
+    }
+    0
 }
 
 // Where the line of this number stands, if there is one.

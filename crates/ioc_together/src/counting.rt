@@ -1,0 +1,52 @@
+//! How many have a put with notification in several sets together.
+ghost use Rattle.std.specs.Prelude.{◌≡◌, ◌<◌, ℕ, true, length, slice_index_or, IsTrue};
+ghost use Rattle.std.specs.Option.{IfSome};
+ghost use Rattle.ioc_notify.specs.Living.{holders_of, is_live};
+ghost use Rattle.ioc_set.specs.Held.{Held};
+ghost use Rattle.ioc_cancelling.specs.Laws.{holders_in_all};
+
+use ioc_notify::{Live, NotifyId};
+use ioc_record::RecordKind;
+use ioc_set::LockSet;
+
+// How many have it by these lines.
+fn holders_by(live: &[Live], number: NotifyId) -> u64
+    ensures { result ≡ holders_of number live.now }
+{
+    for line in live {
+        if line.number == number {
+            return line.holders;
+        }
+    }
+    0
+}
+
+/// How many have a put with notification in these sets together; none where a number of 64 bits can't tell.
+pub fn total_in<K: RecordKind, D>(sets: &[LockSet<K, D>], number: NotifyId) -> Option<u64>
+    ensures { IfSome result (λ total. total ≡ holders_in_all number sets.now) }
+{
+    let mut total: u64 = 0;
+    for set in sets {
+        total = total.checked_add(holders_by(set.live_puts(), number))?;
+    }
+    Some(total)
+}
+
+// Is a put with notification live on a set?
+fn is_live_on<K: RecordKind, D>(set: &LockSet<K, D>, number: NotifyId) -> bool
+    ensures { result ≡ is_live number set.now.live }
+{
+    set.live_puts().iter().any(|line| line.number == number)
+}
+
+/// Is a put with notification live on each of these sets?
+pub fn all_live<K: RecordKind, D>(sets: &[LockSet<K, D>], number: NotifyId) -> bool
+    ensures { IsTrue result → (i : ℕ) (d : Held K D) → i < length sets.now → is_live number (slice_index_or sets.now i d).live ≡ true }
+{
+    for set in sets {
+        if !is_live_on(set, number) {
+            return false;
+        }
+    }
+    true
+}
