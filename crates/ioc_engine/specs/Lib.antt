@@ -2,3 +2,4 @@ pub mod Served
 pub mod Ended
 pub mod Linked
 pub mod Seen
+pub mod Cancelled

@@ -4,6 +4,7 @@
 //! each desk's calls stand in one list by which an engine with all records in one map could have answered them.
 #![tactic(auto)]
 
+mod cancelling;
 pub mod engine;
 mod link_changes;
 mod notifications;

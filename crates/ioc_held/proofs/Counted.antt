@@ -1,17 +1,14 @@
 -- What the keeper of the puts with notification knows of a longer list, and after an event that was counted.
-use Rattle.std.proofs.Common.{◌≡◌, ℕ, ◌+◌, ◌<◌, ◌≤◌, ◌^◌, List, ◌++◌, length, sym, ◌∙◌, subst, inl, refl, arith}
+use Rattle.std.proofs.Common.{◌≡◌, ℕ, ◌+◌, ◌<◌, ◌≤◌, ◌^◌, List, sym, ◌∙◌, subst, inl, refl, arith}
 use Rattle.ioc_notify.specs.declared.live_numbers.Live.{Live}
 use Rattle.ioc_notify.specs.Living.{holders_of}
 use Rattle.ioc_put_table.specs.Counts.{holders_in}
 use Rattle.ioc_record.specs.RecordRules.{RecordRules}
 use Rattle.ioc_store.specs.World.{World}
-use Rattle.ioc_events.specs.declared.event.Entry.{Entry}
 use Rattle.ioc_line.specs.declared.entry.Note.{Note}
-use Rattle.ioc_line.specs.Key.{Key}
 use Rattle.ioc_line.specs.Line.{Continues}
 use Rattle.ioc_holding.specs.Legal.{IsLegal, map_of, notifications_key}
 use Rattle.ioc_holding.specs.Laws.{LiveLasts}
-use Rattle.ioc_journal.specs.Account.{AddedByBoth}
 use Rattle.ioc_held.specs.Puts.{puts_keys, AreCounted, AreMoved}
 
 module _ {R : Type 0} (k : RecordRules R) where

@@ -1,13 +1,13 @@
 -- What the keeper of the puts with notification may note that changes nothing.
-use Rattle.std.proofs.Common.{◌≡◌, ◌↔◌, ℕ, ◌<◌, ◌≤◌, Bool, true, false, cond, nat_lt, List, [], ◌∷◌, ◌++◌, refl, sym, ap, ◌∙◌, subst, inl, arith}
-use Rattle.std.specs.Prelude.{Contains, IsTrue}
+use Rattle.std.proofs.Common.{◌≡◌, ◌↔◌, ℕ, ◌<◌, Bool, true, false, cond, nat_lt, List, [], ◌∷◌, ◌++◌, refl, sym, ap, ◌∙◌, subst, arith}
+use Rattle.std.specs.Prelude.{IsTrue}
 use Rattle.std.proofs.lemmas.Bool.{ltb-true, lt-ltb}
 use Rattle.ioc_values.specs.declared.error.IocError.TheVariants.{Stale}
 use Rattle.ioc_ledger.specs.Requests.{None}
 use Rattle.ioc_notify.specs.declared.live_numbers.Live.{Live}
 use Rattle.ioc_notify.specs.Living.{holders_of, is_live}
 use Rattle.ioc_put_table.specs.Counts.{holders_in, lines_of, IsTable}
-use Rattle.ioc_record.specs.RecordRules.{RecordRules, targets}
+use Rattle.ioc_record.specs.RecordRules.{RecordRules}
 use Rattle.ioc_store.specs.World.{World, at, begun, begun_at}
 use Rattle.ioc_store.specs.Given.{Answers, answers_of, listed}
 use Rattle.ioc_device.specs.declared.Answer.{Answer}
@@ -15,13 +15,13 @@ use Rattle.ioc_events.specs.declared.event.Event.{Event}
 use Rattle.ioc_events.specs.declared.event.Event.TheVariants.{Cancel, IsLive}
 use Rattle.ioc_events.specs.declared.event.Entry.{Entry}
 use Rattle.ioc_events.specs.declared.reply.Reply.{Reply}
-use Rattle.ioc_events.specs.declared.reply.Reply.TheVariants.{Live as Live-reply, Refused}
-use Rattle.ioc_events.specs.Holding.{IsCounted, how_many, holders}
+use Rattle.ioc_events.specs.declared.reply.Reply.TheVariants.{Live as Live-reply}
+use Rattle.ioc_events.specs.Holding.{IsCounted, holders}
 use Rattle.ioc_events.specs.Step.{Stepped, stepped, done_alone, done_there, refused, with_starts, lets_start}
 use Rattle.ioc_line.specs.declared.entry.Note.{Note}
 use Rattle.ioc_line.specs.Key.{Key}
 use Rattle.ioc_line.specs.Line.{Continues, noted}
-use Rattle.ioc_holding.specs.Legal.{AreLiveAlike, IsLegal, IsSound, IsUntouched, Fits, done, entry_of, map_of, notifications_key}
+use Rattle.ioc_holding.specs.Legal.{AreLiveAlike, IsLegal, IsSound, IsUntouched, Fits, done, map_of}
 use Rattle.ioc_journal.specs.Account.{journalled, MayFollow, Added}
 use Rattle.ioc_held.specs.Puts.{puts_keys, told_at}
 use Rattle.ioc_held.proofs.Beside.{lines_are}

@@ -3,6 +3,7 @@ ghost use Rattle.std.specs.Prelude.{◌≡◌, ℕ, true, None, Some, IfOk, IfEr
 ghost use Rattle.crossbeam_utils.specs.Seq.{cell_view};
 ghost use Rattle.ioc_events.specs.declared.event.Event.TheVariants.{Get, Process, Put, Complete};
 ghost use Rattle.ioc_events.specs.Step.{names};
+ghost use Rattle.ioc_notify.specs.Living.{is_live};
 ghost use Rattle.ioc_holding.specs.Held.{Holds};
 ghost use Rattle.ioc_holding.specs.Legal.{map_of};
 ghost use Rattle.ioc_set.specs.Held.{NoneIsLive, now_of};
@@ -25,6 +26,7 @@ use ioc_holding::laws::{
 use ioc_journal::{Base, Book, Desk, Receipt};
 use ioc_line::Token;
 use ioc_names::RecordNo;
+use ioc_notify::NotifyId;
 use ioc_put_table::laws::lines_tell_holders;
 use ioc_record::RecordKind;
 use ioc_set::{LockSet, Workplace, sets_stay_without_puts};
@@ -73,6 +75,16 @@ impl<K: RecordKind, B: Base<K>, D> Held<K, B, D> {
 }
 
 impl<K: RecordKind + Drop, B: Base<K>, D: Device> Held<K, B, D> {
+    /// Is the put with notification of this number live on the set?
+    pub fn has_live(&self, number: NotifyId) -> bool
+        ensures { result ≡ is_live number self.now.set.live }
+    {
+        self.set
+            .live_puts()
+            .iter()
+            .any(|live| live.number == number)
+    }
+
     // A question or a put that names no field of its record, or one that can't be put, is no call.
     pub(crate) fn test_call(&self, event: &Event) -> Result<(), IocError>
         requires there { (n : ℕ) → Contains (names event.now) n → Contains (numbers_of self.now) n }

@@ -1,13 +1,10 @@
-use Rattle.std.proofs.Common.{◌≡◌, ◌≢◌, ◌<◌, ℕ, List, Option, refl, sym, ap, ◌∙◌, subst, length, get_or, arith}
+use Rattle.std.proofs.Common.{◌<◌, List, Option, refl, ap, ◌∙◌, subst, length, get_or, arith}
 use Rattle.std.specs.Option.{IfSome}
 use Rattle.crossbeam_utils.specs.Seq.{cell_view}
 use Rattle.ioc_line.specs.declared.room.View.{View}
-use Rattle.ioc_notify.specs.Living.{holders_of}
 use Rattle.ioc_put_table.specs.Counts.{holders_in}
-use Rattle.ioc_holding.specs.Legal.{map_of}
 use Rattle.ioc_set.specs.Held.{Held}
 use Rattle.ioc_cancelling.specs.Laws.{GivesUp}
-use Rattle.ioc_held.specs.Holding.{HeldView}
 use Rattle.ioc_held.specs.Puts.{PutsView}
 use Rattle.ioc_held.specs.GivingUp.{HeldGaveUp, sets_of}
 use Rattle.ioc_held.proofs.GivingUp.{set_at, sets_long, line_has, line_other}

@@ -1,4 +1,4 @@
-use Rattle.std.proofs.Common.{◌≡◌, sym, ◌∙◌, length}
+use Rattle.std.proofs.Common.{◌≡◌, sym, ◌∙◌}
 use Rattle.crossbeam_utils.specs.Seq.{cell_view}
 use Rattle.ioc_held.proofs.GivingUp.{held_by, lent_then, gave_all, missing_all, refused_all}
 use Rattle.ioc_held.proofs.giving_up.give_up_lent.Goals as goal

@@ -1,4 +1,4 @@
-use Rattle.std.proofs.Common.{◌≡◌, ◌≢◌, ◌+◌, ◌<◌, ◌++◌, ◌∷◌, [], List, Option, Some, refl, sym, ap, ◌∙◌, subst, length, get_or, take, get_or-set_other, length-append, arith, rules}
+use Rattle.std.proofs.Common.{◌≡◌, ◌≢◌, ◌<◌, ◌++◌, ◌∷◌, [], List, Option, Some, sym, ap, ◌∙◌, subst, length, get_or, take, get_or-set_other, length-append, arith, rules}
 use Rattle.std.proofs.lemmas.List.{take_more}
 use Rattle.ioc_set.specs.Held.{Held}
 use Rattle.ioc_held.specs.Holding.{Pass, HeldView}

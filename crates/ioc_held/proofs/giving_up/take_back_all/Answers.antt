@@ -1,4 +1,4 @@
-use Rattle.std.proofs.Common.{◌≡◌, ◌≢◌, ℕ, ◌+◌, ◌<◌, List, Option, Some, refl, sym, ap, ◌∙◌, subst, length, get_or, get_or-set_other, get_or-set_same, below_more, arith, rules}
+use Rattle.std.proofs.Common.{◌≡◌, ◌≢◌, ℕ, ◌<◌, Option, Some, sym, ap, ◌∙◌, length, get_or, get_or-set_other, get_or-set_same, below_more, arith, rules}
 use Rattle.std.specs.Prelude.{slice_set}
 use Rattle.crossbeam_utils.specs.Seq.{cell_view}
 use Rattle.ioc_set.specs.Held.{Held}

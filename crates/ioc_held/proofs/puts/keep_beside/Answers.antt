@@ -1,7 +1,6 @@
-use Rattle.std.proofs.Common.{◌≡◌, ℕ, ◌+◌, ◌<◌, ◌≤◌, ◌^◌, List, refl, sym, ap, ◌∙◌, subst, inl, ⊎_elim, length, arith}
+use Rattle.std.proofs.Common.{◌≡◌, ℕ, ◌+◌, ◌<◌, ◌≤◌, ◌^◌, List, refl, sym, ap, ◌∙◌, subst, ⊎_elim, arith}
 use Rattle.crossbeam_utils.specs.Seq.{cell_view}
 use Rattle.ioc_notify.specs.declared.live_numbers.Live.{Live}
-use Rattle.ioc_notify.specs.Living.{holders_of}
 use Rattle.ioc_put_table.specs.Counts.{holders_in}
 use Rattle.ioc_line.specs.declared.entry.Note.{Note}
 use Rattle.ioc_line.specs.declared.room.View.{View}
@@ -9,7 +8,7 @@ use Rattle.ioc_line.specs.Key.{Key}
 use Rattle.ioc_line.specs.Line.{holder}
 use Rattle.ioc_holding.specs.Legal.{map_of, notifications_key}
 use Rattle.ioc_journal.specs.Account.{BothMayFollow, AddedByBoth}
-use Rattle.ioc_held.specs.Puts.{PutsView, puts_keys, AreCounted, AreMoved}
+use Rattle.ioc_held.specs.Puts.{PutsView, puts_keys, AreCounted}
 use Rattle.ioc_held.proofs.Counted.{before_there, sums_fit, counted_then}
 use Rattle.ioc_held.proofs.puts.keep_beside.Goals as goal
 

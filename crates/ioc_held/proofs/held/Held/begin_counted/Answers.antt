@@ -2,20 +2,18 @@ use Rattle.std.proofs.Common.{◌≡◌, ℕ, List, Option, Some, None, refl, sy
 use Rattle.std.specs.Prelude.{Contains}
 use Rattle.crossbeam_utils.specs.Seq.{cell_view}
 use Rattle.ioc_notify.specs.declared.live_numbers.Live.{Live}
-use Rattle.ioc_store.specs.World.{Has, begun_at}
+use Rattle.ioc_store.specs.World.{Has}
 use Rattle.ioc_store.specs.Given.{answers_of}
 use Rattle.ioc_events.specs.declared.event.Entry.{Entry}
 use Rattle.ioc_events.specs.Step.{names}
 use Rattle.ioc_holding.specs.Held.{Holds}
 use Rattle.ioc_holding.specs.Legal.{map_of}
-use Rattle.ioc_line.specs.declared.entry.Note.{Note}
 use Rattle.ioc_line.specs.declared.room.View.{View}
-use Rattle.ioc_journal.specs.Account.{Call, AddedByBoth}
+use Rattle.ioc_journal.specs.Account.{Call}
 use Rattle.ioc_set.specs.Held.{now_of}
-use Rattle.ioc_set.specs.NoCalls.{no_call}
 use Rattle.ioc_set.specs.SetStore.{world_of}
 use Rattle.ioc_held.specs.Holding.{Pass, HeldView, held_view, numbers_of, IsHeld, Serves}
-use Rattle.ioc_held.specs.Puts.{puts_keys, AreMoved}
+use Rattle.ioc_held.specs.Puts.{AreMoved}
 use Rattle.ioc_held.proofs.Keys.{key_there}
 use Rattle.ioc_held.proofs.Serving.{one_there, owner_on, entry_is, only}
 use Rattle.ioc_held.proofs.Places.{place_alike, notify_is_call}

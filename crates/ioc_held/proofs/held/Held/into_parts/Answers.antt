@@ -1,4 +1,4 @@
-use Rattle.std.proofs.Common.{◌≡◌, [], Option, Some, None, refl, sym, ◌∙◌, subst}
+use Rattle.std.proofs.Common.{[], Option, refl, sym, ◌∙◌, subst}
 use Rattle.crossbeam_utils.specs.Seq.{cell_view}
 use Rattle.ioc_line.specs.declared.room.View.{View}
 use Rattle.ioc_holding.specs.Legal.{map_of}

@@ -1,6 +1,5 @@
-use Rattle.std.proofs.Common.{◌≡◌, ℕ, List, refl, sym, ap, ◌∙◌, subst, inl}
+use Rattle.std.proofs.Common.{◌≡◌, List, refl, sym, ap, ◌∙◌, subst}
 use Rattle.crossbeam_utils.specs.Seq.{cell_view}
-use Rattle.ioc_put_table.specs.Counts.{holders_in}
 use Rattle.ioc_line.specs.declared.entry.Note.{Note}
 use Rattle.ioc_line.specs.declared.room.View.{View}
 use Rattle.ioc_line.specs.Key.{Key}

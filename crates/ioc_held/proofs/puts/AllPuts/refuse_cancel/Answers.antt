@@ -1,22 +1,17 @@
-use Rattle.std.proofs.Common.{◌≡◌, ℕ, Bool, List, refl, sym, ap, ◌∙◌, subst}
-use Rattle.crossbeam_utils.specs.Seq.{cell_view}
+use Rattle.std.proofs.Common.{List, sym, ap, ◌∙◌, subst}
 use Rattle.ioc_values.specs.declared.error.IocError.TheVariants.{Stale}
-use Rattle.ioc_ledger.specs.Requests.{None}
 use Rattle.ioc_device.specs.declared.Answer.{Answer}
 use Rattle.ioc_notify.specs.Living.{is_live}
-use Rattle.ioc_store.specs.World.{World, begun_at}
+use Rattle.ioc_store.specs.World.{begun_at}
 use Rattle.ioc_store.specs.Given.{Answers}
-use Rattle.ioc_events.specs.declared.event.Event.TheVariants.{Cancel, IsLive}
-use Rattle.ioc_events.specs.declared.event.Entry.{Entry}
-use Rattle.ioc_events.specs.declared.reply.Reply.TheVariants.{Live as Live-reply, Refused}
-use Rattle.ioc_events.specs.Step.{Stepped, stepped}
+use Rattle.ioc_events.specs.declared.event.Event.TheVariants.{Cancel}
+use Rattle.ioc_events.specs.declared.reply.Reply.TheVariants.{Refused}
 use Rattle.ioc_line.specs.declared.entry.Note.{Note}
 use Rattle.ioc_line.specs.Line.{Continues}
-use Rattle.ioc_holding.specs.Legal.{IsLegal, IsSound, AreLiveAlike, map_of}
-use Rattle.ioc_journal.specs.Account.{MayFollow, Added, Call}
-use Rattle.ioc_held.specs.Puts.{PutsView, puts_view, puts_keys, told_at, AreCounted}
+use Rattle.ioc_holding.specs.Legal.{IsLegal, IsSound, map_of}
+use Rattle.ioc_held.specs.Puts.{PutsView, puts_keys, told_at, AreCounted}
 use Rattle.ioc_held.proofs.Counted.{counted_on}
-use Rattle.ioc_held.proofs.Telling.{entry_with, same_live, live_at, told_follows, told_alike, ask_comes, stale_comes}
+use Rattle.ioc_held.proofs.Telling.{entry_with, same_live, live_at, told_follows, told_alike, stale_comes}
 use Rattle.ioc_held.proofs.puts.AllPuts.refuse_cancel.Goals as goal
 
 pub keep_told-receipt-requires-clause-follows : goal.keep_told-receipt-requires-clause-follows

@@ -1,0 +1,128 @@
+//! Puts with notification that are given up by calls of the engine.
+ghost use Rattle.std.specs.Prelude.{◌≡◌, ◌⊎◌, All, IfOk, IfErr, IfNone, OnErr};
+ghost use Rattle.std.specs.Option.{IfSome};
+ghost use Rattle.ioc_values.specs.declared.error.IocError.TheVariants.{Stopped};
+ghost use Rattle.ioc_journal.specs.Places.{IsNoPlace};
+ghost use Rattle.ioc_held.specs.Holding.{IsSoundlyHeld};
+ghost use Rattle.ioc_engine.specs.Cancelled.{WasCancelled, WasGivenUp, WasNotLive};
+
+use crate::engine::Engine;
+use ioc_device::Device;
+use ioc_events::Reply;
+use ioc_held::Held;
+use ioc_held::cancel_on;
+use ioc_journal::{Base, Desk, Receipt};
+use ioc_notify::NotifyId;
+use ioc_record::RecordKind;
+use ioc_set::Workplace;
+use ioc_topology::Locked;
+use ioc_values::IocError;
+use std::alloc::Global;
+use std::sync::Wait;
+
+// What always holds of each of these sets.
+fn all_sound<K: RecordKind + Drop, B: Base<K>, D: Drop>(sets: &[Held<K, B, D>])
+    ensures { All (IsSoundlyHeld K.rules B.base) sets.now }
+{
+    for set in sets {
+        set.is_sound();
+    }
+}
+
+impl<K: RecordKind + Drop, B: Base<K>, D: Device> Engine<K, B, D> {
+    // Refuses to give up a put with notification that isn't live; nothing is done where it is.
+    fn refuse_stale<R: Wait>(
+        &self,
+        rt: &R,
+        alloc: Global,
+        desk: &mut Desk<K, B>,
+        number: NotifyId,
+        moment: u64,
+    ) -> Result<Option<(Reply, Receipt<K, B>)>, IocError>
+        ensures stale { IfOk result (λ told. IfSome told (λ x. WasNotLive D K.rules B.base number desk.old moment x.0 desk.new)) }
+        ensures receipt { IfOk result (λ told. IfSome told (λ x. x.1 ≡ desk.new.seen)) }
+        ensures live { IfOk result (λ told. IfNone told (desk.new ≡ desk.old)) }
+        ensures refused { IfErr result IsNoPlace }
+        ensures err { OnErr result (desk.new ≡ desk.old) }
+    {
+        let mut puts = self.puts.lock(rt);
+        if puts.is_live(number) {
+            return Ok(None);
+        }
+        let told = puts.refuse_cancel(rt, alloc, &self.book, desk, number, moment)?;
+        Ok(Some(told))
+    }
+
+    // Gives up a put with notification in all sets on which it is live, if these are all that have it.
+    fn give_up<R: Wait>(
+        &self,
+        rt: &R,
+        alloc: Global,
+        desk: &mut Desk<K, B>,
+        workplace: &mut Workplace<K, D>,
+        number: NotifyId,
+        moment: u64,
+    ) -> Result<Option<(Reply, Receipt<K, B>)>, IocError>
+        ensures gave_up { IfOk result (λ told. IfSome told (λ x. WasGivenUp D K.rules B.base number desk.old moment x.0 desk.new)) }
+        ensures receipt { IfOk result (λ told. IfSome told (λ x. x.1 ≡ desk.new.seen)) }
+        ensures missing { IfOk result (λ told. IfNone told (desk.new ≡ desk.old)) }
+        ensures refused { IfErr result IsNoPlace }
+        ensures err { OnErr result (desk.new ≡ desk.old) }
+    {
+        let mut taken = self.sets.take_where(rt, alloc, &|held: &Held<K, B, D>| {
+            held.has_live(number)
+        })?;
+        let mut puts = self.puts.lock(rt);
+        let given = cancel_on(
+            rt,
+            alloc,
+            &self.book,
+            desk,
+            workplace,
+            &mut puts,
+            taken.sets.as_mut_slice(),
+            number,
+            moment,
+        );
+        drop(puts);
+        all_sound(taken.sets.as_slice());
+        self.sets.put_back(rt, taken);
+        given
+    }
+
+    /// Gives up the put with notification of this number, in one event of all lock sets that have it: no record has it any more, it waits nowhere, and it
+    /// doesn't end. The sets are taken out of their cells for that, under the topology guard.
+    ///
+    /// # Errors
+    ///
+    /// [`IocError::Stopped`]: the engine was closed. [`IocError::JournalFull`], [`IocError::NoMemory`]. Nothing has changed then. That it isn't live
+    /// ([`IocError::Stale`]) is a reply, and stands in the journal.
+    pub fn cancel<R: Wait>(
+        &self,
+        rt: &R,
+        alloc: Global,
+        desk: &mut Desk<K, B>,
+        workplace: &mut Workplace<K, D>,
+        number: NotifyId,
+        moment: u64,
+    ) -> Result<(Reply, Receipt<K, B>), IocError>
+        ensures cancelled { IfOk result (λ x. WasCancelled D K.rules B.base number desk.old moment x.0 desk.new) }
+        ensures receipt { IfOk result (λ x. x.1 ≡ desk.new.seen) }
+        ensures refused { IfErr result (λ error. (error ≡ Stopped) ⊎ IsNoPlace error) }
+        ensures err { OnErr result (desk.new ≡ desk.old) }
+    {
+        if self.is_closed() {
+            return Err(IocError::Stopped);
+        }
+        let _guard = self.sets.guard_topology(rt);
+        for _ in rt.forever() {
+            if let Some(told) = self.refuse_stale(rt, alloc, desk, number, moment)? {
+                return Ok(told);
+            }
+            if let Some(told) = self.give_up(rt, alloc, desk, workplace, number, moment)? {
+                return Ok(told);
+            }
+        }
+        unreachable!()
+    }
+}
