@@ -72,6 +72,7 @@ impl<K: RecordKind + Drop, B: Base<K>, D: Device> Engine<K, B, D> {
         let mut taken = self.sets.take_where(rt, alloc, &|held: &Held<K, B, D>| {
             held.has_live(number)
         })?;
+        let sets = taken.sets.as_mut_slice();
         let mut puts = self.puts.lock(rt);
         let given = cancel_on(
             rt,
@@ -80,12 +81,12 @@ impl<K: RecordKind + Drop, B: Base<K>, D: Device> Engine<K, B, D> {
             desk,
             workplace,
             &mut puts,
-            taken.sets.as_mut_slice(),
+            sets,
             number,
             moment,
         );
         drop(puts);
-        all_sound(taken.sets.as_slice());
+        all_sound(sets);
         self.sets.put_back(rt, taken);
         given
     }

@@ -11,9 +11,9 @@ returns-clause-gave_up g c =
     IfOk-weaker c.cancel_on-given.result _ _ (λ given some. IfSome_then given some (λ x gave. record {
         puts = c.deref_mut.result.now;
         puts_then = c.cancel_on-given.new.all;
-        before = c.as_mut_slice.result.now;
+        before = c.as_mut_slice-sets.result.now;
         after = c.cancel_on-given.new.held;
-        sound = subst Sound (sym c.as_mut_slice.ensures.value) c.in_ok-taken.ensures.sound;
+        sound = subst Sound (sym c.as_mut_slice-sets.ensures.value) c.in_ok-taken.ensures.sound;
         gave_up = gave;
-        sound_then = subst Sound c.as_slice.ensures.value c.all_sound.ensures;
+        sound_then = c.all_sound.ensures;
       })) c.cancel_on-given.ensures.gave_up
