@@ -1,5 +1,5 @@
 -- The keys of a set's records.
-use Rattle.std.proofs.Common.{Ordering, Less, Equal, Greater, ◌≡◌, ℕ, zero, suc, true, List, [], ◌∷◌, sym, ap, ◌∙◌, refl, inl, inr, ⊎_elim, arith}
+use Rattle.std.proofs.Common.{subst, Ordering, Less, Equal, Greater, ◌≡◌, ℕ, zero, suc, true, List, [], ◌∷◌, sym, ap, ◌∙◌, refl, inl, inr, ⊎_elim, arith}
 use Rattle.std.specs.Prelude.{Contains}
 use Rattle.std.specs.Ordering.{nat_cmp, eq_by_cmp, is_eq}
 use Rattle.std.specs.FinMap.{FinMap, keys, contains_key, contains_key-keys, nat_cmp-IsAntisymmetric}
@@ -31,3 +31,10 @@ tie x y e = nat_cmp-IsAntisymmetric x y (equal_of (nat_cmp x y) e)
 
 pub there_key : {X : Type 0} (m : FinMap nat_cmp X) (n : ℕ) → contains_key m n ≡ true → Contains (keys m) n
 there_key m n has = Contains-from_any tie n (keys m) (sym (contains_key-keys m n) ∙ has)
+
+-- with the key of the puts with notification, keys of records are none of desks
+pub no_desks_with : (born now : List Key) → ((key : Key) → Has key born → key.0 ≡ 0) → now ≡ (2, 0) ∷ born → (key : Key) → Has key now → key.0 ≡ 1 → ⊥
+no_desks_with born now records is key has one =
+    ⊎_elim (λ (e : (2, 0) ≡ key). let z = ap (λ (p : Key). p.0) e in absurd (omega (arith, one, z)))
+    (λ (t : Has key born). let z = records key t in absurd (omega (arith, one, z)))
+    (subst (λ (ks : List Key). Has key ks) is has)

@@ -1,8 +1,17 @@
-use Rattle.std.proofs.Common.{◌≡◌, sym, ap, subst, ⊎_elim, List, arith}
+use Rattle.std.proofs.Common.{◌≡◌, ap, arith}
 use Rattle.crossbeam_utils.specs.Seq.{cell_view}
 use Rattle.ioc_line.specs.declared.room.View.{View}
-use Rattle.ioc_line.specs.Key.{Key, Has}
+use Rattle.ioc_start.proofs.Keys.{no_desks_with}
 use Rattle.ioc_start.proofs.starting.new_lists.Goals as goal
 
 pub claim_key-pass-requires-clause-fresh : goal.claim_key-pass-requires-clause-fresh
 claim_key-pass-requires-clause-fresh g c has = let record_key = c.requires.born (2, 0) has in absurd (omega (arith, record_key))
+
+pub returns-in_err-puts-clause-born : goal.returns-in_err-puts-clause-born
+returns-in_err-puts-clause-born g c = no_desks_with _ _ c.requires.born (ap (λ (v : View). v.born) c.claim_key-pass.ensures.kept.1)
+
+pub returns-in_err-once-clause-born : goal.returns-in_err-once-clause-born
+returns-in_err-once-clause-born g c = no_desks_with _ _ c.requires.born (ap (λ (v : View). v.born) c.claim_key-pass.ensures.kept.1)
+
+pub returns-clause-born : goal.returns-clause-born
+returns-clause-born g c = no_desks_with _ _ c.requires.born (ap (λ (v : View). v.born) c.claim_key-pass.ensures.kept.1)
