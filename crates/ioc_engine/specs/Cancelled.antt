@@ -1,6 +1,6 @@
 -- A put with notification that was given up by a call of the engine.
 -- Application Developer's Guide, "Put with Notification" (dbNotifyCancel). The journal is this project's own.
-use Rattle.std.specs.Prelude.{◌≡◌, ◌⊎◌, ℕ, List, All}
+use Rattle.std.specs.Prelude.{◌⊎◌, ℕ, List, All}
 use Rattle.ioc_record.specs.RecordRules.{RecordRules}
 use Rattle.ioc_store.specs.World.{World}
 use Rattle.ioc_events.specs.declared.reply.Reply.{Reply}

@@ -9,8 +9,7 @@ ghost use Rattle.ioc_engine.specs.Cancelled.{WasCancelled, WasGivenUp, WasNotLiv
 use crate::engine::Engine;
 use ioc_device::Device;
 use ioc_events::Reply;
-use ioc_held::Held;
-use ioc_held::cancel_on;
+use ioc_held::{Held, cancel_on};
 use ioc_journal::{Base, Desk, Receipt};
 use ioc_notify::NotifyId;
 use ioc_record::RecordKind;
@@ -69,21 +68,15 @@ impl<K: RecordKind + Drop, B: Base<K>, D: Device> Engine<K, B, D> {
         ensures refused { IfErr result IsNoPlace }
         ensures err { OnErr result (desk.new ≡ desk.old) }
     {
-        let mut taken = self.sets.take_where(rt, alloc, &|held: &Held<K, B, D>| {
-            held.has_live(number)
-        })?;
+        let mut taken = self.sets.take_where(
+            rt,
+            alloc,
+            &|held: &Held<K, B, D>| { held.has_live(number) },
+        )?;
         let sets = taken.sets.as_mut_slice();
         let mut puts = self.puts.lock(rt);
         let given = cancel_on(
-            rt,
-            alloc,
-            &self.book,
-            desk,
-            workplace,
-            &mut puts,
-            sets,
-            number,
-            moment,
+            rt, alloc, &self.book, desk, workplace, &mut puts, sets, number, moment,
         );
         drop(puts);
         all_sound(sets);

@@ -1,4 +1,4 @@
-use Rattle.std.proofs.Common.{ℕ, ◌<◌, ◌≡◌, length, get_or, subst, ◌∙◌, below_more, rules}
+use Rattle.std.proofs.Common.{ℕ, ◌<◌, length, get_or, subst, ◌∙◌, below_more, rules}
 use Rattle.ioc_held.specs.Holding.{HeldView, IsSoundlyHeld}
 use Rattle.ioc_engine.proofs.SameElement.{get_or_same}
 use Rattle.ioc_engine.proofs.cancelling.all_sound.Goals as goal
