@@ -1,3 +1,2 @@
 mod Ending
 mod Refusals
-mod SameElement

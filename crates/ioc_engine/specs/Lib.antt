@@ -1,3 +1,4 @@
+pub mod Sent
 pub mod Served
 pub mod Ended
 pub mod Linked

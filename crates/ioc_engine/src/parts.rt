@@ -1,8 +1,10 @@
 //! Which records are in one lock set.
-ghost use Rattle.std.specs.Prelude.{◌≡◌, All, IfOk, IfErr};
+ghost use Rattle.std.specs.Prelude.{◌≡◌, ◌⊎◌, ℕ, map, All, Contains, IfOk, IfErr};
 ghost use Rattle.ioc_held.specs.Holding.{numbers_of};
 ghost use Rattle.ioc_topology.specs.Change.{IsRefused};
-ghost use Rattle.ioc_engine.specs.Seen.{IsPartSeen};
+ghost use Rattle.ioc_topology.specs.Gathered.{IsMarked};
+ghost use Rattle.ioc_values.specs.declared.error.IocError.TheVariants.{NoMemory, Stopped};
+ghost use Rattle.ioc_engine.specs.Seen.{HaveEach, IsPartSeen};
 
 use crate::engine::Engine;
 use ioc_held::Held;
@@ -28,8 +30,10 @@ fn numbers_in<K: RecordKind + Drop, B: Base<K>, D: Drop>(
     Ok(numbers)
 }
 
-// These records have been seen.
-fn mark_all(numbers: &[RecordNo], marks: &mut [bool]) {
+// These records have been seen: no other gets a mark.
+fn mark_all(numbers: &[RecordNo], marks: &mut [bool])
+    ensures { (q : ℕ) → IsMarked marks.new q → IsMarked marks.old q ⊎ Contains numbers.now q }
+{
     for number in numbers {
         if let Some(mark) = marks.get_mut(number.index()) {
             *mark = true;
@@ -46,6 +50,7 @@ impl<K: RecordKind + Drop, B: Base<K>, D: Drop> Engine<K, B, D> {
         number: RecordNo,
     ) -> Result<Vec<RecordNo>, IocError>
         ensures seen { IfOk result (λ v. IsPartSeen D K.rules B.base v.items) }
+        ensures here { IfOk result (λ v. Contains v.items number) }
         ensures refused { IfErr result (IsRefused self.now number) }
     {
         for _ in rt.forever() {
@@ -63,12 +68,15 @@ impl<K: RecordKind + Drop, B: Base<K>, D: Drop> Engine<K, B, D> {
     }
 
     /// The records of each set, as they were while its lock was held: sets that link changes part and join meanwhile may be seen before or after that.
+    /// Each record is in one list at least, and in one alone where no link is changed meanwhile.
     ///
     /// # Errors
     ///
     /// [`IocError::Stopped`]: the engine was closed. [`IocError::NoMemory`].
     pub fn parts<R: Wait>(&self, rt: &R, alloc: Global) -> Result<Vec<Vec<RecordNo>>, IocError>
-        ensures { IfOk result (λ all. All (λ v. IsPartSeen D K.rules B.base v.items) all.items) }
+        ensures seen { IfOk result (λ all. All (λ v. IsPartSeen D K.rules B.base v.items) all.items) }
+        ensures each { IfOk result (λ all. HaveEach (map (λ v. v.items) all.items) self.now) }
+        ensures refused { IfErr result (λ error. (error ≡ Stopped) ⊎ (error ≡ NoMemory)) }
     {
         if self.is_closed() {
             return Err(IocError::Stopped);

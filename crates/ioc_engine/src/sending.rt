@@ -1,4 +1,6 @@
 //! What events of the engine have sent.
+ghost use Rattle.ioc_engine.specs.Sent.{once_in, AreAdded};
+
 use crate::engine::Engine;
 use ioc_journal::Base;
 use ioc_once::OnceList;
@@ -22,7 +24,9 @@ impl<K, B: Base<K>> Ledger for OnceTickets<K, B> {
 }
 
 // The records among these items that are to be requested once more are put on the list.
-fn add_once<L: Ledger>(items: &[OutboxItem], once: &mut OnceList<L>) {
+fn add_once<L: Ledger>(items: &[OutboxItem], once: &mut OnceList<L>)
+    ensures { AreAdded (once_in items.now) once.old once.new }
+{
     for item in items {
         if let OutboxItem::Once(number) = item {
             once.add(*number);
@@ -32,7 +36,8 @@ fn add_once<L: Ledger>(items: &[OutboxItem], once: &mut OnceList<L>) {
 
 impl<K: RecordKind + Drop, B: Base<K>, D: Drop> Engine<K, B, D> {
     // What the last event in this workplace has sent is done, while no lock is held: records that are to be requested once more wait for it. Nobody
-    // serves them yet, and posted events and changes of scan lists go nowhere yet.
+    // serves them yet, and posted events and changes of scan lists go nowhere yet. No clause sees the list, which lies under a lock: that of
+    // `add_once` says what becomes of it.
     pub(crate) fn do_sent<R: Wait>(&self, rt: &R, workplace: &Workplace<K, D>) {
         let items = workplace.items();
         if !items.is_empty() {

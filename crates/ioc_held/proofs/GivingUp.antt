@@ -6,7 +6,6 @@ use Rattle.ioc_put_table.specs.Counts.{holders_in, has_by}
 use Rattle.std.proofs.Common.{◌≡◌, ◌≢◌, Bool, cond, ℕ, zero, suc, ◌<◌, List, [], ◌∷◌, ◌++◌, length, get_or, Option, Some, None, Result, Ok, Err, refl, sym, ap, subst, ◌∙◌, below_more, arith, length-append}
 use Rattle.std.specs.Prelude.{IfOk, IfNone, OnErr}
 use Rattle.std.specs.Option.{IfSome}
-use Rattle.std.proofs.lemmas.Grind.{common_steps}
 use Rattle.atomic_table.specs.Seated.{TableId}
 use Rattle.crossbeam_utils.specs.Seq.{cell_view}
 use Rattle.ioc_record.specs.RecordRules.{RecordRules}
@@ -23,9 +22,6 @@ use Rattle.ioc_set.specs.Held.{Held, now_of}
 use Rattle.ioc_held.specs.Holding.{Pass, HeldView, IsOwner, held_view, seen_by}
 use Rattle.ioc_held.specs.GivingUp.{IsLent, EachIsLent, sets_of, HeldGaveUp, AreSameSets}
 use Rattle.ioc_held.proofs.Dealing.{dealt_owner}
-
-pub get_or_same : {X : Type 0} (xs : List X) (k : ℕ) (d e : X) → k < length xs → get_or xs k d ≡ get_or xs k e
-get_or_same xs k d e lt = grind (arith, common_steps)
 
 front : {X : Type 0} (xs ys : List X) (i : ℕ) (d : X) → i < length xs → get_or (xs ++ ys) i d ≡ get_or xs i d
 front [] ys i d lt = absurd (omega (arith, lt))

@@ -4,4 +4,4 @@
 pub mod laws;
 pub mod put_table;
 
-pub use put_table::PutTable;
+pub use put_table::{PutTable, holders_by};

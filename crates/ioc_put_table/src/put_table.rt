@@ -152,8 +152,8 @@ fn add_on_one(items: &mut Vec<Live>, number: NotifyId, holders: u64)
     }
 }
 
-// How many have the one of this number by its first line.
-fn holders_by(items: &[Live], number: NotifyId) -> u64
+/// How many have the put with notification of this number by its first line; 0 where there is no line of it.
+pub fn holders_by(items: &[Live], number: NotifyId) -> u64
     ensures { result ≡ holders_of number items.now }
 {
     for line in items {

@@ -3,7 +3,7 @@ use Rattle.std.proofs.Common.{◌≡◌, ◌≢◌, ℕ, ◌<◌, List, ◌++◌
 use Rattle.std.specs.Prelude.{IsSome, is_some, Contains}
 use Rattle.std.specs.List.{AllPairs}
 use Rattle.std.specs.FinMap.{get, contains_key}
-use Rattle.std.proofs.lemmas.Grind.{common_steps}
+use Rattle.std.proofs.lemmas.List.{get_or_default}
 use Rattle.atomic_table.specs.Seated.{TableId}
 use Rattle.ioc_notify.specs.Living.{holders_of}
 use Rattle.ioc_record.specs.RecordRules.{RecordRules}
@@ -26,9 +26,6 @@ use Rattle.ioc_cancelling.specs.Laws.{cancel_note, ShareNone, IsHeldSoundly, IsG
 use Rattle.ioc_together.specs.Passes.{Slot, view_in, AreTakenOver, puts_key}
 use Rattle.ioc_together.specs.Sets.{EachGivesUp, EachIsHeldBy, HaveAll, cancel_entry}
 use Rattle.ioc_together.proofs.TakingOver.{continues_on}
-
-pub get_or_same : {X : Type 0} (xs : List X) (k : ℕ) (d e : X) → k < length xs → get_or xs k d ≡ get_or xs k e
-get_or_same xs k d e lt = grind (arith, common_steps)
 
 module _ {R : Type 0} (k : RecordRules R) (base : World R) where
   -- a holder knows its records in a longer list without its keys
@@ -96,7 +93,7 @@ module _ {R : Type 0} (k : RecordRules R) (base : World R) where
       known = subst (λ (l : List Note). IsGivenUpByAll k number sets (map_of k base log) (map_of k base l)) (sym added.ends) (gone_on log added.goes_on added.legal added.sound added.desk added.call added.own).known
 
       pub held_then : (after : List (Held R D)) → EachGivesUp k number sets after → (i : ℕ) (d : Held R D) → i < length sets → Holds k (map_of k base longer) (now_of (get_or after i d))
-      held_then after gives i d lt = known.held (get_or sets i d) (get_or after i d) (i, lt, get_or_same sets i (get_or sets i d) d lt) (gives i d lt)
+      held_then after gives i d lt = known.held (get_or sets i d) (get_or after i d) (i, lt, get_or_default sets i (get_or sets i d) d lt) (gives i d lt)
 
       pub nobody_then : holders_of number (map_of k base longer).live ≡ 0
       nobody_then = known.nobody

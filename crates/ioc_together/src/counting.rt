@@ -1,25 +1,14 @@
 //! How many have a put with notification in several sets together.
 ghost use Rattle.std.specs.Prelude.{◌≡◌, ◌<◌, ℕ, true, length, slice_index_or, IsTrue};
 ghost use Rattle.std.specs.Option.{IfSome};
-ghost use Rattle.ioc_notify.specs.Living.{holders_of, is_live};
+ghost use Rattle.ioc_notify.specs.Living.{is_live};
 ghost use Rattle.ioc_set.specs.Held.{Held};
 ghost use Rattle.ioc_cancelling.specs.Laws.{holders_in_all};
 
-use ioc_notify::{Live, NotifyId};
+use ioc_notify::NotifyId;
+use ioc_put_table::holders_by;
 use ioc_record::RecordKind;
 use ioc_set::LockSet;
-
-// How many have it by these lines.
-fn holders_by(live: &[Live], number: NotifyId) -> u64
-    ensures { result ≡ holders_of number live.now }
-{
-    for line in live {
-        if line.number == number {
-            return line.holders;
-        }
-    }
-    0
-}
 
 /// How many have a put with notification in these sets together; none where a number of 64 bits can't tell.
 pub fn total_in<K: RecordKind, D>(sets: &[LockSet<K, D>], number: NotifyId) -> Option<u64>

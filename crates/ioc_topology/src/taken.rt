@@ -1,5 +1,5 @@
 //! Sets that are taken out of their cells for a while, for a call that is about all of them at once.
-ghost use Rattle.std.specs.Prelude.{true, All, IfOk, IfSome};
+ghost use Rattle.std.specs.Prelude.{◌≡◌, true, All, IfOk, IfSome};
 ghost use Rattle.std.specs.Borrow.{Bor};
 ghost use Rattle.std.specs.Fn.{FnReturnsAt};
 
@@ -10,8 +10,7 @@ use std::mem;
 use std::sync::Wait;
 
 /// Sets that were taken out of their cells. Who looks for one of their records meanwhile finds a set of no records, and looks again, as
-/// while a record moves.
-#[derive(Drop)]
+/// while a record moves. It can't be dropped: whoever has it has to put the sets back.
 pub struct Taken<S: Locked> {
     /// The sets. Who works on them adds none and takes none away.
     pub sets: Vec<S>,
@@ -50,10 +49,19 @@ impl<S: Locked> Directory<S> {
 
     /// Puts the sets back into their cells, where they are found again.
     pub fn put_back<R: Wait>(&self, rt: &R, taken: Taken<S>) {
-        for (cell, set) in taken.cells.into_iter().zip(taken.sets) {
-            *cell.lock(rt) = set;
+        let Taken { sets, cells } = taken;
+        for (cell, set) in cells.into_iter().zip(sets) {
+            let mut guard = cell.lock(rt);
+            put_in(&mut *guard, set);
         }
     }
+}
+
+// The set lies in the cell from now on.
+fn put_in<S: Locked>(cell: &mut S, set: S)
+    ensures { cell.new ≡ set }
+{
+    *cell = set;
 }
 
 // The set of a cell, if it meets the test; a set of no records is left there.

@@ -1,9 +1,10 @@
 use Rattle.std.proofs.Common.{◌≡◌, ◌≢◌, ℕ, ◌<◌, Option, Some, sym, ap, ◌∙◌, length, get_or, get_or-set_other, get_or-set_same, below_more, arith, rules}
+use Rattle.std.proofs.lemmas.List.{get_or_default}
 use Rattle.std.specs.Prelude.{slice_set}
 use Rattle.crossbeam_utils.specs.Seq.{cell_view}
 use Rattle.ioc_set.specs.Held.{Held}
 use Rattle.ioc_held.specs.Holding.{Pass, HeldView, held_view, seen_by}
-use Rattle.ioc_held.proofs.GivingUp.{get_or_same, owns_at, never_empty}
+use Rattle.ioc_held.proofs.GivingUp.{owns_at, never_empty}
 use Rattle.ioc_held.proofs.giving_up.take_back_all.Goals as goal
 
 pub unreachable-requires : goal.unreachable-requires
@@ -52,8 +53,8 @@ loop-i-preserved g c =
       done = λ j d e f lt. below_more P i
           (λ j below d e f. let apart : j ≢ i = omega arith in get_or-set_other c.loop-i.held i j c.new.result d apart ∙ inv.done j d e f below)
           (λ d e f. get_or-set_same c.loop-i.held i c.new.result d inside ∙ c.new.ensures
-          ∙ ap (λ (h : Held g.row.K.Denot g.row.D.Denot). held_view h (cell_view c.in-Some.own).seen) (set_is ∙ get_or_same sets i set e within)
-          ∙ ap (λ (s : Option Pass). held_view (get_or sets i e) (seen_by s)) (sym slot_is ∙ get_or_same passes i slot f beside))
+          ∙ ap (λ (h : Held g.row.K.Denot g.row.D.Denot). held_view h (cell_view c.in-Some.own).seen) (set_is ∙ get_or_default sets i set e within)
+          ∙ ap (λ (s : Option Pass). held_view (get_or sets i e) (seen_by s)) (sym slot_is ∙ get_or_default passes i slot f beside))
           j lt d e f;
       sets = λ j e le. let apart : j ≢ i = omega arith in get_or-set_other c.loop-i.sets i j c.replace-set.new.dest e apart ∙ inv.sets j e (omega arith);
       passes = λ j f le. let apart : j ≢ i = omega arith in get_or-set_other c.loop-i.passes i j c.take.new.self f apart ∙ inv.passes j f (omega arith);

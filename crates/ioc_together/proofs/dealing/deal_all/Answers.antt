@@ -8,7 +8,7 @@ use Rattle.ioc_holding.specs.Held.{Cover}
 use Rattle.ioc_set.specs.Held.{Held, now_of}
 use Rattle.ioc_cancelling.specs.Laws.{ShareNone}
 use Rattle.ioc_together.specs.Passes.{Slot, view_of, keys_of, IsDealt}
-use Rattle.ioc_together.proofs.Following.{get_or_same}
+use Rattle.std.proofs.lemmas.List.{get_or_default}
 use Rattle.ioc_together.proofs.Keys.{others_cover, puts_among}
 use Rattle.ioc_together.proofs.dealing.deal_all.Goals as goal
 
@@ -25,7 +25,7 @@ loop-i-preserved g c =
     let inside : i < length c.loop-i.passes = search rules in
     let owns = ap (λ (v : View). v.owns) e.kept.1 in
     let seen = ap (λ (v : View). v.seen) inv.holds in
-    let here : (d : Held g.row.K.Denot g.row.D.Denot) → get_or sets i d ≡ set = λ d. get_or_same sets i d set within ∙ sym c.index-sets-i.is in
+    let here : (d : Held g.row.K.Denot g.row.D.Denot) → get_or sets i d ≡ set = λ d. get_or_default sets i d set within ∙ sym c.index-sets-i.is in
     let P : ℕ → Type 0 = λ j. (d : Held g.row.K.Denot g.row.D.Denot) (s : Slot) → IsDealt c.args.keeper.now.table_id (view_of c.args.keeper.now).seen (get_or sets j d) (get_or (slice_set c.loop-i.passes i (Some own)) j s) in
     record {
       table = e.kept.0 ∙ inv.table;
