@@ -1,2 +1,4 @@
+mod Adding
 mod Ending
+mod Marks
 mod Refusals

@@ -1,6 +1,6 @@
 -- The records of a lock set, as they were seen under its lock.
 -- Application Developer's Guide, "Database Locking, Scanning, and Processing", lock sets.
-use Rattle.std.specs.Prelude.{◌≡◌, ◌<◌, ℕ, List, Any, Contains}
+use Rattle.std.specs.Prelude.{◌≡◌, ℕ, List}
 use Rattle.ioc_record.specs.RecordRules.{RecordRules}
 use Rattle.ioc_store.specs.World.{World}
 use Rattle.ioc_held.specs.Holding.{HeldView, numbers_of, IsSoundlyHeld}
@@ -10,7 +10,3 @@ pub record IsPartSeen {R : Type 0} (D : Type 0) (k : RecordRules R) (base : Worl
   pub held : HeldView R D
   pub sound : IsSoundlyHeld k base held
   pub all : numbers ≡ numbers_of held
-
--- these lists of numbers have each of the first so many
-abbrev pub HaveEach : List (List ℕ) → ℕ → Type 0
-HaveEach parts count = (number : ℕ) → number < count → Any (λ part. Contains part number) parts

@@ -1,10 +1,10 @@
 //! Which records are in one lock set.
-ghost use Rattle.std.specs.Prelude.{◌≡◌, ◌⊎◌, ℕ, map, All, Contains, IfOk, IfErr};
+ghost use Rattle.std.specs.Prelude.{◌≡◌, ◌⊎◌, ◌<◌, ℕ, All, Any, Contains, IfOk, IfErr};
 ghost use Rattle.ioc_held.specs.Holding.{numbers_of};
 ghost use Rattle.ioc_topology.specs.Change.{IsRefused};
 ghost use Rattle.ioc_topology.specs.Gathered.{IsMarked};
 ghost use Rattle.ioc_values.specs.declared.error.IocError.TheVariants.{NoMemory, Stopped};
-ghost use Rattle.ioc_engine.specs.Seen.{HaveEach, IsPartSeen};
+ghost use Rattle.ioc_engine.specs.Seen.{IsPartSeen};
 
 use crate::engine::Engine;
 use ioc_held::Held;
@@ -75,7 +75,7 @@ impl<K: RecordKind + Drop, B: Base<K>, D: Drop> Engine<K, B, D> {
     /// [`IocError::Stopped`]: the engine was closed. [`IocError::NoMemory`].
     pub fn parts<R: Wait>(&self, rt: &R, alloc: Global) -> Result<Vec<Vec<RecordNo>>, IocError>
         ensures seen { IfOk result (λ all. All (λ v. IsPartSeen D K.rules B.base v.items) all.items) }
-        ensures each { IfOk result (λ all. HaveEach (map (λ v. v.items) all.items) self.now) }
+        ensures each { IfOk result (λ all. (q : ℕ) → q < self.now → Any (λ v. Contains v.items q) all.items) }
         ensures refused { IfErr result (λ error. (error ≡ Stopped) ⊎ (error ≡ NoMemory)) }
     {
         if self.is_closed() {
