@@ -14,6 +14,7 @@ use ioc_set::workplace::kept_answers;
 use ioc_set::{LockSet, Workplace};
 use ioc_values::IocError;
 use std::alloc::{AllocError, Global};
+use std::mem;
 use std::sync::Wait;
 
 /// What an event has come to that was done on a set with live puts with notification, and isn't in the journal yet.
@@ -72,10 +73,12 @@ pub(crate) fn run_in<K: RecordKind + Drop, D: Device>(
     ensures answers { IfOk result (λ done. done.1 ≡ answers_of (world_of workplace.new.store).calls) }
     ensures err { OnErr result (set.new ≡ set.old) }
 {
-    // Taken before anything is done: after that nothing may be refused.
-    let mut spare = Vec::with_capacity(alloc, 256)?;
+    // Taken before anything is done: after that nothing may be refused. It is kept for the next event.
+    let mut spare = mem::replace(&mut workplace.journal_spare, Vec::new(alloc));
+    spare.reserve(256)?;
     let reply = do_in(set, workplace, alloc, event, moment)?;
     let answers = kept_answers(&workplace.store.event.calls, &mut spare, alloc);
+    workplace.journal_spare = spare;
     Ok((reply, answers))
 }
 

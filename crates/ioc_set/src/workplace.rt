@@ -22,11 +22,14 @@ pub struct Workplace<K, D> {
     pub frames: Vec<Frame>,
     /// Room for the answers of an event, which are kept in it where no room of their size is to be had.
     pub spare: Vec<Answer>,
+    /// The same for the answers of which a journal keeps a list of its own.
+    pub journal_spare: Vec<Answer>,
     pub ghost no_record: { len store.members.records ≡ 0 },
     pub ghost none_live: { store.event.notifications.live.live ≡ [] },
     pub ghost none_waits: { store.event.notifications.waiting.waiting ≡ [] },
     pub ghost no_frame: { frames.items ≡ [] },
     pub ghost no_answer: { spare.items ≡ [] },
+    pub ghost none_journaled: { journal_spare.items ≡ [] },
 }
 
 /// The answers of these calls, in room of their own: of their size, or else the spare room, which was taken before. So it can't be refused.
@@ -66,6 +69,7 @@ impl<K, D> Workplace<K, D> {
             },
             frames: Vec::new(alloc),
             spare: Vec::new(alloc),
+            journal_spare: Vec::new(alloc),
         })
     }
 

@@ -26,6 +26,7 @@ invariant_of-place g c =
       none_waits = ap (λ (v : World g.row.K.Denot). v.waiting) is ∙ rewired-waiting k c.args.before w c.args.number ∙ waiting_begun c.args.moment rs;
       no_frame = place.no_frame;
       no_answer = place.no_answer;
+      none_journaled = place.none_journaled;
     }
 
 pub returns-clause-left : goal.returns-clause-left

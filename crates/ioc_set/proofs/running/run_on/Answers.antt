@@ -34,6 +34,7 @@ invariant_of-place g c = record {
   none_waits = c.take_back.ensures.waiting;
   no_frame = c.run_event-reply.ensures.empty;
   no_answer = c.kept_answers-answers.ensures.empty;
+  none_journaled = c.args.place.now.none_journaled;
 }
 
 pub returns-clause-did : goal.returns-clause-did

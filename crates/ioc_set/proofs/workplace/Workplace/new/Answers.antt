@@ -11,4 +11,5 @@ invariant_of-result g c = record {
   none_waits = c.in_ok-event.ensures.waiting;
   no_frame = c.new-3.ensures.items;
   no_answer = c.new-4.ensures.items;
+  none_journaled = c.new-5.ensures.items;
 }
