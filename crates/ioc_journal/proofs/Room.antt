@@ -1,6 +1,6 @@
--- Places for calls: the list of entries has as many as the list of notes.
-use Rattle.std.proofs.Common.{◌≡◌, List, length, Result, Ok, Err, inl, inr, ap, ◌∙◌, arith}
-use Rattle.std.specs.Prelude.{IfOk, IfErr}
+-- Places for calls: the list of entries has as many as the list of notes, and an entry is found where it was added.
+use Rattle.std.proofs.Common.{◌≡◌, ℕ, List, [], ◌∷◌, ◌++◌, length, refl, Some, None, Result, Ok, Err, inl, inr, ap, ◌∙◌, arith}
+use Rattle.std.specs.Prelude.{IfOk, IfErr, slice_get}
 use Rattle.ioc_values.specs.declared.error.IocError.{IocError}
 use Rattle.ioc_line.specs.declared.entry.JournalEntry.{JournalEntry}
 use Rattle.ioc_line.specs.declared.entry.Note.{Note}
@@ -10,6 +10,17 @@ use Rattle.ioc_journal.proofs.Calls.{length-calls}
 
 pub as_many : (items : List JournalEntry) (seen : List Note) → items ≡ calls seen → length items ≡ length seen
 as_many items seen is = ap length is ∙ length-calls seen
+
+last_is : (items : List JournalEntry) (e : JournalEntry) → slice_get (items ++ e ∷ []) (length items) ≡ Some e
+last_is [] e = refl
+last_is (x ∷ items) e = last_is items e
+
+-- An entry that was added stands behind those that were there.
+pub stands : (items : List JournalEntry) (e : JournalEntry) (n : ℕ) → n ≡ length items → slice_get (items ++ e ∷ []) n ≡ None → ⊥
+stands items e n is none = let last = last_is items e in let at = ap (slice_get (items ++ e ∷ [])) is in cc
+
+pub is_added : (items : List JournalEntry) (e : JournalEntry) (n : ℕ) (x : JournalEntry) → n ≡ length items → slice_get (items ++ e ∷ []) n ≡ Some x → x ≡ e
+is_added items e n x is found = let last = last_is items e in let at = ap (slice_get (items ++ e ∷ [])) is in cc
 
 module _ (items then : PlacesOf JournalEntry) (seen : List Note) (is : items.filled ≡ calls seen) where
   holds_one : HoldsOne items then → HoldsOne (places_of seen items.held items.limit) (places_of seen then.held then.limit)

@@ -1,10 +1,12 @@
 //! The entries of a journal, and places for more, which are held before they are filled.
 ghost use Rattle.std.specs.Prelude.{◌≡◌, ◌≤◌, ◌+◌, ◌^◌, ◌-◌, [], ◌∷◌, ◌++◌, length, IfOk, IfErr, OnErr, slice_get};
 ghost use Rattle.std.specs.Option.{option_map};
+ghost use Rattle.ioc_journal.specs.Account.{journalled};
 ghost use Rattle.ioc_journal.specs.Places.{AreAllowed, places_of, one_more_held, HoldsOne, HoldsNone};
 
 use crate::base::Base;
 use crate::limits::Limits;
+use ioc_events::Entry;
 use ioc_line::JournalEntry;
 use ioc_values::IocError;
 use std::alloc::Global;
@@ -117,17 +119,17 @@ impl<K, B: Base<K>> Entries<K, B> {
         Ok(Place { share })
     }
 
-    /// Fills a place. It takes no memory.
-    pub fn fill(&mut self, place: Place<K, B>, entry: JournalEntry)
+    /// Fills a place with a call of a desk, which is put together where it lies. It takes no memory.
+    pub fn fill(&mut self, place: Place<K, B>, desk: u64, call: u64, entry: Entry)
         ensures held { self.old.held ≡ self.new.held + 1 }
-        ensures filled { self.new ≡ places_of (self.old.filled ++ entry ∷ []) self.new.held self.old.limit }
+        ensures filled { self.new ≡ places_of (self.old.filled ++ journalled desk call entry ∷ []) self.new.held self.old.limit }
     {
         let Place { mut share } = place;
         self.book.audit(&mut share);
         self.book.sub(&mut share, 1);
         self.pool.merge(share);
         self.held -= 1;
-        self.items.push_reserved(entry);
+        self.items.push_reserved(JournalEntry { desk, call, entry });
     }
 
     /// Takes a place back that isn't filled: it is free again.

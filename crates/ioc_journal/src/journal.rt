@@ -15,7 +15,7 @@ use crate::entries::{Entries, Place};
 use crate::limits::Limits;
 use crate::receipt::Receipt;
 use ioc_events::Entry;
-use ioc_line::{Cell, JournalEntry, Keys, Token, pass};
+use ioc_line::{Cell, Keys, Token, pass};
 use ioc_record::RecordKind;
 use ioc_values::IocError;
 use std::alloc::Global;
@@ -135,14 +135,12 @@ impl<K: RecordKind, B: Base<K>> Journal<K, B> {
         ensures set { (set.new.table_id ≡ set.old.table_id) × (cell_view set.new ≡ holder self.new.filled (cell_view set.old).owns) }
         ensures added { Added K.rules B.base (cell_view set.old).seen (cell_view set.old).owns entry self.old.filled self.new.filled }
     {
-        let made = JournalEntry {
-            desk: desk.number,
-            call: desk.next,
-            entry,
-        };
         let index = self.entries.len() as u64;
-        let pass = pass::append(rt, cell, &mut self.pass, set, &mut desk.pass, &made);
-        self.entries.fill(place, made);
+        self.entries.fill(place, desk.number, desk.next, entry);
+        let Some(made) = self.entries.at(index) else {
+            unreachable!();
+        };
+        let pass = pass::append(rt, cell, &mut self.pass, set, &mut desk.pass, made);
         desk.next += 1;
         Receipt {
             place: index,
@@ -178,16 +176,13 @@ impl<K: RecordKind, B: Base<K>> Journal<K, B> {
         ensures other { (other.new.table_id ≡ other.old.table_id) × (cell_view other.new ≡ holder self.new.filled P.rest) }
         ensures added { AddedByBoth K.rules B.base (cell_view one.old).seen (cell_view one.old).owns (cell_view other.old).seen (cell_view other.old).owns entry self.old.filled self.new.filled }
     {
-        let number = desk.number;
         let call = desk.next;
-        let made = JournalEntry {
-            desk: number,
-            call,
-            entry,
-        };
         let index = self.entries.len() as u64;
-        let pass = deal::<P, R>(rt, cell, &mut self.pass, one, other, &mut desk.pass, &made);
-        self.entries.fill(place, made);
+        self.entries.fill(place, desk.number, call, entry);
+        let Some(made) = self.entries.at(index) else {
+            unreachable!();
+        };
+        let pass = deal::<P, R>(rt, cell, &mut self.pass, one, other, &mut desk.pass, made);
         desk.next = call + 1;
         Receipt {
             place: index,

@@ -1,4 +1,7 @@
 use Rattle.std.proofs.Common.{◌≡◌, ◌≢◌, ◌+◌, ◌<◌, ◌≤◌, List, [], ◌∷◌, ◌++◌, length, refl, sym, ap, ◌∙◌, subst, inl, ⊎_elim, arith, length-append, ap₂}
+use Rattle.std.specs.Option.{option_map}
+use Rattle.std.specs.Borrow.{Bor}
+use Rattle.std.specs.Prelude.{slice_get}
 use Rattle.crossbeam_utils.specs.Seq.{cell_view}
 use Rattle.ioc_line.specs.declared.entry.JournalEntry.{JournalEntry}
 use Rattle.ioc_line.specs.declared.entry.Note.{Note}
@@ -9,8 +12,13 @@ use Rattle.ioc_line.specs.KeyLaws.{has_either}
 use Rattle.ioc_journal.specs.Account.{DeskView, desk_view, desk_key, journalled, calls, Below, IsAccount, Call, AddedByBoth}
 use Rattle.ioc_journal.specs.Places.{PlacesOf}
 use Rattle.ioc_journal.proofs.Calls.{calls-append, length-calls, below_other, no_longer, counted, account_then, below_then, called}
-use Rattle.ioc_journal.proofs.Room.{as_many}
+use Rattle.ioc_journal.proofs.Room.{as_many, stands, is_added}
 use Rattle.ioc_journal.proofs.journal.Journal.append_two.Goals as goal
+
+pub unreachable-requires : goal.unreachable-requires
+unreachable-requires g c =
+    stands c.self.inside.entries.filled (journalled c.desk.inside.number c.desk.inside.next c.args.entry) c.len-index.result c.len-index.ensures.count
+    (sym (ap (λ (p : PlacesOf JournalEntry). slice_get p.filled c.len-index.result) c.fill.ensures.filled) ∙ (sym c.at.ensures ∙ ap (option_map (λ (e : Bor JournalEntry). e.now)) c.in_default.is))
 
 pub deal-pass-requires-clause-apart_desk : goal.deal-pass-requires-clause-apart_desk
 deal-pass-requires-clause-apart_desk g c = λ key a b.
@@ -32,7 +40,10 @@ invariant_of-result g c =
     let k = g.K.RecordKind.rules in
     let leads = c.requires.follows log n next own i.sound e.goes_on.0 e.goes_on.1 i.account.legal in
     let told = ap (λ (v : View). v.seen) e.receipt.2 in
-    let seen = told ∙ ap (λ (v : View). v.seen) e.keeper.1 in
+    let is_made = is_added c.self.inside.entries.filled (journalled n next c.args.entry) c.len-index.result c.in-Some.made.now c.len-index.ensures.count
+    (sym (ap (λ (p : PlacesOf JournalEntry). slice_get p.filled c.len-index.result) c.fill.ensures.filled) ∙ (sym c.at.ensures ∙ ap (option_map (λ (e : Bor JournalEntry). e.now)) c.in-Some.is)) in
+    let noted_so = ap (λ (m : JournalEntry). log ++ noted m (owns ++ own) ∷ []) is_made in
+    let seen = told ∙ (ap (λ (v : View). v.seen) e.keeper.1 ∙ noted_so) in
     record {
       same = e.receipt.0 ∙ i.same;
       holds = e.receipt.2 ∙ ap (λ l. holder l []) (sym told);
@@ -53,12 +64,16 @@ invariant_of-self g c =
     let k = g.K.RecordKind.rules in
     let leads = c.requires.follows log n next own i.sound e.goes_on.0 e.goes_on.1 i.account.legal in
     let made = journalled n next c.args.entry in
-    let seen = ap (λ (v : View). v.seen) e.keeper.1 in
+    let is_made = is_added c.self.inside.entries.filled (journalled n next c.args.entry) c.len-index.result c.in-Some.made.now c.len-index.ensures.count
+    (sym (ap (λ (p : PlacesOf JournalEntry). slice_get p.filled c.len-index.result) c.fill.ensures.filled) ∙ (sym c.at.ensures ∙ ap (option_map (λ (e : Bor JournalEntry). e.now)) c.in-Some.is)) in
+    let noted_so = ap (λ (m : JournalEntry). log ++ noted m (owns ++ own) ∷ []) is_made in
+    let told = ap (λ (v : View). v.seen) e.keeper.1 in
+    let seen = told ∙ noted_so in
     let born = ap (λ (v : View). v.born) e.keeper.1 in
     let known : n < c.self.inside.desks = i.given (desk_key n) (e.born (desk_key n) (subst (Has (desk_key n)) (sym (ap (λ (v : View). v.owns) d.holds)) (inl refl))) refl in
     record {
       same = e.keeper.0 ∙ i.same;
-      keeps = e.keeper.1 ∙ ap₂ keeper (sym seen) (sym born);
+      keeps = e.keeper.1 ∙ ap₂ keeper (sym told) (sym born);
       items_are = ap (λ (p : PlacesOf JournalEntry). p.filled) c.fill.ensures.filled ∙ (ap (λ l. l ++ made ∷ []) i.items_are ∙ (sym (calls-append log (noted made (owns ++ own) ∷ [])) ∙ ap calls (sym seen)));
       sound = i.sound;
       account = subst (IsAccount k g.B.Base.base) (sym seen) (account_then k g.B.Base.base log (cell_view c.desk.inside.pass).seen n next c.args.entry owns own (ap (λ (v : View). v.owns) d.holds) i.account e.goes_on.2 d.below leads);
@@ -79,7 +94,10 @@ invariant_of-desk g c =
     let k = g.K.RecordKind.rules in
     let leads = c.requires.follows log n next own i.sound e.goes_on.0 e.goes_on.1 i.account.legal in
     let told = ap (λ (v : View). v.seen) e.desk.1 in
-    let seen = told ∙ ap (λ (v : View). v.seen) e.keeper.1 in
+    let is_made = is_added c.self.inside.entries.filled (journalled n next c.args.entry) c.len-index.result c.in-Some.made.now c.len-index.ensures.count
+    (sym (ap (λ (p : PlacesOf JournalEntry). slice_get p.filled c.len-index.result) c.fill.ensures.filled) ∙ (sym c.at.ensures ∙ ap (option_map (λ (e : Bor JournalEntry). e.now)) c.in-Some.is)) in
+    let noted_so = ap (λ (m : JournalEntry). log ++ noted m (owns ++ own) ∷ []) is_made in
+    let seen = told ∙ (ap (λ (v : View). v.seen) e.keeper.1 ∙ noted_so) in
     record {
       same = e.desk.0 ∙ d.same;
       holds = e.desk.1 ∙ ap₂ holder (sym told) (ap (λ (v : View). v.owns) d.holds);
@@ -100,7 +118,10 @@ returns-clause-call g c =
     let own = (cell_view c.desk.inside.pass).owns in
     let k = g.K.RecordKind.rules in
     let leads = c.requires.follows log n next own i.sound e.goes_on.0 e.goes_on.1 i.account.legal in
-    let seen = ap (λ (v : View). v.seen) e.desk.1 ∙ ap (λ (v : View). v.seen) e.keeper.1 in
+    let is_made = is_added c.self.inside.entries.filled (journalled n next c.args.entry) c.len-index.result c.in-Some.made.now c.len-index.ensures.count
+    (sym (ap (λ (p : PlacesOf JournalEntry). slice_get p.filled c.len-index.result) c.fill.ensures.filled) ∙ (sym c.at.ensures ∙ ap (option_map (λ (e : Bor JournalEntry). e.now)) c.in-Some.is)) in
+    let noted_so = ap (λ (m : JournalEntry). log ++ noted m (owns ++ own) ∷ []) is_made in
+    let seen = ap (λ (v : View). v.seen) e.desk.1 ∙ (ap (λ (v : View). v.seen) e.keeper.1 ∙ noted_so) in
     subst (λ (v : DeskView). Call k g.B.Base.base v c.args.entry (desk_view n (next + 1) (cell_view c.deal-pass.new.desk).seen)) c.desk.view_is
     (subst (λ (l : List Note). Call k g.B.Base.base (desk_view n next (cell_view c.desk.inside.pass).seen) c.args.entry (desk_view n (next + 1) l)) (sym seen) (called k g.B.Base.base log (cell_view c.desk.inside.pass).seen n next c.args.entry owns own (ap (λ (v : View). v.owns) d.holds) i.account e.goes_on.2 d.below leads))
 
@@ -108,6 +129,14 @@ pub returns-clause-added : goal.returns-clause-added
 returns-clause-added g c =
     let i = c.self.invariant in
     let e = c.deal-pass.ensures in
+    let owns = (cell_view c.args.one.now).owns ++ (cell_view c.args.other.now).owns in
+    let n = c.desk.inside.number in
+    let next = c.desk.inside.next in
+    let log = (cell_view c.self.inside.pass).seen in
+    let own = (cell_view c.desk.inside.pass).owns in
+    let is_made = is_added c.self.inside.entries.filled (journalled n next c.args.entry) c.len-index.result c.in-Some.made.now c.len-index.ensures.count
+    (sym (ap (λ (p : PlacesOf JournalEntry). slice_get p.filled c.len-index.result) c.fill.ensures.filled) ∙ (sym c.at.ensures ∙ ap (option_map (λ (e : Bor JournalEntry). e.now)) c.in-Some.is)) in
+    let noted_so = ap (λ (m : JournalEntry). log ++ noted m (owns ++ own) ∷ []) is_made in
     subst (λ (l : List Note). AddedByBoth g.K.RecordKind.rules g.B.Base.base (cell_view c.args.one.now).seen (cell_view c.args.one.now).owns (cell_view c.args.other.now).seen (cell_view c.args.other.now).owns c.args.entry l (cell_view c.deal-pass.new.master).seen) (ap (λ (p : PlacesOf Note). p.filled) c.self.view_is)
     (record {
       desk = c.desk.inside.number;
@@ -117,7 +146,7 @@ returns-clause-added g c =
       goes_on = e.goes_on.0;
       also_goes_on = e.goes_on.1;
       legal = i.account.legal;
-      ends = ap (λ (v : View). v.seen) e.keeper.1;
+      ends = ap (λ (v : View). v.seen) e.keeper.1 ∙ noted_so;
     })
 
 pub overflow_add-desk : goal.overflow_add-desk
