@@ -1,6 +1,6 @@
 -- What an engine leaves at its end.
 -- Application Developer's Guide, "Database Locking, Scanning, and Processing", lock sets. The journal is this project's own.
-use Rattle.std.specs.Prelude.{◌≡◌, ℕ, List, IsSome, All}
+use Rattle.std.specs.Prelude.{◌≡◌, ℕ, List, [], ◌∷◌, IsSome, All}
 use Rattle.std.specs.FinMap.{get}
 use Rattle.ioc_record.specs.RecordRules.{RecordRules}
 use Rattle.ioc_store.specs.World.{World}
@@ -8,16 +8,24 @@ use Rattle.ioc_topology.specs.Gathered.{HoldEach}
 use Rattle.ioc_line.specs.declared.entry.Note.{Note}
 use Rattle.ioc_holding.specs.Legal.{map_of}
 use Rattle.ioc_journal.specs.Account.{IsAccount}
-use Rattle.ioc_held.specs.Holding.{HeldView, numbers_of}
+use Rattle.ioc_held.specs.Holding.{HeldView, numbers_of, IsSoundlyHeld}
+use Rattle.ioc_ledger.specs.declared.tally.Tally.{Tally}
+use Rattle.ioc_set.specs.Linking.{added}
 
 module _ {R D : Type 0} (k : RecordRules R) (base : World R) where
   -- the list leads to records that are, of the set's numbers, those of the set
   abbrev pub IsAsTold : List Note → HeldView R D → Type 0
   IsAsTold log h = (n : ℕ) → IsSome (get h.set.records n) → get (map_of k base log).records n ≡ get h.set.records n
 
-  -- the sets have each of the first records, and none in two of them; the list of all calls is legal, and leads from the world at the load to
-  -- what they have
+  -- the sets have each of the first records, and none in two of them; each is sound, so its records are one connected part; the list of all calls is
+  -- legal, and leads from the world at the load to what they have
   pub record IsEnd (count : ℕ) (log : List Note) (sets : List (HeldView R D)) : Type 0 where
     pub each : HoldEach numbers_of sets count
+    pub sound : All (IsSoundlyHeld k base) sets
     pub told : All (IsAsTold log) sets
     pub legal : IsAccount k base log
+
+-- these counts, and those of these sets, each up to the last number
+abbrev pub counted_with : {R D : Type 0} → Tally → List (HeldView R D) → Tally
+counted_with t [] = t
+counted_with t (h ∷ hs) = counted_with (added t h.set.tally) hs

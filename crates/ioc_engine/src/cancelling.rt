@@ -20,7 +20,7 @@ use std::alloc::Global;
 use std::sync::Wait;
 
 // What always holds of each of these sets.
-fn all_sound<K: RecordKind + Drop, B: Base<K>, D: Drop>(sets: &[Held<K, B, D>])
+pub(crate) fn all_sound<K: RecordKind + Drop, B: Base<K>, D: Drop>(sets: &[Held<K, B, D>])
     ensures { All (IsSoundlyHeld K.rules B.base) sets.now }
 {
     for set in sets {

@@ -2,14 +2,18 @@
 ghost use Rattle.std.specs.Prelude.{◌≡◌, ◌+◌, map, All, IfOk, IfErr};
 ghost use Rattle.ioc_line.specs.Line.{Begins};
 ghost use Rattle.ioc_journal.specs.Account.{IsEntryOf};
-ghost use Rattle.ioc_engine.specs.Ended.{IsAsTold, IsEnd};
+ghost use Rattle.ioc_set.specs.Held.{no_counts};
+ghost use Rattle.ioc_engine.specs.Ended.{IsAsTold, IsEnd, counted_with};
 
+use crate::cancelling::all_sound;
 use crate::engine::Engine;
 use ioc_held::Held;
 use ioc_journal::{Base, Journal, Receipt};
+use ioc_ledger::Tally;
 use ioc_line::{Cell, JournalEntry};
 use ioc_once::OnceList;
 use ioc_record::RecordKind;
+use ioc_set::linking::add_counts;
 use std::alloc::Global;
 use std::sync::Wait;
 use std::sync::ledger::Ledger;
@@ -101,6 +105,7 @@ impl<K: RecordKind + Drop, B: Base<K>, D: Drop> Engine<K, B, D> {
         let (cell, mut journal) = book.into_parts();
         journal.is_legal();
         tell_all(rt, &cell, &mut journal, all.as_mut_slice());
+        all_sound(all.as_slice());
         Ok(Report {
             sets: all,
             journal,
@@ -111,6 +116,17 @@ impl<K: RecordKind + Drop, B: Base<K>, D: Drop> Engine<K, B, D> {
 }
 
 impl<K: RecordKind + Drop, B: Base<K>, D: Drop> Report<K, B, D> {
+    /// The counts of requests, and of answers that came later, of all sets together.
+    pub fn tally(&self) -> Tally
+        ensures { result ≡ counted_with no_counts self.now.sets.items }
+    {
+        let mut tally = Tally::default();
+        for held in self.sets.as_slice() {
+            add_counts(&mut tally, &held.tally());
+        }
+        tally
+    }
+
     /// Tells the caller that the journal's list begins with what a receipt of the engine knows.
     pub fn compare<R: Wait>(&mut self, rt: &R, receipt: &mut Receipt<K, B>)
         requires table { self.old.cell.table.shared.table_id ≡ B.table }

@@ -1,17 +1,44 @@
-//! What a set's holder learns at the end.
+//! What a set's holder learns and tells at the end.
 ghost use Rattle.std.specs.Prelude.{◌≡◌, ℕ, IsSome};
+ghost use Rattle.ioc_events.specs.declared.event.Event.TheVariants.{Get};
+ghost use Rattle.ioc_events.specs.Step.{stepped};
+ghost use Rattle.ioc_set.specs.Held.{now_of};
+ghost use Rattle.ioc_store.specs.Given.{Answers};
 ghost use Rattle.std.specs.FinMap.{get};
 ghost use Rattle.crossbeam_utils.specs.Seq.{cell_view};
 ghost use Rattle.ioc_holding.specs.Legal.{map_of};
 
 use crate::held::Held;
+use ioc_events::Reply;
+use ioc_fields::FieldNo;
 use ioc_holding::laws::holding_lasts;
 use ioc_journal::{Base, Journal};
+use ioc_ledger::Tally;
 use ioc_line::Cell;
+use ioc_names::RecordNo;
 use ioc_record::RecordKind;
 use std::sync::Wait;
 
 impl<K: RecordKind, B: Base<K>, D> Held<K, B, D> {
+    /// The counts of the set's requests, and of answers that come later.
+    pub fn tally(&self) -> Tally
+        ensures { result ≡ self.now.set.tally }
+    {
+        self.set.tally()
+    }
+
+    /// The text of a field of one of the set's records, which no journal keeps.
+    ///
+    /// # Errors
+    ///
+    /// The reply is a refusal, [`ioc_values::IocError::NoRecord`] or [`ioc_values::IocError::NoField`] in this order, where there is no such record or
+    /// field.
+    pub fn text(&self, number: RecordNo, field: FieldNo) -> Reply
+        ensures { (answers : Answers) → result ≡ (stepped K.rules answers (now_of self.now.set) (Get number field)).reply }
+    {
+        self.set.get(number, field)
+    }
+
     /// The holder learns the whole list: it leads to records that are, of this set's numbers, those of this set.
     pub fn learn_all<R: Wait>(&mut self, rt: &R, cell: &Cell, journal: &mut Journal<K, B>)
         requires table { cell.now.table.shared.table_id ≡ B.table }

@@ -155,6 +155,14 @@ impl<K: RecordKind, D> LockSet<K, D> {
         self.members.number_at(place)
     }
 
+    /// The counts of requests, and of answers that come later. Where a set falls apart they stay with one part, but for the answers that the other
+    /// still awaits; where two become one they are added.
+    pub fn tally(&self) -> Tally
+        ensures { result ≡ self.now.tally }
+    {
+        self.tally
+    }
+
     /// The text of a field.
     ///
     /// # Errors
