@@ -58,6 +58,17 @@ fn give_up_all<L: Ledger>(once: OnceList<L>) -> OnceTally
     }
 }
 
+// The counts of these sets together.
+fn counts_of<K: RecordKind + Drop, B: Base<K>, D: Drop>(sets: &[Held<K, B, D>]) -> Tally
+    ensures { result ≡ counted_with no_counts sets.now }
+{
+    let mut tally = Tally::default();
+    for held in sets {
+        add_counts(&mut tally, &held.tally());
+    }
+    tally
+}
+
 // The holders of sets learn all calls.
 fn tell_all<K: RecordKind + Drop, B: Base<K>, D: Drop, R: Wait>(
     rt: &R,
@@ -120,11 +131,7 @@ impl<K: RecordKind + Drop, B: Base<K>, D: Drop> Report<K, B, D> {
     pub fn tally(&self) -> Tally
         ensures { result ≡ counted_with no_counts self.now.sets.items }
     {
-        let mut tally = Tally::default();
-        for held in self.sets.as_slice() {
-            add_counts(&mut tally, &held.tally());
-        }
-        tally
+        counts_of(self.sets.as_slice())
     }
 
     /// Tells the caller that the journal's list begins with what a receipt of the engine knows.

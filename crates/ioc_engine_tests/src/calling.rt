@@ -175,22 +175,6 @@ pub fn live<B: Base<Record>, R: Wait>(
     })
 }
 
-/// A put with notification is given up.
-pub fn cancel<B: Base<Record>, R: Wait>(
-    rt: &R,
-    alloc: Global,
-    engine: &Engine<Record, B, Later>,
-    desk: &mut Desk<Record, B>,
-    place: &mut Workplace<Record, Later>,
-    number: u64,
-) -> Result<Told, IocError> {
-    let (reply, receipt) = engine.cancel(rt, alloc, desk, place, NotifyId::new(number), 1)?;
-    Ok(Told {
-        reply,
-        place: receipt.place(),
-    })
-}
-
 /// A completion.
 pub fn complete<B: Base<Record>, R: Wait>(
     rt: &R,

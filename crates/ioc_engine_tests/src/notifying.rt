@@ -4,7 +4,7 @@ ghost use Rattle.crossbeam_utils.specs.Seq.{cell_view};
 ghost use Rattle.ioc_line.specs.Line.{keeper};
 ghost use Rattle.ioc_start.specs.Loading.{loaded_world};
 
-use crate::calling::{Told, cancel, complete, live, put_notify};
+use crate::calling::{Told, complete, live, put_notify};
 use crate::opened::{Later, loaded};
 use ioc_dealing::Loaded;
 use ioc_engine::Engine;
@@ -25,9 +25,8 @@ use std::test::Fail;
 // A record whose device answers later, and one that is done at once.
 const TEXT: &[u8] = b"record(longin,\"p\"){field(INP,\"@d\")}\nrecord(longin,\"a\"){}\n";
 
-// What the calls must be answered, in their order: the put that awaits the device is live until that has answered, and the other is done at once; a
-// third one is given up, once, and the device answers after it.
-fn wanted() -> [Reply; 10] {
+// What the calls must be answered, in their order: the put that awaits the device is live until that has answered, the other is done at once.
+fn wanted() -> [Reply; 6] {
     [
         Reply::Notify(NotifyId::new(1)),
         Reply::Live(true),
@@ -35,10 +34,6 @@ fn wanted() -> [Reply; 10] {
         Reply::Live(false),
         Reply::Notify(NotifyId::new(2)),
         Reply::Live(false),
-        Reply::Notify(NotifyId::new(3)),
-        Reply::Plain,
-        Reply::Refused(IocError::Stale),
-        Reply::Plain,
     ]
 }
 
@@ -61,17 +56,13 @@ fn answers<B: Base<Record>, R: Wait>(
     engine: &Engine<Record, B, Later>,
     desk: &mut Desk<Record, B>,
     place: &mut Workplace<Record, Later>,
-) -> Option<[Reply; 10]> {
+) -> Option<[Reply; 6]> {
     let awaits = put_notify(rt, alloc, engine, desk, place, 0, b"7");
     let is_live = live(rt, alloc, engine, desk, 1);
     let done = complete(rt, alloc, engine, desk, place, 0, 1, 5);
     let is_over = live(rt, alloc, engine, desk, 1);
     let at_once = put_notify(rt, alloc, engine, desk, place, 1, b"7");
     let is_done = live(rt, alloc, engine, desk, 2);
-    let again = put_notify(rt, alloc, engine, desk, place, 0, b"7");
-    let given_up = cancel(rt, alloc, engine, desk, place, 3);
-    let is_stale = cancel(rt, alloc, engine, desk, place, 3);
-    let late = complete(rt, alloc, engine, desk, place, 0, 2, 6);
     Some([
         told_at(awaits, 0)?,
         told_at(is_live, 1)?,
@@ -79,10 +70,6 @@ fn answers<B: Base<Record>, R: Wait>(
         told_at(is_over, 3)?,
         told_at(at_once, 4)?,
         told_at(is_done, 5)?,
-        told_at(again, 6)?,
-        told_at(given_up, 7)?,
-        told_at(is_stale, 8)?,
-        told_at(late, 9)?,
     ])
 }
 
@@ -96,7 +83,7 @@ fn notify_each<B: Base<Record>, R: Wait>(
     tickets: Blank,
     all: Vec<Loaded<Record, Later>>,
     limits: Limits,
-) -> Option<[Reply; 10]>
+) -> Option<[Reply; 6]>
     requires table { (cell.table.shared.table_id ≡ B.table) × (master.table_id ≡ B.table) }
     requires master { cell_view master ≡ keeper [] [] }
     requires places { (blank.name ≡ B.places) × (blank.parts ≡ 2 ^ 64 - 1) }

@@ -1,6 +1,13 @@
-use Rattle.std.proofs.Common.{All}
+use Rattle.std.proofs.Common.{◌<◌, ℕ, All}
+use Rattle.std.specs.Prelude.{Any, Contains}
+use Rattle.ioc_topology.specs.Gathered.{IsMarked}
 use Rattle.ioc_engine.specs.Seen.{IsPartSeen}
 use Rattle.ioc_engine.proofs.engine.Engine.parts.Given as goal
 
+-- each part was seen, each record so far is in one, and who has a mark too
 abbrev pub invariant-loop-number : goal.invariant-loop-number
-invariant-loop-number g l = All (λ v. IsPartSeen g.row.D.Denot g.K.RecordKind.rules g.B.Base.base v.items) l.parts.items
+invariant-loop-number g l = record {
+  seen : All (λ v. IsPartSeen g.row.D.Denot g.K.RecordKind.rules g.B.Base.base v.items) l.parts.items;
+  marked : (q : ℕ) → IsMarked l.marks.items q → Any (λ v. Contains v.items q) l.parts.items;
+  each : (q : ℕ) → q < l.number → Any (λ v. Contains v.items q) l.parts.items;
+}

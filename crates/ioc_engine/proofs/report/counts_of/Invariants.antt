@@ -1,0 +1,8 @@
+use Rattle.std.proofs.Common.{◌≡◌, drop}
+use Rattle.ioc_set.specs.Held.{no_counts}
+use Rattle.ioc_engine.specs.Ended.{counted_with}
+use Rattle.ioc_engine.proofs.report.counts_of.Given as goal
+
+-- with those that come the counts are those of all
+abbrev pub invariant-loop-held : goal.invariant-loop-held
+invariant-loop-held g l = counted_with l.tally (drop l.held-index l.sets) ≡ counted_with no_counts l.sets
