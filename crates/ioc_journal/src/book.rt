@@ -17,8 +17,12 @@ use ioc_events::Entry;
 use ioc_line::{Cell, Keys, Token};
 use ioc_record::RecordKind;
 use ioc_values::IocError;
+use std::hint;
 use std::marker::Model;
-use std::sync::{Mutex, Wait};
+use std::sync::{Mutex, MutexGuard, Wait};
+
+// How often a lock that is taken is tried before its thread falls asleep.
+const TRIES: u64 = 500;
 
 /// The journal of an engine under its lock, and the cell that ties it to the passes under other locks. Its lock is held for a moment at a
 /// time, and no other lock is awaited meanwhile. Contracts see which cell it is.
@@ -52,6 +56,18 @@ impl<K: RecordKind, B: Base<K>> Book<K, B> {
         }
     }
 
+    // Takes the journal's lock. It is held for far less time than a thread takes to fall asleep and to be woken: who finds it taken tries again
+    // for a while first.
+    fn lock<R: Wait>(&self, rt: &R) -> MutexGuard<'_, Journal<K, B>> {
+        for _ in 0..TRIES {
+            if let Some(guard) = self.journal.try_lock() {
+                return guard;
+            }
+            hint::spin_loop();
+        }
+        self.journal.lock(rt)
+    }
+
     /// A desk that has seen all calls, and made none.
     ///
     /// # Errors
@@ -61,7 +77,7 @@ impl<K: RecordKind, B: Base<K>> Book<K, B> {
         ensures new { IfOk result (λ d. (d.next ≡ 0) × (calls_by d.number (calls d.seen) ≡ [])) }
         ensures refused { IfErr result (λ error. error ≡ JournalFull) }
     {
-        self.journal.lock(rt).open_desk(&self.cell)
+        self.lock(rt).open_desk(&self.cell)
     }
 
     /// The cell that ties the passes.
@@ -79,12 +95,12 @@ impl<K: RecordKind, B: Base<K>> Book<K, B> {
     pub fn reserve<R: Wait>(&self, rt: &R) -> Result<Place<K, B>, IocError>
         ensures refused { IfErr result IsNoPlace }
     {
-        self.journal.lock(rt).reserve()
+        self.lock(rt).reserve()
     }
 
     /// Takes back a place whose call wasn't made: it is free again.
     pub fn give_back<R: Wait>(&self, rt: &R, place: Place<K, B>) {
-        self.journal.lock(rt).give_back(place);
+        self.lock(rt).give_back(place);
     }
 
     /// Adds a call of a desk, under the lock of the set that it is about, of whose pass all keys are noted. Desk and pass know the whole
@@ -105,7 +121,7 @@ impl<K: RecordKind, B: Base<K>> Book<K, B> {
         ensures set { (set.new.table_id ≡ set.old.table_id) × (cell_view set.new ≡ holder desk.new.seen (cell_view set.old).owns) }
         ensures added { (log : List Note) × Added K.rules B.base (cell_view set.old).seen (cell_view set.old).owns entry log desk.new.seen }
     {
-        let mut guard = self.journal.lock(rt);
+        let mut guard = self.lock(rt);
         let journal = &mut *guard;
         journal.append(rt, &self.cell, place, set, desk, entry)
     }
@@ -133,7 +149,7 @@ impl<K: RecordKind, B: Base<K>> Book<K, B> {
         ensures other { (other.new.table_id ≡ other.old.table_id) × (cell_view other.new ≡ holder desk.new.seen P.rest) }
         ensures added { (log : List Note) × AddedByBoth K.rules B.base (cell_view one.old).seen (cell_view one.old).owns (cell_view other.old).seen (cell_view other.old).owns entry log desk.new.seen }
     {
-        let mut guard = self.journal.lock(rt);
+        let mut guard = self.lock(rt);
         let journal = &mut *guard;
         journal.append_two::<P, R>(rt, &self.cell, place, one, other, desk, entry)
     }
@@ -146,7 +162,7 @@ impl<K: RecordKind, B: Base<K>> Book<K, B> {
         ensures known { (log : List Note) × AreKnown K.rules B.base (cell_view one.old) (cell_view other.old) log (cell_view one.new) (cell_view other.new) }
         ensures apart { (key : Key) → Has key (cell_view one.old).owns → Has key (cell_view other.old).owns → ⊥ }
     {
-        let mut guard = self.journal.lock(rt);
+        let mut guard = self.lock(rt);
         let journal = &mut *guard;
         journal.compare(rt, &self.cell, one, other);
     }
@@ -159,7 +175,7 @@ impl<K: RecordKind, B: Base<K>> Book<K, B> {
         ensures merged { (log : List Note) × AreMerged K.rules B.base (cell_view one.old) (cell_view other.old) log (cell_view one.new) (cell_view other.new) }
         ensures apart { (key : Key) → Has key (cell_view one.old).owns → Has key (cell_view other.old).owns → ⊥ }
     {
-        let mut guard = self.journal.lock(rt);
+        let mut guard = self.lock(rt);
         let journal = &mut *guard;
         journal.merge(rt, &self.cell, one, other);
     }
