@@ -160,6 +160,23 @@ pub fn put_notify<B: Base<Record>, R: Wait>(
     })
 }
 
+/// A put with notification is given up.
+pub fn cancel<B: Base<Record>, R: Wait>(
+    rt: &R,
+    alloc: Global,
+    engine: &Engine<Record, B, Later>,
+    desk: &mut Desk<Record, B>,
+    place: &mut Workplace<Record, Later>,
+    number: u64,
+) -> Result<Told, IocError> {
+    let number = NotifyId::new(number);
+    let (reply, receipt) = engine.cancel(rt, alloc, desk, place, number, 1)?;
+    Ok(Told {
+        reply,
+        place: receipt.place(),
+    })
+}
+
 /// The question whether a put with notification is live.
 pub fn live<B: Base<Record>, R: Wait>(
     rt: &R,
