@@ -1,5 +1,5 @@
 -- Records that are put on the once list one after another.
-use Rattle.std.proofs.Common.{◌≡◌, ℕ, List, [], ◌∷◌, ◌++◌, refl, sym, ap, subst, ◌∙◌}
+use Rattle.std.proofs.Common.{◌≡◌, ℕ, List, [], ◌∷◌, ◌++◌, refl, sym, ap, subst}
 use Rattle.ioc_store.specs.declared.outbox.OutboxItem.{OutboxItem}
 use Rattle.ioc_store.specs.declared.outbox.OutboxItem.TheVariants.{Once, Post, Change}
 use Rattle.ioc_once.specs.Waiting.{OnceView}
@@ -26,3 +26,9 @@ one_more_added xs n a b c before one =
 pub none_more_added : (xs : List OutboxItem) (x : OutboxItem) (a b : OnceView) → once_in (x ∷ []) ≡ [] → AreAdded (once_in xs) a b → AreAdded (once_in (xs ++ x ∷ [])) a b
 none_more_added xs x a b none before =
     subst (λ ns. AreAdded ns a b) (sym (once_in_both xs (x ∷ []))) (added_both (once_in xs) (once_in (x ∷ [])) a b b before (subst (λ ns. AreAdded ns b b) (sym none) refl))
+
+-- an item that is no such record is none of them
+pub none_in : (x : OutboxItem) → ((n : ℕ) → x ≡ Once n → ⊥) → once_in (x ∷ []) ≡ []
+none_in (Once n) isnt = absurd (isnt n refl)
+none_in (Post t) isnt = refl
+none_in (Change t) isnt = refl

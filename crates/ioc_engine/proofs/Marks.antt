@@ -1,16 +1,15 @@
--- Marks of records that have been seen.
-use Rattle.std.proofs.Common.{◌≡◌, ℕ, ◌<◌, ◌+◌, List, [], ◌∷◌, ◌++◌, Bool, true, false, set, get_or, sym, subst, ◌∙◌, inl, inr, ⊎_elim, arith}
+-- Records that are in one of the parts, and their marks.
+use Rattle.std.proofs.Common.{◌≡◌, ℕ, ◌<◌, ◌+◌, List, [], ◌∷◌, ◌++◌, Bool, true, false, set, sym, subst, ◌∙◌, inl, inr, ⊎_elim, arith}
 use Rattle.std.proofs.lemmas.Bool.{cases_eq, cases_lt}
 use Rattle.std.proofs.lemmas.List.{length-append, get_or_append_left, get_or-set_other}
 use Rattle.std.proofs.lemmas.List.Elements.{Contains-append_left, Contains-push}
-use Rattle.std.proofs.lemmas.List.Quantifiers.{Any-push}
 use Rattle.std.specs.Prelude.{◌⊎◌, Any, Contains}
 use Rattle.ioc_topology.specs.Gathered.{IsMarked}
 
 mark_from : (marks : List Bool) (n q : ℕ) → IsMarked (set marks n true) q → IsMarked marks q ⊎ (q ≡ n)
 mark_from marks n q m = ⊎_elim (λ e. inr e) (λ ne. inl (sym (get_or-set_other marks n q true false ne) ∙ m)) (cases_eq q n)
 
--- with one more of these records marked
+-- those named so far have a mark, and one more
 pub marked_more : (before marks : List Bool) (ns : List ℕ) (n : ℕ) → ((q : ℕ) → IsMarked marks q → IsMarked before q ⊎ Contains ns q)
     → (q : ℕ) → IsMarked (set marks n true) q → IsMarked before q ⊎ Contains (ns ++ n ∷ []) q
 marked_more before marks ns n so_far q m =
@@ -19,7 +18,7 @@ marked_more before marks ns n so_far q m =
     (λ (e : q ≡ n). inr (subst (λ p. Contains (ns ++ n ∷ []) p) (sym e) (Contains-push ns n)))
     (mark_from marks n q m)
 
--- and with one that has no place among the marks
+-- and one that has no place among the marks
 pub named_more : (before marks : List Bool) (ns : List ℕ) (n : ℕ) → ((q : ℕ) → IsMarked marks q → IsMarked before q ⊎ Contains ns q)
     → (q : ℕ) → IsMarked marks q → IsMarked before q ⊎ Contains (ns ++ n ∷ []) q
 named_more before marks ns n so_far q m = ⊎_elim (λ b. inl b) (λ c. inr (Contains-append_left ns (n ∷ []) q c)) (so_far q m)

@@ -1,5 +1,5 @@
 //! Which records are in one lock set.
-ghost use Rattle.std.specs.Prelude.{◌≡◌, ◌⊎◌, ◌<◌, ℕ, All, Any, Contains, IfOk, IfErr};
+ghost use Rattle.std.specs.Prelude.{◌≡◌, ◌⊎◌, ◌<◌, ℕ, false, slice_index_or, All, Any, Contains, IfOk, IfErr};
 ghost use Rattle.ioc_held.specs.Holding.{numbers_of};
 ghost use Rattle.ioc_topology.specs.Change.{IsRefused};
 ghost use Rattle.ioc_topology.specs.Gathered.{IsMarked};
@@ -30,13 +30,21 @@ fn numbers_in<K: RecordKind + Drop, B: Base<K>, D: Drop>(
     Ok(numbers)
 }
 
+// Has this record been seen?
+fn is_marked(marks: &Vec<bool>, number: usize) -> bool
+    ensures { result ≡ slice_index_or marks.now.items number false }
+{
+    number < marks.len() && marks[number]
+}
+
 // These records have been seen: no other gets a mark.
-fn mark_all(numbers: &[RecordNo], marks: &mut [bool])
-    ensures { (q : ℕ) → IsMarked marks.new q → IsMarked marks.old q ⊎ Contains numbers.now q }
+fn mark_all(numbers: &[RecordNo], marks: &mut Vec<bool>)
+    ensures { (q : ℕ) → IsMarked marks.new.items q → IsMarked marks.old.items q ⊎ Contains numbers.now q }
 {
     for number in numbers {
-        if let Some(mark) = marks.get_mut(number.index()) {
-            *mark = true;
+        let place = number.index();
+        if place < marks.len() {
+            marks[place] = true;
         }
     }
 }
@@ -84,11 +92,11 @@ impl<K: RecordKind + Drop, B: Base<K>, D: Drop> Engine<K, B, D> {
         let mut marks = vec![in alloc; false; self.sets.len()]?;
         let mut parts = Vec::new(alloc);
         for number in 0..self.sets.len() {
-            if let Some(true) = marks.get(number) {
+            if is_marked(&marks, number) {
                 continue;
             }
             let part = self.part_of(rt, alloc, RecordNo::new(number))?;
-            mark_all(part.as_slice(), marks.as_mut_slice());
+            mark_all(part.as_slice(), &mut marks);
             parts.push(part)?;
         }
         Ok(parts)
