@@ -188,13 +188,20 @@ fn sets_are_taken_and_put_back(rt: HostRuntime) -> Result<(), Fail> {
     assert_eq!(rt; join_sets(&rt, alloc, &sets, 3, 0), Ok(()));
     let guard = sets.guard_topology(&rt);
     let taken = sets.take_where(&rt, alloc, &|set: &Numbers| set.list.len() == 2)?;
-    assert_eq!(rt; taken.sets.len(), 1);
-    assert!(rt; taken.sets[0].list.contains(&3));
-    let others = sets.take_where(&rt, alloc, &|set: &Numbers| set.list.len() != 0)?;
-    assert_eq!(rt; others.sets.len(), 2);
-    sets.put_back(&rt, others);
+    let others = sets.take_where(&rt, alloc, &|set: &Numbers| set.list.len() != 0);
+    let count = taken.sets.len();
+    let has_third = match taken.sets.first() {
+        Some(set) => set.list.contains(&3),
+        None => false,
+    };
     sets.put_back(&rt, taken);
+    let others = others?;
+    let count_of_others = others.sets.len();
+    sets.put_back(&rt, others);
     drop(guard);
+    assert_eq!(rt; count, 1);
+    assert!(rt; has_third);
+    assert_eq!(rt; count_of_others, 2);
     assert_eq!(rt; size_of_set(&rt, &sets, 0), Ok(2));
     assert_eq!(rt; size_of_set(&rt, &sets, 2), Ok(1));
     Ok(())
