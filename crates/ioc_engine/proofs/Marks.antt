@@ -1,6 +1,6 @@
 -- Records that are in one of the parts, and their marks.
-use Rattle.std.proofs.Common.{◌≡◌, ℕ, ◌<◌, ◌+◌, List, [], ◌∷◌, ◌++◌, Bool, true, false, set, sym, subst, ◌∙◌, inl, inr, ⊎_elim, arith}
-use Rattle.std.proofs.lemmas.Bool.{cases_eq, cases_lt}
+use Rattle.std.proofs.Common.{◌≡◌, ℕ, List, [], ◌∷◌, ◌++◌, Bool, true, false, set, sym, subst, ◌∙◌, inl, inr, ⊎_elim, arith}
+use Rattle.std.proofs.lemmas.Bool.{cases_eq}
 use Rattle.std.proofs.lemmas.List.{length-append, get_or_append_left, get_or-set_other}
 use Rattle.std.proofs.lemmas.List.Elements.{Contains-append_left, Contains-push}
 use Rattle.std.specs.Prelude.{◌⊎◌, Any, Contains}
@@ -22,13 +22,6 @@ marked_more before marks ns n so_far q m =
 pub named_more : (before marks : List Bool) (ns : List ℕ) (n : ℕ) → ((q : ℕ) → IsMarked marks q → IsMarked before q ⊎ Contains ns q)
     → (q : ℕ) → IsMarked marks q → IsMarked before q ⊎ Contains (ns ++ n ∷ []) q
 named_more before marks ns n so_far q m = ⊎_elim (λ b. inl b) (λ c. inr (Contains-append_left ns (n ∷ []) q c)) (so_far q m)
-
-last_or_before : (q p : ℕ) → q < p + 1 → (q ≡ p) ⊎ (q < p)
-last_or_before q p lt = ⊎_elim (λ (l : q < p). inr l) (λ e. inl (omega (arith, lt, e))) (cases_lt q p)
-
--- what holds of each number below one, and of this, holds below the next
-pub up_to : (P : ℕ → Type 0) (p : ℕ) → ((q : ℕ) → q < p → P q) → P p → (q : ℕ) → q < p + 1 → P q
-up_to P p before here q lt = ⊎_elim (λ (e : q ≡ p). subst P (sym e) here) (λ l. before q l) (last_or_before q p lt)
 
 -- with one part more each of the parts has what it had
 pub in_more : {X : Type 0} (P : X → Type 0) (xs : List X) (x : X) → Any P xs → Any P (xs ++ x ∷ [])

@@ -1,10 +1,10 @@
-use Rattle.std.proofs.Common.{◌≡◌, ◌≤◌, ℕ, All, List, Vec, Global, sym, ◌∙◌, subst, ⊎_elim, arith}
+use Rattle.std.proofs.Common.{◌≡◌, ◌≤◌, ℕ, All, List, Vec, Global, sym, ◌∙◌, subst, ⊎_elim, below_more, arith}
 use Rattle.std.proofs.lemmas.List.Elements.{All-push}
 use Rattle.std.proofs.lemmas.List.Quantifiers.{Any-push}
 use Rattle.std.specs.Prelude.{Any, Contains}
 use Rattle.ioc_names.specs.declared.record_no.RecordNo.{RecordNo}
 use Rattle.ioc_engine.specs.Seen.{IsPartSeen}
-use Rattle.ioc_engine.proofs.Marks.{up_to, in_more}
+use Rattle.ioc_engine.proofs.Marks.{in_more}
 use Rattle.ioc_engine.proofs.engine.Engine.parts.Goals as goal
 
 pub loop-number-preserved-then-is_marked : goal.loop-number-preserved-then-is_marked
@@ -14,7 +14,7 @@ loop-number-preserved-then-is_marked g c =
     record {
       seen = i.seen;
       marked = i.marked;
-      each = up_to Has c.loop-number.number i.each (i.marked c.loop-number.number (sym c.is_marked.ensures ∙ c.if-is_marked.true));
+      each = below_more Has c.loop-number.number i.each (i.marked c.loop-number.number (sym c.is_marked.ensures ∙ c.if-is_marked.true));
     }
 
 pub loop-number-preserved : goal.loop-number-preserved
@@ -32,7 +32,7 @@ loop-number-preserved g c =
     record {
       seen = subst (λ (vs : List (Vec RecordNo Global)). All Seen vs) (sym longer) (All-push Seen before part i.seen c.in_ok-part.ensures.seen);
       marked = λ q m. ⊎_elim (λ old. stays q (i.marked q old)) (λ new. put_in q (subst (λ (ns : List ℕ). Contains ns q) c.as_slice.ensures.value new)) (c.mark_all.ensures q m);
-      each = up_to (λ q. Any (In q) after) number (λ q lt. stays q (i.each q lt)) (put_in number (subst (λ (n : ℕ). Contains part.items n) c.new.ensures c.in_ok-part.ensures.here));
+      each = below_more (λ q. Any (In q) after) number (λ q lt. stays q (i.each q lt)) (put_in number (subst (λ (n : ℕ). Contains part.items n) c.new.ensures c.in_ok-part.ensures.here));
     }
 
 pub returns-clause-each : goal.returns-clause-each
