@@ -1,6 +1,7 @@
 #!/usr/bin/env python3
 """Runs the program of sets.sh in a mode of one thread or four, each thread on a core of its own and before all other programs (SCHED_FIFO, which
-takes root), and prints what the program prints, the processor time, and how often a thread fell asleep.
+takes root), and prints what the program prints, the processor time, and how often a thread fell asleep. In mode `apart` four programs of one
+thread run at a time, each on a core of its own: as much as the machine gives to four threads that share nothing.
 Usage: cores.py PROGRAM DB MODE TIMES"""
 import os
 import resource
@@ -13,15 +14,15 @@ def put_first():
     os.sched_setscheduler(0, os.SCHED_FIFO, os.sched_param(1))
 
 
-def pin(pid, count):
-    """Gives each of so many threads a core, once they are there."""
+def pin(pid, count, first=0):
+    """Gives each of so many threads a core, from this one on, once they are there."""
     end = time.time() + 2
     while time.time() < end:
         try:
             threads = sorted(int(name) for name in os.listdir(f"/proc/{pid}/task"))
             if len(threads) >= count:
                 for core, thread in enumerate(threads):
-                    os.sched_setaffinity(thread, {core % os.cpu_count()})
+                    os.sched_setaffinity(thread, {(first + core) % os.cpu_count()})
                 return
         except (FileNotFoundError, ProcessLookupError):
             return
@@ -29,9 +30,11 @@ def pin(pid, count):
 
 def main():
     program, database, mode, times = sys.argv[1:]
-    run = subprocess.Popen([program, database, mode, times], stdout=subprocess.PIPE, preexec_fn=put_first)
-    pin(run.pid, 4 if mode == "four" else 1)
-    said = run.communicate()[0].decode().strip()
+    words = [program, database, "one" if mode == "apart" else mode, times]
+    runs = [subprocess.Popen(words, stdout=subprocess.PIPE, preexec_fn=put_first) for _ in range(4 if mode == "apart" else 1)]
+    for place, run in enumerate(runs):
+        pin(run.pid, 4 if mode == "four" else 1, place)
+    said = "; ".join(run.communicate()[0].decode().strip() for run in runs)
     used = resource.getrusage(resource.RUSAGE_CHILDREN)
     print(f"{said}, {used.ru_utime:.2f} s of its own and {used.ru_stime:.2f} s of the system's, fell asleep {used.ru_nvcsw} times")
 

@@ -28,6 +28,17 @@ database 4 0 > "$folder/four.db"
 database 1000 20 > "$folder/few.db"
 database 131072 20 > "$folder/many.db"
 
+chains() { # RECORDS: four chains of as many records, whose first ones are records 0 to 3
+  awk -v n="$((4 * $1))" 'BEGIN {
+    for (i = 0; i < n; i++) {
+      printf "record(longin,\"r%d\"){", i
+      if (i + 4 < n) printf "field(FLNK,\"r%d\")", i + 4
+      print "}"
+    }
+  }'
+}
+for records in 1 4 10 16 32 100; do chains "$records" > "$folder/chains$records.db"; done
+
 count() { # DB MODE TIMES
   valgrind --tool=callgrind --callgrind-out-file=/dev/null "$program" "$1" "$2" "$3" 2>&1 >/dev/null | awk '/Collected/ { print $4 }'
 }
@@ -45,6 +56,11 @@ memory() { # WORDS..: kilobytes at most, and kilobytes after three seconds
 
 for mode in alone bare engine; do
   echo "a request of a lone longin, $mode: $(each "$folder/one.db" $mode) instructions"
+done
+for records in 1 4 10 16 32 100; do
+  for mode in alone bare engine; do
+    echo "a request of the first of a chain of $records, $mode: $(each "$folder/chains$records.db" $mode) instructions"
+  done
 done
 echo "a put with notification and its completion: $(each "$folder/device.db" notify) instructions"
 for db in few many; do

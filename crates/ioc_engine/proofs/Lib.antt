@@ -1,4 +1,5 @@
 mod Adding
+mod Counts
 mod Ending
 mod Marks
 mod Refusals

@@ -7,7 +7,7 @@ use Rattle.ioc_events.specs.declared.reply.Reply.{Reply}
 use Rattle.ioc_journal.specs.Account.{DeskView}
 use Rattle.ioc_held.specs.Holding.{HeldView, IsSoundlyHeld}
 use Rattle.ioc_held.specs.Puts.{PutsView, WasStale}
-use Rattle.ioc_held.specs.GivingUp.{GaveUpOn}
+use Rattle.ioc_lent.specs.GivingUp.{GaveUpOn}
 
 module _ {R : Type 0} (D : Type 0) (k : RecordRules R) (base : World R) (number : ℕ) (desk : DeskView) (moment : ℕ) (reply : Reply) (desk_then : DeskView) where
   -- all sets that had it have given it up: each was sound, and is so again

@@ -1,6 +1,7 @@
 -- What an engine leaves at its end.
 -- Application Developer's Guide, "Database Locking, Scanning, and Processing", lock sets. The journal is this project's own.
-use Rattle.std.specs.Prelude.{◌≡◌, ℕ, List, [], ◌∷◌, IsSome, All}
+use Rattle.std.specs.Prelude.{◌≡◌, ℕ, List, IsSome, All}
+use Rattle.std.specs.List.{sum_by}
 use Rattle.std.specs.FinMap.{get}
 use Rattle.ioc_record.specs.RecordRules.{RecordRules}
 use Rattle.ioc_store.specs.World.{World}
@@ -10,7 +11,7 @@ use Rattle.ioc_holding.specs.Legal.{map_of}
 use Rattle.ioc_journal.specs.Account.{IsAccount}
 use Rattle.ioc_held.specs.Holding.{HeldView, numbers_of, IsSoundlyHeld}
 use Rattle.ioc_ledger.specs.declared.tally.Tally.{Tally}
-use Rattle.ioc_set.specs.Linking.{added}
+use Rattle.ioc_ledger.specs.Requests.{filled}
 
 module _ {R D : Type 0} (k : RecordRules R) (base : World R) where
   -- the list leads to records that are, of the set's numbers, those of the set
@@ -25,7 +26,18 @@ module _ {R D : Type 0} (k : RecordRules R) (base : World R) where
     pub told : All (IsAsTold log) sets
     pub legal : IsAccount k base log
 
--- these counts, and those of these sets, each up to the last number
-abbrev pub counted_with : {R D : Type 0} → Tally → List (HeldView R D) → Tally
-counted_with t [] = t
-counted_with t (h ∷ hs) = counted_with (added t h.set.tally) hs
+-- the sum of a count of these sets, up to the last number
+abbrev pub summed : {R D : Type 0} → (Tally → ℕ) → List (HeldView R D) → ℕ
+summed count sets = filled 0 (sum_by (λ (h : HeldView _ _). count h.set.tally) sets)
+
+-- the counts of these sets together
+abbrev pub counts_in : {R D : Type 0} → List (HeldView R D) → Tally
+counts_in sets = record {
+  begun = summed (λ t. t.begun) sets;
+  processed = summed (λ t. t.processed) sets;
+  disabled = summed (λ t. t.disabled) sets;
+  active = summed (λ t. t.active) sets;
+  reprocess = summed (λ t. t.reprocess) sets;
+  started = summed (λ t. t.started) sets;
+  completed = summed (λ t. t.completed) sets;
+}

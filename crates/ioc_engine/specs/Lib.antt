@@ -4,3 +4,4 @@ pub mod Ended
 pub mod Linked
 pub mod Seen
 pub mod Cancelled
+pub mod Once

@@ -15,7 +15,7 @@ use Rattle.ioc_journal.specs.Account.{DeskView}
 use Rattle.ioc_journal.specs.Places.{IsNoPlace}
 use Rattle.ioc_topology.specs.Change.{AreLent, AreSound, LinkIsRefused}
 use Rattle.ioc_held.specs.Holding.{HeldView, numbers_of, IsSoundlyHeld}
-use Rattle.ioc_held.specs.Changing.{Relinks}
+use Rattle.ioc_lent.specs.Changing.{Relinks}
 
 -- the record that a link names, if it names one
 abbrev pub other_of : LinkField → Option ℕ

@@ -9,13 +9,14 @@ ghost use Rattle.ioc_engine.specs.Cancelled.{WasCancelled, WasGivenUp, WasNotLiv
 use crate::engine::Engine;
 use ioc_device::Device;
 use ioc_events::Reply;
-use ioc_held::{Held, cancel_on};
+use ioc_held::Held;
 use ioc_journal::{Base, Desk, Receipt};
+use ioc_lent::cancel_on;
 use ioc_notify::NotifyId;
 use ioc_record::RecordKind;
-use ioc_set::Workplace;
 use ioc_topology::Locked;
 use ioc_values::IocError;
+use ioc_workplace::Workplace;
 use std::alloc::Global;
 use std::sync::Wait;
 

@@ -5,7 +5,7 @@ ghost use Rattle.ioc_events.specs.declared.event.Event.TheVariants.{Get, Process
 ghost use Rattle.ioc_events.specs.Step.{names};
 ghost use Rattle.ioc_line.specs.Line.{longer, Begins};
 ghost use Rattle.ioc_set.specs.Doing.{is_ordinary};
-ghost use Rattle.ioc_set.specs.SetStore.{world_of};
+ghost use Rattle.ioc_workplace.specs.SetStore.{world_of};
 ghost use Rattle.ioc_journal.specs.Account.{IsAccount, calls, calls_by};
 ghost use Rattle.ioc_engine.specs.Served.{WasTold, WasServed, CallIsRefused};
 
@@ -18,9 +18,9 @@ use ioc_journal::{Base, Book, Desk, Receipt};
 use ioc_names::RecordNo;
 use ioc_once::OnceList;
 use ioc_record::RecordKind;
-use ioc_set::Workplace;
 use ioc_topology::{Directory, Locked};
 use ioc_values::{Finished, Input, IocError};
+use ioc_workplace::Workplace;
 use std::alloc::Global;
 use std::marker::Model;
 use std::sync::atomic::{AtomicBool, Ordering};

@@ -1,6 +1,6 @@
 //! Link changes of the engine.
 ghost use Rattle.std.specs.Prelude.{◌≡◌, IfOk, IfErr, OnOk, OnErr};
-ghost use Rattle.ioc_set.specs.SetStore.{world_of};
+ghost use Rattle.ioc_workplace.specs.SetStore.{world_of};
 ghost use Rattle.ioc_topology.specs.Change.{AreKnown};
 ghost use Rattle.ioc_engine.specs.Linked.{other_of, WasLinked, LinkWasRefused};
 
@@ -8,13 +8,13 @@ use crate::engine::Engine;
 use ioc_common::KeptLink;
 use ioc_device::Device;
 use ioc_fields::FieldNo;
-use ioc_held::{Changed, change_link};
 use ioc_journal::{Base, Desk};
+use ioc_lent::{Changed, change_link};
 use ioc_names::RecordNo;
 use ioc_record::RecordKind;
-use ioc_set::Workplace;
 use ioc_topology::{all_sound, are_lent};
 use ioc_values::IocError;
+use ioc_workplace::Workplace;
 use std::alloc::Global;
 use std::sync::Wait;
 

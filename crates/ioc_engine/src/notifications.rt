@@ -4,7 +4,7 @@ ghost use Rattle.ioc_values.specs.declared.error.IocError.TheVariants.{QueueFull
 ghost use Rattle.ioc_events.specs.declared.event.Event.TheVariants.{Put, Notify};
 ghost use Rattle.ioc_journal.specs.Places.{IsNoPlace};
 ghost use Rattle.ioc_held.specs.Puts.{PutsView, WasAsked};
-ghost use Rattle.ioc_set.specs.SetStore.{world_of};
+ghost use Rattle.ioc_workplace.specs.SetStore.{world_of};
 ghost use Rattle.ioc_engine.specs.Served.{WasServed, CallIsRefused};
 
 use crate::engine::Engine;
@@ -15,9 +15,9 @@ use ioc_journal::{Base, Desk, Receipt};
 use ioc_names::RecordNo;
 use ioc_notify::NotifyId;
 use ioc_record::RecordKind;
-use ioc_set::Workplace;
 use ioc_topology::Locked;
 use ioc_values::{Input, IocError};
+use ioc_workplace::Workplace;
 use std::alloc::Global;
 use std::sync::Wait;
 

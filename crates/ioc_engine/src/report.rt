@@ -1,9 +1,9 @@
 //! The end of the engine.
-ghost use Rattle.std.specs.Prelude.{◌≡◌, ◌+◌, map, All, IfOk, IfErr};
+ghost use Rattle.std.specs.Prelude.{◌≡◌, map, All, IfOk, IfErr};
 ghost use Rattle.ioc_line.specs.Line.{Begins};
 ghost use Rattle.ioc_journal.specs.Account.{IsEntryOf};
-ghost use Rattle.ioc_set.specs.Held.{no_counts};
-ghost use Rattle.ioc_engine.specs.Ended.{IsAsTold, IsEnd, counted_with};
+ghost use Rattle.ioc_engine.specs.Ended.{IsAsTold, IsEnd, counts_in};
+ghost use Rattle.ioc_engine.specs.Once.{AreAllBack};
 
 use crate::cancelling::all_sound;
 use crate::engine::Engine;
@@ -36,8 +36,12 @@ pub struct Report<K: RecordKind + Drop, B: Base<K>, D: Drop> {
 pub struct OnceTally {
     /// How many were begun: as many as such requests were sent.
     pub begun: u64,
+    /// How many were spent in their requests.
+    pub spent: u64,
     /// How many were handed back: those whose request waited at the end, or found no room.
     pub handed_back: u64,
+    /// How many are still out.
+    pub out: u64,
     /// How many requests found no room.
     pub dropped: u64,
 }
@@ -45,22 +49,25 @@ pub struct OnceTally {
 // The requests that wait are given up: their tickets are handed back.
 fn give_up_all<L: Ledger>(once: OnceList<L>) -> OnceTally
     ensures begun { result.begun ≡ once.tickets.begun }
-    ensures back { result.handed_back + once.tickets.spent ≡ once.tickets.begun }
+    ensures spent { result.spent ≡ once.tickets.spent }
+    ensures back { AreAllBack result }
     ensures dropped { result.dropped ≡ once.dropped }
 {
     let mut list = once;
     list.hand_back_all();
-    let _out = list.out();
+    let out = list.out();
     OnceTally {
         begun: list.begun(),
+        spent: list.spent(),
         handed_back: list.handed_back(),
+        out,
         dropped: list.dropped(),
     }
 }
 
 // The counts of these sets together.
 fn counts_of<K: RecordKind + Drop, B: Base<K>, D: Drop>(sets: &[Held<K, B, D>]) -> Tally
-    ensures { result ≡ counted_with no_counts sets.now }
+    ensures { result ≡ counts_in sets.now }
 {
     let mut tally = Tally::default();
     for held in sets {
@@ -95,6 +102,7 @@ impl<K: RecordKind + Drop, B: Base<K>, D: Drop> Engine<K, B, D> {
     pub fn stop<R: Wait>(self, rt: &R, alloc: Global) -> Result<Report<K, B, D>, Engine<K, B, D>>
         ensures end { IfOk result (λ r. IsEnd K.rules B.base self r.journal.filled r.sets.items) }
         ensures table { IfOk result (λ r. r.cell.table.shared.table_id ≡ B.table) }
+        ensures once { IfOk result (λ r. AreAllBack r.once) }
         ensures err { IfErr result (λ e. e ≡ self) }
     {
         let Engine {
@@ -129,7 +137,7 @@ impl<K: RecordKind + Drop, B: Base<K>, D: Drop> Engine<K, B, D> {
 impl<K: RecordKind + Drop, B: Base<K>, D: Drop> Report<K, B, D> {
     /// The counts of requests, and of answers that came later, of all sets together.
     pub fn tally(&self) -> Tally
-        ensures { result ≡ counted_with no_counts self.now.sets.items }
+        ensures { result ≡ counts_in self.now.sets.items }
     {
         counts_of(self.sets.as_slice())
     }

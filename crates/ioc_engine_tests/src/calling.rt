@@ -7,9 +7,9 @@ use ioc_journal::{Base, Desk};
 use ioc_names::RecordNo;
 use ioc_notify::NotifyId;
 use ioc_record::copy_link;
-use ioc_set::Workplace;
 use ioc_types::Record;
 use ioc_values::{Finished, Input, IocError, Value};
+use ioc_workplace::Workplace;
 use std::alloc::Global;
 use std::sync::Wait;
 

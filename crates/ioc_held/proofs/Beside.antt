@@ -22,10 +22,10 @@ use Rattle.ioc_line.specs.Line.{Continues, noted}
 use Rattle.ioc_holding.specs.Legal.{IsLegal, IsSound, key_of, map_of, notifications_key}
 use Rattle.ioc_holding.specs.Held.{Holds, Cover, CancelsWithin}
 use Rattle.ioc_holding.specs.Laws.{Lasts, OneMore, HoldersMove, MovesAlike, HeldAlike, HeldAreFewer, HoldersAreFew, StaysSound, GoesOn}
-use Rattle.ioc_journal.specs.Account.{journalled, BothMayFollow, AddedByBoth}
+use Rattle.ioc_journal.specs.Account.{journalled, BothMayFollow, AddedByBoth, puts_key}
 use Rattle.ioc_set.specs.Held.{Held, now_of, done_by}
 use Rattle.ioc_set.specs.Doing.{Does}
-use Rattle.ioc_held.specs.Puts.{puts_keys, AreMoved}
+use Rattle.ioc_held.specs.Puts.{AreMoved}
 use Rattle.ioc_held.proofs.Serving.{holds_on, live_then, records_then, waiting_then, noted_on, moved_on}
 
 -- lines of a number, counted either way
@@ -51,41 +51,41 @@ module _ {R D : Type 0} (k : RecordRules R) (gives : D → Ask → ℕ → Answe
     (does : Does k gives h moment event reply h' come_to) (there : (n : ℕ) → Contains (names event) n → Has (now_of h) n)
     (lasts : Lasts k) (one_more : OneMore k) (moves : HoldersMove k) (alike : HeldAlike k)
     (base : World R) (seen also_seen : List Note) (owned : List Key) (covers : Cover owned (now_of h)) (holds : Holds k (map_of k base seen) (now_of h))
-    (cancels : (log : List Note) → IsSound k base → Continues also_seen puts_keys log → IsLegal k base log → Holds k (map_of k base log) (now_of h) → CancelsWithin k (map_of k base log) (now_of h) event)
-    (asks : (log : List Note) → IsSound k base → Continues also_seen puts_keys log → IsLegal k base log → Holds k (map_of k base log) (now_of h)
+    (cancels : (log : List Note) → IsSound k base → Continues also_seen puts_key log → IsLegal k base log → Holds k (map_of k base log) (now_of h) → CancelsWithin k (map_of k base log) (now_of h) event)
+    (asks : (log : List Note) → IsSound k base → Continues also_seen puts_key log → IsLegal k base log → Holds k (map_of k base log) (now_of h)
     → AskAlike (begun_at moment (now_of h)) (begun_at moment (map_of k base log)) event) where
   abbrev after : World R
   after = (done_by k (now_of h) does.entry).world
 
   abbrev note : (desk call : ℕ) → List Key → Note
-  note desk call own = noted (journalled desk call does.entry) ((owned ++ puts_keys) ++ own)
+  note desk call own = noted (journalled desk call does.entry) ((owned ++ puts_key) ++ own)
 
-  has_puts : (own : List Key) → Has_key notifications_key ((owned ++ puts_keys) ++ own)
-  has_puts own = has_left notifications_key (owned ++ puts_keys) own (has_right notifications_key owned puts_keys (inl refl))
+  has_puts : (own : List Key) → Has_key notifications_key ((owned ++ puts_key) ++ own)
+  has_puts own = has_left notifications_key (owned ++ puts_key) own (has_right notifications_key owned puts_key (inl refl))
 
-  module _ (log : List Note) (desk call : ℕ) (own : List Key) (sound : IsSound k base) (go : Continues seen owned log) (also : Continues also_seen puts_keys log) (legal : IsLegal k base log) where
+  module _ (log : List Note) (desk call : ℕ) (own : List Key) (sound : IsSound k base) (go : Continues seen owned log) (also : Continues also_seen puts_key log) (legal : IsLegal k base log) where
     held : Holds k (map_of k base log) (now_of h)
     held = holds_on k lasts base (now_of h) seen owned covers holds log go legal
 
     goes : GoesOn k base log (note desk call own) (λ m. Holds k m after)
     goes =
-        noted_on k gives h h' moment event reply come_to does there one_more moves base log desk call ((owned ++ puts_keys) ++ own) sound legal held
-        (λ r s. has_left (key_of r) (owned ++ puts_keys) own (has_left (key_of r) owned puts_keys (covers r s)))
+        noted_on k gives h h' moment event reply come_to does there one_more moves base log desk call ((owned ++ puts_key) ++ own) sound legal held
+        (λ r s. has_left (key_of r) (owned ++ puts_key) own (has_left (key_of r) owned puts_key (covers r s)))
         (cancels log sound also legal held) (asks log sound also legal held) (λ out. absurd (out (has_puts own)))
 
     move : MovesAlike k (map_of k base log) (map_of k base (log ++ note desk call own ∷ [])) (now_of h) after
     move =
-        moved_on k gives h h' moment event reply come_to does there one_more moves base log desk call ((owned ++ puts_keys) ++ own) sound legal held
-        (λ r s. has_left (key_of r) (owned ++ puts_keys) own (has_left (key_of r) owned puts_keys (covers r s)))
+        moved_on k gives h h' moment event reply come_to does there one_more moves base log desk call ((owned ++ puts_key) ++ own) sound legal held
+        (λ r s. has_left (key_of r) (owned ++ puts_key) own (has_left (key_of r) owned puts_key (covers r s)))
         (cancels log sound also legal held) (asks log sound also legal held) (λ out. absurd (out (has_puts own)))
 
   -- any legal list that both know goes on with the event
-  pub both_follow : (entry : Entry) → does.entry ≡ entry → BothMayFollow k base seen owned also_seen puts_keys entry
-  both_follow entry is = subst (λ (x : Entry). BothMayFollow k base seen owned also_seen puts_keys x) is (λ log desk call own sound go also legal. (goes log desk call own sound go also legal).legal)
+  pub both_follow : (entry : Entry) → does.entry ≡ entry → BothMayFollow k base seen owned also_seen puts_key entry
+  both_follow entry is = subst (λ (x : Entry). BothMayFollow k base seen owned also_seen puts_key x) is (λ log desk call own sound go also legal. (goes log desk call own sound go also legal).legal)
 
-  module _ (entry : Entry) (is : does.entry ≡ entry) (log longer : List Note) (added : AddedByBoth k base seen owned also_seen puts_keys entry log longer) where
-    as_done : AddedByBoth k base seen owned also_seen puts_keys does.entry log longer
-    as_done = subst (λ (x : Entry). AddedByBoth k base seen owned also_seen puts_keys x log longer) (sym is) added
+  module _ (entry : Entry) (is : does.entry ≡ entry) (log longer : List Note) (added : AddedByBoth k base seen owned also_seen puts_key entry log longer) where
+    as_done : AddedByBoth k base seen owned also_seen puts_key does.entry log longer
+    as_done = subst (λ (x : Entry). AddedByBoth k base seen owned also_seen puts_key x log longer) (sym is) added
 
     -- what is held then is what the world has there
     pub held_beside : Holds k (map_of k base longer) (now_of h')

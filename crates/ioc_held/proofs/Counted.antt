@@ -9,18 +9,19 @@ use Rattle.ioc_line.specs.declared.entry.Note.{Note}
 use Rattle.ioc_line.specs.Line.{Continues}
 use Rattle.ioc_holding.specs.Legal.{IsLegal, map_of, notifications_key}
 use Rattle.ioc_holding.specs.Laws.{LiveLasts}
-use Rattle.ioc_held.specs.Puts.{puts_keys, AreCounted, AreMoved}
+use Rattle.ioc_held.specs.Puts.{AreCounted, AreMoved}
+use Rattle.ioc_journal.specs.Account.{puts_key}
 
 module _ {R : Type 0} (k : RecordRules R) where
   -- how many have each in what the keeper has seen, and in a list that goes on from it without its key
-  pub counted_on : LiveLasts k → (base : World R) (seen log : List Note) (lines : List Live) → AreCounted k base lines seen → Continues seen puts_keys log → IsLegal k base log → AreCounted k base lines log
+  pub counted_on : LiveLasts k → (base : World R) (seen log : List Note) (lines : List Live) → AreCounted k base lines seen → Continues seen puts_key log → IsLegal k base log → AreCounted k base lines log
   counted_on lasts base seen log lines counted go legal n =
       counted n
       ∙ subst (λ (l : List Note). holders_of n (map_of k base seen).live ≡ holders_of n (map_of k base l).live) (sym go.1)
       (lasts base seen go.0 (go.2 notifications_key (inl refl)) (subst (λ (l : List Note). IsLegal k base l) go.1 legal) n)
 
   -- where a set's event is added: no more have any in the set than by the lines, the sums fit, and how many have each then
-  module _ (lasts : LiveLasts k) (base : World R) (seen log longer : List Note) (lines before after : List Live) (counted : AreCounted k base lines seen) (go : Continues seen puts_keys log) (legal : IsLegal k base log)
+  module _ (lasts : LiveLasts k) (base : World R) (seen log longer : List Note) (lines before after : List Live) (counted : AreCounted k base lines seen) (go : Continues seen puts_key log) (legal : IsLegal k base log)
       (moved : AreMoved k base log longer before after) where
     at_log : (n : ℕ) → holders_in n lines ≡ holders_of n (map_of k base log).live
     at_log = counted_on lasts base seen log lines counted go legal

@@ -22,7 +22,8 @@ use Rattle.ioc_holding.specs.Laws.{Lasts, GoesOn, StaysSound}
 use Rattle.ioc_holding.specs.LinkChange.{TakesLink, link_note}
 use Rattle.ioc_relinking.specs.Laws.{SetsLead, SetsMayBeOne}
 use Rattle.ioc_journal.specs.Account.{AreKnown}
-use Rattle.ioc_set.specs.Held.{Held, now_of, resting}
+use Rattle.ioc_set.specs.Held.{Held, now_of}
+use Rattle.ioc_workplace.specs.Resting.{resting}
 use Rattle.ioc_set.specs.Sound.{IsSound as IsSound-set}
 use Rattle.ioc_set.specs.Linking.{LeadsInto, MayBeOne}
 use Rattle.ioc_held.specs.LinkChanges.{keys_of}

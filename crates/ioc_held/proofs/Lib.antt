@@ -1,14 +1,11 @@
-mod Dealing
-mod Keys
+pub mod Dealing
+pub mod Keys
 mod Leading
 mod Nothing
 mod Parting
 mod Serving
 mod Refusing
-mod Lending
 mod Places
 mod Beside
 mod Counted
 mod Telling
-mod Counting
-mod GivingUp

@@ -5,8 +5,10 @@ use Rattle.std.specs.Ordering.{nat_cmp}
 use Rattle.std.specs.FinMap.{empty, get, get-empty, keys}
 use Rattle.atomic_table.specs.Seated.{TableId}
 use Rattle.ioc_record.specs.RecordRules.{RecordRules, targets}
-use Rattle.ioc_store.specs.World.{World, IsClosed, at}
-use Rattle.ioc_set.specs.Held.{Held, resting, nothing_held}
+use Rattle.ioc_store.specs.World.{World, Has, IsClosed, at}
+use Rattle.ioc_holding.specs.Held.{Holds}
+use Rattle.ioc_set.specs.Held.{Held, nothing_held}
+use Rattle.ioc_workplace.specs.Resting.{resting}
 use Rattle.ioc_held.specs.Holding.{IsHeld}
 use Rattle.ioc_held.proofs.Keys.{no_keys}
 
@@ -35,3 +37,7 @@ module _ {R : Type 0} (k : RecordRules R) (missing : targets k k.missing ≡ [])
 
 pub no_numbers : {R D : Type 0} (h : Held R D) → h ≡ nothing_held → keys h.records ≡ []
 no_numbers {R} {D} h is = ap (λ (x : Held R D). keys x.records) is ∙ no_keys R
+
+-- a set of no records is held of any world
+pub nothing_known : {R : Type 0} (k : RecordRules R) (m m' v : World R) → ((n : ℕ) → Has v n → ⊥) → Holds k m v → Holds k m' v
+nothing_known k m m' v none h = record { records = λ n has. absurd (none n has); waiting = λ n has. absurd (none n has); within = h.within; shut = h.shut; apart = λ a n out has c. none n has }

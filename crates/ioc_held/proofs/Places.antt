@@ -18,9 +18,10 @@ use Rattle.ioc_holding.specs.Legal.{IsLegal, IsSound, map_of}
 use Rattle.ioc_holding.specs.Held.{Holds}
 use Rattle.ioc_holding.specs.Laws.{LiveLasts, PlaceForOneMore, StaysSound}
 use Rattle.ioc_set.specs.NoCalls.{no_call}
-use Rattle.ioc_held.specs.Puts.{puts_keys, AreCounted}
+use Rattle.ioc_held.specs.Puts.{AreCounted}
 use Rattle.ioc_held.proofs.Counted.{counted_on}
 use Rattle.ioc_held.proofs.Telling.{same_live}
+use Rattle.ioc_journal.specs.Account.{puts_key}
 
 abbrev numbers : List Live → List ℕ
 numbers ls = map (λ (l : Live). l.number) ls
@@ -47,7 +48,7 @@ there_live n (l ∷ ls) (suc i, lt, is) = either (eqb l.number n) (is_live n ls)
 module _ {R : Type 0} (k : RecordRules R) where
   pub place_alike : PlaceForOneMore k → LiveLasts k → StaysSound k → ((ls : List Live) (n : ℕ) → IsTrue (is_live n ls) ↔ (0 < lines_of n ls))
       → ((ls : List Live) (n : ℕ) → IsTable ls → IsTrue (is_live n ls) ↔ (0 < holders_in n ls))
-      → (base v : World R) (seen log : List Note) (lines : List Live) (number moment : ℕ) → IsTable lines → AreCounted k base lines seen → IsSound k base → Continues seen puts_keys log → IsLegal k base log
+      → (base v : World R) (seen log : List Note) (lines : List Live) (number moment : ℕ) → IsTable lines → AreCounted k base lines seen → IsSound k base → Continues seen puts_key log → IsLegal k base log
       → Holds k (map_of k base log) v → IsCounted k v → length lines < 256 → is_live number lines ≡ false
       → has_place (begun_at moment v) number ≡ has_place (begun_at moment (map_of k base log)) number
   place_alike one_more lasts stays by_lines by_table base v seen log lines number moment table counted sound go legal holds own few free =

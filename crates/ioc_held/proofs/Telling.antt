@@ -22,8 +22,8 @@ use Rattle.ioc_line.specs.declared.entry.Note.{Note}
 use Rattle.ioc_line.specs.Key.{Key}
 use Rattle.ioc_line.specs.Line.{Continues, noted}
 use Rattle.ioc_holding.specs.Legal.{AreLiveAlike, IsLegal, IsSound, IsUntouched, Fits, done, map_of}
-use Rattle.ioc_journal.specs.Account.{journalled, MayFollow, Added}
-use Rattle.ioc_held.specs.Puts.{puts_keys, told_at}
+use Rattle.ioc_journal.specs.Account.{journalled, MayFollow, Added, puts_key}
+use Rattle.ioc_held.specs.Puts.{told_at}
 use Rattle.ioc_held.proofs.Beside.{lines_are}
 
 -- an entry, with these answers
@@ -89,9 +89,9 @@ module _ {R : Type 0} (k : RecordRules R) where
 
   -- a question, and a refusal, of a keeper: told of any legal list, it leaves the world as it was
   module _ (base : World R) (moment : ℕ) (event : Event) (reply : Reply) (seen : List Note)
-      (comes : (log : List Note) → IsSound k base → Continues seen puts_keys log → IsLegal k base log
+      (comes : (log : List Note) → IsSound k base → Continues seen puts_key log → IsLegal k base log
       → (answers : Answers) → stepped k answers (begun_at moment (map_of k base log)) event ≡ record { world = begun_at moment (map_of k base log); reply = reply; requests = None }) where
-    module _ (log : List Note) (desk call : ℕ) (keys : List Key) (sound : IsSound k base) (go : Continues seen puts_keys log) (legal : IsLegal k base log) where
+    module _ (log : List Note) (desk call : ℕ) (keys : List Key) (sound : IsSound k base) (go : Continues seen puts_key log) (legal : IsLegal k base log) where
       abbrev note : Note
       note = noted (journalled desk call (told_at moment event reply)) keys
 
@@ -114,13 +114,13 @@ module _ {R : Type 0} (k : RecordRules R) where
       alike_then =
           subst (λ (w : World R). AreLiveAlike (map_of k base log) w) (sym (map_join log (note ∷ []) base ∙ ap (λ (d : Stepped R). d.world) done_is)) (live_begun (map_of k base log) moment)
 
-    pub told_follows : (entry : Entry) → told_at moment event reply ≡ entry → MayFollow k base seen puts_keys entry
-    told_follows entry is = subst (λ (x : Entry). MayFollow k base seen puts_keys x) is (λ log desk call own sound go legal. legal_then log desk call (puts_keys ++ own) sound go legal)
+    pub told_follows : (entry : Entry) → told_at moment event reply ≡ entry → MayFollow k base seen puts_key entry
+    told_follows entry is = subst (λ (x : Entry). MayFollow k base seen puts_key x) is (λ log desk call own sound go legal. legal_then log desk call (puts_key ++ own) sound go legal)
 
-    pub told_alike : (entry : Entry) → told_at moment event reply ≡ entry → (log longer : List Note) → Added k base seen puts_keys entry log longer → AreLiveAlike (map_of k base log) (map_of k base longer)
+    pub told_alike : (entry : Entry) → told_at moment event reply ≡ entry → (log longer : List Note) → Added k base seen puts_key entry log longer → AreLiveAlike (map_of k base log) (map_of k base longer)
     told_alike entry is log longer added =
-        let a = subst (λ (x : Entry). Added k base seen puts_keys x log longer) (sym is) added in
-        subst (λ (l : List Note). AreLiveAlike (map_of k base log) (map_of k base l)) (sym a.ends) (alike_then log a.desk a.call (puts_keys ++ a.own) a.sound a.goes_on a.legal)
+        let a = subst (λ (x : Entry). Added k base seen puts_key x log longer) (sym is) added in
+        subst (λ (l : List Note). AreLiveAlike (map_of k base log) (map_of k base l)) (sym a.ends) (alike_then log a.desk a.call (puts_key ++ a.own) a.sound a.goes_on a.legal)
 
   -- the question whether one is live
   pub ask_comes : (answers : Answers) (w : World R) (number : ℕ) → stepped k answers w (IsLive number) ≡ record { world = w; reply = Live-reply (is_live number w.live); requests = None }

@@ -4,8 +4,6 @@ use Rattle.std.specs.Prelude.{◌≡◌, ◌⊎◌, ℕ, List, [], Option, Some,
 use Rattle.std.specs.Option.{option_map}
 use Rattle.std.specs.FinMap.{keys}
 use Rattle.atomic_table.specs.Seated.{TableId}
-use Rattle.atomic_table.specs.declared.shared.Seat.{Seat}
-use Rattle.crossbeam_utils.specs.declared.atomic.seq_cell.Doing.{Doing}
 use Rattle.crossbeam_utils.specs.Seq.{cell_view}
 use Rattle.ioc_device.specs.declared.Ask.{Ask}
 use Rattle.ioc_device.specs.declared.Answer.{Answer}
@@ -20,7 +18,7 @@ use Rattle.ioc_line.specs.declared.room.View.{View}
 use Rattle.ioc_holding.specs.Legal.{map_of}
 use Rattle.ioc_holding.specs.Held.{Holds, Cover}
 use Rattle.ioc_values.specs.declared.error.IocError.{IocError}
-use Rattle.ioc_journal.specs.Account.{DeskView, IsHolder, AreRecords, Call}
+use Rattle.ioc_journal.specs.Account.{Pass, DeskView, IsHolder, AreRecords, Call}
 use Rattle.ioc_journal.specs.Places.{IsNoPlace}
 use Rattle.ioc_set.specs.Held.{Held, now_of}
 use Rattle.ioc_set.specs.Sound.{IsSound}
@@ -38,10 +36,6 @@ held_view h seen = record { set = h; seen = seen }
 -- the numbers of its records
 abbrev pub numbers_of : {R D : Type 0} → HeldView R D → List ℕ
 numbers_of v = keys v.set.records
-
--- a pass of the journal's cell
-abbrev pub Pass : Type 0
-Pass = Seat (List ℕ) (Doing (List ℕ) View)
 
 -- what the holder has seen; without a pass it has seen nothing
 abbrev pub seen_by : Option Pass → List Note
@@ -64,6 +58,13 @@ module _ {R D : Type 0} (k : RecordRules R) (base : World R) where
   pub record IsHeld (table : TableId) (pass : Option Pass) (h : Held R D) : Type 0 where
     pub owner : MatchOption pass ((n : ℕ) → Has (now_of h) n → ⊥) (λ (p : Pass). IsOwner table p.table_id (cell_view {V = View} p) (now_of h))
     pub holds : Holds k (map_of k base (seen_by pass)) (now_of h)
+
+  -- a set that was taken from its holder, with the pass that owns the keys of its records
+  pub record IsLent (table : TableId) (h : Held R D) (slot : Option Pass) : Type 0 where
+    pub pass : Pass
+    pub there : slot ≡ Some pass
+    pub owner : IsOwner table pass.table_id (cell_view {V = View} pass) (now_of h)
+    pub holds : Holds k (map_of k base (cell_view {V = View} pass).seen) (now_of h)
 
   -- what holds of a set and of its holder whenever its lock is free
   pub record IsSoundlyHeld (v : HeldView R D) : Type 0 where

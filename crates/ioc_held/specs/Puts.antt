@@ -1,7 +1,7 @@
 -- The puts with notification of all lock sets, in one table beside the journal.
 -- Application Developer's Guide, "Put with Notification" (dbPutNotify): it is complete when all that it has reached is done. The table and its
 -- place beside the journal are this project's own.
-use Rattle.std.specs.Prelude.{◌≡◌, ◌⊎◌, ◌+◌, ◌-◌, ◌≤◌, ◌<◌, ◌^◌, ℕ, true, false, List, [], ◌∷◌, length}
+use Rattle.std.specs.Prelude.{◌≡◌, ◌⊎◌, ◌+◌, ◌-◌, ◌≤◌, ◌<◌, ◌^◌, ℕ, true, false, List, [], length}
 use Rattle.atomic_table.specs.Seated.{TableId}
 use Rattle.crossbeam_utils.specs.Seq.{cell_view}
 use Rattle.ioc_notify.specs.declared.live_numbers.Live.{Live}
@@ -15,13 +15,11 @@ use Rattle.ioc_events.specs.declared.event.Event.TheVariants.{Cancel, IsLive}
 use Rattle.ioc_events.specs.declared.event.Entry.{Entry}
 use Rattle.ioc_events.specs.declared.reply.Reply.{Reply}
 use Rattle.ioc_events.specs.declared.reply.Reply.TheVariants.{Live as Live-reply, Refused}
-use Rattle.ioc_journal.specs.Account.{DeskView, Call}
+use Rattle.ioc_journal.specs.Account.{DeskView, Call, Pass, puts_key}
 use Rattle.ioc_line.specs.declared.entry.Note.{Note}
 use Rattle.ioc_line.specs.declared.room.View.{View}
-use Rattle.ioc_line.specs.Key.{Key}
 use Rattle.ioc_line.specs.Line.{holder}
-use Rattle.ioc_holding.specs.Legal.{map_of, notifications_key}
-use Rattle.ioc_held.specs.Holding.{Pass}
+use Rattle.ioc_holding.specs.Legal.{map_of}
 
 -- the puts with notification that are live, with how many have each; the number that was given last; and the beginning of the journal's list that
 -- their keeper has seen
@@ -32,10 +30,6 @@ pub record PutsView : Type 0 where
 
 abbrev pub puts_view : List Live → ℕ → List Note → PutsView
 puts_view live last seen = record { live = live; last = last; seen = seen }
-
--- what the keeper of the puts with notification owns
-abbrev pub puts_keys : List Key
-puts_keys = notifications_key ∷ []
 
 -- one more may begin, under the number after the last: fewer than 256 are live, and none has it
 pub record CanBegin (p : PutsView) (number : ℕ) : Type 0 where
@@ -55,7 +49,7 @@ module _ {R : Type 0} (k : RecordRules R) (base : World R) where
   -- the keeper owns the key of the puts with notification, and its table counts all; it has room for what a set has besides
   pub record AreKept (table : TableId) (pass : Pass) (t : Table) : Type 0 where
     pub same : pass.table_id ≡ table
-    pub holds : cell_view {V = View} pass ≡ holder (cell_view {V = View} pass).seen puts_keys
+    pub holds : cell_view {V = View} pass ≡ holder (cell_view {V = View} pass).seen puts_key
     pub counted : AreCounted t.live (cell_view {V = View} pass).seen
     pub few : length t.live ≤ 256
     pub room : 512 ≤ t.room

@@ -4,9 +4,9 @@ ghost use Rattle.ioc_events.specs.declared.event.Event.TheVariants.{Cancel, IsLi
 ghost use Rattle.ioc_notify.specs.Living.{is_live};
 ghost use Rattle.ioc_line.specs.declared.entry.Note.{Note};
 ghost use Rattle.ioc_holding.specs.Legal.{AreLiveAlike, map_of};
-ghost use Rattle.ioc_journal.specs.Account.{Call, MayFollow, Added};
+ghost use Rattle.ioc_journal.specs.Account.{Call, MayFollow, Added, puts_key};
 ghost use Rattle.ioc_journal.specs.Places.{IsNoPlace};
-ghost use Rattle.ioc_held.specs.Puts.{puts_view, puts_keys, WasAsked, WasStale};
+ghost use Rattle.ioc_held.specs.Puts.{puts_view, WasAsked, WasStale};
 
 use crate::puts::AllPuts;
 use ioc_events::{Entry, Event, KeptAnswers, Reply};
@@ -36,8 +36,8 @@ impl<K: RecordKind, B: Base<K>> AllPuts<K, B> {
         desk: &mut Desk<K, B>,
         entry: Entry,
     ) -> Receipt<K, B>
-        requires follows { MayFollow K.rules B.base self.old.seen puts_keys entry }
-        requires alike { (log longer : List Note) → Added K.rules B.base self.old.seen puts_keys entry log longer → AreLiveAlike (map_of K.rules B.base log) (map_of K.rules B.base longer) }
+        requires follows { MayFollow K.rules B.base self.old.seen puts_key entry }
+        requires alike { (log longer : List Note) → Added K.rules B.base self.old.seen puts_key entry log longer → AreLiveAlike (map_of K.rules B.base log) (map_of K.rules B.base longer) }
         ensures call { Call K.rules B.base desk.old entry desk.new }
         ensures receipt { result ≡ desk.new.seen }
         ensures kept { self.new ≡ puts_view self.old.live self.old.last desk.new.seen }

@@ -3,13 +3,13 @@ ghost use Rattle.std.specs.Prelude.{◌≡◌, ◌⊎◌, ℕ, IfOk, IfErr, OnOk
 ghost use Rattle.ioc_values.specs.declared.error.IocError.TheVariants.{QueueFull};
 ghost use Rattle.ioc_events.specs.declared.event.Event.TheVariants.{Put, Notify};
 ghost use Rattle.ioc_journal.specs.Places.{IsNoPlace};
-ghost use Rattle.ioc_set.specs.SetStore.{world_of};
+ghost use Rattle.ioc_workplace.specs.SetStore.{world_of};
 ghost use Rattle.ioc_held.specs.Holding.{numbers_of, Serves, IsNoCall};
 ghost use Rattle.ioc_held.specs.Puts.{CanBegin};
 
 use crate::held::Held;
 use crate::puts::{AllPuts, keep_beside};
-use crate::running::run_counted;
+use crate::running::{Ran, run_counted};
 use ioc_device::Device;
 use ioc_events::event_rules::{events_keep_records, rules_are_steps};
 use ioc_events::{Event, Reply};
@@ -23,8 +23,8 @@ use ioc_names::RecordNo;
 use ioc_notify::NotifyId;
 use ioc_put_table::laws::lines_tell_holders;
 use ioc_record::RecordKind;
-use ioc_set::Workplace;
 use ioc_values::{Input, IocError};
+use ioc_workplace::Workplace;
 use std::alloc::Global;
 use std::sync::{Mutex, Wait};
 
@@ -71,20 +71,18 @@ impl<K: RecordKind + Drop, B: Base<K>, D: Device> Held<K, B, D> {
         let Some(mut pass) = self.pass.take() else {
             unreachable!();
         };
+        let Ran {
+            place,
+            before,
+            reply,
+            entry,
+        } = ran;
         let receipt = keep_beside(
-            rt,
-            book,
-            ran.place,
-            &mut pass,
-            all,
-            desk,
-            ran.entry,
-            &ran.before,
-            &self.set,
+            rt, book, place, &mut pass, all, desk, entry, &before, &self.set,
         );
         self.pass = Some(pass);
         all.last = notification.number();
-        Ok((ran.reply, receipt))
+        Ok((reply, receipt))
     }
 
     /// Puts a value into a field as [`Held::put`] does, with a notification, and keeps that in the journal: the put ends when all that it has

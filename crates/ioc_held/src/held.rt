@@ -10,11 +10,11 @@ ghost use Rattle.ioc_set.specs.Held.{NoneIsLive, now_of};
 ghost use Rattle.ioc_set.specs.NoCalls.{no_call};
 ghost use Rattle.ioc_set.specs.Doing.{is_ordinary};
 ghost use Rattle.ioc_journal.specs.Places.{IsNoPlace};
-ghost use Rattle.ioc_set.specs.SetStore.{world_of};
-ghost use Rattle.ioc_held.specs.Holding.{IsOwner, held_view, numbers_of, Serves, Tells, IsNoCall};
+ghost use Rattle.ioc_workplace.specs.SetStore.{world_of};
+ghost use Rattle.ioc_held.specs.Holding.{IsLent, IsOwner, held_view, numbers_of, Serves, Tells, IsNoCall};
 
 use crate::puts::{AllPuts, keep_beside};
-use crate::running::{run_counted, run_in};
+use crate::running::{Ran, run_counted, run_in};
 use ioc_device::Device;
 use ioc_events::event_rules::{events_keep_records, rules_are_steps};
 use ioc_events::notification_rules::events_count_holders;
@@ -24,13 +24,14 @@ use ioc_holding::laws::{
     events_are_held, holders_move, holding_lasts, lists_leave_sound, parts_share_what_is_held,
 };
 use ioc_journal::{Base, Book, Desk, Receipt};
-use ioc_line::Token;
+use ioc_line::{Cell, Token, pass};
 use ioc_names::RecordNo;
 use ioc_notify::NotifyId;
 use ioc_put_table::laws::lines_tell_holders;
 use ioc_record::RecordKind;
-use ioc_set::{LockSet, Workplace, sets_stay_without_puts};
+use ioc_set::{LockSet, sets_stay_without_puts};
 use ioc_values::{Finished, Input, IocError};
+use ioc_workplace::Workplace;
 use std::alloc::Global;
 use std::marker::{Model, PhantomData};
 use std::sync::{Mutex, Wait};
@@ -39,7 +40,7 @@ use std::sync::{Mutex, Wait};
 /// of the journal's list that its holder has seen: what the set holds is what the world of all records has there.
 #[derive(Drop)]
 pub struct Held<K: RecordKind, B: Base<K>, D> {
-    pub(crate) set: LockSet<K, D>,
+    pub set: LockSet<K, D>,
     pub(crate) pass: Option<Token>,
     pub(crate) of: PhantomData<B>,
 }
@@ -70,6 +71,24 @@ impl<K: RecordKind, B: Base<K>, D> Held<K, B, D> {
             set,
             pass: Some(pass),
             of: PhantomData,
+        }
+    }
+
+    /// The set, and the pass that owns the keys of its records; a set of no records that has none gets one.
+    pub fn into_parts(self, cell: &Cell, keeper: &mut Token) -> (LockSet<K, D>, Token)
+        requires table { (keeper.old.table_id ≡ B.table) × (cell.now.table.shared.table_id ≡ B.table) }
+        ensures keeper { (keeper.new.table_id ≡ keeper.old.table_id) × (cell_view keeper.new ≡ cell_view keeper.old) }
+        ensures set { result.0 ≡ self.set }
+        ensures lent { IsLent K.rules B.base B.table result.0 (Some result.1) }
+    {
+        let Held {
+            set,
+            pass: owner,
+            of: _,
+        } = self;
+        match owner {
+            Some(own) => (set, own),
+            None => (set, pass::again(cell, keeper)),
         }
     }
 }
@@ -186,19 +205,17 @@ impl<K: RecordKind + Drop, B: Base<K>, D: Device> Held<K, B, D> {
             unreachable!();
         };
         let mut guard = puts.lock(rt);
+        let Ran {
+            place,
+            before,
+            reply,
+            entry,
+        } = ran;
         let receipt = keep_beside(
-            rt,
-            book,
-            ran.place,
-            &mut pass,
-            &mut guard,
-            desk,
-            ran.entry,
-            &ran.before,
-            &self.set,
+            rt, book, place, &mut pass, &mut guard, desk, entry, &before, &self.set,
         );
         self.pass = Some(pass);
-        Ok((ran.reply, receipt))
+        Ok((reply, receipt))
     }
 
     /// Does a request, a put or a completion on the set, and keeps it in the journal.

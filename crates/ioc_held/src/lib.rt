@@ -6,16 +6,12 @@
 
 mod asking;
 mod beginning;
-pub mod changing;
 mod ending;
-mod giving_up;
 pub mod held;
 mod link_changes;
 mod locked;
 pub mod puts;
 mod running;
 
-pub use changing::{Changed, change_link};
-pub use giving_up::cancel_on;
 pub use held::Held;
 pub use puts::AllPuts;

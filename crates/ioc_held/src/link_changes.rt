@@ -15,7 +15,7 @@ ghost use Rattle.ioc_journal.specs.Account.{IsHolder, AreRecords, BothMayFollow,
 ghost use Rattle.ioc_journal.specs.Places.{IsNoPlace};
 ghost use Rattle.ioc_set.specs.Held.{now_of, folded};
 ghost use Rattle.ioc_set.specs.Linking.{MayBeOne};
-ghost use Rattle.ioc_set.specs.SetStore.{world_of};
+ghost use Rattle.ioc_workplace.specs.SetStore.{world_of};
 ghost use Rattle.ioc_held.specs.LinkChanges.{link_change, keys_of, IsKnown, Refuses, Parts, Leads};
 
 use crate::held::Held;
@@ -29,8 +29,9 @@ use ioc_line::{Keys, Token, pass};
 use ioc_names::RecordNo;
 use ioc_record::RecordKind;
 use ioc_relinking::laws::{held_sets_may_be_one, led_sets_are_held, parted_sets_are_held};
-use ioc_set::{LockSet, Workplace};
+use ioc_set::LockSet;
 use ioc_values::IocError;
+use ioc_workplace::Workplace;
 use std::alloc::Global;
 use std::marker::{Brand, PhantomData};
 use std::sync::Wait;

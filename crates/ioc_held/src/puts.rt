@@ -6,8 +6,8 @@ ghost use Rattle.ioc_notify.specs.Living.{is_live};
 ghost use Rattle.ioc_put_table.specs.Counts.{IsTable, holders_in};
 ghost use Rattle.ioc_line.specs.declared.entry.Note.{Note};
 ghost use Rattle.ioc_line.specs.Line.{holder};
-ghost use Rattle.ioc_journal.specs.Account.{IsHolder, AreRecords, BothMayFollow, Call, AddedByBoth};
-ghost use Rattle.ioc_held.specs.Puts.{puts_view, puts_keys, CanBegin, NoneCanBegin, AreCounted, AreMoved};
+ghost use Rattle.ioc_journal.specs.Account.{IsHolder, AreRecords, BothMayFollow, Call, AddedByBoth, puts_key};
+ghost use Rattle.ioc_held.specs.Puts.{puts_view, CanBegin, NoneCanBegin, AreCounted, AreMoved};
 
 use ioc_events::Entry;
 use ioc_holding::laws::live_lasts;
@@ -27,9 +27,9 @@ use std::sync::Wait;
 /// what is live in the world of all then.
 #[derive(Drop)]
 pub struct AllPuts<K: RecordKind, B: Base<K>> {
-    pub(crate) table: PutTable,
+    pub table: PutTable,
     pub(crate) last: u64,
-    pub(crate) pass: Token,
+    pub pass: Token,
     of: PhantomData<B>,
     kind: PhantomData<K>,
 }
@@ -58,7 +58,7 @@ impl<K: RecordKind, B: Base<K>> AllPuts<K, B> {
     /// [`AllocError`] where memory is wanting.
     pub fn new(alloc: Global, pass: Token) -> Result<Self, AllocError>
         requires table { pass.table_id ≡ B.table }
-        requires holds { cell_view pass ≡ holder [] puts_keys }
+        requires holds { cell_view pass ≡ holder [] puts_key }
         requires none { B.base.live ≡ [] }
         ensures { IfOk result (λ p. p ≡ puts_view [] 0 []) }
     {
@@ -127,8 +127,8 @@ pub(crate) fn keep_beside<K: RecordKind, B: Base<K>, D, R: Wait>(
 ) -> Receipt<K, B>
     requires table { pass.old.table_id ≡ B.table }
     requires set { IsHolder (cell_view pass.old) × AreRecords (cell_view pass.old).owns }
-    requires follows { BothMayFollow K.rules B.base (cell_view pass.old).seen (cell_view pass.old).owns all.old.seen puts_keys entry }
-    requires moves { (log longer : List Note) → AddedByBoth K.rules B.base (cell_view pass.old).seen (cell_view pass.old).owns all.old.seen puts_keys entry log longer →
+    requires follows { BothMayFollow K.rules B.base (cell_view pass.old).seen (cell_view pass.old).owns all.old.seen puts_key entry }
+    requires moves { (log longer : List Note) → AddedByBoth K.rules B.base (cell_view pass.old).seen (cell_view pass.old).owns all.old.seen puts_key entry log longer →
         AreMoved K.rules B.base log longer before.now set.now.live }
     requires few { length set.now.live ≤ 256 }
     ensures call { Call K.rules B.base desk.old entry desk.new }
@@ -136,7 +136,7 @@ pub(crate) fn keep_beside<K: RecordKind, B: Base<K>, D, R: Wait>(
     ensures pass { (pass.new.table_id ≡ B.table) × (cell_view pass.new ≡ holder desk.new.seen (cell_view pass.old).owns) }
     ensures seen { all.new.seen ≡ desk.new.seen }
     ensures last { all.new.last ≡ all.old.last }
-    ensures added { (log : List Note) × AddedByBoth K.rules B.base (cell_view pass.old).seen (cell_view pass.old).owns all.old.seen puts_keys entry log desk.new.seen }
+    ensures added { (log : List Note) × AddedByBoth K.rules B.base (cell_view pass.old).seen (cell_view pass.old).owns all.old.seen puts_key entry log desk.new.seen }
 {
     live_lasts::<K>();
     lines_tell_holders();

@@ -2,7 +2,7 @@
 ghost use Rattle.std.specs.Prelude.{◌≡◌, true, IfOk, IfErr, OnErr};
 ghost use Rattle.ioc_store.specs.Given.{answers_of};
 ghost use Rattle.ioc_journal.specs.Places.{IsNoPlace};
-ghost use Rattle.ioc_set.specs.SetStore.{world_of};
+ghost use Rattle.ioc_workplace.specs.SetStore.{world_of};
 ghost use Rattle.ioc_set.specs.Doing.{Does, is_done_on_sets};
 
 use ioc_device::Device;
@@ -10,15 +10,15 @@ use ioc_events::{Entry, Event, KeptAnswers, Reply};
 use ioc_journal::{Base, Book, Place};
 use ioc_notify::Live;
 use ioc_record::RecordKind;
-use ioc_set::workplace::kept_answers;
-use ioc_set::{LockSet, Workplace};
+use ioc_set::LockSet;
 use ioc_values::IocError;
+use ioc_workplace::Workplace;
+use ioc_workplace::workplace::kept_answers;
 use std::alloc::{AllocError, Global};
 use std::mem;
 use std::sync::Wait;
 
-/// What an event has come to that was done on a set with live puts with notification, and isn't in the journal yet.
-#[derive(Drop)]
+/// What an event has come to that was done on a set with live puts with notification, and isn't in the journal yet. Its place has to be filled.
 pub(crate) struct Ran<K: RecordKind, B: Base<K>> {
     /// The place that is held for it.
     pub place: Place<K, B>,

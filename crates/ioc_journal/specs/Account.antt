@@ -1,6 +1,8 @@
 -- Desks, and the calls that they made, in one list of all that was done.
 -- The journal is this project's own.
 use Rattle.std.specs.Prelude.{◌≡◌, ◌≢◌, ℕ, ◌+◌, ◌<◌, List, [], ◌∷◌, ◌++◌, if◌then◌else◌, nat_eq, length, Some, slice_get}
+use Rattle.atomic_table.specs.declared.shared.Seat.{Seat}
+use Rattle.crossbeam_utils.specs.declared.atomic.seq_cell.Doing.{Doing}
 use Rattle.ioc_record.specs.RecordRules.{RecordRules}
 use Rattle.ioc_store.specs.World.{World}
 use Rattle.ioc_events.specs.declared.event.Entry.{Entry}
@@ -9,7 +11,15 @@ use Rattle.ioc_line.specs.declared.entry.Note.{Note}
 use Rattle.ioc_line.specs.declared.room.View.{View}
 use Rattle.ioc_line.specs.Key.{Key, Has}
 use Rattle.ioc_line.specs.Line.{holder, noted, Continues, Begins}
-use Rattle.ioc_holding.specs.Legal.{IsLegal, IsSound}
+use Rattle.ioc_holding.specs.Legal.{IsLegal, IsSound, notifications_key}
+
+-- a pass of the journal's cell
+abbrev pub Pass : Type 0
+Pass = Seat (List ℕ) (Doing (List ℕ) View)
+
+-- what the keeper of the puts with notification owns
+abbrev pub puts_key : List Key
+puts_key = notifications_key ∷ []
 
 -- a desk: its number, that of its next call, and the list that it has seen
 pub record DeskView : Type 0 where

@@ -28,8 +28,7 @@ impl<K, B: Base<K>> Ledger for Places<K, B> {
     ghost parts = { 18446744073709551615 };
 }
 
-/// A place that is held for one entry: there is room for it.
-#[derive(Drop)]
+/// A place that is held for one entry: there is room for it. It can't be dropped: whoever has it has to fill it or to give it back.
 pub struct Place<K, B: Base<K>> {
     share: Share<Places<K, B>>,
     ghost one: { (share.parts ≡ 1) × (share.amount ≡ 1) },

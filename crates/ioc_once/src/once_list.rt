@@ -106,6 +106,13 @@ impl<L: ledger::Ledger> OnceList<L> {
         self.ledger.begun()
     }
 
+    /// How many were spent.
+    pub fn spent(&self) -> u64
+        ensures { result ≡ self.now.tickets.spent }
+    {
+        self.ledger.spent()
+    }
+
     /// How many were handed back.
     pub fn handed_back(&self) -> u64
         ensures { result ≡ self.now.tickets.back }

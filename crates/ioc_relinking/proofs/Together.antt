@@ -20,7 +20,7 @@ use Rattle.ioc_holding.proofs.LiveFew.{numbers, number-there, entry-live}
 use Rattle.ioc_set.specs.Held.{Held, now_of}
 use Rattle.ioc_set.specs.Sound.{IsSound}
 use Rattle.ioc_set.specs.Linking.{MayBeOne}
-use Rattle.ioc_set.specs.Recounting.{together}
+use Rattle.ioc_workplace.specs.Recounting.{together}
 use Rattle.ioc_relinking.specs.Laws.{SetsMayBeOne}
 
 not-there : {A : Type 0} (o : Option A) → o ≡ None → IsSome o → ⊥

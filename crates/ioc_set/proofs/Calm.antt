@@ -15,15 +15,14 @@ use Rattle.ioc_store.specs.World.{World, Has, IsClosed, at, common_at}
 use Rattle.ioc_events.specs.StepRules.{at_the_end}
 use Rattle.ioc_events.specs.Holding.{IsCounted, IsHeld, by_a_record}
 use Rattle.ioc_awaiting.specs.Awaiting.{awaited}
-use Rattle.ioc_set.specs.Held.{Held, resting, now_of}
+use Rattle.ioc_set.specs.Held.{Held, now_of}
+use Rattle.ioc_workplace.specs.Resting.{resting}
 use Rattle.ioc_set.specs.Linking.{anew, AreCalm}
 use Rattle.ioc_set.specs.Sound.{IsSound, CountsAddUp}
+use Rattle.ioc_workplace.proofs.Entries.{none_some}
 
 pub none_in : {A : Type 0} (x : A) → Contains [] x → ⊥
 none_in x c = let l = c.1 in omega arith
-
-pub none_some : {A : Type 0} (o : Option A) → o ≡ None → IsSome o → ⊥
-none_some {A = A} o none some = let h : false ≡ true = sym (ap (λ (p : Option A). is_some p) none) ∙ some in cc
 
 module _ {R : Type 0} (k : RecordRules R) where
   -- ---- records of a sound set

@@ -22,14 +22,13 @@ use Rattle.ioc_events.specs.Events.{Tells}
 use Rattle.ioc_events.specs.Step.{Stepped, stepped}
 use Rattle.ioc_events.specs.StepRules.{Step, Replay, at_the_end, and_then}
 use Rattle.ioc_events.specs.Holding.{IsCounted}
-use Rattle.ioc_set.specs.declared.set_store.SetStore.{SetStore}
-use Rattle.ioc_set.specs.SetStore.{world_of, given_of}
-use Rattle.ioc_set.specs.Attached.{AttachedGives, attached_in}
-use Rattle.ioc_set.specs.Puts.{Puts, AreNone, now_with}
-use Rattle.ioc_set.specs.Held.{resting}
-use Rattle.ioc_set.specs.Sound.{is_put_with_notification}
+use Rattle.ioc_workplace.specs.declared.set_store.SetStore.{SetStore}
+use Rattle.ioc_workplace.specs.SetStore.{world_of, given_of}
+use Rattle.ioc_workplace.specs.Attached.{AttachedGives, attached_in}
+use Rattle.ioc_workplace.specs.Puts.{Puts, AreNone, now_with, is_put_with_notification}
+use Rattle.ioc_workplace.specs.Resting.{resting}
 use Rattle.ioc_set.specs.Doing.{with_kept, Did}
-use Rattle.ioc_set.proofs.AttachedLaws.{base_kept, worked}
+use Rattle.ioc_workplace.proofs.AttachedLaws.{base_kept, worked}
 
 -- an event begins on a store that has these records and these puts with notification
 pub starts : {R D : Type 0} (s : SetStore R D) (rs : Records R) (live : List Live) (waiting : List Waiting) (moment : ℕ) → s.members.records ≡ rs → (world_of s).live ≡ live → (world_of s).waiting ≡ waiting

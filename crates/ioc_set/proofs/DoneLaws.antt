@@ -16,11 +16,12 @@ use Rattle.ioc_events.specs.declared.event.Event.{Event}
 use Rattle.ioc_events.specs.declared.event.Event.TheVariants.{Get, Process, Put, Complete, Link, Notify, Cancel, IsLive}
 use Rattle.ioc_events.specs.declared.event.Entry.{Entry}
 use Rattle.ioc_events.specs.Step.{is_link_change}
-use Rattle.ioc_set.specs.declared.set_store.SetStore.{SetStore}
-use Rattle.ioc_set.specs.SetStore.{world_of}
-use Rattle.ioc_set.specs.Held.{Held, resting, now_of, folded, done_by, held_after}
+use Rattle.ioc_workplace.specs.declared.set_store.SetStore.{SetStore}
+use Rattle.ioc_workplace.specs.SetStore.{world_of}
+use Rattle.ioc_set.specs.Held.{Held, now_of, folded, done_by, held_after}
+use Rattle.ioc_workplace.specs.Resting.{resting}
 use Rattle.ioc_set.specs.Sound.{IsSound, TellsOf}
-use Rattle.ioc_set.specs.Puts.{Puts}
+use Rattle.ioc_workplace.specs.Puts.{Puts}
 use Rattle.ioc_set.specs.Doing.{is_done_on_sets, held_by, with_place, with_kept, Did, Does}
 
 no_link : (event : Event) → is_done_on_sets event ≡ true → is_link_change event ≡ false

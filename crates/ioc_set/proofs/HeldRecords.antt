@@ -25,14 +25,16 @@ use Rattle.ioc_events.specs.StepRules.{at_the_end}
 use Rattle.ioc_events.specs.Starting.{is_ready}
 use Rattle.ioc_events.specs.Holding.{IsCounted, IsHeld, by_a_record, in_a_waiting_list, HoldersCounted, holders, how_many, one_if_has}
 use Rattle.ioc_awaiting.specs.Awaiting.{awaited}
-use Rattle.ioc_set.specs.Held.{Held, NoneIsLive, resting, now_of}
+use Rattle.ioc_set.specs.Held.{Held, NoneIsLive, now_of}
+use Rattle.ioc_workplace.specs.Resting.{resting}
 use Rattle.ioc_set.specs.Linking.{anew, AreHeld, MayBeOne}
-use Rattle.ioc_set.specs.Recounting.{own_waiting, together, AreLive, WaitsGoAlong}
+use Rattle.ioc_workplace.specs.Recounting.{own_waiting, together, AreLive, WaitsGoAlong}
 use Rattle.ioc_set.specs.Sound.{IsSound, CountsAddUp}
-use Rattle.ioc_set.proofs.Calm.{none_some, none_in, get-insert, shut}
-use Rattle.ioc_set.proofs.Counting.{lives, one_if}
-use Rattle.ioc_set.proofs.Fewer.{fewer}
-use Rattle.ioc_set.proofs.Gathered.{passes-there}
+use Rattle.ioc_set.proofs.Calm.{none_in, get-insert, shut}
+use Rattle.ioc_workplace.proofs.Entries.{none_some}
+use Rattle.ioc_workplace.proofs.Counting.{lives, one_if}
+use Rattle.ioc_workplace.proofs.Fewer.{fewer}
+use Rattle.ioc_workplace.proofs.Gathered.{passes-there}
 
 no_more : (t w l : ℕ) → w ≤ 1 → l ≡ cond (nat_lt 0 (t + w)) 1 0 → w ≤ l
 no_more t zero l once is = omega arith

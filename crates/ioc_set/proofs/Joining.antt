@@ -16,14 +16,16 @@ use Rattle.ioc_members.specs.Contents.{Records, record_at}
 use Rattle.ioc_members.specs.Joined.{AreShared, relinked}
 use Rattle.ioc_store.specs.World.{at}
 use Rattle.ioc_events.specs.Holding.{IsHeld, by_a_record, in_a_waiting_list, HoldersCounted, how_many}
-use Rattle.ioc_set.specs.Held.{Held, resting, now_of}
+use Rattle.ioc_set.specs.Held.{Held, now_of}
+use Rattle.ioc_workplace.specs.Resting.{resting}
 use Rattle.ioc_set.specs.Linking.{AreHeld, MayBeOne}
-use Rattle.ioc_set.specs.Recounting.{together, AreLive, WaitsGoAlong}
-use Rattle.ioc_set.proofs.Calm.{none_some, get-insert}
-use Rattle.ioc_set.proofs.Counting.{lives, how_many-append}
-use Rattle.ioc_set.proofs.Counted.{live-some, some-live}
-use Rattle.ioc_set.proofs.Fewer.{fewer}
-use Rattle.ioc_set.proofs.Gathered.{passes-there, together-count, dead}
+use Rattle.ioc_workplace.specs.Recounting.{together, AreLive, WaitsGoAlong}
+use Rattle.ioc_set.proofs.Calm.{get-insert}
+use Rattle.ioc_workplace.proofs.Entries.{none_some}
+use Rattle.ioc_workplace.proofs.Counting.{lives, how_many-append}
+use Rattle.ioc_workplace.proofs.Counted.{live-some, some-live}
+use Rattle.ioc_workplace.proofs.Fewer.{fewer}
+use Rattle.ioc_workplace.proofs.Gathered.{passes-there, together-count, dead}
 use Rattle.ioc_set.proofs.HeldRecords.{AreSame, Within, within_relinked, same_itself}
 
 -- ---- live on one of two

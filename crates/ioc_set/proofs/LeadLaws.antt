@@ -19,11 +19,12 @@ use Rattle.ioc_set.specs.Held.{Held, NoneIsLive, now_of, folded}
 use Rattle.ioc_set.specs.Doing.{with_kept}
 use Rattle.ioc_set.specs.Linking.{anew, FallsApart, MayBeOne, BecomeOne, LeadsInto}
 use Rattle.ioc_set.specs.Sound.{IsSound}
-use Rattle.ioc_set.specs.Recounting.{AreLive}
+use Rattle.ioc_workplace.specs.Recounting.{AreLive}
 use Rattle.ioc_set.proofs.Joining.{stay_may}
 use Rattle.ioc_set.proofs.Linked.{stay_within}
-use Rattle.ioc_set.proofs.Counting.{few-one}
-use Rattle.ioc_set.proofs.Calm.{get-insert, none_some, none_in}
+use Rattle.ioc_workplace.proofs.Counting.{few-one}
+use Rattle.ioc_set.proofs.Calm.{get-insert, none_in}
+use Rattle.ioc_workplace.proofs.Entries.{none_some}
 
 -- an empty link leads nowhere
 nowhere : named_by (use_of no_link) ≡ []

@@ -1,17 +1,9 @@
-mod Giving
 mod Sounding
 mod NoneLive
 mod Beginning
-mod AttachedLaws
 mod DidLaws
 mod DoneLaws
 mod NothingHeld
-mod Entries
-mod Recounts
-mod Counting
-mod Counted
-mod Fewer
-mod Gathered
 mod HeldRecords
 mod Joining
 mod Calm
@@ -26,3 +18,4 @@ mod LeadLaws
 mod Sums
 mod Staying
 mod NoCalls
+mod Awaits

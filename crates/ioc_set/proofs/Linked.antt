@@ -16,9 +16,10 @@ use Rattle.ioc_store.specs.Scanning.{rewired}
 use Rattle.ioc_events.specs.declared.event.Entry.{Entry}
 use Rattle.ioc_events.specs.Holding.{HoldersCounted}
 use Rattle.ioc_awaiting.specs.Awaiting.{awaited}
-use Rattle.ioc_set.specs.Puts.{Puts, AreNone, HasBegun, begun_with}
-use Rattle.ioc_set.specs.Recounting.{own_waiting, AreLive}
-use Rattle.ioc_set.specs.Held.{Held, resting, now_of, no_counts}
+use Rattle.ioc_workplace.specs.Puts.{Puts, AreNone, HasBegun, begun_with}
+use Rattle.ioc_workplace.specs.Recounting.{own_waiting, AreLive}
+use Rattle.ioc_set.specs.Held.{Held, now_of, no_counts}
+use Rattle.ioc_workplace.specs.Resting.{resting}
 use Rattle.ioc_set.specs.Doing.{held_by}
 use Rattle.ioc_set.specs.Linking.{anew, added, AreCalm, AreHeld, FallsApart, BecomeOne, less_awaited, awaited_alone}
 use Rattle.ioc_set.specs.Sound.{IsSound, CountsAddUp}

@@ -14,8 +14,9 @@ use Rattle.ioc_events.specs.declared.event.Entry.{Entry}
 use Rattle.ioc_events.specs.StepRules.{at_the_end}
 use Rattle.ioc_events.specs.Holding.{IsCounted, HoldersAwait, holders, one_if_has}
 use Rattle.ioc_awaiting.specs.Awaiting.{one_if_awaits, awaited}
-use Rattle.ioc_set.specs.Puts.{Puts, no_puts}
-use Rattle.ioc_set.specs.Held.{Held, resting, nothing_held, no_counts}
+use Rattle.ioc_workplace.specs.Puts.{Puts, no_puts}
+use Rattle.ioc_set.specs.Held.{Held, nothing_held, no_counts}
+use Rattle.ioc_workplace.specs.Resting.{resting}
 use Rattle.ioc_set.specs.Sound.{IsSound, CountsAddUp}
 use Rattle.ioc_set.specs.Doing.{held_by}
 use Rattle.ioc_set.proofs.Anew.{WereNone}

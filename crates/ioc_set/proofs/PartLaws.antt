@@ -13,7 +13,8 @@ use Rattle.ioc_members.specs.Contents.{Records, Devices}
 use Rattle.ioc_members.specs.Joined.{AreShared, relinked}
 use Rattle.ioc_store.specs.World.{World, Has, Keeps, at, begun, begun_at, put}
 use Rattle.ioc_store.specs.Scanning.{device_of, rewired}
-use Rattle.ioc_set.specs.Held.{Held, now_of, resting}
+use Rattle.ioc_set.specs.Held.{Held, now_of}
+use Rattle.ioc_workplace.specs.Resting.{resting}
 use Rattle.ioc_set.specs.Doing.{with_kept}
 use Rattle.ioc_set.specs.Linking.{anew, added, FallsApart, link_change_of}
 use Rattle.ioc_set.proofs.Linked.{has_begun, was_begun}

@@ -18,11 +18,12 @@ use Rattle.ioc_store.specs.World.{World, Has, Keeps, at, begun, begun_at, put, c
 use Rattle.ioc_store.specs.Scanning.{device_of, moved, rewired}
 use Rattle.ioc_store.specs.ScanLaws.{rewired-either, moved-either}
 use Rattle.ioc_store.specs.Worlds.{sent_by}
-use Rattle.ioc_set.specs.declared.set_store.SetStore.{SetStore}
-use Rattle.ioc_set.specs.SetStore.{world_of}
-use Rattle.ioc_set.specs.Held.{resting}
+use Rattle.ioc_workplace.specs.declared.set_store.SetStore.{SetStore}
+use Rattle.ioc_workplace.specs.SetStore.{world_of}
+use Rattle.ioc_workplace.specs.Resting.{resting}
 use Rattle.ioc_set.specs.Doing.{with_records, with_kept}
-use Rattle.ioc_set.proofs.Calm.{get-insert, none_some}
+use Rattle.ioc_set.proofs.Calm.{get-insert}
+use Rattle.ioc_workplace.proofs.Entries.{none_some}
 
 -- what an event has come to in a store whose records were exchanged for those of a set
 pub came_to : {R D : Type 0} (s' s'' : SetStore R D) (after : Contents R D) (w : World R) → after ≡ s'.members → s''.event ≡ s'.event → world_of s' ≡ w

@@ -16,10 +16,11 @@ use Rattle.ioc_events.specs.declared.event.Event.TheVariants.{Process, Put, Comp
 use Rattle.ioc_events.specs.declared.event.Entry.{Entry}
 use Rattle.ioc_events.specs.declared.reply.Reply.{Reply}
 use Rattle.ioc_events.specs.Step.{tallied}
-use Rattle.ioc_set.specs.declared.set_store.SetStore.{SetStore}
-use Rattle.ioc_set.specs.SetStore.{world_of}
-use Rattle.ioc_set.specs.Puts.{Puts, now_with}
-use Rattle.ioc_set.specs.Held.{Held, now_of, resting, folded, done_by, held_after}
+use Rattle.ioc_workplace.specs.declared.set_store.SetStore.{SetStore}
+use Rattle.ioc_workplace.specs.SetStore.{world_of}
+use Rattle.ioc_workplace.specs.Puts.{Puts, now_with}
+use Rattle.ioc_set.specs.Held.{Held, now_of, folded, done_by, held_after}
+use Rattle.ioc_workplace.specs.Resting.{resting}
 use Rattle.ioc_set.specs.Sound.{TellsOf}
 
 -- a request, a put or a completion

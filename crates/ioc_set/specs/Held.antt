@@ -11,6 +11,7 @@ use Rattle.ioc_store.specs.World.{World, begun_at}
 use Rattle.ioc_store.specs.Given.{listed}
 use Rattle.ioc_events.specs.declared.event.Entry.{Entry}
 use Rattle.ioc_events.specs.Step.{Stepped, stepped, tallied}
+use Rattle.ioc_workplace.specs.Resting.{resting}
 
 -- no request was counted yet
 abbrev pub no_counts : Tally
@@ -41,10 +42,6 @@ nothing_held = record { records = empty; devices = empty; live = []; waiting = [
 -- no put with notification is live on a set, and so none waits
 abbrev pub NoneIsLive : {R D : Type 0} → Held R D → Type 0
 NoneIsLive h = (h.live ≡ []) × (h.waiting ≡ [])
-
--- a database at rest with these records and puts with notification
-abbrev pub resting : {R : Type 0} → Records R → List Live → List Waiting → World R
-resting records live waiting = record { records = records; moment = 0; calls = []; outbox = []; dropped = 0; live = live; ended = []; waiting = waiting }
 
 abbrev pub now_of : {R D : Type 0} → Held R D → World R
 now_of h = resting h.records h.live h.waiting

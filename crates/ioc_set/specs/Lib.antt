@@ -1,11 +1,6 @@
-pub mod Attached
-pub mod SetStore
-pub mod SetStoreLaws
-pub mod Puts
 pub mod Held
 pub mod Sound
 pub mod Doing
 pub mod HeldCode
-pub mod Recounting
 pub mod Linking
 pub mod NoCalls

@@ -15,9 +15,10 @@ use Rattle.ioc_members.specs.Joined.{AreShared, relinked}
 use Rattle.ioc_store.specs.World.{World, at, put, begun_at}
 use Rattle.ioc_store.specs.Scanning.{device_of, rewired}
 use Rattle.ioc_events.specs.Holding.{HoldersAwait, HoldersCounted}
-use Rattle.ioc_set.specs.Held.{Held, NoneIsLive, now_of, resting, no_counts, nothing_held}
+use Rattle.ioc_set.specs.Held.{Held, NoneIsLive, now_of, no_counts, nothing_held}
+use Rattle.ioc_workplace.specs.Resting.{resting}
 use Rattle.ioc_set.specs.Doing.{with_kept}
-use Rattle.ioc_set.specs.Recounting.{WaitsGoAlong, together}
+use Rattle.ioc_workplace.specs.Recounting.{WaitsGoAlong, together}
 use Rattle.ioc_set.specs.Sound.{IsSound}
 
 -- a set that begins anew with these records, devices, puts with notification and counts: it has no history

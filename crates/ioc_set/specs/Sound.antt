@@ -1,6 +1,6 @@
 -- What holds of a lock set whenever it is free.
 -- Application Developer's Guide, "Database Locking, Scanning, and Processing": records that links join are in one lock set.
-use Rattle.std.specs.Prelude.{◌≡◌, ◌⊎◌, ℕ, ◌+◌, ◌-◌, ◌^◌, ◌<◌, ◌≤◌, Bool, true, false, length}
+use Rattle.std.specs.Prelude.{◌≡◌, ◌⊎◌, ℕ, ◌+◌, ◌-◌, ◌^◌, ◌<◌, ◌≤◌, false, length}
 use Rattle.ioc_ledger.specs.declared.tally.Tally.{Tally}
 use Rattle.ioc_ledger.specs.Requests.{Fits, AddsUp}
 use Rattle.ioc_record.specs.RecordRules.{RecordRules}
@@ -8,8 +8,6 @@ use Rattle.ioc_members.specs.Joined.{links_of, IsPart}
 use Rattle.ioc_store.specs.World.{World}
 use Rattle.ioc_store.specs.Given.{answers_of}
 use Rattle.ioc_process.specs.Rules.{IsSettled}
-use Rattle.ioc_events.specs.declared.event.Event.{Event}
-use Rattle.ioc_events.specs.declared.event.Event.TheVariants.{Notify}
 use Rattle.ioc_events.specs.declared.event.Entry.{Entry}
 use Rattle.ioc_events.specs.Step.{is_link_change}
 use Rattle.ioc_events.specs.StepRules.{Replay}
@@ -17,11 +15,6 @@ use Rattle.ioc_events.specs.Starting.{NoneReady}
 use Rattle.ioc_events.specs.Holding.{IsCounted, HoldersAwait}
 use Rattle.ioc_awaiting.specs.Awaiting.{awaited}
 use Rattle.ioc_set.specs.Held.{Held, now_of, before_of, done_by, counted_on}
-
--- a put with notification
-abbrev pub is_put_with_notification : Event → Bool
-is_put_with_notification (Notify s number field given) = true
-is_put_with_notification _ = false
 
 -- the requests begun are those processed, disabled, active or put down for reprocessing; and the answers that were to come later are those
 -- completed and those still awaited, which are so many. Each count is a number of 64 bits, and one that is full says no more

@@ -26,8 +26,9 @@ ghost use Rattle.ioc_awaiting.specs.Awaiting.{awaited};
 ghost use Rattle.ioc_set.specs.Held.{Held, NoneIsLive, now_of, folded, held_after};
 ghost use Rattle.ioc_set.specs.Doing.{is_ordinary, Does};
 ghost use Rattle.ioc_set.specs.Linking.{anew, AreCalm, AreHeld, MayBeOne, with_link_changed};
-ghost use Rattle.ioc_set.specs.Recounting.{AreLive};
-ghost use Rattle.ioc_set.specs.Sound.{CountsAddUp, IsSound, TellsOf, is_put_with_notification};
+ghost use Rattle.ioc_workplace.specs.Recounting.{AreLive};
+ghost use Rattle.ioc_set.specs.Sound.{CountsAddUp, IsSound, TellsOf};
+ghost use Rattle.ioc_workplace.specs.Puts.{is_put_with_notification};
 
 use ioc_awaiting::laws::events_count_awaited;
 use ioc_device::Device;

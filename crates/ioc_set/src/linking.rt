@@ -5,13 +5,11 @@ ghost use Rattle.ioc_members.specs.Contents.{RecordsAreLikeTheirBase};
 ghost use Rattle.ioc_store.specs.Scanning.{rewired};
 ghost use Rattle.ioc_store.specs.World.{begun_at};
 ghost use Rattle.ioc_set.specs.Doing.{with_records};
-ghost use Rattle.ioc_set.specs.Held.{resting};
+ghost use Rattle.ioc_workplace.specs.Resting.{resting};
 ghost use Rattle.ioc_set.specs.Linking.{added};
-ghost use Rattle.ioc_set.specs.Puts.{begun_with};
-ghost use Rattle.ioc_set.specs.SetStore.{world_of};
+ghost use Rattle.ioc_workplace.specs.Puts.{begun_with};
+ghost use Rattle.ioc_workplace.specs.SetStore.{world_of};
 
-use crate::live_puts::LivePuts;
-use crate::workplace::Workplace;
 use ioc_device::Device;
 use ioc_events::Entry;
 use ioc_ledger::Tally;
@@ -21,6 +19,7 @@ use ioc_names::RecordNo;
 use ioc_record::RecordKind;
 use ioc_store::scan_change::rewire;
 use ioc_values::Short;
+use ioc_workplace::{LivePuts, Workplace};
 use std::mem;
 
 /// A set begins anew: its history is forgotten, so that each record is its own base, and the puts with notification are those before it.

@@ -7,13 +7,11 @@ ghost use Rattle.ioc_process.specs.Runs.{ForAnswers};
 ghost use Rattle.ioc_events.specs.Step.{stepped};
 ghost use Rattle.ioc_events.specs.Events.{Tells};
 ghost use Rattle.ioc_events.specs.Holding.{IsCounted};
-ghost use Rattle.ioc_set.specs.Held.{resting};
-ghost use Rattle.ioc_set.specs.Sound.{is_put_with_notification};
+ghost use Rattle.ioc_workplace.specs.Resting.{resting};
+ghost use Rattle.ioc_workplace.specs.Puts.{is_put_with_notification};
 ghost use Rattle.ioc_set.specs.Doing.{is_done_on_sets, Did};
 
 use crate::laws::{none_live_stays_so, notifications_begin_by_notify};
-use crate::live_puts::LivePuts;
-use crate::workplace::{Workplace, kept_answers};
 use ioc_device::Device;
 use ioc_events::event_rules::rules_are_steps;
 use ioc_events::{Entry, Event, Reply, run_cancel, run_complete, run_notify, run_put, run_request};
@@ -21,6 +19,8 @@ use ioc_ledger::Tally;
 use ioc_members::Members;
 use ioc_record::RecordKind;
 use ioc_store::{Frame, Store};
+use ioc_workplace::workplace::kept_answers;
+use ioc_workplace::{LivePuts, Workplace};
 use std::alloc::Global;
 use std::mem;
 

@@ -16,7 +16,7 @@ use Rattle.ioc_line.specs.Key.{Key, record_keys}
 use Rattle.ioc_line.specs.Key.{Has as Has_key}
 use Rattle.ioc_line.specs.KeyLaws.{has_either, record_kind}
 use Rattle.ioc_holding.specs.Held.{Holds}
-use Rattle.ioc_set.specs.Held.{resting}
+use Rattle.ioc_workplace.specs.Resting.{resting}
 use Rattle.ioc_set.specs.Linking.{AreCalm, IsCalm, NoneAwaits}
 use Rattle.ioc_dealing.specs.declared.dealing.Loaded.{Loaded}
 use Rattle.ioc_dealing.specs.Dealing.{HasPart}

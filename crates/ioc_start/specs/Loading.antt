@@ -1,13 +1,13 @@
 -- A loaded database before its first event.
 -- Application Developer's Guide, "Database Locking, Scanning, and Processing": records that links join are in one lock set.
-use Rattle.std.specs.Prelude.{◌≡◌, ℕ, ◌<◌, ◌≤◌, false, None, List, [], map, length, All, slice_index, slice_index_or}
+use Rattle.std.specs.Prelude.{◌≡◌, ℕ, ◌<◌, ◌≤◌, false, Option, None, List, [], map, length, All, slice_index, slice_index_or}
 use Rattle.ioc_record.specs.RecordRules.{RecordRules}
 use Rattle.ioc_members.specs.Contents.{Contents, nothing}
 use Rattle.ioc_members.specs.Joined.{links_of, IsPart}
 use Rattle.ioc_store.specs.OneMap.{numbered}
 use Rattle.ioc_store.specs.World.{World}
 use Rattle.ioc_line.specs.Key.{Key, Has}
-use Rattle.ioc_set.specs.Held.{resting}
+use Rattle.ioc_workplace.specs.Resting.{resting}
 use Rattle.ioc_dealing.specs.declared.dealing.Loaded.{Loaded}
 use Rattle.ioc_dealing.specs.Dealing.{HasPart}
 use Rattle.ioc_dealing.specs.Linked.{AreParts}
@@ -15,6 +15,10 @@ use Rattle.ioc_dealing.specs.Linked.{AreParts}
 -- the world at the load: the records by their places
 abbrev pub loaded_world : {R D : Type 0} → List (Loaded R D) → World R
 loaded_world all = resting (numbered (map (λ l. l.fields) all)) [] []
+
+-- each record has the device at its place; none where there is none at that place
+abbrev pub HaveDevices : {R D : Type 0} → List (Loaded R D) → List (Option D) → Type 0
+HaveDevices all devices = (i : ℕ) (l : Loaded _ _) → i < length all → (slice_index_or all i l).device ≡ slice_index_or devices i None
 
 -- each of these keys is that of a record whose part has a lower number
 abbrev pub AreOfPartsBelow : List ℕ → ℕ → List Key → Type 0

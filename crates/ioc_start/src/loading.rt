@@ -1,9 +1,23 @@
 //! The records of a loaded database.
-ghost use Rattle.std.specs.Prelude.{◌≡◌, map, All, IfOk};
+ghost use Rattle.std.specs.Prelude.{◌≡◌, None, drop, map, slice_index_or, All, IfOk};
+ghost use Rattle.std.specs.Vec.Iter.{into_iter_items};
+ghost use Rattle.ioc_start.specs.Loading.{HaveDevices};
 
 use ioc_dealing::Loaded;
 use ioc_record::RecordKind;
 use std::alloc::{AllocError, Global};
+use std::vec::IntoIter;
+
+// The device at the next place; none where there is none at that place, and past the last place.
+fn next_device<D: Drop>(beside: &mut IntoIter<Option<D>>) -> Option<D>
+    ensures first { result ≡ slice_index_or (into_iter_items beside.old) 0 None }
+    ensures left { into_iter_items beside.new ≡ drop 1 (into_iter_items beside.old) }
+{
+    match beside.next() {
+        Some(device) => device,
+        None => None,
+    }
+}
 
 /// The records of a database, each with a copy of it as its base, and with the device at its place; where there is none at that place, it has none.
 ///
@@ -17,6 +31,7 @@ pub fn with_copies<K: RecordKind + Drop, D: Drop>(
 ) -> Result<Vec<Loaded<K, D>>, AllocError>
     ensures copies { IfOk result (λ all. All (λ l. l.base ≡ l.fields) all.items) }
     ensures records { IfOk result (λ all. map (λ l. l.fields) all.items ≡ records.items) }
+    ensures devices { IfOk result (λ all. HaveDevices all.items devices.items) }
 {
     let count = records.len();
     let mut all = Vec::with_capacity(alloc, count)?;
@@ -27,10 +42,7 @@ pub fn with_copies<K: RecordKind + Drop, D: Drop>(
             unreachable!()
         };
         let base = fields.copy(alloc)?;
-        let device = match beside.next() {
-            Some(device) => device,
-            None => None,
-        };
+        let device = next_device(&mut beside);
         all.push(Loaded {
             fields,
             base,

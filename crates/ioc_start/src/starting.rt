@@ -4,8 +4,10 @@ ghost use Rattle.crossbeam_utils.specs.Seq.{cell_view};
 ghost use Rattle.ioc_line.specs.Line.{keeper};
 ghost use Rattle.ioc_journal.specs.Account.{AreNoDesks, AreRecords};
 ghost use Rattle.ioc_journal.specs.Places.{AreAllowed};
+ghost use Rattle.ioc_members.specs.Joined.{IsClosed};
+ghost use Rattle.ioc_dealing.specs.Linked.{links_in};
 ghost use Rattle.ioc_start.specs.Loading.{loaded_world, IsIdle};
-ghost use Rattle.ioc_start.specs.declared.starting.StartError.TheVariants.{BadValue, NotAtRest};
+ghost use Rattle.ioc_start.specs.declared.starting.StartError.TheVariants.{BadValue, NotAtRest, LinkLeaves};
 
 use crate::holding::hold_all;
 use ioc_dealing::laws::dealt_sets_are_parts;
@@ -94,7 +96,10 @@ pub fn start<K: RecordKind + Drop, B: Base<K>, D: Drop>(
     ensures count { IfOk result (λ e. e ≡ length all.items) }
     ensures limits { OnOk result (AreAllowed limits) }
     ensures refused { IfErr result (λ e. (e ≡ BadValue) ↔ (AreAllowed limits → ⊥)) }
+    ensures idle { OnOk result (All (λ l. IsIdle K.rules l.fields) all.items) }
+    ensures closed { OnOk result (IsClosed (links_in K.rules all.items)) }
     ensures rest { IfErr result (λ e. e ≡ NotAtRest → All (λ l. IsIdle K.rules l.fields) all.items → ⊥) }
+    ensures leaves { IfErr result (λ e. e ≡ LinkLeaves → IsClosed (links_in K.rules all.items) → ⊥) }
 {
     if !limits.are_allowed() {
         return Err(StartError::BadValue);

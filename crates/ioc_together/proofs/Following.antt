@@ -19,11 +19,11 @@ use Rattle.ioc_holding.specs.Legal.{IsSound as IsSound-world}
 use Rattle.ioc_holding.specs.Held.{Holds, Cover}
 use Rattle.ioc_holding.specs.Laws.{Lasts, LiveLasts, GoesOn}
 use Rattle.ioc_holding.proofs.Basics.{is-none}
-use Rattle.ioc_journal.specs.Account.{MayFollow, Added}
+use Rattle.ioc_journal.specs.Account.{MayFollow, Added, puts_key}
 use Rattle.ioc_set.specs.Held.{Held, now_of}
 use Rattle.ioc_set.specs.Sound.{IsSound}
 use Rattle.ioc_cancelling.specs.Laws.{cancel_note, ShareNone, IsHeldSoundly, IsGivenUpByAll, SetsGiveUp}
-use Rattle.ioc_together.specs.Passes.{Slot, view_in, AreTakenOver, puts_key}
+use Rattle.ioc_together.specs.Passes.{Slot, view_in, AreTakenOver}
 use Rattle.ioc_together.specs.Sets.{EachGivesUp, EachIsHeldBy, HaveAll, cancel_entry}
 use Rattle.ioc_together.proofs.TakingOver.{continues_on}
 

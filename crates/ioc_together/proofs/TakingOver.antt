@@ -11,8 +11,8 @@ use Rattle.ioc_line.specs.Key.{Key, Has}
 use Rattle.ioc_line.specs.KeyLaws.{has_left, has_right, has_either, spares_append, continues_self}
 use Rattle.ioc_line.specs.Line.{Continues, holder}
 use Rattle.ioc_holding.specs.Legal.{IsLegal}
-use Rattle.ioc_journal.specs.Account.{IsHolder, AreNoDesks, AreMerged}
-use Rattle.ioc_together.specs.Passes.{Pass, Slot, view_of, view_in, IsPassOf, OwnApart, IsTakenOver, AreTakenOver}
+use Rattle.ioc_journal.specs.Account.{IsHolder, AreNoDesks, AreMerged, Pass}
+use Rattle.ioc_together.specs.Passes.{Slot, view_of, view_in, IsPassOf, OwnApart, IsTakenOver, AreTakenOver}
 
 -- a list that goes on from one that goes on
 pub continues_on : (seen mid log : List Note) (ks ls : List Key) → Continues seen ks mid → Continues mid ls log → ((key : Key) → Has key ks → Has key ls) → Continues seen ks log

@@ -1,11 +1,9 @@
 -- Passes of several sets, and one that takes over their keys for a while.
 -- This project's own.
-use Rattle.std.specs.Prelude.{◌≡◌, ℕ, ◌<◌, Bool, ◌&&◌, ◌==◌, not, List, [], ◌∷◌, All, length, Option, Some, None}
+use Rattle.std.specs.Prelude.{◌≡◌, ℕ, ◌<◌, Bool, ◌&&◌, ◌==◌, not, List, All, length, Option, Some, None}
 use Rattle.std.specs.List.{AllPairs, filter}
 use Rattle.std.specs.FinMap.{keys, contains_key}
 use Rattle.atomic_table.specs.Seated.{TableId}
-use Rattle.atomic_table.specs.declared.shared.Seat.{Seat}
-use Rattle.crossbeam_utils.specs.declared.atomic.seq_cell.Doing.{Doing}
 use Rattle.crossbeam_utils.specs.Seq.{cell_view}
 use Rattle.ioc_record.specs.RecordRules.{RecordRules}
 use Rattle.ioc_store.specs.World.{World}
@@ -13,13 +11,9 @@ use Rattle.ioc_line.specs.declared.entry.Note.{Note}
 use Rattle.ioc_line.specs.declared.room.View.{View}
 use Rattle.ioc_line.specs.Key.{Key, Has, record_keys}
 use Rattle.ioc_line.specs.Line.{holder, nobody, Continues}
-use Rattle.ioc_holding.specs.Legal.{IsLegal, IsSound, notifications_key}
-use Rattle.ioc_journal.specs.Account.{IsHolder, AreNoDesks}
+use Rattle.ioc_holding.specs.Legal.{IsLegal, IsSound}
+use Rattle.ioc_journal.specs.Account.{Pass, IsHolder, AreNoDesks}
 use Rattle.ioc_set.specs.Held.{Held}
-
--- a pass of the journal's cell
-abbrev pub Pass : Type 0
-Pass = Seat (List ℕ) (Doing (List ℕ) View)
 
 abbrev pub view_of : Pass → View
 view_of p = cell_view {V = View} p
@@ -80,7 +74,3 @@ module _ {R D : Type 0} where
     pub there : slot ≡ Some pass
     pub same : pass.table_id ≡ table
     pub holds : view_of pass ≡ holder seen (keys_of h)
-
--- the key of the puts with notification alone
-abbrev pub puts_key : List Key
-puts_key = notifications_key ∷ []

@@ -13,10 +13,10 @@ use Rattle.ioc_line.specs.declared.room.View.{View}
 use Rattle.ioc_line.specs.Line.{holder}
 use Rattle.ioc_holding.specs.Legal.{map_of}
 use Rattle.ioc_holding.specs.Held.{Holds, Cover}
-use Rattle.ioc_journal.specs.Account.{DeskView, Call}
+use Rattle.ioc_journal.specs.Account.{DeskView, Call, puts_key}
 use Rattle.ioc_set.specs.Held.{Held, now_of}
 use Rattle.ioc_cancelling.specs.Laws.{GivesUp, holders_in_all}
-use Rattle.ioc_together.specs.Passes.{Slot, view_in, puts_key, IsPassIn, IsDealt}
+use Rattle.ioc_together.specs.Passes.{Slot, view_in, IsPassIn, IsDealt}
 
 -- what the journal keeps of a cancel that is done
 abbrev pub cancel_entry : (moment number : ℕ) → Entry

@@ -2,7 +2,7 @@
 ghost use Rattle.std.specs.Prelude.{◌≡◌, ◌<◌, ℕ, true, length, slice_index_or, OnOk, OnErr};
 ghost use Rattle.ioc_notify.specs.Living.{is_live};
 ghost use Rattle.ioc_set.specs.Held.{Held};
-ghost use Rattle.ioc_set.specs.SetStore.{world_of};
+ghost use Rattle.ioc_workplace.specs.SetStore.{world_of};
 ghost use Rattle.ioc_cancelling.specs.Laws.{GivesUp, CameToNothing};
 ghost use Rattle.ioc_together.specs.Sets.{EachGivesUp};
 
@@ -10,7 +10,8 @@ use ioc_cancelling::laws::cancels_leave_nobody;
 use ioc_device::Device;
 use ioc_notify::NotifyId;
 use ioc_record::RecordKind;
-use ioc_set::{LockSet, Workplace};
+use ioc_set::LockSet;
+use ioc_workplace::Workplace;
 use std::alloc::{AllocError, Global};
 use std::sync::Wait;
 

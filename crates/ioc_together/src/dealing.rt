@@ -6,10 +6,10 @@ ghost use Rattle.ioc_line.specs.Key.{Key, Has};
 ghost use Rattle.ioc_line.specs.Line.{holder};
 ghost use Rattle.ioc_holding.specs.Legal.{notifications_key};
 ghost use Rattle.ioc_holding.specs.Held.{Cover};
-ghost use Rattle.ioc_journal.specs.Account.{IsHolder};
+ghost use Rattle.ioc_journal.specs.Account.{IsHolder, puts_key};
 ghost use Rattle.ioc_set.specs.Held.{Held, now_of};
 ghost use Rattle.ioc_cancelling.specs.Laws.{ShareNone};
-ghost use Rattle.ioc_together.specs.Passes.{Slot, keys_of, other_keys, puts_key, IsDealt};
+ghost use Rattle.ioc_together.specs.Passes.{Slot, keys_of, other_keys, IsDealt};
 
 use ioc_line::{Cell, Keys, Token, pass};
 use ioc_record::RecordKind;

@@ -8,8 +8,8 @@ ghost use Rattle.ioc_holding.specs.Legal.{map_of};
 ghost use Rattle.ioc_journal.specs.Places.{IsNoPlace};
 ghost use Rattle.ioc_set.specs.Held.{Held};
 ghost use Rattle.ioc_set.specs.Sound.{IsSound};
-ghost use Rattle.ioc_together.specs.Passes.{puts_key};
 ghost use Rattle.ioc_together.specs.Sets.{EachIsHeldBy, HaveAll, GaveUp};
+ghost use Rattle.ioc_journal.specs.Account.{puts_key};
 
 use crate::cancelling::cancel_all;
 use crate::counting::{all_live, total_in};
@@ -23,8 +23,9 @@ use ioc_journal::{Base, Book, Desk, Receipt};
 use ioc_line::Token;
 use ioc_notify::NotifyId;
 use ioc_record::RecordKind;
-use ioc_set::{LockSet, Workplace};
+use ioc_set::LockSet;
 use ioc_values::IocError;
+use ioc_workplace::Workplace;
 use std::alloc::Global;
 use std::sync::Wait;
 

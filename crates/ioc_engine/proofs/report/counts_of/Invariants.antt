@@ -1,6 +1,6 @@
 use Rattle.std.proofs.Common.{◌≡◌, drop}
 use Rattle.ioc_set.specs.Held.{no_counts}
-use Rattle.ioc_engine.specs.Ended.{counted_with}
+use Rattle.ioc_engine.proofs.Counts.{counted_with}
 use Rattle.ioc_engine.proofs.report.counts_of.Given as goal
 
 -- with those that come the counts are those of all

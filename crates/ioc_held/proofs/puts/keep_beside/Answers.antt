@@ -7,8 +7,8 @@ use Rattle.ioc_line.specs.declared.room.View.{View}
 use Rattle.ioc_line.specs.Key.{Key}
 use Rattle.ioc_line.specs.Line.{holder}
 use Rattle.ioc_holding.specs.Legal.{map_of, notifications_key}
-use Rattle.ioc_journal.specs.Account.{BothMayFollow, AddedByBoth}
-use Rattle.ioc_held.specs.Puts.{PutsView, puts_keys, AreCounted}
+use Rattle.ioc_journal.specs.Account.{BothMayFollow, AddedByBoth, puts_key}
+use Rattle.ioc_held.specs.Puts.{PutsView, AreCounted}
 use Rattle.ioc_held.proofs.Counted.{before_there, sums_fit, counted_then}
 use Rattle.ioc_held.proofs.puts.keep_beside.Goals as goal
 
@@ -25,7 +25,7 @@ append_two-receipt-requires-clause-follows g c =
     let seen = ap (λ (v : PutsView). v.seen) (sym c.all.view_is) in
     let owns = ap (λ (v : View). v.owns) (sym c.all.invariant.holds) in
     subst (λ (ks : List Key). BothMayFollow k base one.seen one.owns (cell_view c.all.inside.pass).seen ks c.args.entry) owns
-    (subst (λ (s : List Note). BothMayFollow k base one.seen one.owns s puts_keys c.args.entry) seen c.requires.follows)
+    (subst (λ (s : List Note). BothMayFollow k base one.seen one.owns s puts_key c.args.entry) seen c.requires.follows)
 
 pub count_anew-requires-clause-there : goal.count_anew-requires-clause-there
 count_anew-requires-clause-there g c n =
@@ -37,7 +37,7 @@ count_anew-requires-clause-there g c n =
     let log = c.append_two-receipt.ensures.added.0 in
     let longer = c.append_two-receipt.new.desk.seen in
     let added = subst (λ (ks : List Key). AddedByBoth k base one.seen one.owns (cell_view c.all.inside.pass).seen ks c.args.entry log longer) owns c.append_two-receipt.ensures.added.1 in
-    let moved = c.requires.moves log longer (subst (λ (s : List Note). AddedByBoth k base one.seen one.owns s puts_keys c.args.entry log longer) seen added) in
+    let moved = c.requires.moves log longer (subst (λ (s : List Note). AddedByBoth k base one.seen one.owns s puts_key c.args.entry log longer) seen added) in
     before_there k c.live_lasts.ensures base (cell_view c.all.inside.pass).seen log longer c.all.inside.table.live c.args.before.now c.args.set.now.live c.all.invariant.counted added.also_goes_on added.legal moved n
 
 pub count_anew-requires-clause-fits : goal.count_anew-requires-clause-fits
@@ -50,7 +50,7 @@ count_anew-requires-clause-fits g c n =
     let log = c.append_two-receipt.ensures.added.0 in
     let longer = c.append_two-receipt.new.desk.seen in
     let added = subst (λ (ks : List Key). AddedByBoth k base one.seen one.owns (cell_view c.all.inside.pass).seen ks c.args.entry log longer) owns c.append_two-receipt.ensures.added.1 in
-    let moved = c.requires.moves log longer (subst (λ (s : List Note). AddedByBoth k base one.seen one.owns s puts_keys c.args.entry log longer) seen added) in
+    let moved = c.requires.moves log longer (subst (λ (s : List Note). AddedByBoth k base one.seen one.owns s puts_key c.args.entry log longer) seen added) in
     subst (λ (ls : List Live). holders_in n c.all.inside.table.live + holders_in n ls < 2 ^ 64 + holders_in n c.args.before.now) (sym c.live_puts.ensures)
     (sums_fit k c.live_lasts.ensures base (cell_view c.all.inside.pass).seen log longer c.all.inside.table.live c.args.before.now c.args.set.now.live c.all.invariant.counted added.also_goes_on added.legal moved n)
 
@@ -64,7 +64,7 @@ invariant_of-all g c =
     let log = c.append_two-receipt.ensures.added.0 in
     let longer = c.append_two-receipt.new.desk.seen in
     let added = subst (λ (ks : List Key). AddedByBoth k base one.seen one.owns (cell_view c.all.inside.pass).seen ks c.args.entry log longer) owns c.append_two-receipt.ensures.added.1 in
-    let moved = c.requires.moves log longer (subst (λ (s : List Note). AddedByBoth k base one.seen one.owns s puts_keys c.args.entry log longer) seen added) in
+    let moved = c.requires.moves log longer (subst (λ (s : List Note). AddedByBoth k base one.seen one.owns s puts_key c.args.entry log longer) seen added) in
     let counts = subst (λ (ls : List Live). (n : ℕ) → holders_in n c.count_anew.new.table.live + holders_in n c.args.before.now ≡ holders_in n c.all.inside.table.live + holders_in n ls) c.live_puts.ensures c.count_anew.ensures.counts in
     let told = counted_then k c.live_lasts.ensures base (cell_view c.all.inside.pass).seen log longer c.all.inside.table.live c.args.before.now c.args.set.now.live c.all.invariant.counted added.also_goes_on added.legal moved c.count_anew.new.table.live counts in
     let other = c.append_two-receipt.ensures.other in
@@ -72,7 +72,7 @@ invariant_of-all g c =
     let few = moved.few in
     record {
       same = other.0 ∙ c.all.invariant.same;
-      holds = subst (λ (v : View). v ≡ holder v.seen puts_keys) (sym other.1) refl;
+      holds = subst (λ (v : View). v ≡ holder v.seen puts_key) (sym other.1) refl;
       counted = subst (λ (v : View). AreCounted k base c.count_anew.new.table.live v.seen) (sym other.1) told;
       few = omega (arith, short, few);
       room = subst (λ (n : ℕ). 512 ≤ n) (sym c.count_anew.ensures.room) c.all.invariant.room;

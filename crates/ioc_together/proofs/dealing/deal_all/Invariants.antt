@@ -5,7 +5,8 @@ use Rattle.ioc_line.specs.Line.{holder}
 use Rattle.ioc_holding.specs.Legal.{notifications_key}
 use Rattle.ioc_holding.specs.Held.{Cover}
 use Rattle.ioc_set.specs.Held.{Held, now_of}
-use Rattle.ioc_together.specs.Passes.{Slot, view_of, keys_of, other_keys, puts_key, IsDealt}
+use Rattle.ioc_together.specs.Passes.{Slot, view_of, keys_of, other_keys, IsDealt}
+use Rattle.ioc_journal.specs.Account.{puts_key}
 use Rattle.ioc_together.proofs.dealing.deal_all.Given as goal
 
 abbrev pub invariant-loop-i : goal.invariant-loop-i

@@ -10,9 +10,9 @@ use Rattle.ioc_line.specs.Key.{Has as Has_key}
 use Rattle.ioc_line.specs.Line.{holder}
 use Rattle.ioc_holding.specs.Legal.{notifications_key}
 use Rattle.ioc_holding.specs.Held.{Cover}
-use Rattle.ioc_journal.specs.Account.{MayFollow, Call, Added}
+use Rattle.ioc_journal.specs.Account.{MayFollow, Call, Added, puts_key}
 use Rattle.ioc_set.specs.Held.{now_of, nothing_held}
-use Rattle.ioc_together.specs.Passes.{IsDealt, puts_key}
+use Rattle.ioc_together.specs.Passes.{IsDealt}
 use Rattle.ioc_together.proofs.Following.{may_follow, puts_owned, covered_then, share_none_then, held_then, nobody_then, others_then}
 use Rattle.ioc_together.proofs.giving_up.give_up.Goals as goal
 

@@ -1,11 +1,11 @@
 use Rattle.std.proofs.Common.{ℕ, Option, Result, Ok, Err, sym, ◌∙◌, subst, inl, inr}
 use Rattle.std.specs.Prelude.{IfOk, IfErr}
 use Rattle.ioc_common.specs.declared.link_field.LinkField.{LinkField}
-use Rattle.ioc_set.specs.SetStore.{world_of}
+use Rattle.ioc_workplace.specs.SetStore.{world_of}
 use Rattle.ioc_journal.specs.Account.{DeskView}
 use Rattle.ioc_topology.specs.Change.{AreLent}
 use Rattle.ioc_held.specs.Holding.{numbers_of}
-use Rattle.ioc_held.specs.Changing.{Relinks}
+use Rattle.ioc_lent.specs.Changing.{Relinks}
 use Rattle.ioc_engine.specs.Linked.{other_of}
 use Rattle.ioc_engine.proofs.engine.Engine.set_link.Goals as goal
 

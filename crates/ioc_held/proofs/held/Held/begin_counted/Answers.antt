@@ -9,10 +9,10 @@ use Rattle.ioc_events.specs.Step.{names}
 use Rattle.ioc_holding.specs.Held.{Holds}
 use Rattle.ioc_holding.specs.Legal.{map_of}
 use Rattle.ioc_line.specs.declared.room.View.{View}
-use Rattle.ioc_journal.specs.Account.{Call}
+use Rattle.ioc_journal.specs.Account.{Call, Pass}
 use Rattle.ioc_set.specs.Held.{now_of}
-use Rattle.ioc_set.specs.SetStore.{world_of}
-use Rattle.ioc_held.specs.Holding.{Pass, HeldView, held_view, numbers_of, IsHeld, Serves}
+use Rattle.ioc_workplace.specs.SetStore.{world_of}
+use Rattle.ioc_held.specs.Holding.{HeldView, held_view, numbers_of, IsHeld, Serves}
 use Rattle.ioc_held.specs.Puts.{AreMoved}
 use Rattle.ioc_held.proofs.Keys.{key_there}
 use Rattle.ioc_held.proofs.Serving.{one_there, owner_on, entry_is, only}

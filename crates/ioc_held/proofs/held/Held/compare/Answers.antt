@@ -4,9 +4,10 @@ use Rattle.std.specs.FinMap.{get}
 use Rattle.crossbeam_utils.specs.Seq.{cell_view}
 use Rattle.ioc_set.specs.Held.{now_of}
 use Rattle.ioc_set.specs.Linking.{MayBeOne}
-use Rattle.ioc_held.specs.Holding.{Pass, HeldView, IsHeld}
+use Rattle.ioc_held.specs.Holding.{HeldView, IsHeld}
 use Rattle.ioc_held.proofs.Leading.{holds_known, sets_apart, sets_may_be_one}
 use Rattle.ioc_held.proofs.Serving.{owner_on}
+use Rattle.ioc_journal.specs.Account.{Pass}
 use Rattle.ioc_held.proofs.held.Held.compare.Goals as goal
 
 pub unreachable-requires : goal.unreachable-requires

@@ -7,10 +7,10 @@ use Rattle.ioc_events.specs.declared.event.Event.TheVariants.{Get}
 use Rattle.ioc_holding.specs.Held.{Holds}
 use Rattle.ioc_holding.specs.Legal.{map_of}
 use Rattle.ioc_line.specs.declared.room.View.{View}
-use Rattle.ioc_journal.specs.Account.{Call}
+use Rattle.ioc_journal.specs.Account.{Call, Pass}
 use Rattle.ioc_set.specs.Held.{now_of}
 use Rattle.ioc_set.specs.NoCalls.{no_call}
-use Rattle.ioc_held.specs.Holding.{Pass, HeldView, held_view, numbers_of, IsHeld, Tells}
+use Rattle.ioc_held.specs.Holding.{HeldView, held_view, numbers_of, IsHeld, Tells}
 use Rattle.ioc_held.proofs.Keys.{key_there}
 use Rattle.ioc_held.proofs.Serving.{owner_on, get_may_follow, held_after_get}
 use Rattle.ioc_held.proofs.held.Held.get.Goals as goal

@@ -2,10 +2,10 @@ use Rattle.std.proofs.Common.{[], Option, refl, sym, ◌∙◌, subst}
 use Rattle.crossbeam_utils.specs.Seq.{cell_view}
 use Rattle.ioc_line.specs.declared.room.View.{View}
 use Rattle.ioc_holding.specs.Legal.{map_of}
-use Rattle.ioc_journal.specs.Account.{IsHolder, AreRecords}
+use Rattle.ioc_journal.specs.Account.{IsHolder, AreRecords, Pass}
 use Rattle.ioc_set.specs.Held.{now_of}
-use Rattle.ioc_held.specs.Holding.{Pass, IsHeld}
-use Rattle.ioc_held.proofs.GivingUp.{nothing_known}
+use Rattle.ioc_held.specs.Holding.{IsHeld}
+use Rattle.ioc_held.proofs.Nothing.{nothing_known}
 use Rattle.ioc_held.proofs.held.Held.into_parts.Goals as goal
 
 pub returns-in-None-clause-lent : goal.returns-in-None-clause-lent

@@ -9,13 +9,13 @@ use Rattle.ioc_members.specs.Joined.{HasLink}
 use Rattle.ioc_store.specs.World.{World, common_at}
 use Rattle.ioc_holding.specs.Held.{Holds}
 use Rattle.ioc_holding.specs.Legal.{map_of}
-use Rattle.ioc_journal.specs.Account.{BothMayFollow, AddedByBoth}
+use Rattle.ioc_journal.specs.Account.{BothMayFollow, AddedByBoth, Pass}
 use Rattle.ioc_line.specs.declared.entry.Note.{Note}
 use Rattle.ioc_line.specs.declared.room.View.{View}
 use Rattle.ioc_set.specs.Held.{Held, now_of}
 use Rattle.ioc_set.specs.Linking.{MayBeOne}
-use Rattle.ioc_set.specs.SetStore.{world_of}
-use Rattle.ioc_held.specs.Holding.{Pass, HeldView, IsHeld}
+use Rattle.ioc_workplace.specs.SetStore.{world_of}
+use Rattle.ioc_held.specs.Holding.{HeldView, IsHeld}
 use Rattle.ioc_held.specs.LinkChanges.{link_change}
 use Rattle.ioc_held.proofs.Dealing.{dealt_owner, both_may_follow, known_then}
 use Rattle.ioc_held.proofs.Leading.{lead_within, lead_apart, lead_goes_on}

@@ -2,9 +2,10 @@ use Rattle.std.proofs.Common.{◌≡◌, Option, Some, None, refl, sym, ◌∙�
 use Rattle.crossbeam_utils.specs.Seq.{cell_view}
 use Rattle.ioc_line.specs.Line.{holder}
 use Rattle.ioc_set.specs.Held.{now_of}
-use Rattle.ioc_held.specs.Holding.{Pass, IsHeld}
+use Rattle.ioc_held.specs.Holding.{IsHeld}
 use Rattle.ioc_held.proofs.Leading.{holds_known}
 use Rattle.ioc_held.proofs.Serving.{owner_on}
+use Rattle.ioc_journal.specs.Account.{Pass}
 use Rattle.ioc_held.proofs.held.Held.learn_all.Goals as goal
 
 pub invariant_of-self-2 : goal.invariant_of-self-2

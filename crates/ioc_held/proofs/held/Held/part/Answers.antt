@@ -9,11 +9,11 @@ use Rattle.ioc_members.specs.Joined.{HasLink}
 use Rattle.ioc_store.specs.World.{World, common_at}
 use Rattle.ioc_holding.specs.Held.{Holds, Cover}
 use Rattle.ioc_holding.specs.Legal.{map_of}
-use Rattle.ioc_journal.specs.Account.{IsHolder, AreRecords, BothMayFollow, AddedByBoth}
+use Rattle.ioc_journal.specs.Account.{IsHolder, AreRecords, BothMayFollow, AddedByBoth, Pass}
 use Rattle.ioc_line.specs.declared.entry.Note.{Note}
 use Rattle.ioc_line.specs.declared.room.View.{View}
 use Rattle.ioc_set.specs.Held.{now_of}
-use Rattle.ioc_held.specs.Holding.{Pass, HeldView, IsHeld}
+use Rattle.ioc_held.specs.Holding.{HeldView, IsHeld}
 use Rattle.ioc_held.specs.LinkChanges.{link_change}
 use Rattle.ioc_held.proofs.Dealing.{dealt_owner, both_may_follow, known_then}
 use Rattle.ioc_held.proofs.Parting.{takes_link, part_within, part_apart, part_goes_on}

@@ -10,9 +10,9 @@ use Rattle.ioc_events.specs.declared.reply.Reply.TheVariants.{Refused}
 use Rattle.ioc_holding.specs.Held.{Holds}
 use Rattle.ioc_holding.specs.Legal.{map_of}
 use Rattle.ioc_line.specs.declared.room.View.{View}
-use Rattle.ioc_journal.specs.Account.{Call}
+use Rattle.ioc_journal.specs.Account.{Call, Pass}
 use Rattle.ioc_set.specs.Held.{now_of}
-use Rattle.ioc_held.specs.Holding.{Pass, HeldView, held_view, IsHeld}
+use Rattle.ioc_held.specs.Holding.{HeldView, held_view, IsHeld}
 use Rattle.ioc_held.specs.LinkChanges.{Refuses}
 use Rattle.ioc_held.proofs.Serving.{owner_on}
 use Rattle.ioc_held.proofs.Refusing.{link_there, link_has, refusal_may_follow, held_after_refusal}

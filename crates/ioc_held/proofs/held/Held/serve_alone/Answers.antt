@@ -7,11 +7,11 @@ use Rattle.ioc_events.specs.Step.{names}
 use Rattle.ioc_holding.specs.Held.{Holds}
 use Rattle.ioc_holding.specs.Legal.{map_of}
 use Rattle.ioc_line.specs.declared.room.View.{View}
-use Rattle.ioc_journal.specs.Account.{Call}
+use Rattle.ioc_journal.specs.Account.{Call, Pass}
 use Rattle.ioc_set.specs.Held.{NoneIsLive, now_of}
 use Rattle.ioc_set.specs.NoCalls.{no_call}
-use Rattle.ioc_set.specs.SetStore.{world_of}
-use Rattle.ioc_held.specs.Holding.{Pass, HeldView, held_view, numbers_of, IsHeld, Serves}
+use Rattle.ioc_workplace.specs.SetStore.{world_of}
+use Rattle.ioc_held.specs.Holding.{HeldView, held_view, numbers_of, IsHeld, Serves}
 use Rattle.ioc_held.proofs.Keys.{key_there}
 use Rattle.ioc_held.proofs.Serving.{names_one, owner_on, entry_is, none_held, may_follow, held_then, only}
 use Rattle.ioc_held.proofs.held.Held.serve_alone.Goals as goal

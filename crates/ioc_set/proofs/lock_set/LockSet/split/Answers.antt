@@ -7,7 +7,7 @@ use Rattle.ioc_awaiting.specs.Awaiting.{awaited}
 use Rattle.ioc_set.specs.Held.{Held}
 use Rattle.ioc_set.specs.Linking.{added, less_awaited, awaited_alone}
 use Rattle.ioc_set.specs.Sound.{CountsAddUp}
-use Rattle.ioc_set.specs.Puts.{Puts}
+use Rattle.ioc_workplace.specs.Puts.{Puts}
 use Rattle.ioc_set.specs.Doing.{held_by}
 use Rattle.ioc_set.proofs.AwaitedSums.{awaited-few, awaited-parted}
 use Rattle.ioc_set.proofs.Counts.{rest_adds_up, stay_adds_up, parts_add_up}

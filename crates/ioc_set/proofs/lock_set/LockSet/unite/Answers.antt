@@ -5,7 +5,7 @@ use Rattle.ioc_ledger.specs.declared.tally.Tally.{Tally}
 use Rattle.ioc_notify.specs.declared.waiting_lists.Waiting.{Waiting}
 use Rattle.ioc_members.specs.Contents.{Records, Contents}
 use Rattle.ioc_set.specs.Held.{Held, no_counts}
-use Rattle.ioc_set.specs.Puts.{Puts}
+use Rattle.ioc_workplace.specs.Puts.{Puts}
 use Rattle.ioc_set.specs.Sound.{CountsAddUp}
 use Rattle.ioc_set.specs.Doing.{held_by}
 use Rattle.ioc_awaiting.specs.Awaiting.{awaited}

@@ -1,0 +1,3 @@
+mod Lending
+mod Counting
+mod GivingUp

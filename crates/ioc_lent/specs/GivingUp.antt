@@ -1,0 +1,56 @@
+-- A put with notification that is given up in several held sets.
+-- Application Developer's Guide, "Put with Notification" (dbNotifyCancel). The journal is this project's own.
+use Rattle.std.specs.Prelude.{◌≡◌, ℕ, ◌<◌, ◌≢◌, List, length, map, slice_index_or, Option, Some}
+use Rattle.atomic_table.specs.Seated.{TableId}
+use Rattle.crossbeam_utils.specs.Seq.{cell_view}
+use Rattle.ioc_notify.specs.Living.{holders_of}
+use Rattle.ioc_put_table.specs.Counts.{holders_in}
+use Rattle.ioc_events.specs.declared.event.Event.TheVariants.{Cancel}
+use Rattle.ioc_events.specs.declared.reply.Reply.{Reply}
+use Rattle.ioc_events.specs.declared.reply.Reply.TheVariants.{Plain}
+use Rattle.ioc_journal.specs.Account.{DeskView, Call, puts_key, Pass}
+use Rattle.ioc_line.specs.Line.{holder}
+use Rattle.ioc_cancelling.specs.Laws.{GivesUp}
+use Rattle.ioc_held.specs.Puts.{PutsView, told_at}
+use Rattle.ioc_record.specs.RecordRules.{RecordRules}
+use Rattle.ioc_store.specs.World.{World}
+use Rattle.ioc_line.specs.declared.room.View.{View}
+use Rattle.ioc_holding.specs.Legal.{map_of}
+use Rattle.ioc_holding.specs.Held.{Holds}
+use Rattle.ioc_set.specs.Held.{Held, now_of}
+use Rattle.ioc_held.specs.Holding.{HeldView, IsLent}
+
+module _ {R D : Type 0} (k : RecordRules R) (base : World R) where
+  abbrev pub EachIsLent : TableId → List (Held R D) → List (Option Pass) → Type 0
+  EachIsLent table sets passes = (i : ℕ) (d : Held R D) (e : Option Pass) → i < length sets → IsLent k base table (slice_index_or sets i d) (slice_index_or passes i e)
+
+-- what the sets hold
+abbrev pub sets_of : {R D : Type 0} → List (HeldView R D) → List (Held R D)
+sets_of held = map (λ (h : HeldView _ _). h.set) held
+
+-- each holds one of these sets
+abbrev pub AreSameSets : {R D : Type 0} → List (Held R D) → List (HeldView R D) → Type 0
+AreSameSets {R} {D} before after = (i : ℕ) (d : Held R D) (e : HeldView R D) → i < length before → (slice_index_or after i e).set ≡ slice_index_or before i d
+
+module _ {R D : Type 0} (k : RecordRules R) (base : World R) (moment number : ℕ) (desk : DeskView) (before : List (Held R D)) where
+  -- each of these held sets has given it up in one call of a desk, which stands at the end of the legal list that the desk, the holders and the keeper
+  -- of the puts with notification have seen then. Nobody has it any more, and as many as before have each other
+  pub record HeldGaveUp (kept : View) (desk_then : DeskView) (after : List (HeldView R D)) (kept_then : View) : Type 0 where
+    pub gives_up : (i : ℕ) (d : Held R D) (e : HeldView R D) → i < length before → GivesUp k number (slice_index_or before i d) (slice_index_or after i e).set
+    pub call : Call k base desk (told_at moment (Cancel number) Plain) desk_then
+    pub seen : (i : ℕ) (d : HeldView R D) → i < length after → (slice_index_or after i d).seen ≡ desk_then.seen
+    pub keeps : kept_then ≡ holder desk_then.seen puts_key
+    pub nobody : holders_of number (map_of k base desk_then.seen).live ≡ 0
+    pub others : (other : ℕ) → other ≢ number → holders_of other (map_of k base desk_then.seen).live ≡ holders_of other (map_of k base kept.seen).live
+
+module _ {R D : Type 0} (k : RecordRules R) (base : World R) (moment number : ℕ) (desk : DeskView) (before : List (HeldView R D)) where
+  -- and so do the lines of the table tell
+  pub record GaveUpOn (puts : PutsView) (reply : Reply) (desk_then : DeskView) (after : List (HeldView R D)) (puts_then : PutsView) : Type 0 where
+    pub answer : reply ≡ Plain
+    pub gives_up : (i : ℕ) (d e : HeldView R D) → i < length before → GivesUp k number (slice_index_or before i d).set (slice_index_or after i e).set
+    pub call : Call k base desk (told_at moment (Cancel number) Plain) desk_then
+    pub seen : (i : ℕ) (d : HeldView R D) → i < length after → (slice_index_or after i d).seen ≡ desk_then.seen
+    pub puts_seen : puts_then.seen ≡ desk_then.seen
+    pub last : puts_then.last ≡ puts.last
+    pub nobody : holders_in number puts_then.live ≡ 0
+    pub others : (other : ℕ) → other ≢ number → holders_in other puts_then.live ≡ holders_in other puts.live

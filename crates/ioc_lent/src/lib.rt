@@ -1,0 +1,8 @@
+//! Calls on held sets that are lent to them: a link change over one or two sets, and a put with notification that is given up on several.
+#![tactic(auto)]
+
+pub mod changing;
+mod giving_up;
+
+pub use changing::{Changed, change_link};
+pub use giving_up::cancel_on;

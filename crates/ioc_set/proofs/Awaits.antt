@@ -1,0 +1,20 @@
+-- How many records await a completion, one record after another.
+use Rattle.std.proofs.Common.{◌≡◌, ℕ, ◌+◌, ◌≤◌, cond, drop, Option, Some, is_some, ap, ◌∙◌, subst}
+use Rattle.std.specs.Prelude.{slice_get}
+use Rattle.std.specs.FinMap.{len, len-entries, entries, keys}
+use Rattle.std.proofs.lemmas.List.{drop_all}
+use Rattle.ioc_record.specs.RecordRules.{RecordRules}
+use Rattle.ioc_members.specs.Contents.{Records, record_at}
+use Rattle.ioc_store.specs.World.{total}
+use Rattle.ioc_awaiting.specs.Awaiting.{one_if_awaits}
+use Rattle.ioc_workplace.proofs.Entries.{entry-next}
+
+module _ {R : Type 0} (k : RecordRules R) (m : Records R) where
+  -- how many await a completion from a place on
+  pub awaits-at : (i q : ℕ) → slice_get (keys m) i ≡ Some q → (o : Option ℕ) → (k.common (record_at k m q)).pending ≡ o
+      → total (one_if_awaits k) (drop i (entries m)) ≡ cond (is_some o) 1 0 + total (one_if_awaits k) (drop (i + 1) (entries m))
+  awaits-at i q is o has =
+      ap (total (one_if_awaits k)) (entry-next k m i q is) ∙ ap (λ (p : Option ℕ). cond {A = ℕ} (is_some p) 1 0 + total (one_if_awaits k) (drop (i + 1) (entries m))) has
+
+  pub awaits-past : (i : ℕ) → len m ≤ i → total (one_if_awaits k) (drop i (entries m)) ≡ 0
+  awaits-past i past = ap (total (one_if_awaits k)) (drop_all i (entries m) (subst (λ (n : ℕ). n ≤ i) (len-entries m) past))

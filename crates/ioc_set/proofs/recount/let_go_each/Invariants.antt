@@ -1,7 +1,0 @@
-use Rattle.std.proofs.Common.{◌≡◌, drop}
-use Rattle.ioc_set.specs.Recounting.{lost_each}
-use Rattle.ioc_set.proofs.recount.let_go_each.Given as goal
-
--- those so far are let go
-abbrev pub invariant-loop-live : goal.invariant-loop-live
-invariant-loop-live l = (lost_each (drop l.live-index l.numbers) l.into.live.live ≡ lost_each l.numbers l.fn.into.live.live) × (l.into.waiting ≡ l.fn.into.waiting)

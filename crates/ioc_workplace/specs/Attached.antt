@@ -1,0 +1,18 @@
+-- What stands beside each record of a lock set: its base, and its device if it has one. This project's own.
+use Rattle.std.specs.Prelude.{◌≡◌, ℕ, Option}
+use Rattle.std.specs.Option.{option_map}
+use Rattle.std.specs.FinMap.{get}
+use Rattle.ioc_device.specs.declared.Ask.{Ask}
+use Rattle.ioc_device.specs.declared.Answer.{Answer}
+use Rattle.ioc_members.specs.Contents.{Contents}
+use Rattle.ioc_members.specs.Answers.{Gives}
+use Rattle.ioc_workplace.specs.declared.attached.Attached.{Attached}
+
+module _ {R D : Type 0} where
+  -- what is asked gives what its device gives, or a fault where it has none, and keeps its base
+  abbrev pub AttachedGives : (D → Ask → ℕ → Answer → D → Type 0) → Attached R D → Ask → ℕ → Answer → Attached R D → Type 0
+  AttachedGives gives before ask moment answer after = Gives gives before.device ask moment answer after.device × (after.base ≡ before.base)
+
+  -- what stands beside each record
+  abbrev pub attached_in : Contents R D → ℕ → Option (Attached R D)
+  attached_in c n = option_map (λ base. record { base = base; device = get c.devices n }) (get c.base n)

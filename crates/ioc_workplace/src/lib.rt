@@ -1,0 +1,13 @@
+//! Where an event of a lock set is done, and the puts with notification that the set lends it.
+#![tactic(auto)]
+
+pub mod attached;
+pub mod live_puts;
+mod recount;
+pub mod set_store;
+pub mod workplace;
+
+pub use attached::Attached;
+pub use live_puts::LivePuts;
+pub use set_store::SetStore;
+pub use workplace::Workplace;
