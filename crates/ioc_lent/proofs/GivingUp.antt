@@ -85,12 +85,12 @@ module _ {R D : Type 0} (k : RecordRules R) (base : World R) (table : TableId) w
         holds = subst (λ (l : List Note). Holds k (map_of k base l) (now_of (get_or sets_then i d))) (sym (ap (λ (v : View). v.seen) dealt.holds)) (gu.holds i d lt);
       }
 
-  pub lent_then : {A E : Type 0} (Q S : Type 0) (given : Result (Option A) E) (moment number : ℕ) (desk desk_then : DeskView) (sets sets_then : List (Held R D)) (passes passes_then : List (Option Pass)) (kept kept_then : View)
-      → IfOk given (λ o. IfSome o (λ _. GaveUp k base table moment number desk sets kept desk_then sets_then passes_then kept_then)) → IfOk given (λ o. IfNone o ((sets_then ≡ sets) × (passes_then ≡ passes) × Q × S)) → OnErr given ((sets_then ≡ sets) × (passes_then ≡ passes) × Q × S)
+  pub lent_then : {A E : Type 0} (Q S T : Type 0) (given : Result (Option A) E) (moment number : ℕ) (desk desk_then : DeskView) (sets sets_then : List (Held R D)) (passes passes_then : List (Option Pass)) (kept kept_then : View)
+      → IfOk given (λ o. IfSome o (λ _. GaveUp k base table moment number desk sets kept desk_then sets_then passes_then kept_then)) → IfOk given (λ o. IfNone o ((sets_then ≡ sets) × (passes_then ≡ passes) × Q × S × T)) → OnErr given ((sets_then ≡ sets) × (passes_then ≡ passes) × Q × S)
       → EachIsLent k base table sets passes → EachIsLent k base table sets_then passes_then
-  lent_then Q S (Ok (Some r)) moment number desk desk_then sets sets_then passes passes_then kept kept_then gave missing refused lent = lent_of moment number desk desk_then sets sets_then passes_then kept kept_then gave
-  lent_then Q S (Ok None) moment number desk desk_then sets sets_then passes passes_then kept kept_then gave missing refused lent = as_same sets sets_then passes passes_then (missing.0, missing.1) lent
-  lent_then Q S (Err e) moment number desk desk_then sets sets_then passes passes_then kept kept_then gave missing refused lent = as_same sets sets_then passes passes_then (refused.0, refused.1) lent
+  lent_then Q S T (Ok (Some r)) moment number desk desk_then sets sets_then passes passes_then kept kept_then gave missing refused lent = lent_of moment number desk desk_then sets sets_then passes_then kept kept_then gave
+  lent_then Q S T (Ok None) moment number desk desk_then sets sets_then passes passes_then kept kept_then gave missing refused lent = as_same sets sets_then passes passes_then (missing.0, missing.1) lent
+  lent_then Q S T (Err e) moment number desk desk_then sets sets_then passes passes_then kept kept_then gave missing refused lent = as_same sets sets_then passes passes_then (refused.0, refused.1) lent
 
   abbrev AreBack : (held_then : List (HeldView R D)) (sets : List (Held R D)) (passes : List (Option Pass)) → Type 0
   AreBack held_then sets passes = (i : ℕ) (d : HeldView R D) (e : Held R D) (f : Option Pass) → i < length held_then → get_or held_then i d ≡ held_view (get_or sets i e) (seen_by (get_or passes i f))
@@ -125,12 +125,12 @@ module _ {R D : Type 0} (k : RecordRules R) (base : World R) (table : TableId) w
     gave_all (Ok None) gu = gu
     gave_all (Err e) gu = gu
 
-  pub missing_all : {A E : Type 0} (Q S : Type 0) (given : Result (Option A) E) (sets : List (Held R D)) (held_then : List (HeldView R D)) (sets_then : List (Held R D)) (passes passes_then : List (Option Pass))
+  pub missing_all : {A E : Type 0} (Q S T : Type 0) (given : Result (Option A) E) (sets : List (Held R D)) (held_then : List (HeldView R D)) (sets_then : List (Held R D)) (passes passes_then : List (Option Pass))
       → AreBack held_then sets_then passes_then → length held_then ≡ length sets
-      → IfOk given (λ o. IfNone o ((sets_then ≡ sets) × (passes_then ≡ passes) × Q × S)) → IfOk given (λ o. IfNone o (AreSameSets sets held_then × Q × S))
-  missing_all Q S (Ok (Some r)) sets held_then sets_then passes passes_then back long h = h
-  missing_all Q S (Ok None) sets held_then sets_then passes passes_then back long h = (same_back sets held_then sets_then passes_then h.0 back long, h.2, h.3)
-  missing_all Q S (Err e) sets held_then sets_then passes passes_then back long h = h
+      → IfOk given (λ o. IfNone o ((sets_then ≡ sets) × (passes_then ≡ passes) × Q × S × T)) → IfOk given (λ o. IfNone o (AreSameSets sets held_then × Q × S × T))
+  missing_all Q S T (Ok (Some r)) sets held_then sets_then passes passes_then back long h = h
+  missing_all Q S T (Ok None) sets held_then sets_then passes passes_then back long h = (same_back sets held_then sets_then passes_then h.0 back long, h.2, h.3, h.4)
+  missing_all Q S T (Err e) sets held_then sets_then passes passes_then back long h = h
 
   pub refused_all : {A E : Type 0} (Q S : Type 0) (given : Result (Option A) E) (sets : List (Held R D)) (held_then : List (HeldView R D)) (sets_then : List (Held R D)) (passes passes_then : List (Option Pass))
       → AreBack held_then sets_then passes_then → length held_then ≡ length sets

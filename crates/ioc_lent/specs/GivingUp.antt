@@ -1,9 +1,10 @@
 -- A put with notification that is given up in several held sets.
 -- Application Developer's Guide, "Put with Notification" (dbNotifyCancel). The journal is this project's own.
-use Rattle.std.specs.Prelude.{◌≡◌, ℕ, ◌<◌, ◌≢◌, List, length, map, slice_index_or, Option, Some}
+use Rattle.std.specs.Prelude.{◌≡◌, ◌⊎◌, ℕ, ◌<◌, ◌≢◌, List, length, map, slice_index_or, Option, Some}
 use Rattle.atomic_table.specs.Seated.{TableId}
 use Rattle.crossbeam_utils.specs.Seq.{cell_view}
 use Rattle.ioc_notify.specs.Living.{holders_of}
+use Rattle.ioc_notify.specs.declared.live_numbers.Live.{Live}
 use Rattle.ioc_put_table.specs.Counts.{holders_in}
 use Rattle.ioc_events.specs.declared.event.Event.TheVariants.{Cancel}
 use Rattle.ioc_events.specs.declared.reply.Reply.{Reply}
@@ -11,6 +12,7 @@ use Rattle.ioc_events.specs.declared.reply.Reply.TheVariants.{Plain}
 use Rattle.ioc_journal.specs.Account.{DeskView, Call, puts_key, Pass}
 use Rattle.ioc_line.specs.Line.{holder}
 use Rattle.ioc_cancelling.specs.Laws.{GivesUp}
+use Rattle.ioc_together.specs.Sets.{AreItsSets}
 use Rattle.ioc_held.specs.Puts.{PutsView, told_at}
 use Rattle.ioc_record.specs.RecordRules.{RecordRules}
 use Rattle.ioc_store.specs.World.{World}
@@ -27,6 +29,10 @@ module _ {R D : Type 0} (k : RecordRules R) (base : World R) where
 -- what the sets hold
 abbrev pub sets_of : {R D : Type 0} → List (HeldView R D) → List (Held R D)
 sets_of held = map (λ (h : HeldView _ _). h.set) held
+
+-- nobody has it, or these sets aren't all that have it
+abbrev pub HaveNotAll : {R D : Type 0} → ℕ → List Live → List (Held R D) → Type 0
+HaveNotAll number live sets = (holders_in number live ≡ 0) ⊎ (AreItsSets number (holders_in number live) sets → ⊥)
 
 -- each holds one of these sets
 abbrev pub AreSameSets : {R D : Type 0} → List (Held R D) → List (HeldView R D) → Type 0

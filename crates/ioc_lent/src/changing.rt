@@ -8,7 +8,7 @@ ghost use Rattle.ioc_members.specs.Joined.{HasLink};
 ghost use Rattle.ioc_store.specs.World.{common_at};
 ghost use Rattle.ioc_topology.specs.Change.{AreLent};
 ghost use Rattle.ioc_journal.specs.Places.{IsNoPlace};
-ghost use Rattle.ioc_set.specs.Held.{now_of};
+ghost use Rattle.ioc_set.specs.Held.{now_of, folded};
 ghost use Rattle.ioc_workplace.specs.SetStore.{world_of};
 ghost use Rattle.ioc_held.specs.Holding.{HeldView, numbers_of};
 ghost use Rattle.ioc_lent.specs.Changing.{size_of, KeepsLarger, KeepsLargest, FellApart, WasLed, Relinks};
@@ -107,6 +107,7 @@ fn part_first<K: RecordKind + Drop, B: Base<K>, D: Device, R: Wait>(
     ensures parts { (second : HeldView K D) → IfOk result (λ c. FellApart K.rules B.base first.old second spare.old desk.old moment number field link c.reply c.moved first.new second spare.new desk.new (world_of workplace.new.store)) }
     ensures receipt { IfOk result (λ c. c.receipt ≡ desk.new.seen) }
     ensures refused { IfErr result IsNoPlace }
+    ensures kept { OnErr result ((folded first.new.set ≡ folded first.old.set) × (spare.new ≡ spare.old)) }
     ensures desk { OnErr result (desk.new ≡ desk.old) }
 {
     let (rest, receipt) = first.part(
@@ -144,6 +145,7 @@ fn lead_first<K: RecordKind + Drop, B: Base<K>, D: Device, R: Wait>(
     ensures leads { IfOk result (λ c. WasLed K.rules B.base first.old second.old spare.old desk.old moment number field link c.reply c.moved first.new second.new spare.new desk.new (world_of workplace.new.store)) }
     ensures receipt { IfOk result (λ c. c.receipt ≡ desk.new.seen) }
     ensures refused { IfErr result IsNoPlace }
+    ensures kept { OnErr result ((folded first.new.set ≡ folded first.old.set) × (second.new.set ≡ second.old.set) × (spare.new ≡ spare.old)) }
     ensures desk { OnErr result (desk.new ≡ desk.old) }
 {
     let before = size(first);
@@ -189,6 +191,7 @@ pub fn change_link<K: RecordKind + Drop, B: Base<K>, D: Device, R: Wait>(
     ensures relinks { IfOk result (λ c. Relinks K.rules B.base first.old second.old spare.old desk.old moment number field link c.reply c.moved first.new second.new spare.new desk.new (world_of workplace.new.store)) }
     ensures receipt { IfOk result (λ c. c.receipt ≡ desk.new.seen) }
     ensures refused { IfErr result (λ error. IsNoPlace error ⊎ ((error ≡ NoField) × (HasLink K.rules first.old.set.records number field → ⊥))) }
+    ensures kept { OnErr result ((folded first.new.set ≡ folded first.old.set) × (second.new.set ≡ second.old.set) × (spare.new ≡ spare.old)) }
     ensures desk { OnErr result (desk.new ≡ desk.old) }
 {
     if !first.set.has_link(number, field) {

@@ -9,7 +9,8 @@ ghost use Rattle.std.specs.Vec.{vec_len, vec_capacity};
 ghost use Rattle.crossbeam_utils.specs.Seq.{cell_view};
 ghost use Rattle.ioc_set.specs.Held.{Held as SetHeld};
 ghost use Rattle.ioc_held.specs.Holding.{HeldView, held_view, seen_by};
-ghost use Rattle.ioc_lent.specs.GivingUp.{EachIsLent, sets_of, AreSameSets, HeldGaveUp, GaveUpOn};
+ghost use Rattle.ioc_together.specs.Sets.{AreItsSets};
+ghost use Rattle.ioc_lent.specs.GivingUp.{EachIsLent, HaveNotAll, sets_of, AreSameSets, HeldGaveUp, GaveUpOn};
 ghost use Rattle.ioc_journal.specs.Account.{puts_key, Pass};
 
 use ioc_device::Device;
@@ -98,7 +99,7 @@ fn give_up_lent<K: RecordKind + Drop, B: Base<K>, D: Device, R: Wait>(
     ensures gave_up { IfOk result (λ given. IfSome given (λ _. HeldGaveUp K.rules B.base moment number desk.old sets.old (cell_view keeper.old) desk.new held.new (cell_view keeper.new))) }
     ensures receipt { IfOk result (λ given. IfSome given (λ receipt. receipt ≡ desk.new.seen)) }
     ensures table { keeper.new.table_id ≡ B.table }
-    ensures missing { IfOk result (λ given. IfNone given (AreSameSets sets.old held.new × (keeper.new ≡ keeper.old) × (desk.new ≡ desk.old))) }
+    ensures missing { IfOk result (λ given. IfNone given (AreSameSets sets.old held.new × (keeper.new ≡ keeper.old) × (desk.new ≡ desk.old) × (AreItsSets number total sets.old → ⊥))) }
     ensures refused { IfErr result IsNoPlace }
     ensures err { OnErr result (AreSameSets sets.old held.new × (keeper.new ≡ keeper.old) × (desk.new ≡ desk.old)) }
 {
@@ -128,7 +129,7 @@ pub fn cancel_on<K: RecordKind + Drop, B: Base<K>, D: Device, R: Wait>(
 ) -> Result<Option<(Reply, Receipt<K, B>)>, IocError>
     ensures gave_up { IfOk result (λ given. IfSome given (λ x. GaveUpOn K.rules B.base moment number desk.old held.old all.old x.0 desk.new held.new all.new)) }
     ensures receipt { IfOk result (λ given. IfSome given (λ x. x.1 ≡ desk.new.seen)) }
-    ensures missing { IfOk result (λ given. IfNone given (AreSameSets (sets_of held.old) held.new × (all.new ≡ all.old) × (desk.new ≡ desk.old))) }
+    ensures missing { IfOk result (λ given. IfNone given (AreSameSets (sets_of held.old) held.new × (all.new ≡ all.old) × (desk.new ≡ desk.old) × HaveNotAll number all.old.live (sets_of held.old))) }
     ensures refused { IfErr result IsNoPlace }
     ensures err { OnErr result (AreSameSets (sets_of held.old) held.new × (all.new ≡ all.old) × (desk.new ≡ desk.old)) }
 {

@@ -22,6 +22,16 @@ use Rattle.ioc_together.specs.Passes.{Slot, view_in, IsPassIn, IsDealt}
 abbrev pub cancel_entry : (moment number : ℕ) → Entry
 cancel_entry moment number = record { moment = moment; event = Cancel number; answers = []; reply = Plain }
 
+module _ {R D : Type 0} where
+  -- it is live on each of these sets
+  abbrev pub IsLiveOnEach : ℕ → List (Held R D) → Type 0
+  IsLiveOnEach number sets = (i : ℕ) (d : Held R D) → i < length sets → is_live number (slice_index_or sets i d).live ≡ true
+
+  -- so many have it in these sets together, and it is live on each of them
+  pub record AreItsSets (number total : ℕ) (sets : List (Held R D)) : Type 0 where
+    pub all : holders_in_all number sets ≡ total
+    pub live : IsLiveOnEach number sets
+
 module _ {R D : Type 0} (k : RecordRules R) where
   -- each of these sets has given it up
   abbrev pub EachGivesUp : ℕ → List (Held R D) → List (Held R D) → Type 0
@@ -42,7 +52,7 @@ module _ {R D : Type 0} (k : RecordRules R) where
     pub record HaveAll (number : ℕ) (seen : List Note) (sets : List (Held R D)) : Type 0 where
       pub all : holders_in_all number sets ≡ holders_of number (map_of k base seen).live
       pub some : holders_of number (map_of k base seen).live ≢ 0
-      pub live : (i : ℕ) (d : Held R D) → i < length sets → is_live number (slice_index_or sets i d).live ≡ true
+      pub live : IsLiveOnEach number sets
 
     -- each of these sets has given it up in one call of a desk, and is held by the pass beside it, which owns the keys of its records. Nobody has it
     -- any more, and as many as before have each other; so the keeper of the puts with notification knows, who has its key alone

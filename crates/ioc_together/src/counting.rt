@@ -1,9 +1,9 @@
 //! How many have a put with notification in several sets together.
-ghost use Rattle.std.specs.Prelude.{◌≡◌, ◌<◌, ℕ, true, length, slice_index_or, IsTrue};
+ghost use Rattle.std.specs.Prelude.{◌≡◌, ◌≤◌, ◌^◌, ◌↔◌, IsTrue, IfNone};
 ghost use Rattle.std.specs.Option.{IfSome};
 ghost use Rattle.ioc_notify.specs.Living.{is_live};
-ghost use Rattle.ioc_set.specs.Held.{Held};
 ghost use Rattle.ioc_cancelling.specs.Laws.{holders_in_all};
+ghost use Rattle.ioc_together.specs.Sets.{IsLiveOnEach};
 
 use ioc_notify::NotifyId;
 use ioc_put_table::holders_by;
@@ -12,7 +12,8 @@ use ioc_set::LockSet;
 
 /// How many have a put with notification in these sets together; none where a number of 64 bits can't tell.
 pub fn total_in<K: RecordKind, D>(sets: &[LockSet<K, D>], number: NotifyId) -> Option<u64>
-    ensures { IfSome result (λ total. total ≡ holders_in_all number sets.now) }
+    ensures total { IfSome result (λ total. total ≡ holders_in_all number sets.now) }
+    ensures too_many { IfNone result (2 ^ 64 ≤ holders_in_all number sets.now) }
 {
     let mut total: u64 = 0;
     for set in sets {
@@ -30,7 +31,7 @@ fn is_live_on<K: RecordKind, D>(set: &LockSet<K, D>, number: NotifyId) -> bool
 
 /// Is a put with notification live on each of these sets?
 pub fn all_live<K: RecordKind, D>(sets: &[LockSet<K, D>], number: NotifyId) -> bool
-    ensures { IsTrue result → (i : ℕ) (d : Held K D) → i < length sets.now → is_live number (slice_index_or sets.now i d).live ≡ true }
+    ensures { IsTrue result ↔ IsLiveOnEach number sets.now }
 {
     for set in sets {
         if !is_live_on(set, number) {

@@ -8,7 +8,7 @@ ghost use Rattle.ioc_holding.specs.Legal.{map_of};
 ghost use Rattle.ioc_journal.specs.Places.{IsNoPlace};
 ghost use Rattle.ioc_set.specs.Held.{Held};
 ghost use Rattle.ioc_set.specs.Sound.{IsSound};
-ghost use Rattle.ioc_together.specs.Sets.{EachIsHeldBy, HaveAll, GaveUp};
+ghost use Rattle.ioc_together.specs.Sets.{AreItsSets, EachIsHeldBy, HaveAll, GaveUp};
 ghost use Rattle.ioc_journal.specs.Account.{puts_key};
 
 use crate::cancelling::cancel_all;
@@ -113,7 +113,7 @@ pub fn give_up_all<K: RecordKind + Drop, B: Base<K>, D: Device, R: Wait>(
     requires total { total ≡ holders_of number (map_of K.rules B.base (cell_view keeper.old).seen).live }
     requires some { total ≢ 0 }
     ensures gave_up { IfOk result (λ given. IfSome given (λ _. GaveUp K.rules B.base B.table moment number desk.old sets.old (cell_view keeper.old) desk.new sets.new passes.new (cell_view keeper.new))) }
-    ensures missing { IfOk result (λ given. IfNone given ((sets.new ≡ sets.old) × (passes.new ≡ passes.old) × (keeper.new ≡ keeper.old) × (desk.new ≡ desk.old))) }
+    ensures missing { IfOk result (λ given. IfNone given ((sets.new ≡ sets.old) × (passes.new ≡ passes.old) × (keeper.new ≡ keeper.old) × (desk.new ≡ desk.old) × (AreItsSets number total sets.old → ⊥))) }
     ensures table { keeper.new.table_id ≡ B.table }
     ensures receipt { IfOk result (λ given. IfSome given (λ receipt. receipt ≡ desk.new.seen)) }
     ensures refused { IfErr result IsNoPlace }
