@@ -1,8 +1,7 @@
 -- A put with notification that is given up in several held sets.
 -- Application Developer's Guide, "Put with Notification" (dbNotifyCancel). The journal is this project's own.
-use Rattle.std.specs.Prelude.{◌≡◌, ◌⊎◌, ℕ, ◌<◌, ◌≢◌, List, length, map, slice_index_or, Option, Some}
+use Rattle.std.specs.Prelude.{◌≡◌, ◌⊎◌, ℕ, ◌<◌, ◌≢◌, List, length, map, slice_index_or, Option}
 use Rattle.atomic_table.specs.Seated.{TableId}
-use Rattle.crossbeam_utils.specs.Seq.{cell_view}
 use Rattle.ioc_notify.specs.Living.{holders_of}
 use Rattle.ioc_notify.specs.declared.live_numbers.Live.{Live}
 use Rattle.ioc_put_table.specs.Counts.{holders_in}
@@ -18,8 +17,7 @@ use Rattle.ioc_record.specs.RecordRules.{RecordRules}
 use Rattle.ioc_store.specs.World.{World}
 use Rattle.ioc_line.specs.declared.room.View.{View}
 use Rattle.ioc_holding.specs.Legal.{map_of}
-use Rattle.ioc_holding.specs.Held.{Holds}
-use Rattle.ioc_set.specs.Held.{Held, now_of}
+use Rattle.ioc_set.specs.Held.{Held}
 use Rattle.ioc_held.specs.Holding.{HeldView, IsLent}
 
 module _ {R D : Type 0} (k : RecordRules R) (base : World R) where

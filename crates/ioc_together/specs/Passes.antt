@@ -1,6 +1,6 @@
 -- Passes of several sets, and one that takes over their keys for a while.
 -- This project's own.
-use Rattle.std.specs.Prelude.{◌≡◌, ℕ, ◌<◌, Bool, ◌&&◌, ◌==◌, not, List, All, length, Option, Some, None}
+use Rattle.std.specs.Prelude.{◌≡◌, ◌<◌, Bool, ◌&&◌, ◌==◌, not, List, All, length, Option, Some, None}
 use Rattle.std.specs.List.{AllPairs, filter}
 use Rattle.std.specs.FinMap.{keys, contains_key}
 use Rattle.atomic_table.specs.Seated.{TableId}

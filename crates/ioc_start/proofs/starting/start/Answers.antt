@@ -1,12 +1,15 @@
-use Rattle.std.proofs.Common.{◌<◌, ◌^◌, List, refl, sym, subst, length, arith, rules}
-use Rattle.std.specs.Prelude.{IsTrue, All, ℕ}
+use Rattle.std.proofs.Common.{◌≡◌, ◌<◌, ◌^◌, List, Option, false, true, refl, sym, subst, length, arith, rules}
+use Rattle.std.specs.Prelude.{IsTrue, IsSome, All, ℕ}
+use Rattle.ioc_journal.specs.Places.{AreAllowed}
 use Rattle.ioc_members.specs.Contents.{Contents, nothing}
+use Rattle.ioc_members.specs.Joined.{IsClosed}
 use Rattle.ioc_store.specs.World.{World}
 use Rattle.ioc_holding.specs.Legal.{IsSound}
 use Rattle.ioc_dealing.specs.declared.dealing.Loaded.{Loaded}
 use Rattle.ioc_dealing.specs.Dealing.{AreDealt}
-use Rattle.ioc_dealing.specs.Linked.{AreParts}
+use Rattle.ioc_dealing.specs.Linked.{AreParts, links_in}
 use Rattle.ioc_start.specs.Loading.{loaded_world, IsIdle, IsAtRest, AreSetsFrom}
+use Rattle.ioc_start.specs.declared.starting.StartError.TheVariants.{BadValue, NoMemory}
 use Rattle.ioc_start.proofs.Parts.{database_is_shut, database_is_free, database_is_small}
 use Rattle.ioc_start.proofs.starting.start.Goals as goal
 
@@ -54,3 +57,30 @@ new-journal-requires-clause-sound g c =
     let few : length all < 2 ^ 63 = search rules in
     subst (λ (w : World g.row.K.Denot). IsSound k w) (sym c.requires.base)
     (c.lists_leave_sound.ensures.first (loaded_world all) (database_is_shut k missing parts all idle are) (database_is_small k missing parts all idle are (2 ^ 63) few) refl refl (database_is_free k missing parts all idle are))
+
+memory_is_no_value : NoMemory ≡ BadValue → ⊥
+memory_is_no_value e = cc
+
+none_is_some : false ≡ true → ⊥
+none_is_some e = cc
+
+pub returns-in_default-found-clause-leaves : goal.returns-in_default-found-clause-leaves
+returns-in_default-found-clause-leaves g c = λ e closed.
+    none_is_some (subst (λ (o : Option _). IsSome o) c.in_default-found.is
+    (c.in-Ok.ensures.within.1 (subst (λ (s : List (Loaded g.row.K.Denot g.row.D.Denot)). IsClosed (links_in g.K.RecordKind.rules s)) (sym c.deref-2.ensures.value) closed)))
+
+pub returns-in_default-new_lists-clause-refused : goal.returns-in_default-new_lists-clause-refused
+returns-in_default-new_lists-clause-refused g c =
+    let allowed : AreAllowed c.args.limits = search rules in
+    (λ e is. memory_is_no_value e, λ not. absurd (not allowed))
+
+pub returns-clause-idle : goal.returns-clause-idle
+returns-clause-idle g c =
+    let k = g.K.RecordKind.rules in
+    let passed : IsTrue c.are_at_rest.result = search rules in
+    subst (λ (s : List (Loaded g.row.K.Denot g.row.D.Denot)). All (λ (l : Loaded g.row.K.Denot g.row.D.Denot). IsIdle k l.fields) s) c.deref.ensures.value (c.are_at_rest.ensures.0 passed)
+
+pub returns-clause-closed : goal.returns-clause-closed
+returns-clause-closed g c =
+    let found : IsSome c.in-Ok.found = search rules in
+    subst (λ (s : List (Loaded g.row.K.Denot g.row.D.Denot)). IsClosed (links_in g.K.RecordKind.rules s)) c.deref-2.ensures.value (c.in-Ok.ensures.within.0 found)
