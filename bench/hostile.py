@@ -1,133 +1,198 @@
 #!/usr/bin/env python3
-"""Runs ioc-replay on texts, macros and scripts made at random and by mutation of good ones.
+"""Runs ioc-replay on databases, macros and scripts that drawn.py draws at random and mutates.
 
 Each run must end by itself within two seconds with status 0, or with status 1, nothing on standard output and one line
-`E13 BadDb line L: KIND` on standard error. The replies after status 0 are one for each line that is no comment and not empty,
-beside `ended N` lines; a text with a backslash may bring line ends into a reply.
+`E13 BadDb line L: WORDS` on standard error; a database that was drawn without a fault must load. After status 0 there is one reply for each
+line that is no comment and not empty, of the form that its first word asks for, beside `ended N` lines; a text with a backslash and an n
+may bring line ends into a reply. And the replies of a run agree with each other (`contradiction`), by what scripts can read back.
 
 Usage: hostile.py PROGRAM RUNS [SEED]
 """
 import random
 import re
+import resource
 import subprocess
 import sys
 import tempfile
+import time
+from collections import Counter
 
-GOOD_TEXTS = [
-    b'record(longin, "a") {\n  field(VAL, "1")\n}\n',
-    b'record(longin,"a"){field(INP,"b PP MS") field(UDFS,"MINOR")}\nrecord(longin,b){field(INP,7)field(FLNK,"a")} # end\n',
-    b'record(longin,"x:y"){field(FLNK,"x:y") field(VAL,"0x1F") field(INP,"-3")}\r\n',
-    b'record(longin,"$(P)a"){alias("a") info(k,"v")}\nrecord(*,a){field(EGU,"${E=none}")} alias("a","b")\n',
-    b'grecord(longin,a)\nrecord(longin,"$(Q=b)")\nrecord("*","b"){field(VAL,"$(V)") field(VAL,2)}\n',
-]
-# One record of each type, which read, write and forward to each other, with a device, a scan list, an event and limits.
-ALL_TYPES = b"""record(longin,"a"){field(INP,"@d") field(HIGH,10) field(HSV,MINOR) field(HYST,2) field(FLNK,"b")}
-record(longout,"b"){field(DOL,"a PP MS") field(OMSL,closed_loop) field(OUT,"c PP") field(DRVH,100) field(SCAN,"1 second")}
-record(int64in,"c"){field(INP,"a NPP MSI") field(SDIS,"e") field(DISV,1) field(EVNT,"go") field(SCAN,Event)}
-record(int64out,"d"){field(OUT,"@w") field(IVOA,"Set output to IVOV") field(IVOV,7)}
-record(bi,"e"){field(ZNAM,Off) field(ONAM,On) field(COSV,MINOR) field(INP,"a")}
-record(bo,"f"){field(ZNAM,Off) field(ONAM,On) field(OUT,"e PP MSS") field(PINI,YES)}
-record(mbbi,"g"){field(DTYP,"Raw Soft Channel") field(INP,"a") field(ZRVL,1) field(ONVL,2) field(ONST,One) field(UNSV,MAJOR)}
-record(mbbo,"h"){field(ZRST,zero) field(ONST,one) field(NOBT,2) field(SHFT,1) field(OUT,"@w2")}
-record(stringin,"i"){field(INP,"h MS") field(SCAN,"I/O Intr")}
-record(stringout,"j"){field(DOL,"i") field(OMSL,closed_loop) field(OUT,"i PP") field(SIOL,"")}
-record(fanout,"k"){field(LNK1,"a") field(LNK2,"f") field(SELM,Mask) field(SELN,3)}
-record(event,"l"){field(VAL,"go") field(PRIO,HIGH)}
-""".replace(b' field(SIOL,"")', b"")
-FIELDS = b"VAL NAME DESC SCAN PINI PHAS EVNT PRIO DISV DISA SDIS PROC DISP STAT SEVR NSTA LCNT PACT PUTF RPRO UDF UDFS TIME INP OUT DOL OMSL FLNK HIGH HIHI LOLO HSV HYST LALM ONAM ZNAM RVAL MASK NOBT SHFT IVOA IVOV DRVH SELM SELN LNK1 DTYP NOPE".split()
-VALUES = [b"", b"0", b"1", b"7", b"-1", b"65535", b"2147483648", b"-9223372036854775808", b"0x1F", b"On", b"one", b"go", b"MINOR",
-          b"YES", b"I/O Intr", b"1 second", b"Event", b"Passive", b"1x", b" 5 ", b"Raw Soft Channel", b"x" * 45]
-LINKS = [b"", b"5", b"a", b"b PP MS", b"c.VAL NPP", b"e PP MSS", b"i.DESC", b"nope", b"@d", b"@w", b"@none 1", b"a.FLNK", b"a CP", b"k"]
-MACROS = [b"P=", b"P=dev:", b"V=7", b"V=$(P)", b'E=" #', b"E=", b"Q=b", b"A" * 50 + b"=1"]
-GOOD_SCRIPT = b"process a\nput a.VAL 3\nget a.VAL\nget a.INP\n# none\n\nput a.UDFS MAJOR\nget a.SEVR\nhello\n"
-PIECES = [b'"', b"\\", b"{", b"}", b"(", b")", b",", b"#", b"$(", b"\n", b"\r", b"\0", b"\x7f", b"\xff", b"record", b"field",
-          b"longin", b"VAL", b"INP", b"a.VAL", b" PP", b" CP MSS", b"@dev", b"9" * 25, b"n" * 62, b" " * 1025, b"alias(", b"info(", b"grecord(", b"*", b"$(P)", b"${Q=x}", b"$(V", b"=", b"."]
-REFUSAL = re.compile(rb"E13 BadDb line [1-9][0-9]*: [a-z0-9 -]+\n")
+from drawn import LINKS, TYPES, VERBS, Database, drawn_database, drawn_script, mutated, pieces, standing, wide_database, wide_script
+
+REFUSAL = re.compile(
+    rb"E13 BadDb line [1-9][0-9]*: (syntax|text not closed|body not closed|unknown type|unknown field|field not settable|bad name|bad value"
+    rb"|bad link|duplicate|no record|macro|left out|too many)\n")
+ANY_REFUSAL = "E1 NoRecord|E2 NoField|E3 NoMod|E4 PutDisabled|E5 BadValue"
+TALLY = re.compile(r"tally begun=(\d+) processed=(\d+) disabled=(\d+) active=(\d+) reprocess=(\d+) started=(\d+) completed=(\d+) dropped=(\d+)")
+# The replies that a line with this first word may have, beside `bad`.
+FORMS = {
+    "process": "ok (processed|disabled|active)|E1 NoRecord", "put": f"ok( processed| disabled| active| reprocess)?|{ANY_REFUSAL}",
+    "get": r"= [\s\S]*|E1 NoRecord|E2 NoField", "notify": rf"ok notify [0-9]+|{ANY_REFUSAL}|E9 QueueFull", "cancel": "ok|E8 Stale",
+    "next": "ok|E1 NoRecord|E2 NoField", "done": "ok|E1 NoRecord|E8 Stale", "fault": "ok|E1 NoRecord|E8 Stale", "event": "ok [0-9]+",
+    "io": "ok [0-9]+", "scan": "ok [0-9]+", "at": "ok", "link": "ok|E1 NoRecord|E2 NoField|E4 PutDisabled|E6 BadLink", "sets": r"sets( \{.*\})?",
+    "tally": TALLY.pattern,
+}
+FORM = {verb: re.compile(f"({form}|bad)", re.S) for verb, form in FORMS.items()}
 
 
-def mutated(generator: random.Random, text: bytes) -> bytes:
-    """The text after one to six cuts, pieces put in, bytes turned, or runs said twice."""
-    changed = bytearray(text)
-    for _ in range(generator.randint(1, 6)):
-        begin = generator.randint(0, len(changed))
-        end = min(len(changed), begin + generator.randint(0, 12))
-        match generator.randint(0, 3):
-            case 0:
-                del changed[begin:end]
-            case 1:
-                changed[begin:begin] = generator.choice(PIECES)
-            case 2:
-                changed[begin:end] = bytes(generator.randrange(256) for _ in range(end - begin))
-            case _:
-                changed[begin:begin] = changed[begin:end] * generator.randint(1, 3)
-    return bytes(changed)
-
-
-def random_text(generator: random.Random) -> bytes:
-    return b"".join(generator.choice(PIECES) for _ in range(generator.randint(0, 40)))
-
-
-def random_line(generator: random.Random) -> bytes:
-    """A line of one of the forms, for a record of one of the types."""
-    record = generator.choice(b"a b c d e f g h i j k l z".split())
-    field = record + b"." + generator.choice(FIELDS)
-    number = str(generator.choice([0, 1, 2, 3, 7, 2**63, 2**64])).encode()
-    value, link = generator.choice(VALUES), generator.choice(LINKS)
-    return generator.choice([
-        b"process " + record, b"put " + field + b" " + value, b"put " + field + b" " + value, b"get " + field, b"get " + field,
-        b"notify " + field + b" " + value, b"cancel " + number, b"link " + field + b" " + link, b"sets", b"tally", b"at " + number,
-        b"next " + record + b" " + generator.choice([b"done " + value, b"fault", b"later"]), b"done " + record + b" " + number + b" " + value,
-        b"fault " + record + b" " + number, b"event " + value, b"io " + generator.choice([b"d", b"w", b"card", b""]), b"scan " + value])
-
-
-def random_script(generator: random.Random) -> bytes:
-    return b"".join(random_line(generator) + b"\n" for _ in range(generator.randint(1, 40)))
-
-
-def replies(out: bytes) -> int:
-    """The lines of the output, without those that tell that a put with notification has ended."""
-    return sum(1 for line in out.split(b"\n")[:-1] if not re.fullmatch(rb"ended [0-9]+", line))
-
-
-def asking_lines(script: bytes) -> int:
+def asking_lines(script: str) -> list[str]:
     """The lines that get a reply. A line without its LF at the end counts."""
-    lines = script.split(b"\n")
-    if lines[-1] == b"":
-        lines.pop()
-    return sum(1 for line in lines if len(line) > 1024 or (line != b"" and not line.startswith(b"#")))
+    return [line for line in script.split("\n") if len(line) > 1024 or (line != "" and not line.startswith("#"))]
+
+
+def read_back(name: str, kind: str) -> list[str]:
+    """The fields of a record that are looked at when a script is at its end."""
+    return [f"{name}.{at}" for at in TYPES[kind] if at in LINKS or at in ("PACT", "PUTF", "RPRO")]
+
+
+def reading_back(of: Database) -> str:
+    """Lines that ask for what the records have at the end, and how they are joined."""
+    asked = [f"get {it}" for name, kind in of.records.items() for it in read_back(name, kind)]
+    return "\n" + "\n".join([*asked, "sets", "tally"]) + "\n"
+
+
+def parts_line(of: Database, shown: dict[str, str]) -> str:
+    """What `sets` must tell, by what the link fields show."""
+    part = {name: name for name in of.records}
+
+    def first(name: str) -> str:
+        while part[name] != name:
+            name = part[name]
+        return name
+
+    order = {name: number for number, name in enumerate(of.records)}
+    for at, text in shown.items():
+        name, link_field = at.rsplit(".", 1)
+        target = standing(of, text) if link_field in LINKS else None
+        if target:
+            part_of, other = sorted((first(name), first(target)), key=order.__getitem__)
+            part[other] = part_of
+    members: dict[str, list[str]] = {}
+    for name in of.records:
+        members.setdefault(first(name), []).append(name)
+    return "sets" + "".join(f" {{{' '.join(names)}}}" for names in members.values())
+
+
+def contradiction(of: Database | None, asked: list[str], told: list[str], seen: Counter) -> str | None:
+    """Where replies don't go together: puts with notification have rising numbers, 256 at most are live, each ends once and isn't cancelled
+    after it ended; no wait ends twice; requests add up. At the end as many records are active as answers are awaited, PUTF and RPRO stand
+    for active ones alone, nothing is live where none is active, and the parts are those that the links make."""
+    last, live, done, tally, shown, rest = 0, set(), set(), [0] * 8, {}, iter(told)
+    reply = next(rest, None)
+    for line in asked:
+        if reply is None:
+            return f"no reply to {line!r}"
+        verb = line.split(" ", 1)[0] if " " in line or line in ("event", "sets", "tally") else ""
+        form = FORM.get(verb)
+        if len(line) > 1024 or not form or not form.fullmatch(reply):
+            if reply != "bad" or (form and verb in ("sets", "tally") and line == verb):
+                return f"{line!r}: {reply!r}"
+        seen[f"{verb if form else 'no line'}: {reply.split(' ')[0] if verb not in ('process', 'put') else reply}"] += 1
+        if verb == "notify" and reply.startswith("ok"):
+            last += 1
+            if reply != f"ok notify {last}" or len(live) >= 256:
+                return f"{line!r}: {reply!r} with {len(live)} live, after {last - 1}"
+            live.add(last)
+        elif reply == "E9 QueueFull" and len(live) < 256:
+            return f"{line!r}: {reply!r} with {len(live)} live"
+        elif verb == "cancel" and reply != "bad":
+            number = int(line.split(" ")[1])
+            if (reply == "ok") != (number in live):
+                return f"{line!r}: {reply!r}, live are {sorted(live)}"
+            live.discard(number)
+        elif verb in ("done", "fault") and reply == "ok":
+            wait = tuple(line.split(" ")[1:3])
+            if wait in done:
+                return f"{line!r} twice"
+            done.add(wait)
+        elif verb == "link" and reply == "ok" and live:
+            seen["link changes while a put with notification is live"] += 1
+        elif verb == "tally" and reply != "bad":
+            counts = [int(count) for count in TALLY.fullmatch(reply).groups()]
+            if counts[0] != sum(counts[1:5]) or counts[5] < counts[6] or any(new < old for new, old in zip(counts, tally)):
+                return f"{reply} after {tally}"
+            tally = counts
+        elif verb == "get" and reply.startswith("= "):
+            shown[line[4:]] = reply[2:]
+        elif verb == "sets":
+            parts = reply
+        while (reply := next(rest, None)) and (ended := re.fullmatch("ended ([0-9]+)", reply)):
+            seen["ended"] += 1
+            if int(ended[1]) not in live:
+                return f"{reply} after {line!r}, live are {sorted(live)}"
+            live.discard(int(ended[1]))
+    if reply is not None:
+        return f"{reply!r} to no line"
+    if of is None:
+        return None
+    seen["runs that were read back"] += 1
+    seen["of these with a record active at the end"] += tally[5] > tally[6]
+    seen["of these with a put with notification live at the end"] += bool(live)
+    seen["of these with items dropped"] += tally[7] > 0
+    shown = {it: shown[it] for name, kind in of.records.items() for it in read_back(name, kind)}
+    idle = [name for name in of.records if shown[name + ".PACT"] == "0"]
+    if len(of.records) - len(idle) != tally[5] - tally[6]:
+        return f"{len(of.records) - len(idle)} records are active, and {tally}"
+    if any(shown[f"{name}.{at}"] != "0" for name in idle for at in ("PUTF", "RPRO")):
+        return "PUTF or RPRO of an idle record"
+    if live and tally[5] == tally[6]:
+        return f"{sorted(live)} are live, and no record is active"
+    if parts != parts_line(of, shown):
+        return f"{parts!r} in the place of {parts_line(of, shown)!r}"
+    return None
+
+
+def drawn_run(generator: random.Random, run: int) -> tuple[Database, bool, bytes]:
+    """A database, whether it was left as it was drawn, and a script."""
+    draw = run % 20
+    of = wide_database(generator) if run % 100 == 19 else drawn_database(generator, good=draw < 13)
+    script = drawn_script(generator, of)
+    if run % 100 == 19:
+        script = wide_script(generator, of) + script
+    is_whole = draw < 16 or draw == 19
+    if not is_whole:
+        of.text = mutated(generator, of.text) if draw < 18 else pieces(generator)
+        of.is_good = False
+    if run % 7 == 0:
+        script = mutated(generator, script) if run % 14 == 0 else pieces(generator) + script[:200]
+    return of, is_whole, script + reading_back(of).encode("latin-1") if is_whole else script
 
 
 def main() -> int:
     program, runs = sys.argv[1], int(sys.argv[2])
     seed = int(sys.argv[3]) if len(sys.argv) > 3 else 1
     generator = random.Random(seed)
-    loaded = refused = 0
+    statuses, seen, slowest = Counter(), Counter(), 0.0
     with tempfile.TemporaryDirectory() as folder:
         for run in range(runs):
-            text = random_text(generator) if run % 5 == 0 else mutated(generator, generator.choice(GOOD_TEXTS))
-            if run % 3 == 0:
-                text = generator.choice(GOOD_TEXTS)
-            script = random_text(generator) if run % 7 == 0 else mutated(generator, GOOD_SCRIPT)
-            if run % 2 == 0:
-                text = ALL_TYPES if run % 4 == 0 else mutated(generator, ALL_TYPES)
-                script = random_script(generator) if run % 8 < 6 else mutated(generator, random_script(generator))
-            for name, content in (("db", text), ("script", script)):
+            of, is_whole, script = drawn_run(generator, run)
+            for name, content in (("db", of.text), ("script", script)):
                 with open(f"{folder}/{name}", "wb") as file:
                     file.write(content)
-            macros = [generator.choice(MACROS) for _ in range(generator.randint(0, 4))]
-            done = subprocess.run([program, f"{folder}/db", f"{folder}/script", *macros], capture_output=True, timeout=2)
-            if done.returncode == 0:
-                loaded += 1
-                said, asked = replies(done.stdout), asking_lines(script)
-                fine = done.stderr == b"" and (said == asked or (b"\\" in text and said > asked))
+            begin = time.monotonic()
+            done = subprocess.run([program, f"{folder}/db", f"{folder}/script", *of.macros], capture_output=True, timeout=2)
+            slowest = max(slowest, time.monotonic() - begin)
+            statuses[done.returncode] += 1
+            asked, told = asking_lines(script.decode("latin-1")), done.stdout.decode("latin-1").split("\n")
+            if done.returncode == 0 and told.pop() == "" and done.stderr == b"":
+                seen.update(of.records.values())
+                if b"\\n" in of.text:
+                    fault = "too few replies" * (len(told) < len(asked))
+                else:
+                    fault = contradiction(of if is_whole else None, asked, told, seen)
             else:
-                refused += 1
-                fine = done.returncode == 1 and done.stdout == b"" and REFUSAL.fullmatch(done.stderr)
-            if not fine:
-                print(f"run {run}, {macros!r}: status {done.returncode}\ntext {text!r}\nscript {script!r}\n{done.stdout!r}\n{done.stderr!r}")
+                fault = "status" * (done.returncode != 1 or done.stdout != b"" or of.is_good or not REFUSAL.fullmatch(done.stderr))
+                seen[done.stderr.decode().partition(": ")[2].strip()] += 1
+            if fault:
+                print(f"run {run} of seed {seed}, {fault}\nstatus {done.returncode}, {of.macros!r}\ntext {of.text.decode('latin-1')!r}")
+                print(f"script {script.decode('latin-1')!r}\n{done.stdout!r}\n{done.stderr!r}")
                 return 1
-    print(f"{runs} runs, seed {seed}: {loaded} loaded, {refused} refused")
+    used = resource.getrusage(resource.RUSAGE_CHILDREN)
+    processor = used.ru_utime + used.ru_stime
+    print(f"{runs} runs, seed {seed}: {statuses[0]} loaded, {statuses[1]} refused; the slowest took {slowest:.2f} s, all {processor:.0f} s")
+    print("; ".join(f"{what} {count}" for what, count in sorted(seen.items()) if what))
     return 0
 
 
-sys.exit(main())
+if __name__ == "__main__":
+    sys.exit(main())
