@@ -11,6 +11,7 @@ import os
 import subprocess
 import sys
 import tempfile
+from collections import Counter
 from pathlib import Path
 
 LIBRARY = r"""
@@ -54,9 +55,10 @@ ssize_t write(int file, const void *from, size_t size) {
 """
 
 
-def each_failure(words: list[str], library: Path, log: Path, what: str, good: bytes) -> int:
-    """How many runs there were, or the exit with the first that isn't as it must be."""
+def each_failure(words: list[str], library: Path, log: Path, what: str, good: bytes) -> Counter:
+    """How many runs ended with which status, or the exit with the first that isn't as it must be."""
     runs = 0
+    statuses = Counter()
     while True:
         log.write_bytes(b"")
         failing = os.environ | {"LD_PRELOAD": str(library), "FAIL_WHAT": what, "FAIL_AT": str(runs + 1), "FAIL_LOG": str(log)}
@@ -65,8 +67,9 @@ def each_failure(words: list[str], library: Path, log: Path, what: str, good: by
         if not whole and not (done.returncode in (3, 4) and good.startswith(done.stdout)):
             sys.exit(f"{what} {runs + 1}: status {done.returncode}, {done.stdout!r}, {done.stderr!r}")
         if log.read_bytes() == b"":
-            return runs
+            return statuses
         runs += 1
+        statuses[done.returncode] += 1
 
 
 def main() -> None:
@@ -77,7 +80,9 @@ def main() -> None:
         source.write_text(LIBRARY)
         subprocess.run(["cc", "-shared", "-fPIC", "-O1", "-o", library, source], check=True)
         for what in ("memory", "read", "write"):
-            print(f"{what}: failed in each of {each_failure(words, library, log, what, good)} runs, all as it must be")
+            statuses = each_failure(words, library, log, what, good)
+            ends = ", ".join(f"{count} with status {status}" for status, count in sorted(statuses.items()))
+            print(f"{what}: failed in each of {statuses.total()} runs, all as it must be: {ends or 'none'}")
 
 
 main()
