@@ -1,7 +1,8 @@
 #!/bin/sh
 # Writes databases of many records that lead to each other, and their scripts: chains by FLNK, by INP with PP and by OUT with PP, the first two
 # also in a ring; a tree of fanouts with sixteen links each; and a star, whose records all read the first one with PP and are scanned. Runs each on
-# a stack of 256 KiB, with an empty script and with its own, and shows what is printed, the time and the memory.
+# a stack of 512 KiB, with an empty script and with its own, and shows what is printed, the time and the memory. (The program takes some 355 KiB of
+# it with any database: what a run keeps of an event is 34 KiB large, and is moved some ten times in one function.)
 # Usage: deep.sh PROGRAM RECORDS FOLDER
 set -eu
 program=$1 records=$2 folder=$3
@@ -15,7 +16,7 @@ chain() { # NAME TYPE FIELD WORDS LAST
   }' > "$folder/$1.db"
 }
 chain forward longin FLNK "" ""
-printf 'at 7\nprocess r0\nget r%d.TIME\ntally\n' "$last" > "$folder/forward.script"
+printf 'at 7\nprocess r0\nget r%d.TIME\ntally\nnotify r0.VAL 1\n' "$last" > "$folder/forward.script"
 chain ring longin FLNK "" r0
 printf 'at 7\nprocess r0\nget r0.LCNT\ntally\n' > "$folder/ring.script"
 chain read longin INP " PP" 5
@@ -31,13 +32,13 @@ awk -v n="$records" 'BEGIN {
     print "}"
   }
 }' > "$folder/tree.db"
-printf 'at 7\nprocess r0\nget r%d.TIME\ntally\n' "$last" > "$folder/tree.script"
+printf 'at 7\nprocess r0\nget r%d.TIME\ntally\nnotify r0.VAL 1\n' "$last" > "$folder/tree.script"
 awk -v n="$records" 'BEGIN {
   print "record(longin,\"r0\"){field(INP,\"5\")}"
   for (i = 1; i < n; i++) printf "record(longin,\"r%d\"){field(INP,\"r0 PP\")field(SCAN,\"1 second\")}\n", i
 }' > "$folder/star.db"
 printf 'scan 1 second\nget r%d.VAL\ntally\n' "$last" > "$folder/star.script"
-ulimit -s 256
+ulimit -s 512
 for name in forward ring read read_ring write tree star; do
   echo "$name:"
   for script in empty "$name"; do

@@ -144,11 +144,11 @@ def drawn_database(generator: random.Random, good: bool) -> Database:
             made.aliases["to:" + name[:50]] = name
     statements = []
     for name, kind in made.records.items():
-        settable = [it for it in TYPES[kind] if it not in FIXED]
+        settable = [it for it in TYPES[kind] if it not in FIXED or (not good and generator.random() < 0.02)]
         weights = [20 if it in ("INP", "OUT") else 4 if it in ("DOL", "OMSL", "FLNK", "SCAN", "VAL") else 1 for it in settable]
         body = []
         for it in generator.choices(settable, weights, k=generator.randint(0, 9)):
-            value = drawn_link(generator, made, it, good) if it in LINKS else drawn_value(generator, kind, it, good)
+            value = "1" if it in FIXED else drawn_link(generator, made, it, good) if it in LINKS else drawn_value(generator, kind, it, good)
             body.append(f"field({it}, {spelled(generator, value, macros)})")
             if value.startswith("@"):
                 made.devices.append(name)
@@ -162,6 +162,9 @@ def drawn_database(generator: random.Random, good: bool) -> Database:
         statements.append(f"{word}({kind}, {spelled(generator, name, macros)}) {inside}\n")
         if cut < len(body):
             statements.append(f"{word}(*, {spelled(generator, name, macros)}) {{ {between.join(body[cut:])}{between}}}\n")
+    if not good and generator.random() < 0.05:
+        taken = generator.choice(list(made.records))
+        statements.append(generator.choice([f'alias("{taken}", "{taken}")\n', f'record({generator.choice(list(TYPES))}, "{taken}")\n']))
     made.text = "".join(statements).encode("latin-1")
     return made
 

@@ -194,7 +194,9 @@ def main() -> int:
                 print(f"script {script.decode('latin-1')!r}\n{done.stdout!r}\n{done.stderr!r}")
                 return 1
     print(f"{runs} runs, seed {seed}: {statuses[0]} loaded, {statuses[1]} refused; one took {slowest:.2f} s at most")
-    print(f"processor time: {processor_time():.0f} s, {dearest:.2f} s at most in one run")
+    # The memory of a run counts what this script had when it began the program.
+    memory = resource.getrusage(resource.RUSAGE_CHILDREN).ru_maxrss / 1000
+    print(f"processor time: {processor_time():.0f} s, {dearest:.2f} s at most in one run; {memory:.0f} MB at most")
     print("; ".join(f"{what} {count}" for what, count in sorted(seen.items()) if what))
     return 0
 
