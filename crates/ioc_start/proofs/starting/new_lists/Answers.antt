@@ -1,5 +1,4 @@
-use Rattle.std.proofs.Common.{◌≡◌, ap, arith}
-use Rattle.crossbeam_utils.specs.Seq.{cell_view}
+use Rattle.std.proofs.Common.{ap, arith}
 use Rattle.ioc_line.specs.declared.room.View.{View}
 use Rattle.ioc_start.proofs.Keys.{no_desks_with}
 use Rattle.ioc_start.proofs.starting.new_lists.Goals as goal
