@@ -1,5 +1,5 @@
 //! The fields by which the output types are driven, and drive.
-ghost use Rattle.std.specs.Prelude.{◌≡◌};
+ghost use Rattle.std.specs.Prelude.{◌≡◌, IfOk};
 ghost use Rattle.std.specs.Option.{option_copied};
 ghost use Rattle.std.specs.Prelude.{IsTrue};
 ghost use Rattle.ioc_common.specs.Wants.{need_of, link_wanted, puts_out};
@@ -13,6 +13,7 @@ use crate::parts::{ivoa_in, omsl_in};
 use ioc_fields::OwnField;
 use ioc_menus::{Ivoa, Omsl, Severity};
 use ioc_values::Value;
+use std::alloc::{AllocError, Global};
 
 /// OUT, DOL, OMSL and IVOA. Record Reference Manual, "Output Specification" and "Invalid Output Action".
 #[derive(Drop)]
@@ -39,6 +40,34 @@ impl Drive {
             mode: Omsl::Supervisory,
             on_invalid: Ivoa::ContinueNormally,
         }
+    }
+
+    /// The same drive.
+    ///
+    /// # Errors
+    ///
+    /// [`AllocError`] where memory is wanting.
+    pub fn copy(&self, alloc: Global) -> Result<Self, AllocError>
+        ensures { IfOk result (λ copy. copy ≡ self.now) }
+    {
+        let output = self.output.copy(alloc)?;
+        let desired = self.desired.copy(alloc)?;
+        Ok(Drive {
+            output,
+            desired,
+            mode: self.mode,
+            on_invalid: self.on_invalid,
+        })
+    }
+
+    /// This drive becomes the same as another with the same links. It takes no room.
+    pub fn copy_from(&mut self, other: &Drive)
+        requires output { self.old.output ≡ other.now.output }
+        requires desired { self.old.desired ≡ other.now.desired }
+        ensures { self.new ≡ other.now }
+    {
+        self.mode = other.mode;
+        self.on_invalid = other.on_invalid;
     }
 
     pub fn link(&self, field: OwnField) -> Option<&KeptLink>

@@ -57,6 +57,17 @@ impl KeptLink {
         }
     }
 
+    /// The same link. It takes room, unless the link is empty.
+    ///
+    /// # Errors
+    ///
+    /// [`AllocError`] where memory is wanting.
+    pub fn copy(&self, alloc: Global) -> Result<Self, AllocError>
+        ensures { IfOk result (λ copy. copy ≡ self.now) }
+    {
+        KeptLink::new(alloc, self.get())
+    }
+
     /// What the link comes to in use.
     #[tactic(auto, unfolding(crate::specs::Links::use_of))]
     pub fn in_use(&self) -> LinkUse

@@ -1,5 +1,5 @@
 //! The field by which the input types are fed.
-ghost use Rattle.std.specs.Prelude.{◌≡◌};
+ghost use Rattle.std.specs.Prelude.{◌≡◌, IfOk};
 ghost use Rattle.std.specs.Option.{option_copied};
 ghost use Rattle.ioc_common.specs.Source.{new_source, source_link, source_with_link, source_begin};
 ghost use Rattle.ioc_common.specs.Wants.{need_of, link_wanted};
@@ -8,6 +8,7 @@ use crate::body::Need;
 use crate::kept_link::KeptLink;
 use crate::link_field::LinkUse;
 use ioc_fields::OwnField;
+use std::alloc::{AllocError, Global};
 
 /// INP. Record Reference Manual, "Input Specification".
 #[derive(Drop)]
@@ -25,6 +26,18 @@ impl Source {
         Source {
             input: KeptLink::empty(),
         }
+    }
+
+    /// The same source.
+    ///
+    /// # Errors
+    ///
+    /// [`AllocError`] where memory is wanting.
+    pub fn copy(&self, alloc: Global) -> Result<Self, AllocError>
+        ensures { IfOk result (λ copy. copy ≡ self.now) }
+    {
+        let input = self.input.copy(alloc)?;
+        Ok(Source { input })
     }
 
     pub fn link(&self, field: OwnField) -> Option<&KeptLink>

@@ -6,7 +6,6 @@ use ioc_fields::{CommonField, FieldNo, OwnField};
 use ioc_journal::{Base, Desk};
 use ioc_names::RecordNo;
 use ioc_notify::NotifyId;
-use ioc_record::copy_link;
 use ioc_types::Record;
 use ioc_values::{Finished, Input, IocError, Value};
 use ioc_workplace::Workplace;
@@ -116,7 +115,7 @@ pub fn set_link<B: Base<Record>, R: Wait>(
     target: Option<usize>,
 ) -> Option<(Reply, usize)> {
     let link = link_to(alloc, target).ok()?;
-    let twin = copy_link(alloc, &link).ok()?;
+    let twin = link.copy(alloc).ok()?;
     let changed = engine
         .set_link(
             rt,

@@ -23,9 +23,9 @@ use ioc_names::RecordNo;
 use ioc_process::outputs::is_proc;
 use ioc_process::process::{complete_record, request_record};
 use ioc_record::{PutFault, RecordKind, put_field, put_spelled};
+use ioc_steps::scanning::rescan;
+use ioc_steps::steps::{mark_put, mark_reprocess};
 use ioc_store::frames::Frame;
-use ioc_store::scan_change::rescan;
-use ioc_store::steps::{mark_put, mark_reprocess};
 use ioc_store::store::Store;
 use ioc_values::{Finished, Input, IocError};
 

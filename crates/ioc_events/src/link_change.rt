@@ -13,7 +13,7 @@ use ioc_common::{KeptLink, LinkUse};
 use ioc_fields::FieldNo;
 use ioc_names::RecordNo;
 use ioc_record::{RecordKind, stops_put};
-use ioc_store::scan_change::{device_of, rewire};
+use ioc_steps::scanning::{device_of, rewire};
 use ioc_store::store::Store;
 use ioc_values::IocError;
 

@@ -15,10 +15,10 @@ use ioc_names::RecordNo;
 use ioc_notify::Waiting;
 use ioc_process::process::request_record;
 use ioc_record::RecordKind;
+use ioc_steps::notifying::tell as tell_notification;
+use ioc_steps::scanning::rescan;
+use ioc_steps::steps::{common, mark_put, set_notification};
 use ioc_store::frames::Frame;
-use ioc_store::notifying::tell as tell_notification;
-use ioc_store::scan_change::rescan;
-use ioc_store::steps::{common, mark_put, set_notification};
 use ioc_store::store::Store;
 use ioc_values::Value;
 

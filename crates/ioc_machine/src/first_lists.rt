@@ -11,7 +11,7 @@ use ioc_menus::{Pini, Scan};
 use ioc_names::RecordNo;
 use ioc_record::RecordKind;
 use ioc_scan::{ListName, Listed, Place, ScanLists};
-use ioc_store::device_of;
+use ioc_steps::scanning::device_of;
 use ioc_types::Record;
 use ioc_values::Short;
 use std::alloc::{AllocError, Global};

@@ -5,6 +5,7 @@ pub mod first_lists;
 mod leads;
 pub mod machine;
 pub mod scanner;
+mod scanning;
 pub mod scripted;
 pub mod sets;
 pub mod settled;

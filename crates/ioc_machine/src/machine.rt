@@ -1,5 +1,5 @@
 //! What a script works on.
-ghost use Rattle.std.specs.Prelude.{◌≡◌, ◌≤◌, [], ◌++◌, map, IfOk, OnOk};
+ghost use Rattle.std.specs.Prelude.{◌≡◌, ◌≤◌, [], map, IfOk, OnOk};
 ghost use Rattle.std.specs.FinMap.{len};
 ghost use Rattle.std.specs.Vec.{vec_capacity};
 ghost use Rattle.ioc_types.specs.Record.{record_rules};
@@ -12,41 +12,37 @@ use crate::first_lists::{Occasion, first_lists, starters};
 use crate::leads::lead_among;
 use crate::scanner::Scanner;
 use crate::scripted::Scripted;
-use crate::sets::links_of;
 use crate::settled::{event_keeps_count, event_leaves_settled};
 use ioc_common::{KeptLink, LinkField};
 use ioc_dbfile::{Owners, owners_of, owns_device};
-use ioc_device::Answer;
 use ioc_events::{
     Effect, Reply, make_request, make_spelled_put, run_cancel, run_complete, run_link, run_notify,
 };
 use ioc_fields::FieldNo;
-use ioc_graph::parts_of_all;
 use ioc_ledger::Tally;
 use ioc_links::Link;
 use ioc_names::{Names, RecordNo};
 use ioc_notify::NotifyId;
-use ioc_scan::{ListName, Listed};
 use ioc_store::{EventStore, Frame, OneMap};
 use ioc_types::Record;
-use ioc_values::{Finished, Input, IocError};
+use ioc_values::{Finished, Input};
 use std::alloc::{AllocError, Global};
 
 /// A database with devices whose answers are queued, the counts of requests, its scan lists, and the requests that wait. Between events no
 /// link leaves the database, and a record is active exactly where its completion is pending.
 #[derive(Drop)]
 pub struct Machine {
-    map: OneMap<Record, Scripted>,
+    pub(crate) map: OneMap<Record, Scripted>,
     // Open frames of the event under way, with room for all records from the load on.
-    frames: Vec<Frame>,
-    tally: Tally,
-    scanner: Scanner,
-    owners: Owners,
+    pub(crate) frames: Vec<Frame>,
+    pub(crate) tally: Tally,
+    pub(crate) scanner: Scanner,
+    pub(crate) owners: Owners,
     // The number of the next put with notification.
-    next: u64,
+    pub(crate) next: u64,
     // Those that have ended since this was told last. Room for all that are live at once is taken at the load.
-    ended: Vec<NotifyId>,
-    alloc: Global,
+    pub(crate) ended: Vec<NotifyId>,
+    pub(crate) alloc: Global,
     ghost settled: { IsSettled record_rules (world_of map) },
     ghost empty: { frames.items ≡ [] },
     ghost room: { len (world_of map).records ≤ vec_capacity frames },
@@ -71,16 +67,12 @@ fn devices_of(alloc: Global, records: &[Record]) -> Result<Vec<Option<Scripted>>
 }
 
 impl Machine {
-    ghost use Rattle.std.specs.Prelude.{length};
     ghost use Rattle.ioc_events.specs.declared.event.Event.TheVariants.{Process, Put, Complete, Link as Link_event, Notify, Cancel};
     ghost use Rattle.ioc_events.specs.Events.{reply_of};
     ghost use Rattle.ioc_values.specs.Conversion.{input_of};
-    ghost use Rattle.ioc_scan.specs.Walked.{walked};
     ghost use Rattle.ioc_machine.specs.FirstLists.{starters};
     ghost use Rattle.ioc_machine.specs.Leads.{field_of_link};
-    ghost use Rattle.ioc_machine.specs.Machine.{loaded_machine, first_machine, stepped_on, done, with_ended_kept, with_sent, each_requested, queued_on, scanned, serve, most_served, queued_at, at_moment, with_none_ended, notified, given_up};
-    ghost use Rattle.ioc_graph.specs.Members.{AreFirsts};
-    ghost use Rattle.ioc_machine.specs.Sets.{parts_of};
+    ghost use Rattle.ioc_machine.specs.Machine.{loaded_machine, first_machine, stepped_on, done, with_ended_kept, with_sent, with_none_ended, notified, given_up};
     ghost use Rattle.ioc_machine.specs.SeenMachine.{machine_of};
 
     // These records before any event. All room that events want, but for scan lists, is taken here.
@@ -276,7 +268,7 @@ impl Machine {
 
     // Requests a record without telling what that came to.
     #[inline(never)]
-    fn process_untold(&mut self, number: RecordNo) -> Result<(), AllocError>
+    pub(crate) fn process_untold(&mut self, number: RecordNo) -> Result<(), AllocError>
         ensures { OnOk result (machine_of self.new ≡ (done record_rules (machine_of self.old) (Process number)).machine) }
     {
         let _effect = self.process(number)?;
@@ -391,106 +383,5 @@ impl Machine {
         ensures { machine_of self.new ≡ with_none_ended (machine_of self.old) }
     {
         self.ended.clear();
-    }
-
-    /// For each record the number of the part that standing links join it to, which is that of the part's first record. Cost: near the
-    /// number of records and links.
-    ///
-    /// # Errors
-    ///
-    /// [`AllocError`] where memory is wanting.
-    pub fn parts(&self) -> Result<Vec<usize>, AllocError>
-        ensures parts { IfOk result (λ numbers. numbers.items ≡ parts_of record_rules (machine_of self.now).world) }
-        ensures firsts { IfOk result (λ numbers. AreFirsts numbers.items) }
-        ensures all { IfOk result (λ numbers. length numbers.items ≡ length self.now.map.records.items) }
-    {
-        let records = self.map.records.as_slice();
-        let links = links_of(self.alloc, records)?;
-        parts_of_all(self.alloc, links.as_slice(), records.len())
-    }
-
-    /// Queues an answer for the device of a record; a record without one is refused.
-    ///
-    /// # Errors
-    ///
-    /// [`AllocError`] where memory is wanting.
-    pub fn queue(&mut self, number: RecordNo, answer: Answer) -> Result<Reply, AllocError>
-        ensures { IfOk result (λ reply. record { machine = machine_of self.new; reply = reply } ≡ queued_at (machine_of self.old) number answer ((machine_of self.old).queued number)) }
-    {
-        let place = number.index();
-        if place >= self.map.devices.len() {
-            return Ok(Reply::Refused(IocError::NoField));
-        }
-        match &mut self.map.devices[place] {
-            Some(device) => {
-                device.queue(answer)?;
-                Ok(Reply::Plain)
-            }
-            None => Ok(Reply::Refused(IocError::NoField)),
-        }
-    }
-
-    /// Later events are done at this moment, in nanoseconds since 1970-01-01 00:00 UTC.
-    pub fn set_moment(&mut self, moment: u64)
-        ensures { machine_of self.new ≡ at_moment moment (machine_of self.old) }
-    {
-        self.map.begin_at(moment);
-    }
-
-    /// Puts the records on a list on the callback queues of their priorities, if there is a list, and answers how many found room: at a posted
-    /// event, or an interrupt of a device.
-    ///
-    /// # Errors
-    ///
-    /// [`AllocError`] where memory is wanting.
-    pub fn call(&mut self, list: Option<ListName>) -> Result<u64, AllocError>
-        ensures { IfOk result (λ count. record { machine = machine_of self.new; count = count } ≡ queued_on (machine_of self.old) list) }
-    {
-        self.scanner.call(list)
-    }
-
-    // Requests each of these records, in order.
-    fn request_each(&mut self, listed: &[Listed]) -> Result<(), AllocError>
-        ensures { OnOk result (machine_of self.new ≡ each_requested record_rules (machine_of self.old) listed.now) }
-    {
-        let mut rest = listed;
-        while let [item, others @ ..] = rest {
-            self.process_untold(item.number)?;
-            rest = others;
-        }
-        Ok(())
-    }
-
-    /// Requests the records on a list at once, and answers how many there were when it began.
-    ///
-    /// # Errors
-    ///
-    /// [`AllocError`] where memory is wanting.
-    pub fn scan(&mut self, list: &ListName) -> Result<u64, AllocError>
-        ensures { IfOk result (λ count. record { machine = machine_of self.new; count = count } ≡ scanned record_rules (machine_of self.old) list.now) }
-    {
-        let mut listed = Vec::new(self.alloc);
-        self.scanner.walk(list, &mut listed)?;
-        self.request_each(listed.as_slice())?;
-        Ok(listed.len() as u64)
-    }
-
-    /// Serves the requests that wait, until none is left or 1,000 were served.
-    ///
-    /// # Errors
-    ///
-    /// [`AllocError`] where memory is wanting.
-    pub fn serve(&mut self) -> Result<(), AllocError>
-        ensures { OnOk result (machine_of self.new ≡ serve record_rules most_served (machine_of self.old)) }
-    {
-        let mut turns = 1000u32;
-        while turns > 0 {
-            let Some(number) = self.scanner.next() else {
-                return Ok(());
-            };
-            self.process_untold(number)?;
-            turns -= 1;
-        }
-        Ok(())
     }
 }

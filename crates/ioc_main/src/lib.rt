@@ -1,6 +1,7 @@
 //! A run: a database text, and a script of requests that are answered line by line.
 #![tactic(auto)]
 
+mod answering;
 mod arguments;
 mod ending;
 mod fault;

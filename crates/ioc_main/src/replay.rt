@@ -1,24 +1,21 @@
 //! A loaded database, to which a script is done.
-ghost use Rattle.std.specs.Prelude.{◌≡◌, ◌≤◌, ◌+◌, ◌∷◌, ◌++◌, [], List, ℕ, length, take, codes, IfOk, OnOk, OnErr};
+ghost use Rattle.std.specs.Prelude.{◌≡◌, ◌≤◌, ◌+◌, ◌∷◌, ◌++◌, [], length, take, codes, IfOk, OnOk, OnErr};
 ghost use Rattle.ioc_names.specs.NameTable.{number_of};
 ghost use Rattle.ioc_types.specs.Record.{record_rules};
 ghost use Rattle.ioc_record.specs.Values.{text_of};
 ghost use Rattle.ioc_process.specs.Rules.{IsSettled};
 ghost use Rattle.ioc_dbfile.specs.FirstWorld.{first_world};
-ghost use Rattle.ioc_machine.specs.Machine.{first_machine, queued_on, with_none_ended, given_up, scanned};
+ghost use Rattle.ioc_machine.specs.Machine.{first_machine, queued_on, at_moment, given_up, scanned};
 ghost use Rattle.ioc_machine.specs.Scanner.{event_list, interrupt_list};
 ghost use Rattle.ioc_scan.specs.declared.list_name.ListName.TheVariants.{Period as Period-list};
 ghost use Rattle.ioc_machine.specs.SeenMachine.{machine_of};
-ghost use Rattle.ioc_main.specs.Replay.{Answered, channel, processed, got, were_put, answers_next, were_completed, given_value, carried_out, answered, were_notified, attended, ended_lines};
+ghost use Rattle.ioc_main.specs.Replay.{channel, processed, got, were_put, answers_next, were_completed, given_value, were_notified};
 ghost use Rattle.ioc_script.specs.Replies.{reply_words, tally_words, count_words};
 ghost use Rattle.ioc_main.specs.Relink.{were_linked};
-ghost use Rattle.ioc_script.specs.Script.{command_of, is_silent, put_of, before, behind};
-ghost use Rattle.ioc_script.specs.Seen.{seen};
 ghost use Rattle.ioc_main.specs.Sets.{sets_line};
-ghost use Rattle.ioc_main.specs.Coming.{Stands};
 
 use crate::fields::{channel, relink};
-use crate::session::{Replies, Said, Session};
+use crate::session::Replies;
 use crate::sets::say_sets;
 use ioc_device::Answer;
 use ioc_fields::FieldNo;
@@ -27,10 +24,7 @@ use ioc_names::Names;
 use ioc_notify::NotifyId;
 use ioc_record::add_text;
 use ioc_scan::{ListName, Period};
-use ioc_script::{
-    Command, count_line, ended_line, say_effect, say_refusal, say_reply, split_before, tally_line,
-    words_of_put,
-};
+use ioc_script::{count_line, say_effect, say_refusal, say_reply, tally_line};
 use ioc_store::Store;
 use ioc_types::Record;
 use ioc_values::{Finished, Input, IocError, Text, Value};
@@ -39,9 +33,9 @@ use std::alloc::{AllocError, Global};
 /// A loaded database, to which a script is done.
 #[derive(Drop)]
 pub struct Replay {
-    names: Names,
-    machine: Machine,
-    alloc: Global,
+    pub(crate) names: Names,
+    pub(crate) machine: Machine,
+    pub(crate) alloc: Global,
 }
 
 // The value that a text gives: its first 39 bytes.
@@ -84,7 +78,7 @@ impl Replay {
     // What follows says its reply where it is wanted. None of it is inlined, so that what one command has in hand isn't cleared
     // for the others.
     #[inline(never)]
-    fn process(&mut self, name: &[u8], replies: &mut Replies) -> Result<(), AllocError>
+    pub(crate) fn process(&mut self, name: &[u8], replies: &mut Replies) -> Result<(), AllocError>
         requires { length replies.old + 256 ≤ 4096 }
         ensures names { self.new.names ≡ self.old.names }
         ensures machine { OnOk result (machine_of self.new.machine ≡ (processed record_rules self.old.names (machine_of self.old.machine) (number_of self.old.names name.now)).machine) }
@@ -101,7 +95,7 @@ impl Replay {
     // The text of the field is written where the reply is. No event is wanted, since a get changes nothing.
     #[inline(never)]
     #[tactic(auto, using(crate::proofs::Getting::shown_there))]
-    fn get(&self, record_name: &[u8], field_name: &[u8], replies: &mut Replies)
+    pub(crate) fn get(&self, record_name: &[u8], field_name: &[u8], replies: &mut Replies)
         requires { length replies.old + 256 ≤ 4096 }
         ensures { replies.new ≡ replies.old ++ reply_words (got record_rules self.now.names (machine_of self.now.machine) (channel record_rules self.now.names (machine_of self.now.machine).world record_name.now field_name.now)).reply ++ 10 ∷ [] }
     {
@@ -112,7 +106,7 @@ impl Replay {
     }
 
     #[inline(never)]
-    fn put(
+    pub(crate) fn put(
         &mut self,
         record_name: &[u8],
         field_name: &[u8],
@@ -135,7 +129,7 @@ impl Replay {
     }
 
     #[inline(never)]
-    fn queue(
+    pub(crate) fn queue(
         &mut self,
         name: &[u8],
         answer: Answer,
@@ -155,7 +149,7 @@ impl Replay {
     }
 
     #[inline(never)]
-    fn queue_done(
+    pub(crate) fn queue_done(
         &mut self,
         name: &[u8],
         text: &[u8],
@@ -171,7 +165,7 @@ impl Replay {
     }
 
     #[inline(never)]
-    fn complete(
+    pub(crate) fn complete(
         &mut self,
         name: &[u8],
         wait: u64,
@@ -192,7 +186,7 @@ impl Replay {
     }
 
     #[inline(never)]
-    fn complete_done(
+    pub(crate) fn complete_done(
         &mut self,
         name: &[u8],
         wait: u64,
@@ -222,7 +216,7 @@ impl Replay {
     }
 
     #[inline(never)]
-    fn scan(&mut self, period: &Period, replies: &mut Replies) -> Result<(), AllocError>
+    pub(crate) fn scan(&mut self, period: &Period, replies: &mut Replies) -> Result<(), AllocError>
         requires { length replies.old + 256 ≤ 4096 }
         ensures names { self.new.names ≡ self.old.names }
         ensures machine { OnOk result (machine_of self.new.machine ≡ (scanned record_rules (machine_of self.old.machine) (Period-list period.now)).machine) }
@@ -235,7 +229,7 @@ impl Replay {
     }
 
     #[inline(never)]
-    fn post(&mut self, name: &[u8], replies: &mut Replies) -> Result<(), AllocError>
+    pub(crate) fn post(&mut self, name: &[u8], replies: &mut Replies) -> Result<(), AllocError>
         requires { length replies.old + 256 ≤ 4096 }
         ensures names { self.new.names ≡ self.old.names }
         ensures machine { OnOk result (machine_of self.new.machine ≡ (queued_on (machine_of self.old.machine) (event_list (take 39 name.now))).machine) }
@@ -246,7 +240,7 @@ impl Replay {
     }
 
     #[inline(never)]
-    fn interrupt(&mut self, word: &[u8], replies: &mut Replies) -> Result<(), AllocError>
+    pub(crate) fn interrupt(&mut self, word: &[u8], replies: &mut Replies) -> Result<(), AllocError>
         requires { length replies.old + 256 ≤ 4096 }
         ensures names { self.new.names ≡ self.old.names }
         ensures machine { OnOk result (machine_of self.new.machine ≡ (queued_on (machine_of self.old.machine) (interrupt_list word.now)).machine) }
@@ -257,7 +251,7 @@ impl Replay {
     }
 
     #[inline(never)]
-    fn link(
+    pub(crate) fn link(
         &mut self,
         record_name: &[u8],
         field_name: &[u8],
@@ -281,7 +275,18 @@ impl Replay {
     }
 
     #[inline(never)]
-    fn tally(&self, replies: &mut Replies)
+    pub(crate) fn begin_at(&mut self, moment: u64, replies: &mut Replies)
+        requires { length replies.old + 256 ≤ 4096 }
+        ensures names { self.new.names ≡ self.old.names }
+        ensures machine { machine_of self.new.machine ≡ at_moment moment (machine_of self.old.machine) }
+        ensures said { replies.new ≡ replies.old ++ codes "ok\n" }
+    {
+        self.machine.set_moment(moment);
+        replies.extend(b"ok\n");
+    }
+
+    #[inline(never)]
+    pub(crate) fn tally(&self, replies: &mut Replies)
         requires { length replies.old + 256 ≤ 4096 }
         ensures { replies.new ≡ replies.old ++ tally_words (machine_of self.now.machine).tally (machine_of self.now.machine).scanner.queues.dropped ++ 10 ∷ [] }
     {
@@ -289,7 +294,7 @@ impl Replay {
     }
 
     #[inline(never)]
-    fn notify(
+    pub(crate) fn notify(
         &mut self,
         record_name: &[u8],
         field_name: &[u8],
@@ -315,7 +320,7 @@ impl Replay {
     }
 
     #[inline(never)]
-    fn cancel(&mut self, number: u64, replies: &mut Replies) -> Result<(), AllocError>
+    pub(crate) fn cancel(&mut self, number: u64, replies: &mut Replies) -> Result<(), AllocError>
         requires { length replies.old + 256 ≤ 4096 }
         ensures names { self.new.names ≡ self.old.names }
         ensures machine { OnOk result (machine_of self.new.machine ≡ (given_up record_rules (machine_of self.old.machine) number).machine) }
@@ -328,185 +333,10 @@ impl Replay {
 
     // The whole of the reply is too long for a line of its own kind.
     #[inline(never)]
-    fn sets(&self, more: &mut Vec<u8>) -> Result<(), AllocError>
+    pub(crate) fn sets(&self, more: &mut Vec<u8>) -> Result<(), AllocError>
         requires { more.old.items ≡ [] }
         ensures { OnOk result (more.new.items ≡ sets_line record_rules (machine_of self.now.machine).world) }
     {
         say_sets(self.alloc, &self.machine, more)
-    }
-
-    // Does what a line asks for, and says it.
-    #[tactic(auto, unfolding(crate::specs::Replay::carried_out), using(crate::proofs::Getting::said_shortly, crate::proofs::Getting::stands_before, crate::proofs::Getting::stands_alone))]
-    fn carry_out(&mut self, command: &Command<'_>, said: &mut Said) -> Result<(), AllocError>
-        requires room { length said.old.replies + 256 ≤ 4096 }
-        requires none { said.old.more.items ≡ [] }
-        ensures names { self.new.names ≡ self.old.names }
-        ensures machine { OnOk result (machine_of self.new.machine ≡ (carried_out record_rules self.old.names (machine_of self.old.machine) (seen command.now)).machine) }
-        ensures said { OnOk result (said.new.replies ++ said.new.more.items ≡ said.old.replies ++ (carried_out record_rules self.old.names (machine_of self.old.machine) (seen command.now)).said) }
-        ensures stands { Stands said.old.replies said.new.replies }
-    {
-        match *command {
-            Command::Silent => {}
-            Command::Bad => said.replies.extend(b"bad\n"),
-            Command::Process(record) => self.process(record, &mut said.replies)?,
-            Command::Put(record, field, text) => self.put(record, field, text, &mut said.replies)?,
-            Command::Get(record, field) => self.get(record, field, &mut said.replies),
-            Command::At(moment) => {
-                self.machine.set_moment(moment);
-                said.replies.extend(b"ok\n");
-            }
-            Command::NextDone(record, text) => self.queue_done(record, text, &mut said.replies)?,
-            Command::NextFault(record) => self.queue(record, Answer::Fault, &mut said.replies)?,
-            Command::NextLater(record) => self.queue(record, Answer::Later, &mut said.replies)?,
-            Command::Done(record, wait, text) => self.complete_done(
-                record,
-                wait,
-                text,
-                &mut said.replies,
-            )?,
-            Command::Fault(record, wait) => self.complete(
-                record,
-                wait,
-                Finished::Fault,
-                &mut said.replies,
-            )?,
-            Command::Event(name) => self.post(name, &mut said.replies)?,
-            Command::Interrupt(word) => self.interrupt(word, &mut said.replies)?,
-            Command::Scan(period) => self.scan(&period, &mut said.replies)?,
-            Command::Link(record, field, text) => {
-                self.link(record, field, text, &mut said.replies)?;
-            }
-            Command::Tally => self.tally(&mut said.replies),
-            Command::Notify(record, field, text) => self.notify(
-                record,
-                field,
-                text,
-                &mut said.replies,
-            )?,
-            Command::Cancel(number) => self.cancel(number, &mut said.replies)?,
-            Command::Sets => self.sets(&mut said.more)?,
-        }
-        Ok(())
-    }
-
-    // Puts what the words behind `put` say: a command is as wide as the widest of all lines, and is made for none of these.
-    #[inline(always)]
-    #[tactic(auto, unfolding(crate::specs::Replay::carried_out))]
-    fn put_words(&mut self, words: &[u8], replies: &mut Replies) -> Result<(), AllocError>
-        requires { length replies.old + 256 ≤ 4096 }
-        ensures names { self.new.names ≡ self.old.names }
-        ensures machine { OnOk result (machine_of self.new.machine ≡ (carried_out record_rules self.old.names (machine_of self.old.machine) (put_of (before 32 words.now) (behind 32 words.now))).machine) }
-        ensures said { OnOk result (replies.new ≡ replies.old ++ (carried_out record_rules self.old.names (machine_of self.old.machine) (put_of (before 32 words.now) (behind 32 words.now))).said) }
-        ensures kept { OnErr result (replies.new ≡ replies.old) }
-    {
-        let (word, rest) = split_before(words, b' ');
-        let (record, named) = split_before(word, b'.');
-        match (named, rest) {
-            ([], _) => {
-                replies.extend(b"bad\n");
-                Ok(())
-            }
-            ([_, field @ ..], []) => self.put(record, field, b"", replies),
-            ([_, field @ ..], [_, text @ ..]) => self.put(record, field, text, replies),
-        }
-    }
-
-    // Does what a line of whatever kind asks for, and answers whether it asks for nothing. This isn't inlined, so that nothing is cleared
-    // for other lines where one puts.
-    #[inline(never)]
-    fn do_any(&mut self, line: &[u8], said: &mut Said) -> Result<bool, AllocError>
-        requires room { length said.old.replies + 256 ≤ 4096 }
-        requires none { said.old.more.items ≡ [] }
-        ensures silent { IfOk result (λ silent. silent ≡ is_silent (command_of line.now)) }
-        ensures names { self.new.names ≡ self.old.names }
-        ensures machine { OnOk result (machine_of self.new.machine ≡ (carried_out record_rules self.old.names (machine_of self.old.machine) (command_of line.now)).machine) }
-        ensures said { OnOk result (said.new.replies ++ said.new.more.items ≡ said.old.replies ++ (carried_out record_rules self.old.names (machine_of self.old.machine) (command_of line.now)).said) }
-        ensures stands { Stands said.old.replies said.new.replies }
-    {
-        let command = Command::from_line(line);
-        self.carry_out(&command, said)?;
-        Ok(command.is_silent())
-    }
-
-    // The same. A line that puts is told by its first bytes, since most lines with a value are these.
-    #[inline(always)]
-    #[tactic(auto, using(crate::proofs::Telling::put_speaks, crate::proofs::Getting::said_shortly, crate::proofs::Getting::stands_before, crate::proofs::Getting::stands_alone))]
-    fn do_line(&mut self, line: &[u8], said: &mut Said) -> Result<bool, AllocError>
-        requires room { length said.old.replies + 256 ≤ 4096 }
-        requires none { said.old.more.items ≡ [] }
-        ensures silent { IfOk result (λ silent. silent ≡ is_silent (command_of line.now)) }
-        ensures names { self.new.names ≡ self.old.names }
-        ensures machine { OnOk result (machine_of self.new.machine ≡ (carried_out record_rules self.old.names (machine_of self.old.machine) (command_of line.now)).machine) }
-        ensures said { OnOk result (said.new.replies ++ said.new.more.items ≡ said.old.replies ++ (carried_out record_rules self.old.names (machine_of self.old.machine) (command_of line.now)).said) }
-        ensures stands { Stands said.old.replies said.new.replies }
-    {
-        match words_of_put(line) {
-            Some(words) => {
-                self.put_words(words, &mut said.replies)?;
-                Ok(false)
-            }
-            None => self.do_any(line, said),
-        }
-    }
-
-    // Tells which puts with notification have ended, each in a line, and forgets them. This isn't inlined, since after most lines none
-    // has.
-    #[inline(never)]
-    fn tell_each_ended(&mut self, more: &mut Vec<u8>) -> Result<(), AllocError>
-        ensures names { self.new.names ≡ self.old.names }
-        ensures machine { OnOk result (machine_of self.new.machine ≡ with_none_ended (machine_of self.old.machine)) }
-        ensures said { OnOk result (more.new.items ≡ more.old.items ++ ended_lines (machine_of self.old.machine).ended) }
-    {
-        let mut rest = self.machine.ended();
-        while let [number, others @ ..] = rest {
-            more.extend_from_slice(ended_line(*number).as_slice())?;
-            rest = others;
-        }
-        self.machine.forget_ended();
-        Ok(())
-    }
-
-    // The same, where any have.
-    fn tell_ended(&mut self, more: &mut Vec<u8>) -> Result<(), AllocError>
-        ensures names { self.new.names ≡ self.old.names }
-        ensures machine { OnOk result (machine_of self.new.machine ≡ with_none_ended (machine_of self.old.machine)) }
-        ensures said { OnOk result (more.new.items ≡ more.old.items ++ ended_lines (machine_of self.old.machine).ended) }
-    {
-        if self.machine.ended().is_empty() {
-            return Ok(());
-        }
-        self.tell_each_ended(more)
-    }
-
-    // Serves the requests that wait, and tells which puts with notification have ended.
-    #[inline(always)]
-    #[tactic(auto, unfolding(crate::specs::Replay::attended))]
-    fn attend(&mut self, more: &mut Vec<u8>) -> Result<(), AllocError>
-        ensures names { self.new.names ≡ self.old.names }
-        ensures machine { OnOk result (machine_of self.new.machine ≡ (attended record_rules (machine_of self.old.machine)).machine) }
-        ensures said { OnOk result (more.new.items ≡ more.old.items ++ (attended record_rules (machine_of self.old.machine)).said) }
-    {
-        self.machine.serve()?;
-        self.tell_ended(more)
-    }
-}
-
-impl Session for Replay {
-    ghost use Rattle.ioc_main.specs.ReplayLaws.{no-lines, long-lines, printed};
-
-    ghost transcript = { printed };
-
-    ghost no_lines = { no-lines };
-
-    ghost long_lines = { long-lines };
-
-    /// Answers a line, then serves the requests that wait, and tells which puts with notification have ended since.
-    #[tactic(auto, unfolding(crate::specs::Replay::answered))]
-    fn answer(&mut self, line: &[u8], said: &mut Said) -> Result<(), AllocError> {
-        let silent = self.do_line(line, said)?;
-        if !silent {
-            self.attend(&mut said.more)?;
-        }
-        Ok(())
     }
 }

@@ -6,6 +6,7 @@ pub mod changing;
 pub mod connected;
 pub mod dealing;
 pub mod joining;
+mod link_changes;
 pub mod links;
 pub mod marks;
 pub mod members;

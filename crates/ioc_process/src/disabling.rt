@@ -14,9 +14,9 @@ use crate::reading::begin_body;
 use ioc_common::{LinkUse, StandingLink, disable_kind};
 use ioc_ledger::Outcome;
 use ioc_names::RecordNo;
+use ioc_steps::notifying::tell;
+use ioc_steps::steps::{disable, is_disabled, passes_on, set_active, take_disable_input};
 use ioc_store::frames::{Frame, Next, Place};
-use ioc_store::notifying::tell;
-use ioc_store::steps::{disable, is_disabled, passes_on, set_active, take_disable_input};
 use ioc_store::store::Store;
 
 /// A request reads SDIS.

@@ -20,9 +20,9 @@ use ioc_ledger::Outcome;
 use ioc_menus::{Severity, Status};
 use ioc_names::RecordNo;
 use ioc_record::RecordKind;
+use ioc_steps::steps::{common, raise, rest, set_active, show, take};
 use ioc_store::frames::{Frame, Next, Place};
 use ioc_store::outbox::OutboxItem;
-use ioc_store::steps::{common, raise, rest, set_active, show, take};
 use ioc_store::store::Store;
 use ioc_values::Value;
 

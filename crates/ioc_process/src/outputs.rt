@@ -16,8 +16,8 @@ use ioc_fields::{CommonField, FieldNo, OwnField, Slot};
 use ioc_menus::{Severity, Status};
 use ioc_names::RecordNo;
 use ioc_record::{RecordKind, put_untested};
-use ioc_store::scan_change::rescan;
-use ioc_store::steps::{common, inherit, passes_on, passive, raise, wait};
+use ioc_steps::scanning::rescan;
+use ioc_steps::steps::{common, inherit, passes_on, passive, raise, wait};
 use ioc_store::store::Store;
 use ioc_values::{Input, IocError, Value};
 

@@ -14,8 +14,8 @@ use ioc_common::{Got, LinkUse, Need, StandingLink};
 use ioc_ledger::Outcome;
 use ioc_names::RecordNo;
 use ioc_record::RecordKind;
+use ioc_steps::steps::{need, passes_on, set_active, wanted_link};
 use ioc_store::frames::{Frame, Next, Place};
-use ioc_store::steps::{need, passes_on, set_active, wanted_link};
 use ioc_store::store::Store;
 
 /// The body of a record begins.

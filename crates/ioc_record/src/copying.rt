@@ -1,59 +1,8 @@
-//! Copies of what records are made of, and how one becomes the same as another with the same links without taking room.
+//! Copies of the fields that every record has, and how one record's become the same as another's with the same links without taking room.
 ghost use Rattle.std.specs.Prelude.{◌≡◌, IfOk};
 
-use ioc_common::{Common, Drive, KeptLink, Source};
+use ioc_common::Common;
 use std::alloc::{AllocError, Global};
-
-/// The same link.
-///
-/// # Errors
-///
-/// [`AllocError`] where memory is wanting.
-pub fn copy_link(alloc: Global, link: &KeptLink) -> Result<KeptLink, AllocError>
-    ensures { IfOk result (λ copy. copy ≡ link.now) }
-{
-    KeptLink::new(alloc, link.get())
-}
-
-/// The same source.
-///
-/// # Errors
-///
-/// [`AllocError`] where memory is wanting.
-pub fn copy_source(alloc: Global, source: &Source) -> Result<Source, AllocError>
-    ensures { IfOk result (λ copy. copy ≡ source.now) }
-{
-    let input = copy_link(alloc, &source.input)?;
-    Ok(Source { input })
-}
-
-/// The same drive.
-///
-/// # Errors
-///
-/// [`AllocError`] where memory is wanting.
-pub fn copy_drive(alloc: Global, drive: &Drive) -> Result<Drive, AllocError>
-    ensures { IfOk result (λ copy. copy ≡ drive.now) }
-{
-    let output = copy_link(alloc, &drive.output)?;
-    let desired = copy_link(alloc, &drive.desired)?;
-    Ok(Drive {
-        output,
-        desired,
-        mode: drive.mode,
-        on_invalid: drive.on_invalid,
-    })
-}
-
-/// A drive becomes the same as another with the same links.
-pub fn match_drive(drive: &mut Drive, other: &Drive)
-    requires output { drive.old.output ≡ other.now.output }
-    requires desired { drive.old.desired ≡ other.now.desired }
-    ensures { drive.new ≡ other.now }
-{
-    drive.mode = other.mode;
-    drive.on_invalid = other.on_invalid;
-}
 
 /// The same fields.
 ///
@@ -63,8 +12,8 @@ pub fn match_drive(drive: &mut Drive, other: &Drive)
 pub fn copy_common(alloc: Global, common: &Common) -> Result<Common, AllocError>
     ensures { IfOk result (λ copy. copy ≡ common.now) }
 {
-    let disable_link = copy_link(alloc, &common.disable_link)?;
-    let forward_link = copy_link(alloc, &common.forward_link)?;
+    let disable_link = common.disable_link.copy(alloc)?;
+    let forward_link = common.forward_link.copy(alloc)?;
     Ok(Common {
         name: common.name,
         description: common.description,

@@ -2,7 +2,9 @@
 #![tactic(auto)]
 
 mod awaited;
+mod events;
 pub mod laws;
+mod link_changes;
 pub mod linking;
 pub mod lock_set;
 mod no_calls;

@@ -17,7 +17,7 @@ use ioc_links::MAX_DEVICE_BYTES;
 use ioc_members::Members;
 use ioc_names::RecordNo;
 use ioc_record::RecordKind;
-use ioc_store::scan_change::rewire;
+use ioc_steps::scanning::rewire;
 use ioc_values::Short;
 use ioc_workplace::{LivePuts, Workplace};
 use std::mem;

@@ -1,45 +1,41 @@
 //! Lock sets.
-ghost use Rattle.std.specs.Prelude.{◌≡◌, ◌<◌, ◌≤◌, ◌+◌, ◌^◌, ◌↔◌, ℕ, true, List, [], ◌∷◌, length, None, IsSome, IsTrue, Contains, IfOk, OnOk, OnErr, slice_get, vec_len, vec_capacity};
+ghost use Rattle.std.specs.Prelude.{◌≡◌, ◌<◌, ◌≤◌, ◌^◌, ◌↔◌, ℕ, List, [], ◌∷◌, length, None, IsSome, IsTrue, Contains, IfOk, slice_get};
 ghost use Rattle.std.specs.FinMap as map;
 ghost use Rattle.ioc_notify.specs.declared.live_numbers.Live.{Live};
 ghost use Rattle.ioc_notify.specs.declared.waiting_lists.Waiting.{Waiting};
-ghost use Rattle.ioc_events.specs.declared.event.Event.TheVariants.{Process, Put, Complete, Get, Notify, Cancel, IsLive};
+ghost use Rattle.ioc_events.specs.declared.event.Event.TheVariants.{Put, Get, IsLive};
 ghost use Rattle.ioc_events.specs.Step.{stepped, names, refused};
 ghost use Rattle.ioc_set.specs.NoCalls.{no_call};
 ghost use Rattle.std.specs.Option.{IfSome};
 ghost use Rattle.ioc_store.specs.Given.{Answers};
 ghost use Rattle.ioc_common.specs.Links.{use_of, named_by};
-ghost use Rattle.ioc_store.specs.Scanning.{device_of, rewired};
+ghost use Rattle.ioc_store.specs.Scanning.{device_of};
 ghost use Rattle.ioc_record.specs.Values.{stops_put};
-ghost use Rattle.ioc_store.specs.World.{Has, at, common_at, begun_at};
+ghost use Rattle.ioc_store.specs.World.{Has, at, common_at};
 ghost use Rattle.ioc_members.specs.Contents.{RecordsAreLikeTheirBase};
-ghost use Rattle.ioc_members.specs.Joined.{links_of, IsPart, HasLink, HasFreeLink, relinked};
+ghost use Rattle.ioc_members.specs.Joined.{links_of, IsPart, HasLink};
 ghost use Rattle.ioc_set.specs.Held.{NoneIsLive, now_of, nothing_held, no_counts, folded};
 ghost use Rattle.ioc_workplace.specs.Resting.{resting};
-ghost use Rattle.ioc_set.specs.Linking.{anew, AreCalm, NoneAwaits, FallsApart, MayBeOne, BecomeOne, LeadsInto, link_change_of};
+ghost use Rattle.ioc_set.specs.Linking.{anew, AreCalm, NoneAwaits};
 ghost use Rattle.ioc_set.specs.Sound.{IsSound};
-ghost use Rattle.ioc_workplace.specs.SetStore.{world_of};
-ghost use Rattle.ioc_set.specs.Doing.{Does, held_by, with_place, with_kept, is_done_on_sets};
+ghost use Rattle.ioc_set.specs.Doing.{held_by};
 
-use crate::awaited::take_awaited;
-use crate::laws::{calm_records_are_sound, events_leave_sound, held_records_are_sound};
-use crate::linking::{add_counts, begin_anew, rescan_on};
+use crate::laws::{calm_records_are_sound, held_records_are_sound};
+use crate::linking::begin_anew;
 use crate::no_calls::{why_not_put, why_not_shown};
-use crate::running::run_on;
 use ioc_common::KeptLink;
-use ioc_device::Device;
 use ioc_events::{Entry, Event, Reply};
 use ioc_fields::{FieldNo, row_of};
 use ioc_ledger::Tally;
 use ioc_links::MAX_DEVICE_BYTES;
-use ioc_members::{Members, Room};
+use ioc_members::Members;
 use ioc_names::RecordNo;
 use ioc_notify::{Live, NotifyId};
 use ioc_record::{RecordKind, stops_put, text_of};
-use ioc_store::scan_change::device_of;
-use ioc_values::{Finished, Input, IocError, Short};
-use ioc_workplace::live_puts::{PutsRoom, joined_puts, own_puts};
-use ioc_workplace::{LivePuts, Workplace};
+use ioc_steps::scanning::device_of;
+use ioc_values::{IocError, Short};
+use ioc_workplace::LivePuts;
+use ioc_workplace::live_puts::PutsRoom;
 use std::alloc::{AllocError, Global};
 use std::marker::Model;
 
@@ -47,12 +43,12 @@ use std::marker::Model;
 /// the last events, at most 64, which lead from what was before them to what is there.
 #[derive(Drop)]
 pub struct LockSet<K: RecordKind, D> {
-    members: Members<K, D>,
-    puts: LivePuts,
-    tally: Tally,
+    pub(crate) members: Members<K, D>,
+    pub(crate) puts: LivePuts,
+    pub(crate) tally: Tally,
     // The counts before the first event of the history.
-    base_tally: Tally,
-    history: Vec<Entry>,
+    pub(crate) base_tally: Tally,
+    pub(crate) history: Vec<Entry>,
 }
 
 impl<K: RecordKind, D> Model for LockSet<K, D> {
@@ -70,32 +66,6 @@ impl<K: RecordKind, D> Model for LockSet<K, D> {
     ghost view = { λ s. held_by s.members s.puts s.base_tally s.tally s.history.items };
 
     ghost invariant = { λ s. IsSound K.rules (held_by s.members s.puts s.base_tally s.tally s.history.items) × RecordsAreLikeTheirBase K.rules s.members };
-}
-
-// Makes a place in the history for one event more: a full history is forgotten.
-fn make_place<K: RecordKind, D>(
-    members: &mut Members<K, D>,
-    puts: &mut LivePuts,
-    tally: &Tally,
-    base_tally: &mut Tally,
-    history: &mut Vec<Entry>,
-) -> Result<(), AllocError>
-    requires like { RecordsAreLikeTheirBase K.rules members.old }
-    requires fits { length puts.old.waiting ≤ 256 }
-    ensures held { OnOk result (held_by members.new puts.new base_tally.new tally.now history.new.items ≡ with_place (held_by members.old puts.old base_tally.old tally.now history.old.items)) }
-    ensures puts { OnOk result (puts.new.has_room ≡ puts.old.has_room) }
-    ensures like { RecordsAreLikeTheirBase K.rules members.new }
-    ensures room { OnOk result (vec_len history.new < vec_capacity history.new) }
-    ensures err { OnErr result ((members.new ≡ members.old) × (puts.new ≡ puts.old) × (base_tally.new ≡ base_tally.old) × (history.new.items ≡ history.old.items)) }
-{
-    history.reserve(1)?;
-    if history.len() == 64 {
-        puts.begin_history();
-        members.fold();
-        *base_tally = *tally;
-        history.clear();
-    }
-    Ok(())
 }
 
 // The text of a field of a record of these.
@@ -226,159 +196,6 @@ impl<K: RecordKind, D> LockSet<K, D> {
     }
 }
 
-impl<K: RecordKind + Drop, D: Device> LockSet<K, D> {
-    // Does an event, and keeps it behind the history; where 64 stand there, these are forgotten first.
-    fn do_event(
-        &mut self,
-        place: &mut Workplace<K, D>,
-        alloc: Global,
-        event: &Event,
-        moment: u64,
-    ) -> Result<Reply, AllocError>
-        requires done_here { is_done_on_sets event.now ≡ true }
-        ensures ok { IfOk result (λ reply. Does K.rules D.gives self.old moment event.now reply self.new (world_of place.new.store)) }
-        ensures err { OnErr result (self.new ≡ self.old) }
-    {
-        events_leave_sound::<K, D>();
-        held_records_are_sound::<K, D>();
-        self.puts.are_few();
-        place.make_room(self.members.len())?;
-        self.puts.make_room_for(event, alloc)?;
-        make_place(
-            &mut self.members,
-            &mut self.puts,
-            &self.tally,
-            &mut self.base_tally,
-            &mut self.history,
-        )?;
-        let entry = run_on(
-            place,
-            &mut self.members,
-            &mut self.puts,
-            moment,
-            event,
-            &mut self.tally,
-            alloc,
-        );
-        let reply = &entry.reply;
-        let told = *reply;
-        self.history.push_reserved(entry);
-        Ok(told)
-    }
-
-    /// Requests a record.
-    ///
-    /// # Errors
-    ///
-    /// [`AllocError`] where memory is wanting: nothing has changed then. The reply is a refusal, [`IocError::NoRecord`], where there is no such
-    /// record.
-    pub fn request(
-        &mut self,
-        place: &mut Workplace<K, D>,
-        alloc: Global,
-        number: RecordNo,
-        moment: u64,
-    ) -> Result<Reply, AllocError>
-        ensures ok { IfOk result (λ reply. Does K.rules D.gives self.old moment (Process number) reply self.new (world_of place.new.store)) }
-        ensures err { OnErr result (self.new ≡ self.old) }
-    {
-        self.do_event(place, alloc, &Event::Process(number), moment)
-    }
-
-    /// Puts a value into a field, and processes the record where the field is PROC, or is process-passive and the record passive. A record that
-    /// is active is put down for another processing.
-    ///
-    /// # Errors
-    ///
-    /// [`AllocError`] where memory is wanting: nothing has changed then. The reply is a refusal, [`IocError::NoRecord`], [`IocError::NoField`],
-    /// [`IocError::NoMod`], [`IocError::PutDisabled`] or [`IocError::BadValue`] in this order, where there is no such record or field, the field
-    /// can't be put, DISP forbids it, or the value doesn't convert.
-    pub fn put(
-        &mut self,
-        place: &mut Workplace<K, D>,
-        alloc: Global,
-        number: RecordNo,
-        field: FieldNo,
-        given: Input,
-        moment: u64,
-    ) -> Result<Reply, AllocError>
-        ensures ok { IfOk result (λ reply. Does K.rules D.gives self.old moment (Put number field given) reply self.new (world_of place.new.store)) }
-        ensures err { OnErr result (self.new ≡ self.old) }
-    {
-        self.do_event(place, alloc, &Event::Put(number, field, given), moment)
-    }
-
-    /// The device of a record has answered at last, to the wait of this number: the record goes on with what it gave.
-    ///
-    /// # Errors
-    ///
-    /// [`AllocError`] where memory is wanting: nothing has changed then. The reply is a refusal, [`IocError::NoRecord`] or [`IocError::Stale`] in
-    /// this order, where there is no such record, or it doesn't await the completion of this number.
-    pub fn complete(
-        &mut self,
-        place: &mut Workplace<K, D>,
-        alloc: Global,
-        number: RecordNo,
-        wait: u64,
-        finished: Finished,
-        moment: u64,
-    ) -> Result<Reply, AllocError>
-        ensures ok { IfOk result (λ reply. Does K.rules D.gives self.old moment (Complete number wait finished) reply self.new (world_of place.new.store)) }
-        ensures err { OnErr result (self.new ≡ self.old) }
-    {
-        self.do_event(
-            place,
-            alloc,
-            &Event::Complete(number, wait, finished),
-            moment,
-        )
-    }
-
-    /// Puts a value into a field as [`LockSet::put`] does, with a notification: it passes to the records that are processed for it, and ends
-    /// with the last of them. Where the record is active, has a notification or has one waiting, the put waits; it is tested and its value
-    /// converted at once. The caller gives each number to one put. Those that end by an event are told by [`Workplace::ended`].
-    ///
-    /// # Errors
-    ///
-    /// [`AllocError`] where memory is wanting: nothing has changed then. The reply is a refusal, those of [`LockSet::put`] and then
-    /// [`IocError::QueueFull`], where 256 are live on the set, or the number is that of one that is live.
-    pub fn put_notify(
-        &mut self,
-        place: &mut Workplace<K, D>,
-        alloc: Global,
-        notification: NotifyId,
-        number: RecordNo,
-        field: FieldNo,
-        given: Input,
-        moment: u64,
-    ) -> Result<Reply, AllocError>
-        ensures ok { IfOk result (λ reply. Does K.rules D.gives self.old moment (Notify number notification field given) reply self.new (world_of place.new.store)) }
-        ensures err { OnErr result (self.new ≡ self.old) }
-    {
-        let event = Event::Notify(number, notification, field, given);
-        self.do_event(place, alloc, &event, moment)
-    }
-
-    /// A put with notification is given up: no record of the set has it any more, it waits nowhere, and it doesn't end.
-    ///
-    /// # Errors
-    ///
-    /// [`AllocError`] where memory is wanting: nothing has changed then. The reply is a refusal, [`IocError::Stale`], where it isn't live on
-    /// the set.
-    pub fn cancel(
-        &mut self,
-        place: &mut Workplace<K, D>,
-        alloc: Global,
-        notification: NotifyId,
-        moment: u64,
-    ) -> Result<Reply, AllocError>
-        ensures ok { IfOk result (λ reply. Does K.rules D.gives self.old moment (Cancel notification) reply self.new (world_of place.new.store)) }
-        ensures err { OnErr result (self.new ≡ self.old) }
-    {
-        self.do_event(place, alloc, &Event::Cancel(notification), moment)
-    }
-}
-
 impl<K: RecordKind, D> LockSet<K, D> {
     /// A set of these members, with no counts and no history yet: none of them awaits a completion.
     pub fn of(alloc: Global, members: Members<K, D>) -> Self
@@ -444,7 +261,7 @@ impl<K: RecordKind, D> LockSet<K, D> {
     }
 
     // Room for the puts with notification of both in one, where any is live; no room where none is.
-    fn puts_room_with(
+    pub(crate) fn puts_room_with(
         &self,
         other: &LockSet<K, D>,
         alloc: Global,
@@ -475,217 +292,5 @@ impl<K: RecordKind, D> LockSet<K, D> {
         ensures { result ≡ device_of K.rules (at K.rules (now_of self.now) number) }
     {
         device_of(self.members.record(number))
-    }
-}
-
-impl<K: RecordKind + Drop, D: Drop> LockSet<K, D> {
-    /// Sets a link of a record: to nowhere, or to a record of this set. The set keeps the record's part and the counts, and the records
-    /// that no link joins to it any more come back as a set of their own, which may be empty, and which counts the answers that they still
-    /// await. Each record keeps the notification that it has,
-    /// each put that waits goes with its record, and the holders of each are counted anew in both. Nothing is sent yet: see
-    /// [`LockSet::rescan`]. `link` and `twin` are alike.
-    ///
-    /// # Errors
-    ///
-    /// [`AllocError`] where memory is wanting: nothing has changed then, but that the history is forgotten.
-    pub fn split(
-        &mut self,
-        alloc: Global,
-        number: RecordNo,
-        field: FieldNo,
-        link: KeptLink,
-        twin: KeptLink,
-    ) -> Result<LockSet<K, D>, AllocError>
-        requires twin { twin ≡ link }
-        requires field { HasLink K.rules self.old.records number field }
-        requires within { (t : ℕ) → Contains (named_by (use_of link)) t → IsSome (map.get self.old.records t) }
-        ensures apart { IfOk result (λ rest. FallsApart self.old (relinked K.rules self.old.records number field link) number self.new rest) }
-        ensures fewer { OnOk result (map.len self.new.records ≤ map.len self.old.records) }
-        ensures err { OnErr result (self.new ≡ folded self.old) }
-    {
-        held_records_are_sound::<K, D>();
-        self.puts.are_few();
-        begin_anew(
-            &mut self.members,
-            &mut self.puts,
-            &self.tally,
-            &mut self.base_tally,
-            &mut self.history,
-        );
-        let stay_room = self.puts.room(alloc)?;
-        let rest_room = self.puts.room(alloc)?;
-        let rest = self.members.part(alloc, number, field, link, twin)?;
-        self.members.are_few();
-        rest.are_few();
-        let rest_puts = own_puts(&rest, &self.puts, rest_room, alloc);
-        let stay_puts = own_puts(&self.members, &self.puts, stay_room, alloc);
-        self.puts = stay_puts;
-        let rest_tally = take_awaited(&mut self.tally, &rest);
-        self.base_tally = self.tally;
-        Ok(LockSet {
-            members: rest,
-            puts: rest_puts,
-            tally: rest_tally,
-            base_tally: rest_tally,
-            history: Vec::new(alloc),
-        })
-    }
-}
-
-impl<K: RecordKind + Drop, D: Drop> LockSet<K, D> {
-    /// Sets a link of a record, which stood nowhere, to a record of another set, and takes over that set with its devices and its
-    /// counts, in a room that was taken before. The other has nothing then. Each record keeps the notification that it has, the puts that
-    /// wait in the other come behind those that wait here, and the holders of each are counted anew: for that, too, room was taken before, if
-    /// any is live. No put waits in both, and those that are live have room in one. Nothing is sent yet: see [`LockSet::rescan`]. `link` and
-    /// `twin` are alike.
-    pub fn unite(
-        &mut self,
-        alloc: Global,
-        room: Room<K, D>,
-        puts_room: Option<PutsRoom>,
-        other: &mut LockSet<K, D>,
-        number: RecordNo,
-        field: FieldNo,
-        link: KeptLink,
-        twin: KeptLink,
-    )
-        requires one { MayBeOne self.old other.old }
-        requires puts_room { puts_room ≡ None → NoneIsLive self.old × NoneIsLive other.old }
-        requires room { map.len self.old.records + map.len other.old.records ≤ room.count }
-        requires twin { twin ≡ link }
-        requires apart { (q : ℕ) → IsSome (map.get self.old.records q) → map.get other.old.records q ≡ None }
-        requires free { HasFreeLink K.rules self.old.records number field }
-        requires to { (t : ℕ) × (named_by (use_of link) ≡ t ∷ []) × IsSome (map.get other.old.records t) }
-        ensures { BecomeOne self.old other.old (relinked K.rules self.old.records number field link) self.new other.new }
-    {
-        held_records_are_sound::<K, D>();
-        self.puts.are_few();
-        other.puts.are_few();
-        begin_anew(
-            &mut self.members,
-            &mut self.puts,
-            &self.tally,
-            &mut self.base_tally,
-            &mut self.history,
-        );
-        begin_anew(
-            &mut other.members,
-            &mut other.puts,
-            &other.tally,
-            &mut other.base_tally,
-            &mut other.history,
-        );
-        self.members
-            .join_in(room, &mut other.members, number, field, link, twin);
-        self.members.are_few();
-        let puts = joined_puts(&self.members, &self.puts, &other.puts, puts_room, alloc);
-        self.puts = puts;
-        other.puts = LivePuts::none(alloc);
-        add_counts(&mut self.tally, &other.tally);
-        self.base_tally = self.tally;
-        other.tally = Tally::default();
-        other.base_tally = other.tally;
-    }
-}
-
-impl<K: RecordKind + Drop, D: Device> LockSet<K, D> {
-    /// A link of a record that is there was set, whose device link had this text before: where it has another now, a change of its
-    /// scan list is sent. The set begins anew.
-    pub fn rescan(
-        &mut self,
-        place: &mut Workplace<K, D>,
-        number: RecordNo,
-        before: Short<MAX_DEVICE_BYTES>,
-        moment: u64,
-    )
-        requires there { Has (now_of self.old) number }
-        ensures left { with_kept self.new.records self.old.live self.old.waiting (world_of place.new.store) ≡ rewired K.rules before (begun_at moment (now_of self.old)) number }
-        ensures held { self.new ≡ anew self.new.records self.old.devices self.old.live self.old.waiting self.old.tally }
-    {
-        held_records_are_sound::<K, D>();
-        self.puts.are_few();
-        rescan_on(place, &mut self.members, moment, number, before);
-        begin_anew(
-            &mut self.members,
-            &mut self.puts,
-            &self.tally,
-            &mut self.base_tally,
-            &mut self.history,
-        );
-        self.members.are_few();
-    }
-
-    /// Changes a link of a record: it leads nowhere then, or to a record of this set. The set keeps the record's part and the counts,
-    /// and the records that no link joins to it any more come back as a set of their own, which may be empty. Puts with notification that are
-    /// live go with their records, as [`LockSet::split`] says. `link` and `twin` are alike.
-    ///
-    /// # Errors
-    ///
-    /// [`AllocError`] where memory is wanting: nothing has changed then, but that the history is forgotten.
-    pub fn part(
-        &mut self,
-        place: &mut Workplace<K, D>,
-        alloc: Global,
-        number: RecordNo,
-        field: FieldNo,
-        link: KeptLink,
-        twin: KeptLink,
-        moment: u64,
-    ) -> Result<LockSet<K, D>, AllocError>
-        requires twin { twin ≡ link }
-        requires field { HasLink K.rules self.old.records number field }
-        requires within { (t : ℕ) → Contains (named_by (use_of link)) t → IsSome (map.get self.old.records t) }
-        ensures apart { IfOk result (λ rest. FallsApart self.old (link_change_of K.rules self.old moment number field link).records number self.new rest) }
-        ensures left { OnOk result (with_kept (link_change_of K.rules self.old moment number field link).records self.old.live self.old.waiting (world_of place.new.store) ≡ link_change_of K.rules self.old moment number field link) }
-        ensures err { OnErr result (self.new ≡ folded self.old) }
-    {
-        let before = self.device_text(number);
-        let rest = self.split(alloc, number, field, link, twin)?;
-        self.rescan(place, number, before, moment);
-        Ok(rest)
-    }
-
-    /// Leads a link of a record of this set to a record of another, which it takes over with its devices and its counts. The records of this
-    /// set that the link alone had joined to that record come back as a set of their own, which may be empty; the other has nothing then.
-    /// Puts with notification that are live go with their records, as [`LockSet::split`] and [`LockSet::unite`] say; no put waits in both sets,
-    /// and those that are live have room in one. All memory is taken before anything changes. `link` and `twin` are alike.
-    ///
-    /// # Errors
-    ///
-    /// [`AllocError`] where memory is wanting: nothing has changed then, but that the history of this set is forgotten.
-    pub fn lead_into(
-        &mut self,
-        other: &mut LockSet<K, D>,
-        place: &mut Workplace<K, D>,
-        alloc: Global,
-        number: RecordNo,
-        field: FieldNo,
-        link: KeptLink,
-        twin: KeptLink,
-        moment: u64,
-    ) -> Result<LockSet<K, D>, AllocError>
-        requires one { MayBeOne self.old other.old }
-        requires twin { twin ≡ link }
-        requires apart { (q : ℕ) → IsSome (map.get self.old.records q) → map.get other.old.records q ≡ None }
-        requires field { HasLink K.rules self.old.records number field }
-        requires to { (t : ℕ) × (named_by (use_of link) ≡ t ∷ []) × IsSome (map.get other.old.records t) }
-        ensures led { IfOk result (λ rest. LeadsInto K.rules self.old other.old moment number field link self.new other.new rest (world_of place.new.store)) }
-        ensures err { OnErr result ((self.new ≡ folded self.old) × (other.new ≡ other.old)) }
-    {
-        held_records_are_sound::<K, D>();
-        self.are_few();
-        other.are_few();
-        self.is_sound();
-        other.is_sound();
-        self.fold();
-        let room = Room::new(alloc, self.len() + other.len())?;
-        let puts_room = self.puts_room_with(other, alloc)?;
-        let before = self.device_text(number);
-        let rest = self.split(alloc, number, field, KeptLink::empty(), KeptLink::empty())?;
-        self.is_sound();
-        self.unite(alloc, room, puts_room, other, number, field, link, twin);
-        self.is_sound();
-        self.rescan(place, number, before, moment);
-        Ok(rest)
     }
 }

@@ -1,41 +1,38 @@
 //! The calls of devices in an event.
-ghost use Rattle.std.specs.Prelude.{◌≡◌, ◌+◌, ◌<◌, ◌≤◌, ◌++◌, [], ◌∷◌, length, drop, vec_len, vec_capacity};
+ghost use Rattle.std.specs.Prelude.{◌≡◌, ◌+◌, ◌<◌, ◌≤◌, ◌++◌, [], ◌∷◌, length, drop, vec_len, IfOk};
+ghost use Rattle.std.specs.Vec.{vec_capacity};
 
 use crate::call::Call;
-use ioc_device::{Answer, Ask};
-use ioc_names::RecordNo;
+use ioc_device::Answer;
+use std::alloc::{AllocError, Global};
 
 /// At most 256 calls, with room for all from the start.
 #[derive(Drop)]
 pub struct Calls {
-    calls: [Call; 256],
-    count: usize,
-    ghost in_range: { count ≤ 256 },
-    ghost whole: { length calls ≡ 256 },
+    calls: Vec<Call>,
+    ghost room: { 256 ≤ vec_capacity calls },
 }
 
 impl Calls {
     ghost use Rattle.ioc_store.specs.Given.{calls_of, answers_of, later_among};
 
     /// No call yet.
-    pub fn new() -> Self
-        ensures { calls_of result ≡ [] }
+    ///
+    /// # Errors
+    ///
+    /// [`AllocError`] where memory is wanting.
+    pub fn new(alloc: Global) -> Result<Self, AllocError>
+        ensures { IfOk result (λ s. calls_of s ≡ []) }
     {
-        Calls {
-            calls: [Call {
-                target: RecordNo::new(0),
-                ask: Ask::Read,
-                answer: Answer::Fault,
-            }; 256],
-            count: 0,
-        }
+        let calls = Vec::with_capacity(alloc, 256)?;
+        Ok(Calls { calls })
     }
 
     /// Forgets all calls.
     pub fn clear(&mut self)
         ensures { calls_of self.new ≡ [] }
     {
-        self.count = 0;
+        self.calls.clear();
     }
 
     /// Adds a call.
@@ -43,22 +40,21 @@ impl Calls {
         requires { length (calls_of self.old) < 256 }
         ensures { calls_of self.new ≡ calls_of self.old ++ call.now ∷ [] }
     {
-        self.calls[self.count] = *call;
-        self.count += 1;
+        self.calls.push_reserved(*call);
     }
 
     /// How many there are.
     pub fn len(&self) -> usize
         ensures { result ≡ length (calls_of self.now) }
     {
-        self.count
+        self.calls.len()
     }
 
     /// How many of them, from this one on, are to be answered later.
     pub fn later_from(&self, start: usize) -> usize
         ensures { result ≡ later_among (drop start (calls_of self.now)) }
     {
-        self.calls[..self.count]
+        self.calls
             .iter()
             .skip(start)
             .filter(|call| call.is_later())
@@ -70,7 +66,7 @@ impl Calls {
         requires { vec_len to.old + length (calls_of self.now) ≤ vec_capacity to.old }
         ensures { to.new.items ≡ to.old.items ++ answers_of (calls_of self.now) }
     {
-        for call in &self.calls[..self.count] {
+        for call in &self.calls {
             to.push_reserved(call.answer);
         }
     }

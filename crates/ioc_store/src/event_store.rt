@@ -34,11 +34,12 @@ impl EventStore {
         ensures ended { IfOk result (λ e. e.notifications.ended.items ≡ []) }
         ensures waiting { IfOk result (λ e. e.notifications.waiting.waiting ≡ []) }
     {
+        let calls = Calls::new(alloc)?;
         let outbox = Outbox::new(alloc)?;
         let notifications = Notifications::new(alloc)?;
         Ok(EventStore {
             moment: 0,
-            calls: Calls::new(),
+            calls,
             outbox,
             notifications,
         })

@@ -1,4 +1,4 @@
-//! Keepers of records and of an event, and the changes of one record that the rules are made of.
+//! Keepers of records and of an event, and what the rules of a change of one record say.
 #![tactic(auto)]
 
 pub mod call;
@@ -6,11 +6,9 @@ pub mod calls;
 pub mod event_store;
 pub mod frames;
 pub mod notifications;
-pub mod notifying;
 pub mod one_map;
 pub mod outbox;
 pub mod scan_change;
-pub mod steps;
 pub mod store;
 pub mod unwired;
 
@@ -19,6 +17,6 @@ pub use event_store::EventStore;
 pub use frames::Frame;
 pub use one_map::OneMap;
 pub use outbox::OutboxItem;
-pub use scan_change::{ScanChange, device_of};
+pub use scan_change::ScanChange;
 pub use store::Store;
 pub use unwired::Unwired;

@@ -1,18 +1,7 @@
-//! Where a record stands on its scan list, and what changes that.
-ghost use Rattle.std.specs.Prelude.{◌≡◌, ◌<◌, ◌-◌, ◌^◌};
-ghost use Rattle.std.specs.Option.{option_copied};
-ghost use Rattle.ioc_common.specs.Steps.{change_numbered};
-ghost use Rattle.ioc_store.specs.Scanning.{places_record, text_in, device_of, moved, rescanned, rewired};
-ghost use Rattle.ioc_store.specs.World.{Has, at, common_at, changed};
-
-use crate::outbox::OutboxItem;
-use crate::steps::{common, renumber_change};
-use crate::store::Store;
-use ioc_common::{KeptLink, Scanning};
-use ioc_fields::{CommonField, FieldNo, OwnField};
+//! Changes of where a record stands on its scan list.
+use ioc_common::Scanning;
 use ioc_links::MAX_DEVICE_BYTES;
 use ioc_names::RecordNo;
-use ioc_record::RecordKind;
 use ioc_values::Short;
 
 /// A change of where a record stands on its scan list. Those of a record are numbered 1, 2, 3, .. in the order in which they are made.
@@ -24,87 +13,4 @@ pub struct ScanChange {
     pub scanning: Scanning,
     /// The text of its device link, in INP or OUT; empty where it has none.
     pub device: Short<MAX_DEVICE_BYTES>,
-}
-
-// Does a put to the field take the record off its scan list, and add it anew?
-fn places_record(field: FieldNo) -> bool
-    ensures { result ≡ places_record field }
-{
-    matches!(
-        field,
-        FieldNo::Common(
-            CommonField::Scan | CommonField::Phas | CommonField::Prio | CommonField::Evnt
-        )
-    )
-}
-
-// The text of the device link in a field; empty where there is none.
-fn text_in(link: Option<&KeptLink>) -> Short<MAX_DEVICE_BYTES>
-    ensures { result ≡ text_in (option_copied link.entry) }
-{
-    match link {
-        Some(link) => link.device_text(),
-        None => Short::new(),
-    }
-}
-
-/// The text of a record's device link, in INP or OUT; empty where it has none.
-#[tactic(auto, unfolding(crate::specs::Scanning::device_of))]
-pub fn device_of<K: RecordKind>(record: &K) -> Short<MAX_DEVICE_BYTES>
-    ensures { result ≡ device_of K.rules record.now }
-{
-    let input = text_in(record.link(FieldNo::Own(OwnField::Inp)));
-    if input.as_slice().is_empty() {
-        text_in(record.link(FieldNo::Own(OwnField::Out)))
-    } else {
-        input
-    }
-}
-
-// A record goes off its scan list, and on that where it stands now: a change is sent, with the next number of this record.
-#[tactic(auto, unfolding(crate::specs::Scanning::moved))]
-fn move_record<S: Store>(store: &mut S, number: RecordNo)
-    requires { Has (S.world store.old) number }
-    ensures world { S.world store.new ≡ moved S.Record.rules (S.world store.old) number }
-    ensures given { S.given store.new ≡ S.given store.old }
-{
-    let last = common(store, number).last_change;
-    if last == u64::MAX {
-        store.lose();
-        return;
-    }
-    let scanning = common(store, number).scanning;
-    let device = device_of(store.record(number));
-    renumber_change(store, number);
-    store.send(OutboxItem::Change(ScanChange {
-        target: number,
-        number: last + 1,
-        scanning,
-        device,
-    }));
-}
-
-/// A field of a record was put to: one that says where the record stands on its scan list sends a change.
-#[tactic(auto, unfolding(crate::specs::Scanning::rescanned))]
-pub fn rescan<S: Store>(store: &mut S, number: RecordNo, field: FieldNo)
-    requires { Has (S.world store.old) number }
-    ensures world { S.world store.new ≡ rescanned S.Record.rules (S.world store.old) number field }
-    ensures given { S.given store.new ≡ S.given store.old }
-{
-    if places_record(field) {
-        move_record(store, number);
-    }
-}
-
-/// A link of a record was changed, whose device link had this text before: another text sends a change.
-#[tactic(auto, unfolding(crate::specs::Scanning::rewired))]
-pub fn rewire<S: Store>(store: &mut S, number: RecordNo, before: Short<MAX_DEVICE_BYTES>)
-    requires { Has (S.world store.old) number }
-    ensures world { S.world store.new ≡ rewired S.Record.rules before (S.world store.old) number }
-    ensures given { S.given store.new ≡ S.given store.old }
-{
-    let after = device_of(store.record(number));
-    if before.as_slice() != after.as_slice() {
-        move_record(store, number);
-    }
 }

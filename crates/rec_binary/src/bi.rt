@@ -11,7 +11,7 @@ use ioc_common::{
 };
 use ioc_fields::{OwnField, RecordType};
 use ioc_links::Link;
-use ioc_record::{RecordBody, copy_source};
+use ioc_record::RecordBody;
 use ioc_values::{Range, Text, Value};
 use std::alloc::{AllocError, Global};
 
@@ -182,7 +182,7 @@ impl RecordBody for Bi {
     }
 
     fn copy(&self, alloc: Global) -> Result<Self, AllocError> {
-        let source = copy_source(alloc, &self.source)?;
+        let source = self.source.copy(alloc)?;
         Ok(Bi {
             states: self.states,
             source,

@@ -11,7 +11,7 @@ use ioc_common::{
 };
 use ioc_fields::{OwnField, RecordType};
 use ioc_links::Link;
-use ioc_record::{RecordBody, copy_drive, match_drive};
+use ioc_record::RecordBody;
 use ioc_values::{Kind, Range, Text, Value, of_number};
 use std::alloc::{AllocError, Global};
 
@@ -205,7 +205,7 @@ impl RecordBody for Mbbo {
     }
 
     fn copy(&self, alloc: Global) -> Result<Self, AllocError> {
-        let drive = copy_drive(alloc, &self.drive)?;
+        let drive = self.drive.copy(alloc)?;
         Ok(Mbbo {
             states: self.states,
             invalid_value: self.invalid_value,
@@ -214,7 +214,7 @@ impl RecordBody for Mbbo {
     }
 
     fn copy_from(&mut self, other: &Self) {
-        match_drive(&mut self.drive, &other.drive);
+        self.drive.copy_from(&other.drive);
         self.states = other.states;
         self.invalid_value = other.invalid_value;
     }

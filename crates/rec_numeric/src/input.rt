@@ -10,7 +10,7 @@ use crate::numeric::Numeric;
 use ioc_common::{Condition, Fresh, Got, InputKind, KeptLink, LinkUse, Need, Output, Source};
 use ioc_fields::{OwnField, RecordType};
 use ioc_links::Link;
-use ioc_record::{RecordBody, copy_source};
+use ioc_record::RecordBody;
 use ioc_values::{Kind, Range, Text, Value, of_number};
 use std::alloc::{AllocError, Global};
 
@@ -174,7 +174,7 @@ impl<N: Number> RecordBody for NumericInput<N> {
     }
 
     fn copy(&self, alloc: Global) -> Result<Self, AllocError> {
-        let source = copy_source(alloc, &self.source)?;
+        let source = self.source.copy(alloc)?;
         Ok(NumericInput {
             numbers: self.numbers,
             source,

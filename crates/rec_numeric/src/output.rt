@@ -11,8 +11,8 @@ use crate::numeric::Numeric;
 use ioc_common::{Condition, Drive, Fresh, Got, InputKind, KeptLink, LinkUse, Need, Output};
 use ioc_fields::{OwnField, RecordType};
 use ioc_links::Link;
+use ioc_record::RecordBody;
 use ioc_record::shown::number_in;
-use ioc_record::{RecordBody, copy_drive, match_drive};
 use ioc_values::{Kind, Range, Text, Value, of_number};
 use std::alloc::{AllocError, Global};
 
@@ -252,7 +252,7 @@ impl<N: Number> RecordBody for NumericOutput<N> {
     }
 
     fn copy(&self, alloc: Global) -> Result<Self, AllocError> {
-        let drive = copy_drive(alloc, &self.drive)?;
+        let drive = self.drive.copy(alloc)?;
         Ok(NumericOutput {
             numbers: self.numbers,
             drive_high: self.drive_high,
@@ -263,7 +263,7 @@ impl<N: Number> RecordBody for NumericOutput<N> {
     }
 
     fn copy_from(&mut self, other: &Self) {
-        match_drive(&mut self.drive, &other.drive);
+        self.drive.copy_from(&other.drive);
         self.numbers = other.numbers;
         self.drive_high = other.drive_high;
         self.drive_low = other.drive_low;

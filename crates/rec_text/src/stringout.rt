@@ -9,7 +9,7 @@ use ioc_common::{
 };
 use ioc_fields::{OwnField, RecordType};
 use ioc_links::Link;
-use ioc_record::{RecordBody, copy_drive, match_drive};
+use ioc_record::RecordBody;
 use ioc_values::{Kind, Text, Value, of_number};
 use std::alloc::{AllocError, Global};
 
@@ -148,7 +148,7 @@ impl RecordBody for Stringout {
     }
 
     fn copy(&self, alloc: Global) -> Result<Self, AllocError> {
-        let drive = copy_drive(alloc, &self.drive)?;
+        let drive = self.drive.copy(alloc)?;
         Ok(Stringout {
             value: self.value,
             invalid_value: self.invalid_value,
@@ -157,7 +157,7 @@ impl RecordBody for Stringout {
     }
 
     fn copy_from(&mut self, other: &Self) {
-        match_drive(&mut self.drive, &other.drive);
+        self.drive.copy_from(&other.drive);
         self.value = other.value;
         self.invalid_value = other.invalid_value;
     }

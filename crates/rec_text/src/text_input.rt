@@ -6,7 +6,6 @@ ghost use Rattle.rec_text.specs.TextInput.{new_text_input, text_input_get, text_
 use ioc_common::{Condition, Got, Source, text_in};
 use ioc_fields::OwnField;
 use ioc_links::Link;
-use ioc_record::copy_source;
 use ioc_values::{Kind, Text, Value, of_number};
 use std::alloc::{AllocError, Global};
 
@@ -81,7 +80,7 @@ impl TextInput {
     pub fn copy(&self, alloc: Global) -> Result<Self, AllocError>
         ensures { IfOk result (λ copy. copy ≡ self.now) }
     {
-        let source = copy_source(alloc, &self.source)?;
+        let source = self.source.copy(alloc)?;
         Ok(TextInput {
             value: self.value,
             source,

@@ -1,0 +1,123 @@
+//! What a script asks of a machine besides events: its parts, answers for its devices, the moment, and its scan lists.
+ghost use Rattle.std.specs.Prelude.{◌≡◌, map, IfOk, OnOk};
+ghost use Rattle.std.specs.FinMap.{len};
+ghost use Rattle.ioc_types.specs.Record.{record_rules};
+
+use crate::machine::Machine;
+use crate::sets::links_of;
+use ioc_device::Answer;
+use ioc_events::Reply;
+use ioc_graph::parts_of_all;
+use ioc_names::RecordNo;
+use ioc_scan::{ListName, Listed};
+use ioc_values::IocError;
+use std::alloc::AllocError;
+
+impl Machine {
+    ghost use Rattle.std.specs.Prelude.{length};
+    ghost use Rattle.ioc_machine.specs.Machine.{each_requested, queued_on, scanned, serve, most_served, queued_at, at_moment};
+    ghost use Rattle.ioc_graph.specs.Members.{AreFirsts};
+    ghost use Rattle.ioc_machine.specs.Sets.{parts_of};
+    ghost use Rattle.ioc_machine.specs.SeenMachine.{machine_of};
+
+    /// For each record the number of the part that standing links join it to, which is that of the part's first record. Cost: near the
+    /// number of records and links.
+    ///
+    /// # Errors
+    ///
+    /// [`AllocError`] where memory is wanting.
+    pub fn parts(&self) -> Result<Vec<usize>, AllocError>
+        ensures parts { IfOk result (λ numbers. numbers.items ≡ parts_of record_rules (machine_of self.now).world) }
+        ensures firsts { IfOk result (λ numbers. AreFirsts numbers.items) }
+        ensures all { IfOk result (λ numbers. length numbers.items ≡ length self.now.map.records.items) }
+    {
+        let records = self.map.records.as_slice();
+        let links = links_of(self.alloc, records)?;
+        parts_of_all(self.alloc, links.as_slice(), records.len())
+    }
+
+    /// Queues an answer for the device of a record; a record without one is refused.
+    ///
+    /// # Errors
+    ///
+    /// [`AllocError`] where memory is wanting.
+    pub fn queue(&mut self, number: RecordNo, answer: Answer) -> Result<Reply, AllocError>
+        ensures { IfOk result (λ reply. record { machine = machine_of self.new; reply = reply } ≡ queued_at (machine_of self.old) number answer ((machine_of self.old).queued number)) }
+    {
+        let place = number.index();
+        if place >= self.map.devices.len() {
+            return Ok(Reply::Refused(IocError::NoField));
+        }
+        match &mut self.map.devices[place] {
+            Some(device) => {
+                device.queue(answer)?;
+                Ok(Reply::Plain)
+            }
+            None => Ok(Reply::Refused(IocError::NoField)),
+        }
+    }
+
+    /// Later events are done at this moment, in nanoseconds since 1970-01-01 00:00 UTC.
+    pub fn set_moment(&mut self, moment: u64)
+        ensures { machine_of self.new ≡ at_moment moment (machine_of self.old) }
+    {
+        self.map.begin_at(moment);
+    }
+
+    /// Puts the records on a list on the callback queues of their priorities, if there is a list, and answers how many found room: at a posted
+    /// event, or an interrupt of a device.
+    ///
+    /// # Errors
+    ///
+    /// [`AllocError`] where memory is wanting.
+    pub fn call(&mut self, list: Option<ListName>) -> Result<u64, AllocError>
+        ensures { IfOk result (λ count. record { machine = machine_of self.new; count = count } ≡ queued_on (machine_of self.old) list) }
+    {
+        self.scanner.call(list)
+    }
+
+    // Requests each of these records, in order.
+    pub(crate) fn request_each(&mut self, listed: &[Listed]) -> Result<(), AllocError>
+        ensures { OnOk result (machine_of self.new ≡ each_requested record_rules (machine_of self.old) listed.now) }
+    {
+        let mut rest = listed;
+        while let [item, others @ ..] = rest {
+            self.process_untold(item.number)?;
+            rest = others;
+        }
+        Ok(())
+    }
+
+    /// Requests the records on a list at once, and answers how many there were when it began.
+    ///
+    /// # Errors
+    ///
+    /// [`AllocError`] where memory is wanting.
+    pub fn scan(&mut self, list: &ListName) -> Result<u64, AllocError>
+        ensures { IfOk result (λ count. record { machine = machine_of self.new; count = count } ≡ scanned record_rules (machine_of self.old) list.now) }
+    {
+        let mut listed = Vec::new(self.alloc);
+        self.scanner.walk(list, &mut listed)?;
+        self.request_each(listed.as_slice())?;
+        Ok(listed.len() as u64)
+    }
+
+    /// Serves the requests that wait, until none is left or 1,000 were served.
+    ///
+    /// # Errors
+    ///
+    /// [`AllocError`] where memory is wanting.
+    pub fn serve(&mut self) -> Result<(), AllocError>
+        ensures { OnOk result (machine_of self.new ≡ serve record_rules most_served (machine_of self.old)) }
+    {
+        let mut turns = 1000u32;
+        while turns > 0 {
+            let Some(number) = self.scanner.next() else {
+                return Ok(());
+            };
+            self.process_untold(number)?;
+            turns -= 1;
+        }
+        Ok(())
+    }
+}

@@ -1,0 +1,200 @@
+//! What is done on a lock set, but for link changes.
+ghost use Rattle.std.specs.Prelude.{◌≡◌, ◌<◌, ◌≤◌, ◌+◌, true, length, IfOk, OnOk, OnErr, vec_len, vec_capacity};
+ghost use Rattle.ioc_events.specs.declared.event.Event.TheVariants.{Process, Put, Complete, Notify, Cancel};
+ghost use Rattle.ioc_members.specs.Contents.{RecordsAreLikeTheirBase};
+ghost use Rattle.ioc_workplace.specs.SetStore.{world_of};
+ghost use Rattle.ioc_set.specs.Doing.{Does, held_by, with_place, is_done_on_sets};
+
+use crate::laws::{events_leave_sound, held_records_are_sound};
+use crate::lock_set::LockSet;
+use crate::running::run_on;
+use ioc_device::Device;
+use ioc_events::{Entry, Event, Reply};
+use ioc_fields::FieldNo;
+use ioc_ledger::Tally;
+use ioc_members::Members;
+use ioc_names::RecordNo;
+use ioc_notify::NotifyId;
+use ioc_record::RecordKind;
+use ioc_values::{Finished, Input};
+use ioc_workplace::{LivePuts, Workplace};
+use std::alloc::{AllocError, Global};
+
+// Makes a place in the history for one event more: a full history is forgotten.
+fn make_place<K: RecordKind, D>(
+    members: &mut Members<K, D>,
+    puts: &mut LivePuts,
+    tally: &Tally,
+    base_tally: &mut Tally,
+    history: &mut Vec<Entry>,
+) -> Result<(), AllocError>
+    requires like { RecordsAreLikeTheirBase K.rules members.old }
+    requires fits { length puts.old.waiting ≤ 256 }
+    ensures held { OnOk result (held_by members.new puts.new base_tally.new tally.now history.new.items ≡ with_place (held_by members.old puts.old base_tally.old tally.now history.old.items)) }
+    ensures puts { OnOk result (puts.new.has_room ≡ puts.old.has_room) }
+    ensures like { RecordsAreLikeTheirBase K.rules members.new }
+    ensures room { OnOk result (vec_len history.new < vec_capacity history.new) }
+    ensures err { OnErr result ((members.new ≡ members.old) × (puts.new ≡ puts.old) × (base_tally.new ≡ base_tally.old) × (history.new.items ≡ history.old.items)) }
+{
+    history.reserve(1)?;
+    if history.len() == 64 {
+        puts.begin_history();
+        members.fold();
+        *base_tally = *tally;
+        history.clear();
+    }
+    Ok(())
+}
+
+impl<K: RecordKind + Drop, D: Device> LockSet<K, D> {
+    // Does an event, and keeps it behind the history; where 64 stand there, these are forgotten first.
+    fn do_event(
+        &mut self,
+        place: &mut Workplace<K, D>,
+        alloc: Global,
+        event: &Event,
+        moment: u64,
+    ) -> Result<Reply, AllocError>
+        requires done_here { is_done_on_sets event.now ≡ true }
+        ensures ok { IfOk result (λ reply. Does K.rules D.gives self.old moment event.now reply self.new (world_of place.new.store)) }
+        ensures err { OnErr result (self.new ≡ self.old) }
+    {
+        events_leave_sound::<K, D>();
+        held_records_are_sound::<K, D>();
+        self.puts.are_few();
+        place.make_room(self.members.len())?;
+        self.puts.make_room_for(event, alloc)?;
+        make_place(
+            &mut self.members,
+            &mut self.puts,
+            &self.tally,
+            &mut self.base_tally,
+            &mut self.history,
+        )?;
+        let entry = run_on(
+            place,
+            &mut self.members,
+            &mut self.puts,
+            moment,
+            event,
+            &mut self.tally,
+            alloc,
+        );
+        let reply = &entry.reply;
+        let told = *reply;
+        self.history.push_reserved(entry);
+        Ok(told)
+    }
+
+    /// Requests a record.
+    ///
+    /// # Errors
+    ///
+    /// [`AllocError`] where memory is wanting: nothing has changed then. The reply is a refusal, [`IocError::NoRecord`], where there is no such
+    /// record.
+    pub fn request(
+        &mut self,
+        place: &mut Workplace<K, D>,
+        alloc: Global,
+        number: RecordNo,
+        moment: u64,
+    ) -> Result<Reply, AllocError>
+        ensures ok { IfOk result (λ reply. Does K.rules D.gives self.old moment (Process number) reply self.new (world_of place.new.store)) }
+        ensures err { OnErr result (self.new ≡ self.old) }
+    {
+        self.do_event(place, alloc, &Event::Process(number), moment)
+    }
+
+    /// Puts a value into a field, and processes the record where the field is PROC, or is process-passive and the record passive. A record that
+    /// is active is put down for another processing.
+    ///
+    /// # Errors
+    ///
+    /// [`AllocError`] where memory is wanting: nothing has changed then. The reply is a refusal, [`IocError::NoRecord`], [`IocError::NoField`],
+    /// [`IocError::NoMod`], [`IocError::PutDisabled`] or [`IocError::BadValue`] in this order, where there is no such record or field, the field
+    /// can't be put, DISP forbids it, or the value doesn't convert.
+    pub fn put(
+        &mut self,
+        place: &mut Workplace<K, D>,
+        alloc: Global,
+        number: RecordNo,
+        field: FieldNo,
+        given: Input,
+        moment: u64,
+    ) -> Result<Reply, AllocError>
+        ensures ok { IfOk result (λ reply. Does K.rules D.gives self.old moment (Put number field given) reply self.new (world_of place.new.store)) }
+        ensures err { OnErr result (self.new ≡ self.old) }
+    {
+        self.do_event(place, alloc, &Event::Put(number, field, given), moment)
+    }
+
+    /// The device of a record has answered at last, to the wait of this number: the record goes on with what it gave.
+    ///
+    /// # Errors
+    ///
+    /// [`AllocError`] where memory is wanting: nothing has changed then. The reply is a refusal, [`IocError::NoRecord`] or [`IocError::Stale`] in
+    /// this order, where there is no such record, or it doesn't await the completion of this number.
+    pub fn complete(
+        &mut self,
+        place: &mut Workplace<K, D>,
+        alloc: Global,
+        number: RecordNo,
+        wait: u64,
+        finished: Finished,
+        moment: u64,
+    ) -> Result<Reply, AllocError>
+        ensures ok { IfOk result (λ reply. Does K.rules D.gives self.old moment (Complete number wait finished) reply self.new (world_of place.new.store)) }
+        ensures err { OnErr result (self.new ≡ self.old) }
+    {
+        self.do_event(
+            place,
+            alloc,
+            &Event::Complete(number, wait, finished),
+            moment,
+        )
+    }
+
+    /// Puts a value into a field as [`LockSet::put`] does, with a notification: it passes to the records that are processed for it, and ends
+    /// with the last of them. Where the record is active, has a notification or has one waiting, the put waits; it is tested and its value
+    /// converted at once. The caller gives each number to one put. Those that end by an event are told by [`Workplace::ended`].
+    ///
+    /// # Errors
+    ///
+    /// [`AllocError`] where memory is wanting: nothing has changed then. The reply is a refusal, those of [`LockSet::put`] and then
+    /// [`IocError::QueueFull`], where 256 are live on the set, or the number is that of one that is live.
+    pub fn put_notify(
+        &mut self,
+        place: &mut Workplace<K, D>,
+        alloc: Global,
+        notification: NotifyId,
+        number: RecordNo,
+        field: FieldNo,
+        given: Input,
+        moment: u64,
+    ) -> Result<Reply, AllocError>
+        ensures ok { IfOk result (λ reply. Does K.rules D.gives self.old moment (Notify number notification field given) reply self.new (world_of place.new.store)) }
+        ensures err { OnErr result (self.new ≡ self.old) }
+    {
+        let event = Event::Notify(number, notification, field, given);
+        self.do_event(place, alloc, &event, moment)
+    }
+
+    /// A put with notification is given up: no record of the set has it any more, it waits nowhere, and it doesn't end.
+    ///
+    /// # Errors
+    ///
+    /// [`AllocError`] where memory is wanting: nothing has changed then. The reply is a refusal, [`IocError::Stale`], where it isn't live on
+    /// the set.
+    pub fn cancel(
+        &mut self,
+        place: &mut Workplace<K, D>,
+        alloc: Global,
+        notification: NotifyId,
+        moment: u64,
+    ) -> Result<Reply, AllocError>
+        ensures ok { IfOk result (λ reply. Does K.rules D.gives self.old moment (Cancel notification) reply self.new (world_of place.new.store)) }
+        ensures err { OnErr result (self.new ≡ self.old) }
+    {
+        self.do_event(place, alloc, &Event::Cancel(notification), moment)
+    }
+}

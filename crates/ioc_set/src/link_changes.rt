@@ -1,0 +1,240 @@
+//! Link changes of lock sets: one set that is parted, and two that become one.
+ghost use Rattle.std.specs.Prelude.{◌≡◌, ◌<◌, ◌≤◌, ◌+◌, ℕ, [], ◌∷◌, None, IsSome, Contains, IfOk, OnOk, OnErr};
+ghost use Rattle.std.specs.FinMap as map;
+ghost use Rattle.ioc_common.specs.Links.{use_of, named_by};
+ghost use Rattle.ioc_store.specs.Scanning.{rewired};
+ghost use Rattle.ioc_store.specs.World.{Has, begun_at};
+ghost use Rattle.ioc_members.specs.Joined.{HasLink, HasFreeLink, relinked};
+ghost use Rattle.ioc_set.specs.Held.{NoneIsLive, now_of, folded};
+ghost use Rattle.ioc_set.specs.Linking.{anew, FallsApart, MayBeOne, BecomeOne, LeadsInto, link_change_of};
+ghost use Rattle.ioc_workplace.specs.SetStore.{world_of};
+ghost use Rattle.ioc_set.specs.Doing.{with_kept};
+
+use crate::awaited::take_awaited;
+use crate::laws::held_records_are_sound;
+use crate::linking::{add_counts, begin_anew, rescan_on};
+use crate::lock_set::LockSet;
+use ioc_common::KeptLink;
+use ioc_device::Device;
+use ioc_fields::FieldNo;
+use ioc_ledger::Tally;
+use ioc_links::MAX_DEVICE_BYTES;
+use ioc_members::Room;
+use ioc_names::RecordNo;
+use ioc_record::RecordKind;
+use ioc_values::Short;
+use ioc_workplace::live_puts::{PutsRoom, joined_puts, own_puts};
+use ioc_workplace::{LivePuts, Workplace};
+use std::alloc::{AllocError, Global};
+
+impl<K: RecordKind + Drop, D: Drop> LockSet<K, D> {
+    /// Sets a link of a record: to nowhere, or to a record of this set. The set keeps the record's part and the counts, and the records
+    /// that no link joins to it any more come back as a set of their own, which may be empty, and which counts the answers that they still
+    /// await. Each record keeps the notification that it has,
+    /// each put that waits goes with its record, and the holders of each are counted anew in both. Nothing is sent yet: see
+    /// [`LockSet::rescan`]. `link` and `twin` are alike.
+    ///
+    /// # Errors
+    ///
+    /// [`AllocError`] where memory is wanting: nothing has changed then, but that the history is forgotten.
+    pub fn split(
+        &mut self,
+        alloc: Global,
+        number: RecordNo,
+        field: FieldNo,
+        link: KeptLink,
+        twin: KeptLink,
+    ) -> Result<LockSet<K, D>, AllocError>
+        requires twin { twin ≡ link }
+        requires field { HasLink K.rules self.old.records number field }
+        requires within { (t : ℕ) → Contains (named_by (use_of link)) t → IsSome (map.get self.old.records t) }
+        ensures apart { IfOk result (λ rest. FallsApart self.old (relinked K.rules self.old.records number field link) number self.new rest) }
+        ensures fewer { OnOk result (map.len self.new.records ≤ map.len self.old.records) }
+        ensures err { OnErr result (self.new ≡ folded self.old) }
+    {
+        held_records_are_sound::<K, D>();
+        self.puts.are_few();
+        begin_anew(
+            &mut self.members,
+            &mut self.puts,
+            &self.tally,
+            &mut self.base_tally,
+            &mut self.history,
+        );
+        let stay_room = self.puts.room(alloc)?;
+        let rest_room = self.puts.room(alloc)?;
+        let rest = self.members.part(alloc, number, field, link, twin)?;
+        self.members.are_few();
+        rest.are_few();
+        let rest_puts = own_puts(&rest, &self.puts, rest_room, alloc);
+        let stay_puts = own_puts(&self.members, &self.puts, stay_room, alloc);
+        self.puts = stay_puts;
+        let rest_tally = take_awaited(&mut self.tally, &rest);
+        self.base_tally = self.tally;
+        Ok(LockSet {
+            members: rest,
+            puts: rest_puts,
+            tally: rest_tally,
+            base_tally: rest_tally,
+            history: Vec::new(alloc),
+        })
+    }
+}
+
+impl<K: RecordKind + Drop, D: Drop> LockSet<K, D> {
+    /// Sets a link of a record, which stood nowhere, to a record of another set, and takes over that set with its devices and its
+    /// counts, in a room that was taken before. The other has nothing then. Each record keeps the notification that it has, the puts that
+    /// wait in the other come behind those that wait here, and the holders of each are counted anew: for that, too, room was taken before, if
+    /// any is live. No put waits in both, and those that are live have room in one. Nothing is sent yet: see [`LockSet::rescan`]. `link` and
+    /// `twin` are alike.
+    pub fn unite(
+        &mut self,
+        alloc: Global,
+        room: Room<K, D>,
+        puts_room: Option<PutsRoom>,
+        other: &mut LockSet<K, D>,
+        number: RecordNo,
+        field: FieldNo,
+        link: KeptLink,
+        twin: KeptLink,
+    )
+        requires one { MayBeOne self.old other.old }
+        requires puts_room { puts_room ≡ None → NoneIsLive self.old × NoneIsLive other.old }
+        requires room { map.len self.old.records + map.len other.old.records ≤ room.count }
+        requires twin { twin ≡ link }
+        requires apart { (q : ℕ) → IsSome (map.get self.old.records q) → map.get other.old.records q ≡ None }
+        requires free { HasFreeLink K.rules self.old.records number field }
+        requires to { (t : ℕ) × (named_by (use_of link) ≡ t ∷ []) × IsSome (map.get other.old.records t) }
+        ensures { BecomeOne self.old other.old (relinked K.rules self.old.records number field link) self.new other.new }
+    {
+        held_records_are_sound::<K, D>();
+        self.puts.are_few();
+        other.puts.are_few();
+        begin_anew(
+            &mut self.members,
+            &mut self.puts,
+            &self.tally,
+            &mut self.base_tally,
+            &mut self.history,
+        );
+        begin_anew(
+            &mut other.members,
+            &mut other.puts,
+            &other.tally,
+            &mut other.base_tally,
+            &mut other.history,
+        );
+        self.members
+            .join_in(room, &mut other.members, number, field, link, twin);
+        self.members.are_few();
+        let puts = joined_puts(&self.members, &self.puts, &other.puts, puts_room, alloc);
+        self.puts = puts;
+        other.puts = LivePuts::none(alloc);
+        add_counts(&mut self.tally, &other.tally);
+        self.base_tally = self.tally;
+        other.tally = Tally::default();
+        other.base_tally = other.tally;
+    }
+}
+
+impl<K: RecordKind + Drop, D: Device> LockSet<K, D> {
+    /// A link of a record that is there was set, whose device link had this text before: where it has another now, a change of its
+    /// scan list is sent. The set begins anew.
+    pub fn rescan(
+        &mut self,
+        place: &mut Workplace<K, D>,
+        number: RecordNo,
+        before: Short<MAX_DEVICE_BYTES>,
+        moment: u64,
+    )
+        requires there { Has (now_of self.old) number }
+        ensures left { with_kept self.new.records self.old.live self.old.waiting (world_of place.new.store) ≡ rewired K.rules before (begun_at moment (now_of self.old)) number }
+        ensures held { self.new ≡ anew self.new.records self.old.devices self.old.live self.old.waiting self.old.tally }
+    {
+        held_records_are_sound::<K, D>();
+        self.puts.are_few();
+        rescan_on(place, &mut self.members, moment, number, before);
+        begin_anew(
+            &mut self.members,
+            &mut self.puts,
+            &self.tally,
+            &mut self.base_tally,
+            &mut self.history,
+        );
+        self.members.are_few();
+    }
+
+    /// Changes a link of a record: it leads nowhere then, or to a record of this set. The set keeps the record's part and the counts,
+    /// and the records that no link joins to it any more come back as a set of their own, which may be empty. Puts with notification that are
+    /// live go with their records, as [`LockSet::split`] says. `link` and `twin` are alike.
+    ///
+    /// # Errors
+    ///
+    /// [`AllocError`] where memory is wanting: nothing has changed then, but that the history is forgotten.
+    pub fn part(
+        &mut self,
+        place: &mut Workplace<K, D>,
+        alloc: Global,
+        number: RecordNo,
+        field: FieldNo,
+        link: KeptLink,
+        twin: KeptLink,
+        moment: u64,
+    ) -> Result<LockSet<K, D>, AllocError>
+        requires twin { twin ≡ link }
+        requires field { HasLink K.rules self.old.records number field }
+        requires within { (t : ℕ) → Contains (named_by (use_of link)) t → IsSome (map.get self.old.records t) }
+        ensures apart { IfOk result (λ rest. FallsApart self.old (link_change_of K.rules self.old moment number field link).records number self.new rest) }
+        ensures left { OnOk result (with_kept (link_change_of K.rules self.old moment number field link).records self.old.live self.old.waiting (world_of place.new.store) ≡ link_change_of K.rules self.old moment number field link) }
+        ensures err { OnErr result (self.new ≡ folded self.old) }
+    {
+        let before = self.device_text(number);
+        let rest = self.split(alloc, number, field, link, twin)?;
+        self.rescan(place, number, before, moment);
+        Ok(rest)
+    }
+
+    /// Leads a link of a record of this set to a record of another, which it takes over with its devices and its counts. The records of this
+    /// set that the link alone had joined to that record come back as a set of their own, which may be empty; the other has nothing then.
+    /// Puts with notification that are live go with their records, as [`LockSet::split`] and [`LockSet::unite`] say; no put waits in both sets,
+    /// and those that are live have room in one. All memory is taken before anything changes. `link` and `twin` are alike.
+    ///
+    /// # Errors
+    ///
+    /// [`AllocError`] where memory is wanting: nothing has changed then, but that the history of this set is forgotten.
+    pub fn lead_into(
+        &mut self,
+        other: &mut LockSet<K, D>,
+        place: &mut Workplace<K, D>,
+        alloc: Global,
+        number: RecordNo,
+        field: FieldNo,
+        link: KeptLink,
+        twin: KeptLink,
+        moment: u64,
+    ) -> Result<LockSet<K, D>, AllocError>
+        requires one { MayBeOne self.old other.old }
+        requires twin { twin ≡ link }
+        requires apart { (q : ℕ) → IsSome (map.get self.old.records q) → map.get other.old.records q ≡ None }
+        requires field { HasLink K.rules self.old.records number field }
+        requires to { (t : ℕ) × (named_by (use_of link) ≡ t ∷ []) × IsSome (map.get other.old.records t) }
+        ensures led { IfOk result (λ rest. LeadsInto K.rules self.old other.old moment number field link self.new other.new rest (world_of place.new.store)) }
+        ensures err { OnErr result ((self.new ≡ folded self.old) × (other.new ≡ other.old)) }
+    {
+        held_records_are_sound::<K, D>();
+        self.are_few();
+        other.are_few();
+        self.is_sound();
+        other.is_sound();
+        self.fold();
+        let room = Room::new(alloc, self.len() + other.len())?;
+        let puts_room = self.puts_room_with(other, alloc)?;
+        let before = self.device_text(number);
+        let rest = self.split(alloc, number, field, KeptLink::empty(), KeptLink::empty())?;
+        self.is_sound();
+        self.unite(alloc, room, puts_room, other, number, field, link, twin);
+        self.is_sound();
+        self.rescan(place, number, before, moment);
+        Ok(rest)
+    }
+}

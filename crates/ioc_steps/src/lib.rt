@@ -1,0 +1,6 @@
+//! The changes of one record that the rules are made of, in any keeper of records.
+#![tactic(auto)]
+
+pub mod notifying;
+pub mod scanning;
+pub mod steps;

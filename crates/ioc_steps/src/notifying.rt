@@ -1,0 +1,85 @@
+//! Puts with notification, as they go from record to record and are told.
+ghost use Rattle.std.specs.Prelude.{◌≡◌, Some};
+ghost use Rattle.ioc_store.specs.Notifying.{taken_over, holding, passed_on, notified_as, notified};
+ghost use Rattle.ioc_store.specs.World.{Has};
+
+use crate::steps::{common, set_notification};
+use ioc_common::Common;
+use ioc_names::RecordNo;
+use ioc_notify::NotifyId;
+use ioc_store::Store;
+
+// What a record takes over from the one that requests it.
+fn taken_over(source: &Common, target: &Common) -> Option<NotifyId>
+    ensures { result ≡ taken_over source.now target.now }
+{
+    if target.active || target.notification.is_some() {
+        return None;
+    }
+    source.notification
+}
+
+// A record has this notification from now on, if there is one.
+#[tactic(auto, unfolding(ioc_store::specs::Notifying::holding))]
+fn hold<S: Store>(store: &mut S, number: RecordNo, notification: Option<NotifyId>)
+    requires { Has (S.world store.old) number }
+    ensures world { S.world store.new ≡ holding S.Record.rules (S.world store.old) number notification }
+    ensures given { S.given store.new ≡ S.given store.old }
+{
+    if let Some(held) = notification {
+        set_notification(store, number, notification);
+        store.take_on(held);
+    }
+}
+
+// A record that is requested takes over the notification of the one that requests it, where it is idle and has none.
+#[tactic(auto, unfolding(ioc_store::specs::Notifying::passed_on))]
+#[inline(never)]
+fn take_over<S: Store>(store: &mut S, source: RecordNo, target: RecordNo)
+    requires source { Has (S.world store.old) source }
+    requires target { Has (S.world store.old) target }
+    ensures world { S.world store.new ≡ passed_on S.Record.rules (S.world store.old) source target }
+    ensures given { S.given store.new ≡ S.given store.old }
+{
+    let notification = taken_over(common(store, source), common(store, target));
+    hold(store, target, notification);
+}
+
+/// A record that is requested takes over the notification of the one that requests it, if that has one, where it is idle and has none.
+#[tactic(auto, unfolding(ioc_store::specs::Notifying::passed_on, ioc_store::specs::Notifying::holding))]
+#[inline(always)]
+pub fn pass_notification<S: Store>(store: &mut S, source: RecordNo, target: RecordNo)
+    requires source { Has (S.world store.old) source }
+    requires target { Has (S.world store.old) target }
+    ensures world { S.world store.new ≡ passed_on S.Record.rules (S.world store.old) source target }
+    ensures given { S.given store.new ≡ S.given store.old }
+{
+    if common(store, source).notification.is_some() {
+        take_over(store, source, target);
+    }
+}
+
+// This notification of a record is told: the record has it no more.
+#[tactic(auto, unfolding(ioc_store::specs::Notifying::notified_as))]
+#[inline(never)]
+fn tell_of<S: Store>(store: &mut S, number: RecordNo, notification: NotifyId)
+    requires { Has (S.world store.old) number }
+    ensures world { S.world store.new ≡ notified_as S.Record.rules (S.world store.old) number (Some notification) }
+    ensures given { S.given store.new ≡ S.given store.old }
+{
+    set_notification(store, number, None);
+    store.let_go(notification);
+}
+
+/// The notification of a record is told, if it has one: the record has it no more.
+#[tactic(auto, unfolding(ioc_store::specs::Notifying::notified, ioc_store::specs::Notifying::notified_as))]
+#[inline(always)]
+pub fn tell<S: Store>(store: &mut S, number: RecordNo)
+    requires { Has (S.world store.old) number }
+    ensures world { S.world store.new ≡ notified S.Record.rules (S.world store.old) number }
+    ensures given { S.given store.new ≡ S.given store.old }
+{
+    if let Some(notification) = common(store, number).notification {
+        tell_of(store, number, notification);
+    }
+}
