@@ -3,8 +3,7 @@ use Rattle.std.proofs.Common.{◌≡◌, ℕ, ◌+◌, List, [], ◌∷◌, refl
 use Rattle.std.proofs.lemmas.List.Sums.{sum_by-cons}
 use Rattle.std.specs.List.{sum_by}
 use Rattle.ioc_ledger.specs.declared.tally.Tally.{Tally}
-use Rattle.ioc_ledger.specs.Requests.{filled}
-use Rattle.ioc_set.specs.Held.{no_counts}
+use Rattle.ioc_ledger.specs.Requests.{filled, no_counts}
 use Rattle.ioc_set.specs.Linking.{added}
 use Rattle.ioc_held.specs.Holding.{HeldView}
 use Rattle.ioc_engine.specs.Ended.{counts_in}

@@ -16,6 +16,7 @@ use Rattle.ioc_store.specs.World.{World, Has, at, put, begun, begun_at}
 use Rattle.ioc_store.specs.Given.{listed, answers_of}
 use Rattle.ioc_store.specs.Weights.{weight_of}
 use Rattle.ioc_store.specs.Worlds.{at-put_same, has-put}
+use Rattle.ioc_store.specs.Scanning.{with_link_changed}
 use Rattle.ioc_events.specs.declared.event.Event.TheVariants.{Link}
 use Rattle.ioc_events.specs.declared.reply.Reply.TheVariants.{Plain}
 use Rattle.ioc_events.specs.Holding.{one_if_has}
@@ -25,7 +26,7 @@ use Rattle.ioc_line.specs.declared.entry.Note.{Note}
 use Rattle.ioc_line.specs.Key.{Key}
 use Rattle.ioc_holding.specs.Legal.{done, map_of}
 use Rattle.ioc_holding.specs.Held.{Holds, Cover, IsDone, IsOf, AreHalves, WaitsWithin}
-use Rattle.ioc_holding.specs.LinkChange.{TakesLink, with_link_changed, link_note}
+use Rattle.ioc_holding.specs.LinkChange.{TakesLink, link_note}
 use Rattle.ioc_holding.specs.Laws.{LinkParts, LinkJoins}
 use Rattle.ioc_holding.proofs.Basics.{one-there}
 use Rattle.ioc_holding.specs.EventLaws.{EventLaws}

@@ -8,11 +8,11 @@ use Rattle.ioc_common.specs.Links.{use_of, named_by}
 use Rattle.ioc_record.specs.RecordRules.{RecordRules}
 use Rattle.ioc_record.specs.Laws.{IsLawful}
 use Rattle.ioc_store.specs.World.{World, Has, at, put}
-use Rattle.ioc_store.specs.Scanning.{device_of, rewired}
+use Rattle.ioc_store.specs.Scanning.{device_of, rewired, with_link_changed}
 use Rattle.ioc_store.specs.Worlds.{at-put_same}
 use Rattle.ioc_holding.specs.Legal.{map_of}
 use Rattle.ioc_holding.specs.Held.{AreHalves, WaitsWithin}
-use Rattle.ioc_holding.specs.LinkChange.{with_link_changed, link_note}
+use Rattle.ioc_holding.specs.LinkChange.{link_note}
 use Rattle.ioc_holding.specs.Laws.{LinkMoves}
 use Rattle.ioc_holding.specs.EventLaws.{EventLaws}
 use Rattle.ioc_holding.proofs.Linking.{link-joins}

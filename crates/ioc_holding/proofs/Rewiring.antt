@@ -14,12 +14,11 @@ use Rattle.ioc_record.specs.Laws.{IsLawful}
 use Rattle.ioc_store.specs.declared.outbox.OutboxItem.{OutboxItem}
 use Rattle.ioc_store.specs.declared.outbox.OutboxItem.TheVariants.{Change}
 use Rattle.ioc_store.specs.World.{World, Has, at, common_at, put, changed, sent, lost, is_notification}
-use Rattle.ioc_store.specs.Scanning.{device_of, moved, rewired}
+use Rattle.ioc_store.specs.Scanning.{device_of, moved, rewired, with_link_changed}
 use Rattle.ioc_store.specs.ScanLaws.{rewired-either, moved-either}
 use Rattle.ioc_store.specs.Weights.{weight_of}
 use Rattle.ioc_store.specs.Worlds.{at-put_same, sent_by}
 use Rattle.ioc_events.specs.Holding.{one_if_has}
-use Rattle.ioc_holding.specs.LinkChange.{with_link_changed}
 
 -- the map with one record set, as it answers
 abbrev pub set-at : {R : Type 0} → ℕ → R → (ℕ → Option R) → ℕ → Option R

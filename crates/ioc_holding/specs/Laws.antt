@@ -9,7 +9,7 @@ use Rattle.ioc_common.specs.Links.{use_of, named_by}
 use Rattle.ioc_notify.specs.Living.{holders_of, is_live}
 use Rattle.ioc_record.specs.RecordRules.{RecordRules}
 use Rattle.ioc_store.specs.World.{World, Has, IsClosed, at, common_at, put, begun_at, cancelled, has_place}
-use Rattle.ioc_store.specs.Scanning.{device_of, rewired}
+use Rattle.ioc_store.specs.Scanning.{device_of, rewired, with_link_changed}
 use Rattle.ioc_line.specs.declared.entry.Note.{Note}
 use Rattle.ioc_line.specs.Key.{Key}
 use Rattle.ioc_line.specs.Line.{Spares}
@@ -22,7 +22,7 @@ use Rattle.ioc_events.specs.Step.{stepped, names}
 use Rattle.ioc_events.specs.StepRules.{Replay, KeepsRecords}
 use Rattle.ioc_holding.specs.Legal.{IsLegal, IsSound, AreLiveAlike, notifications_key, entries_of, map_of}
 use Rattle.ioc_holding.specs.Held.{Holds, AreSpared, IsDone, IsOf, Cover, AreHalves, WaitsWithin, is_question, question_note}
-use Rattle.ioc_holding.specs.LinkChange.{TakesLink, with_link_changed, link_note}
+use Rattle.ioc_holding.specs.LinkChange.{TakesLink, link_note}
 
 module _ {R : Type 0} (k : RecordRules R) where
   -- what is held of a world is held after notes that spare it

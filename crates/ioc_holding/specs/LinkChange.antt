@@ -5,8 +5,7 @@ use Rattle.ioc_fields.specs.declared.field_no.FieldNo.{FieldNo}
 use Rattle.ioc_common.specs.declared.link_field.LinkField.{LinkField}
 use Rattle.ioc_record.specs.RecordRules.{RecordRules}
 use Rattle.ioc_record.specs.Values.{stops_put}
-use Rattle.ioc_store.specs.World.{World, Has, at, common_at, put}
-use Rattle.ioc_store.specs.Scanning.{device_of, rewired}
+use Rattle.ioc_store.specs.World.{World, Has, at, common_at}
 use Rattle.ioc_events.specs.declared.event.Event.TheVariants.{Link}
 use Rattle.ioc_events.specs.declared.reply.Reply.TheVariants.{Plain}
 use Rattle.ioc_line.specs.declared.entry.Note.{Note}
@@ -17,11 +16,6 @@ pub record TakesLink {R : Type 0} (k : RecordRules R) (v : World R) (s : ℕ) (f
   pub there : Has v s
   pub has_link : is_some (k.link (at k v s) field) ≡ true
   pub allowed : stops_put (common_at k v s) field ≡ false
-
--- with another link in the field, and a change of the record's scan list sent where it has another device link. Whether the record that the
--- link leads to is there isn't asked
-abbrev pub with_link_changed : {R : Type 0} → RecordRules R → World R → ℕ → FieldNo → LinkField → World R
-with_link_changed k v s field link = rewired k (device_of k (at k v s)) (put v s (k.with_link (at k v s) field link)) s
 
 -- the note of a link change that was done
 abbrev pub link_note : (desk call moment s : ℕ) → FieldNo → LinkField → List Key → Note

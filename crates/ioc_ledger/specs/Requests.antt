@@ -18,6 +18,10 @@ followed_by (Request outcome caused later) others = Request outcome caused (foll
 abbrev pub more : ℕ → ℕ
 more n = min (2 ^ 64 - 1) (n + 1)
 
+-- before the first request
+abbrev pub no_counts : Tally
+no_counts = record { begun = 0; processed = 0; disabled = 0; active = 0; reprocess = 0; started = 0; completed = 0 }
+
 -- with one request counted: as begun, and by its outcome
 abbrev pub counted_one : Tally → Outcome → Tally
 counted_one t Processed = record t { begun = more t.begun; processed = more t.processed }

@@ -11,11 +11,11 @@ use Rattle.ioc_process.specs.Runs.{ForAnswers}
 use Rattle.ioc_process.specs.Rules.{IsSettled}
 use Rattle.ioc_events.specs.Events.{Tells}
 use Rattle.ioc_events.specs.Step.{Stepped, stepped, tallied, completes}
-use Rattle.ioc_ledger.specs.Requests.{None}
+use Rattle.ioc_ledger.specs.Requests.{None, no_counts}
 use Rattle.ioc_process.specs.Answering.{begins_same}
 use Rattle.ioc_machine.proofs.Closing.{begun-none}
 use Rattle.ioc_dbfile.specs.Finished.{Owner}
-use Rattle.ioc_machine.specs.Machine.{Machine, Queued, TakesAnswer, answers_from, left_after, no_counts, stepped_on}
+use Rattle.ioc_machine.specs.Machine.{Machine, Queued, TakesAnswer, answers_from, left_after, stepped_on}
 use Rattle.ioc_machine.specs.Scanner.{Scanner}
 use Rattle.ioc_machine.proofs.Scripting.{left_is, accords}
 

@@ -10,7 +10,7 @@ use Rattle.ioc_device.specs.declared.Ask.{Ask}
 use Rattle.ioc_device.specs.declared.Answer.{Answer}
 use Rattle.ioc_device.specs.declared.Answer.TheVariants.{Fault, Later}
 use Rattle.ioc_ledger.specs.declared.tally.Tally.{Tally}
-use Rattle.ioc_ledger.specs.Requests.{more}
+use Rattle.ioc_ledger.specs.Requests.{more, no_counts}
 use Rattle.ioc_callback.specs.declared.queues.Queues.{Queues}
 use Rattle.ioc_callback.specs.Serving.{no_items, in_turn, served}
 use Rattle.ioc_scan.specs.declared.list_name.ListName.{ListName}
@@ -124,10 +124,6 @@ pub record Counted (R : Type 0) : Type 0 where
 -- those on a list are put on the callback queues, if there is a list; the count is of those that found room
 abbrev pub queued_on : {R : Type 0} → Machine R → Option ListName → Counted R
 queued_on m list = let queued = called_on m.scanner list in record { machine = record m { scanner = queued.scanner }; count = queued.count }
-
--- before the first request
-abbrev pub no_counts : Tally
-no_counts = record { begun = 0; processed = 0; disabled = 0; active = 0; reprocess = 0; started = 0; completed = 0 }
 
 -- most requests that are served after a line
 abbrev pub most_served : ℕ

@@ -17,8 +17,8 @@ pub struct Slot<K, D> {
     pub device: Option<D>,
 }
 
-/// The place of a record, by binary search.
-pub fn place_of<K, D>(slots: &[Slot<K, D>], number: RecordNo) -> Option<usize>
+// The place of a record, by binary search.
+fn searched<K, D>(slots: &[Slot<K, D>], number: RecordNo) -> Option<usize>
     requires { AreAscending slots.now }
     ensures found { IfSome result (λ i. (i < length slots.now) × (slice_index (numbers_of slots.now) i ≡ number)) }
     ensures absent { IfNone result ((i : ℕ) → i < length slots.now → slice_index (numbers_of slots.now) i ≢ number) }
@@ -40,6 +40,32 @@ pub fn place_of<K, D>(slots: &[Slot<K, D>], number: RecordNo) -> Option<usize>
         return None;
     }
     Some(low)
+}
+
+// Does the record stand at this place?
+fn stands_at<K, D>(slots: &[Slot<K, D>], place: usize, number: RecordNo) -> bool
+    ensures { IsTrue result → (place < length slots.now) × (slice_index (numbers_of slots.now) place ≡ number) }
+{
+    match slots.get(place) {
+        Some(slot) => slot.number.index() == number.index(),
+        None => false,
+    }
+}
+
+/// The place of a record. Where a set has all records between its first and this one, as sets of records that a database declares one after
+/// another do, that is found at the first look; else by binary search.
+pub fn place_of<K, D>(slots: &[Slot<K, D>], number: RecordNo) -> Option<usize>
+    requires { AreAscending slots.now }
+    ensures found { IfSome result (λ i. (i < length slots.now) × (slice_index (numbers_of slots.now) i ≡ number)) }
+    ensures absent { IfNone result ((i : ℕ) → i < length slots.now → slice_index (numbers_of slots.now) i ≢ number) }
+{
+    if let [first, ..] = slots {
+        let place = number.index().wrapping_sub(first.number.index());
+        if stands_at(slots, place, number) {
+            return Some(place);
+        }
+    }
+    searched(slots, number)
 }
 
 /// Is no record in both?

@@ -10,13 +10,13 @@ use Rattle.ioc_record.specs.Values.{stops_put}
 use Rattle.ioc_members.specs.Joined.{HasLink}
 use Rattle.ioc_store.specs.World.{World, at, common_at}
 use Rattle.ioc_store.specs.Given.{Answers}
+use Rattle.ioc_store.specs.Scanning.{with_link_changed}
 use Rattle.ioc_events.specs.declared.event.Event.{Event}
 use Rattle.ioc_events.specs.declared.event.Event.TheVariants.{Link}
 use Rattle.ioc_events.specs.declared.reply.Reply.{Reply}
 use Rattle.ioc_events.specs.declared.reply.Reply.TheVariants.{Plain}
 use Rattle.ioc_events.specs.Step.{stepped, all_there}
 use Rattle.ioc_events.specs.StepRules.{Step, by_itself, takes_link}
-use Rattle.ioc_set.specs.Linking.{with_link_changed}
 
 module _ {R : Type 0} (k : RecordRules R)
     (alone : (answers : Answers) (w after : World R) (event : Event) (reply : Reply) (requests : Requests) → Step k answers w event after reply requests

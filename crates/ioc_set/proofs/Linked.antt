@@ -2,6 +2,7 @@
 use Rattle.std.proofs.Common.{◌≡◌, ℕ, ◌<◌, ◌^◌, List, [], ◌++◌, refl, sym, ap, subst, ◌∙◌}
 use Rattle.std.specs.Prelude.{IsSome}
 use Rattle.std.specs.FinMap.{get, len}
+use Rattle.ioc_ledger.specs.Requests.{no_counts}
 use Rattle.ioc_fields.specs.declared.field_no.FieldNo.{FieldNo}
 use Rattle.ioc_common.specs.declared.link_field.LinkField.{LinkField}
 use Rattle.ioc_ledger.specs.declared.tally.Tally.{Tally}
@@ -18,7 +19,7 @@ use Rattle.ioc_events.specs.Holding.{HoldersCounted}
 use Rattle.ioc_awaiting.specs.Awaiting.{awaited}
 use Rattle.ioc_workplace.specs.Puts.{Puts, AreNone, HasBegun, begun_with}
 use Rattle.ioc_workplace.specs.Recounting.{own_waiting, AreLive}
-use Rattle.ioc_set.specs.Held.{Held, now_of, no_counts}
+use Rattle.ioc_set.specs.Held.{Held, now_of}
 use Rattle.ioc_workplace.specs.Resting.{resting}
 use Rattle.ioc_set.specs.Doing.{held_by}
 use Rattle.ioc_set.specs.Linking.{anew, added, AreCalm, AreHeld, FallsApart, BecomeOne, less_awaited, awaited_alone}

@@ -4,6 +4,7 @@ use Rattle.std.specs.Prelude.{Contains, is_some, unwrap_or, nat_lt, if◌then◌
 use Rattle.std.specs.Option.{option_map}
 use Rattle.std.specs.Ordering.{nat_cmp}
 use Rattle.std.specs.FinMap.{empty, get, entries, get-empty, len-empty, len-entries}
+use Rattle.ioc_ledger.specs.Requests.{no_counts}
 use Rattle.ioc_ledger.specs.declared.tally.Tally.{Tally}
 use Rattle.ioc_record.specs.RecordRules.{RecordRules, targets}
 use Rattle.ioc_members.specs.Contents.{Contents, nothing, RecordsAreLikeTheirBase}
@@ -15,7 +16,7 @@ use Rattle.ioc_events.specs.StepRules.{at_the_end}
 use Rattle.ioc_events.specs.Holding.{IsCounted, HoldersAwait, holders, one_if_has}
 use Rattle.ioc_awaiting.specs.Awaiting.{one_if_awaits, awaited}
 use Rattle.ioc_workplace.specs.Puts.{Puts, no_puts}
-use Rattle.ioc_set.specs.Held.{Held, nothing_held, no_counts}
+use Rattle.ioc_set.specs.Held.{Held, nothing_held}
 use Rattle.ioc_workplace.specs.Resting.{resting}
 use Rattle.ioc_set.specs.Sound.{IsSound, CountsAddUp}
 use Rattle.ioc_set.specs.Doing.{held_by}

@@ -2,6 +2,7 @@
 -- Application Developer's Guide, "Database Locking, Scanning, and Processing". The kept history is this project's own.
 use Rattle.std.specs.Prelude.{◌≡◌, List, [], ◌∷◌, ◌++◌}
 use Rattle.std.specs.FinMap.{empty}
+use Rattle.ioc_ledger.specs.Requests.{no_counts}
 use Rattle.ioc_ledger.specs.declared.tally.Tally.{Tally}
 use Rattle.ioc_notify.specs.declared.live_numbers.Live.{Live}
 use Rattle.ioc_notify.specs.declared.waiting_lists.Waiting.{Waiting}
@@ -12,10 +13,6 @@ use Rattle.ioc_store.specs.Given.{listed}
 use Rattle.ioc_events.specs.declared.event.Entry.{Entry}
 use Rattle.ioc_events.specs.Step.{Stepped, stepped, tallied}
 use Rattle.ioc_workplace.specs.Resting.{resting}
-
--- no request was counted yet
-abbrev pub no_counts : Tally
-no_counts = record { begun = 0; processed = 0; disabled = 0; active = 0; reprocess = 0; started = 0; completed = 0 }
 
 -- what a set held before the first event of its history
 pub record Base (R : Type 0) : Type 0 where

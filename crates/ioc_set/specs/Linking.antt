@@ -6,16 +6,16 @@ use Rattle.ioc_fields.specs.declared.field_no.FieldNo.{FieldNo}
 use Rattle.ioc_common.specs.declared.link_field.LinkField.{LinkField}
 use Rattle.ioc_common.specs.Links.{no_link}
 use Rattle.ioc_ledger.specs.declared.tally.Tally.{Tally}
-use Rattle.ioc_ledger.specs.Requests.{filled}
+use Rattle.ioc_ledger.specs.Requests.{filled, no_counts}
 use Rattle.ioc_notify.specs.declared.live_numbers.Live.{Live}
 use Rattle.ioc_notify.specs.declared.waiting_lists.Waiting.{Waiting}
 use Rattle.ioc_record.specs.RecordRules.{RecordRules}
 use Rattle.ioc_members.specs.Contents.{Records, Devices, record_at}
 use Rattle.ioc_members.specs.Joined.{AreShared, relinked}
-use Rattle.ioc_store.specs.World.{World, at, put, begun_at}
-use Rattle.ioc_store.specs.Scanning.{device_of, rewired}
+use Rattle.ioc_store.specs.World.{World, begun_at}
+use Rattle.ioc_store.specs.Scanning.{device_of, rewired, with_link_changed}
 use Rattle.ioc_events.specs.Holding.{HoldersAwait, HoldersCounted}
-use Rattle.ioc_set.specs.Held.{Held, NoneIsLive, now_of, no_counts, nothing_held}
+use Rattle.ioc_set.specs.Held.{Held, NoneIsLive, now_of, nothing_held}
 use Rattle.ioc_workplace.specs.Resting.{resting}
 use Rattle.ioc_set.specs.Doing.{with_kept}
 use Rattle.ioc_workplace.specs.Recounting.{WaitsGoAlong, together}
@@ -73,13 +73,9 @@ module _ {R : Type 0} (k : RecordRules R) where
     pub holders_await : HoldersAwait k (resting rs live waiting)
     pub counted : HoldersCounted k (resting rs live waiting)
 
-  -- with another link in the field, and a change of the record's scan list sent where it has another device link
-  abbrev pub with_link_changed : World R → ℕ → FieldNo → LinkField → World R
-  with_link_changed w s field link = rewired k (device_of k (at k w s)) (put w s (k.with_link (at k w s) field link)) s
-
   -- what a link change at a moment comes to, of what a set holds
   abbrev pub link_change_of : {D : Type 0} → Held R D → ℕ → ℕ → FieldNo → LinkField → World R
-  link_change_of h moment s field link = with_link_changed (begun_at moment (now_of h)) s field link
+  link_change_of h moment s field link = with_link_changed k (begun_at moment (now_of h)) s field link
 
 module _ {R D : Type 0} where
   -- a set falls apart: each of these records, which are its own with a link changed, and each device is in exactly one of two that begin anew.

@@ -7,6 +7,7 @@ ghost use Rattle.ioc_events.specs.declared.event.Event.TheVariants.{Put, Get, Is
 ghost use Rattle.ioc_events.specs.Step.{stepped, names, refused};
 ghost use Rattle.ioc_set.specs.NoCalls.{no_call};
 ghost use Rattle.std.specs.Option.{IfSome};
+ghost use Rattle.ioc_ledger.specs.Requests.{no_counts};
 ghost use Rattle.ioc_store.specs.Given.{Answers};
 ghost use Rattle.ioc_common.specs.Links.{use_of, named_by};
 ghost use Rattle.ioc_store.specs.Scanning.{device_of};
@@ -14,7 +15,7 @@ ghost use Rattle.ioc_record.specs.Values.{stops_put};
 ghost use Rattle.ioc_store.specs.World.{Has, at, common_at};
 ghost use Rattle.ioc_members.specs.Contents.{RecordsAreLikeTheirBase};
 ghost use Rattle.ioc_members.specs.Joined.{links_of, IsPart, HasLink};
-ghost use Rattle.ioc_set.specs.Held.{NoneIsLive, now_of, nothing_held, no_counts, folded};
+ghost use Rattle.ioc_set.specs.Held.{NoneIsLive, now_of, nothing_held, folded};
 ghost use Rattle.ioc_workplace.specs.Resting.{resting};
 ghost use Rattle.ioc_set.specs.Linking.{anew, AreCalm, NoneAwaits};
 ghost use Rattle.ioc_set.specs.Sound.{IsSound};

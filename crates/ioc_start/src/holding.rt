@@ -1,12 +1,12 @@
 //! Sets that are held from the load on.
 ghost use Rattle.std.specs.Prelude.{◌≡◌, ◌+◌, ◌++◌, [], length, IfOk, OnOk};
 ghost use Rattle.std.specs.FinMap as map;
+ghost use Rattle.ioc_ledger.specs.Requests.{no_counts};
 ghost use Rattle.crossbeam_utils.specs.Seq.{cell_view};
 ghost use Rattle.ioc_line.specs.Key.{Key, Has, record_keys};
 ghost use Rattle.ioc_line.specs.Line.{keeper};
 ghost use Rattle.ioc_holding.specs.Held.{Holds};
 ghost use Rattle.ioc_members.specs.Joined.{links_of, IsPart};
-ghost use Rattle.ioc_set.specs.Held.{no_counts};
 ghost use Rattle.ioc_workplace.specs.Resting.{resting};
 ghost use Rattle.ioc_set.specs.Linking.{anew, AreCalm, NoneAwaits};
 ghost use Rattle.ioc_journal.specs.Account.{AreRecords};

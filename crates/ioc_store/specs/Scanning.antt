@@ -12,7 +12,7 @@ use Rattle.ioc_common.specs.Links.{device_text}
 use Rattle.ioc_common.specs.Steps.{change_numbered}
 use Rattle.ioc_record.specs.RecordRules.{RecordRules}
 use Rattle.ioc_store.specs.declared.outbox.OutboxItem.TheVariants.{Change}
-use Rattle.ioc_store.specs.World.{World, at, common_at, changed, sent, lost}
+use Rattle.ioc_store.specs.World.{World, at, common_at, put, changed, sent, lost}
 
 -- a put to one of these takes the record off its scan list, and adds it anew
 abbrev pub places_record : FieldNo → Bool
@@ -48,3 +48,8 @@ module _ {R : Type 0} (k : RecordRules R) where
   -- a link of record n was changed, which had this text of its device link before
   unfoldable pub rewired : List ℕ → World R → ℕ → World R
   rewired before w n = if pointwise nat_eq before (device_of (at k w n)) then w else moved w n
+
+  -- record n with another link in the field, and a change of its scan list sent where it has another device link. Whether the record that the
+  -- link leads to is there isn't asked
+  abbrev pub with_link_changed : World R → ℕ → FieldNo → LinkField → World R
+  with_link_changed w n field link = rewired (device_of (at k w n)) (put w n (k.with_link (at k w n) field link)) n

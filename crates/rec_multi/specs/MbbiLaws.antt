@@ -20,7 +20,8 @@ use Rattle.ioc_common.specs.Raw.{is_raw, raw_came, state_came, state_constant}
 use Rattle.ioc_common.specs.Source.{new_source, source_link, source_set_here, source_set_there, source_set_others, source_set_twice, source_begin_leads}
 use Rattle.ioc_record.specs.BodyRules.{Held}
 use Rattle.ioc_record.specs.BodyLaws.{IsLawfulBody, IsNewBody}
-use Rattle.rec_multi.specs.MultiState.{new_multi_state, multi_get, multi_reads_back, multi_defaults, can_put_by, IsValueBy, default_by}
+use Rattle.ioc_record.specs.ByRow.{can_put_by, default_by}
+use Rattle.rec_multi.specs.MultiState.{new_multi_state, multi_get, multi_reads_back, multi_defaults, IsValueBy}
 use Rattle.rec_multi.specs.Mbbi.{mbbi, new_mbbi, mbbi_stored, raw_taken, raw_taken_if, state_taken_if, raw_put, mbbi_taken, link_put, mask_made, mbbi_loaded}
 use Rattle.rec_multi.specs.declared.mbbi.Mbbi.{Mbbi}
 

@@ -26,8 +26,9 @@ use Rattle.ioc_record.specs.Values.{field_sort, sort_in}
 use Rattle.ioc_common.specs.Drive.{new_drive, drive_link, drive_with_link, drive_get, drive_stored, drives, sets, written, drive_stored-output, drive_stored-desired, omsl_reads_back, ivoa_reads_back, begin_leads, written_leads, drive_set_here, drive_set_there, drive_set_others, drive_set_twice, drive_set_values}
 use Rattle.ioc_record.specs.BodyRules.{Held}
 use Rattle.ioc_record.specs.BodyLaws.{IsLawfulBody, IsNewBody}
+use Rattle.ioc_record.specs.ByRow.{can_put_by, default_by}
 use Rattle.rec_multi.specs.States.{states_get}
-use Rattle.rec_multi.specs.MultiState.{multi_get, multi_reads_back, multi_defaults, can_put_by, IsValueBy, default_by}
+use Rattle.rec_multi.specs.MultiState.{multi_get, multi_reads_back, multi_defaults, IsValueBy}
 use Rattle.rec_multi.specs.Mbbo.{mbbo, new_mbbo, mbbo_get, mbbo_stored, with_value, number_of, shifted_if, converted, came, worked, settled, mbbo_taken, driven_value, mbbo_output, value_if, link_put, mask_made, mbbo_loaded}
 use Rattle.rec_multi.specs.declared.mbbo.Mbbo.{Mbbo}
 

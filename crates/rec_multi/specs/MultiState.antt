@@ -1,7 +1,7 @@
 -- The fields that mbbi and mbbo have, and the alarms on them. Record Reference Manual, "Multi-Bit Binary Input Record" and
 -- "Multi-Bit Binary Output Record".
 use Rattle.std.proofs.Common.{◌≡◌, ℕ, true, List, Option, Some, refl, ap}
-use Rattle.std.specs.Option.{option_map, option_map_or, option_and_then}
+use Rattle.std.specs.Option.{option_map}
 use Rattle.std.specs.Prelude.{◌==◌, false, if◌then◌else◌, unwrap_or}
 use Rattle.ioc_values.specs.declared.value.Value.{Value}
 use Rattle.ioc_values.specs.declared.value.Value.TheVariants as value
@@ -19,6 +19,7 @@ use Rattle.ioc_common.specs.Condition.{raised}
 use Rattle.ioc_record.specs.Values.{field_sort, sort_in}
 use Rattle.ioc_common.specs.Parts.{ulong_in, ushort_in, state_in, severity_in, severity_back}
 use Rattle.ioc_record.specs.BodyRules.{Held}
+use Rattle.ioc_record.specs.ByRow.{can_put_by, default_by}
 use Rattle.rec_multi.specs.Bits.{made_mask}
 use Rattle.rec_multi.specs.States.{new_states, states_get, states_stored, severity_in_state, value_reads_back, text_reads_back, severity_reads_back, new_values, new_texts, new_severities}
 use Rattle.rec_multi.specs.declared.multi_state.MultiState.{MultiState}
@@ -80,10 +81,7 @@ masked t = if t.mask == 0 then record t { mask = made_mask t.bits t.shift } else
 
 -- ---- laws
 
--- a field with this row may be put, and a value of its sort
-abbrev pub can_put_by : Option Row → Type 0
-can_put_by row = option_map_or (λ (r : Row). r.can_put) row false ≡ true
-
+-- a value of the sort of a field with this row
 abbrev pub IsValueBy : List (List ℕ) → Option Row → Value → Type 0
 IsValueBy texts row v = IsValueOf (sort_in texts (option_map (λ (r : Row). r.kind) row)) v
 
@@ -102,9 +100,6 @@ multi_reads_back t texts (StateSeverity s) v can is = severity_reads_back t.stat
 multi_reads_back t texts _ v can is = cc
 
 -- a new one has the defaults
-abbrev pub default_by : Option Row → Option Value
-default_by row = option_and_then zero_of (option_map (λ (r : Row). r.kind) row)
-
 pub multi_defaults : (f : OwnField) → multi_get new_multi_state f ≡ default_by (multi_state_row f)
 unfolding multi_state_row multi_get new_multi_state zero_of states_get
 multi_defaults (StateValue s) = new_values s

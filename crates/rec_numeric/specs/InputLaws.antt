@@ -1,6 +1,5 @@
 -- The types longin and int64in keep the laws of record types.
-use Rattle.std.proofs.Common.{◌≡◌, ℤ, Bool, true, [], Option, Some, None, refl, sym, ap, subst, ◌∙◌}
-use Rattle.std.specs.Option.{option_map}
+use Rattle.std.proofs.Common.{◌≡◌, ℤ, true, [], Option, Some, None, refl, sym, ap, subst, ◌∙◌}
 use Rattle.std.specs.Prelude.{is_some}
 use Rattle.ioc_values.specs.declared.value.Value.{Value}
 use Rattle.ioc_values.specs.declared.kind.Range.{Range}
@@ -11,8 +10,7 @@ use Rattle.ioc_links.specs.declared.link.Link.TheVariants.{Constant}
 use Rattle.ioc_fields.specs.declared.field_no.FieldNo.TheVariants.{Own}
 use Rattle.ioc_fields.specs.declared.field_no.OwnField.{OwnField}
 use Rattle.ioc_fields.specs.declared.field_no.OwnField.TheVariants.{Val, Inp}
-use Rattle.ioc_fields.specs.declared.row.Row.{Row}
-use Rattle.ioc_fields.specs.Table.{row_of, numeric_input_row, numeric_row, can_put, is_link, is_link_kind, kind_of}
+use Rattle.ioc_fields.specs.Table.{row_of, numeric_input_row, numeric_row, can_put, is_link, kind_of}
 use Rattle.ioc_fields.specs.Defaults.{zero_of, own_default}
 use Rattle.ioc_common.specs.declared.link_field.LinkField.{LinkField}
 use Rattle.ioc_common.specs.declared.source.Source.{Source}
@@ -23,16 +21,13 @@ use Rattle.ioc_record.specs.Values.{sort_in}
 use Rattle.ioc_common.specs.Source.{new_source, source_link, source_set_here, source_set_there, source_set_others, source_set_twice, source_begin_leads}
 use Rattle.ioc_record.specs.BodyRules.{Held}
 use Rattle.ioc_record.specs.BodyLaws.{IsLawfulBody, IsNewBody}
+use Rattle.ioc_record.specs.ByRow.{can_put_by, default_by, is_link_by}
 use Rattle.rec_numeric.specs.Number.{NumberRules, long_number, int64_number}
-use Rattle.rec_numeric.specs.NumberLaws.{IsLawfulNumber, default_by, long_lawful, int64_lawful}
+use Rattle.rec_numeric.specs.NumberLaws.{IsLawfulNumber, long_lawful, int64_lawful}
 use Rattle.rec_numeric.specs.Numeric.{new_numeric, numeric_get}
-use Rattle.rec_numeric.specs.NumericLaws.{can_put_by, IsValueBy, numeric_reads_back, numeric_defaults}
+use Rattle.rec_numeric.specs.NumericLaws.{IsValueBy, numeric_reads_back, numeric_defaults}
 use Rattle.rec_numeric.specs.Input.{numeric_input, longin, int64in, new_input, input_stored, came, input_taken, stored_if, constant_put, input_loaded}
 use Rattle.rec_numeric.specs.declared.input.NumericInput.{NumericInput}
-
--- a field with this row holds a link
-abbrev is_link_by : Option Row → Bool
-is_link_by row = is_link_kind (option_map (λ (r : Row). r.kind) row)
 
 links_by : (input : LinkField) (range : Range) (f : OwnField) → is_some (source_link input f) ≡ is_link_by (numeric_input_row range f)
 unfolding numeric_input_row numeric_row

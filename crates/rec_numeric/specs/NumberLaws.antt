@@ -1,21 +1,16 @@
 -- What the numbers of numeric records keep to: the field tables have the types, each with its numbers.
-use Rattle.std.proofs.Common.{◌≡◌, false, Option, Some, refl}
-use Rattle.std.specs.Option.{option_and_then, option_map}
+use Rattle.std.proofs.Common.{◌≡◌, false, Some, refl}
 use Rattle.ioc_values.specs.declared.value.Value.{Value}
 use Rattle.ioc_values.specs.Shapes.{IsInRange}
 use Rattle.ioc_fields.specs.declared.field_kind.FieldKind.TheVariants.{Number}
 use Rattle.ioc_fields.specs.declared.field_no.OwnField.{OwnField}
 use Rattle.ioc_fields.specs.declared.field_no.OwnField.TheVariants.{Val}
 use Rattle.ioc_fields.specs.declared.record_type.RecordType.TheVariants.{Longin, Longout, Int64in, Int64out}
-use Rattle.ioc_fields.specs.declared.row.Row.{Row}
 use Rattle.ioc_fields.specs.Table.{row_of, own_row, numeric_input_row, numeric_output_row}
 use Rattle.ioc_fields.specs.Types.{reads_device}
 use Rattle.ioc_fields.specs.Defaults.{zero_of, own_default}
+use Rattle.ioc_record.specs.ByRow.{default_by}
 use Rattle.rec_numeric.specs.Number.{NumberRules, long_number, int64_number}
-
--- the default of a field with this row
-abbrev pub default_by : Option Row → Option Value
-default_by row = option_and_then zero_of (option_map (λ (r : Row). r.kind) row)
 
 pub record IsLawfulNumber {N : Type 0} (k : NumberRules N) : Type 0 where
   -- a value in the range is that of a number, and is read as this number

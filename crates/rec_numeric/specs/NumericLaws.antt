@@ -1,6 +1,6 @@
 -- What the group of numbers keeps to: what is put reads back, and a new one has the defaults.
 use Rattle.std.proofs.Common.{◌≡◌, ℕ, true, [], Option, Some, refl, sym, ap}
-use Rattle.std.specs.Option.{option_map, option_map_or}
+use Rattle.std.specs.Option.{option_map}
 use Rattle.std.specs.Prelude.{◌<◌, unwrap_or, false}
 use Rattle.ioc_values.specs.declared.value.Value.{Value}
 use Rattle.ioc_values.specs.declared.value.Value.TheVariants as value
@@ -13,16 +13,14 @@ use Rattle.ioc_fields.specs.declared.row.Row.{Row}
 use Rattle.ioc_fields.specs.Table.{numeric_row}
 use Rattle.ioc_fields.specs.Defaults.{zero_of}
 use Rattle.ioc_record.specs.Values.{field_sort, sort_in}
+use Rattle.ioc_record.specs.ByRow.{can_put_by, default_by}
 use Rattle.ioc_common.specs.Parts.{severity_in, severity_back}
 use Rattle.rec_numeric.specs.Number.{NumberRules}
-use Rattle.rec_numeric.specs.NumberLaws.{IsLawfulNumber, default_by}
+use Rattle.rec_numeric.specs.NumberLaws.{IsLawfulNumber}
 use Rattle.rec_numeric.specs.Numeric.{new_numeric, numeric_get, numeric_stored}
 use Rattle.rec_numeric.specs.declared.numeric.Numeric.{Numeric}
 
--- a field with this row may be put, and a value of its sort
-abbrev pub can_put_by : Option Row → Type 0
-can_put_by row = option_map_or (λ (r : Row). r.can_put) row false ≡ true
-
+-- a value of the sort of a field with this row
 abbrev pub IsValueBy : Option Row → Value → Type 0
 IsValueBy row v = IsValueOf (sort_in [] (option_map (λ (r : Row). r.kind) row)) v
 

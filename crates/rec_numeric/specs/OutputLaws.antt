@@ -1,6 +1,5 @@
 -- The types longout and int64out keep the laws of record types.
 use Rattle.std.proofs.Common.{◌≡◌, ℤ, Bool, true, false, cond, [], Option, Some, None, refl, sym, ap, subst, ◌∙◌}
-use Rattle.std.specs.Option.{option_map}
 use Rattle.std.specs.Prelude.{is_some, ◌≢◌}
 use Rattle.ioc_values.specs.declared.value.Value.{Value}
 use Rattle.ioc_values.specs.declared.kind.Range.{Range}
@@ -11,8 +10,7 @@ use Rattle.ioc_links.specs.declared.link.Link.TheVariants.{Constant}
 use Rattle.ioc_fields.specs.declared.field_no.FieldNo.TheVariants.{Own}
 use Rattle.ioc_fields.specs.declared.field_no.OwnField.{OwnField}
 use Rattle.ioc_fields.specs.declared.field_no.OwnField.TheVariants.{Out, Dol, Omsl, Drvh, Drvl, Ivoa, Ivov}
-use Rattle.ioc_fields.specs.declared.row.Row.{Row}
-use Rattle.ioc_fields.specs.Table.{row_of, output_row, numeric_output_row, numeric_row, can_put, is_link, is_link_kind, kind_of}
+use Rattle.ioc_fields.specs.Table.{row_of, output_row, numeric_output_row, numeric_row, can_put, is_link, kind_of}
 use Rattle.ioc_fields.specs.Types.{reads_device}
 use Rattle.ioc_fields.specs.Defaults.{zero_of, own_default}
 use Rattle.ioc_common.specs.declared.drive.Drive.{Drive}
@@ -27,16 +25,13 @@ use Rattle.ioc_record.specs.Values.{field_sort, sort_in}
 use Rattle.ioc_common.specs.Drive.{new_drive, drive_link, drive_with_link, drive_get, drive_stored, drives, sets, written, drive_stored-output, drive_stored-desired, omsl_reads_back, ivoa_reads_back, begin_leads, written_leads, drive_set_here, drive_set_there, drive_set_others, drive_set_twice, drive_set_values}
 use Rattle.ioc_record.specs.BodyRules.{Held}
 use Rattle.ioc_record.specs.BodyLaws.{IsLawfulBody, IsNewBody}
+use Rattle.ioc_record.specs.ByRow.{can_put_by, default_by, is_link_by}
 use Rattle.rec_numeric.specs.Number.{NumberRules, long_number, int64_number}
-use Rattle.rec_numeric.specs.NumberLaws.{IsLawfulNumber, default_by, long_lawful, int64_lawful}
+use Rattle.rec_numeric.specs.NumberLaws.{IsLawfulNumber, long_lawful, int64_lawful}
 use Rattle.rec_numeric.specs.Numeric.{numeric_get}
-use Rattle.rec_numeric.specs.NumericLaws.{can_put_by, IsValueBy, number_shown, numeric_reads_back, numeric_defaults}
+use Rattle.rec_numeric.specs.NumericLaws.{IsValueBy, number_shown, numeric_reads_back, numeric_defaults}
 use Rattle.rec_numeric.specs.Output.{numeric_output, longout, int64out, new_output, output_get, output_stored, with_value, worked, settled, output_taken, output_driven, stored_if, constant_put, output_loaded}
 use Rattle.rec_numeric.specs.declared.output.NumericOutput.{NumericOutput}
-
--- a field with this row holds a link
-abbrev is_link_by : Option Row → Bool
-is_link_by row = is_link_kind (option_map (λ (r : Row). r.kind) row)
 
 links_by : (out dol : LinkField) (range : Range) (f : OwnField) → is_some (drive_link out dol f) ≡ is_link_by (numeric_output_row range f)
 unfolding numeric_output_row output_row numeric_row

@@ -1,5 +1,5 @@
 use Rattle.std.proofs.Common.{◌≡◌, drop}
-use Rattle.ioc_set.specs.Held.{no_counts}
+use Rattle.ioc_ledger.specs.Requests.{no_counts}
 use Rattle.ioc_engine.proofs.Counts.{counted_with}
 use Rattle.ioc_engine.proofs.report.counts_of.Given as goal
 

@@ -1,5 +1,6 @@
 use Rattle.std.specs.Global.{Vec}
 use Rattle.std.proofs.Common.{◌≡◌, ℕ, List, Option, map, subst, sym, ap, ◌∙◌}
+use Rattle.ioc_ledger.specs.Requests.{no_counts}
 use Rattle.ioc_device.specs.declared.Answer.{Answer}
 use Rattle.ioc_types.specs.Record.{Record, record_rules}
 use Rattle.ioc_store.specs.OneMap.{device_at}
@@ -11,7 +12,7 @@ use Rattle.ioc_scan.specs.Scanned.{Scanned}
 use Rattle.ioc_machine.specs.declared.first_lists.Occasion.TheVariants.{Scanning}
 use Rattle.ioc_dbfile.specs.Owners.{owner_of}
 use Rattle.ioc_machine.specs.FirstLists.{first_lists}
-use Rattle.ioc_machine.specs.Machine.{Machine, loaded_machine, first_queue, no_counts}
+use Rattle.ioc_machine.specs.Machine.{Machine, loaded_machine, first_queue}
 use Rattle.ioc_machine.proofs.Closing.{first_is}
 use Rattle.ioc_machine.proofs.Eventing.{same_machine, none_counted}
 use Rattle.ioc_machine.proofs.machine.Machine.loaded.Goals as goal

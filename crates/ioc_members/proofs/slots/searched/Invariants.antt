@@ -1,7 +1,7 @@
 use Rattle.std.proofs.Common.{◌≡◌, ℕ, ◌<◌, ◌≤◌, ◌-◌, length}
 use Rattle.std.specs.Prelude.{slice_index}
 use Rattle.ioc_members.specs.Slots.{numbers_of}
-use Rattle.ioc_members.proofs.slots.place_of.Given as goal
+use Rattle.ioc_members.proofs.slots.searched.Given as goal
 
 -- wherever the record stands, it is from low up to high
 abbrev pub invariant-halve : goal.invariant-halve

@@ -3,7 +3,7 @@ use Rattle.std.specs.Prelude.{slice_index}
 use Rattle.ioc_members.specs.declared.slots.Slot.{Slot}
 use Rattle.ioc_members.proofs.Slotted.{later, earlier, number_at}
 use Rattle.ioc_members.specs.Slots.{numbers_of}
-use Rattle.ioc_members.proofs.slots.place_of.Goals as goal
+use Rattle.ioc_members.proofs.slots.searched.Goals as goal
 
 pub halve-preserved-then-index : goal.halve-preserved-then-index
 halve-preserved-then-index g c =
