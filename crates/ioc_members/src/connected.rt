@@ -15,7 +15,7 @@ fn lead_within<K, D>(edges: &[Edge], slots: &[Slot<K, D>]) -> bool
     ensures { IsTrue result ↔ All (λ e. Contains (numbers_of slots.now) e.to) edges.now }
 {
     for edge in edges {
-        let Some(_place) = place_of(slots, edge.to) else {
+        let Some(_place) = place_of(slots, 0, edge.to) else {
             return false;
         };
     }

@@ -50,13 +50,14 @@ impl<K: RecordKind + Drop, D: Drop> Members<K, D> {
         ensures err { OnErr result (self.new ≡ self.old) }
     {
         fold_slots(&mut self.slots, &mut self.changed);
-        let Some(place) = place_of(&self.slots, number) else {
+        let Some(place) = place_of(&self.slots, self.latest, number) else {
             unreachable!()
         };
         let (rest, places) = part_slots(alloc, &mut self.slots, place, field, link, twin)?;
         Ok(Members {
             slots: rest,
             changed: places,
+            latest: 0,
         })
     }
 }
@@ -96,7 +97,7 @@ impl<K: RecordKind, D> Members<K, D> {
     {
         fold_slots(&mut self.slots, &mut self.changed);
         fold_slots(&mut other.slots, &mut other.changed);
-        let Some(place) = place_of(&self.slots, number) else {
+        let Some(place) = place_of(&self.slots, self.latest, number) else {
             unreachable!()
         };
         self.changed.reserve(self.slots.len() + other.slots.len())?;
@@ -133,7 +134,7 @@ impl<K: RecordKind + Drop, D: Drop> Members<K, D> {
     {
         fold_slots(&mut self.slots, &mut self.changed);
         fold_slots(&mut other.slots, &mut other.changed);
-        let Some(place) = place_of(&self.slots, number) else {
+        let Some(place) = place_of(&self.slots, self.latest, number) else {
             unreachable!()
         };
         move_in(room, &mut self.slots, &mut self.changed);

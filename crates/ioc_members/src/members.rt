@@ -29,6 +29,8 @@ pub struct Members<K, D> {
     pub(crate) slots: Vec<Slot<K, D>>,
     // The places of the records that may differ from their bases. There is room for all, so that no event wants memory.
     pub(crate) changed: Vec<usize>,
+    // Where the record stood that was lent last to be changed: most looks at records are looks at that one.
+    pub(crate) latest: usize,
 }
 
 impl<K, D> Model for Members<K, D> {
@@ -55,6 +57,7 @@ impl<K, D> Members<K, D> {
         Members {
             slots: Vec::new(alloc),
             changed: Vec::new(alloc),
+            latest: 0,
         }
     }
 
@@ -68,7 +71,11 @@ impl<K, D> Members<K, D> {
     {
         let changed = Vec::with_capacity(alloc, count)?;
         let slots = Vec::with_capacity(alloc, count)?;
-        Ok(Members { slots, changed })
+        Ok(Members {
+            slots,
+            changed,
+            latest: 0,
+        })
     }
 
     /// How many records there are.
@@ -98,7 +105,7 @@ impl<K, D> Members<K, D> {
     pub fn has(&self, number: RecordNo) -> bool
         ensures { result ≡ map.contains_key self.now.records number }
     {
-        place_of(&self.slots, number).is_some()
+        place_of(&self.slots, self.latest, number).is_some()
     }
 
     /// The number of the record at a place, from 0 on, in the order of their numbers; none past the last.
@@ -243,7 +250,7 @@ impl<K: RecordKind, D> Members<K, D> {
         requires { IsTrue (map.contains_key self.now.records number) }
         ensures { result.now ≡ record_at K.rules self.now.records number }
     {
-        let Some(place) = place_of(&self.slots, number) else {
+        let Some(place) = place_of(&self.slots, self.latest, number) else {
             unreachable!()
         };
         &self.slots[place].fields
@@ -254,7 +261,7 @@ impl<K: RecordKind, D> Members<K, D> {
         requires { IsTrue (map.contains_key self.now.records number) }
         ensures { result.now ≡ record_at K.rules self.now.base number }
     {
-        let Some(place) = place_of(&self.slots, number) else {
+        let Some(place) = place_of(&self.slots, self.latest, number) else {
             unreachable!()
         };
         &self.slots[place].base
@@ -266,10 +273,11 @@ impl<K: RecordKind, D> Members<K, D> {
         ensures* lends { sem 𝓛 (Lends (the_row K.row D.row) K.row self.entry result (λ r. record self.old { records = map.insert self.old.records number r })) }
         ensures value { result.now ≡ record_at K.rules self.old.records number }
     {
-        let Some(place) = place_of(&self.slots, number) else {
+        let Some(place) = place_of(&self.slots, self.latest, number) else {
             unreachable!()
         };
         mark(&mut self.slots, &mut self.changed, place);
+        self.latest = place;
         &mut self.slots[place].fields
     }
 
@@ -311,7 +319,7 @@ impl<K, D: Device> Members<K, D> {
         ensures records { self.new.records ≡ self.old.records }
         ensures base { self.new.base ≡ self.old.base }
     {
-        let Some(place) = place_of(&self.slots, number) else {
+        let Some(place) = place_of(&self.slots, self.latest, number) else {
             return Answer::Fault;
         };
         gives(&mut self.slots[place].device, ask, moment)

@@ -52,18 +52,14 @@ fn stands_at<K, D>(slots: &[Slot<K, D>], place: usize, number: RecordNo) -> bool
     }
 }
 
-/// The place of a record. Where a set has all records between its first and this one, as sets of records that a database declares one after
-/// another do, that is found at the first look; else by binary search.
-pub fn place_of<K, D>(slots: &[Slot<K, D>], number: RecordNo) -> Option<usize>
+/// The place of a record: where it is guessed to stand, if it stands there, else by binary search.
+pub fn place_of<K, D>(slots: &[Slot<K, D>], guess: usize, number: RecordNo) -> Option<usize>
     requires { AreAscending slots.now }
     ensures found { IfSome result (λ i. (i < length slots.now) × (slice_index (numbers_of slots.now) i ≡ number)) }
     ensures absent { IfNone result ((i : ℕ) → i < length slots.now → slice_index (numbers_of slots.now) i ≢ number) }
 {
-    if let [first, ..] = slots {
-        let place = number.index().wrapping_sub(first.number.index());
-        if stands_at(slots, place, number) {
-            return Some(place);
-        }
+    if stands_at(slots, guess, number) {
+        return Some(guess);
     }
     searched(slots, number)
 }
@@ -74,7 +70,7 @@ pub fn are_apart<K, D>(slots: &[Slot<K, D>], others: &[Slot<K, D>]) -> bool
     ensures { IsTrue result ↔ ((q : ℕ) → IsSome (get (records_of slots.now) q) → get (records_of others.now) q ≡ None) }
 {
     for slot in slots {
-        if let Some(_place) = place_of(others, slot.number) {
+        if let Some(_place) = place_of(others, 0, slot.number) {
             return false;
         }
     }

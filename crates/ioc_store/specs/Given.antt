@@ -1,5 +1,5 @@
 -- What devices have done in an event: their calls, and the state in which each is left.
-use Rattle.std.specs.Prelude.{◌≡◌, ℕ, List, [], ◌∷◌, ◌++◌, map, filter, length, slice_get, unwrap_or, ◌==◌, if◌then◌else◌, Bool, true, false, Option, Some}
+use Rattle.std.specs.Prelude.{◌≡◌, ℕ, List, [], ◌∷◌, ◌++◌, take, map, filter, length, slice_get, unwrap_or, ◌==◌, if◌then◌else◌, Bool, true, false, Option, Some}
 use Rattle.std.specs.Prelude.{None as Nothing_}
 use Rattle.ioc_device.specs.declared.Ask.{Ask}
 use Rattle.ioc_device.specs.declared.Answer.{Answer}
@@ -9,7 +9,7 @@ use Rattle.ioc_store.specs.declared.calls.Calls.{Calls}
 
 -- the calls that are kept
 abbrev pub calls_of : Calls → List Call
-calls_of s = s.calls.items
+calls_of s = take s.count s.calls.items
 
 -- the answers of these calls
 abbrev pub answers_of : List Call → List Answer

@@ -1,16 +1,19 @@
 //! The calls of devices in an event.
-ghost use Rattle.std.specs.Prelude.{◌≡◌, ◌+◌, ◌<◌, ◌≤◌, ◌++◌, [], ◌∷◌, length, drop, vec_len, IfOk};
-ghost use Rattle.std.specs.Vec.{vec_capacity};
+ghost use Rattle.std.specs.Prelude.{◌≡◌, ◌+◌, ◌<◌, ◌≤◌, ◌++◌, [], ◌∷◌, length, drop, vec_len, vec_capacity, IfOk};
 
 use crate::call::Call;
-use ioc_device::Answer;
+use ioc_device::{Answer, Ask};
+use ioc_names::RecordNo;
+use ioc_values::Value;
 use std::alloc::{AllocError, Global};
 
 /// At most 256 calls, with room for all from the start.
 #[derive(Drop)]
 pub struct Calls {
     calls: Vec<Call>,
-    ghost room: { 256 ≤ vec_capacity calls },
+    count: usize,
+    ghost in_range: { count ≤ 256 },
+    ghost whole: { length calls.items ≡ 256 },
 }
 
 impl Calls {
@@ -24,15 +27,21 @@ impl Calls {
     pub fn new(alloc: Global) -> Result<Self, AllocError>
         ensures { IfOk result (λ s. calls_of s ≡ []) }
     {
-        let calls = Vec::with_capacity(alloc, 256)?;
-        Ok(Calls { calls })
+        let value = Value::Long(0);
+        let filler = Call {
+            target: RecordNo::new(0),
+            ask: Ask::Read,
+            answer: Answer::Done(value),
+        };
+        let calls = Vec::from_elem(alloc, filler, 256)?;
+        Ok(Calls { calls, count: 0 })
     }
 
     /// Forgets all calls.
     pub fn clear(&mut self)
         ensures { calls_of self.new ≡ [] }
     {
-        self.calls.clear();
+        self.count = 0;
     }
 
     /// Adds a call.
@@ -40,21 +49,22 @@ impl Calls {
         requires { length (calls_of self.old) < 256 }
         ensures { calls_of self.new ≡ calls_of self.old ++ call.now ∷ [] }
     {
-        self.calls.push_reserved(*call);
+        self.calls[self.count] = *call;
+        self.count += 1;
     }
 
     /// How many there are.
     pub fn len(&self) -> usize
         ensures { result ≡ length (calls_of self.now) }
     {
-        self.calls.len()
+        self.count
     }
 
     /// How many of them, from this one on, are to be answered later.
     pub fn later_from(&self, start: usize) -> usize
         ensures { result ≡ later_among (drop start (calls_of self.now)) }
     {
-        self.calls
+        self.calls[..self.count]
             .iter()
             .skip(start)
             .filter(|call| call.is_later())
@@ -66,7 +76,7 @@ impl Calls {
         requires { vec_len to.old + length (calls_of self.now) ≤ vec_capacity to.old }
         ensures { to.new.items ≡ to.old.items ++ answers_of (calls_of self.now) }
     {
-        for call in &self.calls {
+        for call in &self.calls[..self.count] {
             to.push_reserved(call.answer);
         }
     }
