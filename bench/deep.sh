@@ -1,8 +1,7 @@
 #!/bin/sh
 # Writes databases of many records that lead to each other, and their scripts: chains by FLNK, by INP with PP and by OUT with PP, the first two
 # also in a ring; a tree of fanouts with sixteen links each; and a star, whose records all read the first one with PP and are scanned. Runs each on
-# a stack of 512 KiB, with an empty script and with its own, and shows what is printed, the time and the memory. (The program takes some 355 KiB of
-# it with any database: what a run keeps of an event is 34 KiB large, and is moved some ten times in one function.)
+# a stack of 64 KiB, with an empty script and with its own, and shows what is printed, the time and the memory.
 # Usage: deep.sh PROGRAM RECORDS FOLDER
 set -eu
 program=$1 records=$2 folder=$3
@@ -38,7 +37,7 @@ awk -v n="$records" 'BEGIN {
   for (i = 1; i < n; i++) printf "record(longin,\"r%d\"){field(INP,\"r0 PP\")field(SCAN,\"1 second\")}\n", i
 }' > "$folder/star.db"
 printf 'scan 1 second\nget r%d.VAL\ntally\n' "$last" > "$folder/star.script"
-ulimit -s 512
+ulimit -s 64
 for name in forward ring read read_ring write tree star; do
   echo "$name:"
   for script in empty "$name"; do
