@@ -1,23 +1,19 @@
 -- There is a place for one more put with notification in what is held where there is one in the table of all.
 use Rattle.std.proofs.Common.{◌≡◌, ◌↔◌, ℕ, zero, suc, ◌<◌, Bool, true, false, eqb, ◌||◌, List, [], ◌∷◌, length, refl, sym, ◌∙◌, arith}
-use Rattle.std.specs.Prelude.{Contains, IsTrue, map, None}
+use Rattle.std.specs.Prelude.{Contains, IsTrue, map}
 use Rattle.std.proofs.lemmas.Bool.{eq-eqb, eqb-true}
 use Rattle.std.proofs.lemmas.List.{length-map}
-use Rattle.ioc_values.specs.declared.input.Input.{Input}
-use Rattle.ioc_fields.specs.declared.field_no.FieldNo.{FieldNo}
 use Rattle.ioc_notify.specs.declared.live_numbers.Live.{Live}
 use Rattle.ioc_notify.specs.Living.{is_live}
 use Rattle.ioc_put_table.specs.Counts.{IsTable, holders_in, lines_of}
 use Rattle.ioc_record.specs.RecordRules.{RecordRules}
 use Rattle.ioc_store.specs.World.{World, begun_at, has_place}
-use Rattle.ioc_events.specs.declared.event.Event.TheVariants.{Notify}
 use Rattle.ioc_events.specs.Holding.{IsCounted}
 use Rattle.ioc_line.specs.declared.entry.Note.{Note}
 use Rattle.ioc_line.specs.Line.{Continues}
 use Rattle.ioc_holding.specs.Legal.{IsLegal, IsSound, map_of}
 use Rattle.ioc_holding.specs.Held.{Holds}
 use Rattle.ioc_holding.specs.Laws.{LiveLasts, PlaceForOneMore, StaysSound}
-use Rattle.ioc_set.specs.NoCalls.{no_call}
 use Rattle.ioc_held.specs.Puts.{AreCounted}
 use Rattle.ioc_held.proofs.Counted.{counted_on}
 use Rattle.ioc_held.proofs.Telling.{same_live}
@@ -62,7 +58,3 @@ module _ {R : Type 0} (k : RecordRules R) where
     where
       not_both : is_live number lines ≡ true → is_live number lines ≡ false → ⊥
       not_both a b = cc
-
-  pub notify_is_call : (w : World R) (s n : ℕ) (field : FieldNo) (given : Input) → no_call k w (Notify s n field given) ≡ None
-  unfolding no_call
-  notify_is_call w s n field given = refl

@@ -1,9 +1,11 @@
 //! Puts with notification on held sets.
-ghost use Rattle.std.specs.Prelude.{◌≡◌, ◌⊎◌, ℕ, IfOk, IfErr, OnOk, OnErr, Contains};
+ghost use Rattle.std.specs.Prelude.{◌≡◌, ◌⊎◌, ℕ, None, IfOk, IfErr, OnOk, OnErr, Contains};
 ghost use Rattle.ioc_values.specs.declared.error.IocError.TheVariants.{QueueFull};
 ghost use Rattle.ioc_events.specs.declared.event.Event.TheVariants.{Put, Notify};
 ghost use Rattle.ioc_journal.specs.Places.{IsNoPlace};
 ghost use Rattle.ioc_workplace.specs.SetStore.{world_of};
+ghost use Rattle.ioc_set.specs.Held.{now_of};
+ghost use Rattle.ioc_set.specs.NoCalls.{no_call};
 ghost use Rattle.ioc_held.specs.Holding.{numbers_of, Serves, IsNoCall};
 ghost use Rattle.ioc_held.specs.Puts.{CanBegin};
 
@@ -45,6 +47,7 @@ impl<K: RecordKind + Drop, B: Base<K>, D: Device> Held<K, B, D> {
         moment: u64,
     ) -> Result<(Reply, Receipt<K, B>), IocError>
         requires there { Contains (numbers_of self.old) target }
+        requires is_call { no_call K.rules (now_of self.old.set) (Notify target notification field given) ≡ None }
         requires can { CanBegin all.old notification }
         ensures serves { IfOk result (λ x. Serves K.rules D.gives B.base self.old desk.old moment (Notify target notification field given) x.0 self.new desk.new (world_of workplace.new.store)) }
         ensures receipt { IfOk result (λ x. x.1 ≡ desk.new.seen) }
@@ -94,6 +97,7 @@ impl<K: RecordKind + Drop, B: Base<K>, D: Device> Held<K, B, D> {
     /// [`IocError::NoField`] where the record has no such field, [`IocError::NoMod`] where it can't be put, [`IocError::QueueFull`] where 256 are
     /// live or the numbers are used up, [`IocError::JournalFull`] where the journal has no place left, and [`IocError::NoMemory`] where memory is
     /// wanting: nothing has changed then. Any other refusal is a reply, which the journal keeps too.
+    #[tactic(auto, unfolding(ioc_set::specs::NoCalls::no_call))]
     pub fn put_notify<R: Wait>(
         &mut self,
         rt: &R,

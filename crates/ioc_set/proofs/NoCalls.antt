@@ -17,6 +17,7 @@ use Rattle.ioc_events.specs.declared.event.Event.{Event}
 use Rattle.ioc_events.specs.declared.event.Event.TheVariants.{Get, Put, Process, Complete, Link, Notify, Cancel, IsLive}
 use Rattle.ioc_events.specs.declared.reply.Reply.TheVariants.{Shown}
 use Rattle.ioc_ledger.specs.Requests.{None as Nothing_}
+use Rattle.ioc_events.specs.Starting.{value_if, value_to_put}
 use Rattle.ioc_events.specs.Step.{Stepped, stepped, done_alone, done_there, names, refused}
 use Rattle.ioc_set.specs.NoCalls.{no_call, why_not_shown, why_not_put}
 
@@ -35,6 +36,10 @@ module _ {R : Type 0} (k : RecordRules R) (answers : Answers) (w : World R) wher
   by_kind r field given (Ok x) e why = absurd (none_is e why)
   by_kind r field given (Err x) e why = ap (λ (o : Option IocError). Err (unwrap_or o NoField)) why
 
+  by_value : (r : R) (field : FieldNo) (given : Input) (kind : Result FieldKind IocError) (e : IocError) → why_not_put kind ≡ Some e → value_if k r field given (tested_by k r field kind) ≡ Err e
+  by_value r field given (Ok x) e why = absurd (none_is e why)
+  by_value r field given (Err x) e why = ap (λ (o : Option IocError). Err (unwrap_or o NoField)) why
+
   get_refused : (s : ℕ) (field : FieldNo) (e : IocError) → Has w s → why_not_shown (row_of (k.record_type (at k w s)) field) ≡ Some e → stepped k answers w (Get s field) ≡ refused w e
   unfolding stepped done_alone done_there
   get_refused s field e has why = rw (has) (by_row (row_of (k.record_type (at k w s)) field) (record { world = w; reply = Shown (text_of k (at k w s) field); requests = Nothing_ }) e why)
@@ -43,6 +48,10 @@ module _ {R : Type 0} (k : RecordRules R) (answers : Answers) (w : World R) wher
   unfolding stepped done_alone done_there put_field put_tested
   put_refused s field given e has why = rw (has, by_kind (at k w s) field given (kind_to_put (k.record_type (at k w s)) field) e why) refl
 
+  notify_refused : (s n : ℕ) (field : FieldNo) (given : Input) (e : IocError) → Has w s → why_not_put (kind_to_put (k.record_type (at k w s)) field) ≡ Some e → stepped k answers w (Notify s n field given) ≡ refused w e
+  unfolding stepped done_alone done_there value_to_put put_tested
+  notify_refused s n field given e has why = rw (has, by_value (at k w s) field given (kind_to_put (k.record_type (at k w s)) field) e why) refl
+
   no_call_refused : (event : Event) (e : IocError) → ((n : ℕ) → Contains (names event) n → Has w n) → no_call k w event ≡ Some e → stepped k answers w event ≡ refused w e
   unfolding no_call
   no_call_refused (Get s field) e there why = get_refused s field e (there s (first_in s [])) why
@@ -50,7 +59,7 @@ module _ {R : Type 0} (k : RecordRules R) (answers : Answers) (w : World R) wher
   no_call_refused (Process s) e there why = absurd (none_is e why)
   no_call_refused (Complete s n x) e there why = absurd (none_is e why)
   no_call_refused (Link s field link) e there why = absurd (none_is e why)
-  no_call_refused (Notify s n field given) e there why = absurd (none_is e why)
+  no_call_refused (Notify s n field given) e there why = notify_refused s n field given e (there s (first_in s [])) why
   no_call_refused (Cancel n) e there why = absurd (none_is e why)
   no_call_refused (IsLive n) e there why = absurd (none_is e why)
 

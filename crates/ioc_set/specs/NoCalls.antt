@@ -1,4 +1,4 @@
--- Questions and puts that are no calls: the type of their record has no such field, or the field can't be put.
+-- Questions and puts, also those with notification, that are no calls: the type of their record has no such field, or the field can't be put.
 -- Application Developer's Guide, "Runtime Database Access": dbNameToAddr, dbPutField. That no history keeps them is this project's own.
 use Rattle.std.specs.Prelude.{Option, Some, None, Result, Ok, Err}
 use Rattle.ioc_values.specs.declared.error.IocError.{IocError}
@@ -10,7 +10,7 @@ use Rattle.ioc_record.specs.RecordRules.{RecordRules}
 use Rattle.ioc_record.specs.Values.{kind_to_put}
 use Rattle.ioc_store.specs.World.{World, at}
 use Rattle.ioc_events.specs.declared.event.Event.{Event}
-use Rattle.ioc_events.specs.declared.event.Event.TheVariants.{Get, Put}
+use Rattle.ioc_events.specs.declared.event.Event.TheVariants.{Get, Put, Notify}
 
 -- why a field isn't shown, by its row
 abbrev pub why_not_shown : Option Row → Option IocError
@@ -27,4 +27,5 @@ module _ {R : Type 0} (k : RecordRules R) where
   unfoldable pub no_call : World R → Event → Option IocError
   no_call w (Get s field) = why_not_shown (row_of (k.record_type (at k w s)) field)
   no_call w (Put s field given) = why_not_put (kind_to_put (k.record_type (at k w s)) field)
+  no_call w (Notify s number field given) = why_not_put (kind_to_put (k.record_type (at k w s)) field)
   no_call w _ = None

@@ -163,6 +163,10 @@ impl<K: RecordKind, D> LockSet<K, D> {
                 let record = self.members.record(*number);
                 why_not_put(record.record_type(), *field)
             }
+            Event::Notify(number, _, field, _) => {
+                let record = self.members.record(*number);
+                why_not_put(record.record_type(), *field)
+            }
             _ => None,
         }
     }

@@ -11,12 +11,13 @@ use Rattle.ioc_holding.specs.Legal.{map_of}
 use Rattle.ioc_line.specs.declared.room.View.{View}
 use Rattle.ioc_journal.specs.Account.{Call, Pass}
 use Rattle.ioc_set.specs.Held.{now_of}
+use Rattle.ioc_set.specs.NoCalls.{no_call}
 use Rattle.ioc_workplace.specs.SetStore.{world_of}
 use Rattle.ioc_held.specs.Holding.{HeldView, held_view, numbers_of, IsHeld, Serves}
 use Rattle.ioc_held.specs.Puts.{AreMoved}
 use Rattle.ioc_held.proofs.Keys.{key_there}
 use Rattle.ioc_held.proofs.Serving.{one_there, owner_on, entry_is, only}
-use Rattle.ioc_held.proofs.Places.{place_alike, notify_is_call}
+use Rattle.ioc_held.proofs.Places.{place_alike}
 use Rattle.ioc_events.specs.declared.event.Event.TheVariants.{Notify}
 use Rattle.ioc_held.proofs.Beside.{both_follow, held_beside, moved_beside}
 use Rattle.ioc_held.proofs.held.Held.begin_counted.Goals as goal
@@ -113,4 +114,4 @@ returns-clause-serves g c =
     let pass = c.keep_beside-receipt.ensures.pass in
     subst (λ (v : HeldView g.row.K.Denot g.row.D.Denot). Serves k g.D.Device.gives base v c.args.desk.now c.args.moment event c.in_ok-ran.ran.reply
     (held_view c.run_counted.new.set (cell_view c.keep_beside-receipt.new.pass).seen) c.keep_beside-receipt.new.desk come_to) c.self.view_is
-    (record { is_call = notify_is_call k (now_of c.self.inside.set) c.args.target c.args.notification c.args.field c.args.given; does = does; call = subst (λ (x : Entry). Call k base c.args.desk.now x c.keep_beside-receipt.new.desk) (sym entry) c.keep_beside-receipt.ensures.call; seen = ap (λ (v : View). v.seen) pass.1 })
+    (record { is_call = subst (λ (v : HeldView g.row.K.Denot g.row.D.Denot). no_call k (now_of v.set) event ≡ None) (sym c.self.view_is) c.requires.is_call; does = does; call = subst (λ (x : Entry). Call k base c.args.desk.now x c.keep_beside-receipt.new.desk) (sym entry) c.keep_beside-receipt.ensures.call; seen = ap (λ (v : View). v.seen) pass.1 })

@@ -16,3 +16,8 @@ pub record-record-requires-in-Put : goal.record-record-requires-in-Put
 record-record-requires-in-Put g c =
     subst (λ (h : Held g.row.K.Denot g.row.D.Denot). Has (now_of h) c.in-Put.number) (sym c.self.view_is)
     (c.requires.there c.in-Put.number (subst (λ (e : Event). Contains (names e) c.in-Put.number) (sym c.in-Put.is) (first_in c.in-Put.number [])))
+
+pub record-record-requires-in-Notify : goal.record-record-requires-in-Notify
+record-record-requires-in-Notify g c =
+    subst (λ (h : Held g.row.K.Denot g.row.D.Denot). Has (now_of h) c.in-Notify.number) (sym c.self.view_is)
+    (c.requires.there c.in-Notify.number (subst (λ (e : Event). Contains (names e) c.in-Notify.number) (sym c.in-Notify.is) (first_in c.in-Notify.number [])))
