@@ -20,7 +20,7 @@ for name in frames recursion; do
   mkdir -p "$folder/$name"
   (cd "$bench/.." && tar cf - --exclude=out crates crates.txt HANDLES) | (cd "$folder/$name" && tar xf -)
 done
-process="$folder/recursion/crates/ioc_store/src"
+process="$folder/recursion/crates/ioc_process/src"
 cp "$bench/recursion.txt" "$process/process.rt"
 for file in disabling reading finishing; do
   echo '//! Nothing: it stands in process.rt.' > "$process/$file.rt"
