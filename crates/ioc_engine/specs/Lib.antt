@@ -1,4 +1,3 @@
-pub mod Sent
 pub mod Served
 pub mod Ended
 pub mod Linked

@@ -1,11 +1,8 @@
 //! What events of the engine have sent.
-ghost use Rattle.ioc_engine.specs.Sent.{once_in, AreAdded};
-
 use crate::engine::Engine;
 use ioc_journal::Base;
-use ioc_once::OnceList;
+use ioc_once::add_once;
 use ioc_record::RecordKind;
-use ioc_store::OutboxItem;
 use ioc_workplace::Workplace;
 use std::marker::PhantomData;
 use std::sync::Wait;
@@ -21,17 +18,6 @@ impl<K, B: Base<K>> Ledger for OnceTickets<K, B> {
     ghost name = { B.tickets };
 
     ghost parts = { 18446744073709551615 };
-}
-
-// The records among these items that are to be requested once more are put on the list.
-fn add_once<L: Ledger>(items: &[OutboxItem], once: &mut OnceList<L>)
-    ensures { AreAdded (once_in items.now) once.old once.new }
-{
-    for item in items {
-        if let OutboxItem::Once(number) = item {
-            once.add(*number);
-        }
-    }
 }
 
 impl<K: RecordKind + Drop, B: Base<K>, D: Drop> Engine<K, B, D> {

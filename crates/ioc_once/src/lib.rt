@@ -3,5 +3,7 @@
 #![tactic(auto)]
 
 pub mod once_list;
+pub mod sent;
 
 pub use once_list::{OnceList, OnceRequest};
+pub use sent::add_once;

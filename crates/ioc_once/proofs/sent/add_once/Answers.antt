@@ -1,9 +1,9 @@
 use Rattle.std.proofs.Common.{◌≡◌, ◌<◌, ◌+◌, [], ◌∷◌, ◌++◌, take, length, sym, ap, ◌∙◌, subst, rules}
 use Rattle.std.proofs.lemmas.List.{take_more}
-use Rattle.ioc_engine.specs.Sent.{once_in, IsAdded, AreAdded}
-use Rattle.ioc_engine.proofs.Adding.{one_more_added, none_more_added, none_in}
-use Rattle.ioc_engine.proofs.sending.add_once.Goals.{in-Once, in_default}
-use Rattle.ioc_engine.proofs.sending.add_once.Goals as goal
+use Rattle.ioc_once.specs.Sent.{once_in, IsAdded, AreAdded}
+use Rattle.ioc_once.proofs.Sending.{one_more_added, none_more_added, none_in}
+use Rattle.ioc_once.proofs.sent.add_once.Goals.{in-Once, in_default}
+use Rattle.ioc_once.proofs.sent.add_once.Goals as goal
 
 pub loop-item-preserved : goal.loop-item-preserved
 loop-item-preserved g c =

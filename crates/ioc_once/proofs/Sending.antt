@@ -3,7 +3,7 @@ use Rattle.std.proofs.Common.{◌≡◌, ℕ, List, [], ◌∷◌, ◌++◌, ref
 use Rattle.ioc_store.specs.declared.outbox.OutboxItem.{OutboxItem}
 use Rattle.ioc_store.specs.declared.outbox.OutboxItem.TheVariants.{Once, Post, Change}
 use Rattle.ioc_once.specs.Waiting.{OnceView}
-use Rattle.ioc_engine.specs.Sent.{once_in, IsAdded, AreAdded}
+use Rattle.ioc_once.specs.Sent.{once_in, IsAdded, AreAdded}
 
 -- those of more items are those of the first, and then those of the others
 pub once_in_both : (xs ys : List OutboxItem) → once_in (xs ++ ys) ≡ once_in xs ++ once_in ys
