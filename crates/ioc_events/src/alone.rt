@@ -14,8 +14,10 @@ ghost use Rattle.ioc_process.specs.Runs.{ForAnswers};
 ghost use Rattle.ioc_events.specs.declared.event.Event.TheVariants.{Process, Put, Complete};
 ghost use Rattle.ioc_events.specs.Step.{processes, awaits, told, after_put, done_alone};
 ghost use Rattle.ioc_events.specs.Events.{Makes, reply_of};
+ghost use Rattle.ioc_events.specs.Told.{told_by};
 
-use crate::reply::{Effect, Reply};
+use crate::reply::Effect;
+use crate::told::Told;
 use ioc_common::Common;
 use ioc_fields::{FieldNo, OwnField, RecordType, is_process_passive};
 use ioc_ledger::{Outcome, Tally};
@@ -186,26 +188,26 @@ pub fn put<S: Store>(
     field: FieldNo,
     given: Input,
     tally: &mut Tally,
-) -> Reply
+) -> Told
     requires closed { IsClosed S.Record.rules (S.world store.old) }
     requires empty { frames.old.items ≡ [] }
     requires room { len (S.world store.old).records ≤ vec_capacity frames.old }
     ensures done { ForAnswers (S.given store.new) (λ answers.
-        Makes (S.world store.new) result tally.old tally.new (done_alone S.Record.rules answers (S.world store.old) (Put number field given))) }
+        Makes (S.world store.new) (told_by result) tally.old tally.new (done_alone S.Record.rules answers (S.world store.old) (Put number field given))) }
     ensures keeps { Keeps S.Record.rules (S.world store.old) (S.world store.new) }
     ensures given { Begins S.Device.gives (S.given store.old) (S.given store.new) }
     ensures empty { frames.new.items ≡ [] }
     ensures room { vec_capacity frames.new ≡ vec_capacity frames.old }
 {
     if !store.has(number) {
-        return Reply::Refused(IocError::NoRecord);
+        return Told::Refused(IocError::NoRecord);
     }
     match put_into(store, number, field, given) {
         Ok(()) => {
             rescan(store, number, field);
-            Reply::of(Ok(process_after_put(store, frames, number, field, tally)))
+            Told::of(Ok(process_after_put(store, frames, number, field, tally)))
         }
-        Err(refused) => Reply::Refused(refused),
+        Err(refused) => Told::Refused(refused),
     }
 }
 
@@ -258,23 +260,23 @@ pub fn complete<S: Store>(
     wait: u64,
     finished: Finished,
     tally: &mut Tally,
-) -> Reply
+) -> Told
     requires closed { IsClosed S.Record.rules (S.world store.old) }
     requires empty { frames.old.items ≡ [] }
     requires room { len (S.world store.old).records ≤ vec_capacity frames.old }
     ensures done { ForAnswers (S.given store.new) (λ answers.
-        Makes (S.world store.new) result tally.old tally.new (done_alone S.Record.rules answers (S.world store.old) (Complete number wait finished))) }
+        Makes (S.world store.new) (told_by result) tally.old tally.new (done_alone S.Record.rules answers (S.world store.old) (Complete number wait finished))) }
     ensures keeps { Keeps S.Record.rules (S.world store.old) (S.world store.new) }
     ensures given { Begins S.Device.gives (S.given store.old) (S.given store.new) }
     ensures empty { frames.new.items ≡ [] }
     ensures room { vec_capacity frames.new ≡ vec_capacity frames.old }
 {
     if !store.has(number) {
-        return Reply::Refused(IocError::NoRecord);
+        return Told::Refused(IocError::NoRecord);
     }
     if !awaits(store.record(number).common(), wait) {
-        return Reply::Refused(IocError::Stale);
+        return Told::Refused(IocError::Stale);
     }
     complete_record(store, frames, number, finished, tally);
-    Reply::Plain
+    Told::Plain
 }

@@ -31,6 +31,16 @@ pub enum Event {
     IsLive(NotifyId),
 }
 
+/// An event that is done on a lock set, as in [`Event`], without the room that the link of a link change needs.
+#[derive(Clone, Copy)]
+pub enum SetEvent {
+    Process(RecordNo),
+    Put(RecordNo, FieldNo, Input),
+    Complete(RecordNo, u64, Finished),
+    Notify(RecordNo, NotifyId, FieldNo, Input),
+    Cancel(NotifyId),
+}
+
 /// What devices answered in an event, in order. Contracts see it as their list.
 #[derive(Drop)]
 pub struct KeptAnswers {

@@ -12,9 +12,11 @@ ghost use Rattle.ioc_values.specs.declared.value.Finished.{Finished};
 ghost use Rattle.ioc_ledger.specs.Requests.{counted_started};
 ghost use Rattle.ioc_values.specs.Conversion.{input_of};
 ghost use Rattle.ioc_events.specs.Events.{Tells, reply_of, ends_unless, ends, Ends};
+ghost use Rattle.ioc_events.specs.Told.{told_by};
 
 use crate::reply::{Effect, Reply, is_refused};
 use crate::starting::start_all;
+use crate::told::Told;
 use crate::{alone, notify};
 use ioc_fields::{FieldNo, row_of};
 use ioc_ledger::Tally;
@@ -60,18 +62,11 @@ fn count_started<S: Store>(store: &S, start: usize, tally: &mut Tally)
     tally.count_started(store.later_from(start) as u64);
 }
 
-// Is it a refusal?
-fn is_refusal(reply: &Reply) -> bool
-    ensures { result ≡ is_refusal reply.now }
-{
-    matches!(reply, Reply::Refused(_))
-}
-
 // Does the reply tell that a completion was taken?
-fn is_done(reply: &Reply) -> bool
-    ensures { (s wait : ℕ) (finished : Finished) → result ≡ completes (Complete s wait finished) reply.now }
+fn is_done(told: &Told) -> bool
+    ensures { (s wait : ℕ) (finished : Finished) → result ≡ completes (Complete s wait finished) (told_by told.now) }
 {
-    matches!(reply, Reply::Plain)
+    matches!(told, Told::Plain)
 }
 
 // What comes after an event by itself: those that wait start where they can, unless it was refused, and the answers, from this call on,
@@ -104,20 +99,20 @@ fn end_event<S: Store>(
     store: &mut S,
     frames: &mut Vec<Frame>,
     asked: usize,
-    reply: &Reply,
+    reply: &Told,
     tally: &mut Tally,
 )
     requires closed { IsClosed S.Record.rules (S.world store.old) }
     requires empty { frames.old.items ≡ [] }
     requires room { len (S.world store.old).records ≤ vec_capacity frames.old }
     ensures ends { ForAnswers (S.given store.new) (λ answers.
-        Ends (S.world store.new) asked tally.old tally.new (ends S.Record.rules answers (S.world store.old) reply.now)) }
+        Ends (S.world store.new) asked tally.old tally.new (ends S.Record.rules answers (S.world store.old) (told_by reply.now))) }
     ensures keeps { Keeps S.Record.rules (S.world store.old) (S.world store.new) }
     ensures given { Begins S.Device.gives (S.given store.old) (S.given store.new) }
     ensures empty { frames.new.items ≡ [] }
     ensures room { vec_capacity frames.new ≡ vec_capacity frames.old }
 {
-    end_unless(store, frames, asked, is_refusal(reply), tally);
+    end_unless(store, frames, asked, reply.is_refused(), tally);
 }
 
 // The same by what a request or a put came to.
@@ -178,19 +173,19 @@ pub fn run_request<S: Store>(
     frames: &mut Vec<Frame>,
     number: RecordNo,
     tally: &mut Tally,
-) -> Reply
+) -> Told
     requires closed { IsClosed S.Record.rules (S.world store.old) }
     requires empty { frames.old.items ≡ [] }
     requires room { len (S.world store.old).records ≤ vec_capacity frames.old }
     ensures step { ForAnswers (S.given store.new) (λ answers.
-        Tells (S.world store.old) (S.world store.new) result tally.old tally.new (Process number) (stepped S.Record.rules answers (S.world store.old) (Process number))) }
+        Tells (S.world store.old) (S.world store.new) (told_by result) tally.old tally.new (Process number) (stepped S.Record.rules answers (S.world store.old) (Process number))) }
     ensures keeps { Keeps S.Record.rules (S.world store.old) (S.world store.new) }
     ensures given { Begins S.Device.gives (S.given store.old) (S.given store.new) }
     ensures empty { frames.new.items ≡ [] }
     ensures room { vec_capacity frames.new ≡ vec_capacity frames.old }
 {
     let effect = make_request(store, frames, number, tally);
-    Reply::of(effect)
+    Told::of(effect)
 }
 
 /// Puts a value into a field, and processes the record where the field is PROC, or is process-passive and the record
@@ -208,12 +203,12 @@ pub fn run_put<S: Store>(
     field: FieldNo,
     given: Input,
     tally: &mut Tally,
-) -> Reply
+) -> Told
     requires closed { IsClosed S.Record.rules (S.world store.old) }
     requires empty { frames.old.items ≡ [] }
     requires room { len (S.world store.old).records ≤ vec_capacity frames.old }
     ensures step { ForAnswers (S.given store.new) (λ answers.
-        Tells (S.world store.old) (S.world store.new) result tally.old tally.new (Put number field given) (stepped S.Record.rules answers (S.world store.old) (Put number field given))) }
+        Tells (S.world store.old) (S.world store.new) (told_by result) tally.old tally.new (Put number field given) (stepped S.Record.rules answers (S.world store.old) (Put number field given))) }
     ensures keeps { Keeps S.Record.rules (S.world store.old) (S.world store.new) }
     ensures given { Begins S.Device.gives (S.given store.old) (S.given store.new) }
     ensures empty { frames.new.items ≡ [] }
@@ -268,12 +263,12 @@ pub fn run_complete<S: Store>(
     wait: u64,
     finished: Finished,
     tally: &mut Tally,
-) -> Reply
+) -> Told
     requires closed { IsClosed S.Record.rules (S.world store.old) }
     requires empty { frames.old.items ≡ [] }
     requires room { len (S.world store.old).records ≤ vec_capacity frames.old }
     ensures step { ForAnswers (S.given store.new) (λ answers.
-        Tells (S.world store.old) (S.world store.new) result tally.old tally.new (Complete number wait finished) (stepped S.Record.rules answers (S.world store.old) (Complete number wait finished))) }
+        Tells (S.world store.old) (S.world store.new) (told_by result) tally.old tally.new (Complete number wait finished) (stepped S.Record.rules answers (S.world store.old) (Complete number wait finished))) }
     ensures keeps { Keeps S.Record.rules (S.world store.old) (S.world store.new) }
     ensures given { Begins S.Device.gives (S.given store.old) (S.given store.new) }
     ensures empty { frames.new.items ≡ [] }
@@ -304,12 +299,12 @@ pub fn run_notify<S: Store>(
     field: FieldNo,
     given: Input,
     tally: &mut Tally,
-) -> Reply
+) -> Told
     requires closed { IsClosed S.Record.rules (S.world store.old) }
     requires empty { frames.old.items ≡ [] }
     requires room { len (S.world store.old).records ≤ vec_capacity frames.old }
     ensures step { ForAnswers (S.given store.new) (λ answers.
-        Tells (S.world store.old) (S.world store.new) result tally.old tally.new (Notify target number field given) (stepped S.Record.rules answers (S.world store.old) (Notify target number field given))) }
+        Tells (S.world store.old) (S.world store.new) (told_by result) tally.old tally.new (Notify target number field given) (stepped S.Record.rules answers (S.world store.old) (Notify target number field given))) }
     ensures keeps { Keeps S.Record.rules (S.world store.old) (S.world store.new) }
     ensures given { Begins S.Device.gives (S.given store.old) (S.given store.new) }
     ensures empty { frames.new.items ≡ [] }
@@ -331,12 +326,12 @@ pub fn run_cancel<S: Store>(
     frames: &mut Vec<Frame>,
     number: NotifyId,
     tally: &mut Tally,
-) -> Reply
+) -> Told
     requires closed { IsClosed S.Record.rules (S.world store.old) }
     requires empty { frames.old.items ≡ [] }
     requires room { len (S.world store.old).records ≤ vec_capacity frames.old }
     ensures step { ForAnswers (S.given store.new) (λ answers.
-        Tells (S.world store.old) (S.world store.new) result tally.old tally.new (Cancel number) (stepped S.Record.rules answers (S.world store.old) (Cancel number))) }
+        Tells (S.world store.old) (S.world store.new) (told_by result) tally.old tally.new (Cancel number) (stepped S.Record.rules answers (S.world store.old) (Cancel number))) }
     ensures keeps { Keeps S.Record.rules (S.world store.old) (S.world store.new) }
     ensures given { Begins S.Device.gives (S.given store.old) (S.given store.new) }
     ensures empty { frames.new.items ≡ [] }

@@ -11,11 +11,13 @@ pub mod notification_rules;
 pub mod notify;
 pub mod reply;
 pub mod starting;
+pub mod told;
 
-pub use event::{Entry, Event, KeptAnswers};
+pub use event::{Entry, Event, KeptAnswers, SetEvent};
 pub use events::{
     make_request, make_spelled_put, run_cancel, run_complete, run_get, run_live, run_notify,
     run_put, run_request,
 };
 pub use link_change::run_link;
 pub use reply::{Effect, Reply};
+pub use told::Told;

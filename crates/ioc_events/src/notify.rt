@@ -11,9 +11,10 @@ ghost use Rattle.ioc_events.specs.Starting.{value_to_put, must_wait};
 ghost use Rattle.ioc_events.specs.declared.event.Event.TheVariants.{Notify, Cancel};
 ghost use Rattle.ioc_events.specs.Step.{begun_or_queued, done_alone};
 ghost use Rattle.ioc_events.specs.Events.{Makes};
+ghost use Rattle.ioc_events.specs.Told.{told_by};
 
-use crate::reply::Reply;
 use crate::starting::start;
+use crate::told::Told;
 use ioc_fields::FieldNo;
 use ioc_ledger::Tally;
 use ioc_names::RecordNo;
@@ -65,7 +66,7 @@ fn begin_or_queue<S: Store>(
     requires empty { frames.old.items ≡ [] }
     requires room { len (S.world store.old).records ≤ vec_capacity frames.old }
     ensures done { ForAnswers (S.given store.new) (λ answers.
-        Makes (S.world store.new) (Reply.Notify waiting.now.number) tally.old tally.new (begun_or_queued S.Record.rules answers (S.world store.old) waiting.now)) }
+        Makes (S.world store.new) (told_by (Told.Notify waiting.now.number)) tally.old tally.new (begun_or_queued S.Record.rules answers (S.world store.old) waiting.now)) }
     ensures keeps { Keeps S.Record.rules (S.world store.old) (S.world store.new) }
     ensures given { Begins S.Device.gives (S.given store.old) (S.given store.new) }
     ensures empty { frames.new.items ≡ [] }
@@ -89,26 +90,26 @@ pub fn notify<S: Store>(
     field: FieldNo,
     given: Input,
     tally: &mut Tally,
-) -> Reply
+) -> Told
     requires closed { IsClosed S.Record.rules (S.world store.old) }
     requires empty { frames.old.items ≡ [] }
     requires room { len (S.world store.old).records ≤ vec_capacity frames.old }
     ensures done { ForAnswers (S.given store.new) (λ answers.
-        Makes (S.world store.new) result tally.old tally.new (done_alone S.Record.rules answers (S.world store.old) (Notify target number field given))) }
+        Makes (S.world store.new) (told_by result) tally.old tally.new (done_alone S.Record.rules answers (S.world store.old) (Notify target number field given))) }
     ensures keeps { Keeps S.Record.rules (S.world store.old) (S.world store.new) }
     ensures given { Begins S.Device.gives (S.given store.old) (S.given store.new) }
     ensures empty { frames.new.items ≡ [] }
     ensures room { vec_capacity frames.new ≡ vec_capacity frames.old }
 {
     if !store.has(target) {
-        return Reply::Refused(IocError::NoRecord);
+        return Told::Refused(IocError::NoRecord);
     }
     let value = match value_to_put(store.record(target), field, given) {
         Ok(value) => value,
-        Err(refused) => return Reply::Refused(refused),
+        Err(refused) => return Told::Refused(refused),
     };
     if !store.has_place(number) {
-        return Reply::Refused(IocError::QueueFull);
+        return Told::Refused(IocError::QueueFull);
     }
     let waiting = Waiting {
         number,
@@ -117,19 +118,19 @@ pub fn notify<S: Store>(
         value,
     };
     begin_or_queue(store, frames, &waiting, tally);
-    Reply::Notify(number)
+    Told::Notify(number)
 }
 
 /// A put with notification is given up: it is taken from all records and from the waiting list, and doesn't end.
-pub fn cancel<S: Store>(store: &mut S, number: NotifyId) -> Reply
+pub fn cancel<S: Store>(store: &mut S, number: NotifyId) -> Told
     ensures done { (answers : Answers) →
-        done_alone S.Record.rules answers (S.world store.old) (Cancel number) ≡ record { world = S.world store.new; reply = result; requests = None } }
+        done_alone S.Record.rules answers (S.world store.old) (Cancel number) ≡ record { world = S.world store.new; reply = told_by result; requests = None } }
     ensures keeps { Keeps S.Record.rules (S.world store.old) (S.world store.new) }
     ensures given { S.given store.new ≡ S.given store.old }
 {
     if !store.is_live(number) {
-        return Reply::Refused(IocError::Stale);
+        return Told::Refused(IocError::Stale);
     }
     store.cancel(number);
-    Reply::Plain
+    Told::Plain
 }

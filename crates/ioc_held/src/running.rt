@@ -1,12 +1,13 @@
 //! The event of a call.
 ghost use Rattle.std.specs.Prelude.{◌≡◌, true, IfOk, IfErr, OnErr};
 ghost use Rattle.ioc_store.specs.Given.{answers_of};
+ghost use Rattle.ioc_events.specs.Told.{told_by};
 ghost use Rattle.ioc_journal.specs.Places.{IsNoPlace};
 ghost use Rattle.ioc_workplace.specs.SetStore.{world_of};
 ghost use Rattle.ioc_set.specs.Doing.{Does, is_done_on_sets};
 
 use ioc_device::Device;
-use ioc_events::{Entry, Event, KeptAnswers, Reply};
+use ioc_events::{Entry, Event, KeptAnswers, Reply, Told};
 use ioc_journal::{Base, Book, Place};
 use ioc_notify::Live;
 use ioc_record::RecordKind;
@@ -35,9 +36,9 @@ fn do_in<K: RecordKind + Drop, D: Device>(
     alloc: Global,
     event: &Event,
     moment: u64,
-) -> Result<Reply, AllocError>
+) -> Result<Told, AllocError>
     requires done_here { is_done_on_sets event.now ≡ true }
-    ensures ok { IfOk result (λ reply. Does K.rules D.gives set.old moment event.now reply set.new (world_of workplace.new.store)) }
+    ensures ok { IfOk result (λ told. Does K.rules D.gives set.old moment event.now (told_by told) set.new (world_of workplace.new.store)) }
     ensures err { OnErr result (set.new ≡ set.old) }
 {
     match event {
@@ -76,10 +77,10 @@ pub(crate) fn run_in<K: RecordKind + Drop, D: Device>(
     // Taken before anything is done: after that nothing may be refused. It is kept for the next event.
     let mut spare = mem::replace(&mut workplace.journal_spare, Vec::new(alloc));
     spare.reserve(256)?;
-    let reply = do_in(set, workplace, alloc, event, moment)?;
+    let told = do_in(set, workplace, alloc, event, moment)?;
     let answers = kept_answers(&workplace.store.event.calls, &mut spare, alloc);
     workplace.journal_spare = spare;
-    Ok((reply, answers))
+    Ok((told.reply(), answers))
 }
 
 /// Holds a place in the journal for an event, and does it on a set, whose live puts with notification are told as they were.

@@ -179,6 +179,7 @@ impl Machine {
             finished,
             &mut self.tally,
         )
+        .reply()
     }
 
     // Gives a link field another link; what that sent is still to be done.
@@ -214,6 +215,7 @@ impl Machine {
             given,
             &mut self.tally,
         )
+        .reply()
     }
 
     // A put with notification is given up; what that sent is still to be done.
@@ -229,6 +231,7 @@ impl Machine {
             notification,
             &mut self.tally,
         )
+        .reply()
     }
 
     // Keeps which notifications ended in an event. This isn't inlined, since in most events none does.

@@ -15,6 +15,8 @@ use Rattle.ioc_store.specs.Given.{DevicesWork}
 use Rattle.ioc_events.specs.declared.event.Event.{Event}
 use Rattle.ioc_events.specs.declared.event.Event.TheVariants.{Get, Process, Put, Complete, Link, Notify, Cancel, IsLive}
 use Rattle.ioc_events.specs.declared.event.Entry.{Entry}
+use Rattle.ioc_events.specs.declared.event.SetEvent.{SetEvent}
+use Rattle.ioc_events.specs.Told.{event_by}
 use Rattle.ioc_events.specs.Step.{is_link_change}
 use Rattle.ioc_workplace.specs.declared.set_store.SetStore.{SetStore}
 use Rattle.ioc_workplace.specs.SetStore.{world_of}
@@ -33,6 +35,13 @@ no_link (Link s field link) is = absurd (let z : false ≡ true = is in cc)
 no_link (Notify s n field given) is = refl
 no_link (Cancel n) is = refl
 no_link (IsLive n) is = refl
+
+pub set_events_are_done : (event : SetEvent) → is_done_on_sets (event_by event) ≡ true
+set_events_are_done (SetEvent.Process s) = refl
+set_events_are_done (SetEvent.Put s field given) = refl
+set_events_are_done (SetEvent.Complete s n x) = refl
+set_events_are_done (SetEvent.Notify s n field given) = refl
+set_events_are_done (SetEvent.Cancel n) = refl
 
 below_full : (n : ℕ) → (n == 64) ≡ false → n ≤ 64 → n < 64
 below_full n e l = grind (arith, nat_tests)

@@ -1,15 +1,17 @@
 //! What is done on a lock set, but for link changes.
-ghost use Rattle.std.specs.Prelude.{◌≡◌, ◌<◌, ◌≤◌, ◌+◌, true, length, IfOk, OnOk, OnErr, vec_len, vec_capacity};
+ghost use Rattle.std.specs.Prelude.{◌≡◌, ◌<◌, ◌≤◌, ◌+◌, length, IfOk, OnOk, OnErr, vec_len, vec_capacity};
 ghost use Rattle.ioc_events.specs.declared.event.Event.TheVariants.{Process, Put, Complete, Notify, Cancel};
 ghost use Rattle.ioc_members.specs.Contents.{RecordsAreLikeTheirBase};
 ghost use Rattle.ioc_workplace.specs.SetStore.{world_of};
-ghost use Rattle.ioc_set.specs.Doing.{Does, held_by, with_place, is_done_on_sets};
+ghost use Rattle.ioc_set.specs.Doing.{Does, held_by, with_place};
+ghost use Rattle.ioc_events.specs.Told.{event_by, told_by};
 
+use crate::kept::Kept;
 use crate::laws::{events_leave_sound, held_records_are_sound};
 use crate::lock_set::LockSet;
 use crate::running::run_on;
 use ioc_device::Device;
-use ioc_events::{Entry, Event, Reply};
+use ioc_events::{SetEvent, Told};
 use ioc_fields::FieldNo;
 use ioc_ledger::Tally;
 use ioc_members::Members;
@@ -26,7 +28,7 @@ fn make_place<K: RecordKind, D>(
     puts: &mut LivePuts,
     tally: &Tally,
     base_tally: &mut Tally,
-    history: &mut Vec<Entry>,
+    history: &mut Vec<Kept>,
 ) -> Result<(), AllocError>
     requires like { RecordsAreLikeTheirBase K.rules members.old }
     requires fits { length puts.old.waiting ≤ 256 }
@@ -52,11 +54,10 @@ impl<K: RecordKind + Drop, D: Device> LockSet<K, D> {
         &mut self,
         place: &mut Workplace<K, D>,
         alloc: Global,
-        event: &Event,
+        event: &SetEvent,
         moment: u64,
-    ) -> Result<Reply, AllocError>
-        requires done_here { is_done_on_sets event.now ≡ true }
-        ensures ok { IfOk result (λ reply. Does K.rules D.gives self.old moment event.now reply self.new (world_of place.new.store)) }
+    ) -> Result<Told, AllocError>
+        ensures ok { IfOk result (λ told. Does K.rules D.gives self.old moment (event_by event.now) (told_by told) self.new (world_of place.new.store)) }
         ensures err { OnErr result (self.new ≡ self.old) }
     {
         events_leave_sound::<K, D>();
@@ -71,7 +72,7 @@ impl<K: RecordKind + Drop, D: Device> LockSet<K, D> {
             &mut self.base_tally,
             &mut self.history,
         )?;
-        let entry = run_on(
+        let kept = run_on(
             place,
             &mut self.members,
             &mut self.puts,
@@ -80,17 +81,16 @@ impl<K: RecordKind + Drop, D: Device> LockSet<K, D> {
             &mut self.tally,
             alloc,
         );
-        let reply = &entry.reply;
-        let told = *reply;
-        self.history.push_reserved(entry);
-        Ok(told)
+        let came_to = kept.told();
+        self.history.push_reserved(kept);
+        Ok(came_to)
     }
 
     /// Requests a record.
     ///
     /// # Errors
     ///
-    /// [`AllocError`] where memory is wanting: nothing has changed then. The reply is a refusal, [`IocError::NoRecord`], where there is no such
+    /// [`AllocError`] where memory is wanting: nothing has changed then. What it came to is a refusal, [`IocError::NoRecord`], where there is no such
     /// record.
     pub fn request(
         &mut self,
@@ -98,11 +98,11 @@ impl<K: RecordKind + Drop, D: Device> LockSet<K, D> {
         alloc: Global,
         number: RecordNo,
         moment: u64,
-    ) -> Result<Reply, AllocError>
-        ensures ok { IfOk result (λ reply. Does K.rules D.gives self.old moment (Process number) reply self.new (world_of place.new.store)) }
+    ) -> Result<Told, AllocError>
+        ensures ok { IfOk result (λ told. Does K.rules D.gives self.old moment (Process number) (told_by told) self.new (world_of place.new.store)) }
         ensures err { OnErr result (self.new ≡ self.old) }
     {
-        self.do_event(place, alloc, &Event::Process(number), moment)
+        self.do_event(place, alloc, &SetEvent::Process(number), moment)
     }
 
     /// Puts a value into a field, and processes the record where the field is PROC, or is process-passive and the record passive. A record that
@@ -110,7 +110,7 @@ impl<K: RecordKind + Drop, D: Device> LockSet<K, D> {
     ///
     /// # Errors
     ///
-    /// [`AllocError`] where memory is wanting: nothing has changed then. The reply is a refusal, [`IocError::NoRecord`], [`IocError::NoField`],
+    /// [`AllocError`] where memory is wanting: nothing has changed then. What it came to is a refusal, [`IocError::NoRecord`], [`IocError::NoField`],
     /// [`IocError::NoMod`], [`IocError::PutDisabled`] or [`IocError::BadValue`] in this order, where there is no such record or field, the field
     /// can't be put, DISP forbids it, or the value doesn't convert.
     pub fn put(
@@ -121,18 +121,18 @@ impl<K: RecordKind + Drop, D: Device> LockSet<K, D> {
         field: FieldNo,
         given: Input,
         moment: u64,
-    ) -> Result<Reply, AllocError>
-        ensures ok { IfOk result (λ reply. Does K.rules D.gives self.old moment (Put number field given) reply self.new (world_of place.new.store)) }
+    ) -> Result<Told, AllocError>
+        ensures ok { IfOk result (λ told. Does K.rules D.gives self.old moment (Put number field given) (told_by told) self.new (world_of place.new.store)) }
         ensures err { OnErr result (self.new ≡ self.old) }
     {
-        self.do_event(place, alloc, &Event::Put(number, field, given), moment)
+        self.do_event(place, alloc, &SetEvent::Put(number, field, given), moment)
     }
 
     /// The device of a record has answered at last, to the wait of this number: the record goes on with what it gave.
     ///
     /// # Errors
     ///
-    /// [`AllocError`] where memory is wanting: nothing has changed then. The reply is a refusal, [`IocError::NoRecord`] or [`IocError::Stale`] in
+    /// [`AllocError`] where memory is wanting: nothing has changed then. What it came to is a refusal, [`IocError::NoRecord`] or [`IocError::Stale`] in
     /// this order, where there is no such record, or it doesn't await the completion of this number.
     pub fn complete(
         &mut self,
@@ -142,14 +142,14 @@ impl<K: RecordKind + Drop, D: Device> LockSet<K, D> {
         wait: u64,
         finished: Finished,
         moment: u64,
-    ) -> Result<Reply, AllocError>
-        ensures ok { IfOk result (λ reply. Does K.rules D.gives self.old moment (Complete number wait finished) reply self.new (world_of place.new.store)) }
+    ) -> Result<Told, AllocError>
+        ensures ok { IfOk result (λ told. Does K.rules D.gives self.old moment (Complete number wait finished) (told_by told) self.new (world_of place.new.store)) }
         ensures err { OnErr result (self.new ≡ self.old) }
     {
         self.do_event(
             place,
             alloc,
-            &Event::Complete(number, wait, finished),
+            &SetEvent::Complete(number, wait, finished),
             moment,
         )
     }
@@ -160,7 +160,7 @@ impl<K: RecordKind + Drop, D: Device> LockSet<K, D> {
     ///
     /// # Errors
     ///
-    /// [`AllocError`] where memory is wanting: nothing has changed then. The reply is a refusal, those of [`LockSet::put`] and then
+    /// [`AllocError`] where memory is wanting: nothing has changed then. What it came to is a refusal, those of [`LockSet::put`] and then
     /// [`IocError::QueueFull`], where 256 are live on the set, or the number is that of one that is live.
     pub fn put_notify(
         &mut self,
@@ -171,11 +171,11 @@ impl<K: RecordKind + Drop, D: Device> LockSet<K, D> {
         field: FieldNo,
         given: Input,
         moment: u64,
-    ) -> Result<Reply, AllocError>
-        ensures ok { IfOk result (λ reply. Does K.rules D.gives self.old moment (Notify number notification field given) reply self.new (world_of place.new.store)) }
+    ) -> Result<Told, AllocError>
+        ensures ok { IfOk result (λ told. Does K.rules D.gives self.old moment (Notify number notification field given) (told_by told) self.new (world_of place.new.store)) }
         ensures err { OnErr result (self.new ≡ self.old) }
     {
-        let event = Event::Notify(number, notification, field, given);
+        let event = SetEvent::Notify(number, notification, field, given);
         self.do_event(place, alloc, &event, moment)
     }
 
@@ -183,7 +183,7 @@ impl<K: RecordKind + Drop, D: Device> LockSet<K, D> {
     ///
     /// # Errors
     ///
-    /// [`AllocError`] where memory is wanting: nothing has changed then. The reply is a refusal, [`IocError::Stale`], where it isn't live on
+    /// [`AllocError`] where memory is wanting: nothing has changed then. What it came to is a refusal, [`IocError::Stale`], where it isn't live on
     /// the set.
     pub fn cancel(
         &mut self,
@@ -191,10 +191,10 @@ impl<K: RecordKind + Drop, D: Device> LockSet<K, D> {
         alloc: Global,
         notification: NotifyId,
         moment: u64,
-    ) -> Result<Reply, AllocError>
-        ensures ok { IfOk result (λ reply. Does K.rules D.gives self.old moment (Cancel notification) reply self.new (world_of place.new.store)) }
+    ) -> Result<Told, AllocError>
+        ensures ok { IfOk result (λ told. Does K.rules D.gives self.old moment (Cancel notification) (told_by told) self.new (world_of place.new.store)) }
         ensures err { OnErr result (self.new ≡ self.old) }
     {
-        self.do_event(place, alloc, &Event::Cancel(notification), moment)
+        self.do_event(place, alloc, &SetEvent::Cancel(notification), moment)
     }
 }

@@ -3,6 +3,7 @@
 
 mod awaited;
 mod events;
+pub mod kept;
 pub mod laws;
 mod link_changes;
 pub mod linking;

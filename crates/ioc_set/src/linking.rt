@@ -10,8 +10,8 @@ ghost use Rattle.ioc_set.specs.Linking.{added};
 ghost use Rattle.ioc_workplace.specs.Puts.{begun_with};
 ghost use Rattle.ioc_workplace.specs.SetStore.{world_of};
 
+use crate::kept::Kept;
 use ioc_device::Device;
-use ioc_events::Entry;
 use ioc_ledger::Tally;
 use ioc_links::MAX_DEVICE_BYTES;
 use ioc_members::Members;
@@ -28,7 +28,7 @@ pub fn begin_anew<K: RecordKind, D>(
     puts: &mut LivePuts,
     tally: &Tally,
     base_tally: &mut Tally,
-    history: &mut Vec<Entry>,
+    history: &mut Vec<Kept>,
 )
     requires like { RecordsAreLikeTheirBase K.rules members.old }
     requires fits { length puts.old.waiting ≤ 256 }

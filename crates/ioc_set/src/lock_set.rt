@@ -21,11 +21,12 @@ ghost use Rattle.ioc_set.specs.Linking.{anew, AreCalm, NoneAwaits};
 ghost use Rattle.ioc_set.specs.Sound.{IsSound};
 ghost use Rattle.ioc_set.specs.Doing.{held_by};
 
+use crate::kept::Kept;
 use crate::laws::{calm_records_are_sound, held_records_are_sound};
 use crate::linking::begin_anew;
 use crate::no_calls::{why_not_put, why_not_shown};
 use ioc_common::KeptLink;
-use ioc_events::{Entry, Event, Reply};
+use ioc_events::{Event, Reply};
 use ioc_fields::{FieldNo, row_of};
 use ioc_ledger::Tally;
 use ioc_links::MAX_DEVICE_BYTES;
@@ -49,7 +50,7 @@ pub struct LockSet<K: RecordKind, D> {
     pub(crate) tally: Tally,
     // The counts before the first event of the history.
     pub(crate) base_tally: Tally,
-    pub(crate) history: Vec<Entry>,
+    pub(crate) history: Vec<Kept>,
 }
 
 impl<K: RecordKind, D> Model for LockSet<K, D> {

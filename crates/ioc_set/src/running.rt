@@ -9,12 +9,14 @@ ghost use Rattle.ioc_events.specs.Events.{Tells};
 ghost use Rattle.ioc_events.specs.Holding.{IsCounted};
 ghost use Rattle.ioc_workplace.specs.Resting.{resting};
 ghost use Rattle.ioc_workplace.specs.Puts.{is_put_with_notification};
-ghost use Rattle.ioc_set.specs.Doing.{is_done_on_sets, Did};
+ghost use Rattle.ioc_set.specs.Doing.{Did};
+ghost use Rattle.ioc_events.specs.Told.{event_by, told_by};
 
+use crate::kept::Kept;
 use crate::laws::{none_live_stays_so, notifications_begin_by_notify};
 use ioc_device::Device;
 use ioc_events::event_rules::rules_are_steps;
-use ioc_events::{Entry, Event, Reply, run_cancel, run_complete, run_notify, run_put, run_request};
+use ioc_events::{SetEvent, Told, run_cancel, run_complete, run_notify, run_put, run_request};
 use ioc_ledger::Tally;
 use ioc_members::Members;
 use ioc_record::RecordKind;
@@ -28,32 +30,30 @@ use std::mem;
 pub fn run_event<S: Store>(
     store: &mut S,
     frames: &mut Vec<Frame>,
-    event: &Event,
+    event: &SetEvent,
     tally: &mut Tally,
-) -> Reply
-    requires done_here { is_done_on_sets event.now ≡ true }
+) -> Told
     requires closed { IsClosed S.Record.rules (S.world store.old) }
     requires empty { frames.old.items ≡ [] }
     requires room { len (S.world store.old).records ≤ vec_capacity frames.old }
     ensures step { ForAnswers (S.given store.new) (λ answers.
-        Tells (S.world store.old) (S.world store.new) result tally.old tally.new event.now (stepped S.Record.rules answers (S.world store.old) event.now)) }
+        Tells (S.world store.old) (S.world store.new) (told_by result) tally.old tally.new (event_by event.now) (stepped S.Record.rules answers (S.world store.old) (event_by event.now))) }
     ensures keeps { Keeps S.Record.rules (S.world store.old) (S.world store.new) }
     ensures given { Begins S.Device.gives (S.given store.old) (S.given store.new) }
     ensures empty { frames.new.items ≡ [] }
 {
     match event {
-        Event::Process(number) => run_request(store, frames, *number, tally),
-        Event::Put(number, field, given) => {
+        SetEvent::Process(number) => run_request(store, frames, *number, tally),
+        SetEvent::Put(number, field, given) => {
             run_put(store, frames, *number, *field, *given, tally)
         }
-        Event::Complete(number, wait, finished) => {
+        SetEvent::Complete(number, wait, finished) => {
             run_complete(store, frames, *number, *wait, *finished, tally)
         }
-        Event::Notify(target, number, field, given) => {
+        SetEvent::Notify(target, number, field, given) => {
             run_notify(store, frames, *target, *number, *field, *given, tally)
         }
-        Event::Cancel(number) => run_cancel(store, frames, *number, tally),
-        _ => unreachable!(),
+        SetEvent::Cancel(number) => run_cancel(store, frames, *number, tally),
     }
 }
 
@@ -64,17 +64,16 @@ pub fn run_on<K: RecordKind + Drop, D: Device>(
     members: &mut Members<K, D>,
     puts: &mut LivePuts,
     moment: u64,
-    event: &Event,
+    event: &SetEvent,
     tally: &mut Tally,
     alloc: Global,
-) -> Entry
-    requires done_here { is_done_on_sets event.now ≡ true }
+) -> Kept
     requires counted { IsCounted K.rules (resting members.old.records puts.old.live puts.old.waiting) }
-    requires puts { is_put_with_notification event.now ≡ true → puts.old.has_room ≡ true }
+    requires puts { is_put_with_notification (event_by event.now) ≡ true → puts.old.has_room ≡ true }
     requires frames { len members.old.records ≤ vec_capacity place.old.frames }
     requires answers { 256 ≤ vec_capacity place.old.spare }
     ensures moment { result.moment ≡ moment }
-    ensures event { result.event ≡ event.now }
+    ensures event { result.event ≡ event_by event.now }
     ensures did { Did K.rules D.gives members.old puts.old tally.old result members.new puts.new tally.new place.new.store }
 {
     rules_are_steps::<K>();
@@ -85,15 +84,10 @@ pub fn run_on<K: RecordKind + Drop, D: Device>(
     mem::swap(&mut place.store.members, members);
     puts.lend(&mut place.store.event.notifications);
     place.store.begin_at(moment);
-    let reply = run_event(&mut place.store, &mut place.frames, event, tally);
+    let told = run_event(&mut place.store, &mut place.frames, event, tally);
     let answers = kept_answers(&place.store.event.calls, &mut place.spare, alloc);
     puts.take_back(&mut place.store.event.notifications);
     mem::swap(members, &mut place.store.members);
     members.devices_are_owned();
-    Entry {
-        moment,
-        event: *event,
-        answers,
-        reply,
-    }
+    Kept::new(moment, event, answers, told)
 }

@@ -4,6 +4,7 @@ ghost use Rattle.std.specs.FinMap.{len};
 ghost use Rattle.std.specs.Vec.{vec_capacity};
 ghost use Rattle.ioc_notify.specs.Living.{is_live};
 ghost use Rattle.ioc_events.specs.Holding.{how_many, HoldersCounted};
+ghost use Rattle.ioc_events.specs.Told.{event_by};
 ghost use Rattle.ioc_workplace.specs.Resting.{resting};
 ghost use Rattle.ioc_workplace.specs.Puts.{no_puts, now_with, begun_with, AreNone, HasBegun, is_put_with_notification};
 ghost use Rattle.ioc_workplace.specs.Recounting.{begun_each, own_waiting, together, AreBegun, AreLive};
@@ -12,7 +13,7 @@ use crate::recount::{
     begin_each, copy_live, copy_waiting, count_records, count_waiting, let_go_each, queue_all,
     queue_own,
 };
-use ioc_events::Event;
+use ioc_events::SetEvent;
 use ioc_members::Members;
 use ioc_notify::{Live, NotifyId, Waiting};
 use ioc_record::RecordKind;
@@ -76,10 +77,10 @@ impl PutsRoom {
 }
 
 // Is an event a put with notification?
-fn is_put(event: &Event) -> bool
-    ensures { result ≡ is_put_with_notification event.now }
+fn is_put(event: &SetEvent) -> bool
+    ensures { result ≡ is_put_with_notification (event_by event.now) }
 {
-    matches!(event, Event::Notify(_, _, _, _))
+    matches!(event, SetEvent::Notify(_, _, _, _))
 }
 
 // Are both lists empty?
@@ -143,8 +144,8 @@ impl LivePuts {
     /// # Errors
     ///
     /// [`AllocError`] where memory is wanting.
-    pub fn make_room_for(&mut self, event: &Event, alloc: Global) -> Result<(), AllocError>
-        ensures room { OnOk result (is_put_with_notification event.now ≡ true → self.new.has_room ≡ true) }
+    pub fn make_room_for(&mut self, event: &SetEvent, alloc: Global) -> Result<(), AllocError>
+        ensures room { OnOk result (is_put_with_notification (event_by event.now) ≡ true → self.new.has_room ≡ true) }
         ensures live { self.new.live ≡ self.old.live }
         ensures waiting { self.new.waiting ≡ self.old.waiting }
         ensures base_live { self.new.base_live ≡ self.old.base_live }

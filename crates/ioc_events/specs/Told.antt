@@ -1,0 +1,24 @@
+-- The replies and events that are kept of a lock set, by their narrow forms.
+use Rattle.ioc_events.specs.declared.event.Event.{Event}
+use Rattle.ioc_events.specs.declared.event.Event.TheVariants.{Process, Put, Complete, Notify, Cancel}
+use Rattle.ioc_events.specs.declared.event.SetEvent.{SetEvent}
+use Rattle.ioc_events.specs.declared.event.SetEvent.TheVariants.{Process as process, Put as put, Complete as complete, Notify as notify, Cancel as cancel}
+use Rattle.ioc_events.specs.declared.reply.Reply.{Reply}
+use Rattle.ioc_events.specs.declared.reply.Reply.TheVariants.{Plain, Outcome, Refused, Notify as Notify-reply}
+use Rattle.ioc_events.specs.declared.told.Told.{Told}
+use Rattle.ioc_events.specs.declared.told.Told.TheVariants.{Plain as plain, Outcome as outcome, Notify as told-notify, Refused as refused}
+
+-- the reply that tells the same
+abbrev pub told_by : Told → Reply
+told_by plain = Plain
+told_by (outcome o) = Outcome o
+told_by (told-notify number) = Notify-reply number
+told_by (refused error) = Refused error
+
+-- the same event, as one of any database
+abbrev pub event_by : SetEvent → Event
+event_by (process s) = Process s
+event_by (put s field given) = Put s field given
+event_by (complete s wait finished) = Complete s wait finished
+event_by (notify s number field given) = Notify s number field given
+event_by (cancel number) = Cancel number
