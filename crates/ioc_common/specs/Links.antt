@@ -32,8 +32,8 @@ use_as (Constant n) lead = Unused
 use_as (Device text) lead = device_use lead
 use_as (Database target flags) lead = database_use flags lead
 
--- what a link comes to in use: an empty one and a constant give nothing, a database link that leads nowhere is absent,
--- and so is a device link, since no device is bound to a record yet
+-- what a link comes to in use: an empty one and a constant give nothing, a database link that leads nowhere is absent, and so is a device
+-- link unless it is that of the record's own device
 unfoldable pub use_of : LinkField → LinkUse
 use_of field = use_as field.link field.lead
 

@@ -9,7 +9,7 @@ use ioc_ledger::Outcome;
 use ioc_notify::NotifyId;
 use ioc_values::IocError;
 
-/// What an event that may change a database came to: a [`Reply`] in an eighth of its room, since it shows no text of a field.
+/// What an event that may change a database came to: a [`Reply`] in a quarter of its room, since it shows no text of a field.
 #[derive(Clone, Copy)]
 pub enum Told {
     /// What was asked for is done, and there is no more to tell.

@@ -52,7 +52,25 @@ fn stands_at<K, D>(slots: &[Slot<K, D>], place: usize, number: RecordNo) -> bool
     }
 }
 
-/// The place of a record: where it is guessed to stand, if it stands there, else by binary search.
+// Where a record would stand if the numbers of the set were evenly spread, as those of records that were loaded one after another are. It may be
+// past the last place.
+fn on_the_line<K, D>(slots: &[Slot<K, D>], number: RecordNo) -> usize {
+    let (Some(first), Some(last)) = (slots.first(), slots.last()) else {
+        return 0;
+    };
+    let low = first.number.index();
+    let span = last.number.index().saturating_sub(low);
+    if span == 0 {
+        return 0;
+    }
+    number
+        .index()
+        .saturating_sub(low)
+        .saturating_mul(slots.len() - 1)
+        / span
+}
+
+/// The place of a record: where it is guessed to stand or would stand on a line, if it stands there, else by binary search.
 pub fn place_of<K, D>(slots: &[Slot<K, D>], guess: usize, number: RecordNo) -> Option<usize>
     requires { AreAscending slots.now }
     ensures found { IfSome result (λ i. (i < length slots.now) × (slice_index (numbers_of slots.now) i ≡ number)) }
@@ -60,6 +78,10 @@ pub fn place_of<K, D>(slots: &[Slot<K, D>], guess: usize, number: RecordNo) -> O
 {
     if stands_at(slots, guess, number) {
         return Some(guess);
+    }
+    let line = on_the_line(slots, number);
+    if stands_at(slots, line, number) {
+        return Some(line);
     }
     searched(slots, number)
 }
