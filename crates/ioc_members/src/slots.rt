@@ -44,7 +44,7 @@ fn searched<K, D>(slots: &[Slot<K, D>], number: RecordNo) -> Option<usize>
 
 // Does the record stand at this place?
 fn stands_at<K, D>(slots: &[Slot<K, D>], place: usize, number: RecordNo) -> bool
-    ensures { IsTrue result → (place < length slots.now) × (slice_index (numbers_of slots.now) place ≡ number) }
+    ensures { IsTrue result ↔ ((place < length slots.now) × (slice_index (numbers_of slots.now) place ≡ number)) }
 {
     match slots.get(place) {
         Some(slot) => slot.number.index() == number.index(),
