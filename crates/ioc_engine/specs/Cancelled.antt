@@ -5,8 +5,8 @@ use Rattle.ioc_record.specs.RecordRules.{RecordRules}
 use Rattle.ioc_store.specs.World.{World}
 use Rattle.ioc_events.specs.declared.reply.Reply.{Reply}
 use Rattle.ioc_journal.specs.Account.{DeskView}
-use Rattle.ioc_held.specs.Holding.{HeldView, IsSoundlyHeld}
-use Rattle.ioc_held.specs.Puts.{PutsView, WasStale}
+use Rattle.ioc_lent.specs.Holding.{HeldView, IsSoundlyHeld}
+use Rattle.ioc_lent.specs.Puts.{PutsView, WasStale}
 use Rattle.ioc_lent.specs.GivingUp.{GaveUpOn}
 
 module _ {R : Type 0} (D : Type 0) (k : RecordRules R) (base : World R) (number : ℕ) (desk : DeskView) (moment : ℕ) (reply : Reply) (desk_then : DeskView) where

@@ -9,7 +9,7 @@ use Rattle.ioc_topology.specs.Gathered.{HoldEach}
 use Rattle.ioc_line.specs.declared.entry.Note.{Note}
 use Rattle.ioc_holding.specs.Legal.{map_of}
 use Rattle.ioc_journal.specs.Account.{IsAccount}
-use Rattle.ioc_held.specs.Holding.{HeldView, numbers_of, IsSoundlyHeld}
+use Rattle.ioc_lent.specs.Holding.{HeldView, numbers_of, IsSoundlyHeld}
 use Rattle.ioc_ledger.specs.declared.tally.Tally.{Tally}
 use Rattle.ioc_ledger.specs.Requests.{filled}
 

@@ -4,3 +4,4 @@ pub mod Linked
 pub mod Seen
 pub mod Cancelled
 pub mod Once
+pub use Rattle.ioc_lent.specs.Holding

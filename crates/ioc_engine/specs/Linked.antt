@@ -14,7 +14,7 @@ use Rattle.ioc_events.specs.declared.reply.Reply.{Reply}
 use Rattle.ioc_journal.specs.Account.{DeskView}
 use Rattle.ioc_journal.specs.Places.{IsNoPlace}
 use Rattle.ioc_topology.specs.Change.{AreLent, AreSound, LinkIsRefused}
-use Rattle.ioc_held.specs.Holding.{HeldView, numbers_of, IsSoundlyHeld}
+use Rattle.ioc_lent.specs.Holding.{HeldView, numbers_of, IsSoundlyHeld}
 use Rattle.ioc_lent.specs.Changing.{Relinks}
 
 -- the record that a link names, if it names one

@@ -14,7 +14,7 @@ use Rattle.ioc_journal.specs.Places.{IsNoPlace}
 use Rattle.ioc_set.specs.Held.{now_of}
 use Rattle.ioc_set.specs.NoCalls.{no_call}
 use Rattle.ioc_topology.specs.Change.{IsRefused}
-use Rattle.ioc_held.specs.Holding.{HeldView, numbers_of, IsSoundlyHeld, Serves, Tells}
+use Rattle.ioc_lent.specs.Holding.{HeldView, numbers_of, IsSoundlyHeld, Serves, Tells}
 
 module _ {R : Type 0} (D : Type 0) (k : RecordRules R) (base : World R) where
   -- a sound set has the record, which has no such field, or it can't be put

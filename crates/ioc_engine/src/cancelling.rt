@@ -3,13 +3,13 @@ ghost use Rattle.std.specs.Prelude.{◌≡◌, ◌⊎◌, All, IfOk, IfErr, IfNo
 ghost use Rattle.std.specs.Option.{IfSome};
 ghost use Rattle.ioc_values.specs.declared.error.IocError.TheVariants.{Stopped};
 ghost use Rattle.ioc_journal.specs.Places.{IsNoPlace};
-ghost use Rattle.ioc_held.specs.Holding.{IsSoundlyHeld};
+ghost use Rattle.ioc_lent.specs.Holding.{IsSoundlyHeld};
 ghost use Rattle.ioc_engine.specs.Cancelled.{WasCancelled, WasGivenUp, WasNotLive};
 
 use crate::engine::Engine;
 use ioc_device::Device;
 use ioc_events::Reply;
-use ioc_held::Held;
+use ioc_lent::Held;
 use ioc_journal::{Base, Desk, Receipt};
 use ioc_lent::cancel_on;
 use ioc_notify::NotifyId;

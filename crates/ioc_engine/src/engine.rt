@@ -13,7 +13,7 @@ use crate::sending::OnceTickets;
 use ioc_device::Device;
 use ioc_events::{Event, Reply};
 use ioc_fields::FieldNo;
-use ioc_held::{AllPuts, Held};
+use ioc_lent::{AllPuts, Held};
 use ioc_journal::{Base, Book, Desk, Receipt};
 use ioc_names::RecordNo;
 use ioc_once::OnceList;

@@ -13,5 +13,6 @@ pub mod report;
 pub mod sending;
 
 pub use engine::Engine;
+pub use ioc_lent::{AllPuts, Held};
 pub use report::{OnceTally, Report};
 pub use sending::OnceTickets;

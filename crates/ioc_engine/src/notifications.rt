@@ -3,7 +3,7 @@ ghost use Rattle.std.specs.Prelude.{◌≡◌, ◌⊎◌, ℕ, IfOk, IfErr, OnEr
 ghost use Rattle.ioc_values.specs.declared.error.IocError.TheVariants.{QueueFull, Stopped};
 ghost use Rattle.ioc_events.specs.declared.event.Event.TheVariants.{Put, Notify};
 ghost use Rattle.ioc_journal.specs.Places.{IsNoPlace};
-ghost use Rattle.ioc_held.specs.Puts.{PutsView, WasAsked};
+ghost use Rattle.ioc_lent.specs.Puts.{PutsView, WasAsked};
 ghost use Rattle.ioc_workplace.specs.SetStore.{world_of};
 ghost use Rattle.ioc_engine.specs.Served.{WasServed, CallIsRefused};
 

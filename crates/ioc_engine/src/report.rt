@@ -7,7 +7,7 @@ ghost use Rattle.ioc_engine.specs.Once.{AreAllBack};
 
 use crate::cancelling::all_sound;
 use crate::engine::Engine;
-use ioc_held::Held;
+use ioc_lent::Held;
 use ioc_journal::{Base, Journal, Receipt};
 use ioc_ledger::Tally;
 use ioc_line::{Cell, JournalEntry};

@@ -20,7 +20,7 @@ use Rattle.ioc_holding.specs.Legal.{IsLegal, IsSound, key_of, map_of}
 use Rattle.ioc_holding.specs.Held.{Holds, Cover}
 use Rattle.ioc_holding.specs.Laws.{Lasts, GoesOn, StaysSound}
 use Rattle.ioc_holding.specs.LinkChange.{TakesLink, link_note}
-use Rattle.ioc_relinking.specs.Laws.{SetsLead, SetsMayBeOne}
+use Rattle.ioc_held.specs.LinkLaws.{SetsLead, SetsMayBeOne}
 use Rattle.ioc_journal.specs.Account.{AreKnown}
 use Rattle.ioc_set.specs.Held.{Held, now_of}
 use Rattle.ioc_workplace.specs.Resting.{resting}

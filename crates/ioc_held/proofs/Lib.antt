@@ -1,5 +1,8 @@
 pub mod Dealing
 pub mod Keys
+mod LedSets
+mod PartedSets
+mod SetsTogether
 mod Leading
 mod Nothing
 mod Parting

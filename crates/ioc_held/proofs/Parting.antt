@@ -20,7 +20,7 @@ use Rattle.ioc_holding.specs.Legal.{IsLegal, IsSound, key_of, map_of}
 use Rattle.ioc_holding.specs.Held.{Holds, Cover}
 use Rattle.ioc_holding.specs.Laws.{Lasts, GoesOn}
 use Rattle.ioc_holding.specs.LinkChange.{TakesLink, link_note}
-use Rattle.ioc_relinking.specs.Laws.{SetsPart}
+use Rattle.ioc_held.specs.LinkLaws.{SetsPart}
 use Rattle.ioc_set.specs.Held.{Held, now_of}
 use Rattle.ioc_set.specs.Sound.{IsSound as IsSound-set}
 use Rattle.ioc_set.specs.Linking.{FallsApart, link_change_of}

@@ -9,6 +9,7 @@ mod beginning;
 mod ending;
 pub mod held;
 mod link_changes;
+pub mod link_laws;
 mod locked;
 pub mod puts;
 mod running;

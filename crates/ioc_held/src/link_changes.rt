@@ -28,7 +28,7 @@ use ioc_journal::{Base, Book, Desk, Place, Receipt};
 use ioc_line::{Keys, Token, pass};
 use ioc_names::RecordNo;
 use ioc_record::RecordKind;
-use ioc_relinking::laws::{held_sets_may_be_one, led_sets_are_held, parted_sets_are_held};
+use crate::link_laws::{held_sets_may_be_one, led_sets_are_held, parted_sets_are_held};
 use ioc_set::LockSet;
 use ioc_values::IocError;
 use ioc_workplace::Workplace;

@@ -14,8 +14,8 @@ use Rattle.ioc_line.specs.declared.entry.Note.{Note}
 use Rattle.ioc_line.specs.declared.room.View.{View}
 use Rattle.ioc_line.specs.Key.{Key}
 use Rattle.ioc_journal.specs.Account.{DeskView, AreRecords, AreNoDesks, Pass}
-use Rattle.ioc_cancelling.specs.Laws.{GivesUp}
-use Rattle.ioc_together.specs.Sets.{GaveUp, EachIsHeldBy, IsHeldBy}
+use Rattle.ioc_lent.specs.GiveUpLaws.{GivesUp}
+use Rattle.ioc_lent.specs.Sets.{GaveUp, EachIsHeldBy, IsHeldBy}
 use Rattle.ioc_holding.specs.Legal.{map_of}
 use Rattle.ioc_holding.specs.Held.{Holds}
 use Rattle.ioc_set.specs.Held.{Held, now_of}

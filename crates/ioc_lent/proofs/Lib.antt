@@ -1,3 +1,10 @@
+mod GiveUpSumming
+mod GiveUpAmong
+mod GiveUpEvents
+mod GiveUpGiving
+mod Keys
+mod TakingOver
+mod Following
 mod Lending
 mod Counting
 mod GivingUp

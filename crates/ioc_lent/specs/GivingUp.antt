@@ -10,8 +10,8 @@ use Rattle.ioc_events.specs.declared.reply.Reply.{Reply}
 use Rattle.ioc_events.specs.declared.reply.Reply.TheVariants.{Plain}
 use Rattle.ioc_journal.specs.Account.{DeskView, Call, puts_key, Pass}
 use Rattle.ioc_line.specs.Line.{holder}
-use Rattle.ioc_cancelling.specs.Laws.{GivesUp}
-use Rattle.ioc_together.specs.Sets.{AreItsSets}
+use Rattle.ioc_lent.specs.GiveUpLaws.{GivesUp}
+use Rattle.ioc_lent.specs.Sets.{AreItsSets}
 use Rattle.ioc_held.specs.Puts.{PutsView, told_at}
 use Rattle.ioc_record.specs.RecordRules.{RecordRules}
 use Rattle.ioc_store.specs.World.{World}

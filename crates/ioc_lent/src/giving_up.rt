@@ -9,7 +9,7 @@ ghost use Rattle.std.specs.Vec.{vec_len, vec_capacity};
 ghost use Rattle.crossbeam_utils.specs.Seq.{cell_view};
 ghost use Rattle.ioc_set.specs.Held.{Held as SetHeld};
 ghost use Rattle.ioc_held.specs.Holding.{HeldView, held_view, seen_by};
-ghost use Rattle.ioc_together.specs.Sets.{AreItsSets};
+ghost use Rattle.ioc_lent.specs.Sets.{AreItsSets};
 ghost use Rattle.ioc_lent.specs.GivingUp.{EachIsLent, HaveNotAll, sets_of, AreSameSets, HeldGaveUp, GaveUpOn};
 ghost use Rattle.ioc_journal.specs.Account.{puts_key, Pass};
 
@@ -22,7 +22,7 @@ use ioc_notify::{Live, NotifyId};
 use ioc_put_table::laws::lines_tell_holders;
 use ioc_record::RecordKind;
 use ioc_set::LockSet;
-use ioc_together::giving_up::give_up_all;
+use crate::together::giving_up::give_up_all;
 use ioc_topology::Locked;
 use ioc_values::IocError;
 use ioc_workplace::Workplace;

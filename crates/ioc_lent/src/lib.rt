@@ -2,7 +2,10 @@
 #![tactic(auto)]
 
 pub mod changing;
+pub mod give_up_laws;
 mod giving_up;
+pub mod together;
 
 pub use changing::{Changed, change_link};
 pub use giving_up::cancel_on;
+pub use ioc_held::{AllPuts, Held};

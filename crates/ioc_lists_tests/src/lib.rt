@@ -1,10 +1,8 @@
-//! Tests of devices, completions, notifications, tables of puts, connected parts, queues, scan lists and tickets, each on its own.
+//! Tests of devices, notifications, tables of puts, connected parts, queues, scan lists and tickets, each on its own.
 #![tactic(auto)]
 
 #[cfg(test)]
 mod callbacks;
-#[cfg(test)]
-mod completions;
 #[cfg(test)]
 mod devices;
 #[cfg(test)]

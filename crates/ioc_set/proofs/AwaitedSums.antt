@@ -20,7 +20,7 @@ use Rattle.ioc_store.specs.Scanning.{rewired}
 use Rattle.ioc_store.specs.ScanLaws.{rewired-either, moved-either}
 use Rattle.ioc_store.specs.Weights.{first, second, less, weight_of, total-insert}
 use Rattle.ioc_store.specs.Worlds.{sent_by, ones_few}
-use Rattle.ioc_awaiting.specs.Awaiting.{one_if_awaits, awaited}
+use Rattle.ioc_set.specs.Awaiting.{one_if_awaits, awaited}
 use Rattle.ioc_workplace.specs.Resting.{resting}
 use Rattle.ioc_set.specs.Linking.{NoneAwaits}
 use Rattle.ioc_set.proofs.Linked.{has_begun}

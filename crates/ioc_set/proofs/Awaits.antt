@@ -6,7 +6,7 @@ use Rattle.std.proofs.lemmas.List.{drop_all}
 use Rattle.ioc_record.specs.RecordRules.{RecordRules}
 use Rattle.ioc_members.specs.Contents.{Records, record_at}
 use Rattle.ioc_store.specs.World.{total}
-use Rattle.ioc_awaiting.specs.Awaiting.{one_if_awaits}
+use Rattle.ioc_set.specs.Awaiting.{one_if_awaits}
 use Rattle.ioc_workplace.proofs.Entries.{entry-next}
 
 module _ {R : Type 0} (k : RecordRules R) (m : Records R) where

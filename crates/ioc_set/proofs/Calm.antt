@@ -14,7 +14,7 @@ use Rattle.ioc_members.specs.Joined.{links_of, IsPart}
 use Rattle.ioc_store.specs.World.{World, Has, IsClosed, at, common_at}
 use Rattle.ioc_events.specs.StepRules.{at_the_end}
 use Rattle.ioc_events.specs.Holding.{IsCounted, IsHeld, by_a_record}
-use Rattle.ioc_awaiting.specs.Awaiting.{awaited}
+use Rattle.ioc_set.specs.Awaiting.{awaited}
 use Rattle.ioc_set.specs.Held.{Held, now_of}
 use Rattle.ioc_workplace.specs.Resting.{resting}
 use Rattle.ioc_set.specs.Linking.{anew, AreCalm}

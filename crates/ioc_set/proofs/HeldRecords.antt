@@ -24,7 +24,7 @@ use Rattle.ioc_store.specs.Worlds.{sent_by}
 use Rattle.ioc_events.specs.StepRules.{at_the_end}
 use Rattle.ioc_events.specs.Starting.{is_ready}
 use Rattle.ioc_events.specs.Holding.{IsCounted, IsHeld, by_a_record, in_a_waiting_list, HoldersCounted, holders, how_many, one_if_has}
-use Rattle.ioc_awaiting.specs.Awaiting.{awaited}
+use Rattle.ioc_set.specs.Awaiting.{awaited}
 use Rattle.ioc_set.specs.Held.{Held, NoneIsLive, now_of}
 use Rattle.ioc_workplace.specs.Resting.{resting}
 use Rattle.ioc_set.specs.Linking.{anew, AreHeld, MayBeOne}

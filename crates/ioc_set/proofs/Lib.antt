@@ -1,3 +1,7 @@
+mod AwaitingAlike
+mod AwaitingCounts
+mod AwaitingRequests
+mod AwaitingEvents
 mod Sounding
 mod NoneLive
 mod Beginning

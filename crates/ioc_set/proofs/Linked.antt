@@ -16,7 +16,7 @@ use Rattle.ioc_store.specs.World.{Has, Keeps, at, begun, begun_at}
 use Rattle.ioc_store.specs.Scanning.{rewired}
 use Rattle.ioc_events.specs.declared.event.Entry.{Entry}
 use Rattle.ioc_events.specs.Holding.{HoldersCounted}
-use Rattle.ioc_awaiting.specs.Awaiting.{awaited}
+use Rattle.ioc_set.specs.Awaiting.{awaited}
 use Rattle.ioc_workplace.specs.Puts.{Puts, AreNone, HasBegun, begun_with}
 use Rattle.ioc_workplace.specs.Recounting.{own_waiting, AreLive}
 use Rattle.ioc_set.specs.Held.{Held, now_of}

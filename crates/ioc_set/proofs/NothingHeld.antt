@@ -14,7 +14,7 @@ use Rattle.ioc_process.specs.Rules.{IsSettled}
 use Rattle.ioc_events.specs.declared.event.Entry.{Entry}
 use Rattle.ioc_events.specs.StepRules.{at_the_end}
 use Rattle.ioc_events.specs.Holding.{IsCounted, HoldersAwait, holders, one_if_has}
-use Rattle.ioc_awaiting.specs.Awaiting.{one_if_awaits, awaited}
+use Rattle.ioc_set.specs.Awaiting.{one_if_awaits, awaited}
 use Rattle.ioc_workplace.specs.Puts.{Puts, no_puts}
 use Rattle.ioc_set.specs.Held.{Held, nothing_held}
 use Rattle.ioc_workplace.specs.Resting.{resting}

@@ -22,7 +22,7 @@ use Rattle.ioc_events.specs.Step.{Stepped, stepped, tallied, completes, calls_si
 use Rattle.ioc_events.specs.StepRules.{Step, Replay, at_the_end, and_then}
 use Rattle.ioc_events.specs.Starting.{NoneReady, is_ready}
 use Rattle.ioc_events.specs.Holding.{IsCounted, HoldersAwait, holders}
-use Rattle.ioc_awaiting.specs.Awaiting.{awaited, one_if_completes}
+use Rattle.ioc_set.specs.Awaiting.{awaited, one_if_completes}
 use Rattle.ioc_set.specs.Held.{Held, now_of, before_of, done_by, counted_on, held_after, folded}
 use Rattle.ioc_workplace.specs.Resting.{resting}
 use Rattle.ioc_set.specs.Sound.{IsSound, TellsOf}

@@ -1,3 +1,4 @@
+pub mod Awaiting
 pub mod Held
 pub mod Sound
 pub mod Doing

@@ -13,7 +13,7 @@ use Rattle.ioc_events.specs.Step.{is_link_change}
 use Rattle.ioc_events.specs.StepRules.{Replay}
 use Rattle.ioc_events.specs.Starting.{NoneReady}
 use Rattle.ioc_events.specs.Holding.{IsCounted, HoldersAwait}
-use Rattle.ioc_awaiting.specs.Awaiting.{awaited}
+use Rattle.ioc_set.specs.Awaiting.{awaited}
 use Rattle.ioc_set.specs.Held.{Held, now_of, before_of, done_by, counted_on}
 
 -- the requests begun are those processed, disabled, active or put down for reprocessing; and the answers that were to come later are those

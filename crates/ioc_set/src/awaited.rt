@@ -1,6 +1,6 @@
 //! The completions that the records of a set await.
 ghost use Rattle.std.specs.Prelude.{◌≡◌};
-ghost use Rattle.ioc_awaiting.specs.Awaiting.{awaited};
+ghost use Rattle.ioc_set.specs.Awaiting.{awaited};
 ghost use Rattle.ioc_set.specs.Linking.{less_awaited, awaited_alone};
 
 use ioc_ledger::Tally;

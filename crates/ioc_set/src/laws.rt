@@ -23,7 +23,7 @@ ghost use Rattle.ioc_events.specs.StepRules.{Replay, Step};
 ghost use Rattle.ioc_members.specs.Contents.{Records, Devices};
 ghost use Rattle.ioc_members.specs.Joined.{links_of, IsPart, HasLink};
 ghost use Rattle.ioc_events.specs.declared.event.Entry.{Entry};
-ghost use Rattle.ioc_awaiting.specs.Awaiting.{awaited};
+ghost use Rattle.ioc_set.specs.Awaiting.{awaited};
 ghost use Rattle.ioc_set.specs.Held.{Held, NoneIsLive, now_of, folded, held_after};
 ghost use Rattle.ioc_set.specs.Doing.{is_ordinary, Does};
 ghost use Rattle.ioc_set.specs.Linking.{anew, AreCalm, AreHeld, MayBeOne};
@@ -31,7 +31,7 @@ ghost use Rattle.ioc_workplace.specs.Recounting.{AreLive};
 ghost use Rattle.ioc_set.specs.Sound.{CountsAddUp, IsSound, TellsOf};
 ghost use Rattle.ioc_workplace.specs.Puts.{is_put_with_notification};
 
-use ioc_awaiting::laws::events_count_awaited;
+use crate::awaiting_laws::events_count_awaited;
 use ioc_device::Device;
 use ioc_events::event_rules::{events_keep_links, events_leave_settled, rules_are_steps};
 use ioc_events::notification_rules::{

@@ -2,6 +2,7 @@
 #![tactic(auto)]
 
 mod awaited;
+pub mod awaiting_laws;
 mod events;
 pub mod kept;
 pub mod laws;

@@ -13,7 +13,7 @@ use crate::holding::hold_all;
 use ioc_dealing::laws::dealt_sets_are_parts;
 use ioc_dealing::{Loaded, deal, parts_of};
 use ioc_engine::{Engine, OnceTickets};
-use ioc_held::AllPuts;
+use ioc_engine::AllPuts;
 use ioc_holding::laws::lists_leave_sound;
 use ioc_journal::{Base, Book, Journal, Limits};
 use ioc_line::{Cell, Token, pass};

@@ -2,7 +2,7 @@ use Rattle.std.proofs.Common.{◌∙◌, subst, length, ◌<◌, arith}
 use Rattle.std.proofs.Math.Seq.{map-set_same}
 use Rattle.ioc_line.specs.declared.entry.Note.{Note}
 use Rattle.ioc_journal.specs.Places.{PlacesOf}
-use Rattle.ioc_held.specs.Holding.{HeldView}
+use Rattle.ioc_lent.specs.Holding.{HeldView}
 use Rattle.ioc_engine.specs.Ended.{IsAsTold}
 use Rattle.ioc_engine.proofs.Ending.{one_more}
 use Rattle.ioc_engine.proofs.report.tell_all.Goals as goal

@@ -4,7 +4,7 @@ use Rattle.crossbeam_utils.specs.Seq.{cell_view}
 use Rattle.ioc_line.specs.declared.room.View.{View}
 use Rattle.ioc_put_table.specs.Counts.{holders_in}
 use Rattle.ioc_set.specs.Held.{Held}
-use Rattle.ioc_cancelling.specs.Laws.{GivesUp}
+use Rattle.ioc_lent.specs.GiveUpLaws.{GivesUp}
 use Rattle.ioc_held.specs.Puts.{PutsView}
 use Rattle.ioc_lent.specs.GivingUp.{HeldGaveUp, sets_of}
 use Rattle.ioc_lent.proofs.GivingUp.{set_at, sets_long, line_has, line_other}

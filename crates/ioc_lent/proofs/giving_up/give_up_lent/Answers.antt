@@ -1,6 +1,6 @@
 use Rattle.std.proofs.Common.{◌≡◌, sym, ◌∙◌}
 use Rattle.crossbeam_utils.specs.Seq.{cell_view}
-use Rattle.ioc_together.specs.Sets.{AreItsSets}
+use Rattle.ioc_lent.specs.Sets.{AreItsSets}
 use Rattle.ioc_lent.proofs.GivingUp.{held_by, lent_then, gave_all, missing_all, refused_all}
 use Rattle.ioc_lent.proofs.giving_up.give_up_lent.Goals as goal
 

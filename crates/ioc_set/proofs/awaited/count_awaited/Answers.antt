@@ -4,7 +4,7 @@ use Rattle.ioc_common.specs.declared.common.Common.{Common}
 use Rattle.ioc_record.specs.RecordRules.{RecordRules}
 use Rattle.ioc_members.specs.Contents.{Records}
 use Rattle.ioc_store.specs.World.{total}
-use Rattle.ioc_awaiting.specs.Awaiting.{one_if_awaits, awaited}
+use Rattle.ioc_set.specs.Awaiting.{one_if_awaits, awaited}
 use Rattle.ioc_workplace.proofs.Entries.{key_there, none-past}
 use Rattle.ioc_set.proofs.Awaits.{awaits-at, awaits-past}
 use Rattle.ioc_set.proofs.awaited.count_awaited.Goals as goal

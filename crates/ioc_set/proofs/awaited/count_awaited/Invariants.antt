@@ -1,7 +1,7 @@
 use Rattle.std.proofs.Common.{◌≡◌, ◌+◌, ◌≤◌, drop}
 use Rattle.std.specs.FinMap.{entries}
 use Rattle.ioc_store.specs.World.{total}
-use Rattle.ioc_awaiting.specs.Awaiting.{one_if_awaits}
+use Rattle.ioc_set.specs.Awaiting.{one_if_awaits}
 use Rattle.ioc_set.proofs.awaited.count_awaited.Given as goal
 
 -- those so far are counted

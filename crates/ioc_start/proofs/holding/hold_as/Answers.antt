@@ -8,7 +8,7 @@ use Rattle.ioc_holding.specs.Held.{Cover}
 use Rattle.ioc_journal.specs.Account.{IsHolder, AreRecords}
 use Rattle.ioc_set.specs.Held.{Held, now_of}
 use Rattle.ioc_workplace.specs.Resting.{resting}
-use Rattle.ioc_held.specs.Holding.{IsOwner}
+use Rattle.ioc_engine.specs.Holding.{IsOwner}
 use Rattle.ioc_start.proofs.Keys.{contains_record, there_key}
 use Rattle.ioc_start.proofs.holding.hold_as.Goals as goal
 

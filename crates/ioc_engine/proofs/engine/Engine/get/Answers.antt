@@ -2,7 +2,7 @@ use Rattle.std.proofs.lemmas.Result.{err_from_is_err_and}
 use Rattle.std.proofs.Common.{sym, ◌∙◌, subst, IsTrue, Contains, rules}
 use Rattle.ioc_events.specs.declared.event.Event.TheVariants.{Get}
 use Rattle.ioc_journal.specs.Account.{DeskView}
-use Rattle.ioc_held.specs.Holding.{HeldView, numbers_of, IsSoundlyHeld, Tells}
+use Rattle.ioc_lent.specs.Holding.{HeldView, numbers_of, IsSoundlyHeld, Tells}
 use Rattle.ioc_engine.proofs.Refusals.{refused_by_set}
 use Rattle.ioc_engine.proofs.engine.Engine.get.Goals as goal
 

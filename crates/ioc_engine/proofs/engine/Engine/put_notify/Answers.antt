@@ -3,7 +3,7 @@ use Rattle.std.proofs.Common.{sym, ◌∙◌, subst, inl, inr, ⊎_elim, IsTrue,
 use Rattle.ioc_events.specs.declared.event.Event.TheVariants.{Put, Notify}
 use Rattle.ioc_workplace.specs.SetStore.{world_of}
 use Rattle.ioc_journal.specs.Account.{DeskView}
-use Rattle.ioc_held.specs.Holding.{HeldView, numbers_of, IsSoundlyHeld, Serves}
+use Rattle.ioc_lent.specs.Holding.{HeldView, numbers_of, IsSoundlyHeld, Serves}
 use Rattle.ioc_engine.proofs.Refusals.{refused_by_set}
 use Rattle.ioc_engine.proofs.engine.Engine.put_notify.Goals as goal
 

@@ -4,7 +4,7 @@ use Rattle.ioc_common.specs.declared.link_field.LinkField.{LinkField}
 use Rattle.ioc_workplace.specs.SetStore.{world_of}
 use Rattle.ioc_journal.specs.Account.{DeskView}
 use Rattle.ioc_topology.specs.Change.{AreLent}
-use Rattle.ioc_held.specs.Holding.{numbers_of}
+use Rattle.ioc_lent.specs.Holding.{numbers_of}
 use Rattle.ioc_lent.specs.Changing.{Relinks}
 use Rattle.ioc_engine.specs.Linked.{other_of}
 use Rattle.ioc_engine.proofs.engine.Engine.set_link.Goals as goal

@@ -5,7 +5,7 @@ use Rattle.std.specs.FinMap.{keys}
 use Rattle.ioc_line.specs.declared.entry.Note.{Note}
 use Rattle.ioc_topology.specs.Gathered.{HoldEach}
 use Rattle.ioc_set.specs.Held.{Held}
-use Rattle.ioc_held.specs.Holding.{HeldView, numbers_of, IsSoundlyHeld}
+use Rattle.ioc_lent.specs.Holding.{HeldView, numbers_of, IsSoundlyHeld}
 use Rattle.ioc_journal.specs.Account.{IsAccount}
 use Rattle.ioc_journal.specs.Places.{PlacesOf}
 use Rattle.ioc_engine.specs.Ended.{IsAsTold, IsEnd}

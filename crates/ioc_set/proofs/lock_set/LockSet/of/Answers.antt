@@ -1,7 +1,7 @@
 use Rattle.std.proofs.Common.{refl}
 use Rattle.ioc_set.proofs.Anew.{were_none}
 use Rattle.ioc_set.proofs.Linked.{calm_holds}
-use Rattle.ioc_awaiting.specs.Awaiting.{awaited}
+use Rattle.ioc_set.specs.Awaiting.{awaited}
 use Rattle.ioc_set.proofs.AwaitedSums.{awaited-none}
 use Rattle.ioc_set.proofs.Counts.{none_add_up}
 use Rattle.ioc_set.proofs.lock_set.LockSet.of.Goals as goal

@@ -3,7 +3,7 @@ use Rattle.std.specs.Prelude.{IsSome, is_some}
 use Rattle.std.specs.FinMap.{get}
 use Rattle.ioc_members.specs.Contents.{Records, Contents}
 use Rattle.ioc_ledger.specs.declared.tally.Tally.{Tally}
-use Rattle.ioc_awaiting.specs.Awaiting.{awaited}
+use Rattle.ioc_set.specs.Awaiting.{awaited}
 use Rattle.ioc_set.specs.Held.{Held}
 use Rattle.ioc_set.specs.Linking.{added, less_awaited, awaited_alone}
 use Rattle.ioc_set.specs.Sound.{CountsAddUp}

@@ -9,7 +9,7 @@ use Rattle.ioc_set.specs.Held.{Held}
 use Rattle.ioc_workplace.specs.Puts.{Puts}
 use Rattle.ioc_set.specs.Sound.{CountsAddUp}
 use Rattle.ioc_set.specs.Doing.{held_by}
-use Rattle.ioc_awaiting.specs.Awaiting.{awaited}
+use Rattle.ioc_set.specs.Awaiting.{awaited}
 use Rattle.ioc_set.proofs.Anew.{were_none}
 use Rattle.ioc_set.proofs.AwaitedSums.{awaited-joined}
 use Rattle.ioc_set.proofs.Joining.{joined_live, joined_once, joined_held}

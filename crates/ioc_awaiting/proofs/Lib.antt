@@ -1,4 +1,0 @@
-pub mod Alike
-pub mod Counting
-pub mod Requests
-pub mod Events

@@ -1,4 +1,0 @@
-mod Summing
-mod Among
-mod Cancelling
-mod Giving

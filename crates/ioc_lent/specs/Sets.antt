@@ -1,0 +1,66 @@
+-- Several held sets that give a put with notification up in one call.
+-- Application Developer's Guide, "Put with Notification" (dbNotifyCancel).
+use Rattle.std.specs.Prelude.{◌≡◌, ◌≢◌, ℕ, ◌<◌, true, List, [], length, slice_index_or}
+use Rattle.atomic_table.specs.Seated.{TableId}
+use Rattle.ioc_notify.specs.Living.{holders_of, is_live}
+use Rattle.ioc_record.specs.RecordRules.{RecordRules}
+use Rattle.ioc_store.specs.World.{World}
+use Rattle.ioc_events.specs.declared.event.Event.TheVariants.{Cancel}
+use Rattle.ioc_events.specs.declared.event.Entry.{Entry}
+use Rattle.ioc_events.specs.declared.reply.Reply.TheVariants.{Plain}
+use Rattle.ioc_line.specs.declared.entry.Note.{Note}
+use Rattle.ioc_line.specs.declared.room.View.{View}
+use Rattle.ioc_line.specs.Line.{holder}
+use Rattle.ioc_holding.specs.Legal.{map_of}
+use Rattle.ioc_holding.specs.Held.{Holds, Cover}
+use Rattle.ioc_journal.specs.Account.{DeskView, Call, puts_key}
+use Rattle.ioc_set.specs.Held.{Held, now_of}
+use Rattle.ioc_lent.specs.GiveUpLaws.{GivesUp, holders_in_all}
+use Rattle.ioc_lent.specs.Passes.{Slot, view_in, IsPassIn, IsDealt}
+
+-- what the journal keeps of a cancel that is done
+abbrev pub cancel_entry : (moment number : ℕ) → Entry
+cancel_entry moment number = record { moment = moment; event = Cancel number; answers = []; reply = Plain }
+
+module _ {R D : Type 0} where
+  -- it is live on each of these sets
+  abbrev pub IsLiveOnEach : ℕ → List (Held R D) → Type 0
+  IsLiveOnEach number sets = (i : ℕ) (d : Held R D) → i < length sets → is_live number (slice_index_or sets i d).live ≡ true
+
+  -- so many have it in these sets together, and it is live on each of them
+  pub record AreItsSets (number total : ℕ) (sets : List (Held R D)) : Type 0 where
+    pub all : holders_in_all number sets ≡ total
+    pub live : IsLiveOnEach number sets
+
+module _ {R D : Type 0} (k : RecordRules R) where
+  -- each of these sets has given it up
+  abbrev pub EachGivesUp : ℕ → List (Held R D) → List (Held R D) → Type 0
+  EachGivesUp number before after = (i : ℕ) (d : Held R D) → i < length before → GivesUp k number (slice_index_or before i d) (slice_index_or after i d)
+
+  module _ (base : World R) where
+    -- who has this pass holds the records of the set
+    pub record IsHeldBy (table : TableId) (h : Held R D) (p : Slot) : Type 0 where
+      pub pass : IsPassIn table p
+      pub covers : Cover (view_in p).owns (now_of h)
+      pub holds : Holds k (map_of k base (view_in p).seen) (now_of h)
+
+    -- each of these sets is held by the pass beside it
+    abbrev pub EachIsHeldBy : TableId → List (Held R D) → List Slot → Type 0
+    EachIsHeldBy table sets passes = (i : ℕ) (d : Held R D) (e : Slot) → i < length sets → IsHeldBy table (slice_index_or sets i d) (slice_index_or passes i e)
+
+    -- as many have it in these sets as in the world of all after these notes, and somebody has it
+    pub record HaveAll (number : ℕ) (seen : List Note) (sets : List (Held R D)) : Type 0 where
+      pub all : holders_in_all number sets ≡ holders_of number (map_of k base seen).live
+      pub some : holders_of number (map_of k base seen).live ≢ 0
+      pub live : IsLiveOnEach number sets
+
+    -- each of these sets has given it up in one call of a desk, and is held by the pass beside it, which owns the keys of its records. Nobody has it
+    -- any more, and as many as before have each other; so the keeper of the puts with notification knows, who has its key alone
+    pub record GaveUp (table : TableId) (moment number : ℕ) (desk : DeskView) (before : List (Held R D)) (kept : View) (desk_then : DeskView) (after : List (Held R D)) (passes : List Slot) (kept_then : View) : Type 0 where
+      pub gives_up : EachGivesUp number before after
+      pub call : Call k base desk (cancel_entry moment number) desk_then
+      pub dealt : (i : ℕ) (d : Held R D) (e : Slot) → i < length after → IsDealt table desk_then.seen (slice_index_or after i d) (slice_index_or passes i e)
+      pub holds : (i : ℕ) (d : Held R D) → i < length after → Holds k (map_of k base desk_then.seen) (now_of (slice_index_or after i d))
+      pub keeps : kept_then ≡ holder desk_then.seen puts_key
+      pub nobody : holders_of number (map_of k base desk_then.seen).live ≡ 0
+      pub others : (other : ℕ) → other ≢ number → holders_of other (map_of k base desk_then.seen).live ≡ holders_of other (map_of k base kept.seen).live

@@ -1,0 +1,42 @@
+//! How many have a put with notification in several sets together.
+ghost use Rattle.std.specs.Prelude.{◌≡◌, ◌≤◌, ◌^◌, ◌↔◌, IsTrue, IfNone};
+ghost use Rattle.std.specs.Option.{IfSome};
+ghost use Rattle.ioc_notify.specs.Living.{is_live};
+ghost use Rattle.ioc_lent.specs.GiveUpLaws.{holders_in_all};
+ghost use Rattle.ioc_lent.specs.Sets.{IsLiveOnEach};
+
+use ioc_notify::NotifyId;
+use ioc_put_table::holders_by;
+use ioc_record::RecordKind;
+use ioc_set::LockSet;
+
+/// How many have a put with notification in these sets together; none where a number of 64 bits can't tell.
+pub fn total_in<K: RecordKind, D>(sets: &[LockSet<K, D>], number: NotifyId) -> Option<u64>
+    ensures total { IfSome result (λ total. total ≡ holders_in_all number sets.now) }
+    ensures too_many { IfNone result (2 ^ 64 ≤ holders_in_all number sets.now) }
+{
+    let mut total: u64 = 0;
+    for set in sets {
+        total = total.checked_add(holders_by(set.live_puts(), number))?;
+    }
+    Some(total)
+}
+
+// Is a put with notification live on a set?
+fn is_live_on<K: RecordKind, D>(set: &LockSet<K, D>, number: NotifyId) -> bool
+    ensures { result ≡ is_live number set.now.live }
+{
+    set.live_puts().iter().any(|line| line.number == number)
+}
+
+/// Is a put with notification live on each of these sets?
+pub fn all_live<K: RecordKind, D>(sets: &[LockSet<K, D>], number: NotifyId) -> bool
+    ensures { IsTrue result ↔ IsLiveOnEach number sets.now }
+{
+    for set in sets {
+        if !is_live_on(set, number) {
+            return false;
+        }
+    }
+    true
+}

@@ -1,0 +1,82 @@
+//! Keys that one pass took over are dealt out again.
+ghost use Rattle.std.specs.Prelude.{◌≡◌, ◌<◌, ◌++◌, ℕ, [], length, slice_index_or};
+ghost use Rattle.std.specs.List.{AllPairs};
+ghost use Rattle.crossbeam_utils.specs.Seq.{cell_view};
+ghost use Rattle.ioc_line.specs.Key.{Key, Has};
+ghost use Rattle.ioc_line.specs.Line.{holder};
+ghost use Rattle.ioc_holding.specs.Legal.{notifications_key};
+ghost use Rattle.ioc_holding.specs.Held.{Cover};
+ghost use Rattle.ioc_journal.specs.Account.{IsHolder, puts_key};
+ghost use Rattle.ioc_set.specs.Held.{Held, now_of};
+ghost use Rattle.ioc_lent.specs.GiveUpLaws.{ShareNone};
+ghost use Rattle.ioc_lent.specs.Passes.{Slot, keys_of, other_keys, IsDealt};
+
+use ioc_line::{Cell, Keys, Token, pass};
+use ioc_record::RecordKind;
+use ioc_set::LockSet;
+use std::marker::Brand;
+
+// A pass gives some of its keys away, and keeps others.
+fn give<P: Keys>(cell: &Cell, keeper: &mut Token) -> Token
+    requires table { keeper.old.table_id ≡ cell.now.table.shared.table_id }
+    requires holder { IsHolder (cell_view keeper.old) }
+    requires within { (key : Key) → Has key (P.keys ++ P.rest) → Has key (cell_view keeper.old).owns }
+    requires apart { (key : Key) → Has key P.keys → Has key P.rest → ⊥ }
+    ensures kept { (keeper.new.table_id ≡ keeper.old.table_id) × (cell_view keeper.new ≡ holder (cell_view keeper.old).seen P.rest) }
+    ensures given { (result.table_id ≡ keeper.old.table_id) × (cell_view result ≡ holder (cell_view keeper.old).seen P.keys) }
+{
+    pass::part::<P>(cell, keeper)
+}
+
+// The keys of a set's records are given away.
+fn give_records<P: Keys, K: RecordKind, D>(
+    cell: &Cell,
+    keeper: &mut Token,
+    set: &LockSet<K, D>,
+) -> Token
+    requires table { keeper.old.table_id ≡ cell.now.table.shared.table_id }
+    requires holder { IsHolder (cell_view keeper.old) }
+    requires covers { Cover (cell_view keeper.old).owns (now_of set.now) }
+    requires keys { (P.keys ≡ keys_of set.now) × (P.rest ≡ other_keys set.now (cell_view keeper.old).owns) }
+    ensures kept { (keeper.new.table_id ≡ keeper.old.table_id) × (cell_view keeper.new ≡ holder (cell_view keeper.old).seen P.rest) }
+    ensures given { (result.table_id ≡ keeper.old.table_id) × (cell_view result ≡ holder (cell_view keeper.old).seen P.keys) }
+{
+    let _ = set;
+    give::<P>(cell, keeper)
+}
+
+// All keys but that of the puts with notification are given up.
+fn keep_puts<P: Keys>(cell: &Cell, keeper: &mut Token)
+    requires table { keeper.old.table_id ≡ cell.now.table.shared.table_id }
+    requires holder { IsHolder (cell_view keeper.old) }
+    requires there { Has notifications_key (cell_view keeper.old).owns }
+    requires keys { (P.keys ≡ puts_key) × (P.rest ≡ []) }
+    ensures { (keeper.new.table_id ≡ keeper.old.table_id) × (cell_view keeper.new ≡ holder (cell_view keeper.old).seen puts_key) }
+{
+    let own = give::<P>(cell, keeper);
+    *keeper = own;
+}
+
+/// Each pass gets the keys of the records of the set beside it, from a keeper that owns all of them; the keeper is left with the key of the puts
+/// with notification.
+pub fn deal_all<K: RecordKind, D>(
+    cell: &Cell,
+    keeper: &mut Token,
+    sets: &[LockSet<K, D>],
+    passes: &mut [Option<Token>],
+)
+    requires table { keeper.old.table_id ≡ cell.now.table.shared.table_id }
+    requires holder { IsHolder (cell_view keeper.old) }
+    requires there { Has notifications_key (cell_view keeper.old).owns }
+    requires covers { (i : ℕ) (d : Held K D) → i < length sets.now → Cover (cell_view keeper.old).owns (now_of (slice_index_or sets.now i d)) }
+    requires apart { AllPairs ShareNone sets.now }
+    requires beside { length passes.old ≡ length sets.now }
+    ensures keeper { (keeper.new.table_id ≡ keeper.old.table_id) × (cell_view keeper.new ≡ holder (cell_view keeper.old).seen puts_key) }
+    ensures dealt { (i : ℕ) (d : Held K D) (e : Slot) → i < length sets.now → IsDealt keeper.old.table_id (cell_view keeper.old).seen (slice_index_or sets.now i d) (slice_index_or passes.new i e) }
+{
+    for i in 0..sets.len() {
+        let own = give_records::<Brand, K, D>(cell, keeper, &sets[i]);
+        passes[i] = Some(own);
+    }
+    keep_puts::<Brand>(cell, keeper);
+}

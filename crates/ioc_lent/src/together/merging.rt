@@ -1,0 +1,29 @@
+//! Passes whose keys go to one of them for a while.
+ghost use Rattle.std.specs.Prelude.{All};
+ghost use Rattle.crossbeam_utils.specs.Seq.{cell_view};
+ghost use Rattle.ioc_lent.specs.Passes.{IsPassOf, IsPassIn, AreTakenOver};
+
+use ioc_journal::{Base, Book};
+use ioc_line::Token;
+use ioc_record::RecordKind;
+use std::sync::Wait;
+
+/// The keeper takes over the keys of all these passes, which are spent.
+pub fn merge_all<K: RecordKind, B: Base<K>, R: Wait>(
+    rt: &R,
+    book: &Book<K, B>,
+    keeper: &mut Token,
+    passes: &mut [Option<Token>],
+)
+    requires keeper { IsPassOf B.table keeper.old }
+    requires passes { All (IsPassIn B.table) passes.old }
+    ensures keeper { IsPassOf B.table keeper.new }
+    ensures merged { AreTakenOver K.rules B.base (cell_view keeper.old) passes.old (cell_view keeper.new) }
+{
+    for i in 0..passes.len() {
+        let Some(mut pass) = passes[i].take() else {
+            unreachable!();
+        };
+        book.merge(rt, keeper, &mut pass);
+    }
+}

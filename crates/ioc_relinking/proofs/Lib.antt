@@ -1,3 +1,0 @@
-mod Parting
-mod Leading
-mod Together

@@ -1,8 +1,0 @@
-//! Calls that concern several held lock sets at once.
-#![tactic(auto)]
-
-pub mod cancelling;
-pub mod counting;
-pub mod dealing;
-pub mod giving_up;
-pub mod merging;
