@@ -9,9 +9,8 @@ ghost use Rattle.ioc_engine.specs.Cancelled.{WasCancelled, WasGivenUp, WasNotLiv
 use crate::engine::Engine;
 use ioc_device::Device;
 use ioc_events::Reply;
-use ioc_lent::Held;
 use ioc_journal::{Base, Desk, Receipt};
-use ioc_lent::cancel_on;
+use ioc_lent::{Held, cancel_on};
 use ioc_notify::NotifyId;
 use ioc_record::RecordKind;
 use ioc_topology::Locked;

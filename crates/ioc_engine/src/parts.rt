@@ -7,8 +7,8 @@ ghost use Rattle.ioc_values.specs.declared.error.IocError.TheVariants.{NoMemory,
 ghost use Rattle.ioc_engine.specs.Seen.{IsPartSeen};
 
 use crate::engine::Engine;
-use ioc_lent::Held;
 use ioc_journal::Base;
+use ioc_lent::Held;
 use ioc_names::RecordNo;
 use ioc_record::RecordKind;
 use ioc_topology::Locked;

@@ -7,9 +7,9 @@ ghost use Rattle.ioc_engine.specs.Once.{AreAllBack};
 
 use crate::cancelling::all_sound;
 use crate::engine::Engine;
-use ioc_lent::Held;
 use ioc_journal::{Base, Journal, Receipt};
 use ioc_ledger::Tally;
+use ioc_lent::Held;
 use ioc_line::{Cell, JournalEntry};
 use ioc_once::OnceList;
 use ioc_record::RecordKind;

@@ -19,6 +19,7 @@ ghost use Rattle.ioc_workplace.specs.SetStore.{world_of};
 ghost use Rattle.ioc_held.specs.LinkChanges.{link_change, keys_of, IsKnown, Refuses, Parts, Leads};
 
 use crate::held::Held;
+use crate::link_laws::{held_sets_may_be_one, led_sets_are_held, parted_sets_are_held};
 use ioc_common::{KeptLink, LinkField};
 use ioc_device::Device;
 use ioc_events::{Entry, Event, KeptAnswers, Reply};
@@ -28,7 +29,6 @@ use ioc_journal::{Base, Book, Desk, Place, Receipt};
 use ioc_line::{Keys, Token, pass};
 use ioc_names::RecordNo;
 use ioc_record::RecordKind;
-use crate::link_laws::{held_sets_may_be_one, led_sets_are_held, parted_sets_are_held};
 use ioc_set::LockSet;
 use ioc_values::IocError;
 use ioc_workplace::Workplace;

@@ -13,6 +13,7 @@ ghost use Rattle.ioc_lent.specs.Sets.{AreItsSets};
 ghost use Rattle.ioc_lent.specs.GivingUp.{EachIsLent, HaveNotAll, sets_of, AreSameSets, HeldGaveUp, GaveUpOn};
 ghost use Rattle.ioc_journal.specs.Account.{puts_key, Pass};
 
+use crate::together::giving_up::give_up_all;
 use ioc_device::Device;
 use ioc_events::Reply;
 use ioc_held::{AllPuts, Held};
@@ -22,7 +23,6 @@ use ioc_notify::{Live, NotifyId};
 use ioc_put_table::laws::lines_tell_holders;
 use ioc_record::RecordKind;
 use ioc_set::LockSet;
-use crate::together::giving_up::give_up_all;
 use ioc_topology::Locked;
 use ioc_values::IocError;
 use ioc_workplace::Workplace;

@@ -12,8 +12,7 @@ ghost use Rattle.ioc_start.specs.declared.starting.StartError.TheVariants.{BadVa
 use crate::holding::hold_all;
 use ioc_dealing::laws::dealt_sets_are_parts;
 use ioc_dealing::{Loaded, deal, parts_of};
-use ioc_engine::{Engine, OnceTickets};
-use ioc_engine::AllPuts;
+use ioc_engine::{AllPuts, Engine, OnceTickets};
 use ioc_holding::laws::lists_leave_sound;
 use ioc_journal::{Base, Book, Journal, Limits};
 use ioc_line::{Cell, Token, pass};

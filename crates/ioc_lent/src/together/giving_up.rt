@@ -11,11 +11,11 @@ ghost use Rattle.ioc_set.specs.Sound.{IsSound};
 ghost use Rattle.ioc_lent.specs.Sets.{AreItsSets, EachIsHeldBy, HaveAll, GaveUp};
 ghost use Rattle.ioc_journal.specs.Account.{puts_key};
 
+use crate::give_up_laws::cancelled_sets_are_held;
 use crate::together::cancelling::cancel_all;
 use crate::together::counting::{all_live, total_in};
 use crate::together::dealing::deal_all;
 use crate::together::merging::merge_all;
-use crate::give_up_laws::cancelled_sets_are_held;
 use ioc_device::Device;
 use ioc_events::{Entry, Event, KeptAnswers, Reply};
 use ioc_holding::laws::{holding_lasts, live_lasts};
