@@ -9,4 +9,5 @@ pub mod Parts
 pub mod Drive
 pub mod Source
 pub mod Raw
+pub mod Waits
 pub mod Wants

@@ -10,6 +10,7 @@ pub mod disabling;
 pub mod drive;
 pub mod kept;
 pub mod kept_link;
+pub mod laws;
 pub mod link_field;
 pub mod parts;
 pub mod raw;
@@ -23,6 +24,7 @@ pub use disabling::Disabling;
 pub use drive::Drive;
 pub use kept::{Fresh, Kept};
 pub use kept_link::KeptLink;
+pub use laws::numbers_are_awaited_once;
 pub use link_field::{FieldAddress, Lead, LinkField, LinkUse, StandingLink};
 pub use parts::{
     int64_in, ivoa_in, long_in, omsl_in, pini_in, priority_in, scan_in, severity_in, short_in,
