@@ -1,17 +1,4 @@
-pub mod Loop
-pub mod Loads
-pub mod Agreeing
-pub mod Local
-pub mod Fronts
-pub mod Lexed
-pub mod Spelled
-pub mod Reading
 pub mod Mapped
 pub mod OwnerLemmas
 pub mod Closing
 pub mod Idling
-pub mod Shrinking
-pub mod Saying
-pub mod OnLines
-pub mod ByHand
-mod Taking

@@ -15,10 +15,10 @@ use Rattle.ioc_common.specs.declared.link_field.Lead.TheVariants.{Nowhere, Field
 use Rattle.ioc_fields.specs.Table.{is_link}
 use Rattle.ioc_record.specs.RecordRules.{RecordRules}
 use Rattle.ioc_values.specs.declared.error.DbFault.{DbFault}
-use Rattle.ioc_dbfile.specs.Statements.{◌>>=◌}
+use Rattle.ioc_statements.specs.Statements.{◌>>=◌}
 use Rattle.ioc_dbfile.specs.Loader.{Loading, loading}
 use Rattle.ioc_dbtext.specs.Macros.{Defined}
-use Rattle.ioc_dbfile.specs.Loading.{filled_by}
+use Rattle.ioc_statements.specs.Loading.{filled_by}
 use Rattle.ioc_dbfile.specs.Owners.{owner_of, device_lead}
 
 -- a field that a link can lead to: one that is there and no link field itself

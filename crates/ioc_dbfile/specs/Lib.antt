@@ -1,6 +1,3 @@
-pub mod Rules
-pub mod Statements
-pub mod Loading
 pub mod Loader
 pub mod Idle
 pub mod Owners
@@ -8,5 +5,3 @@ pub mod OwnerTable
 pub mod Finished
 pub mod FirstWorld
 pub mod SeenDatabase
-pub mod Laws
-pub mod Spelling

@@ -4,13 +4,13 @@ ghost use Rattle.ioc_links.specs.Grammar.{is_record_name};
 ghost use Rattle.ioc_dbfile.specs.Loader.{same_type, kind_of_refusal, build_error};
 ghost use Rattle.ioc_names.specs.NameTable.{no_names};
 
-use crate::builder::{BuildError, Builder};
 use crate::database::Database;
 use crate::new_records::push_new;
 use ioc_fields::{FieldNo, RecordType, can_set, field};
 use ioc_links::is_record_name;
 use ioc_names::{Entered, Names, RecordNo};
 use ioc_record::{RecordKind, set_field};
+use ioc_statements::{BuildError, Builder};
 use ioc_types::Record;
 use ioc_values::{BadDbKind, IocError, Name};
 use std::alloc::{AllocError, Global};
@@ -47,7 +47,7 @@ impl Model for DatabaseBuilder {
 impl DatabaseBuilder {
     ghost use Rattle.ioc_types.specs.Record.{record_rules, new_record};
     ghost use Rattle.ioc_dbfile.specs.Loader.{add_more};
-    ghost use Rattle.ioc_dbfile.specs.Rules.{Builds};
+    ghost use Rattle.ioc_statements.specs.Rules.{Builds};
     ghost use Rattle.ioc_dbfile.specs.Finished.{all_finished};
     ghost use Rattle.ioc_dbfile.specs.SeenDatabase.{database_of};
 

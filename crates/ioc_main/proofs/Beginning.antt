@@ -12,7 +12,7 @@ use Rattle.ioc_main.specs.declared.fault.RunFault.TheVariants.{Memory}
 use Rattle.ioc_main.specs.Faults.{run_fault_of, fault_of}
 use Rattle.ioc_values.specs.declared.error.IocError.{IocError}
 use Rattle.ioc_values.specs.declared.error.IocError.TheVariants as refusal
-use Rattle.ioc_dbfile.specs.Statements.{Gives}
+use Rattle.ioc_statements.specs.Statements.{Gives}
 use Rattle.ioc_dbfile.specs.SeenDatabase.{database_of}
 use Rattle.ioc_script.specs.Script.{lines_of}
 use Rattle.ioc_machine.specs.Machine.{Machine, first_machine}

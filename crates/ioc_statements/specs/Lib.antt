@@ -1,0 +1,5 @@
+pub mod Rules
+pub mod Statements
+pub mod Loading
+pub mod Laws
+pub mod Spelling
