@@ -17,7 +17,8 @@ pub struct Slot<K, D> {
     pub device: Option<D>,
 }
 
-// The place of a record, by binary search.
+// The place of a record, by binary search. This isn't inlined, since few looks come to it.
+#[inline(never)]
 fn searched<K, D>(slots: &[Slot<K, D>], number: RecordNo) -> Option<usize>
     requires { AreAscending slots.now }
     ensures found { IfSome result (λ i. (i < length slots.now) × (slice_index (numbers_of slots.now) i ≡ number)) }
@@ -71,6 +72,7 @@ fn on_the_line<K, D>(slots: &[Slot<K, D>], number: RecordNo) -> usize {
 }
 
 /// The place of a record: where it is guessed to stand or would stand on a line, if it stands there, else by binary search.
+#[inline(always)]
 pub fn place_of<K, D>(slots: &[Slot<K, D>], guess: usize, number: RecordNo) -> Option<usize>
     requires { AreAscending slots.now }
     ensures found { IfSome result (λ i. (i < length slots.now) × (slice_index (numbers_of slots.now) i ≡ number)) }
