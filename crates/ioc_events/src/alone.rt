@@ -89,6 +89,7 @@ fn tell<S: Store>(
 }
 
 /// Requests a record.
+#[inline(always)]
 pub fn request<S: Store>(
     store: &mut S,
     frames: &mut Vec<Frame>,

@@ -71,6 +71,7 @@ fn is_done(told: &Told) -> bool
 
 // What comes after an event by itself: those that wait start where they can, unless it was refused, and the answers, from this call on,
 // that are to come later are counted.
+#[inline(always)]
 fn end_unless<S: Store>(
     store: &mut S,
     frames: &mut Vec<Frame>,
@@ -116,6 +117,7 @@ fn end_event<S: Store>(
 }
 
 // The same by what a request or a put came to.
+#[inline(always)]
 fn end_effect<S: Store>(
     store: &mut S,
     frames: &mut Vec<Frame>,
@@ -141,6 +143,7 @@ fn end_effect<S: Store>(
 /// # Errors
 ///
 /// [`IocError::NoRecord`] where there is no such record. Nothing is changed then.
+#[inline(always)]
 pub fn make_request<S: Store>(
     store: &mut S,
     frames: &mut Vec<Frame>,
@@ -168,6 +171,7 @@ pub fn make_request<S: Store>(
 /// # Errors
 ///
 /// The reply is a refusal, [`IocError::NoRecord`], where there is no such record.
+#[inline(always)]
 pub fn run_request<S: Store>(
     store: &mut S,
     frames: &mut Vec<Frame>,

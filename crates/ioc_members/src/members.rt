@@ -246,6 +246,7 @@ impl<K: RecordKind, D> Members<K, D> {
     }
 
     /// A record that is there.
+    #[inline(always)]
     pub fn record(&self, number: RecordNo) -> &K
         requires { IsTrue (map.contains_key self.now.records number) }
         ensures { result.now ≡ record_at K.rules self.now.records number }
@@ -268,6 +269,7 @@ impl<K: RecordKind, D> Members<K, D> {
     }
 
     /// A record that is there, to be changed. Its base stays.
+    #[inline(always)]
     pub fn record_mut(&mut self, number: RecordNo) -> &mut K
         requires { IsTrue (map.contains_key self.old.records number) }
         ensures* lends { sem 𝓛 (Lends (the_row K.row D.row) K.row self.entry result (λ r. record self.old { records = map.insert self.old.records number r })) }

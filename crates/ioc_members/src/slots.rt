@@ -70,7 +70,32 @@ fn on_the_line<K, D>(slots: &[Slot<K, D>], number: RecordNo) -> usize {
         / span
 }
 
-/// The place of a record: where it is guessed to stand or would stand on a line, if it stands there, else by binary search.
+// The place next to one, on the side on which the record stands.
+fn beside<K, D>(slots: &[Slot<K, D>], place: usize, number: RecordNo) -> usize {
+    match slots.get(place) {
+        Some(slot) if slot.number.index() < number.index() => place.saturating_add(1),
+        _ => place.saturating_sub(1),
+    }
+}
+
+// The place of a record: where it would stand on a line, if it stands there, else by binary search. This isn't inlined, since most looks find their
+// record before.
+#[inline(never)]
+fn looked_for<K, D>(slots: &[Slot<K, D>], number: RecordNo) -> Option<usize>
+    requires { AreAscending slots.now }
+    ensures found { IfSome result (λ i. (i < length slots.now) × (slice_index (numbers_of slots.now) i ≡ number)) }
+    ensures absent { IfNone result ((i : ℕ) → i < length slots.now → slice_index (numbers_of slots.now) i ≢ number) }
+{
+    let line = on_the_line(slots, number);
+    if stands_at(slots, line, number) {
+        return Some(line);
+    }
+    searched(slots, number)
+}
+
+/// The place of a record: where it is guessed to stand or next to that, as a record that links lead to mostly does, if it stands there; else where it
+/// would stand on a line, or by binary search.
+#[inline(always)]
 pub fn place_of<K, D>(slots: &[Slot<K, D>], guess: usize, number: RecordNo) -> Option<usize>
     requires { AreAscending slots.now }
     ensures found { IfSome result (λ i. (i < length slots.now) × (slice_index (numbers_of slots.now) i ≡ number)) }
@@ -79,11 +104,11 @@ pub fn place_of<K, D>(slots: &[Slot<K, D>], guess: usize, number: RecordNo) -> O
     if stands_at(slots, guess, number) {
         return Some(guess);
     }
-    let line = on_the_line(slots, number);
-    if stands_at(slots, line, number) {
-        return Some(line);
+    let next = beside(slots, guess, number);
+    if stands_at(slots, next, number) {
+        return Some(next);
     }
-    searched(slots, number)
+    looked_for(slots, number)
 }
 
 /// Is no record in both?

@@ -8,6 +8,7 @@ ghost use Rattle.ioc_events.specs.Told.{event_by, told_by};
 
 use crate::kept::Kept;
 use crate::laws::{events_leave_sound, held_records_are_sound};
+use crate::linking::begin_anew;
 use crate::lock_set::LockSet;
 use crate::running::run_on;
 use ioc_device::Device;
@@ -23,6 +24,7 @@ use ioc_workplace::{LivePuts, Workplace};
 use std::alloc::{AllocError, Global};
 
 // Makes a place in the history for one event more: a full history is forgotten.
+#[inline(always)]
 fn make_place<K: RecordKind, D>(
     members: &mut Members<K, D>,
     puts: &mut LivePuts,
@@ -40,16 +42,15 @@ fn make_place<K: RecordKind, D>(
 {
     history.reserve(1)?;
     if history.len() == 64 {
-        puts.begin_history();
-        members.fold();
-        *base_tally = *tally;
-        history.clear();
+        begin_anew(members, puts, tally, base_tally, history);
     }
     Ok(())
 }
 
 impl<K: RecordKind + Drop, D: Device> LockSet<K, D> {
-    // Does an event, and keeps it behind the history; where 64 stand there, these are forgotten first.
+    // Does an event, and keeps it behind the history; where 64 stand there, these are forgotten first. This is inlined, so that each call knows
+    // which kind of event it does.
+    #[inline(always)]
     fn do_event(
         &mut self,
         place: &mut Workplace<K, D>,

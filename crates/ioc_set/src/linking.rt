@@ -1,5 +1,5 @@
 //! The steps of a link change on the members of lock sets.
-ghost use Rattle.std.specs.Prelude.{◌≡◌, ◌≤◌, [], length, IsSome};
+ghost use Rattle.std.specs.Prelude.{◌≡◌, ◌≤◌, [], length, IsSome, vec_capacity};
 ghost use Rattle.std.specs.FinMap.{get};
 ghost use Rattle.ioc_members.specs.Contents.{RecordsAreLikeTheirBase};
 ghost use Rattle.ioc_store.specs.Scanning.{rewired};
@@ -22,7 +22,9 @@ use ioc_values::Short;
 use ioc_workplace::{LivePuts, Workplace};
 use std::mem;
 
-/// A set begins anew: its history is forgotten, so that each record is its own base, and the puts with notification are those before it.
+/// A set begins anew: its history is forgotten, so that each record is its own base, and the puts with notification are those before it. This isn't
+/// inlined, since it is done after 64 events.
+#[inline(never)]
 pub fn begin_anew<K: RecordKind, D>(
     members: &mut Members<K, D>,
     puts: &mut LivePuts,
@@ -36,6 +38,7 @@ pub fn begin_anew<K: RecordKind, D>(
     ensures puts { puts.new ≡ begun_with puts.old }
     ensures tally { base_tally.new ≡ tally.now }
     ensures history { history.new.items ≡ [] }
+    ensures room { vec_capacity history.new ≡ vec_capacity history.old }
 {
     members.fold();
     puts.begin_history();

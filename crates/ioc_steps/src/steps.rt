@@ -5,7 +5,8 @@ ghost use Rattle.ioc_common.specs.contracts.common.Common.{the_row as common_row
 ghost use Rattle.ioc_common.specs.Steps.{with_active, raised, inherited, blocked, unblocked, shown, waiting, disabled, with_put_mark, with_reprocess_mark, change_numbered, with_notification};
 ghost use Rattle.ioc_store.specs.Marks.{put_down, put_mark_passed, is_put_down, resumed, at_rest, with_disable_input, is_disabled};
 ghost use Rattle.ioc_store.specs.Rests.{rested, disable_came};
-ghost use Rattle.ioc_store.specs.World.{Has, at, common_at, changed, put};
+ghost use Rattle.ioc_store.specs.World.{Has, at, common_at, changed, put, sent};
+ghost use Rattle.ioc_store.specs.declared.outbox.OutboxItem.TheVariants.{Once};
 ghost use Rattle.std.specs.Prelude.{◌&&◌};
 ghost use Rattle.std.specs.Prelude.{IsTrue};
 ghost use Rattle.ioc_common.specs.Steps.{is_passive};
@@ -22,6 +23,7 @@ use ioc_record::RecordKind;
 use ioc_store::{OutboxItem, Store};
 use ioc_values::{Finished, Value};
 
+#[inline(always)]
 fn common_mut<S: Store>(store: &mut S, number: RecordNo) -> &mut Common
     requires { Has (S.world store.old) number }
     ensures* lends { sem 𝓛 (Lends S.row common_row store.entry result
@@ -32,6 +34,9 @@ fn common_mut<S: Store>(store: &mut S, number: RecordNo) -> &mut Common
     this.common_mut()
 }
 
+/// What records of all types share, of this one. It is inlined, as is lending it to be changed: a look is short where the record is the one
+/// that was lent last.
+#[inline(always)]
 pub fn common<S: Store>(store: &S, number: RecordNo) -> &Common
     requires { Has (S.world store.now) number }
     ensures { result.now ≡ common_at S.Record.rules (S.world store.now) number }
@@ -91,6 +96,7 @@ pub fn unblock<S: Store>(store: &mut S, number: RecordNo)
 }
 
 /// A record shows its alarms, with the moment of the event, and is active.
+#[inline(always)]
 pub fn show<S: Store>(store: &mut S, number: RecordNo)
     requires { Has (S.world store.old) number }
     ensures world { S.world store.new ≡ changed S.Record.rules (S.world store.old) number (shown (S.world store.old).moment) }
@@ -251,6 +257,7 @@ pub fn take_disable_input<S: Store>(store: &mut S, number: RecordNo, got: Got)
 }
 
 // A record is idle, and no put is under way any more.
+#[inline(always)]
 fn come_to_rest<S: Store>(store: &mut S, number: RecordNo)
     requires { Has (S.world store.old) number }
     ensures world { S.world store.new ≡ changed S.Record.rules (S.world store.old) number at_rest }
@@ -260,6 +267,15 @@ fn come_to_rest<S: Store>(store: &mut S, number: RecordNo)
     common.active = false;
     common.by_put = false;
     common.reprocess = false;
+}
+
+// A record is to be requested once more. This isn't inlined, since few are: what is sent takes much room.
+#[inline(never)]
+fn send_once<S: Store>(store: &mut S, number: RecordNo)
+    ensures world { S.world store.new ≡ sent (Once number) (S.world store.old) }
+    ensures given { S.given store.new ≡ S.given store.old }
+{
+    store.send(OutboxItem::Once(number));
 }
 
 /// A record is done; one that was put down for another processing is sent to be requested once more.
@@ -274,7 +290,7 @@ pub fn rest<S: Store>(store: &mut S, number: RecordNo)
     tell(store, number);
     come_to_rest(store, number);
     if once_more {
-        store.send(OutboxItem::Once(number));
+        send_once(store, number);
     }
 }
 

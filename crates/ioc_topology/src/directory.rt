@@ -13,8 +13,8 @@ use std::marker::Model;
 use std::sync::atomic::{AtomicU64, Ordering};
 use std::sync::{Arc, Mutex, RwLock, Wait};
 
-/// A set's lock.
-pub type Cell<S> = Arc<Mutex<S>, Global>;
+/// A set's lock. It lies in a box, so that little room is cleared where a cell is let go.
+pub type Cell<S> = Arc<Box<Mutex<S>>, Global>;
 
 // The home of a record whose set wasn't added yet: no cell has this key.
 const NOWHERE: u64 = u64::MAX;
@@ -83,7 +83,7 @@ impl<S: Locked> Directory<S> {
     {
         let cells = self.cells.get_mut();
         cells.reserve(1)?;
-        let mut cell = Arc::new(alloc, Mutex::new(set))?;
+        let mut cell = Arc::new(alloc, Box::new(alloc, Mutex::new(set))?)?;
         // Nobody else has this cell yet.
         let Some(mutex) = Arc::get_mut(&mut cell) else {
             return Err(AllocError);
@@ -93,15 +93,15 @@ impl<S: Locked> Directory<S> {
         Ok(())
     }
 
-    /// The cell at a key, if it hasn't been left since.
+    /// The cell at a key, if it hasn't been left since. The list is mostly free to be read: a call that can't wait is shorter.
     pub(crate) fn cell_at(
         &self,
         rt: &impl Wait,
         key: usize,
     ) -> Result<Option<Cell<S>>, AllocError> {
-        match self.cells.read(rt).get(key) {
-            Some(cell) => Ok(Some(Arc::try_clone(cell)?)),
-            None => Ok(None),
+        match self.cells.try_read() {
+            Some(cells) => listed_at(&cells, key),
+            None => listed_at(&self.cells.read(rt), key),
         }
     }
 
@@ -161,8 +161,10 @@ impl<S: Locked> Directory<S> {
         ensures refused { IfErr result (IsRefused self.now number) }
     {
         for _ in rt.forever() {
-            let cell = self.lock_of(rt, number)?;
-            let mut set = cell.lock(rt);
+            let Some(place) = self.place_of(rt, number)? else {
+                continue;
+            };
+            let mut set = place.cell.lock(rt);
             if set.has(number) {
                 set.is_sound();
                 let answer = work(&mut set);
@@ -171,6 +173,15 @@ impl<S: Locked> Directory<S> {
             }
         }
         unreachable!()
+    }
+}
+
+// The cell of a list at a key, if it hasn't been left since.
+#[inline(always)]
+fn listed_at<S>(cells: &Slab<Cell<S>>, key: usize) -> Result<Option<Cell<S>>, AllocError> {
+    match cells.get(key) {
+        Some(cell) => Ok(Some(Arc::try_clone(cell)?)),
+        None => Ok(None),
     }
 }
 

@@ -146,7 +146,7 @@ impl<S: Locked> Directory<S> {
 
     // A new cell with a set of no records.
     fn new_place(&self, rt: &impl Wait, alloc: Global) -> Result<Place<S>, AllocError> {
-        let cell = Arc::new(alloc, Mutex::new(S::empty(alloc)))?;
+        let cell = Arc::new(alloc, Box::new(alloc, Mutex::new(S::empty(alloc)))?)?;
         let listed = Arc::try_clone(&cell)?;
         let key = self.cells.write(rt).insert(listed)?;
         Ok(Place { key, cell })

@@ -144,6 +144,7 @@ impl LivePuts {
     /// # Errors
     ///
     /// [`AllocError`] where memory is wanting.
+    #[inline(always)]
     pub fn make_room_for(&mut self, event: &SetEvent, alloc: Global) -> Result<(), AllocError>
         ensures room { OnOk result (is_put_with_notification (event_by event.now) ≡ true → self.new.has_room ≡ true) }
         ensures live { self.new.live ≡ self.old.live }
@@ -152,11 +153,25 @@ impl LivePuts {
         ensures base_waiting { self.new.base_waiting ≡ self.old.base_waiting }
     {
         if self.kept.is_none() && is_put(event) {
-            self.base_live.reserve(256)?;
-            self.base_waiting.reserve(256)?;
-            let kept = Notifications::new(alloc)?;
-            self.kept = Some(kept);
+            self.take_room(alloc)?;
         }
+        Ok(())
+    }
+
+    // Takes room, where none was taken. This isn't inlined, since a set needs it once.
+    #[inline(never)]
+    fn take_room(&mut self, alloc: Global) -> Result<(), AllocError>
+        requires none { self.old.has_room ≡ false }
+        ensures room { OnOk result (self.new.has_room ≡ true) }
+        ensures live { self.new.live ≡ self.old.live }
+        ensures waiting { self.new.waiting ≡ self.old.waiting }
+        ensures base_live { self.new.base_live ≡ self.old.base_live }
+        ensures base_waiting { self.new.base_waiting ≡ self.old.base_waiting }
+    {
+        self.base_live.reserve(256)?;
+        self.base_waiting.reserve(256)?;
+        let kept = Notifications::new(alloc)?;
+        self.kept = Some(kept);
         Ok(())
     }
 

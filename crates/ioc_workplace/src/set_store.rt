@@ -91,10 +91,12 @@ impl<K: RecordKind + Drop, D: Device> Store for SetStore<K, D> {
         self.members.has(number)
     }
 
+    #[inline(always)]
     fn record(&self, number: RecordNo) -> &K {
         self.members.record(number)
     }
 
+    #[inline(always)]
     fn record_mut(&mut self, number: RecordNo) -> &mut K {
         self.members.record_mut(number)
     }

@@ -3,7 +3,7 @@ use Rattle.ioc_topology.proofs.taken.take_if.Goals as goal
 
 pub returns-then-test-clause-met : goal.returns-then-test-clause-met
 returns-then-test-clause-met g c = record {
-  shown = c.deref-3.result;
-  shows = c.deref-3.ensures ∙ sym (c.replace.ensures.value ∙ c.deref_mut.ensures.value);
+  shown = c.deref-4.result;
+  shows = c.deref-4.ensures ∙ sym (c.replace.ensures.value ∙ c.deref_mut.ensures.value);
   says = record { met = c.if-test.ensures };
 }
