@@ -1,5 +1,10 @@
 //! Sets of records, as link changes join and part them. Where memory is refused once, all must be as before, and what was
 //! refused is done once more: so these tests hold whichever allocation fails.
+ghost use Rattle.std.specs.Prelude.{◌≡◌, ◌∷◌, [], ℕ, None, IsTrue, IsSome, IfOk, Contains};
+ghost use Rattle.std.specs.FinMap as map;
+ghost use Rattle.ioc_common.specs.Links.{use_of, named_by};
+ghost use Rattle.ioc_members.specs.Joined.{links_of, IsPart, HasLink, HasFreeLink};
+
 use ioc_common::{FieldAddress, KeptLink, Lead, LinkField};
 use ioc_device::{Answer, Ask, Device};
 use ioc_fields::{CommonField, FieldNo, OwnField};
@@ -77,17 +82,17 @@ fn add(
     number: usize,
     target: Option<usize>,
 ) -> Result<bool, AllocError> {
-    let link = link_to(alloc, target)?;
+    let place = RecordNo::new(number);
+    if !set.is_below(place) {
+        return Ok(false);
+    }
     let mut item = Record::new(Name::cut(b"any"), Longin::new());
-    item.set_link(LINK, link);
+    item.set_link(LINK, link_to(alloc, target)?);
     let base = item.copy(alloc)?;
     let sensor = Sensor {
         number: u16_of(number),
     };
-    if !set.is_below(RecordNo::new(number)) {
-        return Ok(false);
-    }
-    set.add(RecordNo::new(number), item, base, Some(sensor))?;
+    set.add(place, item, base, Some(sensor))?;
     Ok(true)
 }
 
@@ -108,36 +113,28 @@ fn alone(alloc: Global) -> Result<Set, AllocError> {
     Ok(set)
 }
 
-// Is this the record's link, and does its device answer?
-fn is_kept<K: RecordKind, D: Device>(
-    set: &mut Members<K, D>,
-    number: RecordNo,
-    target: Option<usize>,
-) -> bool {
-    if !set.has(number) {
-        return false;
-    }
-    let leads = match set.record(number).link(LINK) {
+// Does the link of a record lead there?
+fn leads<K: RecordKind>(item: &K, target: Option<usize>) -> bool {
+    match item.link(LINK) {
         Some(link) => link.record_named() == target.map(RecordNo::new),
         None => false,
-    };
-    let given = set.device_gives(number, &Ask::Read, 0);
-    leads && given == Answer::Done(Value::UShort(u16_of(number.index())))
+    }
 }
 
-// Does the link of the record's base lead there?
-fn base_leads<K: RecordKind, D: Device>(
+// Do the links of the record and of its base lead there?
+fn both_lead<K: RecordKind, D: Device>(
     set: &Members<K, D>,
     number: RecordNo,
     target: Option<usize>,
+    base_target: Option<usize>,
 ) -> bool {
-    if !set.has(number) {
-        return false;
-    }
-    match set.base(number).link(LINK) {
-        Some(link) => link.record_named() == target.map(RecordNo::new),
-        None => false,
-    }
+    set.has(number) && leads(set.record(number), target) && leads(set.base(number), base_target)
+}
+
+// Does the record's device answer?
+fn answers<K: RecordKind, D: Device>(set: &mut Members<K, D>, number: RecordNo) -> bool {
+    let given = set.device_gives(number, &Ask::Read, 0);
+    given == Answer::Done(Value::UShort(u16_of(number.index())))
 }
 
 // Are these the records, with these links, also in their bases, and has each its device?
@@ -154,14 +151,33 @@ fn holds<K: RecordKind, D: Device>(
     }
     for (place, item) in wanted.iter().enumerate() {
         let number = RecordNo::new(item.0);
-        if set.number_at(place) != Some(number) || !is_kept(set, number, item.1) {
+        if set.number_at(place) != Some(number) || !both_lead(set, number, item.1, item.1) {
             return false;
         }
-        if !base_leads(set, number, item.1) {
+        if !answers(set, number) {
             return false;
         }
     }
     true
+}
+
+// May the link of a record be set, and the set parted then?
+fn may_part<K: RecordKind, D: Device>(
+    alloc: Global,
+    set: &Members<K, D>,
+    number: RecordNo,
+    field: FieldNo,
+    link: &KeptLink,
+) -> Result<bool, AllocError>
+    ensures folded { IfOk result (λ may. IsTrue may → set.now.base ≡ set.now.records) }
+    ensures one_part { IfOk result (λ may. IsTrue may → IsPart (links_of K.rules set.now.records)) }
+    ensures field { IfOk result (λ may. IsTrue may → HasLink K.rules set.now.records number field) }
+    ensures within { IfOk result (λ may. IsTrue may → (t : ℕ) → Contains (named_by (use_of link.now)) t → IsSome (map.get set.now.records t)) }
+{
+    if !set.is_folded() || !set.has_link(number, field) || !set.leads_within(link) {
+        return Ok(false);
+    }
+    set.is_part(alloc)
 }
 
 // Sets a link and parts the set; none where that may not be asked.
@@ -171,19 +187,39 @@ fn part<K: RecordKind + Drop, D: Device>(
     number: usize,
     target: Option<usize>,
 ) -> Result<Option<Members<K, D>>, AllocError> {
+    let number = RecordNo::new(number);
     let link = link_to(alloc, target)?;
-    let twin = KeptLink::new(alloc, link.get())?;
-    if !set.is_folded() || !set.is_part(alloc)? {
+    let twin = link.copy(alloc)?;
+    if !may_part(alloc, set, number, LINK, &link)? {
         return Ok(None);
     }
-    if !set.has_link(RecordNo::new(number), LINK) {
-        return Ok(None);
-    }
-    if !set.leads_within(&link) {
-        return Ok(None);
-    }
-    let rest = set.part(alloc, RecordNo::new(number), LINK, link, twin)?;
+    let rest = set.part(alloc, number, LINK, link, twin)?;
     Ok(Some(rest))
+}
+
+// May two sets be joined by the link of a record of the first?
+fn may_join<K: RecordKind, D: Device>(
+    alloc: Global,
+    set: &Members<K, D>,
+    other: &Members<K, D>,
+    number: RecordNo,
+    field: FieldNo,
+    link: &KeptLink,
+) -> Result<bool, AllocError>
+    ensures folded { IfOk result (λ may. IsTrue may → (set.now.base ≡ set.now.records) × (other.now.base ≡ other.now.records)) }
+    ensures apart { IfOk result (λ may. IsTrue may → (q : ℕ) → IsSome (map.get set.now.records q) → map.get other.now.records q ≡ None) }
+    ensures one_part { IfOk result (λ may. IsTrue may → IsPart (links_of K.rules set.now.records)) }
+    ensures other_part { IfOk result (λ may. IsTrue may → IsPart (links_of K.rules other.now.records)) }
+    ensures free { IfOk result (λ may. IsTrue may → HasFreeLink K.rules set.now.records number field) }
+    ensures to { IfOk result (λ may. IsTrue may → (t : ℕ) × (named_by (use_of link.now) ≡ t ∷ []) × IsSome (map.get other.now.records t)) }
+{
+    if !set.is_folded() || !other.is_folded() || !set.is_apart(other) {
+        return Ok(false);
+    }
+    if !set.has_free_link(number, field) || !other.leads_into(link) || !set.is_part(alloc)? {
+        return Ok(false);
+    }
+    other.is_part(alloc)
 }
 
 // Joins two sets by a link; false where that may not be asked.
@@ -194,24 +230,13 @@ fn join<K: RecordKind, D: Device>(
     number: usize,
     target: usize,
 ) -> Result<bool, AllocError> {
+    let number = RecordNo::new(number);
     let link = link_to(alloc, Some(target))?;
-    let twin = KeptLink::new(alloc, link.get())?;
-    if !set.is_folded() || !other.is_folded() || !set.is_apart(other) {
+    let twin = link.copy(alloc)?;
+    if !may_join(alloc, set, other, number, LINK, &link)? {
         return Ok(false);
     }
-    if !set.is_part(alloc)? {
-        return Ok(false);
-    }
-    if !other.is_part(alloc)? {
-        return Ok(false);
-    }
-    if !set.has_free_link(RecordNo::new(number), LINK) {
-        return Ok(false);
-    }
-    if !other.leads_into(&link) {
-        return Ok(false);
-    }
-    set.join(other, RecordNo::new(number), LINK, link, twin)?;
+    set.join(other, number, LINK, link, twin)?;
     Ok(true)
 }
 
@@ -378,36 +403,84 @@ fn ring_loses_a_link_and_no_record(rt: HostRuntime) {
     assert!(rt; holds_again(done, ring_stays(rt.alloc())));
 }
 
+// What the chain hasn't, and what another chain has that isn't apart from it.
+fn is_refused<K: RecordKind, D: Device>(set: &Members<K, D>, other: &Members<K, D>) -> bool {
+    let has = [
+        set.has_link(RecordNo::new(10), LINK),
+        set.has_link(RecordNo::new(3), FieldNo::Own(OwnField::Val)),
+        set.has_free_link(RecordNo::new(3), LINK),
+        set.is_below(RecordNo::new(9)),
+        set.is_apart(other),
+    ];
+    has == [false; 5]
+}
+
+// Links that lead out of the chain, and nowhere.
+fn leads_out<K: RecordKind, D: Device>(
+    alloc: Global,
+    set: &Members<K, D>,
+) -> Result<bool, AllocError> {
+    let is_within = set.leads_within(&link_to(alloc, Some(10))?);
+    let is_into = set.leads_into(&link_to(alloc, None)?);
+    Ok(!is_within && !is_into)
+}
+
+// Is a set no part any more, once it has this record more?
+fn is_no_part(
+    alloc: Global,
+    set: &mut Set,
+    number: usize,
+    target: Option<usize>,
+) -> Result<bool, AllocError> {
+    Ok(add(alloc, set, number, target)? && !set.is_part(alloc)?)
+}
+
+// Is what a chain may not be asked told beforehand?
+fn is_told_beforehand(alloc: Global) -> Result<bool, AllocError> {
+    let set = chain(alloc)?;
+    let other = chain(alloc)?;
+    let lead_out = leads_out(alloc, &set)?;
+    Ok(lead_out && is_refused(&set, &other))
+}
+
 #[test]
-fn sets_that_may_not_be_changed(rt: HostRuntime) -> Result<(), Fail> {
-    let alloc = rt.alloc();
-    let mut set = chain(alloc)?;
-    assert!(rt; !set.has_link(RecordNo::new(10), LINK));
-    assert!(rt; !set.has_link(RecordNo::new(3), FieldNo::Own(OwnField::Val)));
-    assert!(rt; !set.has_free_link(RecordNo::new(3), LINK));
-    assert!(rt; !set.leads_within(&link_to(alloc, Some(10))?));
-    assert!(rt; !set.leads_into(&link_to(alloc, None)?));
-    assert!(rt; !set.is_below(RecordNo::new(9)));
-    assert!(rt; !set.is_apart(&chain(alloc)?));
-    // A record more that no link joins to the others, then one whose link leaves them.
-    assert!(rt; add(alloc, &mut set, 10, None)?);
-    assert!(rt; !set.is_part(alloc)?);
-    let mut other = Members::new(alloc);
-    assert!(rt; add(alloc, &mut other, 4, Some(5))?);
-    assert!(rt; !other.is_part(alloc)?);
+fn chain_may_not_be_changed(rt: HostRuntime) -> Result<(), Fail> {
+    assert!(rt; is_told_beforehand(rt.alloc())?);
     Ok(())
+}
+
+// A record more that no link joins to the others, and one whose link leaves them.
+#[test]
+fn sets_that_are_no_parts(rt: HostRuntime) -> Result<(), Fail> {
+    assert!(rt; is_no_part(rt.alloc(), &mut chain(rt.alloc())?, 10, None)?);
+    assert!(rt; is_no_part(rt.alloc(), &mut Members::new(rt.alloc()), 4, Some(5))?);
+    Ok(())
+}
+
+// Is a folded set not folded, and no part, once all its links are empty?
+fn is_cut<K: RecordKind, D: Device>(
+    alloc: Global,
+    set: &mut Members<K, D>,
+) -> Result<bool, AllocError> {
+    let was_folded = set.is_folded();
+    set.change_all(&Cut);
+    Ok(was_folded && !set.is_folded() && !set.is_part(alloc)?)
+}
+
+// Are all links of the chain empty, and those of the bases as they were?
+fn are_cut<K: RecordKind, D: Device>(set: &mut Members<K, D>) -> bool {
+    for (number, target) in &CHAIN {
+        let number = RecordNo::new(*number);
+        if !both_lead(set, number, None, *target) || !answers(set, number) {
+            return false;
+        }
+    }
+    true
 }
 
 #[test]
 fn all_records_are_changed(rt: HostRuntime) -> Result<(), Fail> {
     let mut set = chain(rt.alloc())?;
-    assert!(rt; set.is_folded());
-    set.change_all(&Cut);
-    assert!(rt; !set.is_folded());
-    assert!(rt; !set.is_part(rt.alloc())?);
-    for (number, target) in &CHAIN {
-        assert!(rt; is_kept(&mut set, RecordNo::new(*number), None));
-        assert!(rt; base_leads(&set, RecordNo::new(*number), *target));
-    }
+    assert!(rt; is_cut(rt.alloc(), &mut set)? && are_cut(&mut set));
     Ok(())
 }

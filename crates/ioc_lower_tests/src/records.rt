@@ -208,18 +208,22 @@ static TESTS: [Step<'static>; 188] = [
     Has("PACT", "1"),
 ];
 
-#[test]
-fn every_record(rt: HostRuntime) {
-    follow::<Longin>(&rt, rt.alloc(), "level", &TESTS);
-    assert!(rt; LinkField::empty().in_use() == LinkUse::Unused);
-    assert!(rt; KeptLink::empty().get() == LinkField::empty());
-    assert!(rt; disable_kind() == InputKind::Number(Range::Short));
+// What is made of nothing, and how a number and a text are converted.
+fn are_made() -> bool {
+    let ushort = InputKind::Number(Range::UShort);
+    let text = Value::Text(Text::cut(b"-1"));
+    let made = [
+        LinkField::empty().in_use() == LinkUse::Unused,
+        KeptLink::empty().get() == LinkField::empty(),
+        disable_kind() == InputKind::Number(Range::Short),
+        convert_to(Value::Long(-1), ushort) == Err(IocError::BadValue),
+        convert_to(Value::Long(-1), InputKind::Text) == Ok(text),
+    ];
+    made == [true; 5]
 }
 
 #[test]
-fn values_converted(rt: HostRuntime) {
-    let ushort = InputKind::Number(Range::UShort);
-    assert!(rt; convert_to(Value::Long(-1), ushort) == Err(IocError::BadValue));
-    let text = Value::Text(Text::cut(b"-1"));
-    assert!(rt; convert_to(Value::Long(-1), InputKind::Text) == Ok(text));
+fn every_record(rt: HostRuntime) {
+    follow::<Longin>(&rt, rt.alloc(), "level", &TESTS);
+    assert!(rt; are_made());
 }

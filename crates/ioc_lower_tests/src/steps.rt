@@ -405,15 +405,12 @@ pub fn follow<B: RecordBody + Fresh + Drop>(
 ) {
     let fresh_name = Name::cut(record_name.as_bytes());
     let mut item = Record::new(fresh_name, B::fresh());
-    let mut name = "";
-    let mut number = 0u64;
-    for step in steps {
+    let mut name = record_name;
+    for (number, step) in steps.iter().enumerate() {
         if let Step::Test(test) = step {
             item = Record::new(fresh_name, B::fresh());
             name = *test;
-            number = 0;
         }
         assert!(rt; holds(alloc, &mut item, step), "{name}, step {number}");
-        number = number.saturating_add(1);
     }
 }

@@ -11,7 +11,6 @@ use ioc_fields::{
 use ioc_links::LinkKind;
 use ioc_menus::Menu;
 use ioc_values::Range;
-use std::process::Abort;
 
 const LONG: FieldKind = FieldKind::Number(Range::Long);
 
@@ -385,30 +384,36 @@ fn field_holds(record_type: RecordType, fact: &Fact) -> bool {
     }
 }
 
-// The facts hold for the type.
-fn are_so(rt: &impl Abort, record_type: RecordType, facts: &[Fact]) {
-    let mut number = 0u64;
-    for fact in facts {
-        assert!(rt; holds(record_type, fact), "fact {number}, counted from 0");
-        number = number.saturating_add(1);
+// The first fact that doesn't hold for a type, by its place in the table.
+fn first_wrong(record_type: RecordType, facts: &[Fact]) -> Option<usize> {
+    for (place, fact) in facts.iter().enumerate() {
+        if !holds(record_type, fact) {
+            return Some(place);
+        }
     }
+    None
 }
 
 #[test]
 fn fields(rt: HostRuntime) {
-    are_so(&rt, RecordType::Longin, &ROLES_AND_TYPES);
-    are_so(&rt, RecordType::Longin, &COMMON);
-    are_so(&rt, RecordType::Longin, &LONGIN);
-    are_so(&rt, RecordType::Longout, &LONGOUT);
-    are_so(&rt, RecordType::Int64in, &INT64IN);
-    are_so(&rt, RecordType::Int64out, &INT64OUT);
-    are_so(&rt, RecordType::Bi, &BI);
-    are_so(&rt, RecordType::Bo, &BO);
-    are_so(&rt, RecordType::Mbbi, &MBBI);
-    are_so(&rt, RecordType::Mbbo, &MBBO);
-    are_so(&rt, RecordType::Stringin, &STRINGIN);
-    are_so(&rt, RecordType::Stringout, &STRINGOUT);
-    are_so(&rt, RecordType::Fanout, &COMMON);
-    are_so(&rt, RecordType::Fanout, &FANOUT);
-    are_so(&rt, RecordType::Event, &EVENT);
+    let tables: [(RecordType, &[Fact]); 15] = [
+        (RecordType::Longin, &ROLES_AND_TYPES),
+        (RecordType::Longin, &COMMON),
+        (RecordType::Longin, &LONGIN),
+        (RecordType::Longout, &LONGOUT),
+        (RecordType::Int64in, &INT64IN),
+        (RecordType::Int64out, &INT64OUT),
+        (RecordType::Bi, &BI),
+        (RecordType::Bo, &BO),
+        (RecordType::Mbbi, &MBBI),
+        (RecordType::Mbbo, &MBBO),
+        (RecordType::Stringin, &STRINGIN),
+        (RecordType::Stringout, &STRINGOUT),
+        (RecordType::Fanout, &COMMON),
+        (RecordType::Fanout, &FANOUT),
+        (RecordType::Event, &EVENT),
+    ];
+    for (record_type, facts) in &tables {
+        assert_eq!(rt; first_wrong(*record_type, facts), None);
+    }
 }
