@@ -1,9 +1,9 @@
-//! Calls of a desk, each by itself, so that what one promises isn't carried along to the next.
-use crate::opened::{Holding, Later, link_to};
+//! Calls of a desk, each by itself, so that what one promises isn't carried along to the next. A test has its calls as data.
+use crate::opened::{Sensor, link_to};
 use ioc_engine::Engine;
 use ioc_events::Reply;
 use ioc_fields::{CommonField, FieldNo, OwnField};
-use ioc_journal::{Base, Desk};
+use ioc_journal::{Base, Desk, Receipt};
 use ioc_names::RecordNo;
 use ioc_notify::NotifyId;
 use ioc_types::Record;
@@ -22,19 +22,38 @@ pub const PACT: FieldNo = FieldNo::Common(CommonField::Pact);
 
 pub const FLNK: FieldNo = FieldNo::Common(CommonField::Flnk);
 
-/// What a call was answered, and its place in the journal.
+/// A call, of a record by its number.
+#[derive(Clone, Copy)]
+pub enum Call {
+    Put(usize, FieldNo, &'static [u8]),
+    Get(usize, FieldNo),
+    Process(usize),
+    /// FLNK leads to VAL of a record, or nowhere, from now on.
+    SetLink(usize, Option<usize>),
+    /// A put to VAL with notification.
+    PutNotify(usize, &'static [u8]),
+    /// The put with notification of this number is given up.
+    Cancel(u64),
+    /// Is the put with notification of this number live?
+    Live(u64),
+    /// The device of a record has answered a number to the wait of that number.
+    Complete(usize, u64, i32),
+}
+
+/// What a call was answered, its place in the journal, and how many records it moved to other sets.
 #[derive(Clone, Copy, PartialEq, Eq)]
 pub struct Told {
     pub reply: Reply,
     pub place: u64,
+    pub moved: usize,
 }
 
 /// A desk and a workplace, with an engine.
 pub fn seat<B: Base<Record>, R: Wait>(
     rt: &R,
     alloc: Global,
-    engine: &Engine<Record, B, Holding>,
-) -> Option<(Desk<Record, B>, Workplace<Record, Holding>)> {
+    engine: &Engine<Record, B, Sensor>,
+) -> Option<(Desk<Record, B>, Workplace<Record, Sensor>)> {
     let Ok(desk) = engine.open_desk(rt) else {
         return None;
     };
@@ -44,13 +63,22 @@ pub fn seat<B: Base<Record>, R: Wait>(
     Some((desk, place))
 }
 
-/// A put of a text.
-pub fn put<B: Base<Record>, R: Wait>(
+// What a call was answered that moves no records.
+fn told_by<B: Base<Record>>(reply: Reply, receipt: &Receipt<Record, B>) -> Told {
+    Told {
+        reply,
+        place: receipt.place(),
+        moved: 0,
+    }
+}
+
+// A put of a text.
+fn put<B: Base<Record>, R: Wait>(
     rt: &R,
     alloc: Global,
-    engine: &Engine<Record, B, Holding>,
+    engine: &Engine<Record, B, Sensor>,
     desk: &mut Desk<Record, B>,
-    place: &mut Workplace<Record, Holding>,
+    place: &mut Workplace<Record, Sensor>,
     number: usize,
     field: FieldNo,
     text: &[u8],
@@ -66,79 +94,72 @@ pub fn put<B: Base<Record>, R: Wait>(
         given,
         1,
     )?;
-    Ok(Told {
-        reply,
-        place: receipt.place(),
-    })
+    Ok(told_by(reply, &receipt))
 }
 
-/// A question.
-pub fn get<B: Base<Record>, R: Wait>(
+// A question.
+fn get<B: Base<Record>, R: Wait>(
     rt: &R,
     alloc: Global,
-    engine: &Engine<Record, B, Holding>,
+    engine: &Engine<Record, B, Sensor>,
     desk: &mut Desk<Record, B>,
     number: usize,
     field: FieldNo,
 ) -> Result<Told, IocError> {
     let (reply, receipt) = engine.get(rt, alloc, desk, RecordNo::new(number), field, 1)?;
-    Ok(Told {
-        reply,
-        place: receipt.place(),
-    })
+    Ok(told_by(reply, &receipt))
 }
 
-/// A request.
-pub fn process<B: Base<Record>, R: Wait>(
+// A request.
+fn process<B: Base<Record>, R: Wait>(
     rt: &R,
     alloc: Global,
-    engine: &Engine<Record, B, Holding>,
+    engine: &Engine<Record, B, Sensor>,
     desk: &mut Desk<Record, B>,
-    place: &mut Workplace<Record, Holding>,
+    place: &mut Workplace<Record, Sensor>,
     number: usize,
 ) -> Result<Told, IocError> {
     let (reply, receipt) = engine.process(rt, alloc, desk, place, RecordNo::new(number), 1)?;
+    Ok(told_by(reply, &receipt))
+}
+
+// A link change of FLNK.
+fn set_link<B: Base<Record>, R: Wait>(
+    rt: &R,
+    alloc: Global,
+    engine: &Engine<Record, B, Sensor>,
+    desk: &mut Desk<Record, B>,
+    place: &mut Workplace<Record, Sensor>,
+    number: usize,
+    target: Option<usize>,
+) -> Result<Told, IocError> {
+    let link = link_to(alloc, target)?;
+    let twin = link.copy(alloc)?;
+    let changed = engine.set_link(
+        rt,
+        alloc,
+        desk,
+        place,
+        RecordNo::new(number),
+        FLNK,
+        link,
+        twin,
+        1,
+    )?;
     Ok(Told {
-        reply,
-        place: receipt.place(),
+        reply: changed.reply,
+        place: changed.receipt.place(),
+        moved: changed.moved,
     })
 }
 
-/// A link change of FLNK, and how many records moved.
-pub fn set_link<B: Base<Record>, R: Wait>(
+// A put of a text with notification.
+fn put_notify<B: Base<Record>, R: Wait>(
     rt: &R,
     alloc: Global,
-    engine: &Engine<Record, B, Holding>,
+    engine: &Engine<Record, B, Sensor>,
     desk: &mut Desk<Record, B>,
-    place: &mut Workplace<Record, Holding>,
-    number: usize,
-    target: Option<usize>,
-) -> Option<(Reply, usize)> {
-    let link = link_to(alloc, target).ok()?;
-    let twin = link.copy(alloc).ok()?;
-    let changed = engine
-        .set_link(
-            rt,
-            alloc,
-            desk,
-            place,
-            RecordNo::new(number),
-            FLNK,
-            link,
-            twin,
-            1,
-        )
-        .ok()?;
-    Some((changed.reply, changed.moved))
-}
-
-/// A put of a text with notification.
-pub fn put_notify<B: Base<Record>, R: Wait>(
-    rt: &R,
-    alloc: Global,
-    engine: &Engine<Record, B, Later>,
-    desk: &mut Desk<Record, B>,
-    place: &mut Workplace<Record, Later>,
+    place: &mut Workplace<Record, Sensor>,
     number: usize,
     text: &[u8],
 ) -> Result<Told, IocError> {
@@ -153,51 +174,42 @@ pub fn put_notify<B: Base<Record>, R: Wait>(
         given,
         1,
     )?;
-    Ok(Told {
-        reply,
-        place: receipt.place(),
-    })
+    Ok(told_by(reply, &receipt))
 }
 
-/// A put with notification is given up.
-pub fn cancel<B: Base<Record>, R: Wait>(
+// A put with notification is given up.
+fn cancel<B: Base<Record>, R: Wait>(
     rt: &R,
     alloc: Global,
-    engine: &Engine<Record, B, Later>,
+    engine: &Engine<Record, B, Sensor>,
     desk: &mut Desk<Record, B>,
-    place: &mut Workplace<Record, Later>,
+    place: &mut Workplace<Record, Sensor>,
     number: u64,
 ) -> Result<Told, IocError> {
     let number = NotifyId::new(number);
     let (reply, receipt) = engine.cancel(rt, alloc, desk, place, number, 1)?;
-    Ok(Told {
-        reply,
-        place: receipt.place(),
-    })
+    Ok(told_by(reply, &receipt))
 }
 
-/// The question whether a put with notification is live.
-pub fn live<B: Base<Record>, R: Wait>(
+// The question whether a put with notification is live.
+fn live<B: Base<Record>, R: Wait>(
     rt: &R,
     alloc: Global,
-    engine: &Engine<Record, B, Later>,
+    engine: &Engine<Record, B, Sensor>,
     desk: &mut Desk<Record, B>,
     number: u64,
 ) -> Result<Told, IocError> {
     let (reply, receipt) = engine.live(rt, alloc, desk, NotifyId::new(number), 1)?;
-    Ok(Told {
-        reply,
-        place: receipt.place(),
-    })
+    Ok(told_by(reply, &receipt))
 }
 
-/// A completion.
-pub fn complete<B: Base<Record>, R: Wait>(
+// A completion.
+fn complete<B: Base<Record>, R: Wait>(
     rt: &R,
     alloc: Global,
-    engine: &Engine<Record, B, Later>,
+    engine: &Engine<Record, B, Sensor>,
     desk: &mut Desk<Record, B>,
-    place: &mut Workplace<Record, Later>,
+    place: &mut Workplace<Record, Sensor>,
     number: usize,
     wait: u64,
     value: i32,
@@ -213,8 +225,30 @@ pub fn complete<B: Base<Record>, R: Wait>(
         given,
         1,
     )?;
-    Ok(Told {
-        reply,
-        place: receipt.place(),
-    })
+    Ok(told_by(reply, &receipt))
+}
+
+/// Makes a call.
+pub fn make<B: Base<Record>, R: Wait>(
+    rt: &R,
+    alloc: Global,
+    engine: &Engine<Record, B, Sensor>,
+    desk: &mut Desk<Record, B>,
+    place: &mut Workplace<Record, Sensor>,
+    call: Call,
+) -> Result<Told, IocError> {
+    match call {
+        Call::Put(number, field, text) => {
+            put(rt, alloc, engine, desk, place, number, field, text)
+        }
+        Call::Get(number, field) => get(rt, alloc, engine, desk, number, field),
+        Call::Process(number) => process(rt, alloc, engine, desk, place, number),
+        Call::SetLink(number, target) => set_link(rt, alloc, engine, desk, place, number, target),
+        Call::PutNotify(number, text) => put_notify(rt, alloc, engine, desk, place, number, text),
+        Call::Cancel(number) => cancel(rt, alloc, engine, desk, place, number),
+        Call::Live(number) => live(rt, alloc, engine, desk, number),
+        Call::Complete(number, wait, value) => {
+            complete(rt, alloc, engine, desk, place, number, wait, value)
+        }
+    }
 }

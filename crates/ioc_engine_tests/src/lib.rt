@@ -4,12 +4,12 @@
 #[cfg(test)]
 mod calling;
 #[cfg(test)]
-mod calls;
-#[cfg(test)]
 mod eight;
-#[cfg(test)]
-mod notifying;
 #[cfg(test)]
 mod opened;
 #[cfg(test)]
-mod threads;
+mod running;
+#[cfg(test)]
+mod sessions;
+#[cfg(test)]
+mod steps;

@@ -20,11 +20,13 @@ use std::thread;
 // How often a device looks at a flag before it gives up.
 const TURNS: u64 = 1_000_000;
 
-/// A device that says that it is asked, and answers once another call was answered.
+/// A device of the tests.
 #[derive(Drop)]
-pub struct Holding {
-    pub asked: Arc<AtomicU64, Global>,
-    pub answered: Arc<AtomicU64, Global>,
+pub enum Sensor {
+    /// Raises the first flag when it is asked, and answers once the second is raised.
+    Holding(Arc<AtomicU64, Global>, Arc<AtomicU64, Global>),
+    /// All its answers come later.
+    Later,
 }
 
 /// Whether a flag was raised within the turns.
@@ -38,45 +40,40 @@ pub fn seen(flag: &AtomicU64) -> bool {
     false
 }
 
-impl Device for Holding {
-    ghost gives = { λ _ _ _ _ _. Unit {0} };
-
-    fn read(&mut self, _moment: u64) -> Answer {
-        self.asked.store(1, Ordering::SeqCst);
-        if seen(&self.answered) {
-            Answer::Done(Value::Long(7))
-        } else {
-            Answer::Fault
-        }
-    }
-
-    fn write(&mut self, _value: Value, _moment: u64) -> Answer {
+// Says that the device is asked, and waits until another call was answered.
+fn hold(asked: &AtomicU64, answered: &AtomicU64) -> Answer {
+    asked.store(1, Ordering::SeqCst);
+    if seen(answered) {
+        Answer::Done(Value::Long(7))
+    } else {
         Answer::Fault
     }
 }
 
-/// A device whose answers all come later.
-#[derive(Drop)]
-pub struct Later;
-
-impl Device for Later {
+impl Device for Sensor {
     ghost gives = { λ _ _ _ _ _. Unit {0} };
 
     fn read(&mut self, _moment: u64) -> Answer {
-        Answer::Later
+        match self {
+            Sensor::Holding(asked, answered) => hold(asked, answered),
+            Sensor::Later => Answer::Later,
+        }
     }
 
     fn write(&mut self, _value: Value, _moment: u64) -> Answer {
-        Answer::Later
+        match self {
+            Sensor::Holding(_, _) => Answer::Fault,
+            Sensor::Later => Answer::Later,
+        }
     }
 }
 
 /// The records of a text, of which the first may have a device.
-pub fn loaded<D: Drop>(
+pub fn loaded(
     alloc: Global,
     text: &[u8],
-    device: Option<D>,
-) -> Result<Vec<Loaded<Record, D>>, IocError>
+    device: Option<Sensor>,
+) -> Result<Vec<Loaded<Record, Sensor>>, IocError>
     ensures { IfOk result (λ all. All (λ l. l.base ≡ l.fields) all.items) }
 {
     let Database { names: _, records } = load(alloc, text, &Macros::new(alloc))?;

@@ -1,9 +1,7 @@
 //! Scripts with devices, counts and requests once more.
-use crate::runs::prints;
-use std::alloc::{AllocError, Global};
+use crate::programs::Program;
 
-// What a program is about, its database and its script, and what it prints.
-static PROGRAMS: [(&str, &[u8], &[u8], &[u8]); 10] = [
+pub static PROGRAMS: [Program; 10] = [
     (
         "two records that follow each other, counted",
         b"record(longin,\"a\"){field(FLNK,\"b\")} record(longin,\"b\"){field(FLNK,\"a\")}",
@@ -65,70 +63,3 @@ static PROGRAMS: [(&str, &[u8], &[u8], &[u8]); 10] = [
         b"bad\nbad\nbad\nok\nok\nbad\nbad\nbad\nbad\nbad\nbad\nbad\nbad\nbad\nbad\nbad\nbad\nbad\nbad\nok\nok processed\n= 012345678901234567890123456789012345678\n",
     ),
 ];
-
-#[test]
-fn programs(rt: HostRuntime) {
-    for (name, db, script, wanted) in &PROGRAMS {
-        assert!(rt; prints(rt.alloc(), db, script, wanted), "{name}");
-    }
-}
-
-// A chain of 257 records, each with a device of its own for which 1 is queued. Its texts: the database, the script and what is
-// printed.
-#[derive(Drop)]
-struct Chain {
-    db: Vec<u8>,
-    script: Vec<u8>,
-    wanted: Vec<u8>,
-}
-
-fn add(text: &mut Vec<u8>, parts: &[&str]) -> Result<(), AllocError> {
-    for part in parts {
-        text.extend_from_slice(part.as_bytes())?;
-    }
-    Ok(())
-}
-
-fn make_chain(alloc: Global) -> Result<Chain, AllocError> {
-    let mut db = Vec::new(alloc);
-    let mut script = Vec::new(alloc);
-    let mut wanted = Vec::new(alloc);
-    for number in 0u16..257 {
-        let here = number.to_string(alloc)?;
-        let next = (number + 1).to_string(alloc)?;
-        add(
-            &mut db,
-            &[
-                "record(longin,r",
-                here.as_str(),
-                "){field(INP,\"@d",
-                here.as_str(),
-                "\") field(FLNK,r",
-                next.as_str(),
-                ")}",
-            ],
-        )?;
-        add(&mut script, &["next r", here.as_str(), " done 1\n"])?;
-        add(&mut wanted, &["ok\n"])?;
-    }
-    add(&mut script, &["process r0\nget r255.VAL\nget r256.STAT\n"])?;
-    add(&mut wanted, &["ok processed\n= 1\n= READ\n"])?;
-    Ok(Chain { db, script, wanted })
-}
-
-// An event asks 256 devices, and every further one faults.
-fn asks_256(alloc: Global) -> Result<bool, AllocError> {
-    let chain = make_chain(alloc)?;
-    Ok(prints(
-        alloc,
-        chain.db.as_slice(),
-        chain.script.as_slice(),
-        chain.wanted.as_slice(),
-    ))
-}
-
-#[test]
-fn devices_past_256(rt: HostRuntime) -> Result<(), AllocError> {
-    assert!(rt; asks_256(rt.alloc())?);
-    Ok(())
-}

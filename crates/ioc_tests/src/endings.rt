@@ -1,7 +1,7 @@
 //! What the program takes from its arguments, and how it ends.
 use ioc_main::{Arguments, Ending, RunFault, Stream, whole_run};
 use ioc_values::{BadDbKind, DbFault};
-use std::alloc::Global;
+use std::alloc::{AllocError, Global};
 use std::io;
 use std::test::Fail;
 
@@ -39,7 +39,23 @@ static REFUSED: [(&[&str], RunFault); 11] = [
     (&["ioc-replay", "a", "b", "A=1", "--help"], RunFault::Help),
 ];
 
-fn strings(alloc: Global, words: &[&str]) -> Result<Vec<String>, Fail> {
+// Are the words taken, and is this what they say, or are they refused for this?
+fn is_said(
+    taken: Result<Arguments, RunFault>,
+    wanted: Result<(&str, &str, Option<&str>), RunFault>,
+) -> bool {
+    match (taken, wanted) {
+        (Ok(files), Ok((db, script, value))) => {
+            files.db.as_str() == db
+                && files.script.as_str() == script
+                && files.macros.value_of(b"A") == value.map(|value| value.as_bytes())
+        }
+        (Err(fault), Err(wanted)) => fault == wanted,
+        _ => false,
+    }
+}
+
+fn strings(alloc: Global, words: &[&str]) -> Result<Vec<String>, AllocError> {
     let mut all = Vec::new(alloc);
     for word in words {
         all.push(String::from_str(alloc, word)?)?;
@@ -47,47 +63,28 @@ fn strings(alloc: Global, words: &[&str]) -> Result<Vec<String>, Fail> {
     Ok(all)
 }
 
-fn are_taken(
+fn say(
     alloc: Global,
-    words: Vec<String>,
-    db: &str,
-    script: &str,
-    value: Option<&str>,
-) -> bool {
-    match Arguments::from_words(alloc, Ok(words.into_iter())) {
-        Ok(files) => {
-            files.db.as_str() == db
-                && files.script.as_str() == script
-                && files.macros.value_of(b"A") == value.map(|value| value.as_bytes())
-        }
-        Err(_) => false,
-    }
+    words: &[&str],
+    wanted: Result<(&str, &str, Option<&str>), RunFault>,
+) -> Result<bool, AllocError> {
+    let given = strings(alloc, words)?;
+    Ok(is_said(Arguments::from_words(alloc, Ok(given.into_iter())), wanted))
 }
 
 #[test]
 fn words_that_are_taken(rt: HostRuntime) -> Result<(), Fail> {
     for (words, db, script, value) in &WORDS {
-        let given = strings(rt.alloc(), words)?;
-        assert!(rt;
-            are_taken(rt.alloc(), given, db, script, *value),
-            "{words:?}"
-        );
+        let wanted = Ok((*db, *script, *value));
+        assert!(rt; say(rt.alloc(), words, wanted)?, "{words:?}");
     }
     Ok(())
-}
-
-fn are_refused(alloc: Global, words: Vec<String>, wanted: RunFault) -> bool {
-    match Arguments::from_words(alloc, Ok(words.into_iter())) {
-        Ok(_) => false,
-        Err(fault) => fault == wanted,
-    }
 }
 
 #[test]
 fn words_that_are_refused(rt: HostRuntime) -> Result<(), Fail> {
     for (words, fault) in &REFUSED {
-        let given = strings(rt.alloc(), words)?;
-        assert!(rt; are_refused(rt.alloc(), given, *fault), "{words:?}");
+        assert!(rt; say(rt.alloc(), words, Err(*fault))?, "{words:?}");
     }
     Ok(())
 }
@@ -101,70 +98,99 @@ fn is_refused(alloc: Global, kind: io::ErrorKind, wanted: RunFault) -> bool {
 
 #[test]
 fn words_that_could_not_be_had(rt: HostRuntime) {
-    assert!(rt; is_refused(rt.alloc(), io::ErrorKind::OutOfMemory, RunFault::Memory));
-    assert!(rt; is_refused(rt.alloc(), io::ErrorKind::InvalidData, RunFault::Usage));
+    let is_full = is_refused(rt.alloc(), io::ErrorKind::OutOfMemory, RunFault::Memory);
+    assert!(rt; is_full && is_refused(rt.alloc(), io::ErrorKind::InvalidData, RunFault::Usage));
 }
 
-// What a run came to, with the exit status and what is told on standard error.
-static ENDINGS: [(Result<(), RunFault>, u8, &str); 6] = [
-    (Ok(()), 0, ""),
+/// How much of a text is told.
+#[derive(Clone, Copy, PartialEq, Eq)]
+enum Extent {
+    Whole,
+    Front,
+}
+
+// What a run came to, with the exit status and what is told, and where.
+static ENDINGS: [(Result<(), RunFault>, u8, Stream, Extent, &str); 8] = [
+    (Ok(()), 0, Stream::Error, Extent::Whole, ""),
     (
         Err(RunFault::BadDb(DbFault {
             line: 2,
             kind: BadDbKind::Unclosed,
         })),
         1,
+        Stream::Error,
+        Extent::Whole,
         "E13 BadDb line 2: text not closed\n",
     ),
     (
         Err(RunFault::Usage),
         2,
+        Stream::Error,
+        Extent::Whole,
         "usage: ioc-replay DB SCRIPT [NAME=VALUE]..\n",
     ),
-    (Err(RunFault::Read), 3, "the input cannot be read\n"),
-    (Err(RunFault::Write), 3, "the replies cannot be written\n"),
-    (Err(RunFault::Memory), 4, "out of memory\n"),
+    (
+        Err(RunFault::Read),
+        3,
+        Stream::Error,
+        Extent::Whole,
+        "the input cannot be read\n",
+    ),
+    (
+        Err(RunFault::Write),
+        3,
+        Stream::Error,
+        Extent::Whole,
+        "the replies cannot be written\n",
+    ),
+    (
+        Err(RunFault::Memory),
+        4,
+        Stream::Error,
+        Extent::Whole,
+        "out of memory\n",
+    ),
+    // What is asked for.
+    (
+        Err(RunFault::Help),
+        0,
+        Stream::Output,
+        Extent::Front,
+        "ioc-replay DB SCRIPT [NAME=VALUE]..",
+    ),
+    (
+        Err(RunFault::Version),
+        0,
+        Stream::Output,
+        Extent::Front,
+        "ioc-replay ",
+    ),
 ];
 
-fn ends(alloc: Global, ended: Result<(), RunFault>, status: u8, told: &str) -> bool {
-    let ending = Ending::of(ended);
-    let text = ending.to_string(alloc);
-    match text {
-        Ok(text) => {
-            ending.status == status && ending.stream == Stream::Error && text.as_str() == told
-        }
-        Err(_) => false,
+fn is_told(text: &str, extent: Extent, wanted: &str) -> bool {
+    match extent {
+        Extent::Whole => text == wanted,
+        Extent::Front => text.starts_with(wanted),
     }
 }
 
-fn asks(alloc: Global, fault: RunFault, front: &str) -> bool {
-    let ending = Ending::of(Err(fault));
+fn tells(alloc: Global, ending: &Ending, extent: Extent, wanted: &str) -> bool {
     match ending.to_string(alloc) {
-        Ok(text) => {
-            ending.status == 0
-                && ending.stream == Stream::Output
-                && text.as_str().starts_with(front)
-        }
+        Ok(text) => is_told(text.as_str(), extent, wanted),
         Err(_) => false,
     }
-}
-
-#[test]
-fn what_is_asked_for(rt: HostRuntime) {
-    assert!(rt;
-        asks(
-            rt.alloc(),
-            RunFault::Help,
-            "ioc-replay DB SCRIPT [NAME=VALUE].."
-        )
-    );
-    assert!(rt; asks(rt.alloc(), RunFault::Version, "ioc-replay "));
 }
 
 #[test]
 fn endings(rt: HostRuntime) {
-    for (ended, status, told) in &ENDINGS {
-        assert!(rt; ends(rt.alloc(), *ended, *status, told), "status {status}");
+    for (ended, status, stream, extent, told) in &ENDINGS {
+        let ending = Ending::of(*ended);
+        assert!(rt;
+            ending.status == *status
+                && ending.stream == *stream
+                && tells(rt.alloc(), &ending, *extent, told),
+            "status {status}"
+        );
     }
 }
 

@@ -1,10 +1,12 @@
-//! Facts of loaded databases.
+//! What a database text makes: a database with these facts, or a fault.
 use Fact::{Counts, Leads, LeadsHome, LeadsNowhere, Named, Shows, Unnamed};
 use ioc_common::{FieldAddress, Lead};
-use ioc_dbfile::Database;
+use ioc_dbfile::{Database, Macros, load};
 use ioc_fields::{FieldNo, field};
 use ioc_names::RecordNo;
 use ioc_record::{RecordKind, text_of};
+use ioc_values::{BadDbKind, IocError};
+use std::alloc::Global;
 
 /// A fact of a loaded database.
 pub enum Fact {
@@ -57,12 +59,53 @@ fn holds(database: &Database, fact: &Fact) -> bool {
     }
 }
 
-/// Do all the facts hold?
-pub fn all_hold(database: &Database, facts: &[Fact]) -> bool {
+// Do all the facts hold?
+fn all_hold(database: &Database, facts: &[Fact]) -> bool {
     for fact in facts {
         if !holds(database, fact) {
             return false;
         }
     }
     true
+}
+
+/// A macro's name and value.
+pub type Definition<'a> = (&'a [u8], &'a [u8]);
+
+/// Macros of these names, with these values.
+pub fn defined(alloc: Global, definitions: &[Definition<'_>]) -> Result<Macros, IocError> {
+    let mut macros = Macros::new(alloc);
+    for (name, value) in definitions {
+        macros.define(alloc, name, value)?;
+    }
+    Ok(macros)
+}
+
+fn loaded(
+    alloc: Global,
+    definitions: &[Definition<'_>],
+    text: &[u8],
+) -> Result<Database, IocError> {
+    let macros = defined(alloc, definitions)?;
+    load(alloc, text, &macros)
+}
+
+/// What a text makes.
+#[derive(Clone, Copy)]
+pub enum Made {
+    /// A database of which all of this holds.
+    Facts(&'static [Fact]),
+    /// A fault of this line and kind.
+    Fault(u64, BadDbKind),
+}
+
+/// Does a text make this, with these macros?
+pub fn makes(alloc: Global, definitions: &[Definition<'_>], text: &[u8], wanted: Made) -> bool {
+    match (loaded(alloc, definitions, text), wanted) {
+        (Ok(database), Made::Facts(facts)) => all_hold(&database, facts),
+        (Err(IocError::BadDb(fault)), Made::Fault(line, kind)) => {
+            fault.line == line && fault.kind == kind
+        }
+        _ => false,
+    }
 }

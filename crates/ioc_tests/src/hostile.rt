@@ -1,10 +1,19 @@
-//! Texts as large as they may be, and one that is cut.
+//! Texts as large as they may be, and larger ones.
 use crate::facts::Fact::{self, Counts, Named, Shows};
-use crate::facts::all_hold;
-use ioc_dbfile::{Macros, load};
-use ioc_values::{BadDbKind, DbFault, IocError};
+use crate::facts::{Made, makes};
+use crate::parts::Piece::{self, Here, Words};
+use crate::parts::{Part, text};
+use ioc_values::BadDbKind;
 use std::alloc::{AllocError, Global};
 use std::test::Fail;
+
+/// What the macro A stands for, if there is one, a text, and what it makes.
+struct Large {
+    name: &'static str,
+    value: Option<&'static [Part]>,
+    text: &'static [Part],
+    made: Made,
+}
 
 // 16 MiB, the longest text.
 const LONGEST: usize = 16_777_216;
@@ -13,113 +22,118 @@ const MOST_RECORDS: usize = 131_072;
 
 const MEBIBYTE: usize = 1_048_576;
 
-// Do all the facts hold of what a text makes, where A stands for this?
-fn is_loaded_with(
-    alloc: Global,
-    value: &[u8],
-    text: &[u8],
-    facts: &[Fact],
-) -> Result<bool, IocError> {
-    let mut macros = Macros::new(alloc);
-    macros.define(alloc, b"A", value)?;
-    let database = load(alloc, text, &macros)?;
-    Ok(all_hold(&database, facts))
-}
-
-// The same bytes so many times.
-fn repeated(alloc: Global, bytes: &[u8], times: usize) -> Result<Vec<u8>, AllocError> {
-    let mut all = Vec::new(alloc);
-    for _ in 0..times {
-        all.extend_from_slice(bytes)?;
-    }
-    Ok(all)
-}
-
-// What a text of macros alone makes, by what the macro stands for.
-static MACROS_ALONE: [(&[u8], Result<bool, IocError>); 2] = [
-    (b"", Ok(true)),
-    (
-        b"?",
-        Err(IocError::BadDb(DbFault {
-            line: 1,
-            kind: BadDbKind::Syntax,
-        })),
-    ),
-];
-
-#[test]
-fn the_longest_text_of_macros(rt: HostRuntime) -> Result<(), Fail> {
-    let text = repeated(rt.alloc(), b"$(A)", LONGEST / 4)?;
-    for (value, wanted) in &MACROS_ALONE {
-        assert!(rt;
-            is_loaded_with(rt.alloc(), value, text.as_slice(), &[Counts(0)]) == *wanted,
-            "{value:?}"
-        );
-    }
-    Ok(())
-}
-
-// The byte of which a macro's value has a mebibyte, a text that uses the macro, and what holds then.
-static LONG_VALUES: [(&[u8], &[u8], &[Fact]); 2] = [
-    (
-        b"x",
-        b"record(longin,a){field(EGU,\"$(A)\")}",
-        &[Shows(0, "EGU", b"xxxxxxxxxxxxxxxxxxxxxxxxxxxxxxxxxxxxxxx")],
-    ),
-    (
-        b" ",
-        b"record(longin,a)$(A){field(VAL,7)}",
-        &[Shows(0, "VAL", b"7")],
-    ),
-];
-
-#[test]
-fn a_macro_of_a_mebibyte(rt: HostRuntime) -> Result<(), Fail> {
-    for (byte, text, facts) in &LONG_VALUES {
-        let value = repeated(rt.alloc(), byte, MEBIBYTE)?;
-        assert!(rt;
-            is_loaded_with(rt.alloc(), value.as_slice(), text, facts) == Ok(true),
-            "{text:?}"
-        );
-    }
-    Ok(())
-}
+const BLANK: &[Piece] = &[Words(" ")];
 
 // As many records as there may be, one a line, each with an alias.
-fn most_records(alloc: Global) -> Result<String, AllocError> {
-    let mut text = String::new(alloc);
-    for number in 0..MOST_RECORDS {
-        write!(text, "record(longin,r{number}){{alias(a{number})}}\n")?;
-    }
-    Ok(text)
-}
+const ALL_RECORDS: Part = (
+    0,
+    MOST_RECORDS,
+    &[
+        Words("record(longin,r"),
+        Here,
+        Words("){alias(a"),
+        Here,
+        Words(")}\n"),
+    ],
+);
 
-static MOST: [Fact; 5] = [
-    Counts(MOST_RECORDS),
-    Named(b"r131071", 131_071),
-    Named(b"a131071", 131_071),
-    Named(b"x", 0),
-    Shows(1, "VAL", b"4"),
+static LARGE: [Large; 11] = [
+    Large {
+        name: "the longest text of macros",
+        value: Some(&[]),
+        text: &[(0, LONGEST / 4, &[Words("$(A)")])],
+        made: Made::Facts(&[Counts(0)]),
+    },
+    Large {
+        name: "the longest text of macros, and a wrong one",
+        value: Some(&[(0, 1, &[Words("?")])]),
+        text: &[(0, LONGEST / 4, &[Words("$(A)")])],
+        made: Made::Fault(1, BadDbKind::Syntax),
+    },
+    Large {
+        name: "a value of a mebibyte",
+        value: Some(&[(0, MEBIBYTE, &[Words("x")])]),
+        text: &[(0, 1, &[Words("record(longin,a){field(EGU,\"$(A)\")}")])],
+        made: Made::Facts(&[Shows(0, "EGU", b"xxxxxxxxxxxxxxxxxxxxxxxxxxxxxxxxxxxxxxx")]),
+    },
+    Large {
+        name: "a mebibyte of blanks",
+        value: Some(&[(0, MEBIBYTE, BLANK)]),
+        text: &[(0, 1, &[Words("record(longin,a)$(A){field(VAL,7)}")])],
+        made: Made::Facts(&[Shows(0, "VAL", b"7")]),
+    },
+    Large {
+        name: "most records and aliases",
+        value: Some(&[]),
+        text: &[
+            ALL_RECORDS,
+            (
+                0,
+                1,
+                &[Words("alias(r0,x)record(longin,r1){field(VAL,4)}\n")],
+            ),
+        ],
+        made: Made::Facts(&[
+            Counts(MOST_RECORDS),
+            Named(b"r131071", 131_071),
+            Named(b"a131071", 131_071),
+            Named(b"x", 0),
+            Shows(1, "VAL", b"4"),
+        ]),
+    },
+    Large {
+        name: "one record too many",
+        value: Some(&[]),
+        text: &[ALL_RECORDS, (0, 1, &[Words("record(longin,\nx)\n")])],
+        made: Made::Fault(131_073, BadDbKind::TooMany),
+    },
+    Large {
+        name: "the longest text of blanks",
+        value: None,
+        text: &[(0, LONGEST, BLANK)],
+        made: Made::Facts(&[Counts(0)]),
+    },
+    Large {
+        name: "a byte more",
+        value: None,
+        text: &[(0, LONGEST, BLANK), (0, 1, &[Words("?")])],
+        made: Made::Fault(1, BadDbKind::TooMany),
+    },
+    Large {
+        name: "a line feed more",
+        value: None,
+        text: &[(0, LONGEST - 2, BLANK), (0, 1, &[Words("\n\n\n")])],
+        made: Made::Fault(3, BadDbKind::TooMany),
+    },
+    Large {
+        name: "a macro behind a wrong sign, past the limit",
+        value: None,
+        text: &[(0, LONGEST - 1, BLANK), (0, 1, &[Words("? $(A)")])],
+        made: Made::Fault(1, BadDbKind::Macro),
+    },
+    Large {
+        name: "a comment past the limit",
+        value: None,
+        text: &[(0, LONGEST - 1, BLANK), (0, 1, &[Words("#\n\n\n")])],
+        made: Made::Fault(1, BadDbKind::TooMany),
+    },
 ];
 
-#[test]
-fn most_records_and_aliases(rt: HostRuntime) -> Result<(), Fail> {
-    let mut text = most_records(rt.alloc())?;
-    text.push_str("alias(r0,x)record(longin,r1){field(VAL,4)}\n")?;
-    assert!(rt; is_loaded_with(rt.alloc(), b"", text.as_bytes(), &MOST) == Ok(true));
-    Ok(())
+fn is_made(alloc: Global, large: &Large) -> Result<bool, AllocError> {
+    let whole = text(alloc, large.text)?;
+    let Some(parts) = large.value else {
+        return Ok(makes(alloc, &[], whole.as_bytes(), large.made));
+    };
+    let value = text(alloc, parts)?;
+    let macros = [(b"A".as_slice(), value.as_bytes())];
+    Ok(makes(alloc, &macros, whole.as_bytes(), large.made))
 }
 
-static ONE_TOO_MANY: Result<bool, IocError> = Err(IocError::BadDb(DbFault {
-    line: 131_073,
-    kind: BadDbKind::TooMany,
-}));
-
 #[test]
-fn one_record_too_many(rt: HostRuntime) -> Result<(), Fail> {
-    let mut text = most_records(rt.alloc())?;
-    text.push_str("record(longin,\nx)\n")?;
-    assert!(rt; is_loaded_with(rt.alloc(), b"", text.as_bytes(), &[]) == ONE_TOO_MANY);
+fn large_texts(rt: HostRuntime) -> Result<(), Fail> {
+    for large in &LARGE {
+        assert!(rt; is_made(rt.alloc(), large)?, "{}", large.name);
+    }
     Ok(())
 }
 
@@ -137,8 +151,9 @@ static CUTS: [(usize, &[Fact]); 5] = [
 #[test]
 fn cuts_that_are_databases(rt: HostRuntime) {
     for (count, facts) in &CUTS {
+        let text = &TEXT[..(*count).min(42)];
         assert!(rt;
-            is_loaded_with(rt.alloc(), b"", &TEXT[..(*count).min(42)], facts) == Ok(true),
+            makes(rt.alloc(), &[(b"A", b"")], text, Made::Facts(*facts)),
             "{count}"
         );
     }

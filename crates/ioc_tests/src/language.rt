@@ -1,22 +1,19 @@
-//! Whole programs over databases with macros, aliases and records in pieces.
-use ioc_dbfile::Macros;
+//! Whole programs over databases with macros, aliases and records in pieces, and over one that isn't closed.
+use crate::facts::{Definition, defined};
 use ioc_main::{RunFault, run};
 use ioc_values::{BadDbKind, DbFault, IocError};
 use std::alloc::Global;
 
-// A macro's name and value.
-type Definition = (&'static [u8], &'static [u8]);
-
 // What a run comes to and prints.
 struct Run {
-    macros: &'static [Definition],
+    macros: &'static [Definition<'static>],
     db: &'static [u8],
     script: &'static [u8],
     ended: Result<(), RunFault>,
     printed: &'static [u8],
 }
 
-static RUNS: [Run; 5] = [
+static RUNS: [Run; 6] = [
     Run {
         macros: &[],
         db: b"record(longin,\"a\"){alias(\"b\")} record(*,\"a\"){field(VAL,3)} alias(\"a\",\"c\") record(fanout,\"f\"){field(LNK0,\"c\") field(DESC,\"${X=none}\")}",
@@ -61,15 +58,17 @@ static RUNS: [Run; 5] = [
         })),
         printed: b"",
     },
+    Run {
+        macros: &[],
+        db: b"record(longin,\"a\") {\n field(VAL, \"1",
+        script: b"get a.VAL\nhello\n",
+        ended: Err(RunFault::BadDb(DbFault {
+            line: 2,
+            kind: BadDbKind::Unclosed,
+        })),
+        printed: b"",
+    },
 ];
-
-fn defined(alloc: Global, definitions: &[Definition]) -> Result<Macros, IocError> {
-    let mut macros = Macros::new(alloc);
-    for (name, value) in definitions {
-        macros.define(alloc, name, value)?;
-    }
-    Ok(macros)
-}
 
 // Does the run come to what is wanted, and print it?
 fn comes_to(alloc: Global, wanted: &Run) -> Result<bool, IocError> {

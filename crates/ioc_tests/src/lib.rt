@@ -2,8 +2,6 @@
 #![tactic(auto)]
 
 #[cfg(test)]
-mod chains;
-#[cfg(test)]
 mod devices;
 #[cfg(test)]
 mod endings;
@@ -20,15 +18,19 @@ mod loads;
 #[cfg(test)]
 mod lock_sets;
 #[cfg(test)]
+mod long;
+#[cfg(test)]
 mod macros;
 #[cfg(test)]
 mod notifications;
 #[cfg(test)]
+mod parts;
+#[cfg(test)]
+mod programs;
+#[cfg(test)]
 mod relinks;
 #[cfg(test)]
 mod rows;
-#[cfg(test)]
-mod runs;
 #[cfg(test)]
 mod scans;
 #[cfg(test)]

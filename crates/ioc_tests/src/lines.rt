@@ -1,36 +1,14 @@
-//! Scripts of long lines, and readers and writers of one byte a call.
-use crate::runs::prints;
+//! Scripts with readers and writers of one byte a call.
 use crate::streams::{OneByteReader, OneByteWriter};
 use ioc_dbfile::Macros;
 use ioc_main::{RunFault, run};
-use std::alloc::{AllocError, Global};
+use std::alloc::Global;
 
 const DB: &[u8] = b"record(longin,\"a\"){field(VAL,\"3\")}";
 
 const SCRIPT: &[u8] = b"get a.VAL\n# nothing\n\nhello\nprocess a";
 
 const WANTED: &[u8] = b"= 3\nbad\nok processed\n";
-
-// A line of so many bytes, which is a comment, and its line feed.
-fn comment(alloc: Global, length: usize) -> Result<Vec<u8>, AllocError> {
-    let mut line = vec![in alloc; b'#'; length]?;
-    line.push(b'\n')?;
-    Ok(line)
-}
-
-// Does a comment of so many bytes print this?
-fn comment_prints(alloc: Global, length: usize, wanted: &[u8]) -> bool {
-    match comment(alloc, length) {
-        Ok(script) => prints(alloc, DB, script.as_slice(), wanted),
-        Err(_) => false,
-    }
-}
-
-#[test]
-fn a_long_line(rt: HostRuntime) {
-    assert!(rt; comment_prints(rt.alloc(), 1024, b""));
-    assert!(rt; comment_prints(rt.alloc(), 1025, b"bad\n"));
-}
 
 // Does a writer that takes so many bytes hold them, and the run end well where they are all?
 fn is_written(alloc: Global, left: usize) -> bool {
@@ -64,6 +42,6 @@ fn is_read(alloc: Global, left: usize, wanted: Result<(), RunFault>, printed: &[
 
 #[test]
 fn a_reader_of_one_byte(rt: HostRuntime) {
-    assert!(rt; is_read(rt.alloc(), 1000, Ok(()), WANTED));
-    assert!(rt; is_read(rt.alloc(), 12, Err(RunFault::Read), b"= 3\n"));
+    let is_whole = is_read(rt.alloc(), 1000, Ok(()), WANTED);
+    assert!(rt; is_whole && is_read(rt.alloc(), 12, Err(RunFault::Read), b"= 3\n"));
 }

@@ -1,11 +1,10 @@
 //! Whole loads of database texts.
 use crate::facts::Fact::{self, Counts, Leads, LeadsHome, LeadsNowhere, Named, Shows, Unnamed};
-use crate::facts::all_hold;
-use crate::runs::silent_run;
-use ioc_dbfile::{Macros, load};
+use crate::facts::{Made, makes};
+use ioc_dbfile::Macros;
 use ioc_fields::{CommonField, FieldNo, OwnField, Slot};
-use ioc_main::RunFault;
-use ioc_values::{BadDbKind, IocError};
+use ioc_main::{RunFault, run};
+use ioc_values::BadDbKind;
 use std::alloc::Global;
 
 const VAL: FieldNo = FieldNo::Own(OwnField::Val);
@@ -137,36 +136,13 @@ static LOADS: [(&[u8], &[Fact]); 17] = [
     ),
 ];
 
-// Is the text loaded, and do all the facts hold then?
-fn is_loaded(alloc: Global, text: &[u8], facts: &[Fact]) -> bool {
-    match load(alloc, text, &Macros::new(alloc)) {
-        Ok(database) => all_hold(&database, facts),
-        Err(_) => false,
-    }
-}
-
 #[test]
 fn loaded_texts(rt: HostRuntime) {
     for (text, facts) in &LOADS {
-        assert!(rt; is_loaded(rt.alloc(), text, facts), "{text:?}");
-    }
-}
-
-// What a text makes: a database of so many records, or a fault of this line and kind.
-#[derive(Clone, Copy)]
-enum Made {
-    Records(usize),
-    Fault(u64, BadDbKind),
-}
-
-// Does the text make this?
-fn makes(alloc: Global, text: &[u8], wanted: Made) -> bool {
-    match (load(alloc, text, &Macros::new(alloc)), wanted) {
-        (Ok(database), Made::Records(count)) => database.records.len() == count,
-        (Err(IocError::BadDb(fault)), Made::Fault(line, kind)) => {
-            fault.line == line && fault.kind == kind
-        }
-        _ => false,
+        assert!(rt;
+            makes(rt.alloc(), &[], text, Made::Facts(*facts)),
+            "{text:?}"
+        );
     }
 }
 
@@ -280,8 +256,9 @@ static REFUSED: [(&[u8], u64, BadDbKind); 51] = [
 #[test]
 fn refused_texts(rt: HostRuntime) {
     for (text, line, kind) in &REFUSED {
+        let wanted = Made::Fault(*line, *kind);
         assert!(rt;
-            makes(rt.alloc(), text, Made::Fault(*line, *kind)),
+            makes(rt.alloc(), &[], text, wanted),
             "line {line}, {kind:?}"
         );
     }
@@ -292,7 +269,7 @@ static TEXT: [u8; 42] = *b"record(longin, \"a\") {\n  field(VAL, \"1\")\n}\n";
 // What the first n bytes give.
 fn cut_makes(n: usize) -> Made {
     match n {
-        0 => Made::Records(0),
+        0 => Made::Facts(&[Counts(0)]),
         1..=5 => Made::Fault(1, BadDbKind::Syntax),
         6 | 7 | 13..=15 | 18 | 21 | 22 => Made::Fault(1, BadDbKind::OpenBody),
         8..=12 => Made::Fault(1, BadDbKind::BadType),
@@ -300,74 +277,33 @@ fn cut_makes(n: usize) -> Made {
         25..=28 => Made::Fault(2, BadDbKind::Syntax),
         31 | 32 => Made::Fault(2, BadDbKind::BadField),
         36 | 37 => Made::Fault(2, BadDbKind::Unclosed),
-        19 | 20 | 41 | 42 => Made::Records(1),
+        19 | 20 | 41 | 42 => Made::Facts(&[Counts(1)]),
         _ => Made::Fault(2, BadDbKind::OpenBody),
-    }
-}
-
-#[test]
-fn cut_texts(rt: HostRuntime) {
-    for n in 0..=42 {
-        assert!(rt; makes(rt.alloc(), &TEXT[..n], cut_makes(n)), "at {n}");
     }
 }
 
 // Is the run of a text silent, and does it come to this?
 fn runs_silently(alloc: Global, text: &[u8], wanted: Made) -> bool {
-    match (silent_run(alloc, text, b""), wanted) {
-        (Some(Ok(())), Made::Records(_)) => true,
-        (Some(Err(RunFault::BadDb(fault))), Made::Fault(line, kind)) => {
+    let mut out = Vec::new(alloc);
+    let ended = run(alloc, text, &Macros::new(alloc), b"".as_slice(), &mut out);
+    let is_met = match (ended, wanted) {
+        (Ok(()), Made::Facts(_)) => true,
+        (Err(RunFault::BadDb(fault)), Made::Fault(line, kind)) => {
             fault.line == line && fault.kind == kind
         }
         _ => false,
-    }
+    };
+    is_met && out.is_empty()
 }
 
 #[test]
-fn runs_of_cut_texts(rt: HostRuntime) {
+fn cut_texts(rt: HostRuntime) {
     for n in 0..=42 {
+        let text = &TEXT[..n];
+        let wanted = cut_makes(n);
         assert!(rt;
-            runs_silently(rt.alloc(), &TEXT[..n], cut_makes(n)),
+            makes(rt.alloc(), &[], text, wanted) && runs_silently(rt.alloc(), text, wanted),
             "at {n}"
-        );
-    }
-}
-
-const LIMIT: usize = 16_777_216;
-
-// So many blanks fewer than the limit, then a text, and what it makes.
-static LONGEST: [(usize, &[u8], Made); 5] = [
-    (0, b"", Made::Records(0)),
-    (0, b"?", Made::Fault(1, BadDbKind::TooMany)),
-    (2, b"\n\n\n", Made::Fault(3, BadDbKind::TooMany)),
-    (1, b"? $(A)", Made::Fault(1, BadDbKind::Macro)),
-    (1, b"#\n\n\n", Made::Fault(1, BadDbKind::TooMany)),
-];
-
-// `length` blanks, then a text.
-fn behind_blanks(
-    alloc: Global,
-    length: usize,
-    text: &[u8],
-) -> Result<Vec<u8>, std::alloc::AllocError> {
-    let mut bytes = vec![in alloc; b' '; length]?;
-    bytes.extend_from_slice(text)?;
-    Ok(bytes)
-}
-
-fn makes_behind_blanks(alloc: Global, fewer: usize, text: &[u8], wanted: Made) -> bool {
-    match behind_blanks(alloc, LIMIT.saturating_sub(fewer), text) {
-        Ok(bytes) => makes(alloc, bytes.as_slice(), wanted),
-        Err(_) => false,
-    }
-}
-
-#[test]
-fn longest_text(rt: HostRuntime) {
-    for (fewer, text, wanted) in &LONGEST {
-        assert!(rt;
-            makes_behind_blanks(rt.alloc(), *fewer, text, *wanted),
-            "{fewer} blanks fewer, then {text:?}"
         );
     }
 }

@@ -1,9 +1,7 @@
 //! Scripts with the line `sets`.
-use crate::runs::prints;
-use std::alloc::{AllocError, Global};
+use crate::programs::Program;
 
-// What a program is about, its database and its script, and what it prints.
-static PROGRAMS: [(&str, &[u8], &[u8], &[u8]); 7] = [
+pub static PROGRAMS: [Program; 7] = [
     ("no records", b"", b"sets\n", b"sets\n"),
     (
         "aliases aren't printed, and a link to one joins its record",
@@ -42,54 +40,3 @@ static PROGRAMS: [(&str, &[u8], &[u8], &[u8]); 7] = [
         b"sets {f a b d} {c e g} {h}\n",
     ),
 ];
-
-#[test]
-fn programs(rt: HostRuntime) {
-    for (name, db, script, wanted) in &PROGRAMS {
-        assert!(rt; prints(rt.alloc(), db, script, wanted), "{name}");
-    }
-}
-
-fn add(text: &mut Vec<u8>, parts: &[&str]) -> Result<(), AllocError> {
-    for part in parts {
-        text.extend_from_slice(part.as_bytes())?;
-    }
-    Ok(())
-}
-
-// A chain of 2,000 records, each of which names the one before it, and 2,000 more by themselves.
-fn long_sets(alloc: Global) -> Result<bool, AllocError> {
-    let mut db = Vec::new(alloc);
-    let mut wanted = Vec::new(alloc);
-    add(&mut db, &["record(longin,r0){}"])?;
-    add(&mut wanted, &["sets {r0"])?;
-    for number in 0u16..1999 {
-        let before = number.to_string(alloc)?;
-        let here = (number + 1).to_string(alloc)?;
-        add(
-            &mut db,
-            &[
-                "record(longin,r",
-                here.as_str(),
-                "){field(INP,r",
-                before.as_str(),
-                ")}",
-            ],
-        )?;
-        add(&mut wanted, &[" r", here.as_str()])?;
-    }
-    add(&mut wanted, &["}"])?;
-    for number in 0u16..2000 {
-        let here = number.to_string(alloc)?;
-        add(&mut db, &["record(longin,s", here.as_str(), "){}"])?;
-        add(&mut wanted, &[" {s", here.as_str(), "}"])?;
-    }
-    add(&mut wanted, &["\n"])?;
-    Ok(prints(alloc, db.as_slice(), b"sets\n", wanted.as_slice()))
-}
-
-#[test]
-fn many_records(rt: HostRuntime) -> Result<(), AllocError> {
-    assert!(rt; long_sets(rt.alloc())?);
-    Ok(())
-}

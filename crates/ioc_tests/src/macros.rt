@@ -1,15 +1,11 @@
 //! Loads of database texts that use macros.
 use crate::facts::Fact::{self, Named, Shows};
-use crate::facts::all_hold;
-use ioc_dbfile::{Macros, load};
+use crate::facts::{Definition, Made, defined, makes};
 use ioc_values::{BadDbKind, IocError};
 use std::alloc::Global;
 
-// A macro's name and value.
-type Definition = (&'static [u8], &'static [u8]);
-
 // Macros, a text that uses them, and what holds of its records.
-static MACROS: [(&[Definition], &[u8], &[Fact]); 6] = [
+static MACROS: [(&[Definition<'static>], &[u8], &[Fact]); 6] = [
     (
         &[(b"P", b"k")],
         b"record(longin,\"$(P)x\"){field(INP,\"$(V=3)\")}",
@@ -49,30 +45,11 @@ static MACROS: [(&[Definition], &[u8], &[Fact]); 6] = [
     ),
 ];
 
-fn defined(alloc: Global, definitions: &[Definition]) -> Result<Macros, IocError> {
-    let mut macros = Macros::new(alloc);
-    for (name, value) in definitions {
-        macros.define(alloc, name, value)?;
-    }
-    Ok(macros)
-}
-
-fn is_loaded_by(
-    alloc: Global,
-    definitions: &[Definition],
-    text: &[u8],
-    facts: &[Fact],
-) -> Result<bool, IocError> {
-    let macros = defined(alloc, definitions)?;
-    let database = load(alloc, text, &macros)?;
-    Ok(all_hold(&database, facts))
-}
-
 #[test]
 fn texts_with_macros(rt: HostRuntime) {
     for (definitions, text, facts) in &MACROS {
         assert!(rt;
-            is_loaded_by(rt.alloc(), definitions, text, facts) == Ok(true),
+            makes(rt.alloc(), definitions, text, Made::Facts(*facts)),
             "{text:?}"
         );
     }
@@ -98,27 +75,28 @@ static BAD_MACROS: [(&[u8], u64, BadDbKind); 15] = [
     (b"\n$(A", 2, BadDbKind::Macro),
 ];
 
-fn is_refused_by(alloc: Global, text: &[u8], line: u64, kind: BadDbKind) -> bool {
-    match is_loaded_by(alloc, &[(b"A", b"#")], text, &[]) {
-        Err(IocError::BadDb(fault)) => fault.line == line && fault.kind == kind,
-        _ => false,
-    }
-}
-
 #[test]
 fn macros_that_cannot_be_replaced(rt: HostRuntime) {
     for (text, line, kind) in &BAD_MACROS {
-        assert!(rt; is_refused_by(rt.alloc(), text, *line, *kind), "{text:?}");
+        let wanted = Made::Fault(*line, *kind);
+        assert!(rt;
+            makes(rt.alloc(), &[(b"A", b"#")], text, wanted),
+            "{text:?}"
+        );
     }
+}
+
+static BAD_NAMES: [&[u8]; 5] = [b"", b"A-B", b" A", b"A$", b"\xc3\xa4"];
+
+// Is a macro of the name refused, beside another?
+fn is_refused(alloc: Global, name: &[u8]) -> Result<bool, IocError> {
+    let mut macros = defined(alloc, &[(b"A", b"1")])?;
+    Ok(macros.define(alloc, name, b"2") == Err(IocError::BadValue))
 }
 
 #[test]
 fn names_of_macros(rt: HostRuntime) {
-    for name in [b"".as_slice(), b"A-B", b" A", b"A$", b"\xc3\xa4"] {
-        let refused = defined(rt.alloc(), &[(b"A", b"1")]).and_then(|macros| {
-            let mut macros = macros;
-            macros.define(rt.alloc(), name, b"2")
-        });
-        assert!(rt; refused == Err(IocError::BadValue), "{name:?}");
+    for name in &BAD_NAMES {
+        assert!(rt; is_refused(rt.alloc(), name) == Ok(true), "{name:?}");
     }
 }

@@ -1,9 +1,7 @@
 //! Scripts with puts with notification.
-use crate::runs::prints;
-use std::alloc::{AllocError, Global};
+use crate::programs::Program;
 
-// What a program is about, its database and its script, and what it prints.
-static PROGRAMS: [(&str, &[u8], &[u8], &[u8]); 12] = [
+pub static PROGRAMS: [Program; 12] = [
     (
         "a notification ends with the last record that has it, and one that waits starts then",
         b"record(longin,\"a\"){} record(longin,\"p\"){field(INP,\"@d\")} record(fanout,\"f\"){field(LNK1,\"a\") field(LNK2,\"p\")}",
@@ -77,73 +75,3 @@ static PROGRAMS: [(&str, &[u8], &[u8], &[u8]); 12] = [
         b"bad\nbad\nbad\nbad\nE5 BadValue\nE5 BadValue\nbad\nok notify 1\nended 1\nok notify 2\nended 2\nok notify 3\nended 3\n=  x y\nE1 NoRecord\nE2 NoField\nE2 NoField\nbad\nbad\nbad\nbad\nbad\nbad\nE8 Stale\nE8 Stale\nE8 Stale\nbad\nbad\n",
     ),
 ];
-
-#[test]
-fn programs(rt: HostRuntime) {
-    for (name, db, script, wanted) in &PROGRAMS {
-        assert!(rt; prints(rt.alloc(), db, script, wanted), "{name}");
-    }
-}
-
-fn add(text: &mut Vec<u8>, parts: &[&str]) -> Result<(), AllocError> {
-    for part in parts {
-        text.extend_from_slice(part.as_bytes())?;
-    }
-    Ok(())
-}
-
-// 257 puts with notification on a record that awaits its device: 256 are live, and no more; one is free again after a cancel.
-fn fills_up(alloc: Global) -> Result<bool, AllocError> {
-    let mut script = Vec::new(alloc);
-    let mut wanted = Vec::new(alloc);
-    for number in 1u16..258 {
-        add(&mut script, &["notify p.VAL 1\n"])?;
-        if number < 257 {
-            let told = number.to_string(alloc)?;
-            add(&mut wanted, &["ok notify ", told.as_str(), "\n"])?;
-        }
-    }
-    add(&mut script, &["cancel 256\nnotify p.VAL 1\n"])?;
-    add(&mut wanted, &["E9 QueueFull\nok\nok notify 257\n"])?;
-    Ok(prints(
-        alloc,
-        b"record(longin,\"p\"){field(INP,\"@d\")}",
-        script.as_slice(),
-        wanted.as_slice(),
-    ))
-}
-
-#[test]
-fn notifications_past_256(rt: HostRuntime) -> Result<(), AllocError> {
-    assert!(rt; fills_up(rt.alloc())?);
-    Ok(())
-}
-
-// 255 wait behind one, and all end in the event that lets them start: each stores and has nothing processed.
-fn end_together(alloc: Global) -> Result<bool, AllocError> {
-    let mut script = Vec::new(alloc);
-    let mut wanted = Vec::new(alloc);
-    let mut ends = Vec::new(alloc);
-    for number in 1u16..257 {
-        let told = number.to_string(alloc)?;
-        let field = if number == 1 { "VAL" } else { "DISV" };
-        add(&mut script, &["notify p.", field, " 1\n"])?;
-        add(&mut wanted, &["ok notify ", told.as_str(), "\n"])?;
-        add(&mut ends, &["ended ", told.as_str(), "\n"])?;
-    }
-    add(&mut script, &["notify p.VAL 1\ndone p 1 5\n"])?;
-    add(&mut wanted, &["E9 QueueFull\nok\n"])?;
-    wanted.extend_from_slice(ends.as_slice())?;
-    Ok(prints(
-        alloc,
-        b"record(longin,\"p\"){field(INP,\"@d\")}",
-        script.as_slice(),
-        wanted.as_slice(),
-    ))
-}
-
-#[test]
-fn all_256_end(rt: HostRuntime) -> Result<(), AllocError> {
-    assert!(rt; end_together(rt.alloc())?);
-    Ok(())
-}

@@ -1,8 +1,7 @@
 //! Scripts with link changes beside puts with notification and `sets`.
-use crate::runs::prints;
+use crate::programs::Program;
 
-// What a program is about, its database and its script, and what it prints.
-static PROGRAMS: [(&str, &[u8], &[u8], &[u8]); 10] = [
+pub static PROGRAMS: [Program; 10] = [
     (
         "a link that is cut parts two records",
         b"record(longin,\"a\"){field(INP,\"@d\") field(FLNK,\"b\")} record(longin,\"b\"){}",
@@ -64,10 +63,3 @@ static PROGRAMS: [(&str, &[u8], &[u8], &[u8]); 10] = [
         b"bad\nbad\nbad\nbad\nok\nok\nok\n= a.VAL PP NMS\nE1 NoRecord\nE2 NoField\n",
     ),
 ];
-
-#[test]
-fn programs(rt: HostRuntime) {
-    for (name, db, script, wanted) in &PROGRAMS {
-        assert!(rt; prints(rt.alloc(), db, script, wanted), "{name}");
-    }
-}

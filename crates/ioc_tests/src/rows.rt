@@ -1,10 +1,7 @@
 //! Databases with a script, and what is printed for each.
-use crate::runs::{prints, silent_run};
-use ioc_main::RunFault;
-use ioc_values::{BadDbKind, DbFault};
+use crate::programs::Program;
 
-// What a program is about, its database and its script, and what it prints.
-static PROGRAMS: [(&str, &[u8], &[u8], &[u8]); 12] = [
+pub static PROGRAMS: [Program; 12] = [
     ("empty database and script", b"", b"", b""),
     (
         "constant input",
@@ -73,21 +70,3 @@ static PROGRAMS: [(&str, &[u8], &[u8], &[u8]); 12] = [
         b"= 0\nok\nok processed\n= 18446744073709551615\nbad\nbad\nbad\nbad\nbad\nbad\nbad\nbad\nbad\nok processed\n= 18446744073709551615\nok\n= 18446744073709551615\nok processed\n= 7\n",
     ),
 ];
-
-#[test]
-fn programs(rt: HostRuntime) {
-    for (name, db, script, wanted) in &PROGRAMS {
-        assert!(rt; prints(rt.alloc(), db, script, wanted), "{name}");
-    }
-}
-
-static NOT_CLOSED: RunFault = RunFault::BadDb(DbFault {
-    line: 2,
-    kind: BadDbKind::Unclosed,
-});
-
-#[test]
-fn a_text_that_is_not_closed(rt: HostRuntime) {
-    let db = b"record(longin,\"a\") {\n field(VAL, \"1";
-    assert!(rt; silent_run(rt.alloc(), db, b"get a.VAL\nhello\n") == Some(Err(NOT_CLOSED)));
-}

@@ -1,9 +1,7 @@
 //! Scripts with scan lists, posted events, interrupts, and records with PINI.
-use crate::runs::prints;
-use std::alloc::{AllocError, Global};
+use crate::programs::Program;
 
-// What a program is about, its database and its script, and what it prints.
-static PROGRAMS: [(&str, &[u8], &[u8], &[u8]); 9] = [
+pub static PROGRAMS: [Program; 9] = [
     (
         "a list in the order of PHAS, and after a put to PHAS",
         b"record(longin,\"a\"){field(SCAN,\"1 second\") field(PHAS,2) field(INP,\"b\")} record(longin,\"b\"){field(SCAN,\"1 second\") field(PHAS,1) field(INP,\"@d\")}",
@@ -59,80 +57,3 @@ static PROGRAMS: [(&str, &[u8], &[u8], &[u8]); 9] = [
         b"ok 0\nok 0\nok 0\nbad\nbad\nbad\nok 0\nbad\nbad\nbad\nbad\nbad\nok 0\nok 0\n",
     ),
 ];
-
-#[test]
-fn programs(rt: HostRuntime) {
-    for (name, db, script, wanted) in &PROGRAMS {
-        assert!(rt; prints(rt.alloc(), db, script, wanted), "{name}");
-    }
-}
-
-fn add(text: &mut Vec<u8>, parts: &[&str]) -> Result<(), AllocError> {
-    for part in parts {
-        text.extend_from_slice(part.as_bytes())?;
-    }
-    Ok(())
-}
-
-// One event for 2,001 records: a queue holds 2,000, a line serves 1,000.
-fn queue_overflows(alloc: Global) -> Result<bool, AllocError> {
-    let mut db = Vec::new(alloc);
-    for number in 0u16..2001 {
-        let here = number.to_string(alloc)?;
-        add(
-            &mut db,
-            &[
-                "record(longin,r",
-                here.as_str(),
-                "){field(SCAN,Event) field(EVNT,go)}",
-            ],
-        )?;
-    }
-    Ok(prints(
-        alloc,
-        db.as_slice(),
-        b"event go\ntally\ntally\n",
-        b"ok 2000\ntally begun=1000 processed=1000 disabled=0 active=0 reprocess=0 started=0 completed=0 dropped=1\ntally begun=2000 processed=2000 disabled=0 active=0 reprocess=0 started=0 completed=0 dropped=1\n",
-    ))
-}
-
-#[test]
-fn callbacks_past_2000(rt: HostRuntime) -> Result<(), AllocError> {
-    assert!(rt; queue_overflows(rt.alloc())?);
-    Ok(())
-}
-
-// A chain of 257 event records: an event sends 256 items, and every further one is dropped.
-fn outbox_overflows(alloc: Global) -> Result<bool, AllocError> {
-    let mut db = Vec::new(alloc);
-    for number in 0u16..257 {
-        let here = number.to_string(alloc)?;
-        let next = (number + 1).to_string(alloc)?;
-        add(
-            &mut db,
-            &[
-                "record(event,e",
-                here.as_str(),
-                "){field(VAL,go) field(FLNK,e",
-                next.as_str(),
-                ")}",
-            ],
-        )?;
-    }
-    add(
-        &mut db,
-        &["record(longin,w){field(SCAN,Event) field(EVNT,go)}"],
-    )?;
-    Ok(prints(
-        alloc,
-        db.as_slice(),
-        b"process e0\ntally\n",
-        b"ok processed\ntally begun=513 processed=513 disabled=0 active=0 reprocess=0 started=0 completed=0 dropped=1\n",
-    ))
-}
-
-#[test]
-fn posts_past_256(rt: HostRuntime) -> Result<(), AllocError> {
-    assert!(rt; outbox_overflows(rt.alloc())?);
-    Ok(())
-}

@@ -1,8 +1,7 @@
 //! Databases of each record type with a script, and what is printed for each.
-use crate::runs::prints;
+use crate::programs::Program;
 
-// What a program shows, its database and its script, and what it prints.
-static TYPES: [(&str, &[u8], &[u8], &[u8]); 12] = [
+pub static PROGRAMS: [Program; 12] = [
     (
         "an undefined value hides the limits until a put",
         b"record(longin,\"u\"){field(UDFS,MINOR) field(LOW,0) field(LSV,MAJOR)}",
@@ -76,10 +75,3 @@ static TYPES: [(&str, &[u8], &[u8], &[u8]); 12] = [
         b"= 9223372036854775807\nok processed\n= HIGH\nok processed\n= HIGH\nE5 BadValue\nok processed\n= LINK\n= INVALID\nok processed\n= -9223372036854775808\n",
     ),
 ];
-
-#[test]
-fn record_types(rt: HostRuntime) {
-    for (name, db, script, wanted) in &TYPES {
-        assert!(rt; prints(rt.alloc(), db, script, wanted), "{name}");
-    }
-}

@@ -12,17 +12,10 @@ use std::sync::Wait;
 use std::sync::atomic::{AtomicU64, Ordering};
 use std::test::Fail;
 use std::thread;
+use std::thread::Threads;
 
 // How often a thread looks at a flag before it gives up.
 const TURNS: u64 = 1_000_000;
-
-/// What a held call answers.
-#[derive(Clone, Copy, PartialEq, Eq, Debug)]
-enum Reply {
-    Done,
-    /// Nobody else was answered meanwhile.
-    Fault,
-}
 
 // Whether the flag was raised within the turns.
 fn seen(flag: &AtomicU64) -> bool {
@@ -35,14 +28,10 @@ fn seen(flag: &AtomicU64) -> bool {
     false
 }
 
-// Says that the call is inside, and stays there until the other was answered.
-fn held_until(inside: &AtomicU64, answered: &AtomicU64) -> Reply {
+// Says that the call is inside, and stays there until the other was answered: whether it was.
+fn held_until(inside: &AtomicU64, answered: &AtomicU64) -> bool {
     inside.store(1, Ordering::SeqCst);
-    if seen(answered) {
-        Reply::Done
-    } else {
-        Reply::Fault
-    }
+    seen(answered)
 }
 
 // Each of the first records, in a set of its own.
@@ -117,112 +106,183 @@ fn size_of_set(rt: &impl Wait, sets: &Directory<Numbers>, number: usize) -> Resu
     Ok(size)
 }
 
-#[test]
-fn two_sets_at_once(rt: HostRuntime) -> Result<(), Fail> {
-    let alloc = rt.alloc();
-    let sets = singles(alloc, 2)?;
-    let shared = &sets;
+/// A call or a link change, with what it must answer.
+#[derive(Clone, Copy)]
+enum Step {
+    /// The sets of two records are joined.
+    Join(usize, usize, Result<(), IocError>),
+    /// A record is parted from its set.
+    Part(usize),
+    /// How many records the set of a record has.
+    Size(usize, Result<usize, IocError>),
+}
+
+// Does what the step says, and tells whether that came of it which must.
+fn holds(rt: &impl Wait, alloc: Global, sets: &Directory<Numbers>, step: Step) -> bool {
+    match step {
+        Step::Join(one, two, wanted) => join_sets(rt, alloc, sets, one, two) == wanted,
+        Step::Part(one) => part_set(rt, alloc, sets, one) == Ok(()),
+        Step::Size(number, wanted) => size_of_set(rt, sets, number) == wanted,
+    }
+}
+
+// The first step that doesn't hold, by its place in the list.
+fn first_wrong(
+    rt: &impl Wait,
+    alloc: Global,
+    sets: &Directory<Numbers>,
+    steps: &[Step],
+) -> Option<usize> {
+    for (place, step) in steps.iter().enumerate() {
+        if !holds(rt, alloc, sets, *step) {
+            return Some(place);
+        }
+    }
+    None
+}
+
+// A call is held until the steps are done: is it inside before they are, is it done once they are, and which of them doesn't hold?
+fn beside<R: Threads + Wait + Sync>(
+    rt: &R,
+    alloc: Global,
+    sets: &Directory<Numbers>,
+    number: usize,
+    steps: &[Step],
+) -> (bool, bool, Option<usize>) {
     let inside = AtomicU64::new(0);
     let answered = AtomicU64::new(0);
     let (held, other) = thread::join(
-        &rt,
-        || shared.with_set(&rt, RecordNo::new(0), |_set| held_until(&inside, &answered)),
+        rt,
+        || sets.with_set(
+            rt,
+            RecordNo::new(number),
+            |_set| held_until(&inside, &answered),
+        ),
         || {
             let began = seen(&inside);
-            let size = size_of_set(&rt, shared, 1);
+            let wrong = first_wrong(rt, alloc, sets, steps);
             answered.store(1, Ordering::SeqCst);
-            (began, size)
+            (began, wrong)
         },
     );
-    assert_eq!(rt; held, Ok(Reply::Done));
-    assert!(rt; other.0);
-    assert_eq!(rt; other.1, Ok(1));
+    (other.0, held == Ok(true), other.1)
+}
+
+static CALL: [Step; 1] = [Step::Size(1, Ok(1))];
+
+#[test]
+fn two_sets_at_once(rt: HostRuntime) -> Result<(), Fail> {
+    let sets = singles(rt.alloc(), 2)?;
+    assert_eq!(rt;
+        beside(&rt, rt.alloc(), &sets, 0, &CALL),
+        (true, true, None)
+    );
     Ok(())
 }
+
+static LINK: [Step; 1] = [Step::Join(2, 0, Ok(()))];
+
+static LINKED: [Step; 1] = [Step::Size(0, Ok(2))];
 
 #[test]
 fn link_beside_work(rt: HostRuntime) -> Result<(), Fail> {
-    let alloc = rt.alloc();
-    let sets = singles(alloc, 3)?;
-    let shared = &sets;
-    let inside = AtomicU64::new(0);
-    let answered = AtomicU64::new(0);
-    let (held, other) = thread::join(
-        &rt,
-        || shared.with_set(&rt, RecordNo::new(1), |_set| held_until(&inside, &answered)),
-        || {
-            let began = seen(&inside);
-            let joined = join_sets(&rt, alloc, shared, 2, 0);
-            answered.store(1, Ordering::SeqCst);
-            (began, joined)
-        },
+    let sets = singles(rt.alloc(), 3)?;
+    assert_eq!(rt;
+        beside(&rt, rt.alloc(), &sets, 1, &LINK),
+        (true, true, None)
     );
-    assert_eq!(rt; held, Ok(Reply::Done));
-    assert!(rt; other.0);
-    assert_eq!(rt; other.1, Ok(()));
-    assert_eq!(rt; size_of_set(&rt, shared, 0), Ok(2));
+    assert_eq!(rt; first_wrong(&rt, rt.alloc(), &sets, &LINKED), None);
     Ok(())
 }
+
+static JOINED: [Step; 10] = [
+    Step::Join(3, 0, Ok(())),
+    Step::Join(0, 2, Ok(())),
+    Step::Size(2, Ok(3)),
+    Step::Size(1, Ok(1)),
+    Step::Join(2, 3, Ok(())),
+    Step::Part(3),
+    Step::Size(3, Ok(1)),
+    Step::Size(0, Ok(2)),
+    Step::Size(4, Err(IocError::NoRecord)),
+    Step::Join(1, 4, Err(IocError::NoRecord)),
+];
 
 #[test]
 fn sets_join_and_part(rt: HostRuntime) -> Result<(), Fail> {
-    let alloc = rt.alloc();
-    let sets = singles(alloc, 4)?;
-    assert_eq!(rt; join_sets(&rt, alloc, &sets, 3, 0), Ok(()));
-    assert_eq!(rt; join_sets(&rt, alloc, &sets, 0, 2), Ok(()));
-    assert_eq!(rt; size_of_set(&rt, &sets, 2), Ok(3));
-    assert_eq!(rt; size_of_set(&rt, &sets, 1), Ok(1));
-    assert_eq!(rt; join_sets(&rt, alloc, &sets, 2, 3), Ok(()));
-    assert_eq!(rt; part_set(&rt, alloc, &sets, 3), Ok(()));
-    assert_eq!(rt; size_of_set(&rt, &sets, 3), Ok(1));
-    assert_eq!(rt; size_of_set(&rt, &sets, 0), Ok(2));
-    assert_eq!(rt; size_of_set(&rt, &sets, 4), Err(IocError::NoRecord));
-    assert_eq!(rt; join_sets(&rt, alloc, &sets, 1, 4), Err(IocError::NoRecord));
+    let sets = singles(rt.alloc(), 4)?;
+    assert_eq!(rt; first_wrong(&rt, rt.alloc(), &sets, &JOINED), None);
     Ok(())
 }
 
-#[test]
-fn sets_are_taken_and_put_back(rt: HostRuntime) -> Result<(), Fail> {
-    let alloc = rt.alloc();
-    let sets = singles(alloc, 4)?;
-    assert_eq!(rt; join_sets(&rt, alloc, &sets, 3, 0), Ok(()));
-    let guard = sets.guard_topology(&rt);
-    let taken = sets.take_where(&rt, alloc, &|set: &Numbers| set.list.len() == 2)?;
-    let others = sets.take_where(&rt, alloc, &|set: &Numbers| set.list.len() != 0);
+static PAIR: [Step; 1] = [Step::Join(3, 0, Ok(()))];
+
+static PUT_BACK: [Step; 2] = [Step::Size(0, Ok(2)), Step::Size(2, Ok(1))];
+
+// The sets of two records, and then all others, are taken and put back: how many they are, and whether record 3 is in the first of the former.
+fn taken(
+    rt: &impl Wait,
+    alloc: Global,
+    sets: &Directory<Numbers>,
+) -> Result<(usize, bool, usize), IocError> {
+    let guard = sets.guard_topology(rt);
+    let taken = sets.take_where(rt, alloc, &|set: &Numbers| set.list.len() == 2)?;
+    let others = sets.take_where(rt, alloc, &|set: &Numbers| set.list.len() != 0);
     let count = taken.sets.len();
     let has_third = match taken.sets.first() {
         Some(set) => set.list.contains(&3),
         None => false,
     };
-    sets.put_back(&rt, taken);
+    sets.put_back(rt, taken);
     let others = others?;
     let count_of_others = others.sets.len();
-    sets.put_back(&rt, others);
+    sets.put_back(rt, others);
     drop(guard);
-    assert_eq!(rt; count, 1);
-    assert!(rt; has_third);
-    assert_eq!(rt; count_of_others, 2);
-    assert_eq!(rt; size_of_set(&rt, &sets, 0), Ok(2));
-    assert_eq!(rt; size_of_set(&rt, &sets, 2), Ok(1));
+    Ok((count, has_third, count_of_others))
+}
+
+#[test]
+fn sets_are_taken_and_put_back(rt: HostRuntime) -> Result<(), Fail> {
+    let sets = singles(rt.alloc(), 4)?;
+    assert_eq!(rt; first_wrong(&rt, rt.alloc(), &sets, &PAIR), None);
+    assert_eq!(rt; taken(&rt, rt.alloc(), &sets)?, (1, true, 2));
+    assert_eq!(rt; first_wrong(&rt, rt.alloc(), &sets, &PUT_BACK), None);
     Ok(())
+}
+
+static CHANGED: [Step; 3] = [
+    Step::Join(3, 0, Ok(())),
+    Step::Join(1, 0, Ok(())),
+    Step::Part(3),
+];
+
+static GONE: [Step; 1] = [Step::Size(0, Err(IocError::NoRecord))];
+
+// Which sizes the sets have, as bits; three and more are one.
+fn sizes(sets: &[Numbers]) -> u32 {
+    let mut sizes = 0;
+    for set in sets {
+        sizes |= 1 << set.list.len().min(3);
+    }
+    sizes
+}
+
+// How many sets are gathered, and their sizes.
+fn gathered(
+    rt: &impl Wait,
+    alloc: Global,
+    sets: &mut Directory<Numbers>,
+) -> Result<(usize, u32), IocError> {
+    let all = sets.gather(rt, alloc)?;
+    Ok((all.len(), sizes(all.as_slice())))
 }
 
 #[test]
 fn gather_finds_all(rt: HostRuntime) -> Result<(), Fail> {
-    let alloc = rt.alloc();
-    let mut sets = singles(alloc, 4)?;
-    assert_eq!(rt; join_sets(&rt, alloc, &sets, 3, 0), Ok(()));
-    assert_eq!(rt; join_sets(&rt, alloc, &sets, 1, 0), Ok(()));
-    assert_eq!(rt; part_set(&rt, alloc, &sets, 3), Ok(()));
-    let all = sets.gather(&rt, alloc)?;
-    assert_eq!(rt; all.len(), 3);
-    let mut sizes = 0;
-    for set in all.as_slice() {
-        assert!(rt; set.list.len() <= 2);
-        sizes |= 1 << set.list.len().min(3);
-    }
-    assert_eq!(rt; sizes, 6);
+    let mut sets = singles(rt.alloc(), 4)?;
+    assert_eq!(rt; first_wrong(&rt, rt.alloc(), &sets, &CHANGED), None);
+    assert_eq!(rt; gathered(&rt, rt.alloc(), &mut sets)?, (3, 6));
     assert_eq!(rt; sets.len(), 0);
-    assert_eq!(rt; size_of_set(&rt, &sets, 0), Err(IocError::NoRecord));
+    assert_eq!(rt; first_wrong(&rt, rt.alloc(), &sets, &GONE), None);
     Ok(())
 }

@@ -1,0 +1,160 @@
+//! An engine from a database text to its end, and what is done with it meanwhile: one function for all tests, since one that starts an engine costs
+//! the prover as much as ten others.
+ghost use Rattle.std.specs.Prelude.{◌≡◌, ◌-◌, ◌^◌, [], All};
+ghost use Rattle.crossbeam_utils.specs.Seq.{cell_view};
+ghost use Rattle.ioc_line.specs.Line.{keeper};
+ghost use Rattle.ioc_start.specs.Loading.{loaded_world};
+
+use crate::eight::eight;
+use crate::opened::{Sensor, loaded, seen};
+use crate::steps::{Step, follow};
+use ioc_dealing::Loaded;
+use ioc_engine::Engine;
+use ioc_journal::{Base, Limits, PLACES};
+use ioc_line::{Cell, Token};
+use ioc_start::{new_cell, start};
+use ioc_topology::Locked;
+use ioc_types::Record;
+use ioc_values::IocError;
+use std::alloc::Global;
+use std::marker::Brand;
+use std::sync::Wait;
+use std::sync::atomic::{AtomicU64, Ordering};
+use std::sync::ledger::Blank;
+use std::thread;
+use std::thread::Threads;
+
+/// What is done with an engine.
+#[derive(Clone, Copy)]
+pub enum Work<'a> {
+    /// The calls of one desk.
+    Steps(&'a [Step]),
+    /// The first calls begin, and the others once the first flag is raised; the second flag is raised once these are answered.
+    Beside {
+        first: &'a [Step],
+        others: &'a [Step],
+        asked: &'a AtomicU64,
+        answered: &'a AtomicU64,
+    },
+    /// The calls of eight threads.
+    Eight,
+}
+
+/// How many calls were answered as they must, and how many sets and records there are at the end.
+#[derive(Clone, Copy, PartialEq, Eq, Debug)]
+pub struct Ended {
+    pub held: usize,
+    pub sets: usize,
+    pub records: usize,
+}
+
+// Calls once the first flag is raised, and raises the second then: how many of the calls were answered as they must.
+fn follow_then<B: Base<Record>, R: Wait>(
+    rt: &R,
+    alloc: Global,
+    engine: &Engine<Record, B, Sensor>,
+    others: &[Step],
+    asked: &AtomicU64,
+    answered: &AtomicU64,
+) -> usize {
+    let began = seen(asked);
+    let held = follow(rt, alloc, engine, others);
+    answered.store(1, Ordering::SeqCst);
+    if began { held } else { 0 }
+}
+
+// How many calls were answered as they must.
+fn done<B: Base<Record> + Send + Sync, R: Threads + Wait + Sync>(
+    rt: &R,
+    alloc: Global,
+    engine: &Engine<Record, B, Sensor>,
+    work: Work<'_>,
+) -> usize {
+    match work {
+        Work::Steps(steps) => follow(rt, alloc, engine, steps),
+        Work::Beside {
+            first,
+            others,
+            asked,
+            answered,
+        } => {
+            let (one, other) = thread::join(
+                rt,
+                || follow(rt, alloc, engine, first),
+                || follow_then(rt, alloc, engine, others, asked, answered),
+            );
+            one.saturating_add(other)
+        }
+        Work::Eight => eight(rt, alloc, engine),
+    }
+}
+
+// Ends an engine: how many sets it has, and how many records these have.
+fn end<B: Base<Record>, R: Wait>(
+    rt: &R,
+    alloc: Global,
+    engine: Engine<Record, B, Sensor>,
+) -> Option<(usize, usize)> {
+    let Ok(report) = engine.stop(rt, alloc) else {
+        return None;
+    };
+    let mut records = 0usize;
+    for set in report.sets.as_slice() {
+        records = records.saturating_add(set.len());
+    }
+    Some((report.sets.len(), records))
+}
+
+// What an engine of any name comes to; none where it isn't started.
+fn run<B: Base<Record> + Send + Sync, R: Threads + Wait + Sync>(
+    rt: &R,
+    alloc: Global,
+    cell: Cell,
+    master: Token,
+    blank: Blank,
+    tickets: Blank,
+    all: Vec<Loaded<Record, Sensor>>,
+    work: Work<'_>,
+) -> Option<Ended>
+    requires table { (cell.table.shared.table_id ≡ B.table) × (master.table_id ≡ B.table) }
+    requires master { cell_view master ≡ keeper [] [] }
+    requires places { (blank.name ≡ B.places) × (blank.parts ≡ 2 ^ 64 - 1) }
+    requires tickets { (tickets.name ≡ B.tickets) × (tickets.parts ≡ 2 ^ 64 - 1) }
+    requires base { B.base ≡ loaded_world all.items }
+    requires copies { All (λ l. l.base ≡ l.fields) all.items }
+{
+    let limits = Limits::default();
+    let Ok(engine) = start::<Record, B, Sensor>(alloc, cell, master, blank, tickets, all, limits)
+    else {
+        return None;
+    };
+    let held = done(rt, alloc, &engine, work);
+    let (sets, records) = end(rt, alloc, engine)?;
+    Some(Ended {
+        held,
+        sets,
+        records,
+    })
+}
+
+/// What an engine of the records of a text comes to, of which the first may have a device; none where it isn't started.
+pub fn run_text<R: Threads + Wait + Sync>(
+    rt: &R,
+    alloc: Global,
+    text: &[u8],
+    device: Option<Sensor>,
+    work: Work<'_>,
+) -> Result<Option<Ended>, IocError> {
+    let all = loaded(alloc, text, device)?;
+    let (cell, master) = new_cell(alloc)?;
+    Ok(run::<Brand, R>(
+        rt,
+        alloc,
+        cell,
+        master,
+        Blank::new(PLACES),
+        Blank::new(PLACES),
+        all,
+        work,
+    ))
+}

@@ -1,0 +1,213 @@
+//! Engines from a database text to their end.
+use crate::calling::{Call, DISP, PACT, RVAL, VAL};
+use crate::eight::{CALLS, RECORDS, text};
+use crate::opened::Sensor;
+use crate::running::{Ended, Work, run_text};
+use crate::steps::Step::{self, AreAlone, Makes};
+use crate::steps::{Says, Wanted};
+use ioc_values::IocError;
+use std::alloc::{AllocError, Global};
+use std::sync::atomic::AtomicU64;
+use std::sync::{Arc, Wait};
+use std::test::Fail;
+use std::thread::Threads;
+
+/// The calls of one desk, on the records of a text, of which the first may have a device that answers later.
+struct Session {
+    name: &'static str,
+    text: &'static [u8],
+    has_device: bool,
+    steps: &'static [Step],
+    // How many sets and records there are at the end.
+    sets: usize,
+    records: usize,
+}
+
+static SESSIONS: [Session; 4] = [
+    // What the record hasn't, what can't be put and what lies beyond the records takes no place; a put that DISP forbids takes one.
+    Session {
+        name: "calls of one desk",
+        text: b"record(longin,\"a\"){field(FLNK,\"b\")}\nrecord(longin,\"b\"){}\n",
+        has_device: false,
+        steps: &[
+            Makes(Call::Put(0, VAL, b"5"), Wanted::At(0, Says::Processed)),
+            Makes(Call::Get(0, VAL), Wanted::At(1, Says::Shown(b"5"))),
+            Makes(Call::Process(0), Wanted::At(2, Says::Processed)),
+            Makes(Call::Get(2, VAL), Wanted::Fails(IocError::NoRecord)),
+            Makes(Call::Put(0, PACT, b"1"), Wanted::Fails(IocError::NoMod)),
+            Makes(Call::Get(0, RVAL), Wanted::Fails(IocError::NoField)),
+            Makes(Call::Put(0, DISP, b"1"), Wanted::At(3, Says::Plain)),
+            Makes(
+                Call::Put(0, VAL, b"6"),
+                Wanted::At(4, Says::Refused(IocError::PutDisabled)),
+            ),
+        ],
+        sets: 1,
+        records: 2,
+    },
+    // A chain of ten, and one beside.
+    Session {
+        name: "moved by link changes",
+        text: b"record(longin,\"c0\"){field(FLNK,\"c1\")}
+record(longin,\"c1\"){field(FLNK,\"c2\")}
+record(longin,\"c2\"){field(FLNK,\"c3\")}
+record(longin,\"c3\"){field(FLNK,\"c4\")}
+record(longin,\"c4\"){field(FLNK,\"c5\")}
+record(longin,\"c5\"){field(FLNK,\"c6\")}
+record(longin,\"c6\"){field(FLNK,\"c7\")}
+record(longin,\"c7\"){field(FLNK,\"c8\")}
+record(longin,\"c8\"){field(FLNK,\"c9\")}
+record(longin,\"c9\"){}
+record(longin,\"x\"){}
+",
+        has_device: false,
+        steps: &[
+            Makes(Call::SetLink(2, None), Wanted::Moves(3)),
+            Makes(Call::SetLink(2, Some(10)), Wanted::Moves(1)),
+            Makes(Call::SetLink(2, Some(9)), Wanted::Moves(4)),
+            Makes(Call::SetLink(9, Some(0)), Wanted::Moves(0)),
+        ],
+        sets: 2,
+        records: 11,
+    },
+    // The put that awaits the device is live until that has answered, the other is done at once.
+    Session {
+        name: "live until done",
+        text: NOTIFIED,
+        has_device: true,
+        steps: &[
+            Makes(Call::PutNotify(0, b"7"), Wanted::At(0, Says::Notify(1))),
+            Makes(Call::Live(1), Wanted::At(1, Says::Live(true))),
+            Makes(Call::Complete(0, 1, 5), Wanted::At(2, Says::Plain)),
+            Makes(Call::Live(1), Wanted::At(3, Says::Live(false))),
+            Makes(Call::PutNotify(1, b"7"), Wanted::At(4, Says::Notify(2))),
+            Makes(Call::Live(2), Wanted::At(5, Says::Live(false))),
+        ],
+        sets: 2,
+        records: 2,
+    },
+    // The put that awaits the device is given up: it isn't live any more, and not to be given up again, and the record's set is there for the answer
+    // of the device.
+    Session {
+        name: "over when given up",
+        text: NOTIFIED,
+        has_device: true,
+        steps: &[
+            Makes(Call::PutNotify(0, b"7"), Wanted::At(0, Says::Notify(1))),
+            Makes(Call::Cancel(1), Wanted::At(1, Says::Plain)),
+            Makes(Call::Live(1), Wanted::At(2, Says::Live(false))),
+            Makes(
+                Call::Cancel(1),
+                Wanted::At(3, Says::Refused(IocError::Stale)),
+            ),
+            Makes(Call::Complete(0, 1, 5), Wanted::At(4, Says::Plain)),
+            AreAlone(2),
+        ],
+        sets: 2,
+        records: 2,
+    },
+];
+
+// A record whose device answers later, and one that is done at once.
+const NOTIFIED: &[u8] = b"record(longin,\"p\"){field(INP,\"@d\")}\nrecord(longin,\"a\"){}\n";
+
+// Does a session come to what it must?
+fn is_held<R: Threads + Wait + Sync>(
+    rt: &R,
+    alloc: Global,
+    session: &Session,
+) -> Result<bool, IocError> {
+    let device = if session.has_device {
+        Some(Sensor::Later)
+    } else {
+        None
+    };
+    let work = Work::Steps(session.steps);
+    let wanted = Ended {
+        held: session.steps.len(),
+        sets: session.sets,
+        records: session.records,
+    };
+    Ok(run_text(rt, alloc, session.text, device, work)? == Some(wanted))
+}
+
+#[test]
+fn sessions(rt: HostRuntime) -> Result<(), Fail> {
+    for session in &SESSIONS {
+        assert!(rt; is_held(&rt, rt.alloc(), session)?, "{}", session.name);
+    }
+    Ok(())
+}
+
+// A record with a device, and three others.
+const HELD: &[u8] = b"record(longin,\"d\"){field(INP,\"@line\")}
+record(longin,\"a\"){}
+record(longin,\"b\"){}
+record(longin,\"c\"){}
+";
+
+// The record with the device is processed, and shows what it got.
+static HOLDS: [Step; 2] = [
+    Makes(Call::Process(0), Wanted::Answered),
+    Makes(Call::Get(0, VAL), Wanted::Says(Says::Shown(b"7"))),
+];
+
+static REQUEST: [Step; 1] = [Makes(Call::Process(1), Wanted::Says(Says::Processed))];
+
+static LINK_CHANGE: [Step; 1] = [Makes(Call::SetLink(2, Some(3)), Wanted::Says(Says::Plain))];
+
+fn flag(alloc: Global) -> Result<Arc<AtomicU64, Global>, AllocError> {
+    Ok(Arc::new(alloc, AtomicU64::new(0))?)
+}
+
+// A record is processed, whose device answers once a call of another set was answered: did it, was it asked before that call, and was that call answered
+// as it must?
+fn are_both_answered<R: Threads + Wait + Sync>(
+    rt: &R,
+    alloc: Global,
+    others: &[Step],
+    sets: usize,
+) -> Result<bool, IocError> {
+    let asked = flag(alloc)?;
+    let answered = flag(alloc)?;
+    let device = Sensor::Holding(Arc::try_clone(&asked)?, Arc::try_clone(&answered)?);
+    let work = Work::Beside {
+        first: &HOLDS,
+        others,
+        asked: &asked,
+        answered: &answered,
+    };
+    let wanted = Ended {
+        held: 3,
+        sets,
+        records: 4,
+    };
+    Ok(run_text(rt, alloc, HELD, Some(device), work)? == Some(wanted))
+}
+
+#[test]
+fn two_sets_at_once(rt: HostRuntime) -> Result<(), Fail> {
+    assert!(rt; are_both_answered(&rt, rt.alloc(), &REQUEST, 4)?);
+    Ok(())
+}
+
+#[test]
+fn link_beside_work(rt: HostRuntime) -> Result<(), Fail> {
+    assert!(rt; are_both_answered(&rt, rt.alloc(), &LINK_CHANGE, 3)?);
+    Ok(())
+}
+
+// Are all calls of eight threads answered, and are all records there at the end?
+fn are_all_answered<R: Threads + Wait + Sync>(rt: &R, alloc: Global) -> Result<bool, IocError> {
+    let text = text(alloc)?;
+    let Some(end) = run_text(rt, alloc, text.as_bytes(), None, Work::Eight)? else {
+        return Ok(false);
+    };
+    Ok(end.held == 8 * CALLS && end.records == RECORDS)
+}
+
+#[test]
+fn eight_threads(rt: HostRuntime) -> Result<(), Fail> {
+    assert!(rt; are_all_answered(&rt, rt.alloc())?);
+    Ok(())
+}

@@ -1,0 +1,419 @@
+//! The tables of fields: rows, names, defaults, links. All are lists of facts, since a list costs the prover little and a
+//! function much.
+use Fact::{
+    CanPut, CanSet, Default, Field, Index, KeptOnly, Kind, NoDefault, NoField, NoKind, NoType,
+    ProcessPassive, Role, Row, Type,
+};
+use ioc_fields::{
+    CommonField, FieldKind, FieldNo, LinkRole, OwnField, RecordType, Slot, can_put, can_set,
+    default_of, field, is_kept_only, is_process_passive, kind_of, link_fields, name_of, row_of,
+};
+use ioc_links::LinkKind;
+use ioc_menus::Menu;
+use ioc_values::Range;
+
+const LONG: FieldKind = FieldKind::Number(Range::Long);
+
+const ULONG: FieldKind = FieldKind::Number(Range::ULong);
+
+const SHORT: FieldKind = FieldKind::Number(Range::Short);
+
+const USHORT: FieldKind = FieldKind::Number(Range::UShort);
+
+const INT64: FieldKind = FieldKind::Number(Range::Int64);
+
+const BITS: FieldKind = FieldKind::Number(Range::Bits);
+
+const UCHAR: FieldKind = FieldKind::Number(Range::UChar);
+
+const SEVERITY: FieldKind = FieldKind::Menu(Menu::Severity);
+
+const STATUS: FieldKind = FieldKind::Menu(Menu::Status);
+
+const INPUT: FieldKind = FieldKind::Link(LinkRole::Input);
+
+const PLAIN_INPUT: FieldKind = FieldKind::Link(LinkRole::InputWithoutDevice);
+
+const OUTPUT: FieldKind = FieldKind::Link(LinkRole::Output);
+
+const FORWARD: FieldKind = FieldKind::Link(LinkRole::Forward);
+
+// How a field is marked in the tables of fields.
+#[derive(Clone, Copy)]
+enum Mark {
+    Plain,
+    // A put processes a passive record.
+    P,
+    // Neither put nor set.
+    N,
+    // Kept, without effect.
+    K,
+    // Set by a database text alone; so is a link.
+    Set,
+}
+
+// A fact of a record type.
+enum Fact {
+    // Its name, whether it reads devices, and how many fields of links it has.
+    Type(&'static str, bool, usize),
+    // No type has the name.
+    NoType(&'static str),
+    // The row of the field of a name.
+    Row(&'static str, FieldKind, Mark),
+    // The field of a name, and that is the field's name.
+    Field(&'static str, FieldNo),
+    NoField(&'static str),
+    // The number that the field has in a new record; none where it is a link.
+    Default(&'static str, i64),
+    NoDefault(&'static str),
+    Kind(FieldNo, FieldKind),
+    NoKind(FieldNo),
+    ProcessPassive(FieldNo),
+    KeptOnly(FieldNo, bool),
+    CanPut(FieldNo, bool),
+    CanSet(FieldNo),
+    // What links the fields of a role take.
+    Role(LinkRole, LinkKind),
+    Index(Slot, usize),
+}
+
+const VAL: FieldNo = FieldNo::Own(OwnField::Val);
+
+const MASK: FieldNo = FieldNo::Own(OwnField::Mask);
+
+static COMMON: [Fact; 36] = [
+    Row("NAME", FieldKind::Text, Mark::N),
+    Row("DESC", FieldKind::Text, Mark::K),
+    Row("ASG", FieldKind::Text, Mark::K),
+    Row("DTYP", FieldKind::Text, Mark::Plain),
+    Row("SCAN", FieldKind::Menu(Menu::Scan), Mark::Plain),
+    Row("PINI", FieldKind::Menu(Menu::Pini), Mark::Plain),
+    Row("PHAS", SHORT, Mark::Plain),
+    Row("EVNT", FieldKind::Text, Mark::Plain),
+    Row("TSE", FieldKind::Number(Range::Zero), Mark::Plain),
+    Row("DISV", SHORT, Mark::Plain),
+    Row("DISA", SHORT, Mark::Plain),
+    Row("SDIS", PLAIN_INPUT, Mark::Set),
+    Row("DISS", SEVERITY, Mark::Plain),
+    Row("PROC", UCHAR, Mark::Plain),
+    Row("DISP", UCHAR, Mark::Plain),
+    Row("PRIO", FieldKind::Menu(Menu::Priority), Mark::Plain),
+    Row("UDF", UCHAR, Mark::P),
+    Row("UDFS", SEVERITY, Mark::Plain),
+    Row("FLNK", FORWARD, Mark::Set),
+    Row("STAT", STATUS, Mark::N),
+    Row("SEVR", SEVERITY, Mark::N),
+    Row("NSTA", STATUS, Mark::N),
+    Row("NSEV", SEVERITY, Mark::N),
+    Row("LCNT", UCHAR, Mark::N),
+    Row("PACT", UCHAR, Mark::N),
+    Row("PUTF", UCHAR, Mark::N),
+    Row("RPRO", UCHAR, Mark::N),
+    Row("TIME", FieldKind::Text, Mark::N),
+    Default("UDF", 1),
+    Default("UDFS", 3),
+    Default("DISV", 1),
+    Default("DISA", 0),
+    Default("TSE", 0),
+    Default("SCAN", 0),
+    NoDefault("SDIS"),
+    NoDefault("FLNK"),
+];
+
+static ROLES_AND_TYPES: [Fact; 7] = [
+    Role(LinkRole::Input, LinkKind::WithDevice),
+    Role(LinkRole::Output, LinkKind::WithDevice),
+    Role(LinkRole::InputWithoutDevice, LinkKind::NoDevice),
+    Role(LinkRole::Forward, LinkKind::NoDevice),
+    NoType("longi"),
+    NoType("Bo"),
+    Index(Slot::N10, 10),
+];
+
+static LONGIN: [Fact; 32] = [
+    Type("longin", true, 3),
+    Row("VAL", LONG, Mark::P),
+    Row("INP", INPUT, Mark::Set),
+    Row("HIHI", LONG, Mark::P),
+    Row("LOLO", LONG, Mark::P),
+    Row("HIGH", LONG, Mark::P),
+    Row("LOW", LONG, Mark::P),
+    Row("HHSV", SEVERITY, Mark::P),
+    Row("LLSV", SEVERITY, Mark::P),
+    Row("HSV", SEVERITY, Mark::P),
+    Row("LSV", SEVERITY, Mark::P),
+    Row("HYST", LONG, Mark::Plain),
+    Row("LALM", LONG, Mark::N),
+    Row("ADEL", LONG, Mark::K),
+    Row("MDEL", LONG, Mark::K),
+    Row("HOPR", LONG, Mark::K),
+    Row("LOPR", LONG, Mark::K),
+    Row("EGU", FieldKind::Text, Mark::K),
+    NoField("UD"),
+    NoField("UDFX"),
+    NoField("val"),
+    NoField(""),
+    NoField("ZNAM"),
+    NoField("LNK0"),
+    Default("PROC", 0),
+    Default("VAL", 0),
+    Default("HHSV", 0),
+    Kind(VAL, LONG),
+    NoKind(MASK),
+    ProcessPassive(VAL),
+    KeptOnly(FieldNo::Own(OwnField::Egu), true),
+    KeptOnly(VAL, false),
+];
+
+static BO: [Fact; 24] = [
+    Type("bo", false, 4),
+    Row("VAL", FieldKind::State, Mark::P),
+    Row("OUT", OUTPUT, Mark::Set),
+    Row("DOL", PLAIN_INPUT, Mark::Set),
+    Row("OMSL", FieldKind::Menu(Menu::Omsl), Mark::Plain),
+    Row("IVOA", FieldKind::Menu(Menu::Ivoa), Mark::Plain),
+    Row("IVOV", USHORT, Mark::P),
+    Row("RVAL", ULONG, Mark::Plain),
+    Row("MASK", ULONG, Mark::Set),
+    Row("ZNAM", FieldKind::Text, Mark::P),
+    Row("ONAM", FieldKind::Text, Mark::P),
+    Row("ZSV", SEVERITY, Mark::P),
+    Row("OSV", SEVERITY, Mark::P),
+    Row("COSV", SEVERITY, Mark::P),
+    Row("LALM", USHORT, Mark::N),
+    Field("NAME", FieldNo::Common(CommonField::Name)),
+    Field("UDFS", FieldNo::Common(CommonField::Udfs)),
+    Field("ZNAM", FieldNo::Own(OwnField::Znam)),
+    NoField("INP"),
+    Default("VAL", 0),
+    Default("MASK", 0),
+    Default("IVOV", 0),
+    CanPut(MASK, false),
+    CanSet(MASK),
+];
+
+static FANOUT: [Fact; 19] = [
+    Type("fanout", false, 19),
+    Row("VAL", LONG, Mark::P),
+    Row("SELM", FieldKind::Menu(Menu::Selm), Mark::Plain),
+    Row("SELN", USHORT, Mark::Plain),
+    Row("SELL", PLAIN_INPUT, Mark::Set),
+    Row("OFFS", SHORT, Mark::Plain),
+    Row("SHFT", SHORT, Mark::Plain),
+    Row("LNK0", FORWARD, Mark::Set),
+    Row("LNK9", FORWARD, Mark::Set),
+    Row("LNKA", FORWARD, Mark::Set),
+    Row("LNKF", FORWARD, Mark::Set),
+    Field("LNKA", FieldNo::Own(OwnField::Lnk(Slot::N10))),
+    NoField("LNKG"),
+    NoField("LALM"),
+    Default("SELM", 0),
+    Default("SELN", 1),
+    Default("OFFS", 0),
+    Default("SHFT", -1),
+    NoDefault("LNKF"),
+];
+
+static LONGOUT: [Fact; 12] = [
+    Type("longout", false, 4),
+    Row("VAL", LONG, Mark::P),
+    Row("OUT", OUTPUT, Mark::Set),
+    Row("DOL", PLAIN_INPUT, Mark::Set),
+    Row("OMSL", FieldKind::Menu(Menu::Omsl), Mark::Plain),
+    Row("DRVH", LONG, Mark::P),
+    Row("DRVL", LONG, Mark::P),
+    Row("IVOA", FieldKind::Menu(Menu::Ivoa), Mark::Plain),
+    Row("IVOV", LONG, Mark::P),
+    Row("HYST", LONG, Mark::Plain),
+    Row("EGU", FieldKind::Text, Mark::K),
+    NoField("INP"),
+];
+
+static INT64IN: [Fact; 9] = [
+    Type("int64in", true, 3),
+    Row("VAL", INT64, Mark::P),
+    Row("INP", INPUT, Mark::Set),
+    Row("LOLO", INT64, Mark::P),
+    Row("HYST", INT64, Mark::Plain),
+    Row("LALM", INT64, Mark::N),
+    Row("LOPR", INT64, Mark::K),
+    Default("VAL", 0),
+    NoField("DRVH"),
+];
+
+static INT64OUT: [Fact; 5] = [
+    Type("int64out", false, 4),
+    Row("VAL", INT64, Mark::P),
+    Row("DRVL", INT64, Mark::P),
+    Row("IVOV", INT64, Mark::P),
+    Row("OUT", OUTPUT, Mark::Set),
+];
+
+static BI: [Fact; 8] = [
+    Type("bi", true, 3),
+    Row("VAL", FieldKind::State, Mark::P),
+    Row("INP", INPUT, Mark::Set),
+    Row("RVAL", ULONG, Mark::Plain),
+    Row("MASK", ULONG, Mark::Set),
+    Row("ONAM", FieldKind::Text, Mark::P),
+    NoField("OUT"),
+    NoField("IVOV"),
+];
+
+static MBBI: [Fact; 30] = [
+    Type("mbbi", true, 3),
+    Row("VAL", FieldKind::State, Mark::P),
+    Row("INP", INPUT, Mark::Set),
+    Row("RVAL", ULONG, Mark::Plain),
+    Row("MASK", ULONG, Mark::Set),
+    Row("SHFT", BITS, Mark::Plain),
+    Row("NOBT", BITS, Mark::Plain),
+    Row("ZRVL", ULONG, Mark::P),
+    Row("TEST", FieldKind::Text, Mark::P),
+    Row("FFSV", SEVERITY, Mark::P),
+    Row("UNSV", SEVERITY, Mark::P),
+    Row("COSV", SEVERITY, Mark::P),
+    Row("LALM", USHORT, Mark::N),
+    Field("ONVL", FieldNo::Own(OwnField::StateValue(Slot::N1))),
+    Field("TWST", FieldNo::Own(OwnField::StateText(Slot::N2))),
+    Field("THSV", FieldNo::Own(OwnField::StateSeverity(Slot::N3))),
+    Field("FRVL", FieldNo::Own(OwnField::StateValue(Slot::N4))),
+    Field("FVVL", FieldNo::Own(OwnField::StateValue(Slot::N5))),
+    Field("SXVL", FieldNo::Own(OwnField::StateValue(Slot::N6))),
+    Field("SVVL", FieldNo::Own(OwnField::StateValue(Slot::N7))),
+    Field("EIST", FieldNo::Own(OwnField::StateText(Slot::N8))),
+    Field("NIST", FieldNo::Own(OwnField::StateText(Slot::N9))),
+    Field("TEST", FieldNo::Own(OwnField::StateText(Slot::N10))),
+    Field("ELST", FieldNo::Own(OwnField::StateText(Slot::N11))),
+    Field("TVSV", FieldNo::Own(OwnField::StateSeverity(Slot::N12))),
+    Field("TTSV", FieldNo::Own(OwnField::StateSeverity(Slot::N13))),
+    Field("FTSV", FieldNo::Own(OwnField::StateSeverity(Slot::N14))),
+    Default("SHFT", 0),
+    NoField("SXXX"),
+    NoField("ZNAM"),
+];
+
+static MBBO: [Fact; 6] = [
+    Type("mbbo", false, 4),
+    Row("VAL", FieldKind::State, Mark::P),
+    Row("IVOV", USHORT, Mark::P),
+    Row("SVSV", SEVERITY, Mark::P),
+    Row("OUT", OUTPUT, Mark::Set),
+    NoField("INP"),
+];
+
+static STRINGIN: [Fact; 4] = [
+    Type("stringin", true, 3),
+    Row("VAL", FieldKind::Text, Mark::P),
+    Row("INP", INPUT, Mark::Set),
+    NoField("LALM"),
+];
+
+static STRINGOUT: [Fact; 5] = [
+    Type("stringout", false, 4),
+    Row("VAL", FieldKind::Text, Mark::P),
+    Row("IVOV", FieldKind::Text, Mark::P),
+    Row("DOL", PLAIN_INPUT, Mark::Set),
+    NoField("INP"),
+];
+
+static EVENT: [Fact; 4] = [
+    Type("event", true, 3),
+    Row("VAL", FieldKind::Text, Mark::P),
+    Row("INP", INPUT, Mark::Set),
+    NoField("IVOV"),
+];
+
+// The row that the tables of fields tell of a field.
+fn told(kind: FieldKind, mark: Mark) -> ioc_fields::Row {
+    match (kind, mark) {
+        (FieldKind::Link(role), _) => ioc_fields::Row::link(role),
+        (_, Mark::Plain) => ioc_fields::Row::plain(kind),
+        (_, Mark::P) => ioc_fields::Row::passive(kind),
+        (_, Mark::N) => ioc_fields::Row::fixed(kind),
+        (_, Mark::K) => ioc_fields::Row::kept(kind),
+        (_, Mark::Set) => ioc_fields::Row::given(kind),
+    }
+}
+
+// The number that a field has in a new record.
+fn default_number(record_type: RecordType, name: &str) -> Option<i64> {
+    let field = field(record_type, name.as_bytes())?;
+    default_of(record_type, field)?.number()
+}
+
+// A fact of a name.
+fn holds(record_type: RecordType, fact: &Fact) -> bool {
+    match fact {
+        Row(name, kind, mark) => match field(record_type, name.as_bytes()) {
+            Some(field) => row_of(record_type, field) == Some(told(*kind, *mark)),
+            None => false,
+        },
+        Field(name, wanted) => {
+            field(record_type, name.as_bytes()) == Some(*wanted) && name_of(*wanted) == *name
+        }
+        NoField(name) => field(record_type, name.as_bytes()).is_none(),
+        Default(name, number) => default_number(record_type, name) == Some(*number),
+        NoDefault(name) => {
+            field(record_type, name.as_bytes()).is_some()
+                && default_number(record_type, name).is_none()
+        }
+        Type(name, reads, links) => {
+            RecordType::from_name(name.as_bytes()) == Some(record_type)
+                && record_type.name() == *name
+                && record_type.reads_device() == *reads
+                && link_fields(record_type).len() == *links
+        }
+        NoType(name) => RecordType::from_name(name.as_bytes()).is_none(),
+        fact => field_holds(record_type, fact),
+    }
+}
+
+// A fact of a field, or of what no type changes.
+fn field_holds(record_type: RecordType, fact: &Fact) -> bool {
+    match fact {
+        Kind(field, kind) => kind_of(record_type, *field) == Some(*kind),
+        NoKind(field) => kind_of(record_type, *field).is_none(),
+        ProcessPassive(field) => is_process_passive(record_type, *field),
+        KeptOnly(field, wanted) => is_kept_only(record_type, *field) == *wanted,
+        CanPut(field, wanted) => can_put(record_type, *field) == *wanted,
+        CanSet(field) => can_set(record_type, *field),
+        Role(role, kind) => role.link_kind() == *kind,
+        Index(slot, index) => slot.index() == *index,
+        _ => false,
+    }
+}
+
+// The first fact that doesn't hold for a type, by its place in the table.
+fn first_wrong(record_type: RecordType, facts: &[Fact]) -> Option<usize> {
+    for (place, fact) in facts.iter().enumerate() {
+        if !holds(record_type, fact) {
+            return Some(place);
+        }
+    }
+    None
+}
+
+#[test]
+fn fields(rt: HostRuntime) {
+    let tables: [(RecordType, &[Fact]); 15] = [
+        (RecordType::Longin, &ROLES_AND_TYPES),
+        (RecordType::Longin, &COMMON),
+        (RecordType::Longin, &LONGIN),
+        (RecordType::Longout, &LONGOUT),
+        (RecordType::Int64in, &INT64IN),
+        (RecordType::Int64out, &INT64OUT),
+        (RecordType::Bi, &BI),
+        (RecordType::Bo, &BO),
+        (RecordType::Mbbi, &MBBI),
+        (RecordType::Mbbo, &MBBO),
+        (RecordType::Stringin, &STRINGIN),
+        (RecordType::Stringout, &STRINGOUT),
+        (RecordType::Fanout, &COMMON),
+        (RecordType::Fanout, &FANOUT),
+        (RecordType::Event, &EVENT),
+    ];
+    for (record_type, facts) in &tables {
+        assert_eq!(rt; first_wrong(*record_type, facts), None);
+    }
+}

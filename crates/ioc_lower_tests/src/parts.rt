@@ -1,0 +1,110 @@
+//! Connected parts.
+ghost use Rattle.std.specs.Prelude.{◌≡◌};
+
+use ioc_graph::{Edge, are_below, parts, parts_of_all};
+use ioc_names::RecordNo;
+use std::alloc::{AllocError, Global};
+use std::test::Fail;
+
+// The ends of the edges between so many records, the number of each one's part, and a count that an end isn't below where there are any.
+static PARTS: [(&[(usize, usize)], usize, &[usize], usize); 2] = [
+    (&[], 0, &[], 0),
+    // A loop, a pair and a record alone.
+    (
+        &[(4, 0), (2, 4), (0, 2), (5, 3), (1, 1)],
+        6,
+        &[0, 1, 0, 3, 0, 3],
+        5,
+    ),
+];
+
+fn edge(from: usize, to: usize) -> Edge
+    ensures { result ≡ record { from = from; to = to } }
+{
+    Edge {
+        from: RecordNo::new(from),
+        to: RecordNo::new(to),
+    }
+}
+
+fn edges_between(alloc: Global, ends: &[(usize, usize)]) -> Result<Vec<Edge>, AllocError> {
+    let mut edges = Vec::new(alloc);
+    for (from, to) in ends {
+        edges.push(edge(*from, *to))?;
+    }
+    Ok(edges)
+}
+
+// The number of each record's part; none where an end isn't below the count.
+fn numbers(alloc: Global, edges: &[Edge], count: usize) -> Result<Vec<usize>, AllocError> {
+    if !are_below(edges, count) {
+        return Ok(Vec::new(alloc));
+    }
+    parts_of_all(alloc, edges, count)
+}
+
+// Are these the parts, and is an end too high for fewer records?
+fn are_parts(
+    alloc: Global,
+    ends: &[(usize, usize)],
+    count: usize,
+    wanted: &[usize],
+    fewer: usize,
+) -> Result<bool, AllocError> {
+    let edges = edges_between(alloc, ends)?;
+    let found = numbers(alloc, edges.as_slice(), count)?;
+    Ok(found.as_slice() == wanted && are_below(edges.as_slice(), fewer) == ends.is_empty())
+}
+
+#[test]
+fn parts_of_all_records(rt: HostRuntime) -> Result<(), Fail> {
+    for (ends, count, wanted, fewer) in &PARTS {
+        assert!(rt;
+            are_parts(rt.alloc(), ends, *count, wanted, *fewer)?,
+            "of {count}"
+        );
+    }
+    Ok(())
+}
+
+// Are the parts right where there are gaps between the records' numbers, and where there are no records?
+fn are_parts_with_gaps(alloc: Global) -> Result<bool, AllocError> {
+    let nodes = [RecordNo::new(3), RecordNo::new(10), RecordNo::new(11)];
+    let found = parts(alloc, &[edge(11, 3)], &nodes)?;
+    let none = parts(alloc, &[], &[])?;
+    Ok(found.as_slice() == [0, 1, 0].as_slice() && none.is_empty())
+}
+
+#[test]
+fn parts_of_records_with_gaps(rt: HostRuntime) -> Result<(), Fail> {
+    assert!(rt; are_parts_with_gaps(rt.alloc())?);
+    Ok(())
+}
+
+// A chain of 100,000 records, its links in a shuffled order.
+fn chain(alloc: Global) -> Result<Vec<Edge>, AllocError> {
+    let mut edges = Vec::with_capacity(alloc, 99_999)?;
+    for i in 0..99_999usize {
+        let from = i * 7919 % 99_999;
+        edges.push(edge(from, from + 1))?;
+    }
+    Ok(edges)
+}
+
+// Is each of the numbers 0?
+fn are_zeros(numbers: &[usize]) -> bool {
+    for number in numbers {
+        if *number != 0 {
+            return false;
+        }
+    }
+    true
+}
+
+#[test]
+fn long_chain_is_one_part(rt: HostRuntime) -> Result<(), Fail> {
+    let edges = chain(rt.alloc())?;
+    let found = numbers(rt.alloc(), edges.as_slice(), 100_000)?;
+    assert!(rt; found.len() == 100_000 && are_zeros(found.as_slice()));
+    Ok(())
+}

@@ -1,0 +1,47 @@
+//! The table of the puts with notification of many sets.
+ghost use Rattle.std.specs.Prelude.{◌≡◌, ◌∷◌, []};
+
+use ioc_notify::{Live, NotifyId};
+use ioc_put_table::PutTable;
+use std::alloc::{AllocError, Global};
+use std::test::Fail;
+
+// What a set has: one put with notification, which so many have.
+fn one(number: u64, holders: u64) -> [Live; 1]
+    ensures { result ≡ record { number = number; holders = holders } ∷ [] }
+{
+    [Live {
+        number: NotifyId::new(number),
+        holders,
+    }]
+}
+
+// Is its number taken while a set has it, and another one free?
+fn is_taken(table: &PutTable) -> bool {
+    let seven = NotifyId::new(7);
+    let eight = NotifyId::new(8);
+    let is_seven = table.is_live(seven) && !table.has_place(seven);
+    is_seven && table.has_place(eight) && !table.is_live(eight)
+}
+
+// What two sets have of one put, the first two holders, the other one: whether its number is taken, and whether it is live once the first set
+// has it no more, and once nobody has it.
+fn lives_until_the_last(alloc: Global) -> Result<[bool; 3], AllocError> {
+    let seven = NotifyId::new(7);
+    let mut table = PutTable::new(alloc);
+    table.reserve(2)?;
+    table.add_on(&one(7, 2));
+    table.add_on(&one(7, 1));
+    table.is_table();
+    let at_first = is_taken(&table);
+    table.take_off(&one(7, 2));
+    let then = table.is_live(seven);
+    table.take_off(&one(7, 1));
+    Ok([at_first, then, table.is_live(seven)])
+}
+
+#[test]
+fn live_while_any_set_has_it(rt: HostRuntime) -> Result<(), Fail> {
+    assert!(rt; lives_until_the_last(rt.alloc())? == [true, true, false]);
+    Ok(())
+}

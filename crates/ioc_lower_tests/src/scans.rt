@@ -1,0 +1,169 @@
+//! Scan lists, by lists of steps.
+use ioc_menus::{Priority, Scan};
+use ioc_names::RecordNo;
+use ioc_scan::{ListName, Listed, Place, ScanLists};
+use ioc_values::{Short, Text};
+use std::test::Fail;
+
+/// A record's fields, as a change of it says.
+#[derive(Clone, Copy)]
+enum Fields {
+    /// SCAN is 1 second, and PHAS this.
+    EverySecond(i16),
+    Passive,
+    /// SCAN is Event, and EVNT this.
+    Event(&'static [u8]),
+    /// SCAN is I/O Intr, and the record has this device.
+    Interrupt(&'static [u8]),
+}
+
+/// A step of a test.
+#[derive(Clone, Copy)]
+enum Step {
+    /// The lists give way to new ones, of so many records.
+    New(usize),
+    /// This record's change of this number comes.
+    Changes(usize, u64, Fields),
+    Adds(usize, Fields),
+    Removes(usize),
+    /// The list of records with these fields is walked: there are these records, in this order.
+    Walks(Fields, &'static [usize]),
+}
+
+static STEPS: [Step; 42] = [
+    // Lists are in the order of PHAS.
+    Step::New(5),
+    Step::Walks(Fields::EverySecond(0), &[]),
+    Step::Changes(0, 0, Fields::EverySecond(1)),
+    Step::Changes(1, 0, Fields::EverySecond(0)),
+    Step::Changes(2, 0, Fields::EverySecond(-1)),
+    Step::Changes(3, 0, Fields::EverySecond(0)),
+    Step::Changes(4, 0, Fields::Passive),
+    Step::Walks(Fields::EverySecond(0), &[2, 1, 3, 0]),
+    // The same again: behind those with its PHAS.
+    Step::Changes(1, 1, Fields::EverySecond(0)),
+    Step::Walks(Fields::EverySecond(0), &[2, 3, 1, 0]),
+    // One that comes too late.
+    Step::Changes(1, 0, Fields::Passive),
+    Step::Walks(Fields::EverySecond(0), &[2, 3, 1, 0]),
+    Step::Changes(3, 1, Fields::Passive),
+    Step::Changes(4, 2, Fields::EverySecond(-32768)),
+    Step::Changes(0, 1, Fields::EverySecond(32767)),
+    Step::Walks(Fields::EverySecond(0), &[4, 2, 1, 0]),
+    Step::Walks(Fields::Passive, &[]),
+    // Events are found by name.
+    Step::New(5),
+    Step::Changes(0, 0, Fields::Event(b" go ")),
+    Step::Changes(1, 0, Fields::Event(b"go")),
+    Step::Changes(2, 0, Fields::Event(b"g o")),
+    Step::Changes(3, 0, Fields::Event(b" 0")),
+    Step::Changes(4, 0, Fields::Event(b"")),
+    Step::Walks(Fields::Event(b"go"), &[0, 1]),
+    Step::Walks(Fields::Event(b"  go"), &[0, 1]),
+    Step::Walks(Fields::Event(b"g o"), &[2]),
+    Step::Walks(Fields::Event(b"\tgo"), &[]),
+    Step::Walks(Fields::Event(b"0"), &[]),
+    Step::Walks(Fields::Event(b"  "), &[]),
+    Step::Walks(Fields::Interrupt(b"go"), &[]),
+    // Interrupts are found by the first word.
+    Step::New(5),
+    Step::Changes(0, 0, Fields::Interrupt(b"card 1")),
+    Step::Changes(1, 0, Fields::Interrupt(b"card\t2")),
+    Step::Changes(2, 0, Fields::Interrupt(b"cards")),
+    Step::Walks(Fields::Interrupt(b"card"), &[0, 1]),
+    Step::Walks(Fields::Interrupt(b"cards 7"), &[2]),
+    Step::Walks(Fields::Interrupt(b"Card"), &[]),
+    // Records are added and removed.
+    Step::New(2),
+    Step::Adds(1, Fields::EverySecond(0)),
+    Step::Walks(Fields::EverySecond(0), &[1]),
+    Step::Removes(1),
+    Step::Walks(Fields::EverySecond(0), &[]),
+];
+
+fn list_of(fields: Fields) -> Option<ListName> {
+    match fields {
+        Fields::EverySecond(_) => ListName::of(Scan::OneSecond, Text::cut(b""), None),
+        Fields::Passive => ListName::of(Scan::Passive, Text::cut(b""), None),
+        Fields::Event(name) => ListName::of(Scan::Event, Text::cut(name), None),
+        Fields::Interrupt(device) => {
+            ListName::of(Scan::IoIntr, Text::cut(b""), Some(Short::cut(device)))
+        }
+    }
+}
+
+fn place_of(fields: Fields) -> Option<Place> {
+    let phase = match fields {
+        Fields::EverySecond(phase) => phase,
+        _ => 0,
+    };
+    Some(Place {
+        list: list_of(fields)?,
+        phase,
+        priority: Priority::Medium,
+    })
+}
+
+// Does a change, where there is the record and a number of adding.
+fn change(lists: &mut ScanLists, member: usize, number: u64, place: Option<Place>) -> bool {
+    if member >= lists.len() || !lists.can_change() {
+        return false;
+    }
+    lists.change(RecordNo::new(member), number, place).is_ok()
+}
+
+// Adds a record with a place, and removes one without, where there is the record and a number of adding.
+fn put(lists: &mut ScanLists, member: usize, place: Option<Place>) -> bool {
+    if member >= lists.len() || !lists.can_change() {
+        return false;
+    }
+    match place {
+        Some(place) => lists.add(RecordNo::new(member), place).is_ok(),
+        None => {
+            lists.remove(RecordNo::new(member));
+            true
+        }
+    }
+}
+
+// Are these the records, in this order?
+fn are_listed(found: &[Listed], wanted: &[usize]) -> bool {
+    for (place, listed) in found.iter().enumerate() {
+        if wanted.get(place) != Some(&listed.number.index()) {
+            return false;
+        }
+    }
+    found.len() == wanted.len()
+}
+
+// Whether the list has these records, in this order.
+fn has(lists: &ScanLists, fields: Fields, wanted: &[usize], into: &mut Vec<Listed>) -> bool {
+    match list_of(fields) {
+        Some(list) => lists.walk(&list, into).is_ok() && are_listed(into.as_slice(), wanted),
+        None => wanted.is_empty(),
+    }
+}
+
+// Does what the step says, and tells whether that came of it which must.
+fn holds(lists: &mut ScanLists, step: Step, into: &mut Vec<Listed>) -> bool {
+    match step {
+        Step::New(count) => lists.len() == count,
+        Step::Changes(member, number, fields) => change(lists, member, number, place_of(fields)),
+        Step::Adds(member, fields) => put(lists, member, place_of(fields)),
+        Step::Removes(member) => put(lists, member, None),
+        Step::Walks(fields, wanted) => has(lists, fields, wanted, into),
+    }
+}
+
+#[test]
+fn lists_by_steps(rt: HostRuntime) -> Result<(), Fail> {
+    let mut lists = ScanLists::new(rt.alloc(), 0)?;
+    let mut into = Vec::new(rt.alloc());
+    for (number, step) in STEPS.iter().enumerate() {
+        if let Step::New(count) = step {
+            lists = ScanLists::new(rt.alloc(), *count)?;
+        }
+        assert!(rt; holds(&mut lists, *step, &mut into), "step {number}");
+    }
+    Ok(())
+}

@@ -1,0 +1,416 @@
+//! Tests of one record as lists of steps, each with what must come of it. One list holds all tests of a type, since
+//! a list costs the prover little and a function much.
+use ioc_common::{
+    Common, FieldAddress, Fresh, Got, InputKind, KeptLink, Lead, LinkUse, Need, Output,
+    StandingLink, Want,
+};
+use ioc_fields::{FieldNo, OwnField, field};
+use ioc_links::Mode;
+use ioc_menus::{Severity, Status};
+use ioc_names::RecordNo;
+use ioc_record::{
+    Record, RecordBody, RecordKind, put_field, put_untested, read_as, set_field, test_put, text_of,
+};
+use ioc_values::{Finished, Input, IocError, Name, Range, Text, Value};
+use std::alloc::Global;
+use std::process::Abort;
+
+/// What comes to a body.
+#[derive(Clone, Copy)]
+pub enum Came {
+    Nothing,
+    Fault,
+    Long(i32),
+    UShort(u16),
+    ULong(u32),
+    Int64(i64),
+    /// A text of the test's.
+    Text(&'static str),
+}
+
+/// What a body wants: a link read is one that leads to VAL of the record of number 1, with PP or not, and of this mode.
+#[derive(Clone, Copy)]
+pub enum Wants {
+    Nothing,
+    Unused,
+    Absent,
+    Device,
+    Link(bool, Mode),
+}
+
+/// What a body does next: a link written is one, NPP NMS, that leads to VAL of the record of number 1.
+#[derive(Clone, Copy)]
+pub enum Does {
+    Nothing,
+    WriteAbsent(u16),
+    WriteAbsentRaw(u32),
+    WriteAbsentLong(i32),
+    WriteAbsentInt64(i64),
+    Write(u16),
+    WriteRaw(u32),
+    WriteDevice(u32),
+    WriteDeviceLong(i32),
+    Follow(u16),
+    WriteText(&'static str),
+    WriteDeviceText(&'static str),
+    /// The event of this name is posted.
+    Post(&'static str),
+}
+
+/// A step on the fields that every record has.
+#[derive(Clone, Copy)]
+pub enum Act {
+    Raise(Status, Severity),
+    Inherit(Mode, Status, Severity),
+    /// The alarms are shown.
+    Show,
+    /// The record is active, and not by a step of its own.
+    Activate,
+    /// The alarms are shown at this moment.
+    ShowAt(u64),
+    /// A request finds the record disabled.
+    Disable,
+    /// PUTF and RPRO are set.
+    MarkPut(bool),
+    MarkReprocess(bool),
+    /// The record is passive, or not.
+    Passive(bool),
+    /// A request finds the record active.
+    Block,
+    /// A request finds the record idle.
+    Unblock,
+    Wait,
+    EndWait,
+    /// The completion that the record awaits has this number.
+    Awaits(Option<u64>),
+    /// The last completion had this number.
+    LastAwaited(u64),
+}
+
+/// A step of a test, with what must come of it.
+#[derive(Clone, Copy)]
+pub enum Step<'a> {
+    /// The test of this name begins, with a new record.
+    Test(&'a str),
+    /// A database text sets a field.
+    Set(&'a str, &'a str),
+    SetRefused(&'a str, &'a str, IocError),
+    /// The load ends.
+    Load,
+    /// The record gives way to a copy of it.
+    Copied,
+    /// A script puts a field.
+    Put(&'a str, &'a str),
+    PutRefused(&'a str, &'a str, IocError),
+    /// A link puts a text, whatever DISP is.
+    PutByLink(&'a str, &'a str),
+    /// A client may put the field, or is told this.
+    MayPut(&'a str, Option<IocError>),
+    /// A record puts a number.
+    PutNumber(&'a str, i32),
+    /// The link of the field leads to VAL of the record of number 1.
+    Stands(FieldNo),
+    /// The link of the field leads to the record's own device.
+    OwnsDevice(FieldNo),
+    /// The body begins, and wants this.
+    Begin(Wants),
+    /// The body takes this, and does that next.
+    Take(Came, Does),
+    /// The body's device has answered a number at last, or a fault.
+    Answer(u32),
+    AnswerFault,
+    Do(Act),
+    /// The field has this text.
+    Has(&'a str, &'a str),
+    /// The alarms are shown, and have this status and severity.
+    Shows(&'a str, &'a str),
+    /// An alarm of this status and severity is raised.
+    Raised(&'a str, &'a str),
+    /// A reader of a number has this from the field, and one of a text has that.
+    ReadAsNumber(&'a str, i32),
+    ReadAsText(&'a str, &'a str),
+    /// What the body wants is converted to this.
+    Converts(InputKind),
+    /// The type has so many link fields, and so many states.
+    Lists(usize, usize),
+}
+
+/// The alarms are shown.
+pub const SHOW: Step<'static> = Step::Do(Act::Show);
+
+/// A request finds the record active.
+pub const BLOCK: Step<'static> = Step::Do(Act::Block);
+
+// The field of a name.
+fn at<K: RecordKind>(item: &K, name: &str) -> Result<FieldNo, IocError> {
+    field(item.record_type(), name.as_bytes()).ok_or(IocError::NoField)
+}
+
+fn set<K: RecordKind>(alloc: Global, item: &mut K, name: &str, text: &str) -> Result<(), IocError> {
+    let field = at(item, name)?;
+    set_field(alloc, item, field, text.as_bytes())
+}
+
+fn put<K: RecordKind>(item: &mut K, name: &str, input: Input) -> Result<(), IocError> {
+    let field = at(item, name)?;
+    put_field(item, field, input)
+}
+
+// Is this the text of the field?
+fn has_text<K: RecordKind>(item: &K, name: &str, wanted: &str) -> bool {
+    match at(item, name) {
+        Ok(field) => text_of(item, field).as_slice() == wanted.as_bytes(),
+        Err(_) => false,
+    }
+}
+
+fn read<K: RecordKind>(item: &K, name: &str, kind: InputKind) -> Result<Value, IocError> {
+    let field = at(item, name)?;
+    read_as(item, field, kind)
+}
+
+// The link of the field leads there.
+fn lead_on<K: RecordKind>(alloc: Global, item: &mut K, field: FieldNo, lead: Lead) -> bool {
+    let Some(kept) = item.link(field) else {
+        return false;
+    };
+    let mut link = kept.get();
+    link.lead = lead;
+    match KeptLink::new(alloc, link) {
+        Ok(kept) => {
+            item.set_link(field, kept);
+            true
+        }
+        Err(_) => false,
+    }
+}
+
+// A lead to VAL of the record of number 1.
+fn there() -> Lead {
+    Lead::Field(FieldAddress {
+        number: RecordNo::new(1),
+        field: FieldNo::Own(OwnField::Val),
+    })
+}
+
+// The use of a link that leads there.
+fn standing(process_passive: bool, mode: Mode) -> LinkUse {
+    LinkUse::Standing(StandingLink {
+        number: RecordNo::new(1),
+        field: FieldNo::Own(OwnField::Val),
+        process_passive,
+        mode,
+    })
+}
+
+fn text_value(text: &str) -> Value {
+    Value::Text(Text::cut(text.as_bytes()))
+}
+
+fn got(came: Came) -> Got {
+    match came {
+        Came::Nothing => Got::Nothing,
+        Came::Fault => Got::Fault,
+        Came::Long(number) => Got::Value(Value::Long(number)),
+        Came::UShort(number) => Got::Value(Value::UShort(number)),
+        Came::ULong(number) => Got::Value(Value::ULong(number)),
+        Came::Int64(number) => Got::Value(Value::Int64(number)),
+        Came::Text(text) => Got::Value(text_value(text)),
+    }
+}
+
+fn want(wants: Wants) -> Want {
+    match wants {
+        Wants::Nothing => Want::NoInput,
+        Wants::Unused => Want::ReadLink(LinkUse::Unused),
+        Wants::Absent => Want::ReadLink(LinkUse::Absent),
+        Wants::Device => Want::ReadDevice,
+        Wants::Link(process_passive, mode) => Want::ReadLink(standing(process_passive, mode)),
+    }
+}
+
+fn output(does: Does) -> Output {
+    match does {
+        Does::Nothing => Output::NoOutput,
+        Does::WriteAbsent(number) => Output::WriteLink(LinkUse::Absent, Value::UShort(number)),
+        Does::WriteAbsentRaw(number) => Output::WriteLink(LinkUse::Absent, Value::ULong(number)),
+        Does::WriteAbsentLong(number) => Output::WriteLink(LinkUse::Absent, Value::Long(number)),
+        Does::WriteAbsentInt64(number) => Output::WriteLink(LinkUse::Absent, Value::Int64(number)),
+        Does::Write(number) => Output::WriteLink(standing(false, Mode::Nms), Value::UShort(number)),
+        Does::WriteRaw(number) => {
+            Output::WriteLink(standing(false, Mode::Nms), Value::ULong(number))
+        }
+        Does::WriteDevice(number) => Output::WriteDevice(Value::ULong(number)),
+        Does::WriteDeviceLong(number) => Output::WriteDevice(Value::Long(number)),
+        Does::Follow(links) => Output::FollowLinks(links),
+        Does::WriteText(text) => Output::WriteLink(standing(false, Mode::Nms), text_value(text)),
+        Does::WriteDeviceText(text) => Output::WriteDevice(text_value(text)),
+        Does::Post(name) => Output::PostEvent(Text::cut(name.as_bytes())),
+    }
+}
+
+// Does what the step says, and tells whether that came of it which must.
+fn is_done(common: &mut Common, act: Act) -> bool {
+    match act {
+        Act::Raise(status, severity) => common.raise(status, severity),
+        Act::Inherit(mode, status, severity) => common.inherit(mode, status, severity),
+        Act::Show => common.show(0),
+        Act::ShowAt(moment) => common.show(moment),
+        Act::Disable => common.disable(),
+        Act::MarkPut(by_put) => common.mark_put(by_put),
+        Act::MarkReprocess(reprocess) => common.mark_reprocess(reprocess),
+        Act::Passive(wanted) => return common.is_passive() == wanted,
+        Act::Activate => common.active = true,
+        Act::Block => common.block(),
+        Act::Unblock => common.unblock(),
+        Act::Wait if common.last_pending < u64::MAX => common.wait(),
+        Act::Wait => return false,
+        Act::EndWait => common.end_wait(),
+        Act::Awaits(number) => return common.pending == number,
+        Act::LastAwaited(number) => return common.last_pending == number,
+    }
+    true
+}
+
+// Was it refused for this?
+fn is_refused(done: Result<(), IocError>, fault: IocError) -> bool {
+    match done {
+        Ok(()) => false,
+        Err(found) => found == fault,
+    }
+}
+
+// May a client put the field, or is it told this?
+fn may_put<K: RecordKind>(item: &K, name: &str, fault: Option<IocError>) -> bool {
+    match (at(item, name), fault) {
+        (Ok(field), Some(fault)) => is_refused(test_put(item, field), fault),
+        (Ok(field), None) => test_put(item, field).is_ok(),
+        (Err(_), _) => false,
+    }
+}
+
+// Was this read?
+fn is_read(found: Result<Value, IocError>, wanted: Value) -> bool {
+    match found {
+        Ok(value) => value == wanted,
+        Err(_) => false,
+    }
+}
+
+// A step on fields, or on what every record has.
+fn holds<K: RecordKind + Drop>(alloc: Global, item: &mut K, step: &Step<'_>) -> bool {
+    match step {
+        Step::Test(_) => true,
+        Step::Set(name, text) => set(alloc, item, name, text).is_ok(),
+        Step::SetRefused(name, text, fault) => is_refused(set(alloc, item, name, text), *fault),
+        Step::Put(name, text) => put(item, name, Input::from_text(text.as_bytes())).is_ok(),
+        Step::PutRefused(name, text, fault) => {
+            is_refused(put(item, name, Input::from_text(text.as_bytes())), *fault)
+        }
+        Step::PutByLink(name, text) => match at(item, name) {
+            Ok(field) => put_untested(item, field, Input::from_text(text.as_bytes())).is_ok(),
+            Err(_) => false,
+        },
+        Step::MayPut(name, fault) => may_put(item, name, *fault),
+        Step::PutNumber(name, number) => {
+            put(item, name, Input::Value(Value::Long(*number))).is_ok()
+        }
+        Step::Do(act) => is_done(item.common_mut(), *act),
+        Step::Has(name, wanted) => has_text(item, name, wanted),
+        Step::Shows(status, severity) => {
+            item.common_mut().show(0);
+            has_text(item, "STAT", status) && has_text(item, "SEVR", severity)
+        }
+        Step::Raised(status, severity) => {
+            has_text(item, "NSTA", status) && has_text(item, "NSEV", severity)
+        }
+        step => type_holds(alloc, item, step),
+    }
+}
+
+// The body begins, and wants this.
+fn begins<K: RecordKind>(item: &K, wanted: Want) -> bool {
+    let need = match wanted {
+        Want::NoInput | Want::ReadLink(LinkUse::Unused) => Need::Nothing,
+        Want::ReadLink(_) => Need::Link,
+        Want::ReadDevice => Need::Device,
+    };
+    let link = match wanted {
+        Want::ReadLink(link) => link,
+        Want::NoInput | Want::ReadDevice => LinkUse::Unused,
+    };
+    item.begin() == need && item.wanted_link() == link
+}
+
+// The body takes what came, and does this next.
+fn takes<K: RecordKind>(item: &mut K, got: Got, does: Output) -> bool {
+    let mut output = Output::NoOutput;
+    let puts_out = item.take(&got, &mut output);
+    puts_out == (does != Output::NoOutput) && output == does
+}
+
+// The body's device has answered at last, and the body puts out nothing.
+fn ends<K: RecordKind>(item: &mut K, finished: Finished) -> bool {
+    let mut output = Output::FollowLinks(0);
+    item.finish(finished, &mut output);
+    output == Output::NoOutput
+}
+
+// The record gives way to a copy, which has become the same as it once more.
+fn copied<K: RecordKind + Drop>(alloc: Global, item: &mut K) -> bool {
+    let Ok(mut copy) = item.copy(alloc) else {
+        return false;
+    };
+    copy.copy_from(item);
+    *item = copy;
+    true
+}
+
+// A step of the record's type.
+fn type_holds<K: RecordKind + Drop>(alloc: Global, item: &mut K, step: &Step<'_>) -> bool {
+    match step {
+        Step::Load => {
+            item.load();
+            true
+        }
+        Step::Copied => copied(alloc, item),
+        Step::Stands(field) => lead_on(alloc, item, *field, there()),
+        Step::OwnsDevice(field) => lead_on(alloc, item, *field, Lead::OwnDevice),
+        Step::Begin(wants) => begins(item, want(*wants)),
+        Step::Take(came, does) => takes(item, got(*came), output(*does)),
+        Step::Answer(number) => ends(item, Finished::Done(Value::ULong(*number))),
+        Step::AnswerFault => ends(item, Finished::Fault),
+        Step::ReadAsNumber(name, number) => {
+            let kind = InputKind::Number(Range::Long);
+            is_read(read(item, name, kind), Value::Long(*number))
+        }
+        Step::ReadAsText(name, text) => {
+            let wanted = Value::Text(Text::cut(text.as_bytes()));
+            is_read(read(item, name, InputKind::Text), wanted)
+        }
+        Step::Converts(kind) => item.input_kind() == *kind,
+        Step::Lists(links, states) => {
+            item.link_fields().len() == *links && item.states().len() == *states
+        }
+        _ => false,
+    }
+}
+
+/// Goes through the tests of a list of steps, each with a new record of the type.
+pub fn follow<B: RecordBody + Fresh + Drop>(
+    rt: &impl Abort,
+    alloc: Global,
+    record_name: &str,
+    steps: &[Step<'_>],
+) {
+    let fresh_name = Name::cut(record_name.as_bytes());
+    let mut item = Record::new(fresh_name, B::fresh());
+    let mut name = record_name;
+    for (number, step) in steps.iter().enumerate() {
+        if let Step::Test(test) = step {
+            item = Record::new(fresh_name, B::fresh());
+            name = *test;
+        }
+        assert!(rt; holds(alloc, &mut item, step), "{name}, step {number}");
+    }
+}

@@ -1,0 +1,31 @@
+//! Tests of tickets.
+ghost use Rattle.std.specs.Prelude.{◌≡◌, ◌-◌, ◌^◌};
+
+use ioc_tickets::{Ledger, PARTS};
+use std::marker::Brand;
+use std::sync::ledger;
+use std::sync::ledger::Blank;
+
+// How many tickets were begun, spent, handed back, and are out: of three, of which one is spent, one handed back and one kept.
+fn three_tickets<B: ledger::Ledger>(blank: Blank) -> [u64; 4]
+    requires name { blank.name ≡ B.name }
+    requires parts { (blank.parts ≡ B.parts) × (blank.parts ≡ 2 ^ 64 - 1) }
+{
+    let mut ledger = Ledger::<B>::new(blank);
+    let first = ledger.begin();
+    let second = ledger.begin();
+    let _kept = ledger.begin();
+    ledger.spend(second);
+    ledger.hand_back(first);
+    [
+        ledger.begun(),
+        ledger.spent(),
+        ledger.handed_back(),
+        ledger.out(),
+    ]
+}
+
+#[test]
+fn tickets_are_spent_or_handed_back_or_out(rt: HostRuntime) {
+    assert!(rt; three_tickets::<Brand>(Blank::new(PARTS)) == [3, 1, 1, 1]);
+}
