@@ -13,7 +13,7 @@ returns-then-has-clause-told g c =
     record {
       held = c.deref_mut.result.now;
       held_then = c.get.new.self;
-      here = subst (λ (s : HeldView g.row.K.Denot g.row.D.Denot). Contains (numbers_of s) c.args.number) (c.deref-in-loop.ensures ∙ sym c.deref_mut.ensures.value) (c.has.ensures.0 there);
+      here = subst (λ (s : HeldView g.row.K.Denot g.row.D.Denot). Contains (numbers_of s) c.args.number) (c.deref-in-loop-2.ensures ∙ sym c.deref_mut.ensures.value) (c.has.ensures.0 there);
       before = subst (λ (s : HeldView g.row.K.Denot g.row.D.Denot). IsSoundlyHeld k g.B.Base.base s) (c.deref-then-has.ensures ∙ sym c.deref_mut.ensures.value) c.is_sound.ensures;
       tells = subst (λ (d : DeskView). Tells k g.B.Base.base c.deref_mut.result.now d c.args.moment (Get c.args.number c.args.field) c.in_ok-reply.reply c.get.new.self c.get.new.desk) c.loop.invariant c.in_ok-reply.ensures.tells;
       after = subst (λ (s : HeldView g.row.K.Denot g.row.D.Denot). IsSoundlyHeld k g.B.Base.base s) c.deref-then-has-2.ensures c.is_sound-then-has.ensures;
@@ -25,6 +25,6 @@ returns-in_err-reply-clause-refused g c =
     let k = g.K.RecordKind.rules in
     let p = err_from_is_err_and c.from_residual-in_err-reply.result c.from_residual-in_err-reply.ensures.1 in
     rw (p.1, p.2) (refused_by_set k g.B.Base.base c.deref_mut.result.now c.args.self.now c.args.number (Get c.args.number c.args.field) _
-    (subst (λ (s : HeldView g.row.K.Denot g.row.D.Denot). Contains (numbers_of s) c.args.number) (c.deref-in-loop.ensures ∙ sym c.deref_mut.ensures.value) (c.has.ensures.0 there))
+    (subst (λ (s : HeldView g.row.K.Denot g.row.D.Denot). Contains (numbers_of s) c.args.number) (c.deref-in-loop-2.ensures ∙ sym c.deref_mut.ensures.value) (c.has.ensures.0 there))
     (subst (λ (s : HeldView g.row.K.Denot g.row.D.Denot). IsSoundlyHeld k g.B.Base.base s) (c.deref-then-has.ensures ∙ sym c.deref_mut.ensures.value) c.is_sound.ensures)
     c.in_err-reply.ensures.refused)
