@@ -12,7 +12,7 @@ ghost use Rattle.ioc_members.specs.Joined.{links_of, IsPart, HasLink, HasFreeLin
 use crate::changing::{Change, change_slots};
 use crate::connected::are_one_part;
 use crate::marks::{fold_slots, list_all, mark};
-use crate::slots::{Slot, are_apart, place_of};
+use crate::slots::{Slot, are_apart, place_of, seek};
 use ioc_common::KeptLink;
 use ioc_device::{Answer, Ask, Device, answer_of};
 use ioc_fields::FieldNo;
@@ -102,6 +102,7 @@ impl<K, D> Members<K, D> {
     }
 
     /// Is there a record of this number?
+    #[inline(always)]
     pub fn has(&self, number: RecordNo) -> bool
         ensures { result ≡ map.contains_key self.now.records number }
     {
@@ -275,11 +276,9 @@ impl<K: RecordKind, D> Members<K, D> {
         ensures* lends { sem 𝓛 (Lends (the_row K.row D.row) K.row self.entry result (λ r. record self.old { records = map.insert self.old.records number r })) }
         ensures value { result.now ≡ record_at K.rules self.old.records number }
     {
-        let Some(place) = place_of(&self.slots, self.latest, number) else {
-            unreachable!()
-        };
+        seek(&self.slots, &mut self.latest, number);
+        let place = self.latest;
         mark(&mut self.slots, &mut self.changed, place);
-        self.latest = place;
         &mut self.slots[place].fields
     }
 

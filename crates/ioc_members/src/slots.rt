@@ -1,6 +1,6 @@
 //! The places of a set's records, by ascending numbers.
 ghost use Rattle.std.specs.Prelude.{◌≡◌, ◌≢◌, ◌<◌, ◌↔◌, ℕ, None, length, IfSome, IfNone, IsSome, IsTrue, slice_index};
-ghost use Rattle.std.specs.FinMap.{get};
+ghost use Rattle.std.specs.FinMap.{contains_key, get};
 ghost use Rattle.ioc_members.specs.Slots.{AreAscending, numbers_of, records_of};
 
 use ioc_names::RecordNo;
@@ -109,6 +109,31 @@ pub fn place_of<K, D>(slots: &[Slot<K, D>], guess: usize, number: RecordNo) -> O
         return Some(next);
     }
     looked_for(slots, number)
+}
+
+// The place of a record that is there, guessed as [`place_of`] guesses it.
+#[inline(always)]
+fn sought<K, D>(slots: &[Slot<K, D>], guess: usize, number: RecordNo) -> usize
+    requires ascending { AreAscending slots.now }
+    requires there { IsTrue (contains_key (records_of slots.now) number) }
+    ensures { (result < length slots.now) × (slice_index (numbers_of slots.now) result ≡ number) }
+{
+    let Some(place) = place_of(slots, guess, number) else {
+        unreachable!()
+    };
+    place
+}
+
+/// The place of a record that is there is guessed from now on. Where it was guessed before, as most times, nothing is stored.
+#[inline(always)]
+pub fn seek<K, D>(slots: &[Slot<K, D>], guess: &mut usize, number: RecordNo)
+    requires ascending { AreAscending slots.now }
+    requires there { IsTrue (contains_key (records_of slots.now) number) }
+    ensures { (guess.new < length slots.now) × (slice_index (numbers_of slots.now) guess.new ≡ number) }
+{
+    if !stands_at(slots, *guess, number) {
+        *guess = sought(slots, *guess, number);
+    }
 }
 
 /// Is no record in both?

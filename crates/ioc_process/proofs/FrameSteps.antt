@@ -15,7 +15,8 @@ use Rattle.ioc_common.specs.declared.link_field.StandingLink.{StandingLink}
 use Rattle.ioc_common.specs.declared.body.Got.{Got}
 use Rattle.ioc_common.specs.declared.body.Want.{Want}
 use Rattle.ioc_common.specs.declared.body.Output.{Output}
-use Rattle.ioc_common.specs.Links.{use_of}
+use Rattle.ioc_common.specs.Links.{record_named, use_of}
+use Rattle.ioc_common.specs.Wants.{is_unused}
 use Rattle.ioc_common.specs.Steps.{with_active, shown, unblocked, is_passive, disabled, disable_kind}
 use Rattle.ioc_record.specs.Values.{read_as}
 use Rattle.ioc_record.specs.RecordRules.{RecordRules}
@@ -69,6 +70,19 @@ slot_below n slot is = below_length all_slots n slot is
 pub followed_by-none : (r : Requests) → followed_by r None ≡ r
 followed_by-none None = refl
 followed_by-none (Request outcome caused later) = ap (Request outcome caused) (followed_by-none later)
+
+unused_is : (link : LinkUse) → is_unused link ≡ true → link ≡ Unused
+unused_is Unused is = refl
+unused_is OwnDevice is = absurd cc
+unused_is Absent is = absurd cc
+unused_is (Standing t) is = absurd cc
+
+-- a link that names no record names none that is passive
+pub unnamed_ends : {R : Type 0} (k : RecordRules R) (w : World R) (link : LinkUse) → record_named link ≡ Nothing_ → passive_named k w link ≡ Nothing_
+unnamed_ends k w Unused is = refl
+unnamed_ends k w OwnDevice is = refl
+unnamed_ends k w Absent is = refl
+unnamed_ends k w (Standing t) is = absurd cc
 
 module _ {R : Type 0} (k : RecordRules R) (lawful : IsLawful k) where
   -- the record shows its alarms
@@ -367,6 +381,14 @@ module _ {R : Type 0} (k : RecordRules R) (lawful : IsLawful k) where
   pub after_disable-unused : (answers : Answers) (w : World R) (s : ℕ) → after_disable k answers s (read_link k (request k answers) (λ _. disable_kind) w s Unused) ≡ judged k answers (request k answers) w s
   unfolding after_disable read_link ran_after disable_came
   after_disable-unused answers w s = refl
+
+  -- a request of an idle record whose SDIS is no link
+  pub begun-judged : (answers : Answers) (w ready : World R) (s : ℕ) → ready ≡ changed k w s unblocked → is_unused (use_of (common_at k ready s).disable_link) ≡ true
+      → begun_idle k answers (request k answers) w s ≡ judged k answers (request k answers) ready s
+  begun-judged answers w ready s r unused =
+      begun-reads answers w ready s _ r refl
+      ∙ ap (λ link. after_disable k answers s (read_link k (request k answers) (λ _. disable_kind) ready s link)) (unused_is _ unused)
+      ∙ after_disable-unused answers ready s
 
   pub after_disable-faulted : (answers : Answers) (w : World R) (s : ℕ) (link : LinkUse) → read_link k (request k answers) (λ _. disable_kind) w s link ≡ record { world = faulted k w s; requests = None; came = Got-fault }
       → after_disable k answers s (read_link k (request k answers) (λ _. disable_kind) w s link) ≡ judged k answers (request k answers) (faulted k w s) s

@@ -3,11 +3,15 @@ ghost use Rattle.std.specs.Prelude.{◌≡◌, ◌<◌, ℕ, List, [], true, fal
 ghost use Rattle.std.specs.Vec.{vec_capacity};
 ghost use Rattle.ioc_common.specs.Steps.{disable_kind};
 ghost use Rattle.ioc_store.specs.World.{Has, common_at, IsClosed};
-ghost use Rattle.ioc_store.specs.Given.{Begins};
+ghost use Rattle.ioc_store.specs.Given.{Answers, Begins};
+ghost use Rattle.ioc_common.specs.Links.{use_of};
+ghost use Rattle.ioc_ledger.specs.declared.outcome.Outcome.TheVariants.{Disabled};
+ghost use Rattle.ioc_store.specs.Marks.{is_disabled};
+ghost use Rattle.ioc_store.specs.declared.frames.Next.TheVariants.{Ends};
 ghost use Rattle.ioc_process.specs.Runs.{ForAnswers, IsStanding};
 ghost use Rattle.ioc_process.specs.Processing.{faulted, request, judged, read_at, read_link, read_record};
 ghost use Rattle.ioc_store.specs.Rests.{disable_came};
-ghost use Rattle.ioc_process.specs.Frames.{after_disable, after_turn, turn_of, Opens, most_calls, most_of_request, Turns};
+ghost use Rattle.ioc_process.specs.Frames.{Ended, after_disable, after_turn, turn_of, Opens, most_calls, most_of_request, Turns};
 
 use crate::inputs::{fault_link, read_value};
 use crate::reading::begin_body;
@@ -15,9 +19,46 @@ use ioc_common::{LinkUse, StandingLink, disable_kind};
 use ioc_ledger::Outcome;
 use ioc_names::RecordNo;
 use ioc_steps::notifying::tell;
-use ioc_steps::steps::{disable, is_disabled, passes_on, set_active, take_disable_input};
+use ioc_steps::steps::{common, disable, is_disabled, passes_on, set_active, take_disable_input};
 use ioc_store::frames::{Frame, Next, Place};
 use ioc_store::store::Store;
+
+/// A request begins with reading SDIS. This isn't inlined, since few records have one.
+#[inline(never)]
+pub fn begin_with_disable<S: Store>(
+    store: &mut S,
+    frames: &mut Vec<Frame>,
+    number: RecordNo,
+) -> Next
+    requires there { Has (S.world store.old) number }
+    requires closed { IsClosed S.Record.rules (S.world store.old) }
+    requires is_idle { (common_at S.Record.rules (S.world store.old) number).active ≡ false }
+    requires room { vec_len frames.old < vec_capacity frames.old }
+    ensures turn { ForAnswers (S.given store.new) (λ answers.
+        after_disable S.Record.rules answers number (read_link S.Record.rules (request S.Record.rules answers) (λ _. disable_kind) (S.world store.old) number (use_of (common_at S.Record.rules (S.world store.old) number).disable_link))
+        ≡ after_turn S.Record.rules answers (S.world store.new) (turn_of frames.new.items result)) }
+    ensures given { Begins S.Device.gives (S.given store.old) (S.given store.new) }
+    ensures turns { Turns S.Record.rules (S.world store.old) (S.world store.new) 0 most_of_request (turn_of frames.new.items result) }
+    ensures opens { Opens frames.old.items frames.new.items result }
+    ensures room { vec_capacity frames.new ≡ vec_capacity frames.old }
+{
+    let link = common(store, number).disable_link.in_use();
+    read_disable(store, frames, number, link)
+}
+
+/// A record that is disabled is left alone.
+pub fn leave_alone<S: Store>(store: &mut S, number: RecordNo) -> Next
+    requires there { Has (S.world store.old) number }
+    requires off { is_disabled (common_at S.Record.rules (S.world store.old) number) ≡ true }
+    ensures turn { (answers : Answers) → judged S.Record.rules answers (request S.Record.rules answers) (S.world store.old) number ≡ after_turn S.Record.rules answers (S.world store.new) (Ended Disabled) }
+    ensures given { S.given store.new ≡ S.given store.old }
+    ensures turns { Turns S.Record.rules (S.world store.old) (S.world store.new) 0 most_calls (Ended Disabled) }
+    ensures ends { result ≡ Ends Disabled }
+{
+    tell(store, number);
+    disable(store, number);
+    Next::Ends(Outcome::Disabled)
+}
 
 /// A request reads SDIS.
 #[tactic(auto, unfolding(crate::specs::Processing::read_link, crate::specs::Processing::ran_after, ioc_store::specs::Rests::disable_came, crate::specs::Frames::after_disable))]
@@ -136,9 +177,7 @@ fn judge<S: Store>(store: &mut S, frames: &mut Vec<Frame>, number: RecordNo) -> 
     ensures room { vec_capacity frames.new ≡ vec_capacity frames.old }
 {
     if is_disabled(store, number) {
-        tell(store, number);
-        disable(store, number);
-        Next::Ends(Outcome::Disabled)
+        leave_alone(store, number)
     } else {
         begin_body(store, frames, number)
     }

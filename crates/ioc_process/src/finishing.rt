@@ -20,7 +20,8 @@ use ioc_ledger::Outcome;
 use ioc_menus::{Severity, Status};
 use ioc_names::RecordNo;
 use ioc_record::RecordKind;
-use ioc_steps::steps::{common, raise, rest, set_active, show, take};
+use ioc_steps::looks::show_on;
+use ioc_steps::steps::{raise, rest, set_active, take};
 use ioc_store::frames::{Frame, Next, Place};
 use ioc_store::outbox::OutboxItem;
 use ioc_store::store::Store;
@@ -40,9 +41,10 @@ pub fn finish<S: Store>(store: &mut S, frames: &mut Vec<Frame>, number: RecordNo
     ensures opens { Opens frames.old.items frames.new.items result }
     ensures room { vec_capacity frames.new ≡ vec_capacity frames.old }
 {
-    show(store, number);
-    let named = common(store, number).forward_link.record_named();
-    match passive_record(store, named) {
+    let Some(named) = show_on(store, number) else {
+        return Next::Ends(Outcome::Processed);
+    };
+    match passive_record(store, Some(named)) {
         Some(target) => {
             set_active(store, number, true);
             frames.push_reserved(Frame {

@@ -41,7 +41,7 @@ pub fn begin_body<S: Store>(store: &mut S, frames: &mut Vec<Frame>, number: Reco
 
 /// A body begins that wants to read a link.
 #[inline(never)]
-fn begin_wanted<S: Store>(store: &mut S, frames: &mut Vec<Frame>, number: RecordNo) -> Next
+pub fn begin_wanted<S: Store>(store: &mut S, frames: &mut Vec<Frame>, number: RecordNo) -> Next
     requires there { Has (S.world store.old) number }
     requires wants { need_of (S.Record.rules.begin (at S.Record.rules (S.world store.old) number)) ≡ Need.Link }
     requires closed { IsClosed S.Record.rules (S.world store.old) }
@@ -60,7 +60,7 @@ fn begin_wanted<S: Store>(store: &mut S, frames: &mut Vec<Frame>, number: Record
 
 /// A body begins that wants to read its device.
 #[inline(never)]
-fn begin_asking<S: Store>(store: &mut S, frames: &mut Vec<Frame>, number: RecordNo) -> Next
+pub fn begin_asking<S: Store>(store: &mut S, frames: &mut Vec<Frame>, number: RecordNo) -> Next
     requires there { Has (S.world store.old) number }
     requires wants { need_of (S.Record.rules.begin (at S.Record.rules (S.world store.old) number)) ≡ Need.Device }
     requires closed { IsClosed S.Record.rules (S.world store.old) }

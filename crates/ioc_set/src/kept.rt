@@ -24,14 +24,26 @@ impl Model for Kept {
     ghost view = { entry_by };
 }
 
+// The same event. A request is made anew, so that it isn't copied from where it lies with the room of the widest event.
+#[inline(always)]
+fn again(event: &SetEvent) -> SetEvent
+    ensures { event_by result ≡ event_by event.now }
+{
+    match event {
+        SetEvent::Process(number) => SetEvent::Process(*number),
+        _ => *event,
+    }
+}
+
 impl Kept {
     /// An event at a moment, what devices answered in it, and what it came to.
+    #[inline(always)]
     pub fn new(moment: u64, event: &SetEvent, answers: KeptAnswers, told: Told) -> Self
         ensures { result ≡ record { moment = moment; event = event_by event.now; answers = answers; reply = told_by told } }
     {
         Kept {
             moment,
-            event: *event,
+            event: again(event),
             answers,
             told,
         }

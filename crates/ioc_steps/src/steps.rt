@@ -2,7 +2,7 @@
 ghost use Rattle.std.specs.Prelude.{◌≡◌, ◌<◌, ◌-◌, ◌^◌, true, is_some};
 ghost use Rattle.std.specs.Borrow.{Lends, sem};
 ghost use Rattle.ioc_common.specs.contracts.common.Common.{the_row as common_row};
-ghost use Rattle.ioc_common.specs.Steps.{with_active, raised, inherited, blocked, unblocked, shown, waiting, disabled, with_put_mark, with_reprocess_mark, change_numbered, with_notification};
+ghost use Rattle.ioc_common.specs.Steps.{with_active, raised, inherited, blocked, waiting, disabled, with_put_mark, with_reprocess_mark, change_numbered, with_notification};
 ghost use Rattle.ioc_store.specs.Marks.{put_down, put_mark_passed, is_put_down, resumed, at_rest, with_disable_input, is_disabled};
 ghost use Rattle.ioc_store.specs.Rests.{rested, disable_came};
 ghost use Rattle.ioc_store.specs.World.{Has, at, common_at, changed, put, sent};
@@ -84,26 +84,6 @@ pub fn block<S: Store>(store: &mut S, number: RecordNo)
     ensures given { S.given store.new ≡ S.given store.old }
 {
     common_mut(store, number).block();
-}
-
-/// A request found a record idle.
-pub fn unblock<S: Store>(store: &mut S, number: RecordNo)
-    requires { Has (S.world store.old) number }
-    ensures world { S.world store.new ≡ changed S.Record.rules (S.world store.old) number unblocked }
-    ensures given { S.given store.new ≡ S.given store.old }
-{
-    common_mut(store, number).unblock();
-}
-
-/// A record shows its alarms, with the moment of the event, and is active.
-#[inline(always)]
-pub fn show<S: Store>(store: &mut S, number: RecordNo)
-    requires { Has (S.world store.old) number }
-    ensures world { S.world store.new ≡ changed S.Record.rules (S.world store.old) number (shown (S.world store.old).moment) }
-    ensures given { S.given store.new ≡ S.given store.old }
-{
-    let moment = store.moment();
-    common_mut(store, number).show(moment);
 }
 
 /// A record's device answers later.
@@ -257,16 +237,22 @@ pub fn take_disable_input<S: Store>(store: &mut S, number: RecordNo, got: Got)
 }
 
 // A record is idle, and no put is under way any more.
+pub(crate) fn clear_marks(common: &mut Common)
+    ensures { common.new ≡ at_rest common.old }
+{
+    common.active = false;
+    common.by_put = false;
+    common.reprocess = false;
+}
+
+// The same of a record of a store.
 #[inline(always)]
 fn come_to_rest<S: Store>(store: &mut S, number: RecordNo)
     requires { Has (S.world store.old) number }
     ensures world { S.world store.new ≡ changed S.Record.rules (S.world store.old) number at_rest }
     ensures given { S.given store.new ≡ S.given store.old }
 {
-    let common = common_mut(store, number);
-    common.active = false;
-    common.by_put = false;
-    common.reprocess = false;
+    clear_marks(common_mut(store, number));
 }
 
 // A record is to be requested once more. This isn't inlined, since few are: what is sent takes much room.

@@ -94,11 +94,7 @@ impl<S: Locked> Directory<S> {
     }
 
     /// The cell at a key, if it hasn't been left since. The list is mostly free to be read: a call that can't wait is shorter.
-    pub(crate) fn cell_at(
-        &self,
-        rt: &impl Wait,
-        key: usize,
-    ) -> Result<Option<Cell<S>>, AllocError> {
+    pub(crate) fn cell_at(&self, rt: &impl Wait, key: usize) -> Option<Cell<S>> {
         match self.cells.try_read() {
             Some(cells) => listed_at(&cells, key),
             None => listed_at(&self.cells.read(rt), key),
@@ -119,9 +115,8 @@ impl<S: Locked> Directory<S> {
         };
         let key = home.load(Ordering::SeqCst) as usize;
         match self.cell_at(rt, key) {
-            Ok(Some(cell)) => Ok(Some(Place { key, cell })),
-            Ok(None) => Ok(None),
-            Err(_) => Err(IocError::NoMemory),
+            Some(cell) => Ok(Some(Place { key, cell })),
+            None => Ok(None),
         }
     }
 
@@ -178,10 +173,10 @@ impl<S: Locked> Directory<S> {
 
 // The cell of a list at a key, if it hasn't been left since.
 #[inline(always)]
-fn listed_at<S>(cells: &Slab<Cell<S>>, key: usize) -> Result<Option<Cell<S>>, AllocError> {
+fn listed_at<S>(cells: &Slab<Cell<S>>, key: usize) -> Option<Cell<S>> {
     match cells.get(key) {
-        Some(cell) => Ok(Some(Arc::try_clone(cell)?)),
-        None => Ok(None),
+        Some(cell) => Arc::try_clone(cell).ok(),
+        None => None,
     }
 }
 

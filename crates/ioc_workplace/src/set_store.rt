@@ -87,6 +87,7 @@ impl<K: RecordKind + Drop, D: Device> Store for SetStore<K, D> {
 
     ghost moment_given = { moment-given };
 
+    #[inline(always)]
     fn has(&self, number: RecordNo) -> bool {
         self.members.has(number)
     }
