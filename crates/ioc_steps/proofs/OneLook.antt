@@ -48,14 +48,14 @@ module _ {R : Type 0} (k : RecordRules R) where
   unfolding changed
   changed_still w n f r is = ap (put w n) (is ∙ changed_at w n f)
 
-  pub opened : (w : World R) (n : ℕ) (o : Opening) (output : Output) (r : R) (after : World R) → Opens k (at k (changed k w n unblocked) n) o output r → after ≡ put w n r
-      → Opened k (changed k w n unblocked) n o output after
-  opened w n ReadsDisable output r after is there = there ∙ changed_still w n unblocked r is
-  opened w n Disabled output r after is there = (there ∙ changed_still w n unblocked r is.0, is.1, is.2)
-  opened w n ReadsLink output r after is there = (there ∙ changed_still w n unblocked r is.0, is.1)
-  opened w n ReadsDevice output r after is there = (there ∙ changed_still w n unblocked r is.0, is.1)
-  opened w n Took output r after is there = (there ∙ sym (changed_on w n unblocked r) ∙ ap (put (changed k w n unblocked) n) is.0, is.1, is.2)
-  opened w n PutsOut output r after is there = (there ∙ sym (changed_on w n unblocked r) ∙ ap (put (changed k w n unblocked) n) is.0, is.1, is.2)
+  pub opened : (w : World R) (n : ℕ) (o : Opening) (written : Output) (r : R) (after : World R) → Opens k (at k (changed k w n unblocked) n) o written r → after ≡ put w n r
+      → Opened k (changed k w n unblocked) n o written after
+  opened w n ReadsDisable written r after is there = there ∙ changed_still w n unblocked r is
+  opened w n Disabled written r after is there = (there ∙ changed_still w n unblocked r is.0, is.1, is.2)
+  opened w n ReadsLink written r after is there = (there ∙ changed_still w n unblocked r is.0, is.1)
+  opened w n ReadsDevice written r after is there = (there ∙ changed_still w n unblocked r is.0, is.1)
+  opened w n Took written r after is there = (there ∙ sym (changed_on w n unblocked r) ∙ ap (put (changed k w n unblocked) n) is.0, is.1, is.2)
+  opened w n PutsOut written r after is there = (there ∙ sym (changed_on w n unblocked r) ∙ ap (put (changed k w n unblocked) n) is.0, is.1, is.2)
 
   -- a record that has no notification, and isn't put down, comes to rest by its marks alone
   pub rested_quietly : (w : World R) (n : ℕ) → (common_at k w n).notification ≡ None → (common_at k w n).reprocess ≡ false → put w n (k.with_common (at k w n) (at_rest (common_at k w n))) ≡ rested k w n

@@ -26,21 +26,21 @@ module _ {R : Type 0} (k : RecordRules R) where
 
   -- a record that was found idle, by how it stands: what it is afterwards, and what it has to put out
   abbrev pub Opens : R → Opening → Output → R → Type 0
-  Opens r ReadsDisable output after = after ≡ r
-  Opens r Disabled output after = (after ≡ r) × (is_unused (use_of (k.common r).disable_link) ≡ true) × (is_disabled (k.common r) ≡ true)
-  Opens r ReadsLink output after = (after ≡ r) × Begins r need.Link
-  Opens r ReadsDevice output after = (after ≡ r) × Begins r need.Device
-  Opens r Took output after = (after ≡ k.taken r got.Nothing) × Begins r need.Nothing × (puts_out (k.output r got.Nothing) ≡ false)
-  Opens r PutsOut output after = (after ≡ k.taken r got.Nothing) × Begins r need.Nothing × (output ≡ k.output r got.Nothing)
+  Opens r ReadsDisable written after = after ≡ r
+  Opens r Disabled written after = (after ≡ r) × (is_unused (use_of (k.common r).disable_link) ≡ true) × (is_disabled (k.common r) ≡ true)
+  Opens r ReadsLink written after = (after ≡ r) × Begins r need.Link
+  Opens r ReadsDevice written after = (after ≡ r) × Begins r need.Device
+  Opens r Took written after = (after ≡ k.taken r got.Nothing) × Begins r need.Nothing × (puts_out (k.output r got.Nothing) ≡ false)
+  Opens r PutsOut written after = (after ≡ k.taken r got.Nothing) × Begins r need.Nothing × (written ≡ k.output r got.Nothing)
 
   -- the same of record s
   abbrev pub Opened : World R → ℕ → Opening → Output → World R → Type 0
-  Opened w s ReadsDisable output after = after ≡ w
-  Opened w s Disabled output after = (after ≡ w) × (is_unused (use_of (common_at k w s).disable_link) ≡ true) × (is_disabled (common_at k w s) ≡ true)
-  Opened w s ReadsLink output after = (after ≡ w) × Begins (at k w s) need.Link
-  Opened w s ReadsDevice output after = (after ≡ w) × Begins (at k w s) need.Device
-  Opened w s Took output after = (after ≡ put w s (k.taken (at k w s) got.Nothing)) × Begins (at k w s) need.Nothing × (puts_out (k.output (at k w s) got.Nothing) ≡ false)
-  Opened w s PutsOut output after = (after ≡ put w s (k.taken (at k w s) got.Nothing)) × Begins (at k w s) need.Nothing × (output ≡ k.output (at k w s) got.Nothing)
+  Opened w s ReadsDisable written after = after ≡ w
+  Opened w s Disabled written after = (after ≡ w) × (is_unused (use_of (common_at k w s).disable_link) ≡ true) × (is_disabled (common_at k w s) ≡ true)
+  Opened w s ReadsLink written after = (after ≡ w) × Begins (at k w s) need.Link
+  Opened w s ReadsDevice written after = (after ≡ w) × Begins (at k w s) need.Device
+  Opened w s Took written after = (after ≡ put w s (k.taken (at k w s) got.Nothing)) × Begins (at k w s) need.Nothing × (puts_out (k.output (at k w s) got.Nothing) ≡ false)
+  Opened w s PutsOut written after = (after ≡ put w s (k.taken (at k w s) got.Nothing)) × Begins (at k w s) need.Nothing × (written ≡ k.output (at k w s) got.Nothing)
 
   -- a record that has shown its alarms, by its forward link and what is left to do, and what it is afterwards
   abbrev pub Shows : R → Shown → R → Type 0
