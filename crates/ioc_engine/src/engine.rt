@@ -108,7 +108,9 @@ impl<K: RecordKind + Drop, B: Base<K>, D: Drop> Engine<K, B, D> {
 }
 
 impl<K: RecordKind + Drop, B: Base<K>, D: Device> Engine<K, B, D> {
-    // Does an event on the set of a record, and then what it has sent.
+    // Does an event on the set of a record, and then what it has sent. This is inlined, as is what it calls up to the journal, so that each call knows which
+    // kind of event it does and the entry is put together where it is kept.
+    #[inline(always)]
     fn serve<R: Wait>(
         &self,
         rt: &R,

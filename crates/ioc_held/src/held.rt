@@ -105,6 +105,7 @@ impl<K: RecordKind + Drop, B: Base<K>, D: Device> Held<K, B, D> {
     }
 
     // A question or a put that names no field of its record, or one that can't be put, is no call.
+    #[inline(always)]
     pub(crate) fn test_call(&self, event: &Event) -> Result<(), IocError>
         requires there { (n : ℕ) → Contains (names event.now) n → Contains (numbers_of self.now) n }
         ensures ok { OnOk result (no_call K.rules (now_of self.now.set) event.now ≡ None) }
@@ -117,6 +118,7 @@ impl<K: RecordKind + Drop, B: Base<K>, D: Device> Held<K, B, D> {
     }
 
     // Does a request, a put or a completion on the set, on which no put with notification is live.
+    #[inline(always)]
     fn serve_alone<R: Wait>(
         &mut self,
         rt: &R,
@@ -168,7 +170,9 @@ impl<K: RecordKind + Drop, B: Base<K>, D: Device> Held<K, B, D> {
         Ok((*answer, receipt))
     }
 
-    // Does a request, a put or a completion on the set, on which puts with notification are live: all are counted anew with it.
+    // Does a request, a put or a completion on the set, on which puts with notification are live: all are counted anew with it. This isn't inlined, since
+    // such sets are few.
+    #[inline(never)]
     fn serve_counted<R: Wait>(
         &mut self,
         rt: &R,
@@ -225,6 +229,7 @@ impl<K: RecordKind + Drop, B: Base<K>, D: Device> Held<K, B, D> {
     /// [`IocError::NoField`] or [`IocError::NoMod`] where a put names a field that the record hasn't or that can't be put,
     /// [`IocError::JournalFull`] where the journal has no place left, and [`IocError::NoMemory`] where memory is wanting: nothing has changed then.
     /// Any other refusal is a reply, which the journal keeps too.
+    #[inline(always)]
     pub fn serve<R: Wait>(
         &mut self,
         rt: &R,

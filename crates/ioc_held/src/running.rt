@@ -30,6 +30,7 @@ pub(crate) struct Ran<K: RecordKind, B: Base<K>> {
 }
 
 // Does an event on a set; where memory is wanting, nothing has changed.
+#[inline(always)]
 fn do_in<K: RecordKind + Drop, D: Device>(
     set: &mut LockSet<K, D>,
     workplace: &mut Workplace<K, D>,
@@ -62,6 +63,7 @@ fn do_in<K: RecordKind + Drop, D: Device>(
 /// # Errors
 ///
 /// [`AllocError`] where memory is wanting: nothing has changed then.
+#[inline(always)]
 pub(crate) fn run_in<K: RecordKind + Drop, D: Device>(
     set: &mut LockSet<K, D>,
     workplace: &mut Workplace<K, D>,

@@ -92,6 +92,7 @@ impl<K: RecordKind, B: Base<K>> Book<K, B> {
     /// # Errors
     ///
     /// [`IocError::JournalFull`] where entries and held places make the limit, and else [`IocError::NoMemory`] where memory is wanting.
+    #[inline(always)]
     pub fn reserve<R: Wait>(&self, rt: &R) -> Result<Place<K, B>, IocError>
         ensures refused { IfErr result IsNoPlace }
     {
@@ -105,6 +106,7 @@ impl<K: RecordKind, B: Base<K>> Book<K, B> {
 
     /// Adds a call of a desk, under the lock of the set that it is about, of whose pass all keys are noted. Desk and pass know the whole
     /// list then.
+    #[inline(always)]
     pub fn append<R: Wait>(
         &self,
         rt: &R,

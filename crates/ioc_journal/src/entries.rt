@@ -101,6 +101,7 @@ impl<K, B: Base<K>> Entries<K, B> {
     /// # Errors
     ///
     /// [`IocError::JournalFull`] where entries and held places make the limit, and else [`IocError::NoMemory`] where memory is wanting.
+    #[inline(always)]
     pub fn hold(&mut self) -> Result<Place<K, B>, IocError>
         ensures held { IfOk result (λ _. HoldsOne self.old self.new) }
         ensures refused { IfErr result (HoldsNone self.old) }
@@ -119,6 +120,7 @@ impl<K, B: Base<K>> Entries<K, B> {
     }
 
     /// Fills a place with a call of a desk, which is put together where it lies. It takes no memory.
+    #[inline(always)]
     pub fn fill(&mut self, place: Place<K, B>, desk: u64, call: u64, entry: Entry)
         ensures held { self.old.held ≡ self.new.held + 1 }
         ensures filled { self.new ≡ places_of (self.old.filled ++ journalled desk call entry ∷ []) self.new.held self.old.limit }

@@ -100,6 +100,7 @@ impl<K: RecordKind, B: Base<K>> Journal<K, B> {
     /// # Errors
     ///
     /// [`IocError::JournalFull`] where entries and held places make the limit, and else [`IocError::NoMemory`] where memory is wanting.
+    #[inline(always)]
     pub fn reserve(&mut self) -> Result<Place<K, B>, IocError>
         ensures held { IfOk result (λ _. HoldsOne self.old self.new) }
         ensures refused { IfErr result (HoldsNone self.old) }
@@ -116,6 +117,7 @@ impl<K: RecordKind, B: Base<K>> Journal<K, B> {
     }
 
     /// Adds a call of a desk, under the lock of the set that it is about, of whose pass all keys are noted.
+    #[inline(always)]
     pub fn append<R: Wait>(
         &mut self,
         rt: &R,

@@ -132,6 +132,7 @@ fn append_as<K: Keys, S: Said, R: Wait>(
 }
 
 /// Adds an entry under the journal's lock, with what the caller holds: the pass of a set, and that of a desk. All three know the whole list then, and the caller gets a receipt.
+#[inline(always)]
 pub fn append<R: Wait>(
     rt: &R,
     cell: &Cell,

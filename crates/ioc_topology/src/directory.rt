@@ -94,6 +94,7 @@ impl<S: Locked> Directory<S> {
     }
 
     /// The cell at a key, if it hasn't been left since. The list is mostly free to be read: a call that can't wait is shorter.
+    #[inline(always)]
     pub(crate) fn cell_at(&self, rt: &impl Wait, key: usize) -> Option<Cell<S>> {
         match self.cells.try_read() {
             Some(cells) => listed_at(&cells, key),
@@ -102,6 +103,7 @@ impl<S: Locked> Directory<S> {
     }
 
     /// Where a record is; none where it moves right now.
+    #[inline(always)]
     pub(crate) fn place_of(
         &self,
         rt: &impl Wait,
@@ -125,7 +127,8 @@ impl<S: Locked> Directory<S> {
     ///
     /// # Errors
     ///
-    /// [`IocError::NoRecord`]: the directory was made for fewer records. [`IocError::NoMemory`].
+    /// [`IocError::NoRecord`]: the directory was made for fewer records.
+    #[inline(always)]
     pub fn lock_of(&self, rt: &impl Wait, number: RecordNo) -> Result<Cell<S>, IocError>
         ensures known { OnOk result (number < self.now) }
         ensures refused { IfErr result (IsRefused self.now number) }
@@ -143,7 +146,7 @@ impl<S: Locked> Directory<S> {
     ///
     /// # Errors
     ///
-    /// [`IocError::NoRecord`]: the directory was made for fewer records. [`IocError::NoMemory`].
+    /// [`IocError::NoRecord`]: the directory was made for fewer records.
     pub fn with_set<T, F: FnOnce(&mut S) -> T, R: Wait>(
         &self,
         rt: &R,
@@ -171,7 +174,7 @@ impl<S: Locked> Directory<S> {
     }
 }
 
-// The cell of a list at a key, if it hasn't been left since.
+// The cell of a list at a key, if it hasn't been left since. One whose count of holders is full is none either: who looks for it looks again.
 #[inline(always)]
 fn listed_at<S>(cells: &Slab<Cell<S>>, key: usize) -> Option<Cell<S>> {
     match cells.get(key) {

@@ -33,6 +33,7 @@ pub struct Workplace<K, D> {
 }
 
 /// The answers of these calls, in room of their own: of their size, or else the spare room, which was taken before. So it can't be refused.
+#[inline(always)]
 pub fn kept_answers(calls: &Calls, spare: &mut Vec<Answer>, alloc: Global) -> KeptAnswers
     requires empty { spare.old.items ≡ [] }
     requires room { 256 ≤ vec_capacity spare.old }
