@@ -17,7 +17,7 @@ use ioc_menus::{Severity, Status};
 use ioc_names::RecordNo;
 use ioc_record::{RecordKind, put_untested};
 use ioc_steps::scanning::rescan;
-use ioc_steps::steps::{common, inherit, passes_on, passive, raise, wait};
+use ioc_steps::steps::{hand_on, passes_on, passive, raise, wait};
 use ioc_store::store::Store;
 use ioc_values::{Input, IocError, Value};
 
@@ -128,8 +128,7 @@ fn store_value<S: Store>(
     let written = target.number;
     let mode = target.mode;
     let stored = place_value(store, target, value);
-    let from = common(store, number).condition.alarms;
-    inherit(store, written, mode, from.new_status, from.new_severity);
+    hand_on(store, number, written, mode);
     stored
 }
 

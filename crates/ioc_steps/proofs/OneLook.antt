@@ -50,7 +50,7 @@ module _ {R : Type 0} (k : RecordRules R) where
 
   pub opened : (w : World R) (n : ℕ) (o : Opening) (written : Output) (r : R) (after : World R) → Opens k (at k (changed k w n unblocked) n) o written r → after ≡ put w n r
       → Opened k (changed k w n unblocked) n o written after
-  opened w n ReadsDisable written r after is there = there ∙ changed_still w n unblocked r is
+  opened w n ReadsDisable written r after is there = (there ∙ changed_still w n unblocked r is.0, is.1)
   opened w n Disabled written r after is there = (there ∙ changed_still w n unblocked r is.0, is.1, is.2)
   opened w n ReadsLink written r after is there = (there ∙ changed_still w n unblocked r is.0, is.1)
   opened w n ReadsDevice written r after is there = (there ∙ changed_still w n unblocked r is.0, is.1)

@@ -26,7 +26,7 @@ module _ {R : Type 0} (k : RecordRules R) where
 
   -- a record that was found idle, by how it stands: what it is afterwards, and what it has to put out
   abbrev pub Opens : R → Opening → Output → R → Type 0
-  Opens r ReadsDisable written after = after ≡ r
+  Opens r ReadsDisable written after = (after ≡ r) × (is_unused (use_of (k.common r).disable_link) ≡ false)
   Opens r Disabled written after = (after ≡ r) × (is_unused (use_of (k.common r).disable_link) ≡ true) × (is_disabled (k.common r) ≡ true)
   Opens r ReadsLink written after = (after ≡ r) × Begins r need.Link
   Opens r ReadsDevice written after = (after ≡ r) × Begins r need.Device
@@ -35,7 +35,7 @@ module _ {R : Type 0} (k : RecordRules R) where
 
   -- the same of record s
   abbrev pub Opened : World R → ℕ → Opening → Output → World R → Type 0
-  Opened w s ReadsDisable written after = after ≡ w
+  Opened w s ReadsDisable written after = (after ≡ w) × (is_unused (use_of (common_at k w s).disable_link) ≡ false)
   Opened w s Disabled written after = (after ≡ w) × (is_unused (use_of (common_at k w s).disable_link) ≡ true) × (is_disabled (common_at k w s) ≡ true)
   Opened w s ReadsLink written after = (after ≡ w) × Begins (at k w s) need.Link
   Opened w s ReadsDevice written after = (after ≡ w) × Begins (at k w s) need.Device

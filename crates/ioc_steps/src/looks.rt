@@ -2,12 +2,12 @@
 ghost use Rattle.std.specs.Prelude.{◌≡◌};
 ghost use Rattle.ioc_common.specs.Links.{record_named, use_of};
 ghost use Rattle.ioc_common.specs.Steps.{shown, unblocked};
-ghost use Rattle.ioc_store.specs.Marks.{at_rest, is_disabled};
+ghost use Rattle.ioc_store.specs.Marks.{at_rest};
 ghost use Rattle.ioc_store.specs.World.{Has, common_at, changed};
 ghost use Rattle.ioc_steps.specs.Looks.{Begins, Opened, Opens, Shows, shown_on};
 
-use crate::steps::{clear_marks, rest};
-use ioc_common::{Common, Got, Need, Output};
+use crate::steps::{clear_marks, is_off, rest};
+use ioc_common::{Got, Need, Output};
 use ioc_names::RecordNo;
 use ioc_record::RecordKind;
 use ioc_store::Store;
@@ -37,13 +37,6 @@ enum Shown {
     Done,
     // It names none, and there is more to do than to clear the record's marks.
     Rests,
-}
-
-// Is DISA what DISV says?
-fn is_off(common: &Common) -> bool
-    ensures { result ≡ is_disabled common.now }
-{
-    common.disabling.input == common.disabling.value
 }
 
 // The body of a record takes nothing.

@@ -77,6 +77,18 @@ pub fn inherit<S: Store>(
     common_mut(store, number).inherit(mode, status, severity);
 }
 
+/// A record that is written takes over the alarm that its writer raises, by the mode of their link.
+pub fn hand_on<S: Store>(store: &mut S, number: RecordNo, written: RecordNo, mode: Mode)
+    requires there { Has (S.world store.old) number }
+    requires standing { Has (S.world store.old) written }
+    ensures world { S.world store.new ≡ changed S.Record.rules (S.world store.old) written (inherited mode
+        (common_at S.Record.rules (S.world store.old) number).condition.alarms.new_status (common_at S.Record.rules (S.world store.old) number).condition.alarms.new_severity) }
+    ensures given { S.given store.new ≡ S.given store.old }
+{
+    let from = common(store, number).condition.alarms;
+    inherit(store, written, mode, from.new_status, from.new_severity);
+}
+
 /// A request found a record active.
 pub fn block<S: Store>(store: &mut S, number: RecordNo)
     requires { Has (S.world store.old) number }
@@ -202,13 +214,19 @@ pub fn disable<S: Store>(store: &mut S, number: RecordNo)
     common_mut(store, number).disable();
 }
 
-/// Is DISA what DISV says?
+// Is DISA what DISV says?
+pub(crate) fn is_off(common: &Common) -> bool
+    ensures { result ≡ is_disabled common.now }
+{
+    common.disabling.input == common.disabling.value
+}
+
+/// The same of a record of a store.
 pub fn is_disabled<S: Store>(store: &S, number: RecordNo) -> bool
     requires { Has (S.world store.now) number }
     ensures { result ≡ is_disabled (common_at S.Record.rules (S.world store.now) number) }
 {
-    let disabling = &common(store, number).disabling;
-    disabling.input == disabling.value
+    is_off(common(store, number))
 }
 
 // What SDIS gave goes into DISA.

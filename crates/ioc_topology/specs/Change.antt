@@ -4,11 +4,11 @@ use Rattle.std.specs.Prelude.{ℕ, ◌≡◌, ◌⊎◌, ◌≤◌, ◌<◌, Lis
 use Rattle.ioc_values.specs.declared.error.IocError.{IocError}
 use Rattle.ioc_values.specs.declared.error.IocError.TheVariants.{NoRecord, NoMemory}
 
--- a call on a record is refused where memory is wanting, or where the directory was made for fewer records
+-- a call on a record is refused where the directory was made for fewer records
 abbrev pub IsRefused : ℕ → ℕ → IocError → Type 0
-IsRefused count number error = ((error ≡ NoRecord) × (count ≤ number)) ⊎ (error ≡ NoMemory)
+IsRefused count number error = (error ≡ NoRecord) × (count ≤ number)
 
--- so it is on another record, if there is one
+-- so it is on another record, if there is one, and where memory is wanting
 abbrev pub OtherIsRefused : ℕ → Option ℕ → IocError → Type 0
 OtherIsRefused count other error = (error ≡ NoMemory) ⊎ ((error ≡ NoRecord) × ((o : ℕ) × (other ≡ Some o) × (count ≤ o)))
 

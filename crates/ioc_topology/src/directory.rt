@@ -1,7 +1,7 @@
 //! The locks of all sets, and the home of each record.
-ghost use Rattle.std.specs.Prelude.{◌≡◌, ◌⊎◌, ◌<◌, ◌≤◌, Contains, OnOk, IfOk, IfErr};
+ghost use Rattle.std.specs.Prelude.{◌≡◌, ◌<◌, ◌≤◌, Contains, OnOk, IfOk, IfErr};
 ghost use Rattle.std.specs.Fn.{FnOnceReturnsAtMut, FnOnceTakesAtMut};
-ghost use Rattle.ioc_values.specs.declared.error.IocError.TheVariants.{NoRecord, NoMemory};
+ghost use Rattle.ioc_values.specs.declared.error.IocError.TheVariants.{NoRecord};
 ghost use Rattle.ioc_topology.specs.Change.{IsRefused};
 
 use crate::locked::Locked;

@@ -36,7 +36,7 @@ begin_with_disable-requires-clause-there g c =
     let w = g.S.Store.world c.args.store.now in
     let s = c.args.number in
     let is = rw c.in-ReadsDisable.is at c.open.ensures.opened in
-    rw is ((ready-keeps k lawful w s c.requires.there).has _ c.requires.there)
+    rw is.0 ((ready-keeps k lawful w s c.requires.there).has _ c.requires.there)
 
 pub begin_with_disable-requires-clause-closed : goal.begin_with_disable-requires-clause-closed
 begin_with_disable-requires-clause-closed g c =
@@ -45,7 +45,7 @@ begin_with_disable-requires-clause-closed g c =
     let w = g.S.Store.world c.args.store.now in
     let s = c.args.number in
     let is = rw c.in-ReadsDisable.is at c.open.ensures.opened in
-    rw is (closed_on k lawful (ready-keeps k lawful w s c.requires.there) c.requires.closed)
+    rw is.0 (closed_on k lawful (ready-keeps k lawful w s c.requires.there) c.requires.closed)
 
 pub begin_with_disable-requires-clause-is_idle : goal.begin_with_disable-requires-clause-is_idle
 begin_with_disable-requires-clause-is_idle g c =
@@ -54,7 +54,7 @@ begin_with_disable-requires-clause-is_idle g c =
     let w = g.S.Store.world c.args.store.now in
     let s = c.args.number in
     let is = rw c.in-ReadsDisable.is at c.open.ensures.opened in
-    rw is ((stays-changed k lawful w s unblocked refl).active ∙ c.requires.is_idle)
+    rw is.0 ((stays-changed k lawful w s unblocked refl).active ∙ c.requires.is_idle)
 
 pub returns-in-ReadsDisable-clause-turn : goal.returns-in-ReadsDisable-clause-turn
 returns-in-ReadsDisable-clause-turn g c = λ answers begins.
@@ -63,7 +63,7 @@ returns-in-ReadsDisable-clause-turn g c = λ answers begins.
     let w = g.S.Store.world c.args.store.now in
     let s = c.args.number in
     let is = rw c.in-ReadsDisable.is at c.open.ensures.opened in
-    begun-reads k lawful answers w _ s _ is refl ∙ c.begin_with_disable.ensures.turn answers begins
+    begun-reads k lawful answers w _ s _ is.0 refl ∙ c.begin_with_disable.ensures.turn answers begins
 
 pub returns-in-ReadsDisable-clause-given : goal.returns-in-ReadsDisable-clause-given
 returns-in-ReadsDisable-clause-given g c =
@@ -76,7 +76,7 @@ returns-in-ReadsDisable-clause-turns g c =
     let w = g.S.Store.world c.args.store.now in
     let s = c.args.number in
     let is = rw c.in-ReadsDisable.is at c.open.ensures.opened in
-    turns_on k (ready-keeps k lawful w s c.requires.there) (omega (arith, (stays-changed k lawful w s unblocked refl).fewer)) (omega arith) (rw is at c.begin_with_disable.ensures.turns)
+    turns_on k (ready-keeps k lawful w s c.requires.there) (omega (arith, (stays-changed k lawful w s unblocked refl).fewer)) (omega arith) (rw is.0 at c.begin_with_disable.ensures.turns)
 
 pub begin_wanted-requires-clause-there : goal.begin_wanted-requires-clause-there
 begin_wanted-requires-clause-there g c =
