@@ -1,4 +1,5 @@
 pub mod Served
+pub mod Loading
 pub mod Ended
 pub mod Linked
 pub mod Seen

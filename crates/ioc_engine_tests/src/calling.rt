@@ -1,12 +1,13 @@
 //! Calls of a desk, each by itself, so that what one promises isn't carried along to the next. A test has its calls as data.
-use crate::opened::{Sensor, link_to};
+use crate::opened::link_to;
+use ioc_device::Device;
 use ioc_engine::Engine;
 use ioc_events::Reply;
 use ioc_fields::{CommonField, FieldNo, OwnField};
 use ioc_journal::{Base, Desk, Receipt};
 use ioc_names::RecordNo;
 use ioc_notify::NotifyId;
-use ioc_types::Record;
+use ioc_record::RecordKind;
 use ioc_values::{Finished, Input, IocError, Value};
 use ioc_workplace::Workplace;
 use std::alloc::Global;
@@ -49,11 +50,11 @@ pub struct Told {
 }
 
 /// A desk and a workplace, with an engine.
-pub fn seat<B: Base<Record>, R: Wait>(
+pub fn seat<K: RecordKind + Drop, B: Base<K>, D: Device, R: Wait>(
     rt: &R,
     alloc: Global,
-    engine: &Engine<Record, B, Sensor>,
-) -> Option<(Desk<Record, B>, Workplace<Record, Sensor>)> {
+    engine: &Engine<K, B, D>,
+) -> Option<(Desk<K, B>, Workplace<K, D>)> {
     let Ok(desk) = engine.open_desk(rt) else {
         return None;
     };
@@ -64,7 +65,7 @@ pub fn seat<B: Base<Record>, R: Wait>(
 }
 
 // What a call was answered that moves no records.
-fn told_by<B: Base<Record>>(reply: Reply, receipt: &Receipt<Record, B>) -> Told {
+fn told_by<K: RecordKind, B: Base<K>>(reply: Reply, receipt: &Receipt<K, B>) -> Told {
     Told {
         reply,
         place: receipt.place(),
@@ -73,12 +74,12 @@ fn told_by<B: Base<Record>>(reply: Reply, receipt: &Receipt<Record, B>) -> Told 
 }
 
 // A put of a text.
-fn put<B: Base<Record>, R: Wait>(
+fn put<K: RecordKind + Drop, B: Base<K>, D: Device, R: Wait>(
     rt: &R,
     alloc: Global,
-    engine: &Engine<Record, B, Sensor>,
-    desk: &mut Desk<Record, B>,
-    place: &mut Workplace<Record, Sensor>,
+    engine: &Engine<K, B, D>,
+    desk: &mut Desk<K, B>,
+    place: &mut Workplace<K, D>,
     number: usize,
     field: FieldNo,
     text: &[u8],
@@ -98,11 +99,11 @@ fn put<B: Base<Record>, R: Wait>(
 }
 
 // A question.
-fn get<B: Base<Record>, R: Wait>(
+fn get<K: RecordKind + Drop, B: Base<K>, D: Device, R: Wait>(
     rt: &R,
     alloc: Global,
-    engine: &Engine<Record, B, Sensor>,
-    desk: &mut Desk<Record, B>,
+    engine: &Engine<K, B, D>,
+    desk: &mut Desk<K, B>,
     number: usize,
     field: FieldNo,
 ) -> Result<Told, IocError> {
@@ -111,12 +112,12 @@ fn get<B: Base<Record>, R: Wait>(
 }
 
 // A request.
-fn process<B: Base<Record>, R: Wait>(
+fn process<K: RecordKind + Drop, B: Base<K>, D: Device, R: Wait>(
     rt: &R,
     alloc: Global,
-    engine: &Engine<Record, B, Sensor>,
-    desk: &mut Desk<Record, B>,
-    place: &mut Workplace<Record, Sensor>,
+    engine: &Engine<K, B, D>,
+    desk: &mut Desk<K, B>,
+    place: &mut Workplace<K, D>,
     number: usize,
 ) -> Result<Told, IocError> {
     let (reply, receipt) = engine.process(rt, alloc, desk, place, RecordNo::new(number), 1)?;
@@ -124,12 +125,12 @@ fn process<B: Base<Record>, R: Wait>(
 }
 
 // A link change of FLNK.
-fn set_link<B: Base<Record>, R: Wait>(
+fn set_link<K: RecordKind + Drop, B: Base<K>, D: Device, R: Wait>(
     rt: &R,
     alloc: Global,
-    engine: &Engine<Record, B, Sensor>,
-    desk: &mut Desk<Record, B>,
-    place: &mut Workplace<Record, Sensor>,
+    engine: &Engine<K, B, D>,
+    desk: &mut Desk<K, B>,
+    place: &mut Workplace<K, D>,
     number: usize,
     target: Option<usize>,
 ) -> Result<Told, IocError> {
@@ -154,12 +155,12 @@ fn set_link<B: Base<Record>, R: Wait>(
 }
 
 // A put of a text with notification.
-fn put_notify<B: Base<Record>, R: Wait>(
+fn put_notify<K: RecordKind + Drop, B: Base<K>, D: Device, R: Wait>(
     rt: &R,
     alloc: Global,
-    engine: &Engine<Record, B, Sensor>,
-    desk: &mut Desk<Record, B>,
-    place: &mut Workplace<Record, Sensor>,
+    engine: &Engine<K, B, D>,
+    desk: &mut Desk<K, B>,
+    place: &mut Workplace<K, D>,
     number: usize,
     text: &[u8],
 ) -> Result<Told, IocError> {
@@ -178,12 +179,12 @@ fn put_notify<B: Base<Record>, R: Wait>(
 }
 
 // A put with notification is given up.
-fn cancel<B: Base<Record>, R: Wait>(
+fn cancel<K: RecordKind + Drop, B: Base<K>, D: Device, R: Wait>(
     rt: &R,
     alloc: Global,
-    engine: &Engine<Record, B, Sensor>,
-    desk: &mut Desk<Record, B>,
-    place: &mut Workplace<Record, Sensor>,
+    engine: &Engine<K, B, D>,
+    desk: &mut Desk<K, B>,
+    place: &mut Workplace<K, D>,
     number: u64,
 ) -> Result<Told, IocError> {
     let number = NotifyId::new(number);
@@ -192,11 +193,11 @@ fn cancel<B: Base<Record>, R: Wait>(
 }
 
 // The question whether a put with notification is live.
-fn live<B: Base<Record>, R: Wait>(
+fn live<K: RecordKind + Drop, B: Base<K>, D: Device, R: Wait>(
     rt: &R,
     alloc: Global,
-    engine: &Engine<Record, B, Sensor>,
-    desk: &mut Desk<Record, B>,
+    engine: &Engine<K, B, D>,
+    desk: &mut Desk<K, B>,
     number: u64,
 ) -> Result<Told, IocError> {
     let (reply, receipt) = engine.live(rt, alloc, desk, NotifyId::new(number), 1)?;
@@ -204,12 +205,12 @@ fn live<B: Base<Record>, R: Wait>(
 }
 
 // A completion.
-fn complete<B: Base<Record>, R: Wait>(
+fn complete<K: RecordKind + Drop, B: Base<K>, D: Device, R: Wait>(
     rt: &R,
     alloc: Global,
-    engine: &Engine<Record, B, Sensor>,
-    desk: &mut Desk<Record, B>,
-    place: &mut Workplace<Record, Sensor>,
+    engine: &Engine<K, B, D>,
+    desk: &mut Desk<K, B>,
+    place: &mut Workplace<K, D>,
     number: usize,
     wait: u64,
     value: i32,
@@ -229,12 +230,12 @@ fn complete<B: Base<Record>, R: Wait>(
 }
 
 /// Makes a call.
-pub fn make<B: Base<Record>, R: Wait>(
+pub fn make<K: RecordKind + Drop, B: Base<K>, D: Device, R: Wait>(
     rt: &R,
     alloc: Global,
-    engine: &Engine<Record, B, Sensor>,
-    desk: &mut Desk<Record, B>,
-    place: &mut Workplace<Record, Sensor>,
+    engine: &Engine<K, B, D>,
+    desk: &mut Desk<K, B>,
+    place: &mut Workplace<K, D>,
     call: Call,
 ) -> Result<Told, IocError> {
     match call {

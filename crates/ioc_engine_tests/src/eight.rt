@@ -1,9 +1,9 @@
 //! Eight threads on one engine, each with a desk of its own.
 use crate::calling::{Call, VAL, make, seat};
-use crate::opened::Sensor;
+use ioc_device::Device;
 use ioc_engine::Engine;
 use ioc_journal::Base;
-use ioc_types::Record;
+use ioc_record::RecordKind;
 use std::alloc::{AllocError, Global};
 use std::fmt::Write;
 use std::sync::Wait;
@@ -40,10 +40,10 @@ fn call_of(seed: u64) -> Call {
 }
 
 // The calls of one thread: how many were answered.
-fn calls<B: Base<Record>, R: Wait>(
+fn calls<K: RecordKind + Drop, B: Base<K>, D: Device, R: Wait>(
     rt: &R,
     alloc: Global,
-    engine: &Engine<Record, B, Sensor>,
+    engine: &Engine<K, B, D>,
     first: u64,
 ) -> usize {
     let Some((mut desk, mut place)) = seat(rt, alloc, engine) else {
@@ -61,11 +61,12 @@ fn calls<B: Base<Record>, R: Wait>(
 }
 
 /// How many calls of eight threads were answered.
-pub fn eight<B: Base<Record> + Send + Sync, R: Threads + Wait + Sync>(
-    rt: &R,
-    alloc: Global,
-    engine: &Engine<Record, B, Sensor>,
-) -> usize {
+pub fn eight<
+    K: RecordKind + Drop + Send + Sync,
+    B: Base<K> + Send + Sync,
+    D: Device + Send + Sync,
+    R: Threads + Wait + Sync,
+>(rt: &R, alloc: Global, engine: &Engine<K, B, D>) -> usize {
     let each = |number: usize| calls(rt, alloc, engine, (number as u64).wrapping_add(1));
     let Ok(counts) = thread::map_indices(rt, alloc, 8, &each) else {
         return 0;

@@ -6,10 +6,10 @@ use ioc_dbfile::{Database, load};
 use ioc_dbtext::Macros;
 use ioc_dealing::Loaded;
 use ioc_device::{Answer, Device};
+use ioc_engine::with_copies;
 use ioc_fields::{FieldNo, OwnField};
 use ioc_links::{LinkKind, parse};
 use ioc_names::RecordNo;
-use ioc_start::with_copies;
 use ioc_types::Record;
 use ioc_values::{IocError, Value};
 use std::alloc::{AllocError, Global};
@@ -76,9 +76,9 @@ pub fn loaded(
 ) -> Result<Vec<Loaded<Record, Sensor>>, IocError>
     ensures { IfOk result (λ all. All (λ l. l.base ≡ l.fields) all.items) }
 {
-    let Database { names: _, records } = load(alloc, text, &Macros::new(alloc))?;
     let mut devices = Vec::new(alloc);
     devices.push(device)?;
+    let Database { names: _, records } = load(alloc, text, &Macros::new(alloc))?;
     let all = with_copies(alloc, records, devices)?;
     Ok(all)
 }

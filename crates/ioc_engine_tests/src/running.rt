@@ -3,16 +3,17 @@
 ghost use Rattle.std.specs.Prelude.{◌≡◌, ◌-◌, ◌^◌, [], All};
 ghost use Rattle.crossbeam_utils.specs.Seq.{cell_view};
 ghost use Rattle.ioc_line.specs.Line.{keeper};
-ghost use Rattle.ioc_start.specs.Loading.{loaded_world};
+ghost use Rattle.ioc_engine.specs.Loading.{loaded_world};
 
 use crate::eight::eight;
 use crate::opened::{Sensor, loaded, seen};
 use crate::steps::{Step, follow};
 use ioc_dealing::Loaded;
-use ioc_engine::Engine;
+use ioc_device::Device;
+use ioc_engine::{Engine, new_cell, start};
 use ioc_journal::{Base, Limits, PLACES};
 use ioc_line::{Cell, Token};
-use ioc_start::{new_cell, start};
+use ioc_record::RecordKind;
 use ioc_topology::Locked;
 use ioc_types::Record;
 use ioc_values::IocError;
@@ -49,10 +50,10 @@ pub struct Ended {
 }
 
 // Calls once the first flag is raised, and raises the second then: how many of the calls were answered as they must.
-fn follow_then<B: Base<Record>, R: Wait>(
+fn follow_then<K: RecordKind + Drop, B: Base<K>, D: Device, R: Wait>(
     rt: &R,
     alloc: Global,
-    engine: &Engine<Record, B, Sensor>,
+    engine: &Engine<K, B, D>,
     others: &[Step],
     asked: &AtomicU64,
     answered: &AtomicU64,
@@ -64,12 +65,12 @@ fn follow_then<B: Base<Record>, R: Wait>(
 }
 
 // How many calls were answered as they must.
-fn done<B: Base<Record> + Send + Sync, R: Threads + Wait + Sync>(
-    rt: &R,
-    alloc: Global,
-    engine: &Engine<Record, B, Sensor>,
-    work: Work<'_>,
-) -> usize {
+fn done<
+    K: RecordKind + Drop + Send + Sync,
+    B: Base<K> + Send + Sync,
+    D: Device + Send + Sync,
+    R: Threads + Wait + Sync,
+>(rt: &R, alloc: Global, engine: &Engine<K, B, D>, work: Work<'_>) -> usize {
     match work {
         Work::Steps(steps) => follow(rt, alloc, engine, steps),
         Work::Beside {
@@ -90,10 +91,10 @@ fn done<B: Base<Record> + Send + Sync, R: Threads + Wait + Sync>(
 }
 
 // Ends an engine: how many sets it has, and how many records these have.
-fn end<B: Base<Record>, R: Wait>(
+fn end<K: RecordKind + Drop, B: Base<K>, D: Device, R: Wait>(
     rt: &R,
     alloc: Global,
-    engine: Engine<Record, B, Sensor>,
+    engine: Engine<K, B, D>,
 ) -> Option<(usize, usize)> {
     let Ok(report) = engine.stop(rt, alloc) else {
         return None;
@@ -106,14 +107,19 @@ fn end<B: Base<Record>, R: Wait>(
 }
 
 // What an engine of any name comes to; none where it isn't started.
-fn run<B: Base<Record> + Send + Sync, R: Threads + Wait + Sync>(
+fn run<
+    K: RecordKind + Drop + Send + Sync,
+    B: Base<K> + Send + Sync,
+    D: Device + Send + Sync,
+    R: Threads + Wait + Sync,
+>(
     rt: &R,
     alloc: Global,
     cell: Cell,
     master: Token,
     blank: Blank,
     tickets: Blank,
-    all: Vec<Loaded<Record, Sensor>>,
+    all: Vec<Loaded<K, D>>,
     work: Work<'_>,
 ) -> Option<Ended>
     requires table { (cell.table.shared.table_id ≡ B.table) × (master.table_id ≡ B.table) }
@@ -124,8 +130,7 @@ fn run<B: Base<Record> + Send + Sync, R: Threads + Wait + Sync>(
     requires copies { All (λ l. l.base ≡ l.fields) all.items }
 {
     let limits = Limits::default();
-    let Ok(engine) = start::<Record, B, Sensor>(alloc, cell, master, blank, tickets, all, limits)
-    else {
+    let Ok(engine) = start::<K, B, D>(alloc, cell, master, blank, tickets, all, limits) else {
         return None;
     };
     let held = done(rt, alloc, &engine, work);
@@ -145,9 +150,9 @@ pub fn run_text<R: Threads + Wait + Sync>(
     device: Option<Sensor>,
     work: Work<'_>,
 ) -> Result<Option<Ended>, IocError> {
-    let all = loaded(alloc, text, device)?;
     let (cell, master) = new_cell(alloc)?;
-    Ok(run::<Brand, R>(
+    let all = loaded(alloc, text, device)?;
+    Ok(run::<Record, Brand, Sensor, R>(
         rt,
         alloc,
         cell,

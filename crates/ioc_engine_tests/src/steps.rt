@@ -1,13 +1,12 @@
 //! The calls of one desk as lists of steps, each with what must come of it.
 use crate::calling::{Call, Told, make, seat};
-use crate::opened::Sensor;
+use ioc_device::Device;
 use ioc_engine::Engine;
 use ioc_events::Reply;
 use ioc_journal::{Base, Desk};
 use ioc_ledger::Outcome;
 use ioc_notify::NotifyId;
-use ioc_record::FieldText;
-use ioc_types::Record;
+use ioc_record::{FieldText, RecordKind};
 use ioc_values::IocError;
 use ioc_workplace::Workplace;
 use std::alloc::Global;
@@ -78,10 +77,10 @@ fn is_met(told: Result<Told, IocError>, wanted: Wanted) -> bool {
 }
 
 // Are the parts of an engine so many, and each of one record, by their order?
-fn are_alone<B: Base<Record>, R: Wait>(
+fn are_alone<K: RecordKind + Drop, B: Base<K>, D: Device, R: Wait>(
     rt: &R,
     alloc: Global,
-    engine: &Engine<Record, B, Sensor>,
+    engine: &Engine<K, B, D>,
     count: usize,
 ) -> bool {
     let Ok(parts) = engine.parts(rt, alloc) else {
@@ -97,12 +96,12 @@ fn are_alone<B: Base<Record>, R: Wait>(
 }
 
 // Does what the step says, and tells whether that came of it which must.
-fn holds<B: Base<Record>, R: Wait>(
+fn holds<K: RecordKind + Drop, B: Base<K>, D: Device, R: Wait>(
     rt: &R,
     alloc: Global,
-    engine: &Engine<Record, B, Sensor>,
-    desk: &mut Desk<Record, B>,
-    place: &mut Workplace<Record, Sensor>,
+    engine: &Engine<K, B, D>,
+    desk: &mut Desk<K, B>,
+    place: &mut Workplace<K, D>,
     step: Step,
 ) -> bool {
     match step {
@@ -112,10 +111,10 @@ fn holds<B: Base<Record>, R: Wait>(
 }
 
 /// Goes through steps with a desk of their own: how many held, up to the first that doesn't.
-pub fn follow<B: Base<Record>, R: Wait>(
+pub fn follow<K: RecordKind + Drop, B: Base<K>, D: Device, R: Wait>(
     rt: &R,
     alloc: Global,
-    engine: &Engine<Record, B, Sensor>,
+    engine: &Engine<K, B, D>,
     steps: &[Step],
 ) -> usize {
     let Some((mut desk, mut place)) = seat(rt, alloc, engine) else {

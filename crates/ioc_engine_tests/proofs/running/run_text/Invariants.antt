@@ -1,4 +1,4 @@
-use Rattle.ioc_start.specs.Loading.{loaded_world}
+use Rattle.ioc_engine.specs.Loading.{loaded_world}
 use Rattle.ioc_engine_tests.proofs.running.run_text.Given as goal
 
 -- the engine's name

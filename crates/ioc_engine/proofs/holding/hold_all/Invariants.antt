@@ -1,8 +1,8 @@
 use Rattle.std.proofs.Common.{◌≡◌, [], length}
 use Rattle.crossbeam_utils.specs.Seq.{cell_view}
 use Rattle.ioc_line.specs.Line.{keeper}
-use Rattle.ioc_start.specs.Loading.{AreSetsFrom, AreOfPartsBelow}
-use Rattle.ioc_start.proofs.holding.hold_all.Given as goal
+use Rattle.ioc_engine.specs.Loading.{AreSetsFrom, AreOfPartsBelow}
+use Rattle.ioc_engine.proofs.holding.hold_all.Given as goal
 
 -- the parts below have their keys, and the sets from here on wait as they were dealt
 abbrev pub invariant-loop-part : goal.invariant-loop-part

@@ -1,7 +1,7 @@
 use Rattle.std.proofs.Common.{[]}
 use Rattle.std.specs.FinMap.{keys}
 use Rattle.ioc_line.specs.Key.{record_keys}
-use Rattle.ioc_start.proofs.holding.hold.Given as goal
+use Rattle.ioc_engine.proofs.holding.hold.Given as goal
 
 -- the keys of the records
 abbrev pub ghosts-hold_as : goal.ghosts-hold_as

@@ -21,8 +21,8 @@ use Rattle.ioc_set.specs.Linking.{AreCalm, IsCalm, NoneAwaits}
 use Rattle.ioc_dealing.specs.declared.dealing.Loaded.{Loaded}
 use Rattle.ioc_dealing.specs.Dealing.{HasPart}
 use Rattle.ioc_dealing.specs.Linked.{AreParts, links_in}
-use Rattle.ioc_start.specs.Loading.{loaded_world, AreOfPartsBelow, IsIdle, IsAtRest, IsSetOf, AreSetsFrom}
-use Rattle.ioc_start.proofs.Keys.{record_contains, key_there}
+use Rattle.ioc_engine.specs.Loading.{loaded_world, AreOfPartsBelow, IsIdle, IsAtRest, IsSetOf, AreSetsFrom}
+use Rattle.ioc_engine.proofs.Keys.{record_contains, key_there}
 
 none_in : {A : Type 0} (x : A) → Contains [] x → ⊥
 none_in x c = let l = c.1 in omega arith

@@ -8,9 +8,9 @@ use Rattle.ioc_holding.specs.Held.{Cover}
 use Rattle.ioc_journal.specs.Account.{IsHolder, AreRecords}
 use Rattle.ioc_set.specs.Held.{Held, now_of}
 use Rattle.ioc_workplace.specs.Resting.{resting}
-use Rattle.ioc_engine.specs.Holding.{IsOwner}
-use Rattle.ioc_start.proofs.Keys.{contains_record, there_key}
-use Rattle.ioc_start.proofs.holding.hold_as.Goals as goal
+use Rattle.ioc_lent.specs.Holding.{IsOwner}
+use Rattle.ioc_engine.proofs.Keys.{contains_record, there_key}
+use Rattle.ioc_engine.proofs.holding.hold_as.Goals as goal
 
 pub claim-pass-requires-clause-fresh : goal.claim-pass-requires-clause-fresh
 claim-pass-requires-clause-fresh g c = λ key has. c.requires.fresh key (subst (λ (l : List Key). Has key l) c.requires.keys has)

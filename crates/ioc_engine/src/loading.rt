@@ -1,7 +1,7 @@
 //! The records of a loaded database.
 ghost use Rattle.std.specs.Prelude.{◌≡◌, None, drop, map, slice_index_or, All, IfOk};
 ghost use Rattle.std.specs.Vec.Iter.{into_iter_items};
-ghost use Rattle.ioc_start.specs.Loading.{HaveDevices};
+ghost use Rattle.ioc_engine.specs.Loading.{HaveDevices};
 
 use ioc_dealing::Loaded;
 use ioc_record::RecordKind;

@@ -2,9 +2,9 @@ use Rattle.std.proofs.Common.{◌≡◌, ◌++◌, List, None, length, map, drop
 use Rattle.std.specs.Prelude.{All}
 use Rattle.std.specs.Vec.Iter.{into_iter_items}
 use Rattle.ioc_dealing.specs.declared.dealing.Loaded.{Loaded}
-use Rattle.ioc_start.specs.Loading.{HaveDevices}
-use Rattle.ioc_start.proofs.Copies.{one_kept, all_kept, one_fewer, all_taken, each_at, first_left, fewer_left}
-use Rattle.ioc_start.proofs.loading.with_copies.Goals as goal
+use Rattle.ioc_engine.specs.Loading.{HaveDevices}
+use Rattle.ioc_engine.proofs.Copies.{one_kept, all_kept, one_fewer, all_taken, each_at, first_left, fewer_left}
+use Rattle.ioc_engine.proofs.loading.with_copies.Goals as goal
 
 pub unreachable-requires : goal.unreachable-requires
 unreachable-requires g c =

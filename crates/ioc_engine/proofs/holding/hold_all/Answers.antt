@@ -1,7 +1,7 @@
 use Rattle.std.proofs.Common.{◌≡◌, ◌<◌, length, ◌∙◌, arith, rules}
 use Rattle.ioc_members.specs.Contents.{nothing}
-use Rattle.ioc_start.proofs.Parts.{sets_left, set_here, get_or_any}
-use Rattle.ioc_start.proofs.holding.hold_all.Goals as goal
+use Rattle.ioc_engine.proofs.DealtParts.{sets_left, set_here, get_or_any}
+use Rattle.ioc_engine.proofs.holding.hold_all.Goals as goal
 
 pub hold_part-held-requires-clause-part : goal.hold_part-held-requires-clause-part
 hold_part-held-requires-clause-part g c =

@@ -10,11 +10,11 @@ ghost use Rattle.ioc_members.specs.Joined.{links_of, IsPart};
 ghost use Rattle.ioc_workplace.specs.Resting.{resting};
 ghost use Rattle.ioc_set.specs.Linking.{anew, AreCalm, NoneAwaits};
 ghost use Rattle.ioc_journal.specs.Account.{AreRecords};
-ghost use Rattle.ioc_engine.specs.Holding.{held_view};
-ghost use Rattle.ioc_start.specs.Loading.{IsSetOf, AreSetsFrom, AreOfPartsBelow};
+ghost use Rattle.ioc_lent.specs.Holding.{held_view};
+ghost use Rattle.ioc_engine.specs.Loading.{IsSetOf, AreSetsFrom, AreOfPartsBelow};
 
-use ioc_engine::Held;
 use ioc_journal::Base;
+use ioc_lent::Held;
 use ioc_line::{Cell, Keys, Token, pass};
 use ioc_members::Members;
 use ioc_record::RecordKind;

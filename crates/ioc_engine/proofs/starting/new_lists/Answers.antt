@@ -1,7 +1,7 @@
 use Rattle.std.proofs.Common.{ap, arith}
 use Rattle.ioc_line.specs.declared.room.View.{View}
-use Rattle.ioc_start.proofs.Keys.{no_desks_with}
-use Rattle.ioc_start.proofs.starting.new_lists.Goals as goal
+use Rattle.ioc_engine.proofs.Keys.{no_desks_with}
+use Rattle.ioc_engine.proofs.starting.new_lists.Goals as goal
 
 pub claim_key-pass-requires-clause-fresh : goal.claim_key-pass-requires-clause-fresh
 claim_key-pass-requires-clause-fresh g c has = let record_key = c.requires.born (2, 0) has in absurd (omega (arith, record_key))

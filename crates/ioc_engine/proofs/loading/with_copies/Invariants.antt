@@ -2,8 +2,8 @@ use Rattle.std.proofs.Common.{◌≡◌, ◌+◌, ◌++◌, length, map, drop}
 use Rattle.std.specs.Prelude.{All}
 use Rattle.std.specs.Vec.Iter.{into_iter_items}
 use Rattle.ioc_dealing.specs.declared.dealing.Loaded.{Loaded}
-use Rattle.ioc_start.specs.Loading.{HaveDevices}
-use Rattle.ioc_start.proofs.loading.with_copies.Given as goal
+use Rattle.ioc_engine.specs.Loading.{HaveDevices}
+use Rattle.ioc_engine.proofs.loading.with_copies.Given as goal
 
 -- those so far have copies and their devices, and what is left is behind them
 abbrev pub invariant-loop : goal.invariant-loop

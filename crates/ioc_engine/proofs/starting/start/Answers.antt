@@ -8,10 +8,10 @@ use Rattle.ioc_holding.specs.Legal.{IsSound}
 use Rattle.ioc_dealing.specs.declared.dealing.Loaded.{Loaded}
 use Rattle.ioc_dealing.specs.Dealing.{AreDealt}
 use Rattle.ioc_dealing.specs.Linked.{AreParts, links_in}
-use Rattle.ioc_start.specs.Loading.{loaded_world, IsIdle, IsAtRest, AreSetsFrom}
-use Rattle.ioc_start.specs.declared.starting.StartError.TheVariants.{BadValue, NoMemory}
-use Rattle.ioc_start.proofs.Parts.{database_is_shut, database_is_free, database_is_small}
-use Rattle.ioc_start.proofs.starting.start.Goals as goal
+use Rattle.ioc_engine.specs.Loading.{loaded_world, IsIdle, IsAtRest, AreSetsFrom}
+use Rattle.ioc_engine.specs.declared.starting.StartError.TheVariants.{BadValue, NoMemory}
+use Rattle.ioc_engine.proofs.DealtParts.{database_is_shut, database_is_free, database_is_small}
+use Rattle.ioc_engine.proofs.starting.start.Goals as goal
 
 pub deal-requires-clause-below : goal.deal-requires-clause-below
 deal-requires-clause-below g c =
