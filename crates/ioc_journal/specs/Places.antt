@@ -1,4 +1,4 @@
--- A list of so many places at most, of which some are held before they are filled.
+-- A list of so many places at most, of which some are held before they are filled; and a journal, which has such a list.
 -- This project's own.
 use Rattle.std.specs.Prelude.{◌≡◌, ◌⊎◌, ◌≤◌, ◌<◌, ◌+◌, ℕ, List, length}
 use Rattle.ioc_values.specs.declared.error.IocError.{IocError}
@@ -17,6 +17,24 @@ places_of filled held limit = record { filled = filled; held = held; limit = lim
 -- one more is held
 abbrev pub one_more_held : {X : Type 0} → PlacesOf X → PlacesOf X
 one_more_held p = places_of p.filled (p.held + 1) p.limit
+
+-- a journal: what fills its places, how many more are held, how many there are in all, and how many desks were opened
+pub record JournalOf (X : Type 0) : Type 0 where
+  pub filled : List X
+  pub held : ℕ
+  pub limit : ℕ
+  pub desks : ℕ
+
+abbrev pub journal_of : {X : Type 0} → List X → ℕ → ℕ → ℕ → JournalOf X
+journal_of filled held limit desks = record { filled = filled; held = held; limit = limit; desks = desks }
+
+-- its places alone
+abbrev pub places : {X : Type 0} → JournalOf X → PlacesOf X
+places j = places_of j.filled j.held j.limit
+
+-- one more desk was opened
+abbrev pub one_more_desk : {X : Type 0} → JournalOf X → JournalOf X
+one_more_desk j = journal_of j.filled j.held j.limit (j.desks + 1)
 
 -- what is filled and what is held make the limit
 abbrev pub IsFull : {X : Type 0} → PlacesOf X → Type 0

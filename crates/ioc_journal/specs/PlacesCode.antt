@@ -1,11 +1,11 @@
--- A list of places, as a tuple of its parts.
+-- A list of places, and a journal, each as a tuple of its parts.
 use Rattle.std.specs.Prelude.{ℕ, List, refl}
 use Rattle.std.specs.Coded.{Coded, code_by, coded×, coded_list, coded_ℕ}
 use Rattle.ioc_line.specs.declared.entry.JournalEntry.{JournalEntry}
 use Rattle.ioc_line.specs.declared.entry.Note.{Note}
 use Rattle.ioc_line.specs.contracts.entry.JournalEntry as entry_row
 use Rattle.ioc_line.specs.contracts.entry.Note as note_row
-use Rattle.ioc_journal.specs.Places.{PlacesOf, places_of}
+use Rattle.ioc_journal.specs.Places.{PlacesOf, JournalOf, places_of, journal_of}
 
 abbrev pub places_code : {X : Type 0} → Coded X → Coded (PlacesOf X)
 places_code {X} x =
@@ -17,5 +17,9 @@ places_code {X} x =
 abbrev pub entries_code : Coded (PlacesOf JournalEntry)
 entries_code = places_code entry_row.the_row.coded
 
-abbrev pub notes_code : Coded (PlacesOf Note)
-notes_code = places_code note_row.the_row.coded
+abbrev pub journal_code : Coded (JournalOf Note)
+journal_code =
+    code_by (List Note × (ℕ × (ℕ × ℕ))) (coded× (coded_list note_row.the_row.coded) (coded× coded_ℕ (coded× coded_ℕ coded_ℕ)))
+    (λ j. (j.filled, (j.held, (j.limit, j.desks))))
+    (λ p. journal_of p.0 p.1.0 p.1.1.0 p.1.1.1)
+    (λ _. refl)

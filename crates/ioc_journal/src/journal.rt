@@ -1,12 +1,12 @@
 //! All calls, in one order.
-ghost use Rattle.std.specs.Prelude.{◌≡◌, ◌+◌, ◌-◌, ◌^◌, ◌++◌, [], IfOk, IfErr, OnErr};
+ghost use Rattle.std.specs.Prelude.{◌≡◌, ◌+◌, ◌-◌, ◌^◌, ◌++◌, [], IfOk, IfErr, OnOk, OnErr};
 ghost use Rattle.crossbeam_utils.specs.Seq.{cell_view};
 ghost use Rattle.ioc_line.specs.Key.{Key, Has};
 ghost use Rattle.ioc_line.specs.Line.{keeper, holder, Continues};
 ghost use Rattle.ioc_holding.specs.Legal.{IsLegal, IsSound};
 ghost use Rattle.ioc_values.specs.declared.error.IocError.TheVariants.{JournalFull};
 ghost use Rattle.ioc_journal.specs.Account.{AreNoDesks, AreRecords, IsHolder, MayFollow, BothMayFollow, Call, Added, AddedByBoth, AreMerged, calls, calls_by};
-ghost use Rattle.ioc_journal.specs.Places.{AreAllowed, places_of, one_more_held, HoldsOne, HoldsNone};
+ghost use Rattle.ioc_journal.specs.Places.{AreAllowed, places, journal_of, one_more_held, one_more_desk, HoldsOne, HoldsNone};
 
 use crate::base::Base;
 use crate::dealing::{deal, take_over};
@@ -23,8 +23,8 @@ use std::marker::{Model, PhantomData};
 use std::sync::Wait;
 use std::sync::ledger::Blank;
 
-/// All calls of an engine, each with its desk and its number. Contracts see them as one list, with the keys that each call is about, and how
-/// many places are held for more, and there are in all.
+/// All calls of an engine, each with its desk and its number. Contracts see them as one list, with the keys that each call is about, how many
+/// places are held for more, and there are in all, and how many desks were opened.
 #[derive(Drop)]
 pub struct Journal<K: RecordKind, B: Base<K>> {
     pub(crate) entries: Entries<K, B>,
@@ -34,18 +34,18 @@ pub struct Journal<K: RecordKind, B: Base<K>> {
 
 impl<K: RecordKind, B: Base<K>> Model for Journal<K, B> {
     ghost use Rattle.ioc_line.specs.declared.entry.Note.{Note};
-    ghost use Rattle.ioc_journal.specs.Places.{PlacesOf};
-    ghost use Rattle.ioc_journal.specs.PlacesCode.{notes_code};
+    ghost use Rattle.ioc_journal.specs.Places.{JournalOf};
+    ghost use Rattle.ioc_journal.specs.PlacesCode.{journal_code};
 
-    ghost Value = { PlacesOf Note };
+    ghost Value = { JournalOf Note };
 
-    ghost coded = { notes_code };
+    ghost coded = { journal_code };
 
     ghost use Rattle.crossbeam_utils.specs.Seq.{cell_view};
     ghost use Rattle.ioc_journal.specs.Kept.{IsKept};
-    ghost use Rattle.ioc_journal.specs.Places.{places_of};
+    ghost use Rattle.ioc_journal.specs.Places.{journal_of};
 
-    ghost view = { λ j. places_of (cell_view j.pass).seen j.entries.held j.entries.limit };
+    ghost view = { λ j. journal_of (cell_view j.pass).seen j.entries.held j.entries.limit j.desks };
 
     ghost invariant = { λ j. IsKept K.rules B.base B.table j.pass.table_id (cell_view j.pass) j.entries.filled j.desks };
 }
@@ -60,7 +60,7 @@ impl<K: RecordKind, B: Base<K>> Journal<K, B> {
         requires parts { blank.parts ≡ 2 ^ 64 - 1 }
         requires limits { AreAllowed limits }
         requires sound { IsSound K.rules B.base }
-        ensures { result ≡ places_of [] 0 limits.journal }
+        ensures { result ≡ journal_of [] 0 limits.journal 0 }
     {
         Journal {
             entries: Entries::new(alloc, blank, limits),
@@ -69,16 +69,17 @@ impl<K: RecordKind, B: Base<K>> Journal<K, B> {
         }
     }
 
-    /// A desk that has seen all calls, and made none.
+    /// A desk that has seen all calls, and made none. Its number is how many were opened before.
     ///
     /// # Errors
     ///
-    /// [`IocError::JournalFull`] where the numbers of desks are used up.
+    /// [`IocError::JournalFull`] where the numbers of desks are used up, and only there.
     pub fn open_desk(&mut self, cell: &Cell) -> Result<Desk<K, B>, IocError>
         requires table { cell.now.table.shared.table_id ≡ B.table }
-        ensures desk { IfOk result (λ d. (d.next ≡ 0) × (d.seen ≡ self.old.filled) × (calls_by d.number (calls d.seen) ≡ [])) }
-        ensures refused { IfErr result (λ error. error ≡ JournalFull) }
-        ensures same { self.new ≡ self.old }
+        ensures desk { IfOk result (λ d. (d.number ≡ self.old.desks) × (d.next ≡ 0) × (d.seen ≡ self.old.filled) × (calls_by d.number (calls d.seen) ≡ [])) }
+        ensures opened { OnOk result (self.new ≡ one_more_desk self.old) }
+        ensures refused { IfErr result (λ error. (error ≡ JournalFull) × (self.old.desks ≡ 2 ^ 64 - 1)) }
+        ensures same { OnErr result (self.new ≡ self.old) }
     {
         if self.desks == u64::MAX {
             return Err(IocError::JournalFull);
@@ -102,16 +103,18 @@ impl<K: RecordKind, B: Base<K>> Journal<K, B> {
     /// [`IocError::JournalFull`] where entries and held places make the limit, and else [`IocError::NoMemory`] where memory is wanting.
     #[inline(always)]
     pub fn reserve(&mut self) -> Result<Place<K, B>, IocError>
-        ensures held { IfOk result (λ _. HoldsOne self.old self.new) }
-        ensures refused { IfErr result (HoldsNone self.old) }
+        ensures held { IfOk result (λ _. HoldsOne (places self.old) (places self.new)) }
+        ensures refused { IfErr result (HoldsNone (places self.old)) }
         ensures same { OnErr result (self.new ≡ self.old) }
+        ensures desks { self.new.desks ≡ self.old.desks }
     {
         self.entries.hold()
     }
 
     /// Takes back a place whose call wasn't made: it is free again.
     pub fn give_back(&mut self, place: Place<K, B>)
-        ensures { self.old ≡ one_more_held self.new }
+        ensures free { places self.old ≡ one_more_held (places self.new) }
+        ensures desks { self.new.desks ≡ self.old.desks }
     {
         self.entries.give_back(place);
     }
@@ -132,7 +135,7 @@ impl<K: RecordKind, B: Base<K>> Journal<K, B> {
         requires follows { MayFollow K.rules B.base (cell_view set.old).seen (cell_view set.old).owns entry }
         ensures call { Call K.rules B.base desk.old entry desk.new }
         ensures receipt { result ≡ desk.new.seen }
-        ensures list { self.new ≡ places_of desk.new.seen self.new.held self.old.limit }
+        ensures list { self.new ≡ journal_of desk.new.seen self.new.held self.old.limit self.old.desks }
         ensures held { self.old.held ≡ self.new.held + 1 }
         ensures set { (set.new.table_id ≡ set.old.table_id) × (cell_view set.new ≡ holder self.new.filled (cell_view set.old).owns) }
         ensures added { Added K.rules B.base (cell_view set.old).seen (cell_view set.old).owns entry self.old.filled self.new.filled }
@@ -172,7 +175,7 @@ impl<K: RecordKind, B: Base<K>> Journal<K, B> {
         requires follows { BothMayFollow K.rules B.base (cell_view one.old).seen (cell_view one.old).owns (cell_view other.old).seen (cell_view other.old).owns entry }
         ensures call { Call K.rules B.base desk.old entry desk.new }
         ensures receipt { result ≡ desk.new.seen }
-        ensures list { self.new ≡ places_of desk.new.seen self.new.held self.old.limit }
+        ensures list { self.new ≡ journal_of desk.new.seen self.new.held self.old.limit self.old.desks }
         ensures held { self.old.held ≡ self.new.held + 1 }
         ensures one { (one.new.table_id ≡ one.old.table_id) × (cell_view one.new ≡ holder self.new.filled P.keys) }
         ensures other { (other.new.table_id ≡ other.old.table_id) × (cell_view other.new ≡ holder self.new.filled P.rest) }

@@ -1,7 +1,7 @@
 use Rattle.std.proofs.Common.{◌∙◌, subst, length, ◌<◌, arith}
 use Rattle.std.proofs.Math.Seq.{map-set_same}
 use Rattle.ioc_line.specs.declared.entry.Note.{Note}
-use Rattle.ioc_journal.specs.Places.{PlacesOf}
+use Rattle.ioc_journal.specs.Places.{JournalOf}
 use Rattle.ioc_lent.specs.Holding.{HeldView}
 use Rattle.ioc_engine.specs.Ended.{IsAsTold}
 use Rattle.ioc_engine.proofs.Ending.{one_more}
@@ -15,6 +15,6 @@ loop-place-preserved g c =
     record {
       sets = map-set_same (λ (h : HeldView g.row.K.Denot g.row.D.Denot). h.set) c.loop-place.sets c.loop-place.place c.learn_all.new.self c.index-sets-place.result c.learn_all.ensures.set ∙ c.loop-place.invariant.sets;
       told = one_more (IsAsTold k base c.args.journal.now.filled) c.loop-place.sets c.loop-place.place c.learn_all.new.self within c.loop-place.invariant.told
-          (subst (λ (p : PlacesOf Note). IsAsTold k base p.filled c.learn_all.new.self) c.loop-place.invariant.journal c.learn_all.ensures.told);
+          (subst (λ (j : JournalOf Note). IsAsTold k base j.filled c.learn_all.new.self) c.loop-place.invariant.journal c.learn_all.ensures.told);
       journal = c.learn_all.ensures.journal ∙ c.loop-place.invariant.journal;
     }

@@ -7,7 +7,7 @@ use Rattle.ioc_topology.specs.Gathered.{HoldEach}
 use Rattle.ioc_set.specs.Held.{Held}
 use Rattle.ioc_lent.specs.Holding.{HeldView, numbers_of, IsSoundlyHeld}
 use Rattle.ioc_journal.specs.Account.{IsAccount}
-use Rattle.ioc_journal.specs.Places.{PlacesOf}
+use Rattle.ioc_journal.specs.Places.{JournalOf}
 use Rattle.ioc_engine.specs.Ended.{IsAsTold, IsEnd}
 use Rattle.ioc_engine.proofs.Ending.{still_hold_each, whole}
 use Rattle.ioc_engine.proofs.engine.Engine.stop.Goals as goal
@@ -27,6 +27,6 @@ returns-clause-end g c =
     subst (λ (l : List (HeldView g.row.K.Denot g.row.D.Denot)). IsEnd k base c.args.self c.tell_all.new.journal.filled l) same (record {
       each = still_hold_each (λ (h : HeldView g.row.K.Denot g.row.D.Denot). h.set) (λ (h : Held g.row.K.Denot g.row.D.Denot). keys h.records) list c.tell_all.new.sets kept c.args.self all;
       sound = subst (λ (l : List (HeldView g.row.K.Denot g.row.D.Denot)). All (IsSoundlyHeld k base) l) (c.as_slice.ensures.value ∙ sym same) c.all_sound.ensures;
-      told = subst (λ (l : List Note). All (IsAsTold k base l) c.tell_all.new.sets) (sym (ap (λ (p : PlacesOf Note). p.filled) e.journal)) e.told;
-      legal = subst (λ (l : List Note). IsAccount k base l) (sym (ap (λ (p : PlacesOf Note). p.filled) e.journal)) c.is_legal.ensures.account;
+      told = subst (λ (l : List Note). All (IsAsTold k base l) c.tell_all.new.sets) (sym (ap (λ (j : JournalOf Note). j.filled) e.journal)) e.told;
+      legal = subst (λ (l : List Note). IsAccount k base l) (sym (ap (λ (j : JournalOf Note). j.filled) e.journal)) c.is_legal.ensures.account;
     })

@@ -10,7 +10,7 @@ use Rattle.ioc_line.specs.Key.{Key, Has}
 use Rattle.ioc_line.specs.Line.{keeper, holder, noted}
 use Rattle.ioc_line.specs.KeyLaws.{has_right}
 use Rattle.ioc_journal.specs.Account.{DeskView, desk_view, desk_key, journalled, calls, Below, IsAccount, Call, Added}
-use Rattle.ioc_journal.specs.Places.{PlacesOf}
+use Rattle.ioc_journal.specs.Places.{PlacesOf, JournalOf}
 use Rattle.ioc_journal.proofs.Calls.{calls-append, length-calls, below_other, no_longer, counted, account_then, below_then, called}
 use Rattle.ioc_journal.proofs.Room.{as_many, stands, is_added}
 use Rattle.ioc_journal.proofs.journal.Journal.append.Goals as goal
@@ -136,7 +136,7 @@ returns-clause-added g c =
     let is_made = is_added c.self.inside.entries.filled (journalled n next c.args.entry) c.len-index.result c.in-Some.made.now c.len-index.ensures.count
     (sym (ap (λ (p : PlacesOf JournalEntry). slice_get p.filled c.len-index.result) c.fill.ensures.filled) ∙ (sym c.at.ensures ∙ ap (option_map (λ (e : Bor JournalEntry). e.now)) c.in-Some.is)) in
     let noted_so = ap (λ (m : JournalEntry). log ++ noted m (owns ++ own) ∷ []) is_made in
-    subst (λ (l : List Note). Added g.K.RecordKind.rules g.B.Base.base seen owns c.args.entry l (cell_view c.append-pass.new.master).seen) (ap (λ (p : PlacesOf Note). p.filled) c.self.view_is)
+    subst (λ (l : List Note). Added g.K.RecordKind.rules g.B.Base.base seen owns c.args.entry l (cell_view c.append-pass.new.master).seen) (ap (λ (j : JournalOf Note). j.filled) c.self.view_is)
     (record { desk = c.desk.inside.number; call = c.desk.inside.next; own = (cell_view c.desk.inside.pass).owns; sound = i.sound; goes_on = e.goes_on.0; legal = i.account.legal; ends = ap (λ (v : View). v.seen) e.keeper.1 ∙ noted_so })
 
 pub overflow_add-desk : goal.overflow_add-desk

@@ -10,7 +10,7 @@ use Rattle.ioc_line.specs.Key.{Key, Has}
 use Rattle.ioc_line.specs.Line.{keeper, holder, noted}
 use Rattle.ioc_line.specs.KeyLaws.{has_either}
 use Rattle.ioc_journal.specs.Account.{DeskView, desk_view, desk_key, journalled, calls, Below, IsAccount, Call, AddedByBoth}
-use Rattle.ioc_journal.specs.Places.{PlacesOf}
+use Rattle.ioc_journal.specs.Places.{PlacesOf, JournalOf}
 use Rattle.ioc_journal.proofs.Calls.{calls-append, length-calls, below_other, no_longer, counted, account_then, below_then, called}
 use Rattle.ioc_journal.proofs.Room.{as_many, stands, is_added}
 use Rattle.ioc_journal.proofs.journal.Journal.append_two.Goals as goal
@@ -137,7 +137,7 @@ returns-clause-added g c =
     let is_made = is_added c.self.inside.entries.filled (journalled n next c.args.entry) c.len-index.result c.in-Some.made.now c.len-index.ensures.count
     (sym (ap (λ (p : PlacesOf JournalEntry). slice_get p.filled c.len-index.result) c.fill.ensures.filled) ∙ (sym c.at.ensures ∙ ap (option_map (λ (e : Bor JournalEntry). e.now)) c.in-Some.is)) in
     let noted_so = ap (λ (m : JournalEntry). log ++ noted m (owns ++ own) ∷ []) is_made in
-    subst (λ (l : List Note). AddedByBoth g.K.RecordKind.rules g.B.Base.base (cell_view c.args.one.now).seen (cell_view c.args.one.now).owns (cell_view c.args.other.now).seen (cell_view c.args.other.now).owns c.args.entry l (cell_view c.deal-pass.new.master).seen) (ap (λ (p : PlacesOf Note). p.filled) c.self.view_is)
+    subst (λ (l : List Note). AddedByBoth g.K.RecordKind.rules g.B.Base.base (cell_view c.args.one.now).seen (cell_view c.args.one.now).owns (cell_view c.args.other.now).seen (cell_view c.args.other.now).owns c.args.entry l (cell_view c.deal-pass.new.master).seen) (ap (λ (j : JournalOf Note). j.filled) c.self.view_is)
     (record {
       desk = c.desk.inside.number;
       call = c.desk.inside.next;

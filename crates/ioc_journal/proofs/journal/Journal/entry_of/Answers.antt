@@ -7,7 +7,7 @@ use Rattle.ioc_line.specs.declared.entry.JournalEntry.{JournalEntry}
 use Rattle.ioc_line.specs.declared.entry.Note.{Note}
 use Rattle.ioc_line.specs.Line.{Begins}
 use Rattle.ioc_journal.specs.Account.{IsEntryOf}
-use Rattle.ioc_journal.specs.Places.{PlacesOf}
+use Rattle.ioc_journal.specs.Places.{JournalOf}
 use Rattle.ioc_journal.proofs.Ends.{is_entry_of, is_within}
 use Rattle.ioc_journal.proofs.journal.Journal.entry_of.Goals as goal
 
@@ -15,7 +15,7 @@ pub unreachable-requires : goal.unreachable-requires
 unreachable-requires g c =
     let seen = (cell_view c.self.inside.pass).seen in
     let mine = (cell_view c.receipt.inside.pass).seen in
-    let begins : Begins mine seen = subst (λ (p : PlacesOf Note). Begins mine p.filled) (sym c.self.view_is) (subst (λ (l : List Note). Begins l c.args.self.now.filled) (sym c.receipt.view_is) c.requires.begins) in
+    let begins : Begins mine seen = subst (λ (j : JournalOf Note). Begins mine j.filled) (sym c.self.view_is) (subst (λ (l : List Note). Begins l c.args.self.now.filled) (sym c.receipt.view_is) c.requires.begins) in
     is_within mine seen c.receipt.inside.place c.receipt.invariant.ends begins
     (sym (ap (λ (l : List JournalEntry). slice_get l c.receipt.inside.place) c.self.invariant.items_are) ∙ (sym c.at.ensures ∙ ap (option_map (λ (e : Bor JournalEntry). e.now)) c.in_default.is))
 
@@ -23,8 +23,8 @@ pub returns : goal.returns
 returns g c =
     let seen = (cell_view c.self.inside.pass).seen in
     let mine = (cell_view c.receipt.inside.pass).seen in
-    let begins : Begins mine seen = subst (λ (p : PlacesOf Note). Begins mine p.filled) (sym c.self.view_is) (subst (λ (l : List Note). Begins l c.args.self.now.filled) (sym c.receipt.view_is) c.requires.begins) in
-    subst (λ (p : PlacesOf Note). IsEntryOf c.args.receipt.now p.filled c.in-Some.entry.now) c.self.view_is
+    let begins : Begins mine seen = subst (λ (j : JournalOf Note). Begins mine j.filled) (sym c.self.view_is) (subst (λ (l : List Note). Begins l c.args.self.now.filled) (sym c.receipt.view_is) c.requires.begins) in
+    subst (λ (j : JournalOf Note). IsEntryOf c.args.receipt.now j.filled c.in-Some.entry.now) c.self.view_is
     (subst (λ (l : List Note). IsEntryOf l seen c.in-Some.entry.now) c.receipt.view_is
     (is_entry_of mine seen c.receipt.inside.place c.in-Some.entry.now c.receipt.invariant.ends begins
     (sym (ap (λ (l : List JournalEntry). slice_get l c.receipt.inside.place) c.self.invariant.items_are) ∙ (sym c.at.ensures ∙ ap (option_map (λ (e : Bor JournalEntry). e.now)) c.in-Some.is))))

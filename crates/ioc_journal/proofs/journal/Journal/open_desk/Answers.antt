@@ -5,7 +5,7 @@ use Rattle.ioc_line.specs.declared.room.View.{View}
 use Rattle.ioc_line.specs.Key.{Key, Has}
 use Rattle.ioc_line.specs.Line.{keeper, claiming}
 use Rattle.ioc_journal.specs.Account.{desk_key, calls, calls_by, Below, IsAccount}
-use Rattle.ioc_journal.specs.Places.{PlacesOf}
+use Rattle.ioc_journal.specs.Places.{JournalOf}
 use Rattle.ioc_journal.proofs.Calls.{none_below}
 use Rattle.ioc_journal.proofs.journal.Journal.open_desk.Goals as goal
 
@@ -37,4 +37,4 @@ returns-clause-desk g c =
     let i = c.self.invariant in
     let d = c.self.inside.desks in
     let seen = ap (λ (v : View). v.seen) c.claim_key-pass.ensures.given.2 in
-    (refl, seen ∙ ap (λ (p : PlacesOf Note). p.filled) c.self.view_is, ap (λ l. calls_by d (calls l)) seen ∙ none_below d (calls (cell_view c.self.inside.pass).seen) (i.new_desk d (omega arith)))
+    (ap (λ (j : JournalOf Note). j.desks) c.self.view_is, refl, seen ∙ ap (λ (j : JournalOf Note). j.filled) c.self.view_is, ap (λ l. calls_by d (calls l)) seen ∙ none_below d (calls (cell_view c.self.inside.pass).seen) (i.new_desk d (omega arith)))
