@@ -59,7 +59,7 @@ impl<K: RecordKind + Drop, B: Base<K>, D: Drop> Engine<K, B, D> {
     ) -> Result<Vec<RecordNo>, IocError>
         ensures seen { IfOk result (λ v. IsPartSeen D K.rules B.base v.items) }
         ensures here { IfOk result (λ v. Contains v.items number) }
-        ensures refused { IfErr result (IsRefused self.now number) }
+        ensures refused { IfErr result (λ error. IsRefused self.now number error ⊎ (error ≡ NoMemory)) }
     {
         for _ in rt.forever() {
             let cell = self.sets.lock_of(rt, number)?;
