@@ -1,6 +1,5 @@
 //! How a line of a script is answered.
 ghost use Rattle.std.specs.Prelude.{◌≡◌, ◌≤◌, ◌+◌, ◌++◌, [], length, IfOk, OnOk, OnErr};
-ghost use Rattle.ioc_types.specs.Record.{record_rules};
 ghost use Rattle.ioc_machine.specs.Machine.{with_none_ended};
 ghost use Rattle.ioc_machine.specs.SeenMachine.{machine_of};
 ghost use Rattle.ioc_main.specs.Replay.{carried_out, answered, attended, ended_lines};
@@ -11,19 +10,20 @@ ghost use Rattle.ioc_main.specs.Coming.{Stands};
 use crate::replay::Replay;
 use crate::session::{Replies, Said, Session};
 use ioc_device::Answer;
+use ioc_record::RecordKind;
 use ioc_script::{Command, ended_line, split_before, words_of_put};
 use ioc_values::Finished;
 use std::alloc::AllocError;
 
-impl Replay {
+impl<K: RecordKind> Replay<K> {
     // Does what a line asks for, and says it.
     #[tactic(auto, unfolding(crate::specs::Replay::carried_out), using(crate::proofs::Getting::said_shortly, crate::proofs::Getting::stands_before, crate::proofs::Getting::stands_alone))]
     fn carry_out(&mut self, command: &Command<'_>, said: &mut Said) -> Result<(), AllocError>
         requires room { length said.old.replies + 256 ≤ 4096 }
         requires none { said.old.more.items ≡ [] }
         ensures names { self.new.names ≡ self.old.names }
-        ensures machine { OnOk result (machine_of self.new.machine ≡ (carried_out record_rules self.old.names (machine_of self.old.machine) (seen command.now)).machine) }
-        ensures said { OnOk result (said.new.replies ++ said.new.more.items ≡ said.old.replies ++ (carried_out record_rules self.old.names (machine_of self.old.machine) (seen command.now)).said) }
+        ensures machine { OnOk result (machine_of self.new.machine ≡ (carried_out K.rules self.old.names (machine_of self.old.machine) (seen command.now)).machine) }
+        ensures said { OnOk result (said.new.replies ++ said.new.more.items ≡ said.old.replies ++ (carried_out K.rules self.old.names (machine_of self.old.machine) (seen command.now)).said) }
         ensures stands { Stands said.old.replies said.new.replies }
     {
         match *command {
@@ -73,8 +73,8 @@ impl Replay {
     fn put_words(&mut self, words: &[u8], replies: &mut Replies) -> Result<(), AllocError>
         requires { length replies.old + 256 ≤ 4096 }
         ensures names { self.new.names ≡ self.old.names }
-        ensures machine { OnOk result (machine_of self.new.machine ≡ (carried_out record_rules self.old.names (machine_of self.old.machine) (put_of (before 32 words.now) (behind 32 words.now))).machine) }
-        ensures said { OnOk result (replies.new ≡ replies.old ++ (carried_out record_rules self.old.names (machine_of self.old.machine) (put_of (before 32 words.now) (behind 32 words.now))).said) }
+        ensures machine { OnOk result (machine_of self.new.machine ≡ (carried_out K.rules self.old.names (machine_of self.old.machine) (put_of (before 32 words.now) (behind 32 words.now))).machine) }
+        ensures said { OnOk result (replies.new ≡ replies.old ++ (carried_out K.rules self.old.names (machine_of self.old.machine) (put_of (before 32 words.now) (behind 32 words.now))).said) }
         ensures kept { OnErr result (replies.new ≡ replies.old) }
     {
         let (word, rest) = split_before(words, b' ');
@@ -97,8 +97,8 @@ impl Replay {
         requires none { said.old.more.items ≡ [] }
         ensures silent { IfOk result (λ silent. silent ≡ is_silent (command_of line.now)) }
         ensures names { self.new.names ≡ self.old.names }
-        ensures machine { OnOk result (machine_of self.new.machine ≡ (carried_out record_rules self.old.names (machine_of self.old.machine) (command_of line.now)).machine) }
-        ensures said { OnOk result (said.new.replies ++ said.new.more.items ≡ said.old.replies ++ (carried_out record_rules self.old.names (machine_of self.old.machine) (command_of line.now)).said) }
+        ensures machine { OnOk result (machine_of self.new.machine ≡ (carried_out K.rules self.old.names (machine_of self.old.machine) (command_of line.now)).machine) }
+        ensures said { OnOk result (said.new.replies ++ said.new.more.items ≡ said.old.replies ++ (carried_out K.rules self.old.names (machine_of self.old.machine) (command_of line.now)).said) }
         ensures stands { Stands said.old.replies said.new.replies }
     {
         let command = Command::from_line(line);
@@ -114,8 +114,8 @@ impl Replay {
         requires none { said.old.more.items ≡ [] }
         ensures silent { IfOk result (λ silent. silent ≡ is_silent (command_of line.now)) }
         ensures names { self.new.names ≡ self.old.names }
-        ensures machine { OnOk result (machine_of self.new.machine ≡ (carried_out record_rules self.old.names (machine_of self.old.machine) (command_of line.now)).machine) }
-        ensures said { OnOk result (said.new.replies ++ said.new.more.items ≡ said.old.replies ++ (carried_out record_rules self.old.names (machine_of self.old.machine) (command_of line.now)).said) }
+        ensures machine { OnOk result (machine_of self.new.machine ≡ (carried_out K.rules self.old.names (machine_of self.old.machine) (command_of line.now)).machine) }
+        ensures said { OnOk result (said.new.replies ++ said.new.more.items ≡ said.old.replies ++ (carried_out K.rules self.old.names (machine_of self.old.machine) (command_of line.now)).said) }
         ensures stands { Stands said.old.replies said.new.replies }
     {
         match words_of_put(line) {
@@ -161,15 +161,15 @@ impl Replay {
     #[tactic(auto, unfolding(crate::specs::Replay::attended))]
     fn attend(&mut self, more: &mut Vec<u8>) -> Result<(), AllocError>
         ensures names { self.new.names ≡ self.old.names }
-        ensures machine { OnOk result (machine_of self.new.machine ≡ (attended record_rules (machine_of self.old.machine)).machine) }
-        ensures said { OnOk result (more.new.items ≡ more.old.items ++ (attended record_rules (machine_of self.old.machine)).said) }
+        ensures machine { OnOk result (machine_of self.new.machine ≡ (attended K.rules (machine_of self.old.machine)).machine) }
+        ensures said { OnOk result (more.new.items ≡ more.old.items ++ (attended K.rules (machine_of self.old.machine)).said) }
     {
         self.machine.serve()?;
         self.tell_ended(more)
     }
 }
 
-impl Session for Replay {
+impl<K: RecordKind> Session for Replay<K> {
     ghost use Rattle.ioc_main.specs.ReplayLaws.{no-lines, long-lines, printed};
 
     ghost transcript = { printed };
