@@ -152,16 +152,12 @@ static HIGH_LIMIT: Limits<i64> = Limits {
     hysteresis: 2,
 };
 
+// The alarm HIGH ends below the hysteresis.
 static BELOW: [Reached; 3] = [
     (10, 0, Status::High, 10),
     (9, 10, Status::High, 10),
     (7, 10, Status::NoAlarm, 7),
 ];
-
-#[test]
-fn high_alarm_ends_below_hysteresis(rt: HostRuntime) {
-    are_reached(&rt, &HIGH_LIMIT, &BELOW);
-}
 
 static LOW_LIMIT: Limits<i64> = Limits {
     hihi: 0,
@@ -175,6 +171,7 @@ static LOW_LIMIT: Limits<i64> = Limits {
     hysteresis: 2_000_000_000,
 };
 
+// The sums of hysteresis don't wrap.
 static FAR_BELOW: [Reached; 2] = [
     (-2_000_000_000, 0, Status::High, -2_000_000_000),
     (-2_147_483_648, -2_000_000_000, Status::High, -2_000_000_000),
@@ -194,12 +191,6 @@ static LEAST_LIMIT: Limits<i64> = Limits {
 
 static LEAST: [Reached; 1] = [(i64::MIN, i64::MIN, Status::High, i64::MIN)];
 
-#[test]
-fn hysteresis_does_not_wrap(rt: HostRuntime) {
-    are_reached(&rt, &LOW_LIMIT, &FAR_BELOW);
-    are_reached(&rt, &LEAST_LIMIT, &LEAST);
-}
-
 static FOUR_LIMITS: Limits<i64> = Limits {
     hihi: 20,
     lolo: -20,
@@ -212,6 +203,7 @@ static FOUR_LIMITS: Limits<i64> = Limits {
     hysteresis: 0,
 };
 
+// The first limit that is reached is raised.
 static FIRST_REACHED: [Reached; 6] = [
     (25, 0, Status::Hihi, 20),
     (20, 0, Status::Hihi, 20),
@@ -222,7 +214,10 @@ static FIRST_REACHED: [Reached; 6] = [
 ];
 
 #[test]
-fn first_limit_is_raised(rt: HostRuntime) {
+fn limits_raised(rt: HostRuntime) {
+    are_reached(&rt, &HIGH_LIMIT, &BELOW);
+    are_reached(&rt, &LOW_LIMIT, &FAR_BELOW);
+    are_reached(&rt, &LEAST_LIMIT, &LEAST);
     are_reached(&rt, &FOUR_LIMITS, &FIRST_REACHED);
 }
 

@@ -3,12 +3,11 @@ use crate::steps::Step::{
     Answer, AnswerFault, Begin, Converts, Copied, Has, Lists, Load, OwnsDevice, Put, PutNumber,
     PutRefused, Raised, Set, SetRefused, Stands, Take, Test,
 };
-use crate::steps::{Came, Does, SHOW, Step, Wants, follow};
+use crate::steps::{Came, Does, SHOW, Step, Wants};
 use ioc_common::InputKind;
 use ioc_fields::{FieldNo, OwnField};
 use ioc_links::Mode;
 use ioc_values::{IocError, Range};
-use rec_binary::Bi;
 
 const INP: FieldNo = FieldNo::Own(OwnField::Inp);
 
@@ -16,7 +15,7 @@ const TAKE_NOTHING: Step<'static> = Take(Came::Nothing, Does::Nothing);
 
 const TAKE_FAULT: Step<'static> = Take(Came::Fault, Does::Nothing);
 
-static TESTS: [Step<'static>; 139] = [
+pub static TESTS: [Step<'static>; 139] = [
     Test("texts of states"),
     Set("ZNAM", "shut"),
     Set("ONAM", "open"),
@@ -160,8 +159,3 @@ static TESTS: [Step<'static>; 139] = [
     Set("INP", "4294967295"),
     Lists(3, 2),
 ];
-
-#[test]
-fn bi(rt: HostRuntime) {
-    follow::<Bi>(&rt, rt.alloc(), "door", &TESTS);
-}

@@ -3,12 +3,11 @@ use crate::steps::Step::{
     Answer, AnswerFault, Begin, Converts, Copied, Has, Lists, Load, OwnsDevice, Put, PutNumber,
     PutRefused, Raised, ReadAsNumber, ReadAsText, Set, SetRefused, Stands, Take, Test,
 };
-use crate::steps::{Came, Does, SHOW, Step, Wants, follow};
+use crate::steps::{Came, Does, SHOW, Step, Wants};
 use ioc_common::InputKind;
 use ioc_fields::{FieldNo, OwnField};
 use ioc_links::Mode;
 use ioc_values::{IocError, Range};
-use rec_binary::Bo;
 
 const OUT: FieldNo = FieldNo::Own(OwnField::Out);
 
@@ -16,7 +15,7 @@ const DOL: FieldNo = FieldNo::Own(OwnField::Dol);
 
 const TAKE_NOTHING: Step<'static> = Take(Came::Nothing, Does::Nothing);
 
-static TESTS: [Step<'static>; 236] = [
+pub static TESTS: [Step<'static>; 236] = [
     Test("texts of states"),
     Set("ZNAM", "shut"),
     Set("ONAM", "open"),
@@ -262,8 +261,3 @@ static TESTS: [Step<'static>; 236] = [
     ReadAsText("UDFS", "INVALID"),
     Lists(4, 2),
 ];
-
-#[test]
-fn bo(rt: HostRuntime) {
-    follow::<Bo>(&rt, rt.alloc(), "valve", &TESTS);
-}

@@ -13,8 +13,8 @@ enum Step {
     Dropped(u64),
 }
 
-// HIGH comes before MEDIUM, LOW and once.
-static BY_PRIORITY: [Step; 14] = [
+static STEPS: [Step; 21] = [
+    // HIGH comes before MEDIUM, LOW and once.
     Step::Push(None, 1),
     Step::Push(Some(Priority::Low), 2),
     Step::Push(Some(Priority::Medium), 3),
@@ -29,10 +29,7 @@ static BY_PRIORITY: [Step; 14] = [
     Step::Next(Some(1)),
     Step::Next(None),
     Step::Dropped(0),
-];
-
-// Full queues drop, and count what they drop.
-static FULL: [Step; 7] = [
+    // Full queues drop, and count what they drop.
     Step::Fill(Some(Priority::High), 2001, 2000),
     Step::Fill(Some(Priority::Medium), 2001, 2000),
     Step::Fill(Some(Priority::Low), 2002, 2000),
@@ -84,14 +81,7 @@ fn first_wrong(queues: &mut Queues<u32>, steps: &[Step]) -> Option<usize> {
 #[test]
 fn queues_by_priority(rt: HostRuntime) -> Result<(), Fail> {
     let mut queues = Queues::new(rt.alloc())?;
-    assert_eq!(rt; first_wrong(&mut queues, &BY_PRIORITY), None);
-    Ok(())
-}
-
-#[test]
-fn full_queues_drop_and_count(rt: HostRuntime) -> Result<(), Fail> {
-    let mut queues = Queues::new(rt.alloc())?;
-    assert_eq!(rt; first_wrong(&mut queues, &FULL), None);
+    assert_eq!(rt; first_wrong(&mut queues, &STEPS), None);
     Ok(())
 }
 

@@ -16,25 +16,6 @@ static LINES: [(&[u8], Option<&[u8]>); 11] = [
     (b"$ (A) $A # $(A)\n", Some(b"$ (A) $A ")),
 ];
 
-fn is_text(alloc: Global, line: &[u8], wanted: Option<&[u8]>) -> bool {
-    let Ok(texts) = expand(alloc, &Macros::new(alloc), line) else {
-        return false;
-    };
-    match wanted {
-        Some(text) => {
-            texts.bytes.as_slice() == text && texts.lengths.len() == 1 && texts.end == End::Whole
-        }
-        None => texts.lengths.len() == 0 && texts.end == End::BadMacro,
-    }
-}
-
-#[test]
-fn texts_of_lines(rt: HostRuntime) {
-    for (line, wanted) in &LINES {
-        assert!(rt; is_text(rt.alloc(), line, *wanted), "{line:?}");
-    }
-}
-
 /// A text, with the bytes and the lengths of its lines' texts, and what ended them.
 struct Expansion {
     text: &'static [u8],
@@ -76,20 +57,36 @@ static EXPANSIONS: [Expansion; 5] = [
     },
 ];
 
-fn is_expanded(alloc: Global, wanted: &Expansion) -> bool {
-    match expand(alloc, &Macros::new(alloc), wanted.text) {
+// Are these the bytes and the lengths of the text's lines, and does it end so?
+fn is_expanded(alloc: Global, text: &[u8], bytes: &[u8], lengths: &[usize], end: End) -> bool {
+    match expand(alloc, &Macros::new(alloc), text) {
         Ok(texts) => {
-            texts.bytes.as_slice() == wanted.bytes
-                && texts.lengths.as_slice() == wanted.lengths
-                && texts.end == wanted.end
+            texts.bytes.as_slice() == bytes
+                && texts.lengths.as_slice() == lengths
+                && texts.end == end
         }
         Err(_) => false,
     }
 }
 
+fn is_told(alloc: Global, wanted: &Expansion) -> bool {
+    is_expanded(alloc, wanted.text, wanted.bytes, wanted.lengths, wanted.end)
+}
+
+// Is this the text of the line, or is its macro refused?
+fn is_text(alloc: Global, line: &[u8], wanted: Option<&[u8]>) -> bool {
+    match wanted {
+        Some(text) => is_expanded(alloc, line, text, &[text.len()], End::Whole),
+        None => is_expanded(alloc, line, b"", &[], End::BadMacro),
+    }
+}
+
 #[test]
-fn texts_of_a_text(rt: HostRuntime) {
-    for wanted in &EXPANSIONS {
-        assert!(rt; is_expanded(rt.alloc(), wanted), "{:?}", wanted.text);
+fn texts_of_lines(rt: HostRuntime) {
+    for (row, (line, wanted)) in LINES.iter().enumerate() {
+        assert!(rt; is_text(rt.alloc(), line, *wanted), "line {row}");
+    }
+    for (row, wanted) in EXPANSIONS.iter().enumerate() {
+        assert!(rt; is_told(rt.alloc(), wanted), "text {row}");
     }
 }

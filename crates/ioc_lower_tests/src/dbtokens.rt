@@ -67,14 +67,6 @@ static TEXTS: [(&[u8], &[Wanted]); 4] = [
     ),
 ];
 
-// A fault is the last token.
-#[test]
-fn tokens_and_their_lines(rt: HostRuntime) {
-    for (text, wanted) in &TEXTS {
-        assert!(rt; are_tokens(rt.alloc(), text, wanted), "{text:?}");
-    }
-}
-
 // Whether they stand in a value, bytes between quotes, and what they are there.
 static ESCAPES: [(bool, &[u8], &[u8]); 8] = [
     (true, b"a b", b"a b"),
@@ -94,12 +86,14 @@ fn is_unescaped(alloc: Global, in_value: bool, bytes: &[u8], wanted: &[u8]) -> b
     }
 }
 
+// A fault is the last token.
 #[test]
-fn escapes_of_values_and_names(rt: HostRuntime) {
-    for (in_value, bytes, wanted) in &ESCAPES {
-        assert!(rt;
-            is_unescaped(rt.alloc(), *in_value, bytes, wanted),
-            "{bytes:?}"
-        );
+fn tokens_and_escapes(rt: HostRuntime) {
+    for (row, (text, wanted)) in TEXTS.iter().enumerate() {
+        assert!(rt; are_tokens(rt.alloc(), text, wanted), "text {row}");
+    }
+    for (row, (in_value, bytes, wanted)) in ESCAPES.iter().enumerate() {
+        let is_right = is_unescaped(rt.alloc(), *in_value, bytes, wanted);
+        assert!(rt; is_right, "escape {row}");
     }
 }

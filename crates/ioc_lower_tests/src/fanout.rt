@@ -11,7 +11,7 @@ use ioc_values::{IocError, Range, Value};
 use rec_flow::Fanout;
 use std::test::Fail;
 
-static TESTS: [Step<'static>; 53] = [
+pub static TESTS: [Step<'static>; 53] = [
     // UDF becomes 0, and no alarm of an undefined value is raised.
     Test("new"),
     Load,
@@ -68,11 +68,6 @@ static TESTS: [Step<'static>; 53] = [
     Copied,
     Has("UDF", "0"),
 ];
-
-#[test]
-fn fanout(rt: HostRuntime) {
-    follow::<Fanout>(&rt, rt.alloc(), "all", &TESTS);
-}
 
 // SELM, SELN, OFFS, SHFT; the links that are followed; the alarm.
 static CHOICES: [(&str, &str, &str, &str, u16, &str); 19] = [

@@ -54,8 +54,8 @@ enum Mark {
 
 // A fact of a record type.
 enum Fact {
-    // Its name, whether it reads devices, and how many fields of links it has.
-    Type(&'static str, bool, usize),
+    // From here on this type: its name, whether it reads devices, and how many fields of links it has.
+    Type(RecordType, &'static str, bool, usize),
     // No type has the name.
     NoType(&'static str),
     // The row of the field of a name.
@@ -120,7 +120,8 @@ static COMMON: [Fact; 36] = [
     NoDefault("FLNK"),
 ];
 
-static ROLES_AND_TYPES: [Fact; 7] = [
+// What is so whatever the type, and then the facts of each type.
+static TYPES: [Fact; 165] = [
     Role(LinkRole::Input, LinkKind::WithDevice),
     Role(LinkRole::Output, LinkKind::WithDevice),
     Role(LinkRole::InputWithoutDevice, LinkKind::NoDevice),
@@ -128,10 +129,7 @@ static ROLES_AND_TYPES: [Fact; 7] = [
     NoType("longi"),
     NoType("Bo"),
     Index(Slot::N10, 10),
-];
-
-static LONGIN: [Fact; 32] = [
-    Type("longin", true, 3),
+    Type(RecordType::Longin, "longin", true, 3),
     Row("VAL", LONG, Mark::P),
     Row("INP", INPUT, Mark::Set),
     Row("HIHI", LONG, Mark::P),
@@ -163,10 +161,7 @@ static LONGIN: [Fact; 32] = [
     ProcessPassive(VAL),
     KeptOnly(FieldNo::Own(OwnField::Egu), true),
     KeptOnly(VAL, false),
-];
-
-static BO: [Fact; 24] = [
-    Type("bo", false, 4),
+    Type(RecordType::Bo, "bo", false, 4),
     Row("VAL", FieldKind::State, Mark::P),
     Row("OUT", OUTPUT, Mark::Set),
     Row("DOL", PLAIN_INPUT, Mark::Set),
@@ -190,10 +185,7 @@ static BO: [Fact; 24] = [
     Default("IVOV", 0),
     CanPut(MASK, false),
     CanSet(MASK),
-];
-
-static FANOUT: [Fact; 19] = [
-    Type("fanout", false, 19),
+    Type(RecordType::Fanout, "fanout", false, 19),
     Row("VAL", LONG, Mark::P),
     Row("SELM", FieldKind::Menu(Menu::Selm), Mark::Plain),
     Row("SELN", USHORT, Mark::Plain),
@@ -212,10 +204,7 @@ static FANOUT: [Fact; 19] = [
     Default("OFFS", 0),
     Default("SHFT", -1),
     NoDefault("LNKF"),
-];
-
-static LONGOUT: [Fact; 12] = [
-    Type("longout", false, 4),
+    Type(RecordType::Longout, "longout", false, 4),
     Row("VAL", LONG, Mark::P),
     Row("OUT", OUTPUT, Mark::Set),
     Row("DOL", PLAIN_INPUT, Mark::Set),
@@ -227,10 +216,7 @@ static LONGOUT: [Fact; 12] = [
     Row("HYST", LONG, Mark::Plain),
     Row("EGU", FieldKind::Text, Mark::K),
     NoField("INP"),
-];
-
-static INT64IN: [Fact; 9] = [
-    Type("int64in", true, 3),
+    Type(RecordType::Int64in, "int64in", true, 3),
     Row("VAL", INT64, Mark::P),
     Row("INP", INPUT, Mark::Set),
     Row("LOLO", INT64, Mark::P),
@@ -239,18 +225,12 @@ static INT64IN: [Fact; 9] = [
     Row("LOPR", INT64, Mark::K),
     Default("VAL", 0),
     NoField("DRVH"),
-];
-
-static INT64OUT: [Fact; 5] = [
-    Type("int64out", false, 4),
+    Type(RecordType::Int64out, "int64out", false, 4),
     Row("VAL", INT64, Mark::P),
     Row("DRVL", INT64, Mark::P),
     Row("IVOV", INT64, Mark::P),
     Row("OUT", OUTPUT, Mark::Set),
-];
-
-static BI: [Fact; 8] = [
-    Type("bi", true, 3),
+    Type(RecordType::Bi, "bi", true, 3),
     Row("VAL", FieldKind::State, Mark::P),
     Row("INP", INPUT, Mark::Set),
     Row("RVAL", ULONG, Mark::Plain),
@@ -258,10 +238,7 @@ static BI: [Fact; 8] = [
     Row("ONAM", FieldKind::Text, Mark::P),
     NoField("OUT"),
     NoField("IVOV"),
-];
-
-static MBBI: [Fact; 30] = [
-    Type("mbbi", true, 3),
+    Type(RecordType::Mbbi, "mbbi", true, 3),
     Row("VAL", FieldKind::State, Mark::P),
     Row("INP", INPUT, Mark::Set),
     Row("RVAL", ULONG, Mark::Plain),
@@ -291,34 +268,22 @@ static MBBI: [Fact; 30] = [
     Default("SHFT", 0),
     NoField("SXXX"),
     NoField("ZNAM"),
-];
-
-static MBBO: [Fact; 6] = [
-    Type("mbbo", false, 4),
+    Type(RecordType::Mbbo, "mbbo", false, 4),
     Row("VAL", FieldKind::State, Mark::P),
     Row("IVOV", USHORT, Mark::P),
     Row("SVSV", SEVERITY, Mark::P),
     Row("OUT", OUTPUT, Mark::Set),
     NoField("INP"),
-];
-
-static STRINGIN: [Fact; 4] = [
-    Type("stringin", true, 3),
+    Type(RecordType::Stringin, "stringin", true, 3),
     Row("VAL", FieldKind::Text, Mark::P),
     Row("INP", INPUT, Mark::Set),
     NoField("LALM"),
-];
-
-static STRINGOUT: [Fact; 5] = [
-    Type("stringout", false, 4),
+    Type(RecordType::Stringout, "stringout", false, 4),
     Row("VAL", FieldKind::Text, Mark::P),
     Row("IVOV", FieldKind::Text, Mark::P),
     Row("DOL", PLAIN_INPUT, Mark::Set),
     NoField("INP"),
-];
-
-static EVENT: [Fact; 4] = [
-    Type("event", true, 3),
+    Type(RecordType::Event, "event", true, 3),
     Row("VAL", FieldKind::Text, Mark::P),
     Row("INP", INPUT, Mark::Set),
     NoField("IVOV"),
@@ -358,7 +323,7 @@ fn holds(record_type: RecordType, fact: &Fact) -> bool {
             field(record_type, name.as_bytes()).is_some()
                 && default_number(record_type, name).is_none()
         }
-        Type(name, reads, links) => {
+        Type(_, name, reads, links) => {
             RecordType::from_name(name.as_bytes()) == Some(record_type)
                 && record_type.name() == *name
                 && record_type.reads_device() == *reads
@@ -384,9 +349,13 @@ fn field_holds(record_type: RecordType, fact: &Fact) -> bool {
     }
 }
 
-// The first fact that doesn't hold for a type, by its place in the table.
-fn first_wrong(record_type: RecordType, facts: &[Fact]) -> Option<usize> {
+// The first fact that doesn't hold, by its place in the table, which begins with this type.
+fn first_wrong(first: RecordType, facts: &[Fact]) -> Option<usize> {
+    let mut record_type = first;
     for (place, fact) in facts.iter().enumerate() {
+        if let Type(named, _, _, _) = fact {
+            record_type = *named;
+        }
         if !holds(record_type, fact) {
             return Some(place);
         }
@@ -396,24 +365,7 @@ fn first_wrong(record_type: RecordType, facts: &[Fact]) -> Option<usize> {
 
 #[test]
 fn fields(rt: HostRuntime) {
-    let tables: [(RecordType, &[Fact]); 15] = [
-        (RecordType::Longin, &ROLES_AND_TYPES),
-        (RecordType::Longin, &COMMON),
-        (RecordType::Longin, &LONGIN),
-        (RecordType::Longout, &LONGOUT),
-        (RecordType::Int64in, &INT64IN),
-        (RecordType::Int64out, &INT64OUT),
-        (RecordType::Bi, &BI),
-        (RecordType::Bo, &BO),
-        (RecordType::Mbbi, &MBBI),
-        (RecordType::Mbbo, &MBBO),
-        (RecordType::Stringin, &STRINGIN),
-        (RecordType::Stringout, &STRINGOUT),
-        (RecordType::Fanout, &COMMON),
-        (RecordType::Fanout, &FANOUT),
-        (RecordType::Event, &EVENT),
-    ];
-    for (record_type, facts) in &tables {
-        assert_eq!(rt; first_wrong(*record_type, facts), None);
-    }
+    assert_eq!(rt; first_wrong(RecordType::Longin, &COMMON), None);
+    assert_eq!(rt; first_wrong(RecordType::Fanout, &COMMON), None);
+    assert_eq!(rt; first_wrong(RecordType::Longin, &TYPES), None);
 }

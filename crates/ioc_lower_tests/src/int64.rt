@@ -2,14 +2,13 @@
 use crate::steps::Step::{
     Begin, Converts, Copied, Has, Lists, Load, Put, PutRefused, Raised, Set, Shows, Take, Test,
 };
-use crate::steps::{Came, Does, Step, Wants, follow};
+use crate::steps::{Came, Does, Step, Wants};
 use ioc_common::InputKind;
 use ioc_values::{IocError, Range};
-use rec_numeric::{Int64in, Int64out};
 
 const TAKE_NOTHING: Step<'static> = Take(Came::Nothing, Does::Nothing);
 
-static INPUT: [Step<'static>; 57] = [
+pub static INPUT: [Step<'static>; 57] = [
     Test("numbers of 64 bits"),
     Put("VAL", "9223372036854775807"),
     Copied,
@@ -70,7 +69,7 @@ static INPUT: [Step<'static>; 57] = [
     Lists(3, 0),
 ];
 
-static OUTPUT: [Step<'static>; 28] = [
+pub static OUTPUT: [Step<'static>; 28] = [
     Test("drive limits past 32 bits"),
     Set("DRVH", "5000000000"),
     Set("DRVL", "-5000000000"),
@@ -109,13 +108,3 @@ static OUTPUT: [Step<'static>; 28] = [
     PutRefused("DRVH", "9223372036854775808", IocError::BadValue),
     Lists(4, 0),
 ];
-
-#[test]
-fn int64in(rt: HostRuntime) {
-    follow::<Int64in>(&rt, rt.alloc(), "count", &INPUT);
-}
-
-#[test]
-fn int64out(rt: HostRuntime) {
-    follow::<Int64out>(&rt, rt.alloc(), "goal", &OUTPUT);
-}

@@ -19,7 +19,7 @@ static WANTED: Tally = Tally {
 };
 
 #[test]
-fn one_request_of_each_outcome(rt: HostRuntime) {
+fn requests_and_completions(rt: HostRuntime) {
     let mut tally = Tally::default();
     tally.count(Outcome::Processed);
     assert!(rt; tally.begun == 1 && tally.processed == 1);
@@ -27,14 +27,11 @@ fn one_request_of_each_outcome(rt: HostRuntime) {
         tally.count(*outcome);
     }
     assert!(rt; tally == WANTED);
-}
-
-#[test]
-fn answers_that_come_later_and_completions(rt: HostRuntime) {
-    let mut tally = Tally::default();
-    tally.count_started(2);
-    tally.count_started(0);
-    tally.count_completion();
-    assert!(rt; tally.started == 2 && tally.completed == 1);
-    assert!(rt; tally.begun == 0);
+    // Answers that come later, and completions.
+    let mut later = Tally::default();
+    later.count_started(2);
+    later.count_started(0);
+    later.count_completion();
+    assert!(rt; later.started == 2 && later.completed == 1);
+    assert!(rt; later.begun == 0);
 }

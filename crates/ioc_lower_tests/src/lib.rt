@@ -5,11 +5,15 @@
 #![tactic(auto)]
 
 #[cfg(test)]
+mod acts;
+#[cfg(test)]
 mod alarms;
 #[cfg(test)]
 mod bi;
 #[cfg(test)]
 mod bo;
+#[cfg(test)]
+mod bodies;
 #[cfg(test)]
 mod callbacks;
 #[cfg(test)]
@@ -50,6 +54,8 @@ mod put_table;
 mod records;
 #[cfg(test)]
 mod scans;
+#[cfg(test)]
+mod sets;
 #[cfg(test)]
 mod steps;
 #[cfg(test)]

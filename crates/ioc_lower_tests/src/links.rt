@@ -1,21 +1,19 @@
 //! Link texts, each printed and read again, and texts that are no links.
-use ioc_links::{LinkKind, MAX_LINK_BYTES, is_record_name, parse, print};
-use ioc_values::Short;
+use ioc_links::{LinkKind, is_record_name, parse, print};
 
 const REFUSED: &[u8] = b"?";
 
-/// The printed link, or a question mark where the text is refused.
-fn spelled(text: &[u8]) -> Short<MAX_LINK_BYTES> {
+// Is the link of the text printed so, or is the text refused?
+fn is_printed(text: &[u8], wanted: &[u8]) -> bool {
     match parse(LinkKind::WithDevice, text) {
-        Ok(link) => print(&link),
-        Err(_) => Short::cut(REFUSED),
+        Ok(link) => print(&link).as_slice() == wanted,
+        Err(_) => wanted == REFUSED,
     }
 }
 
-// Is the link printed so, and read again from that?
+// Is the link printed so, and printed so again where that is read?
 fn is_spelled(text: &[u8], wanted: &[u8]) -> bool {
-    let found = spelled(text);
-    found.as_slice() == wanted && (wanted == REFUSED || spelled(found.as_slice()) == found)
+    is_printed(text, wanted) && (wanted == REFUSED || is_printed(wanted, wanted))
 }
 
 static LINKS: [(&[u8], &[u8]); 24] = [
@@ -47,8 +45,8 @@ static LINKS: [(&[u8], &[u8]); 24] = [
 
 #[test]
 fn link_texts(rt: HostRuntime) {
-    for (text, wanted) in &LINKS {
-        assert!(rt; is_spelled(text, wanted), "at {text:?}");
+    for (row, (text, wanted)) in LINKS.iter().enumerate() {
+        assert!(rt; is_spelled(text, wanted), "row {row}");
     }
 }
 

@@ -1,20 +1,20 @@
 //! A longin record by itself.
+use crate::acts::Act;
 use crate::steps::Step::{
     Answer, AnswerFault, Begin, Converts, Copied, Do, Has, Load, OwnsDevice, Put, Raised, Set,
     Shows, Take, Test,
 };
-use crate::steps::{Act, Came, Does, SHOW, Step, Wants, follow};
+use crate::steps::{Came, Does, SHOW, Step, Wants};
 use ioc_common::InputKind;
 use ioc_fields::{FieldNo, OwnField};
 use ioc_menus::{Severity, Status};
 use ioc_values::Range;
-use rec_numeric::Longin;
 
 const TAKE_NOTHING: Step<'static> = Take(Came::Nothing, Does::Nothing);
 
 const TAKE_FAULT: Step<'static> = Take(Came::Fault, Does::Nothing);
 
-static TESTS: [Step<'static>; 130] = [
+pub static TESTS: [Step<'static>; 130] = [
     Test("limit alarms"),
     Set("HIHI", "100"),
     Set("HIGH", "50"),
@@ -152,8 +152,3 @@ static TESTS: [Step<'static>; 130] = [
     Raised("READ", "INVALID"),
     Has("UDF", "1"),
 ];
-
-#[test]
-fn longin(rt: HostRuntime) {
-    follow::<Longin>(&rt, rt.alloc(), "level", &TESTS);
-}

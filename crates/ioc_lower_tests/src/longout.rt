@@ -3,18 +3,17 @@ use crate::steps::Step::{
     AnswerFault, Begin, Converts, Copied, Has, Lists, Load, OwnsDevice, Put, PutRefused, Raised,
     Set, SetRefused, Stands, Take, Test,
 };
-use crate::steps::{Came, Does, Step, Wants, follow};
+use crate::steps::{Came, Does, Step, Wants};
 use ioc_common::InputKind;
 use ioc_fields::{FieldNo, OwnField};
 use ioc_links::Mode;
 use ioc_values::{IocError, Range};
-use rec_numeric::Longout;
 
 const OUT: FieldNo = FieldNo::Own(OwnField::Out);
 
 const DOL: FieldNo = FieldNo::Own(OwnField::Dol);
 
-static TESTS: [Step<'static>; 115] = [
+pub static TESTS: [Step<'static>; 115] = [
     Test("drive limits"),
     Set("DRVH", "10"),
     Set("DRVL", "-10"),
@@ -133,8 +132,3 @@ static TESTS: [Step<'static>; 115] = [
     Has("IVOV", "12"),
     Lists(4, 0),
 ];
-
-#[test]
-fn longout(rt: HostRuntime) {
-    follow::<Longout>(&rt, rt.alloc(), "pump", &TESTS);
-}

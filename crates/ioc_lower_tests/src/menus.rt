@@ -15,13 +15,6 @@ static TEXTS: [(Menu, u16, Option<&str>); 11] = [
     (Menu::Selm, 2, Some("Mask")),
 ];
 
-#[test]
-fn texts_of_choices(rt: HostRuntime) {
-    for (menu, number, wanted) in &TEXTS {
-        assert!(rt; text(*menu, *number) == *wanted, "{number}");
-    }
-}
-
 static NUMBERS: [(Menu, &str, Option<u16>); 7] = [
     (Menu::Severity, "MAJOR", Some(2)),
     (Menu::Severity, "MAJO", None),
@@ -33,7 +26,10 @@ static NUMBERS: [(Menu, &str, Option<u16>); 7] = [
 ];
 
 #[test]
-fn numbers_of_texts(rt: HostRuntime) {
+fn texts_of_choices_and_their_numbers(rt: HostRuntime) {
+    for (menu, number, wanted) in &TEXTS {
+        assert!(rt; text(*menu, *number) == *wanted, "{number}");
+    }
     for (menu, text, wanted) in &NUMBERS {
         assert!(rt; choice(*menu, text.as_bytes()) == *wanted, "{text}");
     }

@@ -3,12 +3,11 @@ use crate::steps::Step::{
     Answer, AnswerFault, Begin, Converts, Copied, Has, Lists, Load, OwnsDevice, Put, PutRefused,
     Raised, ReadAsNumber, Set, SetRefused, Stands, Take, Test,
 };
-use crate::steps::{Came, Does, SHOW, Step, Wants, follow};
+use crate::steps::{Came, Does, SHOW, Step, Wants};
 use ioc_common::InputKind;
 use ioc_fields::{FieldNo, OwnField};
 use ioc_links::Mode;
 use ioc_values::{IocError, Range};
-use rec_multi::{Mbbi, Mbbo};
 
 const INP: FieldNo = FieldNo::Own(OwnField::Inp);
 
@@ -18,7 +17,7 @@ const TAKE_NOTHING: Step<'static> = Take(Came::Nothing, Does::Nothing);
 
 const TAKE_FAULT: Step<'static> = Take(Came::Fault, Does::Nothing);
 
-static INPUT: [Step<'static>; 174] = [
+pub static INPUT: [Step<'static>; 174] = [
     // MASK is made at load, where it is 0: the NOBT lowest bits, shifted left by SHFT and cut to 32 bits; all 32 where NOBT is 0.
     Test("MASK of NOBT 4, SHFT 8"),
     Set("NOBT", "4"),
@@ -199,7 +198,7 @@ static INPUT: [Step<'static>; 174] = [
     Lists(3, 16),
 ];
 
-static OUTPUT: [Step<'static>; 99] = [
+pub static OUTPUT: [Step<'static>; 99] = [
     // RVAL is the value of the state, shifted left by SHFT; of it the bits of MASK are written.
     Test("state written"),
     Set("ZRVL", "5"),
@@ -301,13 +300,3 @@ static OUTPUT: [Step<'static>; 99] = [
     SetRefused("DOL", "-1", IocError::BadValue),
     Lists(4, 16),
 ];
-
-#[test]
-fn mbbi(rt: HostRuntime) {
-    follow::<Mbbi>(&rt, rt.alloc(), "mode", &INPUT);
-}
-
-#[test]
-fn mbbo(rt: HostRuntime) {
-    follow::<Mbbo>(&rt, rt.alloc(), "select", &OUTPUT);
-}

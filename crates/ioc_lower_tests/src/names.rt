@@ -55,6 +55,7 @@ fn follow(rt: &(impl AllocGlobal + Abort), steps: &[Step<'_>]) {
     }
 }
 
+// Records are numbered in load order.
 static RECORDS: [Step<'static>; 12] = [
     Step::Counts(0),
     Step::Misses(b"a"),
@@ -70,11 +71,7 @@ static RECORDS: [Step<'static>; 12] = [
     Step::Misses(b"A"),
 ];
 
-#[test]
-fn records_are_numbered_in_load_order(rt: HostRuntime) {
-    follow(&rt, &RECORDS);
-}
-
+// An alias has its record's number.
 static ALIAS: [Step<'static>; 7] = [
     Step::Adds(b"a", 0),
     Step::Counts(1),
@@ -85,15 +82,13 @@ static ALIAS: [Step<'static>; 7] = [
     Step::Finds(b"a", 0),
 ];
 
-#[test]
-fn alias_has_its_records_number(rt: HostRuntime) {
-    follow(&rt, &ALIAS);
-}
-
 static LONG: [u8; 61] = [120; 61];
 
 #[test]
-fn long_names_are_not_found(rt: HostRuntime) {
+fn records_aliases_and_long_names(rt: HostRuntime) {
+    follow(&rt, &RECORDS);
+    follow(&rt, &ALIAS);
+    // A name that is too long is not found.
     let cut = &LONG[..60];
     let steps = [
         Step::Misses(cut),

@@ -1,12 +1,11 @@
 //! Tests of one record as lists of steps, each with what must come of it. One list holds all tests of a type, since
 //! a list costs the prover little and a function much.
+use crate::acts::{Act, is_done};
 use ioc_common::{
-    Common, FieldAddress, Fresh, Got, InputKind, KeptLink, Lead, LinkUse, Need, Output,
-    StandingLink, Want,
+    FieldAddress, Fresh, Got, InputKind, KeptLink, Lead, LinkUse, Need, Output, StandingLink,
 };
-use ioc_fields::{FieldNo, OwnField, field};
+use ioc_fields::{CommonField, FieldNo, OwnField, field};
 use ioc_links::Mode;
-use ioc_menus::{Severity, Status};
 use ioc_names::RecordNo;
 use ioc_record::{
     Record, RecordBody, RecordKind, put_field, put_untested, read_as, set_field, test_put, text_of,
@@ -57,36 +56,6 @@ pub enum Does {
     Post(&'static str),
 }
 
-/// A step on the fields that every record has.
-#[derive(Clone, Copy)]
-pub enum Act {
-    Raise(Status, Severity),
-    Inherit(Mode, Status, Severity),
-    /// The alarms are shown.
-    Show,
-    /// The record is active, and not by a step of its own.
-    Activate,
-    /// The alarms are shown at this moment.
-    ShowAt(u64),
-    /// A request finds the record disabled.
-    Disable,
-    /// PUTF and RPRO are set.
-    MarkPut(bool),
-    MarkReprocess(bool),
-    /// The record is passive, or not.
-    Passive(bool),
-    /// A request finds the record active.
-    Block,
-    /// A request finds the record idle.
-    Unblock,
-    Wait,
-    EndWait,
-    /// The completion that the record awaits has this number.
-    Awaits(Option<u64>),
-    /// The last completion had this number.
-    LastAwaited(u64),
-}
-
 /// A step of a test, with what must come of it.
 #[derive(Clone, Copy)]
 pub enum Step<'a> {
@@ -135,38 +104,23 @@ pub enum Step<'a> {
     Lists(usize, usize),
 }
 
+const STAT: FieldNo = FieldNo::Common(CommonField::Stat);
+
+const SEVR: FieldNo = FieldNo::Common(CommonField::Sevr);
+
+const NSTA: FieldNo = FieldNo::Common(CommonField::Nsta);
+
+const NSEV: FieldNo = FieldNo::Common(CommonField::Nsev);
+
 /// The alarms are shown.
 pub const SHOW: Step<'static> = Step::Do(Act::Show);
 
 /// A request finds the record active.
 pub const BLOCK: Step<'static> = Step::Do(Act::Block);
 
-// The field of a name.
-fn at<K: RecordKind>(item: &K, name: &str) -> Result<FieldNo, IocError> {
-    field(item.record_type(), name.as_bytes()).ok_or(IocError::NoField)
-}
-
-fn set<K: RecordKind>(alloc: Global, item: &mut K, name: &str, text: &str) -> Result<(), IocError> {
-    let field = at(item, name)?;
-    set_field(alloc, item, field, text.as_bytes())
-}
-
-fn put<K: RecordKind>(item: &mut K, name: &str, input: Input) -> Result<(), IocError> {
-    let field = at(item, name)?;
-    put_field(item, field, input)
-}
-
 // Is this the text of the field?
-fn has_text<K: RecordKind>(item: &K, name: &str, wanted: &str) -> bool {
-    match at(item, name) {
-        Ok(field) => text_of(item, field).as_slice() == wanted.as_bytes(),
-        Err(_) => false,
-    }
-}
-
-fn read<K: RecordKind>(item: &K, name: &str, kind: InputKind) -> Result<Value, IocError> {
-    let field = at(item, name)?;
-    read_as(item, field, kind)
+fn has_text<K: RecordKind>(item: &K, field: FieldNo, wanted: &str) -> bool {
+    text_of(item, field).as_slice() == wanted.as_bytes()
 }
 
 // The link of the field leads there.
@@ -219,16 +173,6 @@ fn got(came: Came) -> Got {
     }
 }
 
-fn want(wants: Wants) -> Want {
-    match wants {
-        Wants::Nothing => Want::NoInput,
-        Wants::Unused => Want::ReadLink(LinkUse::Unused),
-        Wants::Absent => Want::ReadLink(LinkUse::Absent),
-        Wants::Device => Want::ReadDevice,
-        Wants::Link(process_passive, mode) => Want::ReadLink(standing(process_passive, mode)),
-    }
-}
-
 fn output(does: Does) -> Output {
     match does {
         Does::Nothing => Output::NoOutput,
@@ -249,95 +193,106 @@ fn output(does: Does) -> Output {
     }
 }
 
+// The name of the field that a step is about.
+fn name_of<'a>(step: &Step<'a>) -> Option<&'a str> {
+    match step {
+        Step::Set(name, _) | Step::SetRefused(name, _, _) => Some(*name),
+        Step::Put(name, _) | Step::PutRefused(name, _, _) => Some(*name),
+        Step::PutByLink(name, _) | Step::PutNumber(name, _) => Some(*name),
+        Step::MayPut(name, _) | Step::Has(name, _) => Some(*name),
+        Step::ReadAsNumber(name, _) | Step::ReadAsText(name, _) => Some(*name),
+        _ => None,
+    }
+}
+
+// Is the step refused since its type hasn't the field?
+fn is_fieldless(step: &Step<'_>) -> bool {
+    match step {
+        Step::SetRefused(_, _, fault) | Step::PutRefused(_, _, fault) => *fault
+            == IocError::NoField,
+        _ => false,
+    }
+}
+
+// A step on a field.
+fn field_holds<K: RecordKind>(
+    alloc: Global,
+    item: &mut K,
+    field: FieldNo,
+    step: &Step<'_>,
+) -> bool {
+    match step {
+        Step::Set(_, text) => set_field(alloc, item, field, text.as_bytes()) == Ok(()),
+        Step::SetRefused(_, text, fault) => {
+            set_field(alloc, item, field, text.as_bytes()) == Err(*fault)
+        }
+        Step::Has(_, wanted) => has_text(item, field, wanted),
+        Step::ReadAsNumber(_, number) => {
+            read_as(item, field, InputKind::Number(Range::Long)) == Ok(Value::Long(*number))
+        }
+        Step::ReadAsText(_, text) => read_as(item, field, InputKind::Text) == Ok(text_value(text)),
+        step => is_put(item, field, step),
+    }
+}
+
+// A step that puts, or asks whether a client may.
+fn is_put<K: RecordKind>(item: &mut K, field: FieldNo, step: &Step<'_>) -> bool {
+    match step {
+        Step::Put(_, text) => put_field(item, field, Input::from_text(text.as_bytes())) == Ok(()),
+        Step::PutRefused(_, text, fault) => {
+            put_field(item, field, Input::from_text(text.as_bytes())) == Err(*fault)
+        }
+        Step::PutByLink(_, text) => {
+            put_untested(item, field, Input::from_text(text.as_bytes())) == Ok(())
+        }
+        Step::PutNumber(_, number) => {
+            put_field(item, field, Input::Value(Value::Long(*number))) == Ok(())
+        }
+        Step::MayPut(_, fault) => test_put(item, field).err() == *fault,
+        _ => false,
+    }
+}
+
 // Does what the step says, and tells whether that came of it which must.
-fn is_done(common: &mut Common, act: Act) -> bool {
-    match act {
-        Act::Raise(status, severity) => common.raise(status, severity),
-        Act::Inherit(mode, status, severity) => common.inherit(mode, status, severity),
-        Act::Show => common.show(0),
-        Act::ShowAt(moment) => common.show(moment),
-        Act::Disable => common.disable(),
-        Act::MarkPut(by_put) => common.mark_put(by_put),
-        Act::MarkReprocess(reprocess) => common.mark_reprocess(reprocess),
-        Act::Passive(wanted) => return common.is_passive() == wanted,
-        Act::Activate => common.active = true,
-        Act::Block => common.block(),
-        Act::Unblock => common.unblock(),
-        Act::Wait if common.last_pending < u64::MAX => common.wait(),
-        Act::Wait => return false,
-        Act::EndWait => common.end_wait(),
-        Act::Awaits(number) => return common.pending == number,
-        Act::LastAwaited(number) => return common.last_pending == number,
-    }
-    true
-}
-
-// Was it refused for this?
-fn is_refused(done: Result<(), IocError>, fault: IocError) -> bool {
-    match done {
-        Ok(()) => false,
-        Err(found) => found == fault,
-    }
-}
-
-// May a client put the field, or is it told this?
-fn may_put<K: RecordKind>(item: &K, name: &str, fault: Option<IocError>) -> bool {
-    match (at(item, name), fault) {
-        (Ok(field), Some(fault)) => is_refused(test_put(item, field), fault),
-        (Ok(field), None) => test_put(item, field).is_ok(),
-        (Err(_), _) => false,
-    }
-}
-
-// Was this read?
-fn is_read(found: Result<Value, IocError>, wanted: Value) -> bool {
-    match found {
-        Ok(value) => value == wanted,
-        Err(_) => false,
-    }
-}
-
-// A step on fields, or on what every record has.
 fn holds<K: RecordKind + Drop>(alloc: Global, item: &mut K, step: &Step<'_>) -> bool {
+    let Some(name) = name_of(step) else {
+        return record_holds(alloc, item, step);
+    };
+    match field(item.record_type(), name.as_bytes()) {
+        Some(field) => field_holds(alloc, item, field, step),
+        None => is_fieldless(step),
+    }
+}
+
+// The alarms are shown, and have this status and severity.
+fn shows<K: RecordKind>(item: &mut K, status: &str, severity: &str) -> bool {
+    item.common_mut().show(0);
+    has_text(item, STAT, status) && has_text(item, SEVR, severity)
+}
+
+// A step on what every record has.
+fn record_holds<K: RecordKind + Drop>(alloc: Global, item: &mut K, step: &Step<'_>) -> bool {
     match step {
         Step::Test(_) => true,
-        Step::Set(name, text) => set(alloc, item, name, text).is_ok(),
-        Step::SetRefused(name, text, fault) => is_refused(set(alloc, item, name, text), *fault),
-        Step::Put(name, text) => put(item, name, Input::from_text(text.as_bytes())).is_ok(),
-        Step::PutRefused(name, text, fault) => {
-            is_refused(put(item, name, Input::from_text(text.as_bytes())), *fault)
-        }
-        Step::PutByLink(name, text) => match at(item, name) {
-            Ok(field) => put_untested(item, field, Input::from_text(text.as_bytes())).is_ok(),
-            Err(_) => false,
-        },
-        Step::MayPut(name, fault) => may_put(item, name, *fault),
-        Step::PutNumber(name, number) => {
-            put(item, name, Input::Value(Value::Long(*number))).is_ok()
-        }
         Step::Do(act) => is_done(item.common_mut(), *act),
-        Step::Has(name, wanted) => has_text(item, name, wanted),
-        Step::Shows(status, severity) => {
-            item.common_mut().show(0);
-            has_text(item, "STAT", status) && has_text(item, "SEVR", severity)
-        }
+        Step::Shows(status, severity) => shows(item, status, severity),
         Step::Raised(status, severity) => {
-            has_text(item, "NSTA", status) && has_text(item, "NSEV", severity)
+            has_text(item, NSTA, status) && has_text(item, NSEV, severity)
+        }
+        Step::Lists(links, states) => {
+            item.link_fields().len() == *links && item.states().len() == *states
         }
         step => type_holds(alloc, item, step),
     }
 }
 
 // The body begins, and wants this.
-fn begins<K: RecordKind>(item: &K, wanted: Want) -> bool {
-    let need = match wanted {
-        Want::NoInput | Want::ReadLink(LinkUse::Unused) => Need::Nothing,
-        Want::ReadLink(_) => Need::Link,
-        Want::ReadDevice => Need::Device,
-    };
-    let link = match wanted {
-        Want::ReadLink(link) => link,
-        Want::NoInput | Want::ReadDevice => LinkUse::Unused,
+fn begins<K: RecordKind>(item: &K, wants: Wants) -> bool {
+    let (need, link) = match wants {
+        Wants::Nothing | Wants::Unused => (Need::Nothing, LinkUse::Unused),
+        Wants::Absent => (Need::Link, LinkUse::Absent),
+        Wants::Device => (Need::Device, LinkUse::Unused),
+        Wants::Link(process_passive, mode) => (Need::Link, standing(process_passive, mode)),
     };
     item.begin() == need && item.wanted_link() == link
 }
@@ -376,22 +331,11 @@ fn type_holds<K: RecordKind + Drop>(alloc: Global, item: &mut K, step: &Step<'_>
         Step::Copied => copied(alloc, item),
         Step::Stands(field) => lead_on(alloc, item, *field, there()),
         Step::OwnsDevice(field) => lead_on(alloc, item, *field, Lead::OwnDevice),
-        Step::Begin(wants) => begins(item, want(*wants)),
+        Step::Begin(wants) => begins(item, *wants),
         Step::Take(came, does) => takes(item, got(*came), output(*does)),
         Step::Answer(number) => ends(item, Finished::Done(Value::ULong(*number))),
         Step::AnswerFault => ends(item, Finished::Fault),
-        Step::ReadAsNumber(name, number) => {
-            let kind = InputKind::Number(Range::Long);
-            is_read(read(item, name, kind), Value::Long(*number))
-        }
-        Step::ReadAsText(name, text) => {
-            let wanted = Value::Text(Text::cut(text.as_bytes()));
-            is_read(read(item, name, InputKind::Text), wanted)
-        }
         Step::Converts(kind) => item.input_kind() == *kind,
-        Step::Lists(links, states) => {
-            item.link_fields().len() == *links && item.states().len() == *states
-        }
         _ => false,
     }
 }
@@ -411,6 +355,9 @@ pub fn follow<B: RecordBody + Fresh + Drop>(
             item = Record::new(fresh_name, B::fresh());
             name = *test;
         }
-        assert!(rt; holds(alloc, &mut item, step), "{name}, step {number}");
+        assert!(rt;
+            holds(alloc, &mut item, step),
+            "{record_name}: {name}, step {number}"
+        );
     }
 }

@@ -3,13 +3,11 @@ use crate::steps::Step::{
     Begin, Converts, Copied, Has, Lists, Load, OwnsDevice, Put, Raised, Set, SetRefused, Stands,
     Take, Test,
 };
-use crate::steps::{Came, Does, Step, Wants, follow};
+use crate::steps::{Came, Does, Step, Wants};
 use ioc_common::InputKind;
 use ioc_fields::{FieldNo, OwnField};
 use ioc_links::Mode;
 use ioc_values::IocError;
-use rec_flow::Event;
-use rec_text::{Stringin, Stringout};
 
 const INP: FieldNo = FieldNo::Own(OwnField::Inp);
 
@@ -17,7 +15,7 @@ const OUT: FieldNo = FieldNo::Own(OwnField::Out);
 
 const DOL: FieldNo = FieldNo::Own(OwnField::Dol);
 
-static STRINGIN: [Step<'static>; 43] = [
+pub static STRINGIN: [Step<'static>; 43] = [
     // The alarm of an undefined value, until a text comes.
     Test("new"),
     Has("VAL", ""),
@@ -65,12 +63,7 @@ static STRINGIN: [Step<'static>; 43] = [
     SetRefused("OUT", "a", IocError::NoField),
 ];
 
-#[test]
-fn stringin(rt: HostRuntime) {
-    follow::<Stringin>(&rt, rt.alloc(), "text", &STRINGIN);
-}
-
-static STRINGOUT: [Step<'static>; 57] = [
+pub static STRINGOUT: [Step<'static>; 57] = [
     Test("new"),
     Has("VAL", ""),
     Has("IVOV", ""),
@@ -132,12 +125,7 @@ static STRINGOUT: [Step<'static>; 57] = [
     SetRefused("DOL", "@card", IocError::BadLink),
 ];
 
-#[test]
-fn stringout(rt: HostRuntime) {
-    follow::<Stringout>(&rt, rt.alloc(), "text", &STRINGOUT);
-}
-
-static EVENT: [Step<'static>; 26] = [
+pub static EVENT: [Step<'static>; 26] = [
     // UDF becomes 0 where nothing came, and no alarm is raised.
     Test("new"),
     Has("VAL", ""),
@@ -167,8 +155,3 @@ static EVENT: [Step<'static>; 26] = [
     Take(Came::Nothing, Does::Post("7")),
     Has("UDF", "0"),
 ];
-
-#[test]
-fn event(rt: HostRuntime) {
-    follow::<Event>(&rt, rt.alloc(), "event", &EVENT);
-}

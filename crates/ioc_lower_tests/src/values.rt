@@ -176,11 +176,6 @@ static ENDS: [Converted; 30] = [
     (Given::Text("33"), Field::Number(Range::Bits), None),
 ];
 
-#[test]
-fn texts_at_the_ends_of_every_range(rt: HostRuntime) {
-    are_converted(&rt, &[], &ENDS);
-}
-
 static SPELLINGS: [Converted; 14] = [
     (
         Given::Text("+5"),
@@ -226,20 +221,6 @@ static SPELLINGS: [Converted; 14] = [
     ),
 ];
 
-#[test]
-fn spellings_of_numbers(rt: HostRuntime) {
-    are_converted(&rt, &[], &SPELLINGS);
-    let held = [
-        number(b" -9223372036854775808 ") == Some(i64::MIN),
-        signed(b"9223372036854775808").is_none(),
-        is_number(b"9223372036854775808"),
-        !is_number(b"1.5"),
-        trim(b" \ta \t", true) == b"a".as_slice(),
-        trim(b" \ta \t", false) == b"\ta \t".as_slice(),
-    ];
-    assert!(rt; held == [true; 6]);
-}
-
 static NUMBERS: [Converted; 8] = [
     (Given::Long(-1), Field::Number(Range::ULong), None),
     (
@@ -259,14 +240,6 @@ static NUMBERS: [Converted; 8] = [
     (Given::Long(65536), Field::State, None),
 ];
 
-#[test]
-fn numbers_into_fields(rt: HostRuntime) {
-    let states = [Text::cut(b"off"), Text::new()];
-    are_converted(&rt, &states, &NUMBERS);
-    let numbers = [Value::Long(-7).number(), text(b"7").number()];
-    assert!(rt; numbers == [Some(-7), None]);
-}
-
 static TEXTS: [Converted; 9] = [
     (Given::Text(" a "), Field::Text, Some(Given::Text(" a "))),
     (Given::Text("GO"), Field::Menu, Some(Given::Enum(1))),
@@ -279,12 +252,6 @@ static TEXTS: [Converted; 9] = [
     (Given::Text("2"), Field::State, None),
 ];
 
-#[test]
-fn texts_into_fields(rt: HostRuntime) {
-    let states = [Text::cut(b"off"), Text::cut(b"0")];
-    are_converted(&rt, &states, &TEXTS);
-}
-
 static UNNAMED: [Converted; 3] = [
     (Given::Text(""), Field::State, None),
     (Given::Text("15"), Field::State, Some(Given::Enum(15))),
@@ -292,9 +259,27 @@ static UNNAMED: [Converted; 3] = [
 ];
 
 #[test]
-fn texts_into_unnamed_states(rt: HostRuntime) {
-    let states = [Text::new(); 16];
-    are_converted(&rt, &states, &UNNAMED);
+fn values_into_fields(rt: HostRuntime) {
+    are_converted(&rt, &[], &ENDS);
+    are_converted(&rt, &[], &SPELLINGS);
+    are_converted(&rt, &[Text::cut(b"off"), Text::new()], &NUMBERS);
+    are_converted(&rt, &[Text::cut(b"off"), Text::cut(b"0")], &TEXTS);
+    are_converted(&rt, &[Text::new(); 16], &UNNAMED);
+}
+
+#[test]
+fn spellings_of_numbers(rt: HostRuntime) {
+    let held = [
+        number(b" -9223372036854775808 ") == Some(i64::MIN),
+        signed(b"9223372036854775808").is_none(),
+        is_number(b"9223372036854775808"),
+        !is_number(b"1.5"),
+        trim(b" \ta \t", true) == b"a".as_slice(),
+        trim(b" \ta \t", false) == b"\ta \t".as_slice(),
+        Value::Long(-7).number() == Some(-7),
+        text(b"7").number().is_none(),
+    ];
+    assert!(rt; held == [true; 8]);
 }
 
 static ZEROS: [u8; 40] = [b'0'; 40];
@@ -355,13 +340,6 @@ fn says(alloc: Global, refused: IocError, words: &str, printed: &str) -> bool {
     }
 }
 
-#[test]
-fn refusals_in_words(rt: HostRuntime) {
-    for (refused, words) in &REFUSALS {
-        assert!(rt; says(rt.alloc(), *refused, words, words), "{words}");
-    }
-}
-
 static DATABASE_FAULTS: [(BadDbKind, &str); 14] = [
     (BadDbKind::Syntax, "syntax"),
     (BadDbKind::Unclosed, "text not closed"),
@@ -388,7 +366,10 @@ fn prints(alloc: Global, fault: DbFault, printed: &str) -> bool {
 }
 
 #[test]
-fn refused_databases_in_words(rt: HostRuntime) {
+fn refusals_in_words(rt: HostRuntime) {
+    for (refused, words) in &REFUSALS {
+        assert!(rt; says(rt.alloc(), *refused, words, words), "{words}");
+    }
     for (kind, words) in &DATABASE_FAULTS {
         assert!(rt; kind.words() == *words, "{words}");
     }

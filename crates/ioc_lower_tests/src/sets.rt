@@ -1,0 +1,257 @@
+//! Sets of records whose links make a chain, and what may be asked of them.
+ghost use Rattle.std.specs.Prelude.{◌≡◌, ◌∷◌, [], ℕ, None, IsTrue, IsSome, IfOk, Contains};
+ghost use Rattle.std.specs.FinMap as map;
+ghost use Rattle.ioc_common.specs.Links.{use_of, named_by};
+ghost use Rattle.ioc_members.specs.Joined.{links_of, IsPart, HasLink, HasFreeLink};
+
+use ioc_common::{FieldAddress, KeptLink, Lead, LinkField};
+use ioc_device::{Answer, Ask, Device};
+use ioc_fields::{CommonField, FieldNo, OwnField};
+use ioc_links::{LinkKind, parse};
+use ioc_members::{Change, Members};
+use ioc_names::RecordNo;
+use ioc_record::{Record, RecordKind};
+use ioc_values::{Name, Value};
+use rec_numeric::Longin;
+use std::alloc::{AllocError, Global};
+
+/// Answers the number of its record.
+#[derive(Drop)]
+pub struct Sensor {
+    number: u16,
+}
+
+impl Device for Sensor {
+    ghost gives = { λ _ _ _ _ _. Unit {0} };
+
+    fn read(&mut self, _moment: u64) -> Answer {
+        Answer::Done(Value::UShort(self.number))
+    }
+
+    fn write(&mut self, _value: Value, _moment: u64) -> Answer {
+        Answer::Fault
+    }
+}
+
+pub type Set = Members<Record<Longin>, Sensor>;
+
+/// A record's number, and the one that its link leads to.
+pub type Linked = (usize, Option<usize>);
+
+// The field whose links make the chain.
+const LINK: FieldNo = FieldNo::Common(CommonField::Flnk);
+
+// A record's number, as its device answers it.
+fn u16_of(number: usize) -> u16 {
+    u16::try_from(number).unwrap_or(u16::MAX)
+}
+
+/// The link of a record becomes empty.
+pub struct Cut;
+
+impl<K: RecordKind> Change<K> for Cut {
+    ghost use Rattle.ioc_fields.specs.declared.field_no.FieldNo.TheVariants.{Common};
+    ghost use Rattle.ioc_fields.specs.declared.field_no.CommonField.TheVariants.{Flnk};
+    ghost use Rattle.ioc_common.specs.Links.{no_link};
+
+    ghost changed = { λ _ item. K.rules.with_link item (Common Flnk) no_link };
+
+    fn apply(&self, item: &mut K) {
+        item.set_link(LINK, KeptLink::empty());
+    }
+}
+
+// A link to VAL of a record, or an empty one.
+fn link_to(alloc: Global, target: Option<usize>) -> Result<KeptLink, AllocError> {
+    let Some(target) = target else {
+        return Ok(KeptLink::empty());
+    };
+    let Ok(link) = parse(LinkKind::NoDevice, b"next") else {
+        return Ok(KeptLink::empty());
+    };
+    let lead = Lead::Field(FieldAddress {
+        number: RecordNo::new(target),
+        field: FieldNo::Own(OwnField::Val),
+    });
+    KeptLink::new(alloc, LinkField { link, lead })
+}
+
+/// Adds the record under this number, its link leading to the target, and its device; no where the number isn't above all others.
+pub fn add<K: RecordKind + Drop>(
+    alloc: Global,
+    set: &mut Members<K, Sensor>,
+    mut item: K,
+    number: usize,
+    target: Option<usize>,
+) -> Result<bool, AllocError> {
+    let place = RecordNo::new(number);
+    if !set.is_below(place) {
+        return Ok(false);
+    }
+    item.set_link(LINK, link_to(alloc, target)?);
+    let base = item.copy(alloc)?;
+    let sensor = Sensor {
+        number: u16_of(number),
+    };
+    set.add(place, item, base, Some(sensor))?;
+    Ok(true)
+}
+
+/// A new record.
+pub fn fresh() -> Record<Longin> {
+    Record::new(Name::cut(b"any"), Longin::new())
+}
+
+/// A set of these records, each with its link.
+pub fn made(alloc: Global, records: &[Linked]) -> Result<Set, AllocError> {
+    let mut set = Members::with_room(alloc, records.len())?;
+    for (number, target) in records {
+        add(alloc, &mut set, fresh(), *number, *target)?;
+    }
+    Ok(set)
+}
+
+// Does the link of a record lead there?
+fn leads<K: RecordKind>(item: &K, target: Option<usize>) -> bool {
+    match item.link(LINK) {
+        Some(link) => link.record_named() == target.map(RecordNo::new),
+        None => false,
+    }
+}
+
+/// Do the links of the record and of its base lead there?
+pub fn both_lead<K: RecordKind, D: Device>(
+    set: &Members<K, D>,
+    number: RecordNo,
+    target: Option<usize>,
+    base_target: Option<usize>,
+) -> bool {
+    set.has(number) && leads(set.record(number), target) && leads(set.base(number), base_target)
+}
+
+/// Does the record's device answer?
+pub fn answers<K: RecordKind, D: Device>(set: &mut Members<K, D>, number: RecordNo) -> bool {
+    let given = set.device_gives(number, &Ask::Read, 0);
+    given == Answer::Done(Value::UShort(u16_of(number.index())))
+}
+
+/// Are these the records, with these links, also in their bases, and has each its device?
+pub fn holds<K: RecordKind, D: Device>(set: &mut Members<K, D>, wanted: &[Linked]) -> bool {
+    if set.len() != wanted.len() || set.is_empty() != wanted.is_empty() {
+        return false;
+    }
+    let lowest = wanted.first().map(|first| RecordNo::new(first.0));
+    if set.lowest() != lowest {
+        return false;
+    }
+    for (place, item) in wanted.iter().enumerate() {
+        let number = RecordNo::new(item.0);
+        if set.number_at(place) != Some(number) || !both_lead(set, number, item.1, item.1) {
+            return false;
+        }
+        if !answers(set, number) {
+            return false;
+        }
+    }
+    true
+}
+
+// May the link of a record be set, and the set parted then?
+fn may_part<K: RecordKind, D: Device>(
+    alloc: Global,
+    set: &Members<K, D>,
+    number: RecordNo,
+    field: FieldNo,
+    link: &KeptLink,
+) -> Result<bool, AllocError>
+    ensures folded { IfOk result (λ may. IsTrue may → set.now.base ≡ set.now.records) }
+    ensures one_part { IfOk result (λ may. IsTrue may → IsPart (links_of K.rules set.now.records)) }
+    ensures field { IfOk result (λ may. IsTrue may → HasLink K.rules set.now.records number field) }
+    ensures within { IfOk result (λ may. IsTrue may → (t : ℕ) → Contains (named_by (use_of link.now)) t → IsSome (map.get set.now.records t)) }
+{
+    if !set.is_folded() || !set.has_link(number, field) || !set.leads_within(link) {
+        return Ok(false);
+    }
+    set.is_part(alloc)
+}
+
+/// Sets a link and parts the set: what falls off is the rest. False where that may not be asked.
+pub fn part<K: RecordKind + Drop, D: Device>(
+    alloc: Global,
+    set: &mut Members<K, D>,
+    rest: &mut Members<K, D>,
+    number: RecordNo,
+    target: Option<usize>,
+) -> Result<bool, AllocError> {
+    let link = link_to(alloc, target)?;
+    if !may_part(alloc, set, number, LINK, &link)? {
+        return Ok(false);
+    }
+    let twin = link.copy(alloc)?;
+    *rest = set.part(alloc, number, LINK, link, twin)?;
+    Ok(true)
+}
+
+// May two sets be joined by the link of a record of the first?
+fn may_join<K: RecordKind, D: Device>(
+    alloc: Global,
+    set: &Members<K, D>,
+    other: &Members<K, D>,
+    number: RecordNo,
+    field: FieldNo,
+    link: &KeptLink,
+) -> Result<bool, AllocError>
+    ensures folded { IfOk result (λ may. IsTrue may → (set.now.base ≡ set.now.records) × (other.now.base ≡ other.now.records)) }
+    ensures apart { IfOk result (λ may. IsTrue may → (q : ℕ) → IsSome (map.get set.now.records q) → map.get other.now.records q ≡ None) }
+    ensures one_part { IfOk result (λ may. IsTrue may → IsPart (links_of K.rules set.now.records)) }
+    ensures other_part { IfOk result (λ may. IsTrue may → IsPart (links_of K.rules other.now.records)) }
+    ensures free { IfOk result (λ may. IsTrue may → HasFreeLink K.rules set.now.records number field) }
+    ensures to { IfOk result (λ may. IsTrue may → (t : ℕ) × (named_by (use_of link.now) ≡ t ∷ []) × IsSome (map.get other.now.records t)) }
+{
+    if !set.is_folded() || !other.is_folded() || !set.is_apart(other) {
+        return Ok(false);
+    }
+    if !set.has_free_link(number, field) || !other.leads_into(link) || !set.is_part(alloc)? {
+        return Ok(false);
+    }
+    other.is_part(alloc)
+}
+
+/// Joins two sets by a link; false where that may not be asked.
+pub fn join<K: RecordKind, D: Device>(
+    alloc: Global,
+    set: &mut Members<K, D>,
+    other: &mut Members<K, D>,
+    number: RecordNo,
+    target: usize,
+) -> Result<bool, AllocError> {
+    let link = link_to(alloc, Some(target))?;
+    if !may_join(alloc, set, other, number, LINK, &link)? {
+        return Ok(false);
+    }
+    let twin = link.copy(alloc)?;
+    set.join(other, number, LINK, link, twin)?;
+    Ok(true)
+}
+
+/// What the chain hasn't, and what another chain has that isn't apart from it.
+pub fn is_refused<K: RecordKind, D: Device>(set: &Members<K, D>, other: &Members<K, D>) -> bool {
+    let has = [
+        set.has_link(RecordNo::new(10), LINK),
+        set.has_link(RecordNo::new(3), FieldNo::Own(OwnField::Val)),
+        set.has_free_link(RecordNo::new(3), LINK),
+        set.is_below(RecordNo::new(9)),
+        set.is_apart(other),
+    ];
+    has == [false; 5]
+}
+
+/// Links that lead out of the chain, and nowhere.
+pub fn leads_out<K: RecordKind, D: Device>(
+    alloc: Global,
+    set: &Members<K, D>,
+) -> Result<bool, AllocError> {
+    let is_within = set.leads_within(&link_to(alloc, Some(10))?);
+    let is_into = set.leads_into(&link_to(alloc, None)?);
+    Ok(!is_within && !is_into)
+}
