@@ -1,8 +1,15 @@
-//! Tests that cross the crates: whole runs over memory.
+//! Tests that cross the crates: whole runs over memory, the directory of lock sets, with sets that are lists of numbers, and the engine for threads, from a
+//! database text to its end.
 #![tactic(auto)]
 
 #[cfg(test)]
+mod calling;
+#[cfg(test)]
 mod devices;
+#[cfg(test)]
+mod directory;
+#[cfg(test)]
+mod eight;
 #[cfg(test)]
 mod endings;
 #[cfg(test)]
@@ -24,6 +31,10 @@ mod macros;
 #[cfg(test)]
 mod notifications;
 #[cfg(test)]
+mod numbers;
+#[cfg(test)]
+mod opened;
+#[cfg(test)]
 mod parts;
 #[cfg(test)]
 mod programs;
@@ -32,7 +43,13 @@ mod relinks;
 #[cfg(test)]
 mod rows;
 #[cfg(test)]
+mod running;
+#[cfg(test)]
 mod scans;
+#[cfg(test)]
+mod sessions;
+#[cfg(test)]
+mod steps;
 #[cfg(test)]
 mod streams;
 #[cfg(test)]

@@ -1,5 +1,5 @@
 use Rattle.ioc_engine.specs.Loading.{loaded_world}
-use Rattle.ioc_engine_tests.proofs.running.run_text.Given as goal
+use Rattle.ioc_tests.proofs.running.run_text.Given as goal
 
 -- the engine's name
 abbrev pub ghosts-run-B-Base : goal.ghosts-run-B-Base

@@ -1,7 +1,7 @@
 use Rattle.std.proofs.Common.{◌≡◌, Contains, subst, rules}
 use Rattle.std.specs.Vec.{vec_len}
 use Rattle.ioc_topology.specs.Through.{through}
-use Rattle.ioc_engine_tests.proofs.directory.size_of_set.Goals as goal
+use Rattle.ioc_tests.proofs.directory.size_of_set.Goals as goal
 
 pub returns : goal.returns
 returns g c =

@@ -1,7 +1,7 @@
 //! Calls and link changes of several sets at once.
 ghost use Rattle.std.specs.Prelude.{◌≡◌, Contains, IfOk};
 ghost use Rattle.std.specs.Vec.{vec_len};
-ghost use Rattle.ioc_engine_tests.specs.declared.numbers.Numbers.{Numbers};
+ghost use Rattle.ioc_tests.specs.declared.numbers.Numbers.{Numbers};
 
 use crate::numbers::Numbers;
 use ioc_names::RecordNo;
