@@ -1,3 +1,4 @@
+use Rattle.std.proofs.Common.{◌≡◌}
 use Rattle.std.proofs.lemmas.Result.{err_from_is_err_and}
 use Rattle.ioc_main.specs.ReplayLaws.{printed}
 use Rattle.ioc_main.proofs.Beginning.{runs_whole, runs_stop}
