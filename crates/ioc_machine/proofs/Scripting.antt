@@ -1,5 +1,5 @@
 -- Devices whose answers are queued give them one after another.
-use Rattle.std.proofs.Common.{◌≡◌, ℕ, zero, suc, Bool, true, false, cond, eqb, Option, Some, List, [], ◌∷◌, ◌++◌, drop, set, get_or, length, ◌<◌, ◌≤◌, arith, refl, sym, ap, subst, ◌∙◌}
+use Rattle.std.proofs.Common.{◌≡◌, ℕ, zero, suc, Bool, true, false, cond, eqb, Option, Some, List, [], ◌∷◌, ◌++◌, drop, set, get_or, length, ◌<◌, arith, refl, sym, ap, subst, ◌∙◌}
 use Rattle.std.proofs.Common.{None as Nothing_}
 use Rattle.std.specs.Prelude.{option_map, slice_get}
 use Rattle.std.proofs.lemmas.Bool.{eqb-true}
@@ -103,11 +103,6 @@ item_there [] n x y within is same = absurd (omega (arith, within))
 item_there (z ∷ zs) zero x y within is same = cc
 item_there (z ∷ zs) (suc n) x y within is same = item_there zs n x y (omega (arith, within)) is same
 
-none_past : {D : Type 0} (items : List (Option D)) (n : ℕ) → length items ≤ n → device_at items n ≡ Nothing_
-none_past [] n past = refl
-none_past (x ∷ xs) zero past = absurd (omega (arith, past))
-none_past (x ∷ xs) (suc n) past = none_past xs n (omega (arith, past))
-
 -- an answer is queued for the device at a place, or there is none
 module _ {R : Type 0} (m : Machine R) (items : List (Option (List Answer))) (n place : ℕ) (answer : Answer) (same : place ≡ n) (queued : m.queued ≡ device_at items) where
   pub queue_there : (before after : List Answer) → place < length items → slice_get items place ≡ Some (Some before) → after ≡ before ++ answer ∷ []
@@ -124,9 +119,3 @@ module _ {R : Type 0} (m : Machine R) (items : List (Option (List Answer))) (n p
   queue_none is =
       let own : device_at items n ≡ Nothing_ = rw (← same, is) refl in
       rw (own, set_same items place Nothing_ is) (ap (λ (d : Queued). let told : Told R = record { machine = record m { queued = d }; reply = Refused NoField } in told) (sym queued))
-
-  pub queue_past : length items ≤ place
-      → (let told : Told R = record { machine = m; reply = Refused NoField } in told ≡ queued_at m n answer (device_at items n))
-  queue_past past =
-      let own : device_at items n ≡ Nothing_ = rw (← same) (none_past items place past) in
-      rw own refl

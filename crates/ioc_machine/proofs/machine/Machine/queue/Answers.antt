@@ -1,13 +1,7 @@
-use Rattle.std.proofs.Common.{◌<◌, ◌≤◌, length, refl, arith}
+use Rattle.std.proofs.Common.{◌<◌, length, refl, arith}
 use Rattle.ioc_machine.specs.SeenMachine.{machine_of}
-use Rattle.ioc_machine.proofs.Scripting.{item_there, queue_there, queue_none, queue_past}
+use Rattle.ioc_machine.proofs.Scripting.{item_there, queue_there, queue_none}
 use Rattle.ioc_machine.proofs.machine.Machine.queue.Goals as goal
-
-pub returns-then-place-len : goal.returns-then-place-len
-returns-then-place-len g c =
-    let items = c.args.self.now.map.devices.items in
-    let past : length items ≤ c.index-place.result = omega (arith, c.if-place-len.true, c.len.ensures, c.args.self.now.map.devices.ok.0) in
-    queue_past (machine_of c.args.self.now) items c.args.number c.index-place.result c.args.answer c.index-place.ensures refl past
 
 pub returns-in_ok-queue-in-Some : goal.returns-in_ok-queue-in-Some
 returns-in_ok-queue-in-Some g c =
