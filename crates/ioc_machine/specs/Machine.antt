@@ -83,10 +83,6 @@ pub record Told (R : Type 0) : Type 0 where
   pub machine : Machine R
   pub reply : Reply
 
--- before any event
-abbrev pub resting : {R : Type 0} → World R → Queued → Scanner → Owner → Machine R
-resting w queued scanner owner = record { world = w; queued = queued; tally = no_counts; scanner = scanner; owner = owner; next = 1; ended = [] }
-
 -- nothing is changed
 abbrev pub refused : {R : Type 0} → Machine R → IocError → Told R
 refused m e = record { machine = m; reply = Refused e }
@@ -175,7 +171,15 @@ module _ {R : Type 0} (k : RecordRules R) where
   -- a loaded database before its records with PINI are processed
   unfoldable pub loaded_machine : List R → Machine R
   loaded_machine records =
-      resting (first_world records) (device_at (map first_queue records)) (record { lists = first_lists k When-scanned records; queues = no_items }) (owner_of k records)
+      record {
+        world = first_world records;
+        queued = device_at (map first_queue records);
+        tally = no_counts;
+        scanner = record { lists = first_lists k When-scanned records; queues = no_items };
+        owner = owner_of k records;
+        next = 1;
+        ended = [];
+      }
 
   -- before the first line the records with PINI are processed
   abbrev pub first_machine : List R → Machine R

@@ -1,9 +1,9 @@
 -- The machine of a script as the code has it, seen as that of the definitions.
-use Rattle.ioc_record.specs.declared.record_kind.RecordKind as kind
+use Rattle.ioc_types.specs.Record.{Record}
 use Rattle.ioc_store.specs.OneMap.{world_of, device_at}
 use Rattle.ioc_machine.specs.declared.machine.Machine.{Machine as Kept}
 use Rattle.ioc_dbfile.specs.OwnerTable.{owner_in}
 use Rattle.ioc_machine.specs.Machine.{Machine}
 
-abbrev pub machine_of : {R : Type 0} {k : kind.Ghosts R} → Kept R k → Machine R
+abbrev pub machine_of : Kept → Machine Record
 machine_of m = record { world = world_of m.map; queued = device_at m.map.devices.items; tally = m.tally; scanner = m.scanner; owner = owner_in m.owners; next = m.next; ended = m.ended.items }

@@ -1,6 +1,7 @@
 //! The scan lists of a loaded database.
 ghost use Rattle.std.specs.Prelude.{◌≡◌, ◌<◌, ◌≤◌, ◌-◌, ◌^◌, false, length, None, IfOk, OnOk};
 ghost use Rattle.std.specs.List.{list_any};
+ghost use Rattle.ioc_types.specs.Record.{record_rules};
 ghost use Rattle.ioc_machine.specs.Scanner.{place_by};
 ghost use Rattle.ioc_machine.specs.FirstLists.{added, place_of, start_place, first_lists, is_starter, starters};
 
@@ -11,6 +12,7 @@ use ioc_names::RecordNo;
 use ioc_record::RecordKind;
 use ioc_scan::{ListName, Listed, Place, ScanLists};
 use ioc_steps::scanning::device_of;
+use ioc_types::Record;
 use ioc_values::Short;
 use std::alloc::{AllocError, Global};
 
@@ -55,8 +57,8 @@ fn start_place(fields: &ScanFields) -> Option<Place>
 }
 
 // Where a record stands.
-fn place_of<K: RecordKind>(item: &K, occasion: Occasion) -> Option<Place>
-    ensures { result ≡ place_of K.rules occasion item.now }
+fn place_of(item: &Record, occasion: Occasion) -> Option<Place>
+    ensures { result ≡ place_of record_rules occasion item.now }
 {
     let fields = &item.common().scanning;
     match occasion {
@@ -66,8 +68,8 @@ fn place_of<K: RecordKind>(item: &K, occasion: Occasion) -> Option<Place>
 }
 
 // May a record stand on a list? Most don't, and a place is large.
-fn may_be_listed<K: RecordKind>(item: &K, occasion: Occasion) -> bool
-    ensures { result ≡ false → place_of K.rules occasion item.now ≡ None }
+fn may_be_listed(item: &Record, occasion: Occasion) -> bool
+    ensures { result ≡ false → place_of record_rules occasion item.now ≡ None }
 {
     let fields = &item.common().scanning;
     match occasion {
@@ -78,36 +80,18 @@ fn may_be_listed<K: RecordKind>(item: &K, occasion: Occasion) -> bool
 
 // Adds a record where it stands, if it stands on a list.
 #[inline(never)]
-fn add_record<K: RecordKind>(
+fn add_record(
     lists: &mut ScanLists,
     number: RecordNo,
-    item: &K,
+    item: &Record,
     occasion: Occasion,
 ) -> Result<(), AllocError>
     requires known { number < length lists.old.entries }
     requires room { lists.old.last < 2 ^ 64 - 1 }
-    ensures { OnOk result (lists.new ≡ added lists.old number (place_of K.rules occasion item.now)) }
+    ensures { OnOk result (lists.new ≡ added lists.old number (place_of record_rules occasion item.now)) }
 {
     if let Some(place) = place_of(item, occasion) {
         lists.add(number, place)?;
-    }
-    Ok(())
-}
-
-// The same. Most records stand on none, so the place is worked out only where there may be one.
-#[inline(always)]
-fn list_record<K: RecordKind>(
-    lists: &mut ScanLists,
-    number: RecordNo,
-    item: &K,
-    occasion: Occasion,
-) -> Result<(), AllocError>
-    requires known { number < length lists.old.entries }
-    requires room { lists.old.last < 2 ^ 64 - 1 }
-    ensures added { OnOk result (lists.new ≡ added lists.old number (place_of K.rules occasion item.now)) }
-{
-    if may_be_listed(item, occasion) {
-        add_record(lists, number, item, occasion)?;
     }
     Ok(())
 }
@@ -118,18 +102,20 @@ fn list_record<K: RecordKind>(
 ///
 /// [`AllocError`] where memory is wanting.
 #[tactic(auto, unfolding(crate::specs::FirstLists::first_lists))]
-pub fn first_lists<K: RecordKind>(
+pub fn first_lists(
     alloc: Global,
     occasion: Occasion,
-    records: &[K],
+    records: &[Record],
 ) -> Result<ScanLists, AllocError>
-    ensures { IfOk result (λ s. s ≡ first_lists K.rules occasion records.now) }
+    ensures { IfOk result (λ s. s ≡ first_lists record_rules occasion records.now) }
 {
     let mut lists = ScanLists::new(alloc, records.len())?;
     let mut rest = records;
     let mut number = 0;
     while let [item, others @ ..] = rest {
-        list_record(&mut lists, RecordNo::new(number), item, occasion)?;
+        if may_be_listed(item, occasion) {
+            add_record(&mut lists, RecordNo::new(number), item, occasion)?;
+        }
         number += 1;
         rest = others;
     }
@@ -137,8 +123,8 @@ pub fn first_lists<K: RecordKind>(
 }
 
 // Does a record have PINI?
-fn any_starts<K: RecordKind>(records: &[K]) -> bool
-    ensures { result ≡ list_any (is_starter K.rules) records.now }
+fn any_starts(records: &[Record]) -> bool
+    ensures { result ≡ list_any (is_starter record_rules) records.now }
 {
     let mut rest = records;
     while let [item, others @ ..] = rest {
@@ -156,8 +142,9 @@ fn any_starts<K: RecordKind>(records: &[K]) -> bool
 /// # Errors
 ///
 /// [`AllocError`] where memory is wanting.
-pub fn starters<K: RecordKind>(alloc: Global, records: &[K]) -> Result<Vec<Listed>, AllocError>
-    ensures { IfOk result (λ listed. listed.items ≡ starters K.rules records.now) }
+#[tactic(auto, using(crate::proofs::Starting::none_starts))]
+pub fn starters(alloc: Global, records: &[Record]) -> Result<Vec<Listed>, AllocError>
+    ensures { IfOk result (λ listed. listed.items ≡ starters record_rules records.now) }
 {
     if !any_starts(records) {
         return Ok(Vec::new(alloc));
@@ -167,8 +154,8 @@ pub fn starters<K: RecordKind>(alloc: Global, records: &[K]) -> Result<Vec<Liste
 
 // The same by the list of those with PINI.
 #[tactic(auto, unfolding(crate::specs::FirstLists::starters))]
-fn listed_starters<K: RecordKind>(alloc: Global, records: &[K]) -> Result<Vec<Listed>, AllocError>
-    ensures { IfOk result (λ listed. listed.items ≡ starters K.rules records.now) }
+fn listed_starters(alloc: Global, records: &[Record]) -> Result<Vec<Listed>, AllocError>
+    ensures { IfOk result (λ listed. listed.items ≡ starters record_rules records.now) }
 {
     let lists = first_lists(alloc, Occasion::Starting, records)?;
     let mut listed = Vec::new(alloc);

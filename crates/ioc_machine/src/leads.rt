@@ -1,6 +1,7 @@
 //! Where a link leads that is set while records run.
 ghost use Rattle.std.specs.Prelude.{◌≡◌};
 ghost use Rattle.ioc_names.specs.NameTable.{number_of};
+ghost use Rattle.ioc_types.specs.Record.{record_rules};
 ghost use Rattle.ioc_store.specs.OneMap.{world_of};
 ghost use Rattle.ioc_dbfile.specs.OwnerTable.{owner_in};
 ghost use Rattle.ioc_machine.specs.Leads.{target_among, leads_among};
@@ -12,14 +13,15 @@ use ioc_links::{Link, Target};
 use ioc_names::{Names, RecordNo};
 use ioc_record::RecordKind;
 use ioc_store::{OneMap, Store};
+use ioc_types::Record;
 
 // The field that a database link leads to, if a record and a field of these names are there, and a link can lead to it.
-fn target_among<K: RecordKind>(
+fn target_among(
     names: &Names,
-    map: &OneMap<K, Scripted>,
+    map: &OneMap<Record, Scripted>,
     target: &Target,
 ) -> Option<FieldAddress>
-    ensures { result ≡ target_among K.rules (world_of map.now) target.now.field (number_of names.now target.now.record_name) }
+    ensures { result ≡ target_among record_rules (world_of map.now) target.now.field (number_of names.now target.now.record_name) }
 {
     let number = names.find(target.record_name.as_slice())?;
     if !map.has(number) {
@@ -30,14 +32,14 @@ fn target_among<K: RecordKind>(
 }
 
 /// Where a link of the record of this number leads: to a field of a record that is there, or to the record's own device.
-pub fn lead_among<K: RecordKind>(
+pub fn lead_among(
     names: &Names,
-    map: &OneMap<K, Scripted>,
+    map: &OneMap<Record, Scripted>,
     owners: &Owners,
     number: RecordNo,
     link: &Link,
 ) -> Lead
-    ensures { result ≡ leads_among K.rules names.now (owner_in owners.now) (world_of map.now) number link.now }
+    ensures { result ≡ leads_among record_rules names.now (owner_in owners.now) (world_of map.now) number link.now }
 {
     match link {
         Link::Database(target, _) => match target_among(names, map, target) {

@@ -1,15 +1,11 @@
 //! What a script works on.
-ghost use Rattle.std.specs.Prelude.{◌≡◌, ◌≤◌, [], map, List, ℕ, IfOk, OnOk};
+ghost use Rattle.std.specs.Prelude.{◌≡◌, ◌≤◌, [], map, IfOk, OnOk};
 ghost use Rattle.std.specs.FinMap.{len};
 ghost use Rattle.std.specs.Vec.{vec_capacity};
+ghost use Rattle.ioc_types.specs.Record.{record_rules};
 ghost use Rattle.ioc_store.specs.OneMap.{world_of};
-ghost use Rattle.ioc_callback.specs.Serving.{no_items};
 ghost use Rattle.ioc_process.specs.Rules.{IsSettled};
 ghost use Rattle.ioc_dbfile.specs.FirstWorld.{first_world};
-ghost use Rattle.ioc_dbfile.specs.OwnerTable.{owner_in};
-ghost use Rattle.ioc_dbfile.specs.Owners.{owner_of};
-ghost use Rattle.ioc_machine.specs.declared.first_lists.Occasion.TheVariants.{Scanning};
-ghost use Rattle.ioc_machine.specs.FirstLists.{first_lists};
 ghost use Rattle.ioc_machine.specs.Machine.{first_queue};
 
 use crate::first_lists::{Occasion, first_lists, starters};
@@ -18,7 +14,7 @@ use crate::scanner::Scanner;
 use crate::scripted::Scripted;
 use crate::settled::{event_keeps_count, event_leaves_settled};
 use ioc_common::{KeptLink, LinkField};
-use ioc_dbfile::Owners;
+use ioc_dbfile::{Owners, owners_of, owns_device};
 use ioc_events::{
     Effect, Reply, make_request, make_spelled_put, run_cancel, run_complete, run_link, run_notify,
 };
@@ -27,16 +23,16 @@ use ioc_ledger::Tally;
 use ioc_links::Link;
 use ioc_names::{Names, RecordNo};
 use ioc_notify::NotifyId;
-use ioc_record::RecordKind;
 use ioc_store::{EventStore, Frame, OneMap};
+use ioc_types::Record;
 use ioc_values::{Finished, Input};
 use std::alloc::{AllocError, Global};
 
 /// A database with devices whose answers are queued, the counts of requests, its scan lists, and the requests that wait. Between events no
 /// link leaves the database, and a record is active exactly where its completion is pending.
 #[derive(Drop)]
-pub struct Machine<K: RecordKind> {
-    pub(crate) map: OneMap<K, Scripted>,
+pub struct Machine {
+    pub(crate) map: OneMap<Record, Scripted>,
     // Open frames of the event under way, with room for all records from the load on.
     pub(crate) frames: Vec<Frame>,
     pub(crate) tally: Tally,
@@ -47,131 +43,81 @@ pub struct Machine<K: RecordKind> {
     // Those that have ended since this was told last. Room for all that are live at once is taken at the load.
     pub(crate) ended: Vec<NotifyId>,
     pub(crate) alloc: Global,
-    ghost settled: { IsSettled K.rules (world_of map) },
+    ghost settled: { IsSettled record_rules (world_of map) },
     ghost empty: { frames.items ≡ [] },
     ghost room: { len (world_of map).records ≤ vec_capacity frames },
 }
 
-// Room for the open frames of an event, and for the numbers of those that have ended.
-#[derive(Drop)]
-struct Room {
-    frames: Vec<Frame>,
-    ended: Vec<NotifyId>,
-}
-
-impl Room {
-    fn of<K: RecordKind>(alloc: Global, map: &OneMap<K, Scripted>) -> Result<Self, AllocError>
-        ensures empty { IfOk result (λ r. r.frames.items ≡ []) }
-        ensures room { IfOk result (λ r. len (world_of map.now).records ≤ vec_capacity r.frames) }
-        ensures none { IfOk result (λ r. r.ended.items ≡ []) }
-    {
-        let frames = map.frames(alloc)?;
-        let ended = Vec::with_capacity(alloc, 256)?;
-        Ok(Room { frames, ended })
+// A device, with nothing queued, for each record that owns one.
+fn devices_of(alloc: Global, records: &[Record]) -> Result<Vec<Option<Scripted>>, AllocError>
+    ensures { IfOk result (λ v. v.items ≡ map (first_queue record_rules) records.now) }
+{
+    let mut devices = Vec::new(alloc);
+    let mut rest = records;
+    while let [item, others @ ..] = rest {
+        let device = if owns_device(item) {
+            Some(Scripted::new(alloc))
+        } else {
+            None
+        };
+        devices.push(device)?;
+        rest = others;
     }
+    Ok(devices)
 }
 
-// The records on their scan lists, with no request waiting.
-fn scanner_of<K: RecordKind>(alloc: Global, records: &[K]) -> Result<Scanner, AllocError>
-    ensures { IfOk result (λ s. s ≡ record { lists = first_lists K.rules Scanning records.now; queues = no_items }) }
-{
-    let lists = first_lists(alloc, Occasion::Scanning, records)?;
-    Scanner::new(alloc, lists)
-}
-
-// These records on a map, with these devices.
-fn map_of<K: RecordKind + Drop>(
-    alloc: Global,
-    records: Vec<K>,
-    devices: Vec<Option<Scripted>>,
-) -> Result<OneMap<K, Scripted>, AllocError>
-    ensures world { IfOk result (λ m. world_of m ≡ first_world records.items) }
-    ensures devices { IfOk result (λ m. m.devices ≡ devices) }
-{
-    let event = EventStore::new(alloc)?;
-    Ok(OneMap::new(records, devices, event))
-}
-
-impl<K: RecordKind + Drop> Machine<K> {
+impl Machine {
+    ghost use Rattle.ioc_events.specs.declared.event.Event.TheVariants.{Process, Put, Complete, Link as Link_event, Notify, Cancel};
+    ghost use Rattle.ioc_events.specs.Events.{reply_of};
+    ghost use Rattle.ioc_values.specs.Conversion.{input_of};
     ghost use Rattle.ioc_machine.specs.FirstLists.{starters};
-    ghost use Rattle.ioc_store.specs.OneMap.{device_at};
-    ghost use Rattle.ioc_machine.specs.Machine.{resting, loaded_machine, first_machine};
+    ghost use Rattle.ioc_machine.specs.Leads.{field_of_link};
+    ghost use Rattle.ioc_machine.specs.Machine.{loaded_machine, first_machine, stepped_on, done, with_ended_kept, with_sent, with_none_ended, notified, given_up};
     ghost use Rattle.ioc_machine.specs.SeenMachine.{machine_of};
 
-    // A map for which no event has begun. Values that the load makes are few in each function: an exit ends those that are there.
-    fn at_rest(
-        alloc: Global,
-        map: OneMap<K, Scripted>,
-        scanner: Scanner,
-        owners: Owners,
-    ) -> Result<Self, AllocError>
-        requires { IsSettled K.rules (world_of map) }
-        ensures { IfOk result (λ m. machine_of m ≡ resting (world_of map) (device_at map.devices.items) scanner (owner_in owners)) }
+    // These records before any event. All room that events want, but for scan lists, is taken here.
+    fn loaded(alloc: Global, records: Vec<Record>) -> Result<Self, AllocError>
+        requires { IsSettled record_rules (first_world records.items) }
+        ensures { IfOk result (λ m. machine_of m ≡ loaded_machine record_rules records.items) }
     {
-        let room = Room::of(alloc, &map)?;
+        let devices = devices_of(alloc, records.as_slice())?;
+        let lists = first_lists(alloc, Occasion::Scanning, records.as_slice())?;
+        let scanner = Scanner::new(alloc, lists)?;
+        let owners = owners_of(alloc, records.as_slice())?;
+        let event = EventStore::new(alloc)?;
+        let map = OneMap::new(records, devices, event);
+        let frames = map.frames(alloc)?;
+        let ended = Vec::with_capacity(alloc, 256)?;
         Ok(Machine {
             map,
-            frames: room.frames,
+            frames,
             tally: Tally::default(),
             scanner,
             owners,
             next: 1,
-            ended: room.ended,
+            ended,
             alloc,
         })
     }
 
-    // These records, with these devices and their owners, before any event. All room that events want, but for scan lists, is taken here.
-    fn loaded(
-        alloc: Global,
-        records: Vec<K>,
-        devices: Vec<Option<Scripted>>,
-        owners: Owners,
-    ) -> Result<Self, AllocError>
-        requires settled { IsSettled K.rules (first_world records.items) }
-        requires devices { devices.items ≡ map (first_queue K.rules) records.items }
-        requires owners { (text : List ℕ) → owner_in owners text ≡ owner_of K.rules records.items text }
-        ensures { IfOk result (λ m. machine_of m ≡ loaded_machine K.rules records.items) }
-    {
-        let scanner = scanner_of(alloc, records.as_slice())?;
-        let map = map_of(alloc, records, devices)?;
-        Machine::at_rest(alloc, map, scanner, owners)
-    }
-
-    /// These records, with these devices and their owners, before the first line: those with PINI are processed.
+    /// These records before the first line: those with PINI are processed.
     ///
     /// # Errors
     ///
     /// [`AllocError`] where memory is wanting.
     #[tactic(auto, unfolding(crate::specs::FirstLists::starters))]
-    pub fn new(
-        alloc: Global,
-        records: Vec<K>,
-        devices: Vec<Option<Scripted>>,
-        owners: Owners,
-    ) -> Result<Self, AllocError>
-        requires settled { IsSettled K.rules (first_world records.items) }
-        requires devices { devices.items ≡ map (first_queue K.rules) records.items }
-        requires owners { (text : List ℕ) → owner_in owners text ≡ owner_of K.rules records.items text }
-        ensures { IfOk result (λ m. machine_of m ≡ first_machine K.rules records.items) }
+    pub fn new(alloc: Global, records: Vec<Record>) -> Result<Self, AllocError>
+        requires { IsSettled record_rules (first_world records.items) }
+        ensures { IfOk result (λ m. machine_of m ≡ first_machine record_rules records.items) }
     {
         let starters = starters(alloc, records.as_slice())?;
-        let mut machine = Machine::loaded(alloc, records, devices, owners)?;
+        let mut machine = Machine::loaded(alloc, records)?;
         machine.request_each(starters.as_slice())?;
         Ok(machine)
     }
-}
-
-impl<K: RecordKind> Machine<K> {
-    ghost use Rattle.ioc_events.specs.declared.event.Event.TheVariants.{Process, Put, Complete, Link as Link_event, Notify, Cancel};
-    ghost use Rattle.ioc_events.specs.Events.{reply_of};
-    ghost use Rattle.ioc_values.specs.Conversion.{input_of};
-    ghost use Rattle.ioc_machine.specs.Leads.{field_of_link};
-    ghost use Rattle.ioc_machine.specs.Machine.{stepped_on, done, with_ended_kept, with_sent, with_none_ended, notified, given_up};
-    ghost use Rattle.ioc_machine.specs.SeenMachine.{machine_of};
 
     /// The records.
-    pub fn map(&self) -> &OneMap<K, Scripted>
+    pub fn map(&self) -> &OneMap<Record, Scripted>
         ensures { result.now ≡ self.now.map }
     {
         &self.map
@@ -193,20 +139,20 @@ impl<K: RecordKind> Machine<K> {
 
     // Requests a record; what that sent is still to be done.
     fn request(&mut self, number: RecordNo) -> Effect
-        ensures machine { machine_of self.new ≡ (stepped_on K.rules (machine_of self.old) (Process number)).machine }
-        ensures reply { reply_of result ≡ (stepped_on K.rules (machine_of self.old) (Process number)).reply }
+        ensures machine { machine_of self.new ≡ (stepped_on record_rules (machine_of self.old) (Process number)).machine }
+        ensures reply { reply_of result ≡ (stepped_on record_rules (machine_of self.old) (Process number)).reply }
     {
-        event_leaves_settled::<K>();
+        event_leaves_settled();
         self.map.begin();
         make_request(&mut self.map, &mut self.frames, number, &mut self.tally)
     }
 
     // Puts what a text spells into a field; what that sent is still to be done.
     fn store(&mut self, number: RecordNo, field: FieldNo, text: &[u8]) -> Effect
-        ensures machine { machine_of self.new ≡ (stepped_on K.rules (machine_of self.old) (Put number field (input_of text.now))).machine }
-        ensures reply { reply_of result ≡ (stepped_on K.rules (machine_of self.old) (Put number field (input_of text.now))).reply }
+        ensures machine { machine_of self.new ≡ (stepped_on record_rules (machine_of self.old) (Put number field (input_of text.now))).machine }
+        ensures reply { reply_of result ≡ (stepped_on record_rules (machine_of self.old) (Put number field (input_of text.now))).reply }
     {
-        event_leaves_settled::<K>();
+        event_leaves_settled();
         self.map.begin();
         make_spelled_put(
             &mut self.map,
@@ -220,10 +166,10 @@ impl<K: RecordKind> Machine<K> {
 
     // The device of a record has answered at last; what that sent is still to be done.
     fn finish(&mut self, number: RecordNo, wait: u64, finished: Finished) -> Reply
-        ensures machine { machine_of self.new ≡ (stepped_on K.rules (machine_of self.old) (Complete number wait finished)).machine }
-        ensures reply { result ≡ (stepped_on K.rules (machine_of self.old) (Complete number wait finished)).reply }
+        ensures machine { machine_of self.new ≡ (stepped_on record_rules (machine_of self.old) (Complete number wait finished)).machine }
+        ensures reply { result ≡ (stepped_on record_rules (machine_of self.old) (Complete number wait finished)).reply }
     {
-        event_leaves_settled::<K>();
+        event_leaves_settled();
         self.map.begin();
         run_complete(
             &mut self.map,
@@ -238,11 +184,11 @@ impl<K: RecordKind> Machine<K> {
 
     // Gives a link field another link; what that sent is still to be done.
     fn relink(&mut self, number: RecordNo, field: FieldNo, link: KeptLink) -> Reply
-        ensures machine { machine_of self.new ≡ (stepped_on K.rules (machine_of self.old) (Link_event number field link)).machine }
-        ensures reply { result ≡ (stepped_on K.rules (machine_of self.old) (Link_event number field link)).reply }
+        ensures machine { machine_of self.new ≡ (stepped_on record_rules (machine_of self.old) (Link_event number field link)).machine }
+        ensures reply { result ≡ (stepped_on record_rules (machine_of self.old) (Link_event number field link)).reply }
     {
-        event_leaves_settled::<K>();
-        event_keeps_count::<K>();
+        event_leaves_settled();
+        event_keeps_count();
         self.map.begin();
         run_link(&mut self.map, number, field, link)
     }
@@ -255,10 +201,10 @@ impl<K: RecordKind> Machine<K> {
         field: FieldNo,
         given: Input,
     ) -> Reply
-        ensures machine { machine_of self.new ≡ (stepped_on K.rules (machine_of self.old) (Notify number notification field given)).machine }
-        ensures reply { result ≡ (stepped_on K.rules (machine_of self.old) (Notify number notification field given)).reply }
+        ensures machine { machine_of self.new ≡ (stepped_on record_rules (machine_of self.old) (Notify number notification field given)).machine }
+        ensures reply { result ≡ (stepped_on record_rules (machine_of self.old) (Notify number notification field given)).reply }
     {
-        event_leaves_settled::<K>();
+        event_leaves_settled();
         self.map.begin();
         run_notify(
             &mut self.map,
@@ -274,10 +220,10 @@ impl<K: RecordKind> Machine<K> {
 
     // A put with notification is given up; what that sent is still to be done.
     fn give_up(&mut self, notification: NotifyId) -> Reply
-        ensures machine { machine_of self.new ≡ (stepped_on K.rules (machine_of self.old) (Cancel notification)).machine }
-        ensures reply { result ≡ (stepped_on K.rules (machine_of self.old) (Cancel notification)).reply }
+        ensures machine { machine_of self.new ≡ (stepped_on record_rules (machine_of self.old) (Cancel notification)).machine }
+        ensures reply { result ≡ (stepped_on record_rules (machine_of self.old) (Cancel notification)).reply }
     {
-        event_leaves_settled::<K>();
+        event_leaves_settled();
         self.map.begin();
         run_cancel(
             &mut self.map,
@@ -315,8 +261,8 @@ impl<K: RecordKind> Machine<K> {
     ///
     /// [`AllocError`] where memory is wanting: what the event sent isn't all done then.
     pub fn process(&mut self, number: RecordNo) -> Result<Effect, AllocError>
-        ensures machine { OnOk result (machine_of self.new ≡ (done K.rules (machine_of self.old) (Process number)).machine) }
-        ensures reply { IfOk result (λ effect. reply_of effect ≡ (done K.rules (machine_of self.old) (Process number)).reply) }
+        ensures machine { OnOk result (machine_of self.new ≡ (done record_rules (machine_of self.old) (Process number)).machine) }
+        ensures reply { IfOk result (λ effect. reply_of effect ≡ (done record_rules (machine_of self.old) (Process number)).reply) }
     {
         let effect = self.request(number);
         self.send()?;
@@ -326,7 +272,7 @@ impl<K: RecordKind> Machine<K> {
     // Requests a record without telling what that came to.
     #[inline(never)]
     pub(crate) fn process_untold(&mut self, number: RecordNo) -> Result<(), AllocError>
-        ensures { OnOk result (machine_of self.new ≡ (done K.rules (machine_of self.old) (Process number)).machine) }
+        ensures { OnOk result (machine_of self.new ≡ (done record_rules (machine_of self.old) (Process number)).machine) }
     {
         let _effect = self.process(number)?;
         Ok(())
@@ -343,8 +289,8 @@ impl<K: RecordKind> Machine<K> {
         field: FieldNo,
         text: &[u8],
     ) -> Result<Effect, AllocError>
-        ensures machine { OnOk result (machine_of self.new ≡ (done K.rules (machine_of self.old) (Put number field (input_of text.now))).machine) }
-        ensures reply { IfOk result (λ effect. reply_of effect ≡ (done K.rules (machine_of self.old) (Put number field (input_of text.now))).reply) }
+        ensures machine { OnOk result (machine_of self.new ≡ (done record_rules (machine_of self.old) (Put number field (input_of text.now))).machine) }
+        ensures reply { IfOk result (λ effect. reply_of effect ≡ (done record_rules (machine_of self.old) (Put number field (input_of text.now))).reply) }
     {
         let effect = self.store(number, field, text);
         self.send()?;
@@ -362,8 +308,8 @@ impl<K: RecordKind> Machine<K> {
         wait: u64,
         finished: Finished,
     ) -> Result<Reply, AllocError>
-        ensures machine { OnOk result (machine_of self.new ≡ (done K.rules (machine_of self.old) (Complete number wait finished)).machine) }
-        ensures reply { IfOk result (λ reply. reply ≡ (done K.rules (machine_of self.old) (Complete number wait finished)).reply) }
+        ensures machine { OnOk result (machine_of self.new ≡ (done record_rules (machine_of self.old) (Complete number wait finished)).machine) }
+        ensures reply { IfOk result (λ reply. reply ≡ (done record_rules (machine_of self.old) (Complete number wait finished)).reply) }
     {
         let reply = self.finish(number, wait, finished);
         self.send()?;
@@ -382,8 +328,8 @@ impl<K: RecordKind> Machine<K> {
         field: FieldNo,
         link: &Link,
     ) -> Result<Reply, AllocError>
-        ensures machine { OnOk result (machine_of self.new ≡ (done K.rules (machine_of self.old) (Link_event number field (field_of_link K.rules names.now (machine_of self.old).owner (machine_of self.old).world number link.now))).machine) }
-        ensures reply { IfOk result (λ reply. reply ≡ (done K.rules (machine_of self.old) (Link_event number field (field_of_link K.rules names.now (machine_of self.old).owner (machine_of self.old).world number link.now))).reply) }
+        ensures machine { OnOk result (machine_of self.new ≡ (done record_rules (machine_of self.old) (Link_event number field (field_of_link record_rules names.now (machine_of self.old).owner (machine_of self.old).world number link.now))).machine) }
+        ensures reply { IfOk result (λ reply. reply ≡ (done record_rules (machine_of self.old) (Link_event number field (field_of_link record_rules names.now (machine_of self.old).owner (machine_of self.old).world number link.now))).reply) }
     {
         let lead = lead_among(names, &self.map, &self.owners, number, link);
         let kept = KeptLink::new(self.alloc, LinkField { link: *link, lead })?;
@@ -403,8 +349,8 @@ impl<K: RecordKind> Machine<K> {
         field: FieldNo,
         given: Input,
     ) -> Result<Reply, AllocError>
-        ensures machine { OnOk result (machine_of self.new ≡ (notified K.rules (machine_of self.old) number field given).machine) }
-        ensures reply { IfOk result (λ reply. reply ≡ (notified K.rules (machine_of self.old) number field given).reply) }
+        ensures machine { OnOk result (machine_of self.new ≡ (notified record_rules (machine_of self.old) number field given).machine) }
+        ensures reply { IfOk result (λ reply. reply ≡ (notified record_rules (machine_of self.old) number field given).reply) }
     {
         let reply = self.begin_notify(number, NotifyId::new(self.next), field, given);
         self.send()?;
@@ -420,8 +366,8 @@ impl<K: RecordKind> Machine<K> {
     ///
     /// [`AllocError`] where memory is wanting: what the event sent isn't all done then.
     pub fn cancel(&mut self, notification: NotifyId) -> Result<Reply, AllocError>
-        ensures machine { OnOk result (machine_of self.new ≡ (given_up K.rules (machine_of self.old) notification).machine) }
-        ensures reply { IfOk result (λ reply. reply ≡ (given_up K.rules (machine_of self.old) notification).reply) }
+        ensures machine { OnOk result (machine_of self.new ≡ (given_up record_rules (machine_of self.old) notification).machine) }
+        ensures reply { IfOk result (λ reply. reply ≡ (given_up record_rules (machine_of self.old) notification).reply) }
     {
         let reply = self.give_up(notification);
         self.send()?;

@@ -1,5 +1,6 @@
 //! The scan lists and the queues of a database.
 ghost use Rattle.std.specs.Prelude.{◌≡◌, ◌≤◌, ◌+◌, ◌∷◌, [], length, IfOk, OnOk};
+ghost use Rattle.ioc_types.specs.Record.{record_rules};
 ghost use Rattle.ioc_callback.specs.Serving.{no_items};
 ghost use Rattle.ioc_store.specs.Outbox.{items_of};
 ghost use Rattle.ioc_machine.specs.Scanner.{with_each_called, count_called, called_on, event_list, interrupt_list, with_change, with_item, with_items, with_more_dropped};

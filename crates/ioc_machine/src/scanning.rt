@@ -1,6 +1,7 @@
 //! What a script asks of a machine besides events: its parts, answers for its devices, the moment, and its scan lists.
 ghost use Rattle.std.specs.Prelude.{◌≡◌, map, IfOk, OnOk};
 ghost use Rattle.std.specs.FinMap.{len};
+ghost use Rattle.ioc_types.specs.Record.{record_rules};
 
 use crate::machine::Machine;
 use crate::sets::links_of;
@@ -8,12 +9,11 @@ use ioc_device::Answer;
 use ioc_events::Reply;
 use ioc_graph::parts_of_all;
 use ioc_names::RecordNo;
-use ioc_record::RecordKind;
 use ioc_scan::{ListName, Listed};
 use ioc_values::IocError;
 use std::alloc::AllocError;
 
-impl<K: RecordKind> Machine<K> {
+impl Machine {
     ghost use Rattle.std.specs.Prelude.{length};
     ghost use Rattle.ioc_machine.specs.Machine.{each_requested, queued_on, scanned, serve, most_served, queued_at, at_moment};
     ghost use Rattle.ioc_graph.specs.Members.{AreFirsts};
@@ -27,7 +27,7 @@ impl<K: RecordKind> Machine<K> {
     ///
     /// [`AllocError`] where memory is wanting.
     pub fn parts(&self) -> Result<Vec<usize>, AllocError>
-        ensures parts { IfOk result (λ numbers. numbers.items ≡ parts_of K.rules (machine_of self.now).world) }
+        ensures parts { IfOk result (λ numbers. numbers.items ≡ parts_of record_rules (machine_of self.now).world) }
         ensures firsts { IfOk result (λ numbers. AreFirsts numbers.items) }
         ensures all { IfOk result (λ numbers. length numbers.items ≡ length self.now.map.records.items) }
     {
@@ -78,7 +78,7 @@ impl<K: RecordKind> Machine<K> {
 
     // Requests each of these records, in order.
     pub(crate) fn request_each(&mut self, listed: &[Listed]) -> Result<(), AllocError>
-        ensures { OnOk result (machine_of self.new ≡ each_requested K.rules (machine_of self.old) listed.now) }
+        ensures { OnOk result (machine_of self.new ≡ each_requested record_rules (machine_of self.old) listed.now) }
     {
         let mut rest = listed;
         while let [item, others @ ..] = rest {
@@ -94,7 +94,7 @@ impl<K: RecordKind> Machine<K> {
     ///
     /// [`AllocError`] where memory is wanting.
     pub fn scan(&mut self, list: &ListName) -> Result<u64, AllocError>
-        ensures { IfOk result (λ count. record { machine = machine_of self.new; count = count } ≡ scanned K.rules (machine_of self.old) list.now) }
+        ensures { IfOk result (λ count. record { machine = machine_of self.new; count = count } ≡ scanned record_rules (machine_of self.old) list.now) }
     {
         let mut listed = Vec::new(self.alloc);
         self.scanner.walk(list, &mut listed)?;
@@ -108,7 +108,7 @@ impl<K: RecordKind> Machine<K> {
     ///
     /// [`AllocError`] where memory is wanting.
     pub fn serve(&mut self) -> Result<(), AllocError>
-        ensures { OnOk result (machine_of self.new ≡ serve K.rules most_served (machine_of self.old)) }
+        ensures { OnOk result (machine_of self.new ≡ serve record_rules most_served (machine_of self.old)) }
     {
         let mut turns = 1000u32;
         while turns > 0 {

@@ -3,6 +3,7 @@ ghost use Rattle.std.specs.Prelude.{◌≡◌, ◌++◌, ◌<◌, length, All, I
 ghost use Rattle.std.specs.List.{enumerate_from};
 ghost use Rattle.ioc_common.specs.Links.{named_by_field};
 ghost use Rattle.ioc_record.specs.RecordRules.{targets};
+ghost use Rattle.ioc_types.specs.Record.{record_rules};
 ghost use Rattle.ioc_machine.specs.Sets.{joined_to, joined_by};
 ghost use Rattle.std.specs.Prelude.{option_to_list};
 
@@ -10,11 +11,12 @@ use ioc_fields::FieldNo;
 use ioc_graph::Edge;
 use ioc_names::RecordNo;
 use ioc_record::RecordKind;
+use ioc_types::Record;
 use std::alloc::{AllocError, Global};
 
 // The record that a link field names, if its link stands.
-fn target_of<K: RecordKind>(record: &K, field: FieldNo) -> Option<RecordNo>
-    ensures { option_to_list result ≡ named_by_field (K.rules.link record.now field) }
+fn target_of(record: &Record, field: FieldNo) -> Option<RecordNo>
+    ensures { option_to_list result ≡ named_by_field (record_rules.link record.now field) }
 {
     match record.link(field) {
         Some(link) => link.record_named(),
@@ -23,12 +25,8 @@ fn target_of<K: RecordKind>(record: &K, field: FieldNo) -> Option<RecordNo>
 }
 
 // Adds what the standing links of a record join.
-fn add_links<K: RecordKind>(
-    edges: &mut Vec<Edge>,
-    number: RecordNo,
-    record: &K,
-) -> Result<(), AllocError>
-    ensures { OnOk result (edges.new.items ≡ edges.old.items ++ joined_to number (targets K.rules record.now)) }
+fn add_links(edges: &mut Vec<Edge>, number: RecordNo, record: &Record) -> Result<(), AllocError>
+    ensures { OnOk result (edges.new.items ≡ edges.old.items ++ joined_to number (targets record_rules record.now)) }
 {
     let mut rest = record.link_fields();
     while let [field, others @ ..] = rest {
@@ -48,8 +46,8 @@ fn add_links<K: RecordKind>(
 /// # Errors
 ///
 /// [`AllocError`] where memory is wanting.
-pub fn links_of<K: RecordKind>(alloc: Global, records: &[K]) -> Result<Vec<Edge>, AllocError>
-    ensures { IfOk result (λ edges. edges.items ≡ joined_by K.rules (enumerate_from 0 records.now)) }
+pub fn links_of(alloc: Global, records: &[Record]) -> Result<Vec<Edge>, AllocError>
+    ensures { IfOk result (λ edges. edges.items ≡ joined_by record_rules (enumerate_from 0 records.now)) }
 {
     let mut edges = Vec::new(alloc);
     let mut rest = records;

@@ -1,4 +1,5 @@
 //! What an event leaves of a database.
+ghost use Rattle.ioc_types.specs.Record.{Record, record_rules};
 ghost use Rattle.std.specs.Prelude.{◌≡◌};
 ghost use Rattle.std.specs.FinMap.{len};
 ghost use Rattle.ioc_store.specs.World.{World, IsClosed};
@@ -8,21 +9,21 @@ ghost use Rattle.ioc_events.specs.Step.{stepped};
 ghost use Rattle.ioc_store.specs.Given.{Answers};
 
 use ioc_events::event_rules::{events_keep_records, events_leave_settled, rules_are_steps};
-use ioc_record::RecordKind;
+use ioc_types::Record;
 
-/// An event leaves a database so that no link leaves it and a record is active exactly where its completion
+/// An event leaves a database of this program so that no link leaves it and a record is active exactly where its completion
 /// is pending, if it was so before.
-pub fn event_leaves_settled<K: RecordKind>()
-    ensures { (answers : Answers) (w : World K) (event : Event) → IsSettled K.rules w → IsSettled K.rules (stepped K.rules answers w event).world }
+pub fn event_leaves_settled()
+    ensures { (answers : Answers) (w : World Record) (event : Event) → IsSettled record_rules w → IsSettled record_rules (stepped record_rules answers w event).world }
 {
-    events_leave_settled::<K>();
-    rules_are_steps::<K>();
+    events_leave_settled::<Record>();
+    rules_are_steps::<Record>();
 }
 
 /// An event leaves as many records as there were.
-pub fn event_keeps_count<K: RecordKind>()
-    ensures { (answers : Answers) (w : World K) (event : Event) → IsClosed K.rules w → len (stepped K.rules answers w event).world.records ≡ len w.records }
+pub fn event_keeps_count()
+    ensures { (answers : Answers) (w : World Record) (event : Event) → IsClosed record_rules w → len (stepped record_rules answers w event).world.records ≡ len w.records }
 {
-    events_keep_records::<K>();
-    rules_are_steps::<K>();
+    events_keep_records::<Record>();
+    rules_are_steps::<Record>();
 }

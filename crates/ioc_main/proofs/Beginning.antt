@@ -20,32 +20,30 @@ use Rattle.ioc_main.specs.Replay.{transcript}
 use Rattle.ioc_main.specs.Written.{WritesFront, WritesPart, StopsScript}
 use Rattle.ioc_main.specs.Transcript.{loaded, transcript_by, transcript_of, IsDatabase, in_the_load, in_a_line, StopsWith}
 
--- the database of a text is printed as its transcript
-pub begins : (macros : List Defined) (text : List ℕ) (database : Loading Record) (names : NameTable) (machine : Machine Record)
-    → loaded macros text ≡ Ok database → names ≡ database.names → machine ≡ first_machine record_rules database.records
-    → (given : List ℕ) → transcript record_rules names machine (lines_of given) ≡ transcript_of macros text given
-unfolding transcript_of
-begins macros text database names machine reads named is given =
-    ap (λ (n : NameTable). transcript record_rules n machine (lines_of given)) named
-    ∙ ap (λ (m : Machine Record). transcript record_rules database.names m (lines_of given)) is ∙ sym (ap (λ x. transcript_by x given) reads)
+module _ (macros : List Defined) (text : List ℕ) (database : Loading Record) (names : NameTable) (machine : Machine Record)
+    (reads : loaded macros text ≡ Ok database) (named : names ≡ database.names) (is : machine ≡ first_machine record_rules database.records) where
+  begins : (given : List ℕ) → transcript_of macros text given ≡ transcript record_rules names machine (lines_of given)
+  unfolding transcript_of
+  begins given =
+      ap (λ x. transcript_by x given) reads ∙ ap (λ (m : Machine Record). transcript record_rules database.names m (lines_of given)) (sym is)
+      ∙ ap (λ (n : NameTable). transcript record_rules n machine (lines_of given)) (sym named)
 
-module _ (macros : List Defined) (text : List ℕ) (told : List (List ℕ) → List ℕ) (database : IsDatabase macros text) (same : (given : List ℕ) → told (lines_of given) ≡ transcript_of macros text given) where
-  pub runs_whole : (a w v : Option (List ℕ)) → IfSome a (λ given. Appends w v (told (lines_of given))) → IsDatabase macros text × IfSome a (λ given. Appends w v (transcript_of macros text given))
-  runs_whole None w v p = (database, tt)
-  runs_whole (Some given) w v p = (database, subst (λ (l : List ℕ). Appends w v l) (same given) p)
+  pub runs_whole : (a w v : Option (List ℕ)) → IfSome a (λ given. Appends w v (transcript record_rules names machine (lines_of given))) → IsDatabase macros text × IfSome a (λ given. Appends w v (transcript_of macros text given))
+  runs_whole None w v p = ((database, reads), tt)
+  runs_whole (Some given) w v p = ((database, reads), subst (λ (l : List ℕ). Appends w v l) (sym (begins given)) p)
 
-  front : (a w v : Option (List ℕ)) → IfSome a (λ given. WritesFront w (told (lines_of given)) v) → IfSome a (λ given. WritesFront w (transcript_of macros text given) v)
+  front : (a w v : Option (List ℕ)) → IfSome a (λ given. WritesFront w (transcript record_rules names machine (lines_of given)) v) → IfSome a (λ given. WritesFront w (transcript_of macros text given) v)
   front None w v p = tt
-  front (Some given) w v p = subst (λ (l : List ℕ). WritesFront w l v) (same given) p
+  front (Some given) w v p = subst (λ (l : List ℕ). WritesFront w l v) (sym (begins given)) p
 
-  part : (a w v : Option (List ℕ)) → IfSome a (λ given. WritesPart w (told (lines_of given)) v) → IfSome a (λ given. WritesPart w (transcript_of macros text given) v)
+  part : (a w v : Option (List ℕ)) → IfSome a (λ given. WritesPart w (transcript record_rules names machine (lines_of given)) v) → IfSome a (λ given. WritesPart w (transcript_of macros text given) v)
   part None w v p = tt
-  part (Some given) w v p = subst (λ (l : List ℕ). WritesPart w l v) (same given) p
+  part (Some given) w v p = subst (λ (l : List ℕ). WritesPart w l v) (sym (begins given)) p
 
-  pub runs_stop : (fault : ScriptFault) (a w v : Option (List ℕ)) → IfSome a (λ given. StopsScript fault w (told (lines_of given)) v) → StopsWith (run_fault_of fault) macros text a w v
-  runs_stop script.Read a w v p = (database, front a w v p)
-  runs_stop script.Write a w v p = (database, part a w v p)
-  runs_stop script.Memory a w v p = in_a_line database (front a w v p)
+  pub runs_stop : (fault : ScriptFault) (a w v : Option (List ℕ)) → IfSome a (λ given. StopsScript fault w (transcript record_rules names machine (lines_of given)) v) → StopsWith (run_fault_of fault) macros text a w v
+  runs_stop script.Read a w v p = ((database, reads), front a w v p)
+  runs_stop script.Write a w v p = ((database, reads), part a w v p)
+  runs_stop script.Memory a w v p = in_a_line (database, reads) (front a w v p)
 
 keeps_same : (w : Option (List ℕ)) → Keeps w w
 keeps_same None = tt

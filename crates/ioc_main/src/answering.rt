@@ -1,68 +1,67 @@
 //! How a line of a script is answered.
-ghost use Rattle.std.specs.Prelude.{◌≡◌, ◌≤◌, ◌+◌, ◌++◌, [], length, IfOk, OnOk, OnErr};
+ghost use Rattle.std.specs.Prelude.{◌≡◌, ◌≤◌, ◌+◌, ◌++◌, [], false, length, IsTrue, IfOk, OnOk, OnErr};
+ghost use Rattle.ioc_types.specs.Record.{record_rules};
 ghost use Rattle.ioc_machine.specs.Machine.{with_none_ended};
 ghost use Rattle.ioc_machine.specs.SeenMachine.{machine_of};
 ghost use Rattle.ioc_main.specs.Replay.{carried_out, answered, attended, ended_lines};
-ghost use Rattle.ioc_script.specs.Script.{command_of, is_silent, put_of, before, behind};
+ghost use Rattle.ioc_script.specs.Script.{Sets, command_of, is_silent, put_of, before, behind};
 ghost use Rattle.ioc_script.specs.Seen.{seen};
 ghost use Rattle.ioc_main.specs.Coming.{Stands};
 
 use crate::replay::Replay;
 use crate::session::{Replies, Said, Session};
 use ioc_device::Answer;
-use ioc_record::RecordKind;
 use ioc_script::{Command, ended_line, split_before, words_of_put};
 use ioc_values::Finished;
 use std::alloc::AllocError;
 
-impl<K: RecordKind> Replay<K> {
+impl Replay {
+    // Does what a line asks for, and says it, where that fits among the replies: all but what is said of the sets, which is not done then.
+    #[tactic(auto, unfolding(crate::specs::Replay::carried_out))]
+    fn reply_to(&mut self, command: &Command<'_>, replies: &mut Replies) -> Result<bool, AllocError>
+        requires { length replies.old + 256 ≤ 4096 }
+        ensures names { self.new.names ≡ self.old.names }
+        ensures machine { IfOk result (λ fits. IsTrue fits → machine_of self.new.machine ≡ (carried_out record_rules self.old.names (machine_of self.old.machine) (seen command.now)).machine) }
+        ensures said { IfOk result (λ fits. IsTrue fits → replies.new ≡ replies.old ++ (carried_out record_rules self.old.names (machine_of self.old.machine) (seen command.now)).said) }
+        ensures sets { IfOk result (λ fits. fits ≡ false → (seen command.now ≡ Sets) × (machine_of self.new.machine ≡ machine_of self.old.machine) × (replies.new ≡ replies.old)) }
+        ensures kept { OnErr result (replies.new ≡ replies.old) }
+    {
+        match *command {
+            Command::Silent => {}
+            Command::Bad => replies.extend(b"bad\n"),
+            Command::Process(record) => self.process(record, replies)?,
+            Command::Put(record, field, text) => self.put(record, field, text, replies)?,
+            Command::Get(record, field) => self.get(record, field, replies),
+            Command::At(moment) => self.begin_at(moment, replies),
+            Command::NextDone(record, text) => self.queue_done(record, text, replies)?,
+            Command::NextFault(record) => self.queue(record, Answer::Fault, replies)?,
+            Command::NextLater(record) => self.queue(record, Answer::Later, replies)?,
+            Command::Done(record, wait, text) => self.complete_done(record, wait, text, replies)?,
+            Command::Fault(record, wait) => self.complete(record, wait, Finished::Fault, replies)?,
+            Command::Event(name) => self.post(name, replies)?,
+            Command::Interrupt(word) => self.interrupt(word, replies)?,
+            Command::Scan(period) => self.scan(&period, replies)?,
+            Command::Link(record, field, text) => self.link(record, field, text, replies)?,
+            Command::Tally => self.tally(replies),
+            Command::Notify(record, field, text) => self.notify(record, field, text, replies)?,
+            Command::Cancel(number) => self.cancel(number, replies)?,
+            Command::Sets => return Ok(false),
+        }
+        Ok(true)
+    }
+
     // Does what a line asks for, and says it.
     #[tactic(auto, unfolding(crate::specs::Replay::carried_out), using(crate::proofs::Getting::said_shortly, crate::proofs::Getting::stands_before, crate::proofs::Getting::stands_alone))]
     fn carry_out(&mut self, command: &Command<'_>, said: &mut Said) -> Result<(), AllocError>
         requires room { length said.old.replies + 256 ≤ 4096 }
         requires none { said.old.more.items ≡ [] }
         ensures names { self.new.names ≡ self.old.names }
-        ensures machine { OnOk result (machine_of self.new.machine ≡ (carried_out K.rules self.old.names (machine_of self.old.machine) (seen command.now)).machine) }
-        ensures said { OnOk result (said.new.replies ++ said.new.more.items ≡ said.old.replies ++ (carried_out K.rules self.old.names (machine_of self.old.machine) (seen command.now)).said) }
+        ensures machine { OnOk result (machine_of self.new.machine ≡ (carried_out record_rules self.old.names (machine_of self.old.machine) (seen command.now)).machine) }
+        ensures said { OnOk result (said.new.replies ++ said.new.more.items ≡ said.old.replies ++ (carried_out record_rules self.old.names (machine_of self.old.machine) (seen command.now)).said) }
         ensures stands { Stands said.old.replies said.new.replies }
     {
-        match *command {
-            Command::Silent => {}
-            Command::Bad => said.replies.extend(b"bad\n"),
-            Command::Process(record) => self.process(record, &mut said.replies)?,
-            Command::Put(record, field, text) => self.put(record, field, text, &mut said.replies)?,
-            Command::Get(record, field) => self.get(record, field, &mut said.replies),
-            Command::At(moment) => self.begin_at(moment, &mut said.replies),
-            Command::NextDone(record, text) => self.queue_done(record, text, &mut said.replies)?,
-            Command::NextFault(record) => self.queue(record, Answer::Fault, &mut said.replies)?,
-            Command::NextLater(record) => self.queue(record, Answer::Later, &mut said.replies)?,
-            Command::Done(record, wait, text) => self.complete_done(
-                record,
-                wait,
-                text,
-                &mut said.replies,
-            )?,
-            Command::Fault(record, wait) => self.complete(
-                record,
-                wait,
-                Finished::Fault,
-                &mut said.replies,
-            )?,
-            Command::Event(name) => self.post(name, &mut said.replies)?,
-            Command::Interrupt(word) => self.interrupt(word, &mut said.replies)?,
-            Command::Scan(period) => self.scan(&period, &mut said.replies)?,
-            Command::Link(record, field, text) => {
-                self.link(record, field, text, &mut said.replies)?;
-            }
-            Command::Tally => self.tally(&mut said.replies),
-            Command::Notify(record, field, text) => self.notify(
-                record,
-                field,
-                text,
-                &mut said.replies,
-            )?,
-            Command::Cancel(number) => self.cancel(number, &mut said.replies)?,
-            Command::Sets => self.sets(&mut said.more)?,
+        if !self.reply_to(command, &mut said.replies)? {
+            self.sets(&mut said.more)?;
         }
         Ok(())
     }
@@ -73,8 +72,8 @@ impl<K: RecordKind> Replay<K> {
     fn put_words(&mut self, words: &[u8], replies: &mut Replies) -> Result<(), AllocError>
         requires { length replies.old + 256 ≤ 4096 }
         ensures names { self.new.names ≡ self.old.names }
-        ensures machine { OnOk result (machine_of self.new.machine ≡ (carried_out K.rules self.old.names (machine_of self.old.machine) (put_of (before 32 words.now) (behind 32 words.now))).machine) }
-        ensures said { OnOk result (replies.new ≡ replies.old ++ (carried_out K.rules self.old.names (machine_of self.old.machine) (put_of (before 32 words.now) (behind 32 words.now))).said) }
+        ensures machine { OnOk result (machine_of self.new.machine ≡ (carried_out record_rules self.old.names (machine_of self.old.machine) (put_of (before 32 words.now) (behind 32 words.now))).machine) }
+        ensures said { OnOk result (replies.new ≡ replies.old ++ (carried_out record_rules self.old.names (machine_of self.old.machine) (put_of (before 32 words.now) (behind 32 words.now))).said) }
         ensures kept { OnErr result (replies.new ≡ replies.old) }
     {
         let (word, rest) = split_before(words, b' ');
@@ -97,8 +96,8 @@ impl<K: RecordKind> Replay<K> {
         requires none { said.old.more.items ≡ [] }
         ensures silent { IfOk result (λ silent. silent ≡ is_silent (command_of line.now)) }
         ensures names { self.new.names ≡ self.old.names }
-        ensures machine { OnOk result (machine_of self.new.machine ≡ (carried_out K.rules self.old.names (machine_of self.old.machine) (command_of line.now)).machine) }
-        ensures said { OnOk result (said.new.replies ++ said.new.more.items ≡ said.old.replies ++ (carried_out K.rules self.old.names (machine_of self.old.machine) (command_of line.now)).said) }
+        ensures machine { OnOk result (machine_of self.new.machine ≡ (carried_out record_rules self.old.names (machine_of self.old.machine) (command_of line.now)).machine) }
+        ensures said { OnOk result (said.new.replies ++ said.new.more.items ≡ said.old.replies ++ (carried_out record_rules self.old.names (machine_of self.old.machine) (command_of line.now)).said) }
         ensures stands { Stands said.old.replies said.new.replies }
     {
         let command = Command::from_line(line);
@@ -114,8 +113,8 @@ impl<K: RecordKind> Replay<K> {
         requires none { said.old.more.items ≡ [] }
         ensures silent { IfOk result (λ silent. silent ≡ is_silent (command_of line.now)) }
         ensures names { self.new.names ≡ self.old.names }
-        ensures machine { OnOk result (machine_of self.new.machine ≡ (carried_out K.rules self.old.names (machine_of self.old.machine) (command_of line.now)).machine) }
-        ensures said { OnOk result (said.new.replies ++ said.new.more.items ≡ said.old.replies ++ (carried_out K.rules self.old.names (machine_of self.old.machine) (command_of line.now)).said) }
+        ensures machine { OnOk result (machine_of self.new.machine ≡ (carried_out record_rules self.old.names (machine_of self.old.machine) (command_of line.now)).machine) }
+        ensures said { OnOk result (said.new.replies ++ said.new.more.items ≡ said.old.replies ++ (carried_out record_rules self.old.names (machine_of self.old.machine) (command_of line.now)).said) }
         ensures stands { Stands said.old.replies said.new.replies }
     {
         match words_of_put(line) {
@@ -161,15 +160,15 @@ impl<K: RecordKind> Replay<K> {
     #[tactic(auto, unfolding(crate::specs::Replay::attended))]
     fn attend(&mut self, more: &mut Vec<u8>) -> Result<(), AllocError>
         ensures names { self.new.names ≡ self.old.names }
-        ensures machine { OnOk result (machine_of self.new.machine ≡ (attended K.rules (machine_of self.old.machine)).machine) }
-        ensures said { OnOk result (more.new.items ≡ more.old.items ++ (attended K.rules (machine_of self.old.machine)).said) }
+        ensures machine { OnOk result (machine_of self.new.machine ≡ (attended record_rules (machine_of self.old.machine)).machine) }
+        ensures said { OnOk result (more.new.items ≡ more.old.items ++ (attended record_rules (machine_of self.old.machine)).said) }
     {
         self.machine.serve()?;
         self.tell_ended(more)
     }
 }
 
-impl<K: RecordKind> Session for Replay<K> {
+impl Session for Replay {
     ghost use Rattle.ioc_main.specs.ReplayLaws.{no-lines, long-lines, printed};
 
     ghost transcript = { printed };

@@ -1,5 +1,6 @@
 //! The fields that lines of a script name.
 ghost use Rattle.std.specs.Prelude.{◌≡◌, IsSome, IfOk, OnOk};
+ghost use Rattle.ioc_types.specs.Record.{record_rules};
 ghost use Rattle.ioc_fields.specs.Table.{row_of, kind_of};
 ghost use Rattle.ioc_store.specs.World.{Has, at};
 ghost use Rattle.ioc_machine.specs.SeenMachine.{machine_of};
@@ -23,14 +24,14 @@ use std::alloc::AllocError;
 /// [`IocError::NoRecord`] or [`IocError::NoField`] in this order, where there is no such record or field.
 #[inline(always)]
 #[tactic(auto, unfolding(crate::specs::Replay::channel))]
-pub fn channel<K: RecordKind>(
+pub fn channel(
     names: &Names,
-    machine: &Machine<K>,
+    machine: &Machine,
     record_name: &[u8],
     field_name: &[u8],
 ) -> Result<(RecordNo, FieldNo), IocError>
-    ensures value { result ≡ channel K.rules names.now (machine_of machine.now).world record_name.now field_name.now }
-    ensures there { IfOk result (λ c. Has (machine_of machine.now).world c.0 × IsSome (row_of (K.rules.record_type (at K.rules (machine_of machine.now).world c.0)) c.1)) }
+    ensures value { result ≡ channel record_rules names.now (machine_of machine.now).world record_name.now field_name.now }
+    ensures there { IfOk result (λ c. Has (machine_of machine.now).world c.0 × IsSome (row_of (record_rules.record_type (at record_rules (machine_of machine.now).world c.0)) c.1)) }
 {
     let Some(number) = names.find(record_name) else {
         return Err(IocError::NoRecord);
@@ -52,16 +53,16 @@ pub fn channel<K: RecordKind>(
 /// # Errors
 ///
 /// [`AllocError`] where memory is wanting.
-pub fn relink<K: RecordKind>(
+pub fn relink(
     names: &Names,
-    machine: &mut Machine<K>,
+    machine: &mut Machine,
     number: RecordNo,
     field: FieldNo,
     text: &[u8],
 ) -> Result<Reply, AllocError>
     requires { Has (machine_of machine.old).world number }
-    ensures machine { OnOk result (machine_of machine.new ≡ (linked_in K.rules names.now (machine_of machine.old) number field text.now (kind_of (K.rules.record_type (at K.rules (machine_of machine.old).world number)) field)).machine) }
-    ensures reply { IfOk result (λ reply. reply ≡ (linked_in K.rules names.now (machine_of machine.old) number field text.now (kind_of (K.rules.record_type (at K.rules (machine_of machine.old).world number)) field)).reply) }
+    ensures machine { OnOk result (machine_of machine.new ≡ (linked_in record_rules names.now (machine_of machine.old) number field text.now (kind_of (record_rules.record_type (at record_rules (machine_of machine.old).world number)) field)).machine) }
+    ensures reply { IfOk result (λ reply. reply ≡ (linked_in record_rules names.now (machine_of machine.old) number field text.now (kind_of (record_rules.record_type (at record_rules (machine_of machine.old).world number)) field)).reply) }
 {
     let item = machine.map().record(number);
     let Some(FieldKind::Link(role)) = kind_of(item.record_type(), field) else {

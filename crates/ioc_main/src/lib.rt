@@ -7,7 +7,6 @@ mod ending;
 mod fault;
 mod fields;
 mod lines;
-mod loading;
 mod replay;
 mod runs;
 mod session;

@@ -15,7 +15,6 @@ ghost use Rattle.ioc_main.specs.Relink.{were_linked};
 ghost use Rattle.ioc_main.specs.Sets.{sets_line};
 
 use crate::fields::{channel, relink};
-use crate::loading::machine_of;
 use crate::session::Replies;
 use crate::sets::say_sets;
 use ioc_device::Answer;
@@ -23,7 +22,7 @@ use ioc_fields::FieldNo;
 use ioc_machine::{Machine, event_list, interrupt_list};
 use ioc_names::Names;
 use ioc_notify::NotifyId;
-use ioc_record::{RecordKind, add_text};
+use ioc_record::add_text;
 use ioc_scan::{ListName, Period};
 use ioc_script::{count_line, say_effect, say_refusal, say_reply, tally_line};
 use ioc_store::Store;
@@ -33,9 +32,9 @@ use std::alloc::{AllocError, Global};
 
 /// A loaded database, to which a script is done.
 #[derive(Drop)]
-pub struct Replay<K: RecordKind> {
+pub struct Replay {
     pub(crate) names: Names,
-    pub(crate) machine: Machine<K>,
+    pub(crate) machine: Machine,
     pub(crate) alloc: Global,
 }
 
@@ -47,16 +46,16 @@ fn given_value(text: &[u8]) -> Value
 }
 
 // Says the text of a field in a line behind others.
-fn say_shown<K: RecordKind>(replies: &mut Replies, item: &K, field: FieldNo)
+fn say_shown(replies: &mut Replies, item: &Record, field: FieldNo)
     requires { length replies.old + 256 ≤ 4096 }
-    ensures { replies.new ≡ replies.old ++ (codes "= " ++ text_of K.rules item.now field) ++ 10 ∷ [] }
+    ensures { replies.new ≡ replies.old ++ (codes "= " ++ text_of record_rules item.now field) ++ 10 ∷ [] }
 {
     replies.extend(b"= ");
     add_text(replies, item, field);
     replies.push(b'\n');
 }
 
-impl Replay<Record> {
+impl Replay {
     /// A database of these names and records. All room that events want is taken here: of the lines of a script, those that
     /// queue an answer, walk a scan list or put a record on another want memory.
     ///
@@ -68,24 +67,22 @@ impl Replay<Record> {
         ensures names { IfOk result (λ r. r.names ≡ names) }
         ensures machine { IfOk result (λ r. machine_of r.machine ≡ first_machine record_rules records.items) }
     {
-        let machine = machine_of(alloc, records)?;
+        let machine = Machine::new(alloc, records)?;
         Ok(Replay {
             names,
             machine,
             alloc,
         })
     }
-}
 
-impl<K: RecordKind> Replay<K> {
     // What follows says its reply where it is wanted. None of it is inlined, so that what one command has in hand isn't cleared
     // for the others.
     #[inline(never)]
     pub(crate) fn process(&mut self, name: &[u8], replies: &mut Replies) -> Result<(), AllocError>
         requires { length replies.old + 256 ≤ 4096 }
         ensures names { self.new.names ≡ self.old.names }
-        ensures machine { OnOk result (machine_of self.new.machine ≡ (processed K.rules self.old.names (machine_of self.old.machine) (number_of self.old.names name.now)).machine) }
-        ensures said { OnOk result (replies.new ≡ replies.old ++ reply_words (processed K.rules self.old.names (machine_of self.old.machine) (number_of self.old.names name.now)).reply ++ 10 ∷ []) }
+        ensures machine { OnOk result (machine_of self.new.machine ≡ (processed record_rules self.old.names (machine_of self.old.machine) (number_of self.old.names name.now)).machine) }
+        ensures said { OnOk result (replies.new ≡ replies.old ++ reply_words (processed record_rules self.old.names (machine_of self.old.machine) (number_of self.old.names name.now)).reply ++ 10 ∷ []) }
         ensures kept { OnErr result (replies.new ≡ replies.old) }
     {
         match self.names.find(name) {
@@ -100,7 +97,7 @@ impl<K: RecordKind> Replay<K> {
     #[tactic(auto, using(crate::proofs::Getting::shown_there))]
     pub(crate) fn get(&self, record_name: &[u8], field_name: &[u8], replies: &mut Replies)
         requires { length replies.old + 256 ≤ 4096 }
-        ensures { replies.new ≡ replies.old ++ reply_words (got K.rules self.now.names (machine_of self.now.machine) (channel K.rules self.now.names (machine_of self.now.machine).world record_name.now field_name.now)).reply ++ 10 ∷ [] }
+        ensures { replies.new ≡ replies.old ++ reply_words (got record_rules self.now.names (machine_of self.now.machine) (channel record_rules self.now.names (machine_of self.now.machine).world record_name.now field_name.now)).reply ++ 10 ∷ [] }
     {
         match channel(&self.names, &self.machine, record_name, field_name) {
             Ok((number, field)) => say_shown(replies, self.machine.map().record(number), field),
@@ -118,8 +115,8 @@ impl<K: RecordKind> Replay<K> {
     ) -> Result<(), AllocError>
         requires { length replies.old + 256 ≤ 4096 }
         ensures names { self.new.names ≡ self.old.names }
-        ensures machine { OnOk result (machine_of self.new.machine ≡ (were_put K.rules self.old.names (machine_of self.old.machine) text.now (channel K.rules self.old.names (machine_of self.old.machine).world record_name.now field_name.now)).machine) }
-        ensures said { OnOk result (replies.new ≡ replies.old ++ reply_words (were_put K.rules self.old.names (machine_of self.old.machine) text.now (channel K.rules self.old.names (machine_of self.old.machine).world record_name.now field_name.now)).reply ++ 10 ∷ []) }
+        ensures machine { OnOk result (machine_of self.new.machine ≡ (were_put record_rules self.old.names (machine_of self.old.machine) text.now (channel record_rules self.old.names (machine_of self.old.machine).world record_name.now field_name.now)).machine) }
+        ensures said { OnOk result (replies.new ≡ replies.old ++ reply_words (were_put record_rules self.old.names (machine_of self.old.machine) text.now (channel record_rules self.old.names (machine_of self.old.machine).world record_name.now field_name.now)).reply ++ 10 ∷ []) }
         ensures kept { OnErr result (replies.new ≡ replies.old) }
     {
         match channel(&self.names, &self.machine, record_name, field_name) {
@@ -140,8 +137,8 @@ impl<K: RecordKind> Replay<K> {
     ) -> Result<(), AllocError>
         requires { length replies.old + 256 ≤ 4096 }
         ensures names { self.new.names ≡ self.old.names }
-        ensures machine { OnOk result (machine_of self.new.machine ≡ (answers_next K.rules self.old.names (machine_of self.old.machine) answer (number_of self.old.names name.now)).machine) }
-        ensures said { OnOk result (replies.new ≡ replies.old ++ reply_words (answers_next K.rules self.old.names (machine_of self.old.machine) answer (number_of self.old.names name.now)).reply ++ 10 ∷ []) }
+        ensures machine { OnOk result (machine_of self.new.machine ≡ (answers_next record_rules self.old.names (machine_of self.old.machine) answer (number_of self.old.names name.now)).machine) }
+        ensures said { OnOk result (replies.new ≡ replies.old ++ reply_words (answers_next record_rules self.old.names (machine_of self.old.machine) answer (number_of self.old.names name.now)).reply ++ 10 ∷ []) }
         ensures kept { OnErr result (replies.new ≡ replies.old) }
     {
         match self.names.find(name) {
@@ -160,8 +157,8 @@ impl<K: RecordKind> Replay<K> {
     ) -> Result<(), AllocError>
         requires { length replies.old + 256 ≤ 4096 }
         ensures names { self.new.names ≡ self.old.names }
-        ensures machine { OnOk result (machine_of self.new.machine ≡ (answers_next K.rules self.old.names (machine_of self.old.machine) (Answer.Done (given_value text.now)) (number_of self.old.names name.now)).machine) }
-        ensures said { OnOk result (replies.new ≡ replies.old ++ reply_words (answers_next K.rules self.old.names (machine_of self.old.machine) (Answer.Done (given_value text.now)) (number_of self.old.names name.now)).reply ++ 10 ∷ []) }
+        ensures machine { OnOk result (machine_of self.new.machine ≡ (answers_next record_rules self.old.names (machine_of self.old.machine) (Answer.Done (given_value text.now)) (number_of self.old.names name.now)).machine) }
+        ensures said { OnOk result (replies.new ≡ replies.old ++ reply_words (answers_next record_rules self.old.names (machine_of self.old.machine) (Answer.Done (given_value text.now)) (number_of self.old.names name.now)).reply ++ 10 ∷ []) }
         ensures kept { OnErr result (replies.new ≡ replies.old) }
     {
         self.queue(name, Answer::Done(given_value(text)), replies)
@@ -177,8 +174,8 @@ impl<K: RecordKind> Replay<K> {
     ) -> Result<(), AllocError>
         requires { length replies.old + 256 ≤ 4096 }
         ensures names { self.new.names ≡ self.old.names }
-        ensures machine { OnOk result (machine_of self.new.machine ≡ (were_completed K.rules self.old.names (machine_of self.old.machine) wait finished (number_of self.old.names name.now)).machine) }
-        ensures said { OnOk result (replies.new ≡ replies.old ++ reply_words (were_completed K.rules self.old.names (machine_of self.old.machine) wait finished (number_of self.old.names name.now)).reply ++ 10 ∷ []) }
+        ensures machine { OnOk result (machine_of self.new.machine ≡ (were_completed record_rules self.old.names (machine_of self.old.machine) wait finished (number_of self.old.names name.now)).machine) }
+        ensures said { OnOk result (replies.new ≡ replies.old ++ reply_words (were_completed record_rules self.old.names (machine_of self.old.machine) wait finished (number_of self.old.names name.now)).reply ++ 10 ∷ []) }
         ensures kept { OnErr result (replies.new ≡ replies.old) }
     {
         match self.names.find(name) {
@@ -198,8 +195,8 @@ impl<K: RecordKind> Replay<K> {
     ) -> Result<(), AllocError>
         requires { length replies.old + 256 ≤ 4096 }
         ensures names { self.new.names ≡ self.old.names }
-        ensures machine { OnOk result (machine_of self.new.machine ≡ (were_completed K.rules self.old.names (machine_of self.old.machine) wait (Finished.Done (given_value text.now)) (number_of self.old.names name.now)).machine) }
-        ensures said { OnOk result (replies.new ≡ replies.old ++ reply_words (were_completed K.rules self.old.names (machine_of self.old.machine) wait (Finished.Done (given_value text.now)) (number_of self.old.names name.now)).reply ++ 10 ∷ []) }
+        ensures machine { OnOk result (machine_of self.new.machine ≡ (were_completed record_rules self.old.names (machine_of self.old.machine) wait (Finished.Done (given_value text.now)) (number_of self.old.names name.now)).machine) }
+        ensures said { OnOk result (replies.new ≡ replies.old ++ reply_words (were_completed record_rules self.old.names (machine_of self.old.machine) wait (Finished.Done (given_value text.now)) (number_of self.old.names name.now)).reply ++ 10 ∷ []) }
         ensures kept { OnErr result (replies.new ≡ replies.old) }
     {
         self.complete(name, wait, Finished::Done(given_value(text)), replies)
@@ -222,8 +219,8 @@ impl<K: RecordKind> Replay<K> {
     pub(crate) fn scan(&mut self, period: &Period, replies: &mut Replies) -> Result<(), AllocError>
         requires { length replies.old + 256 ≤ 4096 }
         ensures names { self.new.names ≡ self.old.names }
-        ensures machine { OnOk result (machine_of self.new.machine ≡ (scanned K.rules (machine_of self.old.machine) (Period-list period.now)).machine) }
-        ensures said { OnOk result (replies.new ≡ replies.old ++ count_words (scanned K.rules (machine_of self.old.machine) (Period-list period.now)).count ++ 10 ∷ []) }
+        ensures machine { OnOk result (machine_of self.new.machine ≡ (scanned record_rules (machine_of self.old.machine) (Period-list period.now)).machine) }
+        ensures said { OnOk result (replies.new ≡ replies.old ++ count_words (scanned record_rules (machine_of self.old.machine) (Period-list period.now)).count ++ 10 ∷ []) }
         ensures kept { OnErr result (replies.new ≡ replies.old) }
     {
         let count = self.machine.scan(&ListName::Period(*period))?;
@@ -263,8 +260,8 @@ impl<K: RecordKind> Replay<K> {
     ) -> Result<(), AllocError>
         requires { length replies.old + 256 ≤ 4096 }
         ensures names { self.new.names ≡ self.old.names }
-        ensures machine { OnOk result (machine_of self.new.machine ≡ (were_linked K.rules self.old.names (machine_of self.old.machine) text.now (channel K.rules self.old.names (machine_of self.old.machine).world record_name.now field_name.now)).machine) }
-        ensures said { OnOk result (replies.new ≡ replies.old ++ reply_words (were_linked K.rules self.old.names (machine_of self.old.machine) text.now (channel K.rules self.old.names (machine_of self.old.machine).world record_name.now field_name.now)).reply ++ 10 ∷ []) }
+        ensures machine { OnOk result (machine_of self.new.machine ≡ (were_linked record_rules self.old.names (machine_of self.old.machine) text.now (channel record_rules self.old.names (machine_of self.old.machine).world record_name.now field_name.now)).machine) }
+        ensures said { OnOk result (replies.new ≡ replies.old ++ reply_words (were_linked record_rules self.old.names (machine_of self.old.machine) text.now (channel record_rules self.old.names (machine_of self.old.machine).world record_name.now field_name.now)).reply ++ 10 ∷ []) }
         ensures kept { OnErr result (replies.new ≡ replies.old) }
     {
         match channel(&self.names, &self.machine, record_name, field_name) {
@@ -306,8 +303,8 @@ impl<K: RecordKind> Replay<K> {
     ) -> Result<(), AllocError>
         requires { length replies.old + 256 ≤ 4096 }
         ensures names { self.new.names ≡ self.old.names }
-        ensures machine { OnOk result (machine_of self.new.machine ≡ (were_notified K.rules self.old.names (machine_of self.old.machine) text.now (channel K.rules self.old.names (machine_of self.old.machine).world record_name.now field_name.now)).machine) }
-        ensures said { OnOk result (replies.new ≡ replies.old ++ reply_words (were_notified K.rules self.old.names (machine_of self.old.machine) text.now (channel K.rules self.old.names (machine_of self.old.machine).world record_name.now field_name.now)).reply ++ 10 ∷ []) }
+        ensures machine { OnOk result (machine_of self.new.machine ≡ (were_notified record_rules self.old.names (machine_of self.old.machine) text.now (channel record_rules self.old.names (machine_of self.old.machine).world record_name.now field_name.now)).machine) }
+        ensures said { OnOk result (replies.new ≡ replies.old ++ reply_words (were_notified record_rules self.old.names (machine_of self.old.machine) text.now (channel record_rules self.old.names (machine_of self.old.machine).world record_name.now field_name.now)).reply ++ 10 ∷ []) }
         ensures kept { OnErr result (replies.new ≡ replies.old) }
     {
         match channel(&self.names, &self.machine, record_name, field_name) {
@@ -326,8 +323,8 @@ impl<K: RecordKind> Replay<K> {
     pub(crate) fn cancel(&mut self, number: u64, replies: &mut Replies) -> Result<(), AllocError>
         requires { length replies.old + 256 ≤ 4096 }
         ensures names { self.new.names ≡ self.old.names }
-        ensures machine { OnOk result (machine_of self.new.machine ≡ (given_up K.rules (machine_of self.old.machine) number).machine) }
-        ensures said { OnOk result (replies.new ≡ replies.old ++ reply_words (given_up K.rules (machine_of self.old.machine) number).reply ++ 10 ∷ []) }
+        ensures machine { OnOk result (machine_of self.new.machine ≡ (given_up record_rules (machine_of self.old.machine) number).machine) }
+        ensures said { OnOk result (replies.new ≡ replies.old ++ reply_words (given_up record_rules (machine_of self.old.machine) number).reply ++ 10 ∷ []) }
         ensures kept { OnErr result (replies.new ≡ replies.old) }
     {
         say_reply(replies, &self.machine.cancel(NotifyId::new(number))?);
@@ -338,7 +335,7 @@ impl<K: RecordKind> Replay<K> {
     #[inline(never)]
     pub(crate) fn sets(&self, more: &mut Vec<u8>) -> Result<(), AllocError>
         requires { more.old.items ≡ [] }
-        ensures { OnOk result (more.new.items ≡ sets_line K.rules (machine_of self.now.machine).world) }
+        ensures { OnOk result (more.new.items ≡ sets_line record_rules (machine_of self.now.machine).world) }
     {
         say_sets(self.alloc, &self.machine, more)
     }

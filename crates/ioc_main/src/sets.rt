@@ -1,5 +1,6 @@
 //! The line `sets`.
 ghost use Rattle.std.specs.Prelude.{◌≡◌, ◌<◌, ◌+◌, ◌-◌, ◌++◌, ◌∷◌, [], codes, length, slice_index, OnOk};
+ghost use Rattle.ioc_types.specs.Record.{record_rules};
 ghost use Rattle.ioc_store.specs.OneMap.{world_of};
 ghost use Rattle.ioc_graph.specs.Parts.{all_below};
 ghost use Rattle.ioc_graph.specs.Members.{AreFirsts, AreFollowers};
@@ -11,17 +12,18 @@ use ioc_machine::{Machine, Scripted};
 use ioc_names::RecordNo;
 use ioc_record::RecordKind;
 use ioc_store::{OneMap, Store};
+use ioc_types::Record;
 use std::alloc::{AllocError, Global};
 
 // Adds the name of a record, behind a text.
-fn add_name<K: RecordKind>(
+fn add_name(
     line: &mut Vec<u8>,
     before: &[u8],
-    map: &OneMap<K, Scripted>,
+    map: &OneMap<Record, Scripted>,
     number: usize,
 ) -> Result<(), AllocError>
     requires { number < length map.now.records.items }
-    ensures { OnOk result (line.new.items ≡ line.old.items ++ before.now ++ name_at K.rules (world_of map.now) number) }
+    ensures { OnOk result (line.new.items ≡ line.old.items ++ before.now ++ name_at record_rules (world_of map.now) number) }
 {
     line.extend_from_slice(before)?;
     let record = map.record(RecordNo::new(number));
@@ -29,9 +31,9 @@ fn add_name<K: RecordKind>(
 }
 
 // Adds the names of a part, by its first record and by the record that follows on each.
-fn add_part<K: RecordKind>(
+fn add_part(
     line: &mut Vec<u8>,
-    map: &OneMap<K, Scripted>,
+    map: &OneMap<Record, Scripted>,
     numbers: &[usize],
     next: &[usize],
     first: usize,
@@ -40,7 +42,7 @@ fn add_part<K: RecordKind>(
     requires is_first { slice_index numbers.now first ≡ first }
     requires all { length numbers.now ≡ length map.now.records.items }
     requires follow { AreFollowers numbers.now next.now }
-    ensures { OnOk result (line.new.items ≡ line.old.items ++ part_words K.rules (world_of map.now) numbers.now first) }
+    ensures { OnOk result (line.new.items ≡ line.old.items ++ part_words record_rules (world_of map.now) numbers.now first) }
 {
     add_name(line, b" {", map, first)?;
     let mut number = next[first];
@@ -53,9 +55,9 @@ fn add_part<K: RecordKind>(
 }
 
 // Adds the names of the part that begins with a record, if one does.
-fn add_part_of<K: RecordKind>(
+fn add_part_of(
     line: &mut Vec<u8>,
-    map: &OneMap<K, Scripted>,
+    map: &OneMap<Record, Scripted>,
     numbers: &[usize],
     next: &[usize],
     number: usize,
@@ -63,7 +65,7 @@ fn add_part_of<K: RecordKind>(
     requires there { number < length numbers.now }
     requires all { length numbers.now ≡ length map.now.records.items }
     requires follow { AreFollowers numbers.now next.now }
-    ensures { OnOk result (line.new.items ≡ line.old.items ++ first_words K.rules (world_of map.now) numbers.now number) }
+    ensures { OnOk result (line.new.items ≡ line.old.items ++ first_words record_rules (world_of map.now) numbers.now number) }
 {
     if numbers[number] != number {
         return Ok(());
@@ -72,15 +74,15 @@ fn add_part_of<K: RecordKind>(
 }
 
 // Adds the parts, each by its first record.
-fn add_parts<K: RecordKind>(
+fn add_parts(
     line: &mut Vec<u8>,
-    map: &OneMap<K, Scripted>,
+    map: &OneMap<Record, Scripted>,
     numbers: &[usize],
     next: &[usize],
 ) -> Result<(), AllocError>
     requires all { length numbers.now ≡ length map.now.records.items }
     requires follow { AreFollowers numbers.now next.now }
-    ensures { OnOk result (line.new.items ≡ line.old.items ++ parts_words K.rules (world_of map.now) numbers.now (all_below (length numbers.now))) }
+    ensures { OnOk result (line.new.items ≡ line.old.items ++ parts_words record_rules (world_of map.now) numbers.now (all_below (length numbers.now))) }
 {
     let mut number = 0;
     while number < numbers.len() {
@@ -97,13 +99,9 @@ fn add_parts<K: RecordKind>(
 ///
 /// [`AllocError`] where memory is wanting.
 #[tactic(auto, unfolding(crate::specs::Sets::sets_line))]
-pub fn say_sets<K: RecordKind>(
-    alloc: Global,
-    machine: &Machine<K>,
-    line: &mut Vec<u8>,
-) -> Result<(), AllocError>
+pub fn say_sets(alloc: Global, machine: &Machine, line: &mut Vec<u8>) -> Result<(), AllocError>
     requires { line.old.items ≡ [] }
-    ensures { OnOk result (line.new.items ≡ sets_line K.rules (machine_of machine.now).world) }
+    ensures { OnOk result (line.new.items ≡ sets_line record_rules (machine_of machine.now).world) }
 {
     let numbers = machine.parts()?;
     let next = followers(alloc, numbers.as_slice())?;

@@ -1,12 +1,13 @@
 use Rattle.std.proofs.Common.{◌≡◌, ◌+◌, ◌≤◌, length}
+use Rattle.ioc_types.specs.Record.{record_rules}
 use Rattle.ioc_machine.specs.FirstLists.{with_each}
 use Rattle.ioc_machine.proofs.first_lists.first_lists.Given as goal
 
 -- those that are left are added to what there is
 abbrev pub invariant-loop-rest : goal.invariant-loop-rest
-invariant-loop-rest g l =
-    (with_each g.K.RecordKind.rules l.occasion l.lists l.number l.rest ≡ with_each g.K.RecordKind.rules l.occasion l.initial.lists 0 l.records)
+invariant-loop-rest l =
+    (with_each record_rules l.occasion l.lists l.number l.rest ≡ with_each record_rules l.occasion l.initial.lists 0 l.records)
     × (l.lists.last ≤ l.number) × (length l.lists.entries ≡ length l.records) × (l.number + length l.rest ≡ length l.records)
 
 abbrev pub decreases-loop-rest : goal.decreases-loop-rest
-decreases-loop-rest g l = length l.rest
+decreases-loop-rest l = length l.rest

@@ -1,6 +1,7 @@
 use Rattle.std.proofs.Common.{◌≡◌, ◌-◌, suc, ℕ, length, refl, sym, ap, ◌∙◌, arith}
 use Rattle.ioc_callback.specs.declared.queues.Queues.{Queues}
 use Rattle.ioc_callback.specs.Serving.{in_turn}
+use Rattle.ioc_types.specs.Record.{Record, record_rules}
 use Rattle.ioc_events.specs.declared.event.Event.TheVariants.{Process}
 use Rattle.ioc_machine.specs.Machine.{Machine, done, serve}
 use Rattle.ioc_machine.specs.Scanner.{Scanner}
@@ -10,25 +11,25 @@ use Rattle.ioc_machine.proofs.Serving.{first_is, none_first, none_counted_by, se
 use Rattle.ioc_machine.proofs.machine.Machine.serve.Goals as goal
 
 pub returns-in_default : goal.returns-in_default
-returns-in_default g c =
+returns-in_default c =
     let queues = c.loop-turns.self.scanner.queues in
     let none : length (in_turn queues) ≡ 0 = none_counted_by (length (in_turn queues)) c.next.result c.in_default.is c.next.ensures.some in
     same_machine _ _ _ _ _ _ _ _ _ _ _ _ refl refl refl refl (c.next.ensures.after ∙ ap (λ (q : Queues ℕ). let s : Scanner = record { lists = c.loop-turns.self.scanner.lists; queues = q } in s) (served-none queues none))
-    ∙ sym (serve-none g.K.RecordKind.rules c.loop-turns.turns (machine_of c.loop-turns.self) (none_first (in_turn queues) none)) ∙ c.loop-turns.invariant
+    ∙ sym (serve-none record_rules c.loop-turns.turns (machine_of c.loop-turns.self) (none_first (in_turn queues) none)) ∙ c.loop-turns.invariant
 
 pub loop-turns-preserved : goal.loop-turns-preserved
-loop-turns-preserved g c =
+loop-turns-preserved c =
     let m = machine_of c.loop-turns.self in
     let number = c.in-Some.number in
-    let waits : Machine g.row.K.Denot = record m { scanner = c.next.new.self } in
-    let after : machine_of c.process_untold.new.self ≡ (done g.K.RecordKind.rules waits (Process number)).machine = c.in_ok-process_untold.ensures in
+    let waits : Machine Record = record m { scanner = c.next.new.self } in
+    let after : machine_of c.process_untold.new.self ≡ (done record_rules waits (Process number)).machine = c.in_ok-process_untold.ensures in
     let turns : suc (c.loop-turns.turns - 1) ≡ c.loop-turns.turns = omega (arith, c.loop-turns-test.true) in
-    ap (serve g.K.RecordKind.rules (c.loop-turns.turns - 1)) (after ∙ ap (λ (s : Scanner). (done g.K.RecordKind.rules (record m { scanner = s }) (Process number)).machine) c.next.ensures.after)
-    ∙ sym (serve-some g.K.RecordKind.rules (c.loop-turns.turns - 1) m number (first_is (in_turn m.scanner.queues) (in_turn c.next.new.self.queues) c.next.result number c.in-Some.is c.next.ensures.taken))
-    ∙ ap (λ (n : ℕ). serve g.K.RecordKind.rules n m) turns ∙ c.loop-turns.invariant
+    ap (serve record_rules (c.loop-turns.turns - 1)) (after ∙ ap (λ (s : Scanner). (done record_rules (record m { scanner = s }) (Process number)).machine) c.next.ensures.after)
+    ∙ sym (serve-some record_rules (c.loop-turns.turns - 1) m number (first_is (in_turn m.scanner.queues) (in_turn c.next.new.self.queues) c.next.result number c.in-Some.is c.next.ensures.taken))
+    ∙ ap (λ (n : ℕ). serve record_rules n m) turns ∙ c.loop-turns.invariant
 
 pub returns : goal.returns
-returns g c =
+returns c =
     let m = machine_of c.loop-turns.self in
     let turns : 0 ≡ c.loop-turns.turns = omega (arith, c.loop-turns-test.false) in
-    sym (serve-zero g.K.RecordKind.rules m) ∙ ap (λ (n : ℕ). serve g.K.RecordKind.rules n m) turns ∙ c.loop-turns.invariant
+    sym (serve-zero record_rules m) ∙ ap (λ (n : ℕ). serve record_rules n m) turns ∙ c.loop-turns.invariant

@@ -1,7 +1,7 @@
 use Rattle.std.proofs.Common.{◌≡◌, ◌++◌, length, map}
 use Rattle.ioc_types.specs.Record.{record_rules}
 use Rattle.ioc_machine.specs.Machine.{first_queue}
-use Rattle.ioc_main.proofs.loading.devices_of.Given as goal
+use Rattle.ioc_machine.proofs.machine.devices_of.Given as goal
 
 abbrev pub invariant-loop-rest : goal.invariant-loop-rest
 invariant-loop-rest l = l.devices.items ++ map (first_queue record_rules) l.rest ≡ map (first_queue record_rules) l.records
