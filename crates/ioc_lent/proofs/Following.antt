@@ -22,9 +22,9 @@ use Rattle.ioc_holding.proofs.Basics.{is-none}
 use Rattle.ioc_journal.specs.Account.{MayFollow, Added, puts_key}
 use Rattle.ioc_set.specs.Held.{Held, now_of}
 use Rattle.ioc_set.specs.Sound.{IsSound}
-use Rattle.ioc_lent.specs.GiveUpLaws.{cancel_note, ShareNone, IsHeldSoundly, IsGivenUpByAll, SetsGiveUp}
+use Rattle.ioc_lent.specs.GiveUpLaws.{cancel_note, cancel_entry, ShareNone, IsHeldSoundly, IsGivenUpByAll, SetsGiveUp}
 use Rattle.ioc_lent.specs.Passes.{Slot, view_in, AreTakenOver}
-use Rattle.ioc_lent.specs.Sets.{EachGivesUp, EachIsHeldBy, HaveAll, cancel_entry}
+use Rattle.ioc_lent.specs.Sets.{EachGivesUp, EachIsHeldBy, HaveAll}
 use Rattle.ioc_lent.proofs.TakingOver.{continues_on}
 
 module _ {R : Type 0} (k : RecordRules R) (base : World R) where
@@ -80,7 +80,7 @@ module _ {R : Type 0} (k : RecordRules R) (base : World R) where
         covers = λ n there. has_left (key_of n) v.owns own (all_covered c.0 h c.1 n there);
       })
 
-      gone_on : IsSound-world k base → (desk call : ℕ) (own : List Key) → GoesOn k base log (cancel_note desk call moment number (v.owns ++ own)) (IsGivenUpByAll k number sets (map_of k base log))
+      gone_on : IsSound-world k base → (desk call : ℕ) (own : List Key) → GoesOn k base log (cancel_note desk call moment number (v.owns ++ own)) (IsGivenUpByAll k moment number sets (map_of k base log))
       gone_on base_sound desk call own =
           law base log sets desk call moment number (v.owns ++ own) base_sound legal (held_soundly own) share_none
           (have.all ∙ sym (still_live number)) (λ none. have.some (sym (still_live number) ∙ none)) (has_left notifications_key v.owns own puts_owned)
@@ -89,10 +89,10 @@ module _ {R : Type 0} (k : RecordRules R) (base : World R) where
     may_follow log desk call own base_sound goes legal = (gone_on log goes legal base_sound desk call own).legal
 
     module _ (log longer : List Note) (added : Added k base v.seen v.owns (cancel_entry moment number) log longer) where
-      known : IsGivenUpByAll k number sets (map_of k base log) (map_of k base longer)
-      known = subst (λ (l : List Note). IsGivenUpByAll k number sets (map_of k base log) (map_of k base l)) (sym added.ends) (gone_on log added.goes_on added.legal added.sound added.desk added.call added.own).known
+      known : IsGivenUpByAll k moment number sets (map_of k base log) (map_of k base longer)
+      known = subst (λ (l : List Note). IsGivenUpByAll k moment number sets (map_of k base log) (map_of k base l)) (sym added.ends) (gone_on log added.goes_on added.legal added.sound added.desk added.call added.own).known
 
-      pub held_then : (after : List (Held R D)) → EachGivesUp k number sets after → (i : ℕ) (d : Held R D) → i < length sets → Holds k (map_of k base longer) (now_of (get_or after i d))
+      pub held_then : (after : List (Held R D)) → EachGivesUp k moment number sets after → (i : ℕ) (d : Held R D) → i < length sets → Holds k (map_of k base longer) (now_of (get_or after i d))
       held_then after gives i d lt = known.held (get_or sets i d) (get_or after i d) (i, lt, get_or_default sets i (get_or sets i d) d lt) (gives i d lt)
 
       pub nobody_then : holders_of number (map_of k base longer).live ≡ 0
@@ -102,7 +102,7 @@ module _ {R : Type 0} (k : RecordRules R) (base : World R) where
       others_then other apart = known.others other apart ∙ still_live log added.goes_on added.legal other
 
     -- the sets have the same records when they have given it up
-    module _ (after : List (Held R D)) (gives : EachGivesUp k number sets after) (same : length after ≡ length sets) where
+    module _ (after : List (Held R D)) (gives : EachGivesUp k moment number sets after) (same : length after ≡ length sets) where
       was_there : (i : ℕ) (d : Held R D) → i < length sets → (q : ℕ) → IsSome (get (get_or after i d).records q) → IsSome (get (get_or sets i d).records q)
       was_there i d lt q there =
           sym (has-cancelled k number (now_of (get_or sets i d)) q) ∙ (sym (ap (λ rs. contains_key rs q) (gives i d lt).records) ∙ there)

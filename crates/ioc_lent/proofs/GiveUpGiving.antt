@@ -16,11 +16,14 @@ use Rattle.ioc_record.specs.RecordRules.{RecordRules, targets}
 use Rattle.ioc_record.specs.Laws.{IsLawful}
 use Rattle.ioc_store.specs.World.{World, Has, at, common_at, begun, begun_at, cancelled, freed, is_notification}
 use Rattle.ioc_store.specs.Weights.{weight_of}
-use Rattle.ioc_store.specs.Given.{listed, answers_of}
+use Rattle.ioc_store.specs.Given.{DevicesWork, no_call, and_then, listed, answers_of}
+use Rattle.ioc_store.specs.declared.call.Call.{Call}
 use Rattle.ioc_store.specs.Freeing.{get-mapped, at_cancelled-either}
 use Rattle.ioc_store.specs.StepFrames.{targets-set}
 use Rattle.ioc_events.specs.declared.event.Event.{Event}
 use Rattle.ioc_events.specs.declared.event.Event.TheVariants.{Cancel}
+use Rattle.ioc_events.specs.declared.event.Entry.{Entry}
+use Rattle.ioc_events.specs.declared.reply.Reply.{Reply}
 use Rattle.ioc_events.specs.declared.reply.Reply.TheVariants.{Plain}
 use Rattle.ioc_events.specs.Holding.{how_many, one_if_has, holders}
 use Rattle.ioc_events.specs.Starting.{NoneReady}
@@ -31,10 +34,10 @@ use Rattle.ioc_holding.specs.Legal.{key_of, notifications_key, done, map_of, Fit
 use Rattle.ioc_holding.specs.Held.{Holds}
 use Rattle.ioc_holding.specs.Laws.{StaysSound, CancelIsHeld, BeginningIsHeld, HeldAlike}
 use Rattle.ioc_holding.proofs.Placing.{live-once}
-use Rattle.ioc_set.specs.Held.{Held, now_of, folded, done_by}
+use Rattle.ioc_set.specs.Held.{Held, now_of, folded, done_by, held_after}
 use Rattle.ioc_set.specs.Doing.{with_place}
 use Rattle.ioc_set.specs.Sound.{IsSound}
-use Rattle.ioc_lent.specs.GiveUpLaws.{cancel_note, ShareNone, holders_in_all, GivesUp, IsHeldSoundly, SetsGiveUp, CancelGivesUp, CameToNothing}
+use Rattle.ioc_lent.specs.GiveUpLaws.{cancel_entry, cancel_note, ShareNone, holders_in_all, GivesUp, IsHeldSoundly, SetsGiveUp, CancelGivesUp, CameToNothing}
 use Rattle.ioc_lent.proofs.GiveUpSumming.{point, of-number}
 use Rattle.ioc_lent.proofs.GiveUpAmong.{some-or-none, nobody-outside}
 use Rattle.ioc_lent.proofs.GiveUpEvents.{cancel-steps, AreActive, none-then, begun-none, begun-active}
@@ -150,7 +153,7 @@ module _ {R : Type 0} (k : RecordRules R) where
     note-done m live none active =
         cancel-steps k (listed []) (begun_at moment m) number live (none-then k lawful number (begun_at moment m) (begun-none k moment m none) (begun-active k number moment m active))
 
-    no-calls : (m : World R) → answers_of (given_up m).calls ≡ []
+    no-calls : (m : World R) → (given_up m).calls ≡ []
     unfolding begun begun_at cancelled
     no-calls m = refl
 
@@ -172,7 +175,7 @@ module _ {R : Type 0} (k : RecordRules R) where
         let is = note-done m live none active in
         record {
           reply = sym (ap (λ (s : Stepped R). s.reply) is);
-          used = ap (λ (s : Stepped R). answers_of s.world.calls) is ∙ no-calls m;
+          used = ap (λ (s : Stepped R). answers_of s.world.calls) is ∙ ap answers_of (no-calls m);
           untouched = λ r out. subst (IsUntouched k r m) (sym (ap (λ (s : Stepped R). s.world) is)) (untouched m r (nobody r out));
           live = λ out. absurd (out key);
         }
@@ -180,7 +183,7 @@ module _ {R : Type 0} (k : RecordRules R) where
     -- ---- of sets
 
     module _ {D : Type 0} (cancels : CancelIsHeld k) (begins : BeginningIsHeld k) (alike : HeldAlike k) where
-      held-then : (m : World R) (h then : Held R D) → Holds k m (now_of h) → GivesUp k number h then → Holds k (given_up m) (now_of then)
+      held-then : (m : World R) (h then : Held R D) → Holds k m (now_of h) → GivesUp k moment number h then → Holds k (given_up m) (now_of then)
       unfolding begun begun_at cancelled
       held-then m h then holds gives =
           alike (given_up m) (given_up (now_of h)) (now_of then) (cancels (begun_at moment m) (begun_at moment (now_of h)) number (begins m (now_of h) moment holds)) gives.records gives.waiting
@@ -257,25 +260,43 @@ module _ {R : Type 0} (k : RecordRules R) where
       abbrev given : World R
       given = cancelled k number (begun_at moment (now_of h))
 
-      gives : after.records ≡ given.records → after.waiting ≡ given.waiting → after.live ≡ given.live → GivesUp k number h after
+      gives : after.records ≡ given.records → after.waiting ≡ given.waiting → after.live ≡ given.live → get after.devices ≡ get h.devices
+          → after ≡ held_after k (with_place h) (cancel_entry moment number) after.devices → GivesUp k moment number h after
       unfolding begun begun_at cancelled
-      gives records waiting live = record { records = records; waiting = waiting; live = live }
+      gives records waiting live devices told = record { records = records; waiting = waiting; live = live; devices = devices; told = told }
 
       nothing : (come_to : World R) → come_to.calls ≡ given.calls → come_to.outbox ≡ given.outbox → come_to.ended ≡ given.ended → CameToNothing come_to
       unfolding begun begun_at cancelled
       nothing come_to calls outbox ended = record { calls = calls; outbox = outbox; ended = ended }
+
+  -- devices that weren't called are as they were
+  uncalled : {D : Type 0} {gives : D → Ask → ℕ → Answer → D → Type 0} {ds es : ℕ → Option D} {moment : ℕ} {calls : List Call}
+      → DevicesWork gives ds moment calls es → calls ≡ [] → es ≡ ds
+  uncalled no_call none = refl
+  uncalled (and_then first rest) none = cc
+
+  entry-is : (e : Entry) (number : ℕ) → e.event ≡ Cancel number → e.answers ≡ [] → e.reply ≡ Plain → e ≡ cancel_entry e.moment number
+  entry-is e number event answers reply =
+      ap (λ (v : Event). record { moment = e.moment; event = v; answers = e.answers; reply = e.reply }) event
+      ∙ ap (λ (l : List Answer). record { moment = e.moment; event = Cancel number; answers = l; reply = e.reply }) answers
+      ∙ ap (λ (r : Reply). record { moment = e.moment; event = Cancel number; answers = []; reply = r }) reply
 
   pub cancel-gives-up : {D : Type 0} (gives : D → Ask → ℕ → Answer → D → Type 0) → IsLawful k → CancelGivesUp k gives
   cancel-gives-up {D} gives_answers lawful before after moment number reply come_to sound live does =
       let e = does.entry in
       let is = ap (λ (event : Event). stepped k (listed e.answers) (begun_at e.moment (now_of before)) event) does.event ∙ set-steps lawful number before e.moment e.answers sound live in
       let placed = ap (λ (w : World R). done_by k w e) (now-placed lawful number before) ∙ is in
+      let plain = sym does.tells.reply ∙ ap (λ (s : Stepped R). s.reply) placed in
+      let uncalled-here = no-calls lawful 0 0 e.moment number [] (now_of before) in
+      let silent = sym does.tells.answers ∙ ap (λ (s : Stepped R). answers_of s.world.calls) placed ∙ ap answers_of uncalled-here in
       record {
-        answer = sym does.answer ∙ sym does.tells.reply ∙ ap (λ (s : Stepped R). s.reply) placed;
-        gives_up = gives lawful number before after e.moment
+        answer = sym does.answer ∙ plain;
+        gives_up = subst (λ (m : ℕ). GivesUp k m number before after) does.moment (gives lawful number before after e.moment
             (ap (λ (h : Held R D). h.records) does.after ∙ ap (λ (s : Stepped R). s.world.records) placed)
             (ap (λ (h : Held R D). h.waiting) does.after ∙ ap (λ (s : Stepped R). s.world.waiting) placed)
-            (ap (λ (h : Held R D). h.live) does.after ∙ ap (λ (s : Stepped R). s.world.live) placed);
+            (ap (λ (h : Held R D). h.live) does.after ∙ ap (λ (s : Stepped R). s.world.live) placed)
+            (uncalled does.work (ap (λ (s : Stepped R). s.world.calls) is ∙ uncalled-here))
+            (does.after ∙ ap (λ (entry : Entry). held_after k (with_place before) entry after.devices) (entry-is e number does.event silent plain)));
         nothing = nothing lawful number before after e.moment come_to
             (ap (λ (w : World R). w.calls) (does.left ∙ ap (λ (s : Stepped R). s.world) is))
             (ap (λ (w : World R). w.outbox) (does.left ∙ ap (λ (s : Stepped R). s.world) is))

@@ -101,7 +101,7 @@ module _ {R D : Type 0} (k : RecordRules R) (base : World R) (table : TableId) w
   gave_back moment number desk desk_then sets held_then sets_then passes_then kept kept_then gu back long sets_are = record {
     gives_up = λ i d e lt.
         let then : i < length held_then = omega (arith, lt, long) in
-        subst (λ (v : HeldView R D). GivesUp k number (get_or sets i d) v.set) (sym (back i e d None then)) (gu.gives_up i d lt);
+        subst (λ (v : HeldView R D). GivesUp k moment number (get_or sets i d) v.set) (sym (back i e d None then)) (gu.gives_up i d lt);
     call = gu.call;
     seen = λ i d lt.
         let within : i < length sets_then = omega (arith, lt, long, sets_are) in

@@ -11,20 +11,25 @@ use Rattle.ioc_store.specs.World.{World, cancelled}
 use Rattle.ioc_events.specs.declared.event.Event.TheVariants.{Cancel}
 use Rattle.ioc_events.specs.declared.reply.Reply.{Reply}
 use Rattle.ioc_events.specs.declared.reply.Reply.TheVariants.{Plain}
+use Rattle.ioc_events.specs.declared.event.Entry.{Entry}
 use Rattle.ioc_line.specs.declared.entry.Note.{Note}
 use Rattle.ioc_line.specs.Key.{Key, Has as Has_key}
 use Rattle.ioc_holding.specs.Legal.{IsLegal, map_of, notifications_key}
 use Rattle.ioc_holding.specs.Legal.{IsSound as IsSound-world}
 use Rattle.ioc_holding.specs.Held.{Holds, Cover}
 use Rattle.ioc_holding.specs.Laws.{GoesOn}
-use Rattle.ioc_set.specs.Held.{Held, now_of}
+use Rattle.ioc_set.specs.Held.{Held, now_of, held_after}
 use Rattle.ioc_set.specs.Sound.{IsSound}
-use Rattle.ioc_set.specs.Doing.{Does}
+use Rattle.ioc_set.specs.Doing.{Does, with_place}
+use Rattle.ioc_held.specs.Puts.{told_at}
 
--- the note of a cancel that was done, in which no device answers
+-- what is kept of a cancel that was done: no device is asked
+abbrev pub cancel_entry : (moment number : ℕ) → Entry
+cancel_entry moment number = told_at moment (Cancel number) Plain
+
+-- its note
 abbrev pub cancel_note : (desk call moment number : ℕ) → List Key → Note
-cancel_note desk call moment number keys =
-    record { entry = record { desk = desk; call = call; entry = record { moment = moment; event = Cancel number; answers = []; reply = Plain } }; keys = keys }
+cancel_note desk call moment number keys = record { entry = record { desk = desk; call = call; entry = cancel_entry moment number }; keys = keys }
 
 -- no record is in both sets
 abbrev pub ShareNone : {R D : Type 0} → Held R D → Held R D → Type 0
@@ -41,11 +46,13 @@ pub record CameToNothing {R : Type 0} (come_to : World R) : Type 0 where
   pub ended : come_to.ended ≡ []
 
 module _ {R D : Type 0} (k : RecordRules R) where
-  -- a set has what it had, but this put with notification, which is given up
-  pub record GivesUp (number : ℕ) (before after : Held R D) : Type 0 where
+  -- a set has what it had, but this put with notification, which is given up at this moment: so its own history tells, behind which it stands
+  pub record GivesUp (moment number : ℕ) (before after : Held R D) : Type 0 where
     pub records : after.records ≡ (cancelled k number (now_of before)).records
     pub waiting : after.waiting ≡ (cancelled k number (now_of before)).waiting
     pub live : after.live ≡ (cancelled k number (now_of before)).live
+    pub devices : get after.devices ≡ get before.devices
+    pub told : after ≡ held_after k (with_place before) (cancel_entry moment number) after.devices
 
   -- a set is sound and held, and these keys are those of its records, and maybe others
   pub record IsHeldSoundly (m : World R) (keys : List Key) (h : Held R D) : Type 0 where
@@ -55,22 +62,22 @@ module _ {R D : Type 0} (k : RecordRules R) where
 
   -- what each of the sets has once the put is given up is held in the world of all then, in which nobody has it, and as many as before have
   -- each other
-  pub record IsGivenUpByAll (number : ℕ) (sets : List (Held R D)) (before after : World R) : Type 0 where
-    pub held : (h then : Held R D) → Contains sets h → GivesUp number h then → Holds k after (now_of then)
+  pub record IsGivenUpByAll (moment number : ℕ) (sets : List (Held R D)) (before after : World R) : Type 0 where
+    pub held : (h then : Held R D) → Contains sets h → GivesUp moment number h then → Holds k after (now_of then)
     pub nobody : holders_of number after.live ≡ 0
     pub others : (other : ℕ) → other ≢ number → holders_of other after.live ≡ holders_of other before.live
 
   -- a cancel that was done on a set
-  pub record IsCancelled (number : ℕ) (before : Held R D) (reply : Reply) (after : Held R D) (come_to : World R) : Type 0 where
+  pub record IsCancelled (moment number : ℕ) (before : Held R D) (reply : Reply) (after : Held R D) (come_to : World R) : Type 0 where
     pub answer : reply ≡ Plain
-    pub gives_up : GivesUp number before after
+    pub gives_up : GivesUp moment number before after
     pub nothing : CameToNothing come_to
 
   -- a cancel of a put with notification that is live on a sound set gives it up there, and that is all
   abbrev pub CancelGivesUp : (D → Ask → ℕ → Answer → D → Type 0) → Type 0
   CancelGivesUp gives = (before after : Held R D) (moment number : ℕ) (reply : Reply) (come_to : World R)
       → IsSound k before → is_live number before.live ≡ true → Does k gives before moment (Cancel number) reply after come_to
-      → IsCancelled number before reply after come_to
+      → IsCancelled moment number before reply after come_to
 
 module _ {R : Type 0} (D : Type 0) (k : RecordRules R) where
   -- Sets that share no record, in which as many have a put with notification as in the world of all, give it up: that is one event of all
@@ -81,4 +88,4 @@ module _ {R : Type 0} (D : Type 0) (k : RecordRules R) where
       → ((h : Held R D) → Contains sets h → IsHeldSoundly k (map_of k base log) keys h) → AllPairs ShareNone sets
       → holders_in_all number sets ≡ holders_of number (map_of k base log).live → holders_of number (map_of k base log).live ≢ 0
       → Has_key notifications_key keys
-      → GoesOn k base log (cancel_note desk call moment number keys) (IsGivenUpByAll k number sets (map_of k base log))
+      → GoesOn k base log (cancel_note desk call moment number keys) (IsGivenUpByAll k moment number sets (map_of k base log))

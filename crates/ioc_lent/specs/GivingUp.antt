@@ -40,7 +40,7 @@ module _ {R D : Type 0} (k : RecordRules R) (base : World R) (moment number : �
   -- each of these held sets has given it up in one call of a desk, which stands at the end of the legal list that the desk, the holders and the keeper
   -- of the puts with notification have seen then. Nobody has it any more, and as many as before have each other
   pub record HeldGaveUp (kept : View) (desk_then : DeskView) (after : List (HeldView R D)) (kept_then : View) : Type 0 where
-    pub gives_up : (i : ℕ) (d : Held R D) (e : HeldView R D) → i < length before → GivesUp k number (slice_index_or before i d) (slice_index_or after i e).set
+    pub gives_up : (i : ℕ) (d : Held R D) (e : HeldView R D) → i < length before → GivesUp k moment number (slice_index_or before i d) (slice_index_or after i e).set
     pub call : Call k base desk (told_at moment (Cancel number) Plain) desk_then
     pub seen : (i : ℕ) (d : HeldView R D) → i < length after → (slice_index_or after i d).seen ≡ desk_then.seen
     pub keeps : kept_then ≡ holder desk_then.seen puts_key
@@ -51,7 +51,7 @@ module _ {R D : Type 0} (k : RecordRules R) (base : World R) (moment number : �
   -- and so do the lines of the table tell
   pub record GaveUpOn (puts : PutsView) (reply : Reply) (desk_then : DeskView) (after : List (HeldView R D)) (puts_then : PutsView) : Type 0 where
     pub answer : reply ≡ Plain
-    pub gives_up : (i : ℕ) (d e : HeldView R D) → i < length before → GivesUp k number (slice_index_or before i d).set (slice_index_or after i e).set
+    pub gives_up : (i : ℕ) (d e : HeldView R D) → i < length before → GivesUp k moment number (slice_index_or before i d).set (slice_index_or after i e).set
     pub call : Call k base desk (told_at moment (Cancel number) Plain) desk_then
     pub seen : (i : ℕ) (d : HeldView R D) → i < length after → (slice_index_or after i d).seen ≡ desk_then.seen
     pub puts_seen : puts_then.seen ≡ desk_then.seen

@@ -5,9 +5,6 @@ use Rattle.atomic_table.specs.Seated.{TableId}
 use Rattle.ioc_notify.specs.Living.{holders_of, is_live}
 use Rattle.ioc_record.specs.RecordRules.{RecordRules}
 use Rattle.ioc_store.specs.World.{World}
-use Rattle.ioc_events.specs.declared.event.Event.TheVariants.{Cancel}
-use Rattle.ioc_events.specs.declared.event.Entry.{Entry}
-use Rattle.ioc_events.specs.declared.reply.Reply.TheVariants.{Plain}
 use Rattle.ioc_line.specs.declared.entry.Note.{Note}
 use Rattle.ioc_line.specs.declared.room.View.{View}
 use Rattle.ioc_line.specs.Line.{holder}
@@ -15,12 +12,8 @@ use Rattle.ioc_holding.specs.Legal.{map_of}
 use Rattle.ioc_holding.specs.Held.{Holds, Cover}
 use Rattle.ioc_journal.specs.Account.{DeskView, Call, puts_key}
 use Rattle.ioc_set.specs.Held.{Held, now_of}
-use Rattle.ioc_lent.specs.GiveUpLaws.{GivesUp, holders_in_all}
+use Rattle.ioc_lent.specs.GiveUpLaws.{GivesUp, cancel_entry, holders_in_all}
 use Rattle.ioc_lent.specs.Passes.{Slot, view_in, IsPassIn, IsDealt}
-
--- what the journal keeps of a cancel that is done
-abbrev pub cancel_entry : (moment number : ℕ) → Entry
-cancel_entry moment number = record { moment = moment; event = Cancel number; answers = []; reply = Plain }
 
 module _ {R D : Type 0} where
   -- it is live on each of these sets
@@ -33,9 +26,9 @@ module _ {R D : Type 0} where
     pub live : IsLiveOnEach number sets
 
 module _ {R D : Type 0} (k : RecordRules R) where
-  -- each of these sets has given it up
-  abbrev pub EachGivesUp : ℕ → List (Held R D) → List (Held R D) → Type 0
-  EachGivesUp number before after = (i : ℕ) (d : Held R D) → i < length before → GivesUp k number (slice_index_or before i d) (slice_index_or after i d)
+  -- each of these sets has given it up at this moment
+  abbrev pub EachGivesUp : (moment number : ℕ) → List (Held R D) → List (Held R D) → Type 0
+  EachGivesUp moment number before after = (i : ℕ) (d : Held R D) → i < length before → GivesUp k moment number (slice_index_or before i d) (slice_index_or after i d)
 
   module _ (base : World R) where
     -- who has this pass holds the records of the set
@@ -57,7 +50,7 @@ module _ {R D : Type 0} (k : RecordRules R) where
     -- each of these sets has given it up in one call of a desk, and is held by the pass beside it, which owns the keys of its records. Nobody has it
     -- any more, and as many as before have each other; so the keeper of the puts with notification knows, who has its key alone
     pub record GaveUp (table : TableId) (moment number : ℕ) (desk : DeskView) (before : List (Held R D)) (kept : View) (desk_then : DeskView) (after : List (Held R D)) (passes : List Slot) (kept_then : View) : Type 0 where
-      pub gives_up : EachGivesUp number before after
+      pub gives_up : EachGivesUp moment number before after
       pub call : Call k base desk (cancel_entry moment number) desk_then
       pub dealt : (i : ℕ) (d : Held R D) (e : Slot) → i < length after → IsDealt table desk_then.seen (slice_index_or after i d) (slice_index_or passes i e)
       pub holds : (i : ℕ) (d : Held R D) → i < length after → Holds k (map_of k base desk_then.seen) (now_of (slice_index_or after i d))

@@ -2,7 +2,6 @@
 ghost use Rattle.std.specs.Prelude.{◌≡◌};
 ghost use Rattle.ioc_common.specs.Links.{record_named, use_of};
 ghost use Rattle.ioc_common.specs.Steps.{shown, unblocked};
-ghost use Rattle.ioc_store.specs.Marks.{at_rest};
 ghost use Rattle.ioc_store.specs.World.{Has, common_at, changed};
 ghost use Rattle.ioc_steps.specs.Looks.{Begins, Opened, Opens, Shows, shown_on};
 

@@ -25,7 +25,7 @@ fn cancel_at_last<K: RecordKind + Drop, D: Device, R: Wait>(
     moment: u64,
 )
     requires live { is_live number set.old.live ≡ true }
-    ensures gives_up { GivesUp K.rules number set.old set.new }
+    ensures gives_up { GivesUp K.rules moment number set.old set.new }
     ensures nothing { CameToNothing (world_of workplace.new.store) }
 {
     cancels_leave_nobody::<K, D>();
@@ -53,7 +53,7 @@ pub fn cancel_all<K: RecordKind + Drop, D: Device, R: Wait>(
     moment: u64,
 ) -> Result<(), AllocError>
     requires live { (i : ℕ) (d : Held K D) → i < length sets.old → is_live number (slice_index_or sets.old i d).live ≡ true }
-    ensures ok { OnOk result (EachGivesUp K.rules number sets.old sets.new) }
+    ensures ok { OnOk result (EachGivesUp K.rules moment number sets.old sets.new) }
     ensures err { OnErr result (sets.new ≡ sets.old) }
 {
     cancels_leave_nobody::<K, D>();

@@ -17,6 +17,7 @@ returns-in-Ok-Some-clause-gave_up g c =
     let held = c.args.held.now in
     let then = c.give_up_lent-given.new.held in
     let number = c.args.number in
+    let moment = c.args.moment in
     let total = c.holders-total.result in
     let table = c.all.inside.table.live in
     let sets = c.as_mut_slice.ensures.value ∙ c.lend_all.ensures.sets in
@@ -29,7 +30,7 @@ returns-in-Ok-Some-clause-gave_up g c =
       answer = refl;
       gives_up = λ i d e lt.
           let here : i < length (sets_of held) = let many = sets_long held in omega (arith, lt, many) in
-          subst (λ (h : Held g.row.K.Denot g.row.D.Denot). GivesUp k number h (get_or then i e).set) (set_at held i d d.set lt) (gu.gives_up i d.set e here);
+          subst (λ (h : Held g.row.K.Denot g.row.D.Denot). GivesUp k moment number h (get_or then i e).set) (set_at held i d d.set lt) (gu.gives_up i d.set e here);
       call = gu.call;
       seen = gu.seen;
       puts_seen = ap (λ (v : View). v.seen) gu.keeps;
