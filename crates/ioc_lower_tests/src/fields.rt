@@ -291,13 +291,15 @@ static TYPES: [Fact; 165] = [
 
 // The row that the tables of fields tell of a field.
 fn told(kind: FieldKind, mark: Mark) -> ioc_fields::Row {
-    match (kind, mark) {
-        (FieldKind::Link(role), _) => ioc_fields::Row::link(role),
-        (_, Mark::Plain) => ioc_fields::Row::plain(kind),
-        (_, Mark::P) => ioc_fields::Row::passive(kind),
-        (_, Mark::N) => ioc_fields::Row::fixed(kind),
-        (_, Mark::K) => ioc_fields::Row::kept(kind),
-        (_, Mark::Set) => ioc_fields::Row::given(kind),
+    if let FieldKind::Link(role) = kind {
+        return ioc_fields::Row::link(role);
+    }
+    match mark {
+        Mark::Plain => ioc_fields::Row::plain(kind),
+        Mark::P => ioc_fields::Row::passive(kind),
+        Mark::N => ioc_fields::Row::fixed(kind),
+        Mark::K => ioc_fields::Row::kept(kind),
+        Mark::Set => ioc_fields::Row::given(kind),
     }
 }
 
