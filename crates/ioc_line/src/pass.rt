@@ -1,15 +1,38 @@
 //! The steps of passes.
-ghost use Rattle.std.specs.Prelude.{◌≡◌, [], ◌∷◌, ◌++◌, true, false, map};
+ghost use Rattle.std.specs.Prelude.{◌≡◌, ℕ, List, [], ◌∷◌, ◌++◌, true, false, map};
+ghost use Rattle.crossbeam_utils.specs.Register.{Forks, Turns};
 ghost use Rattle.crossbeam_utils.specs.Seq.{cell_view};
 ghost use Rattle.ioc_line.specs.Key.{Key, Has};
-ghost use Rattle.ioc_line.specs.Line.{keeper, holder, nobody, copied, claiming, claimed, owning, shown, took, longer, learnt, added, given, noted, Continues, Begins};
+ghost use Rattle.ioc_line.specs.Line.{keeper, holder, nobody, copied, claiming, claimed, owning, shown, took, longer, learnt, added, given, noted, Continues, Begins, Kept};
 
 use crate::entry::JournalEntry;
 use crate::room::{
-    Again, Appends, Cell, Claims, Keys, Learns, Parts, Rest, Said, Shows, TakesIn, Token, Whole,
+    Again, Appends, Cell, Claims, Keys, Learns, Parts, Rest, Said, Shows, TakesIn, Token, View,
+    Whole,
 };
+use atomic_table::Split;
+use crossbeam_utils::rule::Outcome;
 use std::marker::Brand;
 use std::sync::Wait;
+
+// Cuts a view in two, of which a new pass gets the second.
+fn cut<M: Split<View>>(cell: &Cell, pass: &mut Token) -> Token
+    requires table { pass.old.table_id ≡ cell.now.table.shared.table_id }
+    requires rule { Forks Kept pass.old.id (cell_view pass.old) (M.left (cell_view pass.old)) (M.right (cell_view pass.old)) }
+    ensures kept { (pass.new.table_id ≡ pass.old.table_id) × (cell_view pass.new ≡ M.left (cell_view pass.old)) }
+    ensures given { (result.table_id ≡ pass.old.table_id) × (result.me.1 ≡ []) × (cell_view result ≡ M.right (cell_view pass.old)) }
+{
+    cell.split_pass::<M>(pass)
+}
+
+// Lays a pass beside another, to be compared with it.
+fn lay_beside(cell: &Cell, pass: &mut Token, other: Token)
+    requires table { (pass.old.table_id ≡ cell.now.table.shared.table_id) × (other.table_id ≡ pass.old.table_id) × (other.me.1 ≡ []) }
+    requires asks { ((cell_view pass.old).asks ≡ []) × ((cell_view other).asks ≡ []) }
+    ensures { (pass.new.table_id ≡ pass.old.table_id) × (cell_view pass.new ≡ shown (cell_view pass.old) (cell_view other)) }
+{
+    cell.join_pass::<Shows>(pass, other);
+}
 
 /// A pass that has seen the same list.
 pub fn again(cell: &Cell, pass: &mut Token) -> Token
@@ -17,7 +40,7 @@ pub fn again(cell: &Cell, pass: &mut Token) -> Token
     ensures kept { (pass.new.table_id ≡ pass.old.table_id) × (cell_view pass.new ≡ cell_view pass.old) }
     ensures given { (result.table_id ≡ pass.old.table_id) × (result.me.1 ≡ []) × (cell_view result ≡ copied (cell_view pass.old)) }
 {
-    cell.split_pass::<Again>(pass)
+    cut::<Again>(cell, pass)
 }
 
 /// All that a pass knows and owns, in a new pass.
@@ -27,7 +50,7 @@ pub fn whole(cell: &Cell, pass: &mut Token) -> Token
     ensures kept { (pass.new.table_id ≡ pass.old.table_id) × (cell_view pass.new ≡ nobody) }
     ensures given { (result.table_id ≡ pass.old.table_id) × (result.me.1 ≡ []) × (cell_view result ≡ cell_view pass.old) }
 {
-    cell.split_pass::<Whole>(pass)
+    cut::<Whole>(cell, pass)
 }
 
 /// The keeper gives new keys out.
@@ -38,7 +61,7 @@ pub fn claim<K: Keys>(cell: &Cell, master: &mut Token) -> Token
     ensures kept { (master.new.table_id ≡ master.old.table_id) × (cell_view master.new ≡ claiming K.keys (cell_view master.old)) }
     ensures given { (result.table_id ≡ master.old.table_id) × (result.me.1 ≡ []) × (cell_view result ≡ claimed K.keys (cell_view master.old)) }
 {
-    cell.split_pass::<Claims<K>>(master)
+    cut::<Claims<K>>(cell, master)
 }
 
 /// Some of the keys go to a new pass, with the whole list.
@@ -50,7 +73,17 @@ pub fn part<K: Keys>(cell: &Cell, pass: &mut Token) -> Token
     ensures kept { (pass.new.table_id ≡ pass.old.table_id) × (cell_view pass.new ≡ owning K.rest (cell_view pass.old)) }
     ensures given { (result.table_id ≡ pass.old.table_id) × (result.me.1 ≡ []) × (cell_view result ≡ claimed K.keys (cell_view pass.old)) }
 {
-    cell.split_pass::<Parts<K>>(pass)
+    cut::<Parts<K>>(cell, pass)
+}
+
+// A step of one pass that the rule allows. It leaves the cell's word as it is.
+fn step<O: Outcome<[u64; 1], View>, R: Wait>(rt: &R, cell: &Cell, pass: &mut Token)
+    requires table { pass.old.table_id ≡ cell.now.table.shared.table_id }
+    requires rule { Turns Kept pass.old.id (cell_view pass.old) (λ x. x) O.then }
+    ensures table { pass.new.table_id ≡ pass.old.table_id }
+    ensures rule { (word : List ℕ) × O.then (cell_view pass.old) word word (cell_view pass.new) }
+{
+    cell.load_as::<O, R>(rt, pass);
 }
 
 /// The keeper takes a pass in, and learns that nothing was noted of its keys since.
@@ -63,8 +96,8 @@ pub fn take_in<R: Wait>(rt: &R, cell: &Cell, master: &mut Token, other: Token)
     ensures born { (k : Key) → Has k (cell_view other).owns → Has k (cell_view master.old).born }
     ensures apart { (k : Key) → Has k (cell_view master.old).owns → Has k (cell_view other).owns → ⊥ }
 {
-    cell.join_pass::<Shows>(master, other);
-    cell.load_as::<TakesIn, R>(rt, master);
+    lay_beside(cell, master, other);
+    step::<TakesIn, R>(rt, cell, master);
 }
 
 /// A pass takes over the longer list.
@@ -76,8 +109,8 @@ pub fn learn<R: Wait>(rt: &R, cell: &Cell, pass: &mut Token, other: Token)
     ensures goes_on { Continues (cell_view pass.old).seen (cell_view pass.old).owns (longer (cell_view pass.old).seen (cell_view other).seen) }
     ensures begins { Begins (cell_view other).seen (longer (cell_view pass.old).seen (cell_view other).seen) }
 {
-    cell.join_pass::<Shows>(pass, other);
-    cell.load_as::<Learns, R>(rt, pass);
+    lay_beside(cell, pass, other);
+    step::<Learns, R>(rt, cell, pass);
 }
 
 /// All keys go to a new pass, with the whole list.
@@ -87,7 +120,7 @@ pub fn rest(cell: &Cell, pass: &mut Token) -> Token
     ensures kept { (pass.new.table_id ≡ pass.old.table_id) × (cell_view pass.new ≡ owning [] (cell_view pass.old)) }
     ensures given { (result.table_id ≡ pass.old.table_id) × (result.me.1 ≡ []) × (cell_view result ≡ given (cell_view pass.old)) }
 {
-    cell.split_pass::<Rest>(pass)
+    cut::<Rest>(cell, pass)
 }
 
 /// The keeper adds a note of whose keys it owns all.
@@ -97,7 +130,7 @@ pub fn note_down<S: Said, R: Wait>(rt: &R, cell: &Cell, master: &mut Token)
     requires owns { (k : Key) → Has k S.note.keys → Has k (cell_view master.old).owns }
     ensures { (master.new.table_id ≡ master.old.table_id) × (cell_view master.new ≡ added S.note (cell_view master.old)) }
 {
-    cell.load_as::<Appends<S>, R>(rt, master);
+    step::<Appends<S>, R>(rt, cell, master);
 }
 
 fn append_as<K: Keys, S: Said, R: Wait>(
