@@ -16,6 +16,7 @@ use std::marker::Brand;
 use std::sync::Wait;
 
 // Cuts a view in two, of which a new pass gets the second.
+#[inline(always)]
 fn cut<M: Split<View>>(cell: &Cell, pass: &mut Token) -> Token
     requires table { pass.old.table_id ≡ cell.now.table.shared.table_id }
     requires rule { Forks Kept pass.old.id (cell_view pass.old) (M.left (cell_view pass.old)) (M.right (cell_view pass.old)) }
@@ -26,6 +27,7 @@ fn cut<M: Split<View>>(cell: &Cell, pass: &mut Token) -> Token
 }
 
 // Lays a pass beside another, to be compared with it.
+#[inline(always)]
 fn lay_beside(cell: &Cell, pass: &mut Token, other: Token)
     requires table { (pass.old.table_id ≡ cell.now.table.shared.table_id) × (other.table_id ≡ pass.old.table_id) × (other.me.1 ≡ []) }
     requires asks { ((cell_view pass.old).asks ≡ []) × ((cell_view other).asks ≡ []) }
@@ -77,6 +79,7 @@ pub fn part<K: Keys>(cell: &Cell, pass: &mut Token) -> Token
 }
 
 // A step of one pass that the rule allows. It leaves the cell's word as it is.
+#[inline(always)]
 fn step<O: Outcome<[u64; 1], View>, R: Wait>(rt: &R, cell: &Cell, pass: &mut Token)
     requires table { pass.old.table_id ≡ cell.now.table.shared.table_id }
     requires rule { Turns Kept pass.old.id (cell_view pass.old) (λ x. x) O.then }
