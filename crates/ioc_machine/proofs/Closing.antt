@@ -3,7 +3,7 @@ use Rattle.std.proofs.Common.{◌≡◌, ℕ, ◌≤◌, List, [], subst, sym, a
 use Rattle.ioc_notify.specs.declared.live_numbers.Live.{Live}
 use Rattle.ioc_notify.specs.declared.waiting_lists.Waiting.{Waiting}
 use Rattle.std.specs.Global.{Vec}
-use Rattle.std.specs.Prelude.{Contains}
+use Rattle.std.specs.Prelude.{Contains, Result, Ok, IfOk}
 use Rattle.std.specs.FinMap.{len}
 use Rattle.ioc_record.specs.RecordRules.{RecordRules, targets}
 use Rattle.ioc_store.specs.OneMap.{numbered, world_of, given_of}
@@ -67,3 +67,7 @@ first_is {R} map records is none nobody fresh =
     fresh ∙ ap (λ (l : List Live). record { records = numbered map.records.items; moment = 0; calls = []; outbox = []; dropped = 0; live = l; ended = []; waiting = (world_of map).waiting }) none
     ∙ ap (λ (l : List Waiting). record { records = numbered map.records.items; moment = 0; calls = []; outbox = []; dropped = 0; live = []; ended = []; waiting = l }) nobody
     ∙ ap (λ (v : Vec R). record { records = numbered v.items; moment = 0; calls = []; outbox = []; dropped = 0; live = []; ended = []; waiting = [] }) is
+
+-- what holds of a result holds of what was made
+pub was_ok : {T E : Type 0} (r : Result T E) (x : T) (P : T → Type 0) → r ≡ Ok x → IfOk r P → P x
+was_ok {E = E} r x P is p = subst (λ (s : Result _ E). IfOk s P) is p

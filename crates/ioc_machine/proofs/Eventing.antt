@@ -1,5 +1,5 @@
 -- What the code of an event does to the machine of a script.
-use Rattle.std.proofs.Common.{◌≡◌, ℕ, Bool, false, [], List, refl, sym, ap, subst, ◌∙◌}
+use Rattle.std.proofs.Common.{◌≡◌, ℕ, false, [], List, refl, sym, ap, subst, ◌∙◌}
 use Rattle.ioc_device.specs.declared.Answer.{Answer}
 use Rattle.ioc_ledger.specs.declared.tally.Tally.{Tally}
 use Rattle.ioc_record.specs.RecordRules.{RecordRules}

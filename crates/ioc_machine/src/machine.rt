@@ -1,11 +1,14 @@
 //! What a script works on.
-ghost use Rattle.std.specs.Prelude.{◌≡◌, ◌≤◌, [], map, IfOk, OnOk};
+ghost use Rattle.std.specs.Prelude.{◌≡◌, ◌≤◌, [], map, Ok, IfOk, OnOk};
 ghost use Rattle.std.specs.FinMap.{len};
 ghost use Rattle.std.specs.Vec.{vec_capacity};
 ghost use Rattle.ioc_types.specs.Record.{record_rules};
-ghost use Rattle.ioc_store.specs.OneMap.{world_of};
 ghost use Rattle.ioc_process.specs.Rules.{IsSettled};
 ghost use Rattle.ioc_dbfile.specs.FirstWorld.{first_world};
+ghost use Rattle.ioc_store.specs.OneMap.{world_of};
+ghost use Rattle.ioc_callback.specs.Serving.{no_items};
+ghost use Rattle.ioc_machine.specs.declared.first_lists.Occasion.TheVariants.{Scanning};
+ghost use Rattle.ioc_machine.specs.FirstLists.{first_lists};
 ghost use Rattle.ioc_machine.specs.Machine.{first_queue};
 
 use crate::first_lists::{Occasion, first_lists, starters};
@@ -66,6 +69,40 @@ fn devices_of(alloc: Global, records: &[Record]) -> Result<Vec<Option<Scripted>>
     Ok(devices)
 }
 
+// The scan lists of these records, with no request waiting.
+fn scanner_of(alloc: Global, records: &[Record]) -> Result<Scanner, AllocError>
+    ensures { IfOk result (λ s. s ≡ record { lists = first_lists record_rules Scanning records.now; queues = no_items }) }
+{
+    let lists = first_lists(alloc, Occasion::Scanning, records)?;
+    Scanner::new(alloc, lists)
+}
+
+// A value beside another one, if that was made. Of whatever type they are: to let go of a machine's parts one by one where the next can't be
+// made takes long to prove.
+fn both<T: Drop, U>(first: T, second: Result<U, AllocError>) -> Result<(T, U), AllocError>
+    ensures { IfOk result (λ x. (x.0 ≡ first) × (second ≡ Ok x.1)) }
+{
+    let second = second?;
+    Ok((first, second))
+}
+
+// These records before any event with their devices, and open frames, of which there is none, with room for all records.
+fn map_of(
+    alloc: Global,
+    records: Vec<Record>,
+) -> Result<(OneMap<Record, Scripted>, Vec<Frame>), AllocError>
+    ensures world { IfOk result (λ m. world_of m.0 ≡ first_world records.items) }
+    ensures devices { IfOk result (λ m. m.0.devices.items ≡ map (first_queue record_rules) records.items) }
+    ensures empty { IfOk result (λ m. m.1.items ≡ []) }
+    ensures room { IfOk result (λ m. len (world_of m.0).records ≤ vec_capacity m.1) }
+{
+    let devices = devices_of(alloc, records.as_slice())?;
+    let event = EventStore::new(alloc)?;
+    let map = OneMap::new(records, devices, event);
+    let room = map.frames(alloc);
+    both(map, room)
+}
+
 impl Machine {
     ghost use Rattle.ioc_events.specs.declared.event.Event.TheVariants.{Process, Put, Complete, Link as Link_event, Notify, Cancel};
     ghost use Rattle.ioc_events.specs.Events.{reply_of};
@@ -80,14 +117,13 @@ impl Machine {
         requires { IsSettled record_rules (first_world records.items) }
         ensures { IfOk result (λ m. machine_of m ≡ loaded_machine record_rules records.items) }
     {
-        let devices = devices_of(alloc, records.as_slice())?;
-        let lists = first_lists(alloc, Occasion::Scanning, records.as_slice())?;
-        let scanner = Scanner::new(alloc, lists)?;
-        let owners = owners_of(alloc, records.as_slice())?;
-        let event = EventStore::new(alloc)?;
-        let map = OneMap::new(records, devices, event);
-        let frames = map.frames(alloc)?;
         let ended = Vec::with_capacity(alloc, 256)?;
+        let scanner = scanner_of(alloc, records.as_slice())?;
+        let owners = owners_of(alloc, records.as_slice());
+        let places = both(scanner, owners)?;
+        let map = map_of(alloc, records);
+        let parts = both(places, map)?;
+        let ((scanner, owners), (map, frames)) = parts;
         Ok(Machine {
             map,
             frames,
@@ -112,8 +148,9 @@ impl Machine {
     {
         let starters = starters(alloc, records.as_slice())?;
         let mut machine = Machine::loaded(alloc, records)?;
-        machine.request_each(starters.as_slice())?;
-        Ok(machine)
+        let requested = machine.request_each(starters.as_slice());
+        let parts = both(machine, requested)?;
+        Ok(parts.0)
     }
 
     /// The records.

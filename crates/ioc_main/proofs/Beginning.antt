@@ -1,6 +1,6 @@
 -- A run begins with the database of its text.
 use Rattle.std.proofs.Common.{◌≡◌, ℕ, List, Option, Some, None, Ok, Err, refl, sym, ap, subst, ◌∙◌}
-use Rattle.std.specs.Prelude.{IfSome}
+use Rattle.std.specs.Prelude.{Result, IfSome, IfErr}
 use Rattle.std.specs.Io.KnownBytes.{Appends, Keeps}
 use Rattle.ioc_names.specs.NameTable.{NameTable}
 use Rattle.ioc_types.specs.Record.{Record, record_rules}
@@ -8,6 +8,7 @@ use Rattle.ioc_dbtext.specs.Macros.{Defined}
 use Rattle.ioc_dbfile.specs.Loader.{Loading}
 use Rattle.ioc_main.specs.declared.fault.ScriptFault.{ScriptFault}
 use Rattle.ioc_main.specs.declared.fault.ScriptFault.TheVariants as script
+use Rattle.ioc_main.specs.declared.fault.RunFault.{RunFault}
 use Rattle.ioc_main.specs.declared.fault.RunFault.TheVariants.{Memory}
 use Rattle.ioc_main.specs.Faults.{run_fault_of, fault_of}
 use Rattle.ioc_values.specs.declared.error.IocError.{IocError}
@@ -57,3 +58,7 @@ memory_stops macros text a w = in_the_load (keeps_same w)
 pub load_stops : (e : IocError) (macros : List Defined) (text : List ℕ) (a w : Option (List ℕ)) → Gives database_of (Err e) (loaded macros text) → StopsWith (fault_of e) macros text a w w
 load_stops (refusal.BadDb fault) macros text a w gives = (gives, keeps_same w)
 load_stops other macros text a w gives = memory_stops macros text a w
+
+-- what holds of a fault holds of a run that it ends
+pub err_as : {T : Type 0} {r : Result T RunFault} {fault : RunFault} (P : RunFault → Type 0) → (y : RunFault) × (r ≡ Err y) × (y ≡ fault) → P fault → IfErr r P
+err_as P p q = rw (p.1, p.2) q

@@ -1,11 +1,12 @@
 //! How a line of a script is answered.
-ghost use Rattle.std.specs.Prelude.{◌≡◌, ◌≤◌, ◌+◌, ◌++◌, [], false, length, IsTrue, IfOk, OnOk, OnErr};
+ghost use Rattle.std.specs.Prelude.{◌≡◌, ◌≤◌, ◌+◌, ◌++◌, [], codes, length, IfOk, OnOk, OnErr};
 ghost use Rattle.ioc_types.specs.Record.{record_rules};
 ghost use Rattle.ioc_machine.specs.Machine.{with_none_ended};
 ghost use Rattle.ioc_machine.specs.SeenMachine.{machine_of};
 ghost use Rattle.ioc_main.specs.Replay.{carried_out, answered, attended, ended_lines};
-ghost use Rattle.ioc_script.specs.Script.{Sets, command_of, is_silent, put_of, before, behind};
+ghost use Rattle.ioc_script.specs.Script.{command_of, is_silent, put_of, before, behind};
 ghost use Rattle.ioc_script.specs.Seen.{seen};
+ghost use Rattle.ioc_script.specs.declared.command.Command.TheVariants.{Sets};
 ghost use Rattle.ioc_main.specs.Coming.{Stands};
 
 use crate::replay::Replay;
@@ -15,39 +16,57 @@ use ioc_script::{Command, ended_line, split_before, words_of_put};
 use ioc_values::Finished;
 use std::alloc::AllocError;
 
+// Says that a line is none of a script.
+fn say_bad(replies: &mut Replies)
+    requires { length replies.old + 256 ≤ 4096 }
+    ensures { replies.new ≡ replies.old ++ codes "bad\n" }
+{
+    replies.extend(b"bad\n");
+}
+
 impl Replay {
-    // Does what a line asks for, and says it, where that fits among the replies: all but what is said of the sets, which is not done then.
+    // Does what a line asks for, and says it, where that fits among the replies: what is said of the sets is too long.
     #[tactic(auto, unfolding(crate::specs::Replay::carried_out))]
-    fn reply_to(&mut self, command: &Command<'_>, replies: &mut Replies) -> Result<bool, AllocError>
-        requires { length replies.old + 256 ≤ 4096 }
+    fn reply_to(&mut self, command: &Command<'_>, replies: &mut Replies) -> Result<(), AllocError>
+        requires room { length replies.old + 256 ≤ 4096 }
+        requires short { command.now ≡ Sets → ⊥ }
         ensures names { self.new.names ≡ self.old.names }
-        ensures machine { IfOk result (λ fits. IsTrue fits → machine_of self.new.machine ≡ (carried_out record_rules self.old.names (machine_of self.old.machine) (seen command.now)).machine) }
-        ensures said { IfOk result (λ fits. IsTrue fits → replies.new ≡ replies.old ++ (carried_out record_rules self.old.names (machine_of self.old.machine) (seen command.now)).said) }
-        ensures sets { IfOk result (λ fits. fits ≡ false → (seen command.now ≡ Sets) × (machine_of self.new.machine ≡ machine_of self.old.machine) × (replies.new ≡ replies.old)) }
+        ensures machine { OnOk result (machine_of self.new.machine ≡ (carried_out record_rules self.old.names (machine_of self.old.machine) (seen command.now)).machine) }
+        ensures said { OnOk result (replies.new ≡ replies.old ++ (carried_out record_rules self.old.names (machine_of self.old.machine) (seen command.now)).said) }
         ensures kept { OnErr result (replies.new ≡ replies.old) }
     {
         match *command {
-            Command::Silent => {}
-            Command::Bad => replies.extend(b"bad\n"),
-            Command::Process(record) => self.process(record, replies)?,
-            Command::Put(record, field, text) => self.put(record, field, text, replies)?,
-            Command::Get(record, field) => self.get(record, field, replies),
-            Command::At(moment) => self.begin_at(moment, replies),
-            Command::NextDone(record, text) => self.queue_done(record, text, replies)?,
-            Command::NextFault(record) => self.queue(record, Answer::Fault, replies)?,
-            Command::NextLater(record) => self.queue(record, Answer::Later, replies)?,
-            Command::Done(record, wait, text) => self.complete_done(record, wait, text, replies)?,
-            Command::Fault(record, wait) => self.complete(record, wait, Finished::Fault, replies)?,
-            Command::Event(name) => self.post(name, replies)?,
-            Command::Interrupt(word) => self.interrupt(word, replies)?,
-            Command::Scan(period) => self.scan(&period, replies)?,
-            Command::Link(record, field, text) => self.link(record, field, text, replies)?,
-            Command::Tally => self.tally(replies),
-            Command::Notify(record, field, text) => self.notify(record, field, text, replies)?,
-            Command::Cancel(number) => self.cancel(number, replies)?,
-            Command::Sets => return Ok(false),
+            Command::Silent | Command::Sets => Ok(()),
+            Command::Bad => {
+                say_bad(replies);
+                Ok(())
+            }
+            Command::Process(record) => self.process(record, replies),
+            Command::Put(record, field, text) => self.put(record, field, text, replies),
+            Command::Get(record, field) => {
+                self.get(record, field, replies);
+                Ok(())
+            }
+            Command::At(moment) => {
+                self.begin_at(moment, replies);
+                Ok(())
+            }
+            Command::NextDone(record, text) => self.queue_done(record, text, replies),
+            Command::NextFault(record) => self.queue(record, Answer::Fault, replies),
+            Command::NextLater(record) => self.queue(record, Answer::Later, replies),
+            Command::Done(record, wait, text) => self.complete_done(record, wait, text, replies),
+            Command::Fault(record, wait) => self.complete(record, wait, Finished::Fault, replies),
+            Command::Event(name) => self.post(name, replies),
+            Command::Interrupt(word) => self.interrupt(word, replies),
+            Command::Scan(period) => self.scan(&period, replies),
+            Command::Link(record, field, text) => self.link(record, field, text, replies),
+            Command::Tally => {
+                self.tally(replies);
+                Ok(())
+            }
+            Command::Notify(record, field, text) => self.notify(record, field, text, replies),
+            Command::Cancel(number) => self.cancel(number, replies),
         }
-        Ok(true)
     }
 
     // Does what a line asks for, and says it.
@@ -60,10 +79,10 @@ impl Replay {
         ensures said { OnOk result (said.new.replies ++ said.new.more.items ≡ said.old.replies ++ (carried_out record_rules self.old.names (machine_of self.old.machine) (seen command.now)).said) }
         ensures stands { Stands said.old.replies said.new.replies }
     {
-        if !self.reply_to(command, &mut said.replies)? {
-            self.sets(&mut said.more)?;
+        match command {
+            Command::Sets => self.sets(&mut said.more),
+            _ => self.reply_to(command, &mut said.replies),
         }
-        Ok(())
     }
 
     // Puts what the words behind `put` say: a command is as wide as the widest of all lines, and is made for none of these.
@@ -80,7 +99,7 @@ impl Replay {
         let (record, named) = split_before(word, b'.');
         match (named, rest) {
             ([], _) => {
-                replies.extend(b"bad\n");
+                say_bad(replies);
                 Ok(())
             }
             ([_, field @ ..], []) => self.put(record, field, b"", replies),

@@ -85,10 +85,11 @@ impl Replay {
         ensures said { OnOk result (replies.new ≡ replies.old ++ reply_words (processed record_rules self.old.names (machine_of self.old.machine) (number_of self.old.names name.now)).reply ++ 10 ∷ []) }
         ensures kept { OnErr result (replies.new ≡ replies.old) }
     {
-        match self.names.find(name) {
-            Some(number) => say_effect(replies, &self.machine.process(number)?),
-            None => say_refusal(replies, IocError::NoRecord),
-        }
+        let Some(number) = self.names.find(name) else {
+            say_refusal(replies, IocError::NoRecord);
+            return Ok(());
+        };
+        say_effect(replies, &self.machine.process(number)?);
         Ok(())
     }
 
@@ -119,12 +120,14 @@ impl Replay {
         ensures said { OnOk result (replies.new ≡ replies.old ++ reply_words (were_put record_rules self.old.names (machine_of self.old.machine) text.now (channel record_rules self.old.names (machine_of self.old.machine).world record_name.now field_name.now)).reply ++ 10 ∷ []) }
         ensures kept { OnErr result (replies.new ≡ replies.old) }
     {
-        match channel(&self.names, &self.machine, record_name, field_name) {
-            Ok((number, field)) => {
-                say_effect(replies, &self.machine.put(number, field, text)?);
+        let (number, field) = match channel(&self.names, &self.machine, record_name, field_name) {
+            Ok(found) => found,
+            Err(refused) => {
+                say_refusal(replies, refused);
+                return Ok(());
             }
-            Err(refused) => say_refusal(replies, refused),
-        }
+        };
+        say_effect(replies, &self.machine.put(number, field, text)?);
         Ok(())
     }
 
@@ -141,10 +144,11 @@ impl Replay {
         ensures said { OnOk result (replies.new ≡ replies.old ++ reply_words (answers_next record_rules self.old.names (machine_of self.old.machine) answer (number_of self.old.names name.now)).reply ++ 10 ∷ []) }
         ensures kept { OnErr result (replies.new ≡ replies.old) }
     {
-        match self.names.find(name) {
-            Some(number) => say_reply(replies, &self.machine.queue(number, answer)?),
-            None => say_refusal(replies, IocError::NoRecord),
-        }
+        let Some(number) = self.names.find(name) else {
+            say_refusal(replies, IocError::NoRecord);
+            return Ok(());
+        };
+        say_reply(replies, &self.machine.queue(number, answer)?);
         Ok(())
     }
 
@@ -178,10 +182,11 @@ impl Replay {
         ensures said { OnOk result (replies.new ≡ replies.old ++ reply_words (were_completed record_rules self.old.names (machine_of self.old.machine) wait finished (number_of self.old.names name.now)).reply ++ 10 ∷ []) }
         ensures kept { OnErr result (replies.new ≡ replies.old) }
     {
-        match self.names.find(name) {
-            Some(number) => say_reply(replies, &self.machine.complete(number, wait, finished)?),
-            None => say_refusal(replies, IocError::NoRecord),
-        }
+        let Some(number) = self.names.find(name) else {
+            say_refusal(replies, IocError::NoRecord);
+            return Ok(());
+        };
+        say_reply(replies, &self.machine.complete(number, wait, finished)?);
         Ok(())
     }
 
@@ -264,13 +269,15 @@ impl Replay {
         ensures said { OnOk result (replies.new ≡ replies.old ++ reply_words (were_linked record_rules self.old.names (machine_of self.old.machine) text.now (channel record_rules self.old.names (machine_of self.old.machine).world record_name.now field_name.now)).reply ++ 10 ∷ []) }
         ensures kept { OnErr result (replies.new ≡ replies.old) }
     {
-        match channel(&self.names, &self.machine, record_name, field_name) {
-            Ok((number, field)) => {
-                let told = relink(&self.names, &mut self.machine, number, field, text)?;
-                say_reply(replies, &told);
+        let (number, field) = match channel(&self.names, &self.machine, record_name, field_name) {
+            Ok(found) => found,
+            Err(refused) => {
+                say_refusal(replies, refused);
+                return Ok(());
             }
-            Err(refused) => say_refusal(replies, refused),
-        }
+        };
+        let told = relink(&self.names, &mut self.machine, number, field, text)?;
+        say_reply(replies, &told);
         Ok(())
     }
 
@@ -307,15 +314,15 @@ impl Replay {
         ensures said { OnOk result (replies.new ≡ replies.old ++ reply_words (were_notified record_rules self.old.names (machine_of self.old.machine) text.now (channel record_rules self.old.names (machine_of self.old.machine).world record_name.now field_name.now)).reply ++ 10 ∷ []) }
         ensures kept { OnErr result (replies.new ≡ replies.old) }
     {
-        match channel(&self.names, &self.machine, record_name, field_name) {
-            Ok((number, field)) => {
-                say_reply(
-                    replies,
-                    &self.machine.notify(number, field, Input::from_text(text))?,
-                );
+        let (number, field) = match channel(&self.names, &self.machine, record_name, field_name) {
+            Ok(found) => found,
+            Err(refused) => {
+                say_refusal(replies, refused);
+                return Ok(());
             }
-            Err(refused) => say_refusal(replies, refused),
-        }
+        };
+        let told = self.machine.notify(number, field, Input::from_text(text))?;
+        say_reply(replies, &told);
         Ok(())
     }
 
