@@ -46,7 +46,7 @@ pub record CameToNothing {R : Type 0} (come_to : World R) : Type 0 where
   pub ended : come_to.ended ≡ []
 
 module _ {R D : Type 0} (k : RecordRules R) where
-  -- a set has what it had, but this put with notification, which is given up at this moment: so its own history tells, behind which it stands
+  -- a set has what it had, but this put with notification, which is given up; the cancel, with its moment, stands behind the set's own history
   pub record GivesUp (moment number : ℕ) (before after : Held R D) : Type 0 where
     pub records : after.records ≡ (cancelled k number (now_of before)).records
     pub waiting : after.waiting ≡ (cancelled k number (now_of before)).waiting
