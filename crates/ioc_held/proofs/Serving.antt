@@ -1,5 +1,5 @@
 -- What a holder knows after an event of its own.
-use Rattle.std.proofs.Common.{◌≡◌, ℕ, Bool, true, false, cond, List, [], ◌∷◌, ◌++◌, length, refl, sym, ap, ◌∙◌, subst, zero, suc, arith}
+use Rattle.std.proofs.Common.{◌≡◌, ℕ, Bool, true, false, cond, List, [], ◌∷◌, ◌++◌, length, None, refl, sym, ap, ◌∙◌, subst, zero, suc, arith}
 use Rattle.std.specs.Prelude.{◌==◌, Contains, is_some}
 use Rattle.std.specs.Ordering.{nat_cmp}
 use Rattle.std.specs.FinMap.{FinMap, get}
@@ -27,7 +27,7 @@ use Rattle.ioc_line.specs.KeyLaws.{has_left}
 use Rattle.ioc_holding.specs.Legal.{AreLiveAlike, IsLegal, IsSound, key_of, notifications_key, map_of, done}
 use Rattle.ioc_holding.specs.Held.{Holds, Cover, CancelsWithin, AreHeldAlike, IsOf, IsDone, question_note}
 use Rattle.ioc_holding.specs.Laws.{Lasts, OneMore, HoldersMove, MovesAlike, Asks, HeldAlike, GoesOn}
-use Rattle.ioc_journal.specs.Account.{journalled, AreRecords, IsHolder, MayFollow, Added}
+use Rattle.ioc_journal.specs.Account.{journalled, number_given, AreRecords, IsHolder, MayFollow, Added}
 use Rattle.ioc_held.specs.Holding.{IsOwner}
 use Rattle.ioc_set.specs.Held.{Held, NoneIsLive, now_of, folded, done_by, held_after}
 use Rattle.ioc_set.specs.Doing.{is_ordinary, with_place, Does}
@@ -49,6 +49,17 @@ names_one (Link s field link) is = absurd (false_true is)
 names_one (Notify s n field given) is = absurd (false_true is)
 names_one (Cancel n) is = absurd (false_true is)
 names_one (IsLive n) is = absurd (false_true is)
+
+-- such an event begins no put with notification
+pub begins_no_put : (event : Event) → is_ordinary event ≡ true → number_given event ≡ None
+begins_no_put (Get s field) is = refl
+begins_no_put (Process s) is = refl
+begins_no_put (Put s field given) is = refl
+begins_no_put (Complete s n x) is = refl
+begins_no_put (Link s field link) is = refl
+begins_no_put (Notify s n field given) is = absurd (false_true is)
+begins_no_put (Cancel n) is = refl
+begins_no_put (IsLive n) is = refl
 
 -- the pass of a holder that has seen more of the list, for records that were there
 pub owner_on : {R : Type 0} (table id id' : TableId) (v v' : View) (seen : List Note) (w w' : World R) → IsOwner table id v w → id' ≡ id → v' ≡ holder seen v.owns → ((n : ℕ) → Has w' n → Has w n) → IsOwner table id' v' w'

@@ -1,7 +1,7 @@
 -- The puts with notification of all lock sets, in one table beside the journal.
 -- Application Developer's Guide, "Put with Notification" (dbPutNotify): it is complete when all that it has reached is done. The table and its
 -- place beside the journal are this project's own.
-use Rattle.std.specs.Prelude.{◌≡◌, ◌⊎◌, ◌+◌, ◌-◌, ◌≤◌, ◌<◌, ◌^◌, ℕ, true, false, List, [], length}
+use Rattle.std.specs.Prelude.{◌≡◌, ◌⊎◌, ◌+◌, ◌-◌, ◌≤◌, ◌<◌, ◌^◌, ℕ, true, false, List, [], length, All}
 use Rattle.atomic_table.specs.Seated.{TableId}
 use Rattle.crossbeam_utils.specs.Seq.{cell_view}
 use Rattle.ioc_notify.specs.declared.live_numbers.Live.{Live}
@@ -15,7 +15,7 @@ use Rattle.ioc_events.specs.declared.event.Event.TheVariants.{Cancel, IsLive}
 use Rattle.ioc_events.specs.declared.event.Entry.{Entry}
 use Rattle.ioc_events.specs.declared.reply.Reply.{Reply}
 use Rattle.ioc_events.specs.declared.reply.Reply.TheVariants.{Live as Live-reply, Refused}
-use Rattle.ioc_journal.specs.Account.{DeskView, Call, Pass, puts_key}
+use Rattle.ioc_journal.specs.Account.{DeskView, Call, Pass, puts_key, calls, numbers_given}
 use Rattle.ioc_line.specs.declared.entry.Note.{Note}
 use Rattle.ioc_line.specs.declared.room.View.{View}
 use Rattle.ioc_line.specs.Line.{holder}
@@ -41,16 +41,22 @@ pub record CanBegin (p : PutsView) (number : ℕ) : Type 0 where
 abbrev pub NoneCanBegin : PutsView → Type 0
 NoneCanBegin p = (256 ≤ length p.live) ⊎ ((p.last ≡ 2 ^ 64 - 1) ⊎ (is_live (p.last + 1) p.live ≡ true))
 
+-- no put with notification began under a higher number than this
+abbrev pub NoneIsAbove : ℕ → List Note → Type 0
+NoneIsAbove last seen = All (λ number. number ≤ last) (numbers_given (calls seen))
+
 module _ {R : Type 0} (k : RecordRules R) (base : World R) where
   -- as many have each in the world of all, after these notes, as the lines say
   abbrev pub AreCounted : List Live → List Note → Type 0
   AreCounted live seen = (n : ℕ) → holders_in n live ≡ holders_of n (map_of k base seen).live
 
-  -- the keeper owns the key of the puts with notification, and its table counts all; it has room for what a set has besides
-  pub record AreKept (table : TableId) (pass : Pass) (t : Table) : Type 0 where
+  -- the keeper owns the key of the puts with notification, and its table counts all; none began under a higher number than the last; there is
+  -- room for what a set has besides
+  pub record AreKept (table : TableId) (pass : Pass) (t : Table) (last : ℕ) : Type 0 where
     pub same : pass.table_id ≡ table
     pub holds : cell_view {V = View} pass ≡ holder (cell_view {V = View} pass).seen puts_key
     pub counted : AreCounted t.live (cell_view {V = View} pass).seen
+    pub below : NoneIsAbove last (cell_view {V = View} pass).seen
     pub few : length t.live ≤ 256
     pub room : 512 ≤ t.room
 

@@ -1,10 +1,10 @@
 //! Calls about puts with notification that concern no set.
-ghost use Rattle.std.specs.Prelude.{◌≡◌, ◌∷◌, false, List, IfOk, IfErr, OnErr};
+ghost use Rattle.std.specs.Prelude.{◌≡◌, ◌∷◌, false, List, None, IfOk, IfErr, OnErr};
 ghost use Rattle.ioc_events.specs.declared.event.Event.TheVariants.{Cancel, IsLive};
 ghost use Rattle.ioc_notify.specs.Living.{is_live};
 ghost use Rattle.ioc_line.specs.declared.entry.Note.{Note};
 ghost use Rattle.ioc_holding.specs.Legal.{AreLiveAlike, map_of};
-ghost use Rattle.ioc_journal.specs.Account.{Call, MayFollow, Added, puts_key};
+ghost use Rattle.ioc_journal.specs.Account.{Call, MayFollow, Added, number_given, puts_key};
 ghost use Rattle.ioc_journal.specs.Places.{IsNoPlace};
 ghost use Rattle.ioc_held.specs.Puts.{puts_view, WasAsked, WasStale};
 
@@ -37,6 +37,7 @@ impl<K: RecordKind, B: Base<K>> AllPuts<K, B> {
         entry: Entry,
     ) -> Receipt<K, B>
         requires follows { MayFollow K.rules B.base self.old.seen puts_key entry }
+        requires begins_none { number_given entry.event ≡ None }
         requires alike { (log longer : List Note) → Added K.rules B.base self.old.seen puts_key entry log longer → AreLiveAlike (map_of K.rules B.base log) (map_of K.rules B.base longer) }
         ensures call { Call K.rules B.base desk.old entry desk.new }
         ensures receipt { result ≡ desk.new.seen }

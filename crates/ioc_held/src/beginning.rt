@@ -81,10 +81,18 @@ impl<K: RecordKind + Drop, B: Base<K>, D: Device> Held<K, B, D> {
             entry,
         } = ran;
         let receipt = keep_beside(
-            rt, book, place, &mut pass, all, desk, entry, &before, &self.set,
+            rt,
+            book,
+            place,
+            &mut pass,
+            all,
+            desk,
+            entry,
+            &before,
+            &self.set,
+            notification.number(),
         );
         self.pass = Some(pass);
-        all.last = notification.number();
         Ok((reply, receipt))
     }
 

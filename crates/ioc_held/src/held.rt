@@ -209,6 +209,8 @@ impl<K: RecordKind + Drop, B: Base<K>, D: Device> Held<K, B, D> {
             unreachable!();
         };
         let mut guard = puts.lock(rt);
+        let all = &mut *guard;
+        let last = all.last;
         let Ran {
             place,
             before,
@@ -216,7 +218,7 @@ impl<K: RecordKind + Drop, B: Base<K>, D: Device> Held<K, B, D> {
             entry,
         } = ran;
         let receipt = keep_beside(
-            rt, book, place, &mut pass, &mut guard, desk, entry, &before, &self.set,
+            rt, book, place, &mut pass, all, desk, entry, &before, &self.set, last,
         );
         self.pass = Some(pass);
         Ok((reply, receipt))

@@ -6,8 +6,8 @@ ghost use Rattle.ioc_notify.specs.Living.{is_live};
 ghost use Rattle.ioc_put_table.specs.Counts.{IsTable, holders_in};
 ghost use Rattle.ioc_line.specs.declared.entry.Note.{Note};
 ghost use Rattle.ioc_line.specs.Line.{holder};
-ghost use Rattle.ioc_journal.specs.Account.{IsHolder, AreRecords, BothMayFollow, Call, AddedByBoth, puts_key};
-ghost use Rattle.ioc_held.specs.Puts.{puts_view, CanBegin, NoneCanBegin, AreCounted, AreMoved};
+ghost use Rattle.ioc_journal.specs.Account.{IsHolder, AreRecords, BothMayFollow, MayBegin, Call, AddedByBoth, number_given, puts_key};
+ghost use Rattle.ioc_held.specs.Puts.{puts_view, CanBegin, NoneCanBegin, NoneIsAbove, AreCounted, AreMoved};
 
 use ioc_events::Entry;
 use ioc_holding::laws::live_lasts;
@@ -47,7 +47,7 @@ impl<K: RecordKind, B: Base<K>> Model for AllPuts<K, B> {
 
     ghost view = { λ p. puts_view p.table.live p.last (cell_view p.pass).seen };
 
-    ghost invariant = { λ p. AreKept K.rules B.base B.table p.pass p.table };
+    ghost invariant = { λ p. AreKept K.rules B.base B.table p.pass p.table p.last };
 }
 
 impl<K: RecordKind, B: Base<K>> AllPuts<K, B> {
@@ -73,10 +73,12 @@ impl<K: RecordKind, B: Base<K>> AllPuts<K, B> {
         })
     }
 
-    /// What is always true of it: each is live once, and the lines tell how many have it in the world of all.
+    /// What is always true of it: each is live once, the lines tell how many have it in the world of all, and none began under a higher number than
+    /// the last.
     pub fn is_counted(&self)
         ensures table { IsTable self.now.live }
         ensures counted { AreCounted K.rules B.base self.now.live self.now.seen }
+        ensures below { NoneIsAbove self.now.last self.now.seen }
     {
         self.table.is_table();
     }
@@ -113,7 +115,7 @@ fn count_anew(table: &mut PutTable, before: &[Live], after: &[Live])
 }
 
 /// Keeps an event that was done on a set in the journal, with the keys of the set's records and that of the puts with notification, and counts in
-/// the table what the set has then in the place of what it had.
+/// the table what the set has then in the place of what it had. The number that was given last is told.
 pub(crate) fn keep_beside<K: RecordKind, B: Base<K>, D, R: Wait>(
     rt: &R,
     book: &Book<K, B>,
@@ -124,10 +126,14 @@ pub(crate) fn keep_beside<K: RecordKind, B: Base<K>, D, R: Wait>(
     entry: Entry,
     before: &[Live],
     set: &LockSet<K, D>,
+    last: u64,
 ) -> Receipt<K, B>
     requires table { pass.old.table_id ≡ B.table }
     requires set { IsHolder (cell_view pass.old) × AreRecords (cell_view pass.old).owns }
     requires follows { BothMayFollow K.rules B.base (cell_view pass.old).seen (cell_view pass.old).owns all.old.seen puts_key entry }
+    requires begins { MayBegin all.old.seen puts_key entry.event }
+    requires last { all.old.last ≤ last }
+    requires given { IfSome (number_given entry.event) (λ number. number ≤ last) }
     requires moves { (log longer : List Note) → AddedByBoth K.rules B.base (cell_view pass.old).seen (cell_view pass.old).owns all.old.seen puts_key entry log longer →
         AreMoved K.rules B.base log longer before.now set.now.live }
     requires few { length set.now.live ≤ 256 }
@@ -135,7 +141,7 @@ pub(crate) fn keep_beside<K: RecordKind, B: Base<K>, D, R: Wait>(
     ensures receipt { result ≡ desk.new.seen }
     ensures pass { (pass.new.table_id ≡ B.table) × (cell_view pass.new ≡ holder desk.new.seen (cell_view pass.old).owns) }
     ensures seen { all.new.seen ≡ desk.new.seen }
-    ensures last { all.new.last ≡ all.old.last }
+    ensures last { all.new.last ≡ last }
     ensures added { (log : List Note) × AddedByBoth K.rules B.base (cell_view pass.old).seen (cell_view pass.old).owns all.old.seen puts_key entry log desk.new.seen }
 {
     live_lasts::<K>();
@@ -144,5 +150,6 @@ pub(crate) fn keep_beside<K: RecordKind, B: Base<K>, D, R: Wait>(
     let receipt = book.append_two::<Brand, R>(rt, place, pass, &mut all.pass, desk, entry);
     count_anew(&mut all.table, before, set.live_puts());
     all.table.is_table();
+    all.last = last;
     receipt
 }

@@ -21,7 +21,7 @@ length-calls (x ∷ xs) = ap suc (length-calls xs)
 
 -- ---- the calls of one desk
 
-keyed_append : (xs ys : List Note) → Keyed xs → Keyed ys → Keyed (xs ++ ys)
+pub keyed_append : (xs ys : List Note) → Keyed xs → Keyed ys → Keyed (xs ++ ys)
 keyed_append [] ys h g = g
 keyed_append (x ∷ xs) ys h g = (h.0, keyed_append xs ys h.1 g)
 
@@ -29,11 +29,11 @@ pub keyed_right : (xs ys : List Note) → Keyed (xs ++ ys) → Keyed ys
 keyed_right [] ys h = h
 keyed_right (x ∷ xs) ys h = keyed_right xs ys h.1
 
-below_append : (d c : ℕ) (xs ys : List JournalEntry) → Below d c xs → Below d c ys → Below d c (xs ++ ys)
+pub below_append : (d c : ℕ) (xs ys : List JournalEntry) → Below d c xs → Below d c ys → Below d c (xs ++ ys)
 below_append d c [] ys h g = g
 below_append d c (x ∷ xs) ys h g = (h.0, below_append d c xs ys h.1 g)
 
-below_more : (d c c' : ℕ) (xs : List JournalEntry) → c ≤ c' → Below d c xs → Below d c' xs
+pub below_more : (d c c' : ℕ) (xs : List JournalEntry) → c ≤ c' → Below d c xs → Below d c' xs
 below_more d c c' [] le h = tt
 below_more d c c' (x ∷ xs) le h = ((λ e. let a = h.0 e in omega arith), below_more d c c' xs le h.1)
 
@@ -48,7 +48,7 @@ spared_calls (x ∷ xs) d k s =
     ap (λ b. if b then x.entry ∷ calls_by d (calls xs) else calls_by d (calls xs)) (ne_eqb x.entry.desk d (λ (e : x.entry.desk ≡ d). s.0 (subst (λ n. Has (desk_key n) x.keys) e k.0)))
     ∙ spared_calls xs d k.1 s.1
 
-by-append : (d : ℕ) (xs ys : List JournalEntry) → calls_by d (xs ++ ys) ≡ calls_by d xs ++ calls_by d ys
+pub by-append : (d : ℕ) (xs ys : List JournalEntry) → calls_by d (xs ++ ys) ≡ calls_by d xs ++ calls_by d ys
 by-append d [] ys = refl
 by-append d (x ∷ xs) ys = go (nat_eq x.desk d) (by-append d xs ys)
   where
@@ -56,14 +56,14 @@ by-append d (x ∷ xs) ys = go (nat_eq x.desk d) (by-append d xs ys)
     go true e = ap (λ l. x ∷ l) e
     go false e = e
 
-own_one : (e : JournalEntry) → calls_by e.desk (e ∷ []) ≡ e ∷ []
+pub own_one : (e : JournalEntry) → calls_by e.desk (e ∷ []) ≡ e ∷ []
 own_one e = ap (λ b. if b then e ∷ [] else []) (eq-eqb e.desk e.desk refl)
 
 above_snoc : (d c : ℕ) (xs : List JournalEntry) (n : JournalEntry) → Above d c xs → (n.desk ≡ d → c < n.call) → Above d c (xs ++ n ∷ [])
 above_snoc d c [] n h g = (g, tt)
 above_snoc d c (x ∷ xs) n h g = (h.0, above_snoc d c xs n h.1 g)
 
-rising_snoc : (xs : List JournalEntry) (n : JournalEntry) → Rising xs → Below n.desk n.call xs → Rising (xs ++ n ∷ [])
+pub rising_snoc : (xs : List JournalEntry) (n : JournalEntry) → Rising xs → Below n.desk n.call xs → Rising (xs ++ n ∷ [])
 rising_snoc [] n h b = (tt, tt)
 rising_snoc (x ∷ xs) n h b = (above_snoc x.desk x.call xs n h.0 (λ e. b.0 (sym e)), rising_snoc xs n h.1 b.1)
 
@@ -104,41 +104,3 @@ no_longer seen log ks go = omega (arith, ap length go.1, length-append seen go.0
 
 pub counted : (seen log : List Note) (ks : List Key) (n : Note) (next : ℕ) → next ≤ length seen → Continues seen ks log → next + 1 ≤ length (log ++ n ∷ [])
 counted seen log ks n next le go = omega (arith, le, no_longer seen log ks go, length-append log (n ∷ []))
-
--- ---- one call more, of a desk that has seen a beginning of the list
-
-module _ {R : Type 0} (k : RecordRules R) (base : World R) (log seen : List Note) (d c : ℕ) (done : Entry) (owns own : List Key) (is : own ≡ desk_key d ∷ [])
-    (account : IsAccount k base log) (go : Continues seen own log) (below : Below d c (calls seen)) (legal : IsLegal k base (log ++ noted (journalled d c done) (owns ++ own) ∷ [])) where
-  abbrev made : Note
-  made = noted (journalled d c done) (owns ++ own)
-
-  goes : Continues seen (desk_key d ∷ []) log
-  goes = (go.0, go.1, λ q a. go.2 q (subst (Has q) (sym is) a))
-
-  was_below : Below d c (calls log)
-  was_below = below_on seen log d c goes account.keyed below
-
-  pub account_then : IsAccount k base (log ++ made ∷ [])
-  account_then = record {
-    legal = legal;
-    rising = subst Rising (sym (calls-append log (made ∷ []))) (rising_snoc (calls log) (journalled d c done) account.rising was_below);
-    keyed = keyed_append log (made ∷ []) account.keyed (has_right (desk_key d) owns own (subst (Has (desk_key d)) (sym is) (inl refl)), tt);
-  }
-
-  pub below_then : Below d (c + 1) (calls (log ++ made ∷ []))
-  below_then =
-      subst (Below d (c + 1)) (sym (calls-append log (made ∷ []))) (below_append d (c + 1) (calls log) (journalled d c done ∷ []) (below_more d c (c + 1) (calls log) (omega arith) was_below) ((λ _. omega arith), tt))
-
-  pub called : Call k base (desk_view d c seen) done (desk_view d (c + 1) (log ++ made ∷ []))
-  called = record {
-    keys = owns ++ own;
-    between = go.0;
-    number = refl;
-    next = refl;
-    seen = ap (λ l. l ++ made ∷ []) go.1;
-    own =
-        ap (λ l. calls_by d l) (calls-append log (made ∷ [])) ∙ by-append d (calls log) (journalled d c done ∷ [])
-        ∙ ap (λ l. l ++ calls_by d (journalled d c done ∷ [])) (calls_on seen log d goes account.keyed)
-        ∙ ap (λ l. calls_by d (calls seen) ++ l) (own_one (journalled d c done));
-    legal = account_then;
-  }

@@ -1,3 +1,5 @@
 mod Calls
+pub mod Numbers
+mod Adding
 mod Ends
 mod Room

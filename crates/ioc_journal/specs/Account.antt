@@ -1,11 +1,15 @@
 -- Desks, and the calls that they made, in one list of all that was done.
 -- The journal is this project's own.
-use Rattle.std.specs.Prelude.{◌≡◌, ◌≢◌, ℕ, ◌+◌, ◌<◌, List, [], ◌∷◌, ◌++◌, if◌then◌else◌, nat_eq, length, Some, slice_get}
+use Rattle.std.specs.Prelude.{◌≡◌, ◌≢◌, ℕ, ◌+◌, ◌<◌, List, [], ◌∷◌, ◌++◌, if◌then◌else◌, nat_eq, length, Option, Some, None, All, slice_get}
+use Rattle.std.specs.List.{AllPairs, cons_option}
+use Rattle.std.specs.Option.{IfSome}
 use Rattle.atomic_table.specs.declared.shared.Seat.{Seat}
 use Rattle.crossbeam_utils.specs.declared.atomic.seq_cell.Doing.{Doing}
 use Rattle.ioc_record.specs.RecordRules.{RecordRules}
 use Rattle.ioc_store.specs.World.{World}
 use Rattle.ioc_events.specs.declared.event.Entry.{Entry}
+use Rattle.ioc_events.specs.declared.event.Event.{Event}
+use Rattle.ioc_events.specs.declared.event.Event.TheVariants.{Notify}
 use Rattle.ioc_line.specs.declared.entry.JournalEntry.{JournalEntry}
 use Rattle.ioc_line.specs.declared.entry.Note.{Note}
 use Rattle.ioc_line.specs.declared.room.View.{View}
@@ -67,6 +71,26 @@ abbrev pub Keyed : List Note → Type 0
 Keyed [] = Unit {0}
 Keyed (n ∷ ns) = Has (desk_key n.entry.desk) n.keys × Keyed ns
 
+-- the number under which an event begins a put with notification
+abbrev pub number_given : Event → Option ℕ
+number_given (Notify target number field given) = Some number
+number_given _ = None
+
+-- the numbers under which these calls began puts with notification, one after another
+abbrev pub numbers_given : List JournalEntry → List ℕ
+numbers_given [] = []
+numbers_given (e ∷ es) = cons_option (number_given e.entry.event) (numbers_given es)
+
+-- each note of a call that begins one has the key of the puts with notification
+abbrev pub PutsAreKeyed : List Note → Type 0
+PutsAreKeyed [] = Unit {0}
+PutsAreKeyed (n ∷ ns) = IfSome (number_given n.entry.entry.event) (λ _. Has notifications_key n.keys) × PutsAreKeyed ns
+
+-- an event of who has seen a list and owns keys begins no put with notification, or who does it owns the key of these, and gives a higher
+-- number than all that were given in that list
+abbrev pub MayBegin : List Note → List Key → Event → Type 0
+MayBegin seen owned event = IfSome (number_given event) (λ number. Has notifications_key owned × All (λ earlier. earlier < number) (numbers_given (calls seen)))
+
 -- these are keys of records
 abbrev pub AreRecords : List Key → Type 0
 AreRecords keys = (key : Key) → Has key keys → key.0 ≡ 0
@@ -88,11 +112,14 @@ pub record IsEntryOf (receipt all : List Note) (entry : JournalEntry) : Type 0 w
   pub place : slice_get (calls all) (length before) ≡ Some entry
 
 module _ {R : Type 0} (k : RecordRules R) (base : World R) where
-  -- the calls are a run of an engine with all records in one map, the numbers of each desk's calls rise, and each note has its desk's key
+  -- the calls are a run of an engine with all records in one map, the numbers of each desk's calls rise, and so do those of the puts with
+  -- notification; each note has its desk's key, and that of the puts with notification where it begins one
   pub record IsAccount (notes : List Note) : Type 0 where
     pub legal : IsLegal k base notes
     pub rising : Rising (calls notes)
     pub keyed : Keyed notes
+    pub numbers : AllPairs (λ earlier later. earlier < later) (numbers_given (calls notes))
+    pub puts_keyed : PutsAreKeyed notes
 
   -- a call of a desk: its list goes on with calls of others and ends with this one, which is the only one that it has made since; and all
   -- of its list is legal

@@ -5,7 +5,7 @@ ghost use Rattle.ioc_line.specs.Key.{Key, Has};
 ghost use Rattle.ioc_line.specs.Line.{keeper, holder, Continues};
 ghost use Rattle.ioc_holding.specs.Legal.{IsLegal, IsSound};
 ghost use Rattle.ioc_values.specs.declared.error.IocError.TheVariants.{JournalFull};
-ghost use Rattle.ioc_journal.specs.Account.{AreNoDesks, AreRecords, IsHolder, MayFollow, BothMayFollow, Call, Added, AddedByBoth, AreMerged, calls, calls_by};
+ghost use Rattle.ioc_journal.specs.Account.{AreNoDesks, AreRecords, IsHolder, MayFollow, BothMayFollow, MayBegin, Call, Added, AddedByBoth, AreMerged, calls, calls_by};
 ghost use Rattle.ioc_journal.specs.Places.{AreAllowed, places, journal_of, one_more_held, one_more_desk, HoldsOne, HoldsNone};
 
 use crate::base::Base;
@@ -133,6 +133,7 @@ impl<K: RecordKind, B: Base<K>> Journal<K, B> {
         requires table { (cell.now.table.shared.table_id ≡ B.table) × (set.old.table_id ≡ B.table) }
         requires set { IsHolder (cell_view set.old) × AreNoDesks (cell_view set.old).owns }
         requires follows { MayFollow K.rules B.base (cell_view set.old).seen (cell_view set.old).owns entry }
+        requires begins { MayBegin (cell_view set.old).seen (cell_view set.old).owns entry.event }
         ensures call { Call K.rules B.base desk.old entry desk.new }
         ensures receipt { result ≡ desk.new.seen }
         ensures list { self.new ≡ journal_of desk.new.seen self.new.held self.old.limit self.old.desks }
@@ -173,6 +174,7 @@ impl<K: RecordKind, B: Base<K>> Journal<K, B> {
         requires within { (key : Key) → Has key (P.keys ++ P.rest) → Has key ((cell_view one.old).owns ++ (cell_view other.old).owns) }
         requires apart { (key : Key) → Has key P.keys → Has key P.rest → ⊥ }
         requires follows { BothMayFollow K.rules B.base (cell_view one.old).seen (cell_view one.old).owns (cell_view other.old).seen (cell_view other.old).owns entry }
+        requires begins { MayBegin (cell_view other.old).seen (cell_view other.old).owns entry.event }
         ensures call { Call K.rules B.base desk.old entry desk.new }
         ensures receipt { result ≡ desk.new.seen }
         ensures list { self.new ≡ journal_of desk.new.seen self.new.held self.old.limit self.old.desks }

@@ -13,13 +13,14 @@ use Rattle.ioc_line.specs.declared.entry.Note.{Note}
 use Rattle.ioc_line.specs.declared.room.View.{View}
 use Rattle.ioc_line.specs.Key.{Key, Has as Has_key}
 use Rattle.ioc_line.specs.KeyLaws.{has_left}
-use Rattle.ioc_line.specs.Line.{Continues, holder}
+use Rattle.ioc_line.specs.Line.{Continues, holder, noted}
 use Rattle.ioc_holding.specs.Legal.{IsLegal, key_of, map_of, notifications_key}
 use Rattle.ioc_holding.specs.Legal.{IsSound as IsSound-world}
 use Rattle.ioc_holding.specs.Held.{Holds, Cover}
 use Rattle.ioc_holding.specs.Laws.{Lasts, LiveLasts, GoesOn}
 use Rattle.ioc_holding.proofs.Basics.{is-none}
-use Rattle.ioc_journal.specs.Account.{MayFollow, Added, puts_key}
+use Rattle.ioc_journal.specs.Account.{journalled, calls, numbers_given, PutsAreKeyed, MayFollow, Added, puts_key}
+use Rattle.ioc_journal.proofs.Numbers.{numbers_same}
 use Rattle.ioc_set.specs.Held.{Held, now_of}
 use Rattle.ioc_set.specs.Sound.{IsSound}
 use Rattle.ioc_lent.specs.GiveUpLaws.{cancel_note, cancel_entry, ShareNone, IsHeldSoundly, IsGivenUpByAll, SetsGiveUp}
@@ -100,6 +101,11 @@ module _ {R : Type 0} (k : RecordRules R) (base : World R) where
 
       pub others_then : (other : ℕ) → other ≢ number → holders_of other (map_of k base longer).live ≡ holders_of other (map_of k base before.seen).live
       others_then other apart = known.others other apart ∙ still_live log added.goes_on added.legal other
+
+      pub none_began_then : PutsAreKeyed longer → numbers_given (calls longer) ≡ numbers_given (calls before.seen)
+      none_began_then keyed =
+          numbers_same before.seen log longer before.owns (noted (journalled added.desk added.call (cancel_entry moment number)) (v.owns ++ added.own))
+          (continues_on before.seen v.seen log before.owns v.owns taken.goes_on added.goes_on taken.owned) added.ends has_key keyed refl
 
     -- the sets have the same records when they have given it up
     module _ (after : List (Held R D)) (gives : EachGivesUp k moment number sets after) (same : length after ≡ length sets) where

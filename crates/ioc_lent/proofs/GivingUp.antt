@@ -110,6 +110,7 @@ module _ {R D : Type 0} (k : RecordRules R) (base : World R) (table : TableId) w
     keeps = gu.keeps;
     nobody = gu.nobody;
     others = gu.others;
+    none_began = gu.none_began;
   }
 
   same_back : (sets : List (Held R D)) (held_then : List (HeldView R D)) (sets_then : List (Held R D)) (passes_then : List (Option Pass)) → sets_then ≡ sets → AreBack held_then sets_then passes_then → length held_then ≡ length sets → AreSameSets sets held_then

@@ -8,7 +8,7 @@ use Rattle.ioc_put_table.specs.Counts.{holders_in}
 use Rattle.ioc_events.specs.declared.event.Event.TheVariants.{Cancel}
 use Rattle.ioc_events.specs.declared.reply.Reply.{Reply}
 use Rattle.ioc_events.specs.declared.reply.Reply.TheVariants.{Plain}
-use Rattle.ioc_journal.specs.Account.{DeskView, Call, puts_key, Pass}
+use Rattle.ioc_journal.specs.Account.{DeskView, Call, calls, numbers_given, puts_key, Pass}
 use Rattle.ioc_line.specs.Line.{holder}
 use Rattle.ioc_lent.specs.GiveUpLaws.{GivesUp}
 use Rattle.ioc_lent.specs.Sets.{AreItsSets}
@@ -38,7 +38,7 @@ AreSameSets {R} {D} before after = (i : ℕ) (d : Held R D) (e : HeldView R D) �
 
 module _ {R D : Type 0} (k : RecordRules R) (base : World R) (moment number : ℕ) (desk : DeskView) (before : List (Held R D)) where
   -- each of these held sets has given it up in one call of a desk, which stands at the end of the legal list that the desk, the holders and the keeper
-  -- of the puts with notification have seen then. Nobody has it any more, and as many as before have each other
+  -- of the puts with notification have seen then. Nobody has it any more, as many as before have each other, and none has begun meanwhile
   pub record HeldGaveUp (kept : View) (desk_then : DeskView) (after : List (HeldView R D)) (kept_then : View) : Type 0 where
     pub gives_up : (i : ℕ) (d : Held R D) (e : HeldView R D) → i < length before → GivesUp k moment number (slice_index_or before i d) (slice_index_or after i e).set
     pub call : Call k base desk (told_at moment (Cancel number) Plain) desk_then
@@ -46,6 +46,7 @@ module _ {R D : Type 0} (k : RecordRules R) (base : World R) (moment number : �
     pub keeps : kept_then ≡ holder desk_then.seen puts_key
     pub nobody : holders_of number (map_of k base desk_then.seen).live ≡ 0
     pub others : (other : ℕ) → other ≢ number → holders_of other (map_of k base desk_then.seen).live ≡ holders_of other (map_of k base kept.seen).live
+    pub none_began : numbers_given (calls desk_then.seen) ≡ numbers_given (calls kept.seen)
 
 module _ {R D : Type 0} (k : RecordRules R) (base : World R) (moment number : ℕ) (desk : DeskView) (before : List (HeldView R D)) where
   -- and so do the lines of the table tell

@@ -10,7 +10,7 @@ use Rattle.ioc_line.specs.declared.room.View.{View}
 use Rattle.ioc_line.specs.Line.{holder}
 use Rattle.ioc_holding.specs.Legal.{map_of}
 use Rattle.ioc_holding.specs.Held.{Holds, Cover}
-use Rattle.ioc_journal.specs.Account.{DeskView, Call, puts_key}
+use Rattle.ioc_journal.specs.Account.{DeskView, Call, calls, numbers_given, puts_key}
 use Rattle.ioc_set.specs.Held.{Held, now_of}
 use Rattle.ioc_lent.specs.GiveUpLaws.{GivesUp, cancel_entry, holders_in_all}
 use Rattle.ioc_lent.specs.Passes.{Slot, view_in, IsPassIn, IsDealt}
@@ -48,7 +48,8 @@ module _ {R D : Type 0} (k : RecordRules R) where
       pub live : IsLiveOnEach number sets
 
     -- each of these sets has given it up in one call of a desk, and is held by the pass beside it, which owns the keys of its records. Nobody has it
-    -- any more, and as many as before have each other; so the keeper of the puts with notification knows, who has its key alone
+    -- any more, as many as before have each other, and none has begun meanwhile; so the keeper of the puts with notification knows, who has its key
+    -- alone
     pub record GaveUp (table : TableId) (moment number : ℕ) (desk : DeskView) (before : List (Held R D)) (kept : View) (desk_then : DeskView) (after : List (Held R D)) (passes : List Slot) (kept_then : View) : Type 0 where
       pub gives_up : EachGivesUp moment number before after
       pub call : Call k base desk (cancel_entry moment number) desk_then
@@ -57,3 +58,4 @@ module _ {R D : Type 0} (k : RecordRules R) where
       pub keeps : kept_then ≡ holder desk_then.seen puts_key
       pub nobody : holders_of number (map_of k base desk_then.seen).live ≡ 0
       pub others : (other : ℕ) → other ≢ number → holders_of other (map_of k base desk_then.seen).live ≡ holders_of other (map_of k base kept.seen).live
+      pub none_began : numbers_given (calls desk_then.seen) ≡ numbers_given (calls kept.seen)

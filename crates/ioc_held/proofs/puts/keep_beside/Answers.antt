@@ -1,14 +1,15 @@
-use Rattle.std.proofs.Common.{◌≡◌, ℕ, ◌+◌, ◌<◌, ◌≤◌, ◌^◌, List, refl, sym, ap, ◌∙◌, subst, ⊎_elim, arith}
+use Rattle.std.proofs.Common.{◌≡◌, ℕ, ◌+◌, ◌<◌, ◌≤◌, ◌^◌, List, ◌++◌, refl, sym, ap, ◌∙◌, subst, inl, ⊎_elim, arith}
 use Rattle.crossbeam_utils.specs.Seq.{cell_view}
 use Rattle.ioc_notify.specs.declared.live_numbers.Live.{Live}
 use Rattle.ioc_put_table.specs.Counts.{holders_in}
 use Rattle.ioc_line.specs.declared.entry.Note.{Note}
 use Rattle.ioc_line.specs.declared.room.View.{View}
 use Rattle.ioc_line.specs.Key.{Key}
-use Rattle.ioc_line.specs.Line.{holder}
+use Rattle.ioc_line.specs.Line.{holder, noted}
 use Rattle.ioc_holding.specs.Legal.{map_of, notifications_key}
-use Rattle.ioc_journal.specs.Account.{BothMayFollow, AddedByBoth, puts_key}
-use Rattle.ioc_held.specs.Puts.{PutsView, AreCounted}
+use Rattle.ioc_journal.specs.Account.{journalled, calls, numbers_given, BothMayFollow, MayBegin, AddedByBoth, puts_key}
+use Rattle.ioc_journal.proofs.Numbers.{numbers_below, still_below}
+use Rattle.ioc_held.specs.Puts.{PutsView, NoneIsAbove, AreCounted}
 use Rattle.ioc_held.proofs.Counted.{before_there, sums_fit, counted_then}
 use Rattle.ioc_held.proofs.puts.keep_beside.Goals as goal
 
@@ -26,6 +27,12 @@ append_two-receipt-requires-clause-follows g c =
     let owns = ap (λ (v : View). v.owns) (sym c.all.invariant.holds) in
     subst (λ (ks : List Key). BothMayFollow k base one.seen one.owns (cell_view c.all.inside.pass).seen ks c.args.entry) owns
     (subst (λ (s : List Note). BothMayFollow k base one.seen one.owns s puts_key c.args.entry) seen c.requires.follows)
+
+pub append_two-receipt-requires-clause-begins : goal.append_two-receipt-requires-clause-begins
+append_two-receipt-requires-clause-begins g c =
+    let seen = ap (λ (v : PutsView). v.seen) (sym c.all.view_is) in
+    let owns = ap (λ (v : View). v.owns) (sym c.all.invariant.holds) in
+    subst (λ (ks : List Key). MayBegin (cell_view c.all.inside.pass).seen ks c.args.entry.event) owns (subst (λ (s : List Note). MayBegin s puts_key c.args.entry.event) seen c.requires.begins)
 
 pub count_anew-requires-clause-there : goal.count_anew-requires-clause-there
 count_anew-requires-clause-there g c n =
@@ -74,6 +81,10 @@ invariant_of-all g c =
       same = other.0 ∙ c.all.invariant.same;
       holds = subst (λ (v : View). v ≡ holder v.seen puts_key) (sym other.1) refl;
       counted = subst (λ (v : View). AreCounted k base c.count_anew.new.table.live v.seen) (sym other.1) told;
+      below = subst (λ (v : View). NoneIsAbove c.args.last v.seen) (sym other.1)
+          (numbers_below (cell_view c.all.inside.pass).seen log longer puts_key (noted (journalled added.desk added.call c.args.entry) ((one.owns ++ puts_key) ++ added.own)) c.args.last added.also_goes_on added.ends (inl refl) c.append_two-receipt.ensures.call.legal.puts_keyed
+          (still_below (numbers_given (calls (cell_view c.all.inside.pass).seen)) c.all.inside.last c.args.last (subst (λ (n : ℕ). n ≤ c.args.last) (ap (λ (v : PutsView). v.last) (sym c.all.view_is)) c.requires.last) c.all.invariant.below)
+          c.requires.given);
       few = omega (arith, short, few);
       room = subst (λ (n : ℕ). 512 ≤ n) (sym c.count_anew.ensures.room) c.all.invariant.room;
     }

@@ -1,4 +1,5 @@
-use Rattle.std.proofs.Common.{◌≡◌, ℕ, List, Option, Some, None, refl, sym, ap, ◌∙◌, subst}
+use Rattle.std.proofs.Common.{◌≡◌, ◌≤◌, ℕ, List, Option, Some, None, refl, sym, ap, ◌∙◌, subst, inl, arith}
+use Rattle.std.specs.Option.{IfSome}
 use Rattle.std.specs.Prelude.{Contains}
 use Rattle.crossbeam_utils.specs.Seq.{cell_view}
 use Rattle.ioc_notify.specs.declared.live_numbers.Live.{Live}
@@ -9,7 +10,8 @@ use Rattle.ioc_events.specs.Step.{names}
 use Rattle.ioc_holding.specs.Held.{Holds}
 use Rattle.ioc_holding.specs.Legal.{map_of}
 use Rattle.ioc_line.specs.declared.room.View.{View}
-use Rattle.ioc_journal.specs.Account.{Call, Pass}
+use Rattle.ioc_journal.specs.Account.{Call, Pass, MayBegin, number_given, numbers_given, calls, puts_key}
+use Rattle.ioc_journal.proofs.Numbers.{next_above}
 use Rattle.ioc_set.specs.Held.{now_of}
 use Rattle.ioc_set.specs.NoCalls.{no_call}
 use Rattle.ioc_workplace.specs.SetStore.{world_of}
@@ -48,6 +50,15 @@ keep_beside-receipt-requires-clause-follows g c =
     (λ log sound go legal h. tt)
     (λ log sound go legal h. place_alike k c.one_more_has_a_place.ensures c.live_lasts.ensures c.lists_leave_sound.ensures.after c.lines_tell_holders.ensures.live c.lines_tell_holders.ensures.held base (now_of c.self.inside.set) also log c.args.all.now.live c.args.notification c.args.moment
     c.is_counted.ensures.table c.is_counted.ensures.counted sound go legal h c.is_sound.ensures.counted c.requires.can.few c.requires.can.free) _ entry
+
+pub keep_beside-receipt-requires-clause-begins : goal.keep_beside-receipt-requires-clause-begins
+keep_beside-receipt-requires-clause-begins g c =
+    subst (λ (x : Entry). MayBegin c.args.all.now.seen puts_key x.event) (sym c.in_ok-ran.ensures.entry)
+    (inl refl, next_above (numbers_given (calls c.args.all.now.seen)) c.args.all.now.last c.args.notification c.requires.can.after c.is_counted.ensures.below)
+
+pub keep_beside-receipt-requires-clause-given : goal.keep_beside-receipt-requires-clause-given
+keep_beside-receipt-requires-clause-given g c =
+    subst (λ (x : Entry). IfSome (number_given x.event) (λ number. number ≤ c.number.result)) (sym c.in_ok-ran.ensures.entry) (let is = c.number.ensures in omega (arith, is))
 
 pub keep_beside-receipt-requires-clause-moves : goal.keep_beside-receipt-requires-clause-moves
 keep_beside-receipt-requires-clause-moves g c =

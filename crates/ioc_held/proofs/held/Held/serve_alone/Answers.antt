@@ -8,12 +8,13 @@ use Rattle.ioc_holding.specs.Held.{Holds}
 use Rattle.ioc_holding.specs.Legal.{map_of}
 use Rattle.ioc_line.specs.declared.room.View.{View}
 use Rattle.ioc_journal.specs.Account.{Call, Pass}
+use Rattle.ioc_journal.proofs.Numbers.{begins_none}
 use Rattle.ioc_set.specs.Held.{NoneIsLive, now_of}
 use Rattle.ioc_set.specs.NoCalls.{no_call}
 use Rattle.ioc_workplace.specs.SetStore.{world_of}
 use Rattle.ioc_held.specs.Holding.{HeldView, held_view, numbers_of, IsHeld, Serves}
 use Rattle.ioc_held.proofs.Keys.{key_there}
-use Rattle.ioc_held.proofs.Serving.{names_one, owner_on, entry_is, none_held, may_follow, held_then, only}
+use Rattle.ioc_held.proofs.Serving.{names_one, begins_no_put, owner_on, entry_is, none_held, may_follow, held_then, only}
 use Rattle.ioc_held.proofs.held.Held.serve_alone.Goals as goal
 
 pub unreachable-requires : goal.unreachable-requires
@@ -46,6 +47,9 @@ append-receipt-requires-clause-follows g c =
     may_follow k g.D.Device.gives c.self.inside.set c.run_in.new.set c.args.moment c.args.event.now c.in-Ok.done.0 (world_of c.run_in.new.workplace.store) does there
     c.holding_lasts.ensures c.events_are_held.ensures.event c.holders_move.ensures.moves c.parts_share_what_is_held.ensures.alike c.requires.ordinary same
     g.B.Base.base (cell_view c.in-Some.pass).seen (cell_view c.in-Some.pass).owns held.owner.covers held.holds _ entry
+
+pub append-receipt-requires-clause-begins : goal.append-receipt-requires-clause-begins
+append-receipt-requires-clause-begins g c = begins_none (cell_view c.in-Some.pass).seen (cell_view c.in-Some.pass).owns c.args.event.now (begins_no_put c.args.event.now c.requires.ordinary)
 
 pub invariant_of-self-2 : goal.invariant_of-self-2
 invariant_of-self-2 g c =

@@ -1,4 +1,5 @@
-use Rattle.std.proofs.Common.{◌≡◌, ℕ, List, Option, Some, None, refl, sym, ap, ◌∙◌, subst}
+use Rattle.std.proofs.Common.{◌≡◌, ◌≤◌, ℕ, List, Option, Some, None, refl, sym, ap, ◌∙◌, subst}
+use Rattle.std.specs.Option.{IfSome}
 use Rattle.std.specs.Prelude.{Contains}
 use Rattle.crossbeam_utils.specs.Seq.{cell_view}
 use Rattle.ioc_notify.specs.declared.live_numbers.Live.{Live}
@@ -9,14 +10,15 @@ use Rattle.ioc_events.specs.Step.{names}
 use Rattle.ioc_holding.specs.Held.{Holds}
 use Rattle.ioc_holding.specs.Legal.{map_of}
 use Rattle.ioc_line.specs.declared.room.View.{View}
-use Rattle.ioc_journal.specs.Account.{Call, Pass}
+use Rattle.ioc_journal.specs.Account.{Call, Pass, MayBegin, number_given, puts_key}
+use Rattle.ioc_journal.proofs.Numbers.{begins_none}
 use Rattle.ioc_set.specs.Held.{now_of}
 use Rattle.ioc_set.specs.NoCalls.{no_call}
 use Rattle.ioc_workplace.specs.SetStore.{world_of}
 use Rattle.ioc_held.specs.Holding.{HeldView, held_view, numbers_of, IsHeld, Serves}
 use Rattle.ioc_held.specs.Puts.{AreMoved}
 use Rattle.ioc_held.proofs.Keys.{key_there}
-use Rattle.ioc_held.proofs.Serving.{names_one, no_cancel, asks_nothing, owner_on, entry_is, only}
+use Rattle.ioc_held.proofs.Serving.{names_one, begins_no_put, no_cancel, asks_nothing, owner_on, entry_is, only}
 use Rattle.ioc_held.proofs.Beside.{both_follow, held_beside, moved_beside}
 use Rattle.ioc_held.proofs.held.Held.serve_counted.Goals as goal
 
@@ -39,12 +41,21 @@ keep_beside-receipt-requires-clause-follows g c =
     let does = c.in_ok-ran.ensures.does in
     let come_to = world_of c.run_counted.new.workplace.store in
     let entry = entry_is k g.D.Device.gives c.self.inside.set c.run_counted.new.set c.args.moment c.args.event.now c.in_ok-ran.ran.reply come_to does there (answers_of come_to.calls) refl ∙ sym c.in_ok-ran.ensures.entry in
-    let also = c.deref_mut.result.now.seen in
+    let also = c.deref_mut-all.result.now.seen in
     both_follow k g.D.Device.gives c.self.inside.set c.run_counted.new.set c.args.moment c.args.event.now c.in_ok-ran.ran.reply come_to does there
     c.holding_lasts.ensures c.events_are_held.ensures.event c.holders_move.ensures.moves c.parts_share_what_is_held.ensures.alike
     base (cell_view c.in-Some.pass).seen also (cell_view c.in-Some.pass).owns held.owner.covers held.holds
     (λ log sound go legal h. no_cancel k (map_of k base log) (now_of c.self.inside.set) c.args.event.now c.requires.ordinary)
     (λ log sound go legal h. asks_nothing k (begun_at c.args.moment (now_of c.self.inside.set)) (begun_at c.args.moment (map_of k base log)) c.args.event.now c.requires.ordinary) _ entry
+
+pub keep_beside-receipt-requires-clause-begins : goal.keep_beside-receipt-requires-clause-begins
+keep_beside-receipt-requires-clause-begins g c =
+    subst (λ (x : Entry). MayBegin c.deref_mut-all.result.now.seen puts_key x.event) (sym c.in_ok-ran.ensures.entry) (begins_none c.deref_mut-all.result.now.seen puts_key c.args.event.now (begins_no_put c.args.event.now c.requires.ordinary))
+
+pub keep_beside-receipt-requires-clause-given : goal.keep_beside-receipt-requires-clause-given
+keep_beside-receipt-requires-clause-given g c =
+    subst (λ (x : Entry). IfSome (number_given x.event) (λ number. number ≤ c.all.inside.last)) (sym c.in_ok-ran.ensures.entry)
+    (subst (λ (o : Option ℕ). IfSome o (λ number. number ≤ c.all.inside.last)) (sym (begins_no_put c.args.event.now c.requires.ordinary)) tt)
 
 pub keep_beside-receipt-requires-clause-moves : goal.keep_beside-receipt-requires-clause-moves
 keep_beside-receipt-requires-clause-moves g c =
@@ -57,7 +68,7 @@ keep_beside-receipt-requires-clause-moves g c =
     let does = c.in_ok-ran.ensures.does in
     let come_to = world_of c.run_counted.new.workplace.store in
     let entry = entry_is k g.D.Device.gives c.self.inside.set c.run_counted.new.set c.args.moment c.args.event.now c.in_ok-ran.ran.reply come_to does there (answers_of come_to.calls) refl ∙ sym c.in_ok-ran.ensures.entry in
-    let also = c.deref_mut.result.now.seen in
+    let also = c.deref_mut-all.result.now.seen in
     λ log longer added. subst (λ (ls : List Live). AreMoved k base log longer ls c.run_counted.new.set.live) (sym (c.deref.ensures.value ∙ c.in_ok-ran.ensures.before))
     (moved_beside k g.D.Device.gives c.self.inside.set c.run_counted.new.set c.args.moment c.args.event.now c.in_ok-ran.ran.reply come_to does there
     c.holding_lasts.ensures c.events_are_held.ensures.event c.holders_move.ensures.moves c.parts_share_what_is_held.ensures.alike
@@ -77,7 +88,7 @@ invariant_of-self-2 g c =
     let does = c.in_ok-ran.ensures.does in
     let come_to = world_of c.run_counted.new.workplace.store in
     let entry = entry_is k g.D.Device.gives c.self.inside.set c.run_counted.new.set c.args.moment c.args.event.now c.in_ok-ran.ran.reply come_to does there (answers_of come_to.calls) refl ∙ sym c.in_ok-ran.ensures.entry in
-    let also = c.deref_mut.result.now.seen in
+    let also = c.deref_mut-all.result.now.seen in
     let pass = c.keep_beside-receipt.ensures.pass in
     let added = c.keep_beside-receipt.ensures.added in
     record {
@@ -102,7 +113,7 @@ returns-clause-serves g c =
     let does = c.in_ok-ran.ensures.does in
     let come_to = world_of c.run_counted.new.workplace.store in
     let entry = entry_is k g.D.Device.gives c.self.inside.set c.run_counted.new.set c.args.moment c.args.event.now c.in_ok-ran.ran.reply come_to does there (answers_of come_to.calls) refl ∙ sym c.in_ok-ran.ensures.entry in
-    let also = c.deref_mut.result.now.seen in
+    let also = c.deref_mut-all.result.now.seen in
     let pass = c.keep_beside-receipt.ensures.pass in
     subst (λ (v : HeldView g.row.K.Denot g.row.D.Denot). Serves k g.D.Device.gives base v c.args.desk.now c.args.moment c.args.event.now c.in_ok-ran.ran.reply
     (held_view c.run_counted.new.set (cell_view c.keep_beside-receipt.new.pass).seen) c.keep_beside-receipt.new.desk come_to) c.self.view_is

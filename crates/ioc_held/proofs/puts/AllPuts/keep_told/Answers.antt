@@ -1,11 +1,13 @@
-use Rattle.std.proofs.Common.{◌≡◌, List, refl, sym, ap, ◌∙◌, subst}
+use Rattle.std.proofs.Common.{◌≡◌, ◌≤◌, ℕ, List, ◌++◌, Option, refl, sym, ap, ◌∙◌, subst, inl}
+use Rattle.std.specs.Option.{IfSome}
 use Rattle.crossbeam_utils.specs.Seq.{cell_view}
 use Rattle.ioc_line.specs.declared.entry.Note.{Note}
 use Rattle.ioc_line.specs.declared.room.View.{View}
 use Rattle.ioc_line.specs.Key.{Key}
-use Rattle.ioc_line.specs.Line.{holder}
-use Rattle.ioc_journal.specs.Account.{MayFollow, Added, puts_key}
-use Rattle.ioc_held.specs.Puts.{PutsView, AreCounted}
+use Rattle.ioc_line.specs.Line.{holder, noted}
+use Rattle.ioc_journal.specs.Account.{journalled, MayFollow, Added, puts_key}
+use Rattle.ioc_journal.proofs.Numbers.{begins_none, numbers_below}
+use Rattle.ioc_held.specs.Puts.{PutsView, NoneIsAbove, AreCounted}
 use Rattle.ioc_held.proofs.Counted.{counted_on}
 use Rattle.ioc_held.proofs.puts.AllPuts.keep_told.Goals as goal
 
@@ -18,6 +20,9 @@ append-requires-clause-follows g c =
     let owns = ap (λ (v : View). v.owns) (sym c.self.invariant.holds) in
     subst (λ (ks : List Key). MayFollow k base pass.seen ks c.args.entry) owns
     (subst (λ (s : List Note). MayFollow k base s puts_key c.args.entry) seen c.requires.follows)
+
+pub append-requires-clause-begins : goal.append-requires-clause-begins
+append-requires-clause-begins g c = begins_none (cell_view c.self.inside.pass).seen (cell_view c.self.inside.pass).owns c.args.entry.event c.requires.begins_none
 
 pub invariant_of-self : goal.invariant_of-self
 invariant_of-self g c =
@@ -37,6 +42,9 @@ invariant_of-self g c =
       same = set.0 ∙ c.self.invariant.same;
       holds = subst (λ (v : View). v ≡ holder v.seen puts_key) (sym is) refl;
       counted = subst (λ (v : View). AreCounted k base c.self.inside.table.live v.seen) (sym is) (λ n. at_log n ∙ alike n);
+      below = subst (λ (v : View). NoneIsAbove c.self.inside.last v.seen) (sym is)
+          (numbers_below pass.seen log longer puts_key (noted (journalled added.desk added.call c.args.entry) (puts_key ++ added.own)) c.self.inside.last added.goes_on added.ends (inl refl) c.append.ensures.call.legal.puts_keyed c.self.invariant.below
+          (subst (λ (o : Option ℕ). IfSome o (λ number. number ≤ c.self.inside.last)) (sym c.requires.begins_none) tt));
       few = c.self.invariant.few;
       room = c.self.invariant.room;
     }

@@ -8,10 +8,11 @@ use Rattle.ioc_line.specs.declared.entry.Note.{Note}
 use Rattle.ioc_line.specs.declared.room.View.{View}
 use Rattle.ioc_line.specs.Key.{Key, Has}
 use Rattle.ioc_line.specs.Line.{keeper, holder, noted}
-use Rattle.ioc_line.specs.KeyLaws.{has_either}
+use Rattle.ioc_line.specs.KeyLaws.{has_left, has_right, has_either}
 use Rattle.ioc_journal.specs.Account.{DeskView, desk_view, desk_key, journalled, calls, Below, IsAccount, Call, AddedByBoth}
 use Rattle.ioc_journal.specs.Places.{PlacesOf, JournalOf}
-use Rattle.ioc_journal.proofs.Calls.{calls-append, length-calls, below_other, no_longer, counted, account_then, below_then, called}
+use Rattle.ioc_journal.proofs.Calls.{calls-append, length-calls, below_other, no_longer, counted}
+use Rattle.ioc_journal.proofs.Adding.{account_then, below_then, called}
 use Rattle.ioc_journal.proofs.Room.{as_many, stands, is_added}
 use Rattle.ioc_journal.proofs.journal.Journal.append_two.Goals as goal
 
@@ -48,7 +49,7 @@ invariant_of-result g c =
       same = e.receipt.0 ∙ i.same;
       holds = e.receipt.2 ∙ ap (λ l. holder l []) (sym told);
       ends = ap length seen ∙ omega (arith, length-append log (noted (journalled n next c.args.entry) (owns ++ own) ∷ []), length-calls log, ap length i.items_are, c.len-index.ensures.count);
-      account = subst (IsAccount k g.B.Base.base) (sym seen) (account_then k g.B.Base.base log (cell_view c.desk.inside.pass).seen n next c.args.entry owns own (ap (λ (v : View). v.owns) d.holds) i.account e.goes_on.2 d.below leads);
+      account = subst (IsAccount k g.B.Base.base) (sym seen) (account_then k g.B.Base.base log (cell_view c.desk.inside.pass).seen n next c.args.entry owns own (ap (λ (v : View). v.owns) d.holds) i.account e.goes_on.2 d.below leads (cell_view c.args.other.now).seen (cell_view c.args.other.now).owns e.goes_on.1 (λ key has. has_left key owns own (has_right key (cell_view c.args.one.now).owns (cell_view c.args.other.now).owns has)) c.requires.begins);
     }
 
 pub invariant_of-self : goal.invariant_of-self
@@ -76,7 +77,7 @@ invariant_of-self g c =
       keeps = e.keeper.1 ∙ ap₂ keeper (sym told) (sym born);
       items_are = ap (λ (p : PlacesOf JournalEntry). p.filled) c.fill.ensures.filled ∙ (ap (λ l. l ++ made ∷ []) i.items_are ∙ (sym (calls-append log (noted made (owns ++ own) ∷ [])) ∙ ap calls (sym seen)));
       sound = i.sound;
-      account = subst (IsAccount k g.B.Base.base) (sym seen) (account_then k g.B.Base.base log (cell_view c.desk.inside.pass).seen n next c.args.entry owns own (ap (λ (v : View). v.owns) d.holds) i.account e.goes_on.2 d.below leads);
+      account = subst (IsAccount k g.B.Base.base) (sym seen) (account_then k g.B.Base.base log (cell_view c.desk.inside.pass).seen n next c.args.entry owns own (ap (λ (v : View). v.owns) d.holds) i.account e.goes_on.2 d.below leads (cell_view c.args.other.now).seen (cell_view c.args.other.now).owns e.goes_on.1 (λ key has. has_left key owns own (has_right key (cell_view c.args.one.now).owns (cell_view c.args.other.now).owns has)) c.requires.begins);
       given = λ key has kind. i.given key (subst (Has key) born has) kind;
       new_desk = λ m le. subst (λ l. Below m 0 (calls l)) (sym seen) (below_other log made (owns ++ own) m (λ same. omega arith) (i.new_desk m le));
     }
@@ -101,9 +102,9 @@ invariant_of-desk g c =
     record {
       same = e.desk.0 ∙ d.same;
       holds = e.desk.1 ∙ ap₂ holder (sym told) (ap (λ (v : View). v.owns) d.holds);
-      below = subst (λ l. Below n (next + 1) (calls l)) (sym seen) (below_then k g.B.Base.base log (cell_view c.desk.inside.pass).seen n next c.args.entry owns own (ap (λ (v : View). v.owns) d.holds) i.account e.goes_on.2 d.below leads);
+      below = subst (λ l. Below n (next + 1) (calls l)) (sym seen) (below_then k g.B.Base.base log (cell_view c.desk.inside.pass).seen n next c.args.entry owns own (ap (λ (v : View). v.owns) d.holds) i.account e.goes_on.2 d.below leads (cell_view c.args.other.now).seen (cell_view c.args.other.now).owns e.goes_on.1 (λ key has. has_left key owns own (has_right key (cell_view c.args.one.now).owns (cell_view c.args.other.now).owns has)) c.requires.begins);
       count = subst (λ (l : List Note). next + 1 ≤ length l) (sym seen) (counted (cell_view c.desk.inside.pass).seen log own (noted (journalled n next c.args.entry) (owns ++ own)) next d.count e.goes_on.2);
-      account = subst (IsAccount k g.B.Base.base) (sym seen) (account_then k g.B.Base.base log (cell_view c.desk.inside.pass).seen n next c.args.entry owns own (ap (λ (v : View). v.owns) d.holds) i.account e.goes_on.2 d.below leads);
+      account = subst (IsAccount k g.B.Base.base) (sym seen) (account_then k g.B.Base.base log (cell_view c.desk.inside.pass).seen n next c.args.entry owns own (ap (λ (v : View). v.owns) d.holds) i.account e.goes_on.2 d.below leads (cell_view c.args.other.now).seen (cell_view c.args.other.now).owns e.goes_on.1 (λ key has. has_left key owns own (has_right key (cell_view c.args.one.now).owns (cell_view c.args.other.now).owns has)) c.requires.begins);
     }
 
 pub returns-clause-call : goal.returns-clause-call
@@ -123,7 +124,7 @@ returns-clause-call g c =
     let noted_so = ap (λ (m : JournalEntry). log ++ noted m (owns ++ own) ∷ []) is_made in
     let seen = ap (λ (v : View). v.seen) e.desk.1 ∙ (ap (λ (v : View). v.seen) e.keeper.1 ∙ noted_so) in
     subst (λ (v : DeskView). Call k g.B.Base.base v c.args.entry (desk_view n (next + 1) (cell_view c.deal-pass.new.desk).seen)) c.desk.view_is
-    (subst (λ (l : List Note). Call k g.B.Base.base (desk_view n next (cell_view c.desk.inside.pass).seen) c.args.entry (desk_view n (next + 1) l)) (sym seen) (called k g.B.Base.base log (cell_view c.desk.inside.pass).seen n next c.args.entry owns own (ap (λ (v : View). v.owns) d.holds) i.account e.goes_on.2 d.below leads))
+    (subst (λ (l : List Note). Call k g.B.Base.base (desk_view n next (cell_view c.desk.inside.pass).seen) c.args.entry (desk_view n (next + 1) l)) (sym seen) (called k g.B.Base.base log (cell_view c.desk.inside.pass).seen n next c.args.entry owns own (ap (λ (v : View). v.owns) d.holds) i.account e.goes_on.2 d.below leads (cell_view c.args.other.now).seen (cell_view c.args.other.now).owns e.goes_on.1 (λ key has. has_left key owns own (has_right key (cell_view c.args.one.now).owns (cell_view c.args.other.now).owns has)) c.requires.begins))
 
 pub returns-clause-added : goal.returns-clause-added
 returns-clause-added g c =

@@ -13,7 +13,7 @@ use Rattle.ioc_holding.specs.Held.{Cover}
 use Rattle.ioc_journal.specs.Account.{MayFollow, Call, Added, puts_key}
 use Rattle.ioc_set.specs.Held.{now_of, nothing_held}
 use Rattle.ioc_lent.specs.Passes.{IsDealt}
-use Rattle.ioc_lent.proofs.Following.{may_follow, puts_owned, covered_then, share_none_then, held_then, nobody_then, others_then}
+use Rattle.ioc_lent.proofs.Following.{may_follow, puts_owned, covered_then, share_none_then, held_then, nobody_then, others_then, none_began_then}
 use Rattle.ioc_lent.proofs.together.giving_up.give_up.Goals as goal
 
 pub merge_all-requires-clause-passes : goal.merge_all-requires-clause-passes
@@ -68,4 +68,7 @@ returns-clause-gave_up g c =
       others = others_then g.K.RecordKind.rules g.B.Base.base c.holding_lasts.ensures c.live_lasts.ensures c.cancelled_sets_are_held.ensures g.B.Room.table c.args.number c.args.moment c.args.sets.now c.args.passes.now (cell_view c.args.keeper.now) (cell_view c.merge_all.new.keeper)
           c.requires.keeper.1 c.requires.held c.requires.have c.all_sound.ensures c.requires.beside c.merge_all.ensures.merged
           log longer added;
+      none_began = none_began_then g.K.RecordKind.rules g.B.Base.base c.holding_lasts.ensures c.live_lasts.ensures c.cancelled_sets_are_held.ensures g.B.Room.table c.args.number c.args.moment c.args.sets.now c.args.passes.now (cell_view c.args.keeper.now) (cell_view c.merge_all.new.keeper)
+          c.requires.keeper.1 c.requires.held c.requires.have c.all_sound.ensures c.requires.beside c.merge_all.ensures.merged
+          log longer added c.append-receipt.ensures.call.legal.puts_keyed;
     }
