@@ -2,14 +2,11 @@
 use Rattle.std.proofs.Common.{◌≡◌, ℕ, suc, ◌+◌, ◌<◌, ◌≤◌, List, [], ◌∷◌, ◌++◌, length, Bool, true, false, if◌then◌else◌, nat_eq, nat_le, refl, sym, ap, ◌∙◌, subst, inl, arith, length-append, ne_eqb, eq-eqb, append-nil}
 use Rattle.ioc_record.specs.RecordRules.{RecordRules}
 use Rattle.ioc_store.specs.World.{World}
-use Rattle.ioc_events.specs.declared.event.Entry.{Entry}
 use Rattle.ioc_line.specs.declared.entry.JournalEntry.{JournalEntry}
 use Rattle.ioc_line.specs.declared.entry.Note.{Note}
 use Rattle.ioc_line.specs.Key.{Key, Has}
 use Rattle.ioc_line.specs.Line.{Spares, Continues, noted, longer}
-use Rattle.ioc_line.specs.KeyLaws.{has_right}
-use Rattle.ioc_holding.specs.Legal.{IsLegal}
-use Rattle.ioc_journal.specs.Account.{desk_view, journalled, calls, calls_by, Below, Above, Rising, desk_key, Keyed, IsAccount, Call}
+use Rattle.ioc_journal.specs.Account.{calls, calls_by, Below, Above, Rising, desk_key, Keyed, IsAccount}
 
 pub calls-append : (xs ys : List Note) → calls (xs ++ ys) ≡ calls xs ++ calls ys
 calls-append [] ys = refl

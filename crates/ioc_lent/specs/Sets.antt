@@ -1,6 +1,6 @@
 -- Several held sets that give a put with notification up in one call.
 -- Application Developer's Guide, "Put with Notification" (dbNotifyCancel).
-use Rattle.std.specs.Prelude.{◌≡◌, ◌≢◌, ℕ, ◌<◌, true, List, [], length, slice_index_or}
+use Rattle.std.specs.Prelude.{◌≡◌, ◌≢◌, ℕ, ◌<◌, true, List, length, slice_index_or}
 use Rattle.atomic_table.specs.Seated.{TableId}
 use Rattle.ioc_notify.specs.Living.{holders_of, is_live}
 use Rattle.ioc_record.specs.RecordRules.{RecordRules}
