@@ -42,7 +42,7 @@ pub enum Call {
 }
 
 /// What a call was answered, its place in the journal, and how many records it moved to other sets.
-#[derive(Clone, Copy, PartialEq, Eq)]
+#[derive(Clone, Copy)]
 pub struct Told {
     pub reply: Reply,
     pub place: u64,
