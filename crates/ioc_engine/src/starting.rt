@@ -4,8 +4,9 @@ ghost use Rattle.crossbeam_utils.specs.Seq.{cell_view};
 ghost use Rattle.ioc_line.specs.Line.{keeper};
 ghost use Rattle.ioc_journal.specs.Account.{AreNoDesks, AreRecords};
 ghost use Rattle.ioc_journal.specs.Places.{AreAllowed};
+ghost use Rattle.ioc_holding.specs.Legal.{IsSound};
 ghost use Rattle.ioc_members.specs.Joined.{IsClosed};
-ghost use Rattle.ioc_dealing.specs.Linked.{links_in};
+ghost use Rattle.ioc_dealing.specs.Linked.{AreParts, links_in};
 ghost use Rattle.ioc_engine.specs.Loading.{loaded_world, IsIdle};
 ghost use Rattle.ioc_engine.specs.declared.starting.StartError.TheVariants.{BadValue, NotAtRest, LinkLeaves};
 
@@ -16,10 +17,11 @@ use ioc_dealing::laws::dealt_sets_are_parts;
 use ioc_dealing::{Loaded, deal, parts_of};
 use ioc_holding::laws::lists_leave_sound;
 use ioc_journal::{Base, Book, Journal, Limits};
-use ioc_lent::AllPuts;
+use ioc_lent::{AllPuts, Held};
 use ioc_line::{Cell, Token, pass};
 use ioc_once::OnceList;
 use ioc_record::RecordKind;
+use ioc_topology::Directory;
 use std::alloc::{AllocError, Global};
 use std::sync::ledger::Blank;
 
@@ -73,6 +75,73 @@ fn new_lists<K: RecordKind, B: Base<K>>(
     Ok((puts, once))
 }
 
+// The numbers of the parts of records that an engine may be started with. They are only lent, so that no refusal drops them.
+fn startable_parts<K: RecordKind, D>(
+    alloc: Global,
+    all: &[Loaded<K, D>],
+    limits: Limits,
+) -> Result<Vec<usize>, StartError>
+    ensures limits { OnOk result (AreAllowed limits) }
+    ensures refused { IfErr result (λ e. (e ≡ BadValue) ↔ (AreAllowed limits → ⊥)) }
+    ensures idle { OnOk result (All (λ l. IsIdle K.rules l.fields) all.now) }
+    ensures closed { OnOk result (IsClosed (links_in K.rules all.now)) }
+    ensures parts { IfOk result (λ parts. AreParts K.rules all.now parts.items) }
+    ensures rest { IfErr result (λ e. e ≡ NotAtRest → All (λ l. IsIdle K.rules l.fields) all.now → ⊥) }
+    ensures leaves { IfErr result (λ e. e ≡ LinkLeaves → IsClosed (links_in K.rules all.now) → ⊥) }
+{
+    if !limits.are_allowed() {
+        return Err(StartError::BadValue);
+    }
+    if !are_at_rest(all) {
+        return Err(StartError::NotAtRest);
+    }
+    let Ok(found) = parts_of(alloc, all) else {
+        return Err(StartError::NoMemory);
+    };
+    let Some(parts) = found else {
+        return Err(StartError::LinkLeaves);
+    };
+    Ok(parts)
+}
+
+// What an engine has beside its book: the sets of all parts, and both lists. The cell and the pass are only lent, so that want of memory drops
+// neither of them here.
+fn holdings<K: RecordKind + Drop, B: Base<K>, D: Drop>(
+    alloc: Global,
+    cell: &Cell,
+    master: &mut Token,
+    tickets: Blank,
+    all: Vec<Loaded<K, D>>,
+    parts: &[usize],
+) -> Result<
+    (
+        Directory<Held<K, B, D>>,
+        AllPuts<K, B>,
+        OnceList<OnceTickets<K, B>>,
+    ),
+    AllocError,
+>
+    requires table { (cell.now.table.shared.table_id ≡ B.table) × (master.old.table_id ≡ B.table) }
+    requires master { cell_view master.old ≡ keeper [] [] }
+    requires tickets { (tickets.name ≡ B.tickets) × (tickets.parts ≡ 2 ^ 64 - 1) }
+    requires base { B.base ≡ loaded_world all.items }
+    requires copies { All (λ l. l.base ≡ l.fields) all.items }
+    requires idle { All (λ l. IsIdle K.rules l.fields) all.items }
+    requires parts { AreParts K.rules all.items parts.now }
+    ensures count { IfOk result (λ x. x.0 ≡ length all.items) }
+    ensures table { OnOk result (master.new.table_id ≡ B.table) }
+    ensures master { OnOk result (cell_view master.new ≡ keeper [] (cell_view master.new).born) }
+    ensures born { OnOk result (AreNoDesks (cell_view master.new).born) }
+    ensures sound { OnOk result (IsSound K.rules B.base) }
+{
+    dealt_sets_are_parts::<K, D>();
+    lists_leave_sound::<K>();
+    let mut sets = deal(alloc, all, parts)?;
+    let directory = hold_all::<K, B, D>(alloc, cell, master, sets.as_mut_slice(), parts)?;
+    let (puts, once) = new_lists::<K, B>(alloc, cell, master, tickets)?;
+    Ok((directory, puts, once))
+}
+
 /// The engine of these records, each with its device, of which none was requested yet. Its name is `B`, which stands for its cell, the world at the
 /// load, the ledger of places and that of once tickets: who starts it calls a function for any such name with `Brand` in the place of `B`.
 ///
@@ -102,31 +171,18 @@ pub fn start<K: RecordKind + Drop, B: Base<K>, D: Drop>(
     ensures rest { IfErr result (λ e. e ≡ NotAtRest → All (λ l. IsIdle K.rules l.fields) all.items → ⊥) }
     ensures leaves { IfErr result (λ e. e ≡ LinkLeaves → IsClosed (links_in K.rules all.items) → ⊥) }
 {
-    if !limits.are_allowed() {
-        return Err(StartError::BadValue);
-    }
-    if !are_at_rest(&all) {
-        return Err(StartError::NotAtRest);
-    }
-    let Ok(found) = parts_of(alloc, &all) else {
-        return Err(StartError::NoMemory);
-    };
-    let Some(parts) = found else {
-        return Err(StartError::LinkLeaves);
-    };
-    dealt_sets_are_parts::<K, D>();
-    let Ok(mut sets) = deal(alloc, all, &parts) else {
-        return Err(StartError::NoMemory);
-    };
+    let parts = startable_parts(alloc, &all, limits)?;
     let mut master = master;
-    let Ok(directory) = hold_all::<K, B, D>(alloc, &cell, &mut master, sets.as_mut_slice(), &parts)
-    else {
+    let Ok((directory, puts, once)) = holdings::<K, B, D>(
+        alloc,
+        &cell,
+        &mut master,
+        tickets,
+        all,
+        &parts,
+    ) else {
         return Err(StartError::NoMemory);
     };
-    let Ok((puts, once)) = new_lists::<K, B>(alloc, &cell, &mut master, tickets) else {
-        return Err(StartError::NoMemory);
-    };
-    lists_leave_sound::<K>();
     let journal = Journal::new(alloc, master, blank, limits);
     Ok(Engine::new(directory, Book::new(cell, journal), puts, once))
 }
