@@ -37,7 +37,7 @@ chains() { # RECORDS: four chains of as many records, whose first ones are recor
     }
   }'
 }
-for records in 1 4 10 16 32 100; do chains "$records" > "$folder/chains$records.db"; done
+for records in 1 4 10 16 32 100 200 400; do chains "$records" > "$folder/chains$records.db"; done
 
 count() { # DB MODE TIMES
   valgrind --tool=callgrind --callgrind-out-file=/dev/null "$program" "$1" "$2" "$3" 2>&1 >/dev/null | awk '/Collected/ { print $4 }'
