@@ -1,7 +1,7 @@
 -- The set of one part of a database at rest.
 use Rattle.std.proofs.Common.{◌≡◌, ℕ, zero, suc, ◌<◌, ◌≤◌, ◌+◌, Bool, true, false, cond, List, [], ◌∷◌, ◌++◌, length, map, Option, Some, None, refl, sym, ap, ◌∙◌, subst, ⊎_elim, arith}
 use Rattle.std.specs.Prelude.{◌==◌, ◌↔◌, IsTrue, Contains, IsSome, is_some, unwrap_or, slice_get, slice_index}
-use Rattle.std.specs.Option.{option_map}
+use Rattle.std.specs.Option.{option_map, option_and_then}
 use Rattle.std.specs.FinMap.{get, keys, len}
 use Rattle.std.proofs.Math.ListN.{get_or, set}
 use Rattle.std.proofs.lemmas.List.{get_or-set_other, length-set, length-map}
@@ -17,11 +17,13 @@ use Rattle.ioc_line.specs.Key.{Has as Has_key}
 use Rattle.ioc_line.specs.KeyLaws.{has_either, record_kind}
 use Rattle.ioc_holding.specs.Held.{Holds}
 use Rattle.ioc_workplace.specs.Resting.{resting}
-use Rattle.ioc_set.specs.Linking.{AreCalm, IsCalm, NoneAwaits}
+use Rattle.ioc_ledger.specs.Requests.{no_counts}
+use Rattle.ioc_lent.specs.Holding.{KeepsDevices}
+use Rattle.ioc_set.specs.Linking.{anew, AreCalm, IsCalm, NoneAwaits}
 use Rattle.ioc_dealing.specs.declared.dealing.Loaded.{Loaded}
 use Rattle.ioc_dealing.specs.Dealing.{HasPart}
 use Rattle.ioc_dealing.specs.Linked.{AreParts, links_in}
-use Rattle.ioc_engine.specs.Loading.{loaded_world, AreOfPartsBelow, IsIdle, IsAtRest, IsSetOf, AreSetsFrom}
+use Rattle.ioc_engine.specs.Loading.{loaded_world, have_device, AreOfPartsBelow, IsIdle, IsAtRest, IsSetOf, AreSetsFrom}
 use Rattle.ioc_engine.proofs.Keys.{record_contains, key_there}
 
 none_in : {A : Type 0} (x : A) → Contains [] x → ⊥
@@ -72,7 +74,7 @@ idle_of [] q l found idle = absurd (none_some (Some l) (sym found) refl)
 idle_of {R = R} {D = D} {k = k} (x ∷ xs) zero l found idle = subst (λ (y : Loaded R D). IsIdle k y.fields) (some_same found) (idle zero x (omega arith))
 idle_of (x ∷ xs) (suc q) l found idle = idle_of xs q l found (λ i d lt. idle (suc i) d (omega (arith, lt)))
 
-module _ {R D : Type 0} (k : RecordRules R) (missing : targets k k.missing ≡ []) (base : World R) (parts : List ℕ) (all : List (Loaded R D)) (rest : IsAtRest k base parts all)
+module _ {R D : Type 0} (k : RecordRules R) (missing : targets k k.missing ≡ []) (base : World R) (had : ℕ → Bool) (parts : List ℕ) (all : List (Loaded R D)) (rest : IsAtRest k base had parts all)
     (part : ℕ) (c : Contents R D) (has : HasPart all parts part c) where
   -- a record of the database
   loaded : (q : ℕ) → get base.records q ≡ option_map (λ (l : Loaded R D). l.fields) (slice_get all q)
@@ -124,6 +126,15 @@ module _ {R D : Type 0} (k : RecordRules R) (missing : targets k k.missing ≡ [
       let names = names_of a n (slice_get all a) refl (subst (λ (o : Option R). Contains (targets k (unwrap_or o k.missing)) n) (loaded a) named) in
       let a_is : slice_index parts a ≡ part = (rest.parts_are.together a n names).1 ∙ (here n inside).0 in
       out (subst (λ (o : Option R). IsSome o) (sym (there a a_is)) (some_there a (slice_get all a) refl names.0 names.1))
+
+  its_device : (b : Bool) (q : ℕ) (d : Option D) → d ≡ option_and_then (λ (l : Loaded R D). l.device) (cond b (slice_get all q) None) → b ≡ true
+      → is_some d ≡ have_device all q
+  its_device true q d is own = ap (λ (o : Option D). is_some o) is
+  its_device false q d is own = cc
+
+  pub set_keeps_devices : KeepsDevices had (anew c.records c.devices [] [] no_counts)
+  set_keeps_devices q some =
+      its_device (slice_index parts q == part) q (get c.devices q) (has.devices q) (is_same (slice_index parts q) part (here q some).0) ∙ sym (ap (λ (f : ℕ → Bool). f q) rest.devices)
 
   pub set_holds : IsPart (links_of k c.records) → Holds k base (resting c.records [] [])
   set_holds p = record {
@@ -179,8 +190,8 @@ module _ {R D : Type 0} (k : RecordRules R) (missing : targets k k.missing ≡ [
   database_is_small n lt = omega (arith, lt, len-numbered (map (λ (l : Loaded R D). l.fields) all), length-map all (λ (l : Loaded R D). l.fields))
 
 -- the sets behind the first that is left
-pub sets_left : {R D : Type 0} (k : RecordRules R) (base : World R) (parts : List ℕ) (from : ℕ) (sets : List (Contents R D)) (x : Contents R D) → AreSetsFrom k base parts from sets → AreSetsFrom k base parts (from + 1) (set sets from x)
-sets_left {R} {D} k base parts from sets x left =
+pub sets_left : {R D : Type 0} (k : RecordRules R) (base : World R) (had : ℕ → Bool) (parts : List ℕ) (from : ℕ) (sets : List (Contents R D)) (x : Contents R D) → AreSetsFrom k base had parts from sets → AreSetsFrom k base had parts (from + 1) (set sets from x)
+sets_left {R} {D} k base had parts from sets x left =
     let as_long = length-set sets from x in
     let other = λ (p : ℕ) (le : from + 1 ≤ p). get_or-set_other sets from p x nothing (λ e. let m : p ≡ from = e in let z : ⊥ = omega (arith, le, m) in z) in
     record {
@@ -191,8 +202,8 @@ sets_left {R} {D} k base parts from sets x left =
     }
 
 -- the first that is left
-pub set_here : {R D : Type 0} (k : RecordRules R) (base : World R) (parts : List ℕ) (from : ℕ) (sets : List (Contents R D)) (c : Contents R D) → c ≡ get_or sets from nothing → from < length sets → AreSetsFrom k base parts from sets → IsSetOf k base parts from c
-set_here {R} {D} k base parts from sets c is lt left = record {
+pub set_here : {R D : Type 0} (k : RecordRules R) (base : World R) (had : ℕ → Bool) (parts : List ℕ) (from : ℕ) (sets : List (Contents R D)) (c : Contents R D) → c ≡ get_or sets from nothing → from < length sets → AreSetsFrom k base had parts from sets → IsSetOf k base had parts from c
+set_here {R} {D} k base had parts from sets c is lt left = record {
   all = left.all;
   rest = left.rest;
   has = subst (λ (x : Contents R D). HasPart left.all parts from x) (sym is) (left.each from (omega arith) lt);

@@ -1,6 +1,6 @@
 -- What an engine leaves at its end.
 -- Application Developer's Guide, "Database Locking, Scanning, and Processing", lock sets. The journal is this project's own.
-use Rattle.std.specs.Prelude.{◌≡◌, ℕ, List, IsSome, All}
+use Rattle.std.specs.Prelude.{◌≡◌, ℕ, Bool, List, IsSome, All}
 use Rattle.std.specs.List.{sum_by}
 use Rattle.std.specs.FinMap.{get}
 use Rattle.ioc_record.specs.RecordRules.{RecordRules}
@@ -9,7 +9,7 @@ use Rattle.ioc_topology.specs.Gathered.{HoldEach}
 use Rattle.ioc_line.specs.declared.entry.Note.{Note}
 use Rattle.ioc_holding.specs.Legal.{map_of}
 use Rattle.ioc_journal.specs.Account.{IsAccount}
-use Rattle.ioc_lent.specs.Holding.{HeldView, numbers_of, IsSoundlyHeld}
+use Rattle.ioc_lent.specs.Holding.{HeldView, KeepsDevices, numbers_of, IsSoundlyHeld}
 use Rattle.ioc_ledger.specs.declared.tally.Tally.{Tally}
 use Rattle.ioc_ledger.specs.Requests.{filled}
 
@@ -18,11 +18,12 @@ module _ {R D : Type 0} (k : RecordRules R) (base : World R) where
   abbrev pub IsAsTold : List Note → HeldView R D → Type 0
   IsAsTold log h = (n : ℕ) → IsSome (get h.set.records n) → get (map_of k base log).records n ≡ get h.set.records n
 
-  -- the sets have each of the first records, and none in two of them; each is sound, so its records are one connected part; the list of all calls is
-  -- legal, and leads from the world at the load to what they have
-  pub record IsEnd (count : ℕ) (log : List Note) (sets : List (HeldView R D)) : Type 0 where
+  -- the sets have each of the first records, and none in two of them; each is sound, so its records are one connected part, and a device is there for
+  -- those that had one at the load; the list of all calls is legal, and leads from the world at the load to what they have
+  pub record IsEnd (had : ℕ → Bool) (count : ℕ) (log : List Note) (sets : List (HeldView R D)) : Type 0 where
     pub each : HoldEach numbers_of sets count
     pub sound : All (IsSoundlyHeld k base) sets
+    pub devices : All (λ (h : HeldView R D). KeepsDevices had h.set) sets
     pub told : All (IsAsTold log) sets
     pub legal : IsAccount k base log
 

@@ -1,6 +1,7 @@
 -- A loaded database before its first event.
 -- Application Developer's Guide, "Database Locking, Scanning, and Processing": records that links join are in one lock set.
-use Rattle.std.specs.Prelude.{◌≡◌, ℕ, ◌<◌, ◌≤◌, false, Option, None, List, [], map, length, All, slice_index, slice_index_or}
+use Rattle.std.specs.Prelude.{◌≡◌, ℕ, ◌<◌, ◌≤◌, Bool, false, Option, None, List, [], map, length, All, is_some, slice_get, slice_index, slice_index_or}
+use Rattle.std.specs.Option.{option_and_then}
 use Rattle.ioc_record.specs.RecordRules.{RecordRules}
 use Rattle.ioc_members.specs.Contents.{Contents, nothing}
 use Rattle.ioc_members.specs.Joined.{links_of, IsPart}
@@ -15,6 +16,10 @@ use Rattle.ioc_dealing.specs.Linked.{AreParts}
 -- the world at the load: the records by their places
 abbrev pub loaded_world : {R D : Type 0} → List (Loaded R D) → World R
 loaded_world all = resting (numbered (map (λ l. l.fields) all)) [] []
+
+-- which records have a device, by their places
+abbrev pub have_device : {R D : Type 0} → List (Loaded R D) → ℕ → Bool
+have_device all number = is_some (option_and_then (λ l. l.device) (slice_get all number))
 
 -- each record has the device at its place; none where there is none at that place
 abbrev pub HaveDevices : {R D : Type 0} → List (Loaded R D) → List (Option D) → Type 0
@@ -31,22 +36,23 @@ pub record IsIdle {R : Type 0} (k : RecordRules R) (r : R) : Type 0 where
   pub free : (k.common r).notification ≡ None
 
 module _ {R D : Type 0} (k : RecordRules R) where
-  -- the world is that of these records, which are idle, and their links make these parts
-  pub record IsAtRest (base : World R) (parts : List ℕ) (all : List (Loaded R D)) : Type 0 where
+  -- the world is that of these records, which are idle; these of them have a device, and their links make these parts
+  pub record IsAtRest (base : World R) (had : ℕ → Bool) (parts : List ℕ) (all : List (Loaded R D)) : Type 0 where
     pub world : base ≡ loaded_world all
+    pub devices : had ≡ have_device all
     pub idle : All (λ l. IsIdle k l.fields) all
     pub parts_are : AreParts k all parts
 
   -- a set that has the records of a part of such a world
-  pub record IsSetOf (base : World R) (parts : List ℕ) (part : ℕ) (members : Contents R D) : Type 0 where
+  pub record IsSetOf (base : World R) (had : ℕ → Bool) (parts : List ℕ) (part : ℕ) (members : Contents R D) : Type 0 where
     pub all : List (Loaded R D)
-    pub rest : IsAtRest base parts all
+    pub rest : IsAtRest base had parts all
     pub has : HasPart all parts part members
     pub one_part : IsPart (links_of k members.records)
 
   -- sets, of which each from a number on has the records of the part of its number
-  pub record AreSetsFrom (base : World R) (parts : List ℕ) (from : ℕ) (sets : List (Contents R D)) : Type 0 where
+  pub record AreSetsFrom (base : World R) (had : ℕ → Bool) (parts : List ℕ) (from : ℕ) (sets : List (Contents R D)) : Type 0 where
     pub all : List (Loaded R D)
-    pub rest : IsAtRest base parts all
+    pub rest : IsAtRest base had parts all
     pub each : (part : ℕ) → from ≤ part → part < length sets → HasPart all parts part (slice_index_or sets part nothing)
     pub one_part : (part : ℕ) → from ≤ part → part < length sets → IsPart (links_of k (slice_index_or sets part nothing).records)

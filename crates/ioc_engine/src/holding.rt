@@ -10,7 +10,7 @@ ghost use Rattle.ioc_members.specs.Joined.{links_of, IsPart};
 ghost use Rattle.ioc_workplace.specs.Resting.{resting};
 ghost use Rattle.ioc_set.specs.Linking.{anew, AreCalm, NoneAwaits};
 ghost use Rattle.ioc_journal.specs.Account.{AreRecords};
-ghost use Rattle.ioc_lent.specs.Holding.{held_view};
+ghost use Rattle.ioc_lent.specs.Holding.{KeepsDevices, held_view};
 ghost use Rattle.ioc_engine.specs.Loading.{IsSetOf, AreSetsFrom, AreOfPartsBelow};
 
 use ioc_journal::Base;
@@ -40,6 +40,7 @@ fn hold_as<P: Keys, K: RecordKind, B: Base<K>, D>(
     requires calm { AreCalm K.rules members.records }
     requires idle { NoneAwaits K.rules members.records }
     requires holds { Holds K.rules B.base (resting members.records [] []) }
+    requires devices { KeepsDevices B.had_device (anew members.records members.devices [] [] no_counts) }
     ensures table { master.new.table_id ≡ B.table }
     ensures master { cell_view master.new ≡ keeper [] (record_keys (map.keys members.records) ++ (cell_view master.old).born) }
     ensures held { result ≡ held_view (anew members.records members.devices [] [] no_counts) [] }
@@ -64,6 +65,7 @@ pub fn hold<K: RecordKind, B: Base<K>, D>(
     requires calm { AreCalm K.rules members.records }
     requires idle { NoneAwaits K.rules members.records }
     requires holds { Holds K.rules B.base (resting members.records [] []) }
+    requires devices { KeepsDevices B.had_device (anew members.records members.devices [] [] no_counts) }
     ensures table { master.new.table_id ≡ B.table }
     ensures master { cell_view master.new ≡ keeper [] (record_keys (map.keys members.records) ++ (cell_view master.old).born) }
     ensures held { result ≡ held_view (anew members.records members.devices [] [] no_counts) [] }
@@ -82,7 +84,7 @@ fn hold_part<K: RecordKind, B: Base<K>, D>(
 ) -> Held<K, B, D>
     requires table { (cell.now.table.shared.table_id ≡ B.table) × (master.old.table_id ≡ B.table) }
     requires master { cell_view master.old ≡ keeper [] (cell_view master.old).born }
-    requires part { IsSetOf K.rules B.base parts.now part members }
+    requires part { IsSetOf K.rules B.base B.had_device parts.now part members }
     requires born { AreOfPartsBelow parts.now part (cell_view master.old).born }
     ensures table { master.new.table_id ≡ B.table }
     ensures master { cell_view master.new ≡ keeper [] (cell_view master.new).born }
@@ -106,7 +108,7 @@ pub fn hold_all<K: RecordKind + Drop, B: Base<K>, D: Drop>(
 ) -> Result<Directory<Held<K, B, D>>, AllocError>
     requires table { (cell.now.table.shared.table_id ≡ B.table) × (master.old.table_id ≡ B.table) }
     requires master { cell_view master.old ≡ keeper [] [] }
-    requires parts { AreSetsFrom K.rules B.base parts.now 0 sets.old }
+    requires parts { AreSetsFrom K.rules B.base B.had_device parts.now 0 sets.old }
     ensures count { IfOk result (λ d. d ≡ length parts.now) }
     ensures table { OnOk result (master.new.table_id ≡ B.table) }
     ensures master { OnOk result (cell_view master.new ≡ keeper [] (cell_view master.new).born) }

@@ -2,6 +2,7 @@
 ghost use Rattle.std.specs.Prelude.{◌≡◌, map, All, IfOk, IfErr};
 ghost use Rattle.ioc_line.specs.Line.{Begins};
 ghost use Rattle.ioc_journal.specs.Account.{IsEntryOf};
+ghost use Rattle.ioc_lent.specs.Holding.{KeepsDevices};
 ghost use Rattle.ioc_engine.specs.Ended.{IsAsTold, IsEnd, counts_in};
 ghost use Rattle.ioc_engine.specs.Once.{AreAllBack};
 
@@ -76,6 +77,15 @@ fn counts_of<K: RecordKind + Drop, B: Base<K>, D: Drop>(sets: &[Held<K, B, D>]) 
     tally
 }
 
+// Each record of these sets has its device.
+fn all_keep_devices<K: RecordKind + Drop, B: Base<K>, D: Drop>(sets: &[Held<K, B, D>])
+    ensures { All (λ h. KeepsDevices B.had_device h.set) sets.now }
+{
+    for held in sets {
+        held.keeps_devices();
+    }
+}
+
 // The holders of sets learn all calls.
 fn tell_all<K: RecordKind + Drop, B: Base<K>, D: Drop, R: Wait>(
     rt: &R,
@@ -100,7 +110,7 @@ impl<K: RecordKind + Drop, B: Base<K>, D: Drop> Engine<K, B, D> {
     ///
     /// The engine itself, as it was, where memory is wanting.
     pub fn stop<R: Wait>(self, rt: &R, alloc: Global) -> Result<Report<K, B, D>, Engine<K, B, D>>
-        ensures end { IfOk result (λ r. IsEnd K.rules B.base self r.journal.filled r.sets.items) }
+        ensures end { IfOk result (λ r. IsEnd K.rules B.base B.had_device self r.journal.filled r.sets.items) }
         ensures table { IfOk result (λ r. r.cell.table.shared.table_id ≡ B.table) }
         ensures once { IfOk result (λ r. AreAllBack r.once) }
         ensures err { IfErr result (λ e. e ≡ self) }
@@ -125,6 +135,7 @@ impl<K: RecordKind + Drop, B: Base<K>, D: Drop> Engine<K, B, D> {
         journal.is_legal();
         tell_all(rt, &cell, &mut journal, all.as_mut_slice());
         all_sound(all.as_slice());
+        all_keep_devices(all.as_slice());
         Ok(Report {
             sets: all,
             journal,

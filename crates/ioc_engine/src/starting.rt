@@ -7,7 +7,7 @@ ghost use Rattle.ioc_journal.specs.Places.{AreAllowed};
 ghost use Rattle.ioc_holding.specs.Legal.{IsSound};
 ghost use Rattle.ioc_members.specs.Joined.{IsClosed};
 ghost use Rattle.ioc_dealing.specs.Linked.{AreParts, links_in};
-ghost use Rattle.ioc_engine.specs.Loading.{loaded_world, IsIdle};
+ghost use Rattle.ioc_engine.specs.Loading.{loaded_world, have_device, IsIdle};
 ghost use Rattle.ioc_engine.specs.declared.starting.StartError.TheVariants.{BadValue, NotAtRest, LinkLeaves};
 
 use crate::engine::Engine;
@@ -125,6 +125,7 @@ fn holdings<K: RecordKind + Drop, B: Base<K>, D: Drop>(
     requires master { cell_view master.old ≡ keeper [] [] }
     requires tickets { (tickets.name ≡ B.tickets) × (tickets.parts ≡ 2 ^ 64 - 1) }
     requires base { B.base ≡ loaded_world all.items }
+    requires devices { B.had_device ≡ have_device all.items }
     requires copies { All (λ l. l.base ≡ l.fields) all.items }
     requires idle { All (λ l. IsIdle K.rules l.fields) all.items }
     requires parts { AreParts K.rules all.items parts.now }
@@ -143,7 +144,7 @@ fn holdings<K: RecordKind + Drop, B: Base<K>, D: Drop>(
 }
 
 /// The engine of these records, each with its device, of which none was requested yet. Its name is `B`, which stands for its cell, the world at the
-/// load, the ledger of places and that of once tickets: who starts it calls a function for any such name with `Brand` in the place of `B`.
+/// load and which records have a device there, the ledger of places and that of once tickets: who starts it calls a function for any such name with `Brand` in the place of `B`.
 ///
 /// # Errors
 ///
@@ -162,6 +163,7 @@ pub fn start<K: RecordKind + Drop, B: Base<K>, D: Drop>(
     requires places { (blank.name ≡ B.places) × (blank.parts ≡ 2 ^ 64 - 1) }
     requires tickets { (tickets.name ≡ B.tickets) × (tickets.parts ≡ 2 ^ 64 - 1) }
     requires base { B.base ≡ loaded_world all.items }
+    requires devices { B.had_device ≡ have_device all.items }
     requires copies { All (λ l. l.base ≡ l.fields) all.items }
     ensures count { IfOk result (λ e. e ≡ length all.items) }
     ensures limits { OnOk result (AreAllowed limits) }

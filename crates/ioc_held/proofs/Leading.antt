@@ -1,6 +1,6 @@
 -- What the holders of two sets know after a link change that leads from one into the other.
-use Rattle.std.proofs.Common.{◌≡◌, ◌⊎◌, ℕ, List, [], ◌∷◌, ◌++◌, Option, Some, None, refl, sym, ap, subst, inl, inr, ⊎_elim}
-use Rattle.std.specs.Prelude.{IsSome}
+use Rattle.std.proofs.Common.{◌≡◌, ◌⊎◌, ℕ, Bool, List, [], ◌∷◌, ◌++◌, Option, Some, None, refl, sym, ap, ◌∙◌, subst, inl, inr, ⊎_elim}
+use Rattle.std.specs.Prelude.{IsSome, is_some}
 use Rattle.std.specs.FinMap.{get, insert}
 use Rattle.ioc_fields.specs.declared.field_no.FieldNo.{FieldNo}
 use Rattle.ioc_common.specs.declared.link_field.LinkField.{LinkField}
@@ -27,13 +27,14 @@ use Rattle.ioc_workplace.specs.Resting.{resting}
 use Rattle.ioc_set.specs.Sound.{IsSound as IsSound-set}
 use Rattle.ioc_set.specs.Linking.{LeadsInto, MayBeOne}
 use Rattle.ioc_held.specs.LinkChanges.{keys_of}
+use Rattle.ioc_held.specs.Holding.{KeepsDevices}
 use Rattle.ioc_held.proofs.Dealing.{none_some, of_first, of_other, not_both, dealt_within, dealt_apart}
+use Rattle.ioc_held.proofs.Devices.{not_some, first_has, other_has}
 use Rattle.ioc_held.proofs.Parting.{rewired_back, begun_there, begun_back}
 use Rattle.ioc_held.proofs.Serving.{holds_on}
 
-not_some : {A : Type 0} (o : Option A) → (IsSome o → ⊥) → o ≡ None
-not_some None h = refl
-not_some (Some x) h = absurd (h refl)
+abbrev AreOwned : {R D : Type 0} → Held R D → Type 0
+AreOwned h = (q : ℕ) → IsSome (get h.devices q) → IsSome (get h.records q)
 
 module _ {R : Type 0} (k : RecordRules R) (s q : ℕ) (rs : Records R) (r : R) (own : IsSome (get rs s)) where
   -- a record that is set comes in the place of one that is there
@@ -87,6 +88,43 @@ module _ {R D : Type 0} (k : RecordRules R) (before other after other_then rest 
   lead_apart =
       dealt_apart after rest
       (λ q one two. ⊎_elim (λ a. not_both (get freed) (get led.stay.records) (get rest.records) led.falls.shared q a two) (λ b. none_some (get other.records q) (apart q (fell q two)) b) (led_back q one))
+
+  -- devices go where their records go
+  module _ (had : ℕ → Bool) (keeps : KeepsDevices had before) (others_keep : KeepsDevices had other) (own : AreOwned before) (others_own : AreOwned other) (owned_then : AreOwned after) (rest_own : AreOwned rest) where
+    left_behind : (q : ℕ) → IsSome (get rest.records q) → IsSome (get led.stay.devices q) → ⊥
+    left_behind q at_rest has = elim (led.joins.devices q) [
+      | inl p ↦
+        let there = subst (λ (o : Option D). IsSome o) (p.0 ∙ sym (ap (λ (h : Held R D). get h.devices q) led.then_anew)) has in
+        not_both (get freed) (get led.stay.records) (get rest.records) led.falls.shared q (⊎_elim (λ a. a) (λ b. absurd (none_some (get other.records q) (apart q (fell q at_rest)) b)) (led_back q (owned_then q there))) at_rest
+      | inr p ↦ none_some (get led.stay.devices q) p.0 has
+    ]
+
+    pub rest_keeps : KeepsDevices had rest
+    rest_keeps q has =
+        ap (λ (o : Option D). is_some o) (other_has (get before.devices) (get led.stay.devices) (get rest.devices) led.falls.devices q (left_behind q has)) ∙ keeps q (fell q has)
+
+    stay_has : (q : ℕ) → IsSome (get led.stay.records q) → get led.stay.devices q ≡ get before.devices q
+    stay_has q has = first_has (get before.devices) (get led.stay.devices) (get rest.devices) led.falls.devices q
+        (λ there. not_both (get freed) (get led.stay.records) (get rest.records) led.falls.shared q has (rest_own q there))
+
+    -- a device of what stays is of a record that the other hasn't
+    none_of_stay : (q : ℕ) → IsSome (get other.records q) → IsSome (get led.stay.devices q) → ⊥
+    none_of_stay q at_other has = elim (led.falls.devices q) [
+      | inl p ↦ none_some (get other.records q) (apart q (own q (subst (λ (o : Option D). IsSome o) p.0 has))) at_other
+      | inr p ↦ none_some (get led.stay.devices q) p.0 has
+    ]
+
+    both_have : (q : ℕ) → IsSome (get led.stay.records q) ⊎ IsSome (get other.records q) → is_some (get led.both.devices q) ≡ had q
+    both_have q where_it_is = elim where_it_is [
+      | inl a ↦
+        let none : IsSome (get other.devices q) → ⊥ = λ there. none_some (get other.records q) (apart q (stayed q a)) (others_own q there) in
+        ap (λ (o : Option D). is_some o) (sym (first_has (get led.both.devices) (get led.stay.devices) (get other.devices) led.joins.devices q none) ∙ stay_has q a) ∙ keeps q (stayed q a)
+      | inr b ↦
+        ap (λ (o : Option D). is_some o) (sym (other_has (get led.both.devices) (get led.stay.devices) (get other.devices) led.joins.devices q (none_of_stay q b))) ∙ others_keep q b
+    ]
+
+    pub after_keeps : KeepsDevices had after
+    after_keeps q has = ap (λ (h : Held R D). is_some (get h.devices q)) led.then_anew ∙ both_have q (led_back q has)
 
   module _ (lasts : Lasts k) (sets_lead : SetsLead D k)
       (to : (t : ℕ) × (named_by (use_of link) ≡ t ∷ []) × IsSome (get other.records t)) (rest_sound : IsSound-set k rest)

@@ -5,6 +5,7 @@ mod PartedSets
 mod SetsTogether
 mod Leading
 mod Nothing
+pub mod Devices
 mod Parting
 mod Serving
 mod Refusing

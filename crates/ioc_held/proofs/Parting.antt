@@ -1,5 +1,5 @@
 -- What the holder of a set knows after a link change in it.
-use Rattle.std.proofs.Common.{◌≡◌, ℕ, false, true, List, ◌++◌, Option, sym, ap, subst}
+use Rattle.std.proofs.Common.{◌≡◌, ℕ, Bool, false, true, List, ◌++◌, Option, sym, ap, ◌∙◌, subst}
 use Rattle.std.specs.Prelude.{Contains, IsSome, is_some, unwrap_or}
 use Rattle.std.specs.FinMap.{get}
 use Rattle.ioc_fields.specs.declared.field_no.FieldNo.{FieldNo}
@@ -25,8 +25,10 @@ use Rattle.ioc_set.specs.Held.{Held, now_of}
 use Rattle.ioc_set.specs.Sound.{IsSound as IsSound-set}
 use Rattle.ioc_set.specs.Linking.{FallsApart, link_change_of}
 use Rattle.ioc_line.specs.Key.{Has as Has_key}
+use Rattle.ioc_held.specs.Holding.{KeepsDevices}
 use Rattle.ioc_held.specs.LinkChanges.{keys_of}
 use Rattle.ioc_held.proofs.Dealing.{of_first, of_other, not_both, dealt_within, dealt_apart}
+use Rattle.ioc_held.proofs.Devices.{first_has, other_has}
 use Rattle.ioc_held.proofs.Serving.{holds_on}
 
 module _ {R : Type 0} (k : RecordRules R) where
@@ -63,7 +65,7 @@ module _ {R D : Type 0} (k : RecordRules R) (before stay rest : Held R D) (momen
   abbrev begins : World R
   begins = begun_at moment (now_of before)
 
-  was_there : (q : ℕ) → Has (link_change_of k before moment s field link) q → Has (now_of before) q
+  pub was_there : (q : ℕ) → Has (link_change_of k before moment s field link) q → Has (now_of before) q
   was_there q has =
       let there = begun_there k (now_of before) moment s takes.there in
       let with_link = k.with_link (at k begins s) field link in
@@ -80,6 +82,20 @@ module _ {R D : Type 0} (k : RecordRules R) (before stay rest : Held R D) (momen
         dealt_within stay rest (owned ++ also)
         (λ q some. owned_there q (of_first (get all) (get stay.records) (get rest.records) falls.shared q some))
         (λ q some. owned_there q (of_other (get all) (get stay.records) (get rest.records) falls.shared q some))
+
+  -- devices go where their records go
+  module _ (had : ℕ → Bool) (keeps : KeepsDevices had before) where
+    pub stay_keeps : ((q : ℕ) → IsSome (get rest.devices q) → IsSome (get rest.records q)) → KeepsDevices had stay
+    stay_keeps own q has =
+        let all = (link_change_of k before moment s field link).records in
+        ap (λ (o : Option D). is_some o) (first_has (get before.devices) (get stay.devices) (get rest.devices) falls.devices q (λ there. not_both (get all) (get stay.records) (get rest.records) falls.shared q has (own q there)))
+        ∙ keeps q (was_there q (of_first (get all) (get stay.records) (get rest.records) falls.shared q has))
+
+    pub rest_keeps : ((q : ℕ) → IsSome (get stay.devices q) → IsSome (get stay.records q)) → KeepsDevices had rest
+    rest_keeps own q has =
+        let all = (link_change_of k before moment s field link).records in
+        ap (λ (o : Option D). is_some o) (other_has (get before.devices) (get stay.devices) (get rest.devices) falls.devices q (λ there. not_both (get all) (get stay.records) (get rest.records) falls.shared q (own q there) has))
+        ∙ keeps q (was_there q (of_other (get all) (get stay.records) (get rest.records) falls.shared q has))
 
   pub part_apart : (key : Key) → Has_key key (keys_of stay) → Has_key key (keys_of rest) → ⊥
   part_apart = dealt_apart stay rest (λ q. not_both (get (link_change_of k before moment s field link).records) (get stay.records) (get rest.records) falls.shared q)

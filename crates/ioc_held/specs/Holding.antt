@@ -1,8 +1,8 @@
 -- Sets under their locks, and the calls on them.
 -- Application Developer's Guide, "Database Locking, Scanning, and Processing". The journal is this project's own.
-use Rattle.std.specs.Prelude.{◌≡◌, ◌⊎◌, ℕ, List, [], Option, Some, None, MatchOption, unwrap_or}
+use Rattle.std.specs.Prelude.{◌≡◌, ◌⊎◌, ℕ, Bool, List, [], Option, Some, None, MatchOption, unwrap_or, is_some}
 use Rattle.std.specs.Option.{option_map}
-use Rattle.std.specs.FinMap.{keys}
+use Rattle.std.specs.FinMap.{get, keys}
 use Rattle.atomic_table.specs.Seated.{TableId}
 use Rattle.crossbeam_utils.specs.Seq.{cell_view}
 use Rattle.ioc_device.specs.declared.Ask.{Ask}
@@ -37,6 +37,10 @@ held_view h seen = record { set = h; seen = seen }
 abbrev pub numbers_of : {R D : Type 0} → HeldView R D → List ℕ
 numbers_of v = keys v.set.records
 
+-- a device is there for those of its records that had one at the load, and for no other of them
+abbrev pub KeepsDevices : {R D : Type 0} → (ℕ → Bool) → Held R D → Type 0
+KeepsDevices had h = (n : ℕ) → Has (now_of h) n → is_some (get h.devices n) ≡ had n
+
 -- what the holder has seen; without a pass it has seen nothing
 abbrev pub seen_by : Option Pass → List Note
 seen_by pass = unwrap_or (option_map (λ (p : Pass). (cell_view {V = View} p).seen) pass) []
@@ -54,17 +58,19 @@ abbrev pub IsNoCall : {R D : Type 0} → RecordRules R → Held R D → Event �
 IsNoCall k h event error = (no_call k (now_of h) event ≡ Some error) ⊎ IsNoPlace error
 
 module _ {R D : Type 0} (k : RecordRules R) (base : World R) where
-  -- the holder of a set has a pass for its records, and what the set holds is what the world of all records has there
-  pub record IsHeld (table : TableId) (pass : Option Pass) (h : Held R D) : Type 0 where
+  -- the holder of a set has a pass for its records, what the set holds is what the world of all records has there, and each record has its device
+  pub record IsHeld (had : ℕ → Bool) (table : TableId) (pass : Option Pass) (h : Held R D) : Type 0 where
     pub owner : MatchOption pass ((n : ℕ) → Has (now_of h) n → ⊥) (λ (p : Pass). IsOwner table p.table_id (cell_view {V = View} p) (now_of h))
     pub holds : Holds k (map_of k base (seen_by pass)) (now_of h)
+    pub devices : KeepsDevices had h
 
   -- a set that was taken from its holder, with the pass that owns the keys of its records
-  pub record IsLent (table : TableId) (h : Held R D) (slot : Option Pass) : Type 0 where
+  pub record IsLent (had : ℕ → Bool) (table : TableId) (h : Held R D) (slot : Option Pass) : Type 0 where
     pub pass : Pass
     pub there : slot ≡ Some pass
     pub owner : IsOwner table pass.table_id (cell_view {V = View} pass) (now_of h)
     pub holds : Holds k (map_of k base (cell_view {V = View} pass).seen) (now_of h)
+    pub devices : KeepsDevices had h
 
   -- what holds of a set and of its holder whenever its lock is free
   pub record IsSoundlyHeld (v : HeldView R D) : Type 0 where

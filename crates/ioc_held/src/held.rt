@@ -11,7 +11,7 @@ ghost use Rattle.ioc_set.specs.NoCalls.{no_call};
 ghost use Rattle.ioc_set.specs.Doing.{is_ordinary};
 ghost use Rattle.ioc_journal.specs.Places.{IsNoPlace};
 ghost use Rattle.ioc_workplace.specs.SetStore.{world_of};
-ghost use Rattle.ioc_held.specs.Holding.{IsLent, IsOwner, held_view, numbers_of, Serves, Tells, IsNoCall};
+ghost use Rattle.ioc_held.specs.Holding.{IsLent, IsOwner, KeepsDevices, held_view, numbers_of, Serves, Tells, IsNoCall};
 
 use crate::puts::{AllPuts, keep_beside};
 use crate::running::{Ran, run_counted, run_in};
@@ -57,14 +57,15 @@ impl<K: RecordKind, B: Base<K>, D> Model for Held<K, B, D> {
 
     ghost view = { λ h. held_view h.set (seen_by h.pass) };
 
-    ghost invariant = { λ h. IsHeld K.rules B.base B.table h.pass h.set };
+    ghost invariant = { λ h. IsHeld K.rules B.base B.had_device B.table h.pass h.set };
 }
 
 impl<K: RecordKind, B: Base<K>, D> Held<K, B, D> {
-    /// A set, whose holder knows that the world has its records.
+    /// A set, whose holder knows that the world has its records, and which of these have a device.
     pub fn new(set: LockSet<K, D>, pass: Token) -> Self
         requires owner { IsOwner B.table pass.table_id (cell_view pass) (now_of set) }
         requires holds { Holds K.rules (map_of K.rules B.base (cell_view pass).seen) (now_of set) }
+        requires devices { KeepsDevices B.had_device set }
         ensures { result ≡ held_view set (cell_view pass).seen }
     {
         Held {
@@ -74,12 +75,19 @@ impl<K: RecordKind, B: Base<K>, D> Held<K, B, D> {
         }
     }
 
+    /// Each of its records has its device: where it had one at the load, it has one, and else it has none.
+    pub fn keeps_devices(&self)
+        ensures { KeepsDevices B.had_device self.now.set }
+    {
+        let _ = &self.set;
+    }
+
     /// The set, and the pass that owns the keys of its records; a set of no records that has none gets one.
     pub fn into_parts(self, cell: &Cell, keeper: &mut Token) -> (LockSet<K, D>, Token)
         requires table { (keeper.old.table_id ≡ B.table) × (cell.now.table.shared.table_id ≡ B.table) }
         ensures keeper { (keeper.new.table_id ≡ keeper.old.table_id) × (cell_view keeper.new ≡ cell_view keeper.old) }
         ensures set { result.0 ≡ self.set }
-        ensures lent { IsLent K.rules B.base B.table result.0 (Some result.1) }
+        ensures lent { IsLent K.rules B.base B.had_device B.table result.0 (Some result.1) }
     {
         let Held {
             set,

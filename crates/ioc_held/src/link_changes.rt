@@ -125,6 +125,8 @@ impl<K: RecordKind + Drop, B: Base<K>, D: Device> Held<K, B, D> {
         };
         self.set.is_sound();
         rest.is_sound();
+        self.set.devices_are_owned();
+        rest.devices_are_owned();
         let Some(mut pass) = self.pass.take() else {
             unreachable!();
         };
@@ -202,6 +204,8 @@ impl<K: RecordKind + Drop, B: Base<K>, D: Device> Held<K, B, D> {
         led_sets_are_held::<K, D>();
         self.compare(rt, book, other);
         let chosen = link.get();
+        self.set.devices_are_owned();
+        other.set.devices_are_owned();
         let place = book.reserve(rt)?;
         let rest = match self.set.lead_into(
             &mut other.set,
@@ -220,6 +224,8 @@ impl<K: RecordKind + Drop, B: Base<K>, D: Device> Held<K, B, D> {
             }
         };
         rest.is_sound();
+        self.set.devices_are_owned();
+        rest.devices_are_owned();
         let Some(mut pass) = self.pass.take() else {
             unreachable!();
         };

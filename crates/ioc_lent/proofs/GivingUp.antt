@@ -4,12 +4,14 @@ use Rattle.std.proofs.lemmas.List.Sums.{sum_by-cons}
 use Rattle.ioc_notify.specs.declared.live_numbers.Live.{Live}
 use Rattle.ioc_put_table.specs.Counts.{holders_in, has_by}
 use Rattle.std.proofs.Common.{◌≡◌, ◌≢◌, Bool, cond, ℕ, zero, suc, ◌<◌, List, [], ◌∷◌, ◌++◌, length, get_or, Option, Some, None, Result, Ok, Err, refl, sym, ap, subst, ◌∙◌, below_more, arith, length-append}
-use Rattle.std.specs.Prelude.{IfOk, IfNone, OnErr}
+use Rattle.std.specs.Prelude.{IfOk, IfNone, OnErr, is_some}
 use Rattle.std.specs.Option.{IfSome}
 use Rattle.atomic_table.specs.Seated.{TableId}
 use Rattle.crossbeam_utils.specs.Seq.{cell_view}
 use Rattle.ioc_record.specs.RecordRules.{RecordRules}
+use Rattle.std.specs.FinMap.{contains_key}
 use Rattle.ioc_store.specs.World.{World}
+use Rattle.ioc_store.specs.Freeing.{has-cancelled}
 use Rattle.ioc_line.specs.declared.entry.Note.{Note}
 use Rattle.ioc_line.specs.declared.room.View.{View}
 use Rattle.ioc_line.specs.Key.{Key}
@@ -19,9 +21,10 @@ use Rattle.ioc_lent.specs.Sets.{GaveUp, EachIsHeldBy, IsHeldBy}
 use Rattle.ioc_holding.specs.Legal.{map_of}
 use Rattle.ioc_holding.specs.Held.{Holds}
 use Rattle.ioc_set.specs.Held.{Held, now_of}
-use Rattle.ioc_held.specs.Holding.{HeldView, IsLent, IsOwner, held_view, seen_by}
+use Rattle.ioc_held.specs.Holding.{HeldView, IsLent, IsOwner, KeepsDevices, held_view, seen_by}
 use Rattle.ioc_lent.specs.GivingUp.{EachIsLent, sets_of, HeldGaveUp, AreSameSets}
 use Rattle.ioc_held.proofs.Dealing.{dealt_owner}
+use Rattle.ioc_held.proofs.Devices.{keeps_on}
 
 front : {X : Type 0} (xs ys : List X) (i : ℕ) (d : X) → i < length xs → get_or (xs ++ ys) i d ≡ get_or xs i d
 front [] ys i d lt = absurd (omega (arith, lt))
@@ -48,49 +51,56 @@ pub sets_long : {R D : Type 0} (xs : List (HeldView R D)) → length (sets_of xs
 sets_long [] = refl
 sets_long (x ∷ xs) = ap suc (sets_long xs)
 
-module _ {R D : Type 0} (k : RecordRules R) (base : World R) (table : TableId) where
-  pub lent_more : (sets : List (Held R D)) (passes : List (Option Pass)) (h : Held R D) (s : Option Pass) → length passes ≡ length sets → EachIsLent k base table sets passes → IsLent k base table h s
-      → EachIsLent k base table (sets ++ h ∷ []) (passes ++ s ∷ [])
+module _ {R D : Type 0} (k : RecordRules R) (base : World R) (had : ℕ → Bool) (table : TableId) where
+  pub lent_more : (sets : List (Held R D)) (passes : List (Option Pass)) (h : Held R D) (s : Option Pass) → length passes ≡ length sets → EachIsLent k base had table sets passes → IsLent k base had table h s
+      → EachIsLent k base had table (sets ++ h ∷ []) (passes ++ s ∷ [])
   lent_more sets passes h s same each one i d e lt =
-      let P : ℕ → Type 0 = λ j. (d : Held R D) (e : Option Pass) → IsLent k base table (get_or (sets ++ h ∷ []) j d) (get_or (passes ++ s ∷ []) j e) in
+      let P : ℕ → Type 0 = λ j. (d : Held R D) (e : Option Pass) → IsLent k base had table (get_or (sets ++ h ∷ []) j d) (get_or (passes ++ s ∷ []) j e) in
       let all = length-append sets (h ∷ []) in
       below_more P (length sets)
-      (λ j below d e. subst (λ (x : Option Pass). IsLent k base table (get_or (sets ++ h ∷ []) j d) x) (sym (front passes (s ∷ []) j e (omega (arith, below, same))))
-      (subst (λ (x : Held R D). IsLent k base table x (get_or passes j e)) (sym (front sets (h ∷ []) j d below)) (each j d e below)))
-      (λ d e. subst (λ (x : Option Pass). IsLent k base table (get_or (sets ++ h ∷ []) (length sets) d) x) (sym (ap (λ (n : ℕ). get_or (passes ++ s ∷ []) n e) (sym same) ∙ last passes s e))
-      (subst (λ (x : Held R D). IsLent k base table x s) (sym (last sets h d)) one)) i (omega (arith, lt, all)) d e
+      (λ j below d e. subst (λ (x : Option Pass). IsLent k base had table (get_or (sets ++ h ∷ []) j d) x) (sym (front passes (s ∷ []) j e (omega (arith, below, same))))
+      (subst (λ (x : Held R D). IsLent k base had table x (get_or passes j e)) (sym (front sets (h ∷ []) j d below)) (each j d e below)))
+      (λ d e. subst (λ (x : Option Pass). IsLent k base had table (get_or (sets ++ h ∷ []) (length sets) d) x) (sym (ap (λ (n : ℕ). get_or (passes ++ s ∷ []) n e) (sym same) ∙ last passes s e))
+      (subst (λ (x : Held R D). IsLent k base had table x s) (sym (last sets h d)) one)) i (omega (arith, lt, all)) d e
 
-  pub owns_at : (h h' : Held R D) (slot : Option Pass) (own : Pass) → IsLent k base table h slot → slot ≡ Some own → h' ≡ h
+  pub has_devices : (h h' : Held R D) (slot : Option Pass) → IsLent k base had table h slot → h' ≡ h → KeepsDevices had h'
+  has_devices h h' slot lent same = subst (λ (x : Held R D). KeepsDevices had x) (sym same) lent.devices
+
+  pub owns_at : (h h' : Held R D) (slot : Option Pass) (own : Pass) → IsLent k base had table h slot → slot ≡ Some own → h' ≡ h
       → IsOwner table own.table_id (cell_view {V = View} own) (now_of h') × Holds k (map_of k base (cell_view {V = View} own).seen) (now_of h')
   owns_at h h' slot own lent is same =
       subst (λ (p : Pass). IsOwner table p.table_id (cell_view {V = View} p) (now_of h') × Holds k (map_of k base (cell_view {V = View} p).seen) (now_of h')) (same_pass (sym lent.there ∙ is))
       (subst (λ (x : Held R D). IsOwner table lent.pass.table_id (cell_view {V = View} lent.pass) (now_of x) × Holds k (map_of k base (cell_view {V = View} lent.pass).seen) (now_of x)) (sym same) (lent.owner, lent.holds))
 
-  pub never_empty : (h : Held R D) (slot : Option Pass) → IsLent k base table h slot → slot ≡ None → ⊥
+  pub never_empty : (h : Held R D) (slot : Option Pass) → IsLent k base had table h slot → slot ≡ None → ⊥
   never_empty h slot lent none = let e : Some lent.pass ≡ None = sym lent.there ∙ none in cc
 
   -- ---- after a call on all of them
 
-  as_same : (sets sets_then : List (Held R D)) (passes passes_then : List (Option Pass)) → (sets_then ≡ sets) × (passes_then ≡ passes) → EachIsLent k base table sets passes → EachIsLent k base table sets_then passes_then
-  as_same sets sets_then passes passes_then same lent = subst (λ (l : List (Held R D)). EachIsLent k base table l passes_then) (sym same.0) (subst (λ (l : List (Option Pass)). EachIsLent k base table sets l) (sym same.1) lent)
+  as_same : (sets sets_then : List (Held R D)) (passes passes_then : List (Option Pass)) → (sets_then ≡ sets) × (passes_then ≡ passes) → EachIsLent k base had table sets passes → EachIsLent k base had table sets_then passes_then
+  as_same sets sets_then passes passes_then same lent = subst (λ (l : List (Held R D)). EachIsLent k base had table l passes_then) (sym same.0) (subst (λ (l : List (Option Pass)). EachIsLent k base had table sets l) (sym same.1) lent)
 
-  pub lent_of : (moment number : ℕ) (desk desk_then : DeskView) (sets sets_then : List (Held R D)) (passes_then : List (Option Pass)) (kept kept_then : View)
-      → GaveUp k base table moment number desk sets kept desk_then sets_then passes_then kept_then → EachIsLent k base table sets_then passes_then
-  lent_of moment number desk desk_then sets sets_then passes_then kept kept_then gu i d e lt =
+  pub lent_of : (moment number : ℕ) (desk desk_then : DeskView) (sets sets_then : List (Held R D)) (passes passes_then : List (Option Pass)) (kept kept_then : View)
+      → GaveUp k base table moment number desk sets kept desk_then sets_then passes_then kept_then → length sets_then ≡ length sets → EachIsLent k base had table sets passes → EachIsLent k base had table sets_then passes_then
+  lent_of moment number desk desk_then sets sets_then passes passes_then kept kept_then gu sets_are each i d e lt =
       let dealt = gu.dealt i d e lt in
+      let within : i < length sets = omega (arith, lt, sets_are) in
+      let gives = gu.gives_up i d within in
       record {
         pass = dealt.pass;
         there = dealt.there;
         owner = dealt_owner table dealt.pass.table_id (cell_view {V = View} dealt.pass) desk_then.seen (get_or sets_then i d) dealt.same dealt.holds;
         holds = subst (λ (l : List Note). Holds k (map_of k base l) (now_of (get_or sets_then i d))) (sym (ap (λ (v : View). v.seen) dealt.holds)) (gu.holds i d lt);
+        devices = keeps_on had (get_or sets i d) (get_or sets_then i d) (each i d e within).devices (λ n. ap (λ (f : ℕ → Option D). is_some (f n)) gives.devices)
+            (λ n has. sym (has-cancelled k number (now_of (get_or sets i d)) n) ∙ (sym (ap (λ rs. contains_key rs n) gives.records) ∙ has));
       }
 
   pub lent_then : {A E : Type 0} (Q S T : Type 0) (given : Result (Option A) E) (moment number : ℕ) (desk desk_then : DeskView) (sets sets_then : List (Held R D)) (passes passes_then : List (Option Pass)) (kept kept_then : View)
       → IfOk given (λ o. IfSome o (λ _. GaveUp k base table moment number desk sets kept desk_then sets_then passes_then kept_then)) → IfOk given (λ o. IfNone o ((sets_then ≡ sets) × (passes_then ≡ passes) × Q × S × T)) → OnErr given ((sets_then ≡ sets) × (passes_then ≡ passes) × Q × S)
-      → EachIsLent k base table sets passes → EachIsLent k base table sets_then passes_then
-  lent_then Q S T (Ok (Some r)) moment number desk desk_then sets sets_then passes passes_then kept kept_then gave missing refused lent = lent_of moment number desk desk_then sets sets_then passes_then kept kept_then gave
-  lent_then Q S T (Ok None) moment number desk desk_then sets sets_then passes passes_then kept kept_then gave missing refused lent = as_same sets sets_then passes passes_then (missing.0, missing.1) lent
-  lent_then Q S T (Err e) moment number desk desk_then sets sets_then passes passes_then kept kept_then gave missing refused lent = as_same sets sets_then passes passes_then (refused.0, refused.1) lent
+      → length sets_then ≡ length sets → EachIsLent k base had table sets passes → EachIsLent k base had table sets_then passes_then
+  lent_then Q S T (Ok (Some r)) moment number desk desk_then sets sets_then passes passes_then kept kept_then gave missing refused sets_are lent = lent_of moment number desk desk_then sets sets_then passes passes_then kept kept_then gave sets_are lent
+  lent_then Q S T (Ok None) moment number desk desk_then sets sets_then passes passes_then kept kept_then gave missing refused sets_are lent = as_same sets sets_then passes passes_then (missing.0, missing.1) lent
+  lent_then Q S T (Err e) moment number desk desk_then sets sets_then passes passes_then kept kept_then gave missing refused sets_are lent = as_same sets sets_then passes passes_then (refused.0, refused.1) lent
 
   abbrev AreBack : (held_then : List (HeldView R D)) (sets : List (Held R D)) (passes : List (Option Pass)) → Type 0
   AreBack held_then sets passes = (i : ℕ) (d : HeldView R D) (e : Held R D) (f : Option Pass) → i < length held_then → get_or held_then i d ≡ held_view (get_or sets i e) (seen_by (get_or passes i f))
@@ -142,8 +152,8 @@ module _ {R D : Type 0} (k : RecordRules R) (base : World R) (table : TableId) w
 no_desks : (owns : List Key) → AreRecords owns → AreNoDesks owns
 no_desks owns records key has desk = let record_key = records key has in absurd (omega (arith, record_key, desk))
 
-module _ {R D : Type 0} (k : RecordRules R) (base : World R) (table : TableId) where
-  pub held_by : (sets : List (Held R D)) (passes : List (Option Pass)) → EachIsLent k base table sets passes → EachIsHeldBy k base table sets passes
+module _ {R D : Type 0} (k : RecordRules R) (base : World R) (had : ℕ → Bool) (table : TableId) where
+  pub held_by : (sets : List (Held R D)) (passes : List (Option Pass)) → EachIsLent k base had table sets passes → EachIsHeldBy k base table sets passes
   held_by sets passes each i d e lt =
       let one = each i d e lt in
       subst (λ (s : Option Pass). IsHeldBy k base table (get_or sets i d) s) (sym one.there)

@@ -1,6 +1,6 @@
 -- A put with notification that is given up in several held sets.
 -- Application Developer's Guide, "Put with Notification" (dbNotifyCancel). The journal is this project's own.
-use Rattle.std.specs.Prelude.{◌≡◌, ◌⊎◌, ℕ, ◌<◌, ◌≢◌, List, length, map, slice_index_or, Option}
+use Rattle.std.specs.Prelude.{◌≡◌, ◌⊎◌, ℕ, Bool, ◌<◌, ◌≢◌, List, length, map, slice_index_or, Option}
 use Rattle.atomic_table.specs.Seated.{TableId}
 use Rattle.ioc_notify.specs.Living.{holders_of}
 use Rattle.ioc_notify.specs.declared.live_numbers.Live.{Live}
@@ -21,8 +21,8 @@ use Rattle.ioc_set.specs.Held.{Held}
 use Rattle.ioc_held.specs.Holding.{HeldView, IsLent}
 
 module _ {R D : Type 0} (k : RecordRules R) (base : World R) where
-  abbrev pub EachIsLent : TableId → List (Held R D) → List (Option Pass) → Type 0
-  EachIsLent table sets passes = (i : ℕ) (d : Held R D) (e : Option Pass) → i < length sets → IsLent k base table (slice_index_or sets i d) (slice_index_or passes i e)
+  abbrev pub EachIsLent : (ℕ → Bool) → TableId → List (Held R D) → List (Option Pass) → Type 0
+  EachIsLent had table sets passes = (i : ℕ) (d : Held R D) (e : Option Pass) → i < length sets → IsLent k base had table (slice_index_or sets i d) (slice_index_or passes i e)
 
 -- what the sets hold
 abbrev pub sets_of : {R D : Type 0} → List (HeldView R D) → List (Held R D)

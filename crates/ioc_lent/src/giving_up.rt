@@ -45,7 +45,7 @@ fn lend_all<K: RecordKind + Drop, B: Base<K>, D: Drop>(
     ensures keeper { (keeper.new.table_id ≡ keeper.old.table_id) × (cell_view keeper.new ≡ cell_view keeper.old) }
     ensures sets { sets.new.items ≡ sets_of held.old }
     ensures beside { length passes.new.items ≡ length held.old }
-    ensures lent { EachIsLent K.rules B.base B.table sets.new.items passes.new.items }
+    ensures lent { EachIsLent K.rules B.base B.had_device B.table sets.new.items passes.new.items }
 {
     for i in 0..held.len() {
         let one = mem::replace(&mut held[i], Held::empty(alloc));
@@ -63,7 +63,7 @@ fn take_back_all<K: RecordKind + Drop, B: Base<K>, D: Drop>(
     passes: &mut [Option<Token>],
 )
     requires count { (length sets.old ≡ length held.old) × (length passes.old ≡ length held.old) }
-    requires lent { EachIsLent K.rules B.base B.table sets.old passes.old }
+    requires lent { EachIsLent K.rules B.base B.had_device B.table sets.old passes.old }
     ensures { (i : ℕ) (d : HeldView K D) (e : SetHeld K D) (f : Option Pass) → i < length held.new →
         slice_index_or held.new i d ≡ held_view (slice_index_or sets.old i e) (seen_by (slice_index_or passes.old i f)) }
 {
@@ -95,7 +95,7 @@ fn give_up_lent<K: RecordKind + Drop, B: Base<K>, D: Device, R: Wait>(
     requires total { total ≡ holders_of number (map_of K.rules B.base (cell_view keeper.old).seen).live }
     requires some { total ≢ 0 }
     requires count { (length sets.old ≡ length held.old) × (length passes.old ≡ length held.old) }
-    requires lent { EachIsLent K.rules B.base B.table sets.old passes.old }
+    requires lent { EachIsLent K.rules B.base B.had_device B.table sets.old passes.old }
     ensures gave_up { IfOk result (λ given. IfSome given (λ _. HeldGaveUp K.rules B.base moment number desk.old sets.old (cell_view keeper.old) desk.new held.new (cell_view keeper.new))) }
     ensures receipt { IfOk result (λ given. IfSome given (λ receipt. receipt ≡ desk.new.seen)) }
     ensures table { keeper.new.table_id ≡ B.table }

@@ -107,6 +107,13 @@ impl<K: RecordKind, D> LockSet<K, D> {
         let _ = &self.members;
     }
 
+    /// Each device is that of a record of the set.
+    pub fn devices_are_owned(&self)
+        ensures { (q : ℕ) → IsSome (map.get self.now.devices q) → IsSome (map.get self.now.records q) }
+    {
+        self.members.devices_are_owned();
+    }
+
     /// How many records there are.
     pub fn len(&self) -> usize
         ensures { result ≡ map.len self.now.records }

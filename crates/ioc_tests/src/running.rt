@@ -3,7 +3,7 @@
 ghost use Rattle.std.specs.Prelude.{◌≡◌, ◌-◌, ◌^◌, [], All};
 ghost use Rattle.crossbeam_utils.specs.Seq.{cell_view};
 ghost use Rattle.ioc_line.specs.Line.{keeper};
-ghost use Rattle.ioc_engine.specs.Loading.{loaded_world};
+ghost use Rattle.ioc_engine.specs.Loading.{loaded_world, have_device};
 
 use crate::eight::eight;
 use crate::opened::{Sensor, loaded, seen};
@@ -127,6 +127,7 @@ fn run<
     requires places { (blank.name ≡ B.places) × (blank.parts ≡ 2 ^ 64 - 1) }
     requires tickets { (tickets.name ≡ B.tickets) × (tickets.parts ≡ 2 ^ 64 - 1) }
     requires base { B.base ≡ loaded_world all.items }
+    requires devices { B.had_device ≡ have_device all.items }
     requires copies { All (λ l. l.base ≡ l.fields) all.items }
 {
     let limits = Limits::default();

@@ -11,5 +11,5 @@ invariant-loop-part g l = record {
   table : l.master.table_id ≡ g.B.Room.table;
   master : cell_view l.master ≡ keeper [] (cell_view l.master).born;
   born : AreOfPartsBelow l.parts l.part (cell_view l.master).born;
-  left : AreSetsFrom g.K.RecordKind.rules g.B.Base.base l.parts l.part l.sets;
+  left : AreSetsFrom g.K.RecordKind.rules g.B.Base.base g.B.Base.had_device l.parts l.part l.sets;
 }

@@ -8,12 +8,15 @@ use Rattle.ioc_holding.specs.Held.{Cover}
 use Rattle.ioc_journal.specs.Account.{IsHolder, AreRecords}
 use Rattle.ioc_set.specs.Held.{Held, now_of}
 use Rattle.ioc_workplace.specs.Resting.{resting}
-use Rattle.ioc_lent.specs.Holding.{IsOwner}
+use Rattle.ioc_lent.specs.Holding.{IsOwner, KeepsDevices}
 use Rattle.ioc_engine.proofs.Keys.{contains_record, there_key}
 use Rattle.ioc_engine.proofs.holding.hold_as.Goals as goal
 
 pub claim-pass-requires-clause-fresh : goal.claim-pass-requires-clause-fresh
 claim-pass-requires-clause-fresh g c = λ key has. c.requires.fresh key (subst (λ (l : List Key). Has key l) c.requires.keys has)
+
+pub new-requires-clause-devices : goal.new-requires-clause-devices
+new-requires-clause-devices g c = subst (λ (h : Held g.row.K.Denot g.row.D.Denot). KeepsDevices g.B.Base.had_device h) (sym c.of-set.ensures) c.requires.devices
 
 pub new-requires-clause-owner : goal.new-requires-clause-owner
 new-requires-clause-owner g c =

@@ -14,12 +14,13 @@ pub hold_all-requires-clause-parts : goal.hold_all-requires-clause-parts
 hold_all-requires-clause-parts g c =
     let k = g.K.RecordKind.rules in
     let base = g.B.Base.base in
+    let had = g.B.Base.had_device in
     let all = c.args.all.items in
     let parts = c.args.parts.now in
     let sets = c.in_ok-sets.sets.items in
-    let rest : IsAtRest k base parts all = record { world = c.requires.base; idle = c.requires.idle; parts_are = c.requires.parts } in
+    let rest : IsAtRest k base had parts all = record { world = c.requires.base; devices = c.requires.devices; idle = c.requires.idle; parts_are = c.requires.parts } in
     let dealt = c.in_ok-sets.ensures in
-    subst (λ (s : List (Contents g.row.K.Denot g.row.D.Denot)). AreSetsFrom k base parts 0 s) (sym c.as_mut_slice.ensures.value)
+    subst (λ (s : List (Contents g.row.K.Denot g.row.D.Denot)). AreSetsFrom k base had parts 0 s) (sym c.as_mut_slice.ensures.value)
     (record {
       all = all;
       rest = rest;

@@ -19,20 +19,20 @@ pub unreachable-requires : goal.unreachable-requires
 unreachable-requires g c =
     let k = g.K.RecordKind.rules in
     let none : c.self.inside.pass ≡ None = sym c.take.ensures.value ∙ c.in_default.is in
-    let held = subst (λ (o : Option Pass). IsHeld k g.B.Base.base g.B.Room.table o c.self.inside.set) none c.self.invariant in
+    let held = subst (λ (o : Option Pass). IsHeld k g.B.Base.base g.B.Base.had_device g.B.Room.table o c.self.inside.set) none c.self.invariant in
     held.owner c.args.number (key_there c.self.inside.set.records c.args.number (subst (λ (v : HeldView g.row.K.Denot g.row.D.Denot). Contains (numbers_of v) c.args.number) (sym c.self.view_is) c.requires.there))
 
 pub append-receipt-requires-clause-set : goal.append-receipt-requires-clause-set
 append-receipt-requires-clause-set g c =
     let is : c.self.inside.pass ≡ Some c.in-Some.pass = sym c.take.ensures.value ∙ c.in-Some.is in
-    let held = subst (λ (o : Option Pass). IsHeld g.K.RecordKind.rules g.B.Base.base g.B.Room.table o c.self.inside.set) is c.self.invariant in
+    let held = subst (λ (o : Option Pass). IsHeld g.K.RecordKind.rules g.B.Base.base g.B.Base.had_device g.B.Room.table o c.self.inside.set) is c.self.invariant in
     (held.owner.holder, λ key has desk. let record_key = held.owner.records key has in omega (arith, record_key, desk))
 
 pub append-receipt-requires-clause-follows : goal.append-receipt-requires-clause-follows
 append-receipt-requires-clause-follows g c =
     let k = g.K.RecordKind.rules in
     let is : c.self.inside.pass ≡ Some c.in-Some.pass = sym c.take.ensures.value ∙ c.in-Some.is in
-    let held = subst (λ (o : Option Pass). IsHeld k g.B.Base.base g.B.Room.table o c.self.inside.set) is c.self.invariant in
+    let held = subst (λ (o : Option Pass). IsHeld k g.B.Base.base g.B.Base.had_device g.B.Room.table o c.self.inside.set) is c.self.invariant in
     let there : Has (now_of c.self.inside.set) c.args.number =
     key_there c.self.inside.set.records c.args.number (subst (λ (v : HeldView g.row.K.Denot g.row.D.Denot). Contains (numbers_of v) c.args.number) (sym c.self.view_is) c.requires.there) in
     let none = c.new-2.ensures ∙ c.new.ensures.items in
@@ -43,7 +43,7 @@ pub invariant_of-self : goal.invariant_of-self
 invariant_of-self g c =
     let k = g.K.RecordKind.rules in
     let is : c.self.inside.pass ≡ Some c.in-Some.pass = sym c.take.ensures.value ∙ c.in-Some.is in
-    let held = subst (λ (o : Option Pass). IsHeld k g.B.Base.base g.B.Room.table o c.self.inside.set) is c.self.invariant in
+    let held = subst (λ (o : Option Pass). IsHeld k g.B.Base.base g.B.Base.had_device g.B.Room.table o c.self.inside.set) is c.self.invariant in
     let there : Has (now_of c.self.inside.set) c.args.number =
     key_there c.self.inside.set.records c.args.number (subst (λ (v : HeldView g.row.K.Denot g.row.D.Denot). Contains (numbers_of v) c.args.number) (sym c.self.view_is) c.requires.there) in
     let none = c.new-2.ensures ∙ c.new.ensures.items in
@@ -55,13 +55,14 @@ invariant_of-self g c =
           subst (λ (x : View). Holds k (map_of k g.B.Base.base x.seen) (now_of c.self.inside.set)) (sym set.1)
           (held_after_get k c.holding_lasts.ensures c.events_are_held.ensures.asks g.B.Base.base (now_of c.self.inside.set) c.args.moment c.args.number c.args.field c.get-reply.result c.get-reply.ensures there
           (cell_view c.in-Some.pass).seen (cell_view c.in-Some.pass).owns held.owner.covers held.holds _ (λ i. record { moment = c.args.moment; event = Get c.args.number c.args.field; answers = sym none i; reply = c.get-reply.result }) added.0 _ added.1);
+      devices = held.devices;
     }
 
 pub returns-clause-tells : goal.returns-clause-tells
 returns-clause-tells g c =
     let k = g.K.RecordKind.rules in
     let is : c.self.inside.pass ≡ Some c.in-Some.pass = sym c.take.ensures.value ∙ c.in-Some.is in
-    let held = subst (λ (o : Option Pass). IsHeld k g.B.Base.base g.B.Room.table o c.self.inside.set) is c.self.invariant in
+    let held = subst (λ (o : Option Pass). IsHeld k g.B.Base.base g.B.Base.had_device g.B.Room.table o c.self.inside.set) is c.self.invariant in
     let there : Has (now_of c.self.inside.set) c.args.number =
     key_there c.self.inside.set.records c.args.number (subst (λ (v : HeldView g.row.K.Denot g.row.D.Denot). Contains (numbers_of v) c.args.number) (sym c.self.view_is) c.requires.there) in
     let none = c.new-2.ensures ∙ c.new.ensures.items in

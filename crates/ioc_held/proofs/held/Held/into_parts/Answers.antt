@@ -12,7 +12,7 @@ pub returns-in-None-clause-lent : goal.returns-in-None-clause-lent
 returns-in-None-clause-lent g c =
     let k = g.K.RecordKind.rules in
     let base = g.B.Base.base in
-    let held = subst (λ (o : Option Pass). IsHeld k base g.B.Room.table o c.self.inside.set) c.in-None.is c.self.invariant in
+    let held = subst (λ (o : Option Pass). IsHeld k base g.B.Base.had_device g.B.Room.table o c.self.inside.set) c.in-None.is c.self.invariant in
     let given = c.again.ensures.given in
     record {
       pass = c.again.result;
@@ -24,4 +24,5 @@ returns-in-None-clause-lent g c =
         covers = λ n there. absurd (held.owner n there);
       };
       holds = nothing_known k (map_of k base []) (map_of k base (cell_view c.again.result).seen) (now_of c.self.inside.set) held.owner held.holds;
+      devices = held.devices;
     }

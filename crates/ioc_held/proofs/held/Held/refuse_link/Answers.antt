@@ -22,14 +22,14 @@ pub unreachable-requires : goal.unreachable-requires
 unreachable-requires g c =
     let k = g.K.RecordKind.rules in
     let none : c.self.inside.pass ≡ None = sym c.take.ensures.value ∙ c.in_default.is in
-    let held = subst (λ (o : Option Pass). IsHeld k g.B.Base.base g.B.Room.table o c.self.inside.set) none c.self.invariant in
+    let held = subst (λ (o : Option Pass). IsHeld k g.B.Base.base g.B.Base.had_device g.B.Room.table o c.self.inside.set) none c.self.invariant in
     let has = subst (λ (v : HeldView g.row.K.Denot g.row.D.Denot). HasLink k v.set.records c.args.number c.args.field) (sym c.self.view_is) c.requires.field in
     held.owner c.args.number (link_there k c.self.inside.set c.args.number c.args.field has)
 
 pub append-receipt-requires-clause-set : goal.append-receipt-requires-clause-set
 append-receipt-requires-clause-set g c =
     let is : c.self.inside.pass ≡ Some c.in-Some.pass = sym c.take.ensures.value ∙ c.in-Some.is in
-    let held = subst (λ (o : Option Pass). IsHeld g.K.RecordKind.rules g.B.Base.base g.B.Room.table o c.self.inside.set) is c.self.invariant in
+    let held = subst (λ (o : Option Pass). IsHeld g.K.RecordKind.rules g.B.Base.base g.B.Base.had_device g.B.Room.table o c.self.inside.set) is c.self.invariant in
     (held.owner.holder, λ key has desk. let record_key = held.owner.records key has in omega (arith, record_key, desk))
 
 pub append-receipt-requires-clause-follows : goal.append-receipt-requires-clause-follows
@@ -37,7 +37,7 @@ append-receipt-requires-clause-follows g c =
     let k = g.K.RecordKind.rules in
     let set = c.self.inside.set in
     let is : c.self.inside.pass ≡ Some c.in-Some.pass = sym c.take.ensures.value ∙ c.in-Some.is in
-    let held = subst (λ (o : Option Pass). IsHeld k g.B.Base.base g.B.Room.table o set) is c.self.invariant in
+    let held = subst (λ (o : Option Pass). IsHeld k g.B.Base.base g.B.Base.had_device g.B.Room.table o set) is c.self.invariant in
     let has = subst (λ (v : HeldView g.row.K.Denot g.row.D.Denot). HasLink k v.set.records c.args.number c.args.field) (sym c.self.view_is) c.requires.field in
     let stops = subst (λ (v : HeldView g.row.K.Denot g.row.D.Denot). stops_put (common_at k (now_of v.set) c.args.number) c.args.field ≡ true) (sym c.self.view_is) c.requires.forbidden in
     let none = c.new-2.ensures ∙ c.new.ensures.items in
@@ -51,7 +51,7 @@ invariant_of-self g c =
     let k = g.K.RecordKind.rules in
     let held_set = c.self.inside.set in
     let is : c.self.inside.pass ≡ Some c.in-Some.pass = sym c.take.ensures.value ∙ c.in-Some.is in
-    let held = subst (λ (o : Option Pass). IsHeld k g.B.Base.base g.B.Room.table o held_set) is c.self.invariant in
+    let held = subst (λ (o : Option Pass). IsHeld k g.B.Base.base g.B.Base.had_device g.B.Room.table o held_set) is c.self.invariant in
     let has = subst (λ (v : HeldView g.row.K.Denot g.row.D.Denot). HasLink k v.set.records c.args.number c.args.field) (sym c.self.view_is) c.requires.field in
     let stops = subst (λ (v : HeldView g.row.K.Denot g.row.D.Denot). stops_put (common_at k (now_of v.set) c.args.number) c.args.field ≡ true) (sym c.self.view_is) c.requires.forbidden in
     let none = c.new-2.ensures ∙ c.new.ensures.items in
@@ -65,6 +65,7 @@ invariant_of-self g c =
           (link_there k held_set c.args.number c.args.field has) (link_has k held_set c.args.number c.args.field has) stops c.requires.known
           (cell_view c.in-Some.pass).seen (cell_view c.in-Some.pass).owns held.owner.covers held.holds _
           (λ i. record { moment = c.args.moment; event = Link c.args.number c.args.field c.args.link; answers = sym none i; reply = Refused PutDisabled }) added.0 _ added.1);
+      devices = held.devices;
     }
 
 pub returns-clause-refuses : goal.returns-clause-refuses

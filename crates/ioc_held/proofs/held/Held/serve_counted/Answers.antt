@@ -18,6 +18,7 @@ use Rattle.ioc_workplace.specs.SetStore.{world_of}
 use Rattle.ioc_held.specs.Holding.{HeldView, held_view, numbers_of, IsHeld, Serves}
 use Rattle.ioc_held.specs.Puts.{AreMoved}
 use Rattle.ioc_held.proofs.Keys.{key_there}
+use Rattle.ioc_held.proofs.Devices.{worked_there, keeps_on}
 use Rattle.ioc_held.proofs.Serving.{names_one, begins_no_put, no_cancel, asks_nothing, owner_on, entry_is, only}
 use Rattle.ioc_held.proofs.Beside.{both_follow, held_beside, moved_beside}
 use Rattle.ioc_held.proofs.held.Held.serve_counted.Goals as goal
@@ -26,7 +27,7 @@ pub unreachable-requires : goal.unreachable-requires
 unreachable-requires g c =
     let k = g.K.RecordKind.rules in
     let none : c.self.inside.pass ≡ None = sym c.take.ensures.value ∙ c.in_default.is in
-    let held = subst (λ (o : Option Pass). IsHeld k g.B.Base.base g.B.Room.table o c.self.inside.set) none c.self.invariant in
+    let held = subst (λ (o : Option Pass). IsHeld k g.B.Base.base g.B.Base.had_device g.B.Room.table o c.self.inside.set) none c.self.invariant in
     let one = names_one c.args.event.now c.requires.ordinary in
     held.owner one.0 (key_there c.self.inside.set.records one.0 (subst (λ (v : HeldView g.row.K.Denot g.row.D.Denot). Contains (numbers_of v) one.0) (sym c.self.view_is) (c.requires.there one.0 one.1)))
 
@@ -35,7 +36,7 @@ keep_beside-receipt-requires-clause-follows g c =
     let k = g.K.RecordKind.rules in
     let base = g.B.Base.base in
     let is : c.self.inside.pass ≡ Some c.in-Some.pass = sym c.take.ensures.value ∙ c.in-Some.is in
-    let held = subst (λ (o : Option Pass). IsHeld k base g.B.Room.table o c.self.inside.set) is c.self.invariant in
+    let held = subst (λ (o : Option Pass). IsHeld k base g.B.Base.had_device g.B.Room.table o c.self.inside.set) is c.self.invariant in
     let there : (n : ℕ) → Contains (names c.args.event.now) n → Has (now_of c.self.inside.set) n = λ n has.
     key_there c.self.inside.set.records n (subst (λ (v : HeldView g.row.K.Denot g.row.D.Denot). Contains (numbers_of v) n) (sym c.self.view_is) (c.requires.there n has)) in
     let does = c.in_ok-ran.ensures.does in
@@ -62,7 +63,7 @@ keep_beside-receipt-requires-clause-moves g c =
     let k = g.K.RecordKind.rules in
     let base = g.B.Base.base in
     let is : c.self.inside.pass ≡ Some c.in-Some.pass = sym c.take.ensures.value ∙ c.in-Some.is in
-    let held = subst (λ (o : Option Pass). IsHeld k base g.B.Room.table o c.self.inside.set) is c.self.invariant in
+    let held = subst (λ (o : Option Pass). IsHeld k base g.B.Base.had_device g.B.Room.table o c.self.inside.set) is c.self.invariant in
     let there : (n : ℕ) → Contains (names c.args.event.now) n → Has (now_of c.self.inside.set) n = λ n has.
     key_there c.self.inside.set.records n (subst (λ (v : HeldView g.row.K.Denot g.row.D.Denot). Contains (numbers_of v) n) (sym c.self.view_is) (c.requires.there n has)) in
     let does = c.in_ok-ran.ensures.does in
@@ -82,7 +83,7 @@ invariant_of-self-2 g c =
     let k = g.K.RecordKind.rules in
     let base = g.B.Base.base in
     let is : c.self.inside.pass ≡ Some c.in-Some.pass = sym c.take.ensures.value ∙ c.in-Some.is in
-    let held = subst (λ (o : Option Pass). IsHeld k base g.B.Room.table o c.self.inside.set) is c.self.invariant in
+    let held = subst (λ (o : Option Pass). IsHeld k base g.B.Base.had_device g.B.Room.table o c.self.inside.set) is c.self.invariant in
     let there : (n : ℕ) → Contains (names c.args.event.now) n → Has (now_of c.self.inside.set) n = λ n has.
     key_there c.self.inside.set.records n (subst (λ (v : HeldView g.row.K.Denot g.row.D.Denot). Contains (numbers_of v) n) (sym c.self.view_is) (c.requires.there n has)) in
     let does = c.in_ok-ran.ensures.does in
@@ -91,9 +92,10 @@ invariant_of-self-2 g c =
     let also = c.deref_mut-all.result.now.seen in
     let pass = c.keep_beside-receipt.ensures.pass in
     let added = c.keep_beside-receipt.ensures.added in
+    let came = only k g.D.Device.gives c.self.inside.set c.run_counted.new.set c.args.moment c.args.event.now c.in_ok-ran.ran.reply come_to does there c.rules_are_steps.ensures.allowed c.events_keep_records.ensures held.holds.shut in
     record {
-      owner = owner_on g.B.Room.table _ _ (cell_view c.in-Some.pass) (cell_view c.keep_beside-receipt.new.pass) _ (now_of c.self.inside.set) (now_of c.run_counted.new.set) held.owner (pass.0 ∙ sym held.owner.same) pass.1
-          (only k g.D.Device.gives c.self.inside.set c.run_counted.new.set c.args.moment c.args.event.now c.in_ok-ran.ran.reply come_to does there c.rules_are_steps.ensures.allowed c.events_keep_records.ensures held.holds.shut);
+      owner = owner_on g.B.Room.table _ _ (cell_view c.in-Some.pass) (cell_view c.keep_beside-receipt.new.pass) _ (now_of c.self.inside.set) (now_of c.run_counted.new.set) held.owner (pass.0 ∙ sym held.owner.same) pass.1 came;
+      devices = keeps_on g.B.Base.had_device c.self.inside.set c.run_counted.new.set held.devices (worked_there does.work) came;
       holds = subst (λ (x : View). Holds k (map_of k base x.seen) (now_of c.run_counted.new.set)) (sym pass.1)
           (held_beside k g.D.Device.gives c.self.inside.set c.run_counted.new.set c.args.moment c.args.event.now c.in_ok-ran.ran.reply come_to does there
           c.holding_lasts.ensures c.events_are_held.ensures.event c.holders_move.ensures.moves c.parts_share_what_is_held.ensures.alike
@@ -107,7 +109,7 @@ returns-clause-serves g c =
     let k = g.K.RecordKind.rules in
     let base = g.B.Base.base in
     let is : c.self.inside.pass ≡ Some c.in-Some.pass = sym c.take.ensures.value ∙ c.in-Some.is in
-    let held = subst (λ (o : Option Pass). IsHeld k base g.B.Room.table o c.self.inside.set) is c.self.invariant in
+    let held = subst (λ (o : Option Pass). IsHeld k base g.B.Base.had_device g.B.Room.table o c.self.inside.set) is c.self.invariant in
     let there : (n : ℕ) → Contains (names c.args.event.now) n → Has (now_of c.self.inside.set) n = λ n has.
     key_there c.self.inside.set.records n (subst (λ (v : HeldView g.row.K.Denot g.row.D.Denot). Contains (numbers_of v) n) (sym c.self.view_is) (c.requires.there n has)) in
     let does = c.in_ok-ran.ensures.does in
