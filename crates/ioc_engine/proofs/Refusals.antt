@@ -1,5 +1,6 @@
 -- Calls that a set refuses before they have a place.
-use Rattle.std.proofs.Common.{ℕ, inl, inr, Contains}
+use Rattle.std.proofs.Common.{ℕ, Result, Ok, Err, inl, inr, Contains}
+use Rattle.std.specs.Prelude.{IfOk, IfErr}
 use Rattle.ioc_values.specs.declared.error.IocError.{IocError}
 use Rattle.ioc_record.specs.RecordRules.{RecordRules}
 use Rattle.ioc_store.specs.World.{World}
@@ -11,3 +12,12 @@ module _ {R D : Type 0} (k : RecordRules R) (base : World R) (held : HeldView R 
   pub refused_by_set : Contains (numbers_of held) number → IsSoundlyHeld k base held → IsNoCall k held.set event error → CallIsRefused D k base count number event error
   refused_by_set here sound (inl none) = inr (inr (inr (record { held = held; here = here; sound = sound; none = none })))
   refused_by_set here sound (inr place) = inr (inl place)
+
+-- what follows from an answer, and from a refusal
+pub ok_then : {A E : Type 0} (P Q : A → Type 0) (r : Result A E) → ((x : A) → P x → Q x) → IfOk r P → IfOk r Q
+ok_then P Q (Ok x) then is = then x is
+ok_then P Q (Err e) then is = is
+
+pub err_then : {A E : Type 0} (P Q : E → Type 0) (r : Result A E) → ((e : E) → P e → Q e) → IfErr r P → IfErr r Q
+err_then P Q (Ok x) then is = is
+err_then P Q (Err e) then is = then e is

@@ -253,11 +253,9 @@ impl<K: RecordKind + Drop, B: Base<K>, D: Device> Engine<K, B, D> {
             let mut held = cell.lock(rt);
             if held.has(number) {
                 held.is_sound();
-                let (reply, receipt) = held.get(
-                    rt, alloc, &self.book, desk, number, field, moment,
-                )?;
+                let told = held.get(rt, alloc, &self.book, desk, number, field, moment);
                 held.is_sound();
-                return Ok((reply, receipt));
+                return told;
             }
         }
         unreachable!()

@@ -1,7 +1,8 @@
 //! Link changes of the engine.
 ghost use Rattle.std.specs.Prelude.{◌≡◌, IfOk, IfErr, OnOk, OnErr};
 ghost use Rattle.ioc_workplace.specs.SetStore.{world_of};
-ghost use Rattle.ioc_topology.specs.Change.{AreKnown};
+ghost use Rattle.ioc_topology.specs.Change.{AreKnown, AreLent};
+ghost use Rattle.ioc_lent.specs.Holding.{numbers_of};
 ghost use Rattle.ioc_engine.specs.Linked.{other_of, WasLinked, LinkWasRefused};
 
 use crate::engine::Engine;
@@ -9,7 +10,7 @@ use ioc_common::KeptLink;
 use ioc_device::Device;
 use ioc_fields::FieldNo;
 use ioc_journal::{Base, Desk};
-use ioc_lent::{Changed, change_link};
+use ioc_lent::{Changed, Held, change_link};
 use ioc_names::RecordNo;
 use ioc_record::RecordKind;
 use ioc_topology::{all_sound, are_lent};
@@ -19,6 +20,38 @@ use std::alloc::Global;
 use std::sync::Wait;
 
 impl<K: RecordKind + Drop, B: Base<K>, D: Device> Engine<K, B, D> {
+    // Changes a link of a record on these sets, which are lent: the first has the record.
+    fn change_lent<R: Wait>(
+        &self,
+        rt: &R,
+        alloc: Global,
+        desk: &mut Desk<K, B>,
+        workplace: &mut Workplace<K, D>,
+        first: &mut Held<K, B, D>,
+        second: &mut Held<K, B, D>,
+        spare: &mut Held<K, B, D>,
+        number: RecordNo,
+        field: FieldNo,
+        link: KeptLink,
+        twin: KeptLink,
+        moment: u64,
+    ) -> Result<Changed<K, B>, IocError>
+        requires twin { twin ≡ link }
+        requires lent { AreLent numbers_of number (other_of link) first.old second.old spare.old }
+        ensures changed { IfOk result (λ c. WasLinked D K.rules B.base number field link desk.old moment c.reply c.moved desk.new (world_of workplace.new.store)) }
+        ensures receipt { IfOk result (λ c. c.receipt ≡ desk.new.seen) }
+        ensures refused { IfErr result (LinkWasRefused D K.rules B.base self.now number field link) }
+        ensures err { OnErr result (desk.new ≡ desk.old) }
+    {
+        all_sound(first, second, spare);
+        let changed = change_link(
+            rt, alloc, &self.book, desk, workplace, first, second, spare, number, field, link,
+            twin, moment,
+        );
+        all_sound(first, second, spare);
+        changed
+    }
+
     /// Changes a link of a record, under the topology guard and the locks of the sets that it concerns alone: the set of the record falls
     /// apart, or goes together with that of the record which the link names then, and each record is found where it is. `link` and `twin` are
     /// alike.
@@ -68,12 +101,10 @@ impl<K: RecordKind + Drop, B: Base<K>, D: Device> Engine<K, B, D> {
             let second = &mut *second_guard;
             let spare = &mut *spare_guard;
             if are_lent(first, second, spare, number, &other) {
-                all_sound(first, second, spare);
-                let changed = change_link(
-                    rt, alloc, &self.book, desk, workplace, first, second, spare, number, field,
-                    link, twin, moment,
+                let changed = self.change_lent(
+                    rt, alloc, desk, workplace, first, second, spare, number, field, link, twin,
+                    moment,
                 );
-                all_sound(first, second, spare);
                 self.sets.settle_all(rt, &both, &new, first, second, spare);
                 return changed;
             }

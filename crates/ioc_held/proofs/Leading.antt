@@ -1,5 +1,5 @@
 -- What the holders of two sets know after a link change that leads from one into the other.
-use Rattle.std.proofs.Common.{◌≡◌, ◌⊎◌, ℕ, Bool, List, [], ◌∷◌, ◌++◌, Option, Some, None, refl, sym, ap, ◌∙◌, subst, inl, inr, ⊎_elim}
+use Rattle.std.proofs.Common.{◌≡◌, ◌⊎◌, ℕ, Bool, List, [], ◌∷◌, ◌++◌, Option, None, sym, ap, ◌∙◌, subst, inl, inr, ⊎_elim}
 use Rattle.std.specs.Prelude.{IsSome, is_some}
 use Rattle.std.specs.FinMap.{get, insert}
 use Rattle.ioc_fields.specs.declared.field_no.FieldNo.{FieldNo}
@@ -94,8 +94,8 @@ module _ {R D : Type 0} (k : RecordRules R) (before other after other_then rest 
     left_behind : (q : ℕ) → IsSome (get rest.records q) → IsSome (get led.stay.devices q) → ⊥
     left_behind q at_rest has = elim (led.joins.devices q) [
       | inl p ↦
-        let there = subst (λ (o : Option D). IsSome o) (p.0 ∙ sym (ap (λ (h : Held R D). get h.devices q) led.then_anew)) has in
-        not_both (get freed) (get led.stay.records) (get rest.records) led.falls.shared q (⊎_elim (λ a. a) (λ b. absurd (none_some (get other.records q) (apart q (fell q at_rest)) b)) (led_back q (owned_then q there))) at_rest
+          let there = subst (λ (o : Option D). IsSome o) (p.0 ∙ sym (ap (λ (h : Held R D). get h.devices q) led.then_anew)) has in
+          not_both (get freed) (get led.stay.records) (get rest.records) led.falls.shared q (⊎_elim (λ a. a) (λ b. absurd (none_some (get other.records q) (apart q (fell q at_rest)) b)) (led_back q (owned_then q there))) at_rest
       | inr p ↦ none_some (get led.stay.devices q) p.0 has
     ]
 
@@ -117,10 +117,10 @@ module _ {R D : Type 0} (k : RecordRules R) (before other after other_then rest 
     both_have : (q : ℕ) → IsSome (get led.stay.records q) ⊎ IsSome (get other.records q) → is_some (get led.both.devices q) ≡ had q
     both_have q where_it_is = elim where_it_is [
       | inl a ↦
-        let none : IsSome (get other.devices q) → ⊥ = λ there. none_some (get other.records q) (apart q (stayed q a)) (others_own q there) in
-        ap (λ (o : Option D). is_some o) (sym (first_has (get led.both.devices) (get led.stay.devices) (get other.devices) led.joins.devices q none) ∙ stay_has q a) ∙ keeps q (stayed q a)
+          let none : IsSome (get other.devices q) → ⊥ = λ there. none_some (get other.records q) (apart q (stayed q a)) (others_own q there) in
+          ap (λ (o : Option D). is_some o) (sym (first_has (get led.both.devices) (get led.stay.devices) (get other.devices) led.joins.devices q none) ∙ stay_has q a) ∙ keeps q (stayed q a)
       | inr b ↦
-        ap (λ (o : Option D). is_some o) (sym (other_has (get led.both.devices) (get led.stay.devices) (get other.devices) led.joins.devices q (none_of_stay q b))) ∙ others_keep q b
+          ap (λ (o : Option D). is_some o) (sym (other_has (get led.both.devices) (get led.stay.devices) (get other.devices) led.joins.devices q (none_of_stay q b))) ∙ others_keep q b
     ]
 
     pub after_keeps : KeepsDevices had after

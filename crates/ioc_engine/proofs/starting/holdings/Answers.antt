@@ -1,5 +1,4 @@
-use Rattle.std.proofs.Common.{◌≡◌, ◌<◌, ◌^◌, List, refl, sym, subst, length, arith, rules}
-use Rattle.std.specs.Prelude.{All, ℕ}
+use Rattle.std.proofs.Common.{◌<◌, ◌^◌, List, refl, sym, subst, length, arith, rules}
 use Rattle.ioc_members.specs.Contents.{Contents, nothing}
 use Rattle.ioc_store.specs.World.{World}
 use Rattle.ioc_holding.specs.Legal.{IsSound}

@@ -1,30 +1,31 @@
-use Rattle.std.proofs.lemmas.Result.{err_from_is_err_and}
 use Rattle.std.proofs.Common.{sym, ◌∙◌, subst, IsTrue, Contains, rules}
 use Rattle.ioc_events.specs.declared.event.Event.TheVariants.{Get}
 use Rattle.ioc_journal.specs.Account.{DeskView}
 use Rattle.ioc_lent.specs.Holding.{HeldView, numbers_of, IsSoundlyHeld, Tells}
-use Rattle.ioc_engine.proofs.Refusals.{refused_by_set}
+use Rattle.ioc_engine.proofs.Refusals.{ok_then, err_then, refused_by_set}
 use Rattle.ioc_engine.proofs.engine.Engine.get.Goals as goal
 
 pub returns-then-has-clause-told : goal.returns-then-has-clause-told
 returns-then-has-clause-told g c =
     let there : IsTrue c.has.result = search rules in
     let k = g.K.RecordKind.rules in
-    record {
+    ok_then _ _ c.get-told.result
+    (λ x tells. record {
       held = c.deref_mut.result.now;
-      held_then = c.get.new.self;
+      held_then = c.get-told.new.self;
       here = subst (λ (s : HeldView g.row.K.Denot g.row.D.Denot). Contains (numbers_of s) c.args.number) (c.deref-in-loop-2.ensures ∙ sym c.deref_mut.ensures.value) (c.has.ensures.0 there);
       before = subst (λ (s : HeldView g.row.K.Denot g.row.D.Denot). IsSoundlyHeld k g.B.Base.base s) (c.deref-then-has.ensures ∙ sym c.deref_mut.ensures.value) c.is_sound.ensures;
-      tells = subst (λ (d : DeskView). Tells k g.B.Base.base c.deref_mut.result.now d c.args.moment (Get c.args.number c.args.field) c.in_ok-reply.reply c.get.new.self c.get.new.desk) c.loop.invariant c.in_ok-reply.ensures.tells;
+      tells = subst (λ (d : DeskView). Tells k g.B.Base.base c.deref_mut.result.now d c.args.moment (Get c.args.number c.args.field) x.0 c.get-told.new.self c.get-told.new.desk) c.loop.invariant tells;
       after = subst (λ (s : HeldView g.row.K.Denot g.row.D.Denot). IsSoundlyHeld k g.B.Base.base s) c.deref-then-has-2.ensures c.is_sound-then-has.ensures;
-    }
+    })
+    c.get-told.ensures.tells
 
-pub returns-in_err-reply-clause-refused : goal.returns-in_err-reply-clause-refused
-returns-in_err-reply-clause-refused g c =
+pub returns-then-has-clause-refused : goal.returns-then-has-clause-refused
+returns-then-has-clause-refused g c =
     let there : IsTrue c.has.result = search rules in
     let k = g.K.RecordKind.rules in
-    let p = err_from_is_err_and c.from_residual-in_err-reply.result c.from_residual-in_err-reply.ensures.1 in
-    rw (p.1, p.2) (refused_by_set k g.B.Base.base c.deref_mut.result.now c.args.self.now c.args.number (Get c.args.number c.args.field) _
+    err_then _ _ c.get-told.result
+    (λ e why. refused_by_set k g.B.Base.base c.deref_mut.result.now c.args.self.now c.args.number (Get c.args.number c.args.field) e
     (subst (λ (s : HeldView g.row.K.Denot g.row.D.Denot). Contains (numbers_of s) c.args.number) (c.deref-in-loop-2.ensures ∙ sym c.deref_mut.ensures.value) (c.has.ensures.0 there))
-    (subst (λ (s : HeldView g.row.K.Denot g.row.D.Denot). IsSoundlyHeld k g.B.Base.base s) (c.deref-then-has.ensures ∙ sym c.deref_mut.ensures.value) c.is_sound.ensures)
-    c.in_err-reply.ensures.refused)
+    (subst (λ (s : HeldView g.row.K.Denot g.row.D.Denot). IsSoundlyHeld k g.B.Base.base s) (c.deref-then-has.ensures ∙ sym c.deref_mut.ensures.value) c.is_sound.ensures) why)
+    c.get-told.ensures.refused
