@@ -1,5 +1,6 @@
-//! Tests that cross the crates: whole runs over memory, the directory of lock sets, with sets that are lists of numbers, and the engine for threads, from a
-//! database text to its end.
+//! Tests of the crates below processing (`lower`), and tests that cross the crates: whole runs over memory, the directory of lock sets, with sets that are
+//! lists of numbers, and the engine for threads, from a database text to its end. They stand in one crate, so that what these are made of is read once for
+//! all, and none of them is proved twice.
 #![tactic(auto)]
 
 #[cfg(test)]
@@ -26,6 +27,8 @@ mod loads;
 mod lock_sets;
 #[cfg(test)]
 mod long;
+#[cfg(test)]
+mod lower;
 #[cfg(test)]
 mod macros;
 #[cfg(test)]

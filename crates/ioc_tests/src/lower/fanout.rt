@@ -1,8 +1,8 @@
 //! A fanout record by itself.
-use crate::steps::Step::{
+use crate::lower::steps::Step::{
     Begin, Converts, Copied, Has, Load, Put, PutRefused, Set, SetRefused, Stands, Take, Test,
 };
-use crate::steps::{Came, Does, Step, Wants, follow};
+use crate::lower::steps::{Came, Does, Step, Wants, follow};
 use ioc_common::{InputKind, Kept};
 use ioc_fields::{FieldNo, OwnField, Slot};
 use ioc_links::Mode;

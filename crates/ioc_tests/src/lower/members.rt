@@ -1,6 +1,6 @@
 //! Sets of records, as link changes join and part them, by a list of steps. Where memory is refused once, all must be as before,
 //! and what was refused is done once more: so the test holds whichever allocation fails.
-use crate::sets::{
+use crate::lower::sets::{
     Cut, Linked, Sensor, add, answers, both_lead, fresh, holds, is_refused, join, leads_out, made,
     part,
 };

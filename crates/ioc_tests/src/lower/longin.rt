@@ -1,10 +1,10 @@
 //! A longin record by itself.
-use crate::acts::Act;
-use crate::steps::Step::{
+use crate::lower::acts::Act;
+use crate::lower::steps::Step::{
     Answer, AnswerFault, Begin, Converts, Copied, Do, Has, Load, OwnsDevice, Put, Raised, Set,
     Shows, Take, Test,
 };
-use crate::steps::{Came, Does, SHOW, Step, Wants};
+use crate::lower::steps::{Came, Does, SHOW, Step, Wants};
 use ioc_common::InputKind;
 use ioc_fields::{FieldNo, OwnField};
 use ioc_menus::{Severity, Status};

@@ -1,8 +1,8 @@
 //! An int64in and an int64out record by themselves.
-use crate::steps::Step::{
+use crate::lower::steps::Step::{
     Begin, Converts, Copied, Has, Lists, Load, Put, PutRefused, Raised, Set, Shows, Take, Test,
 };
-use crate::steps::{Came, Does, Step, Wants};
+use crate::lower::steps::{Came, Does, Step, Wants};
 use ioc_common::InputKind;
 use ioc_values::{IocError, Range};
 

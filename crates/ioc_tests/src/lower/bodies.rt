@@ -1,6 +1,6 @@
 //! A record of each type by itself, as the type's list of steps says.
-use crate::steps::follow;
-use crate::{bi, bo, fanout, int64, longin, longout, multi, records, texts};
+use crate::lower::steps::follow;
+use crate::lower::{bi, bo, fanout, int64, longin, longout, multi, records, texts};
 use rec_binary::{Bi, Bo};
 use rec_flow::{Event, Fanout};
 use rec_multi::{Mbbi, Mbbo};

@@ -1,9 +1,9 @@
 //! A bi record by itself.
-use crate::steps::Step::{
+use crate::lower::steps::Step::{
     Answer, AnswerFault, Begin, Converts, Copied, Has, Lists, Load, OwnsDevice, Put, PutNumber,
     PutRefused, Raised, Set, SetRefused, Stands, Take, Test,
 };
-use crate::steps::{Came, Does, SHOW, Step, Wants};
+use crate::lower::steps::{Came, Does, SHOW, Step, Wants};
 use ioc_common::InputKind;
 use ioc_fields::{FieldNo, OwnField};
 use ioc_links::Mode;

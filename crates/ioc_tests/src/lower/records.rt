@@ -1,9 +1,9 @@
 //! What records of every type do alike: the steps on common fields, puts, texts of fields.
-use crate::acts::Act;
-use crate::steps::Step::{
+use crate::lower::acts::Act;
+use crate::lower::steps::Step::{
     Do, Has, Load, MayPut, Put, PutByLink, PutRefused, Raised, Set, SetRefused, Shows, Test,
 };
-use crate::steps::{BLOCK, SHOW, Step};
+use crate::lower::steps::{BLOCK, SHOW, Step};
 use ioc_common::{InputKind, KeptLink, LinkField, LinkUse, disable_kind};
 use ioc_links::Mode;
 use ioc_menus::{Severity, Status};

@@ -1,9 +1,9 @@
 //! A stringin, a stringout and an event record by themselves.
-use crate::steps::Step::{
+use crate::lower::steps::Step::{
     Begin, Converts, Copied, Has, Lists, Load, OwnsDevice, Put, Raised, Set, SetRefused, Stands,
     Take, Test,
 };
-use crate::steps::{Came, Does, Step, Wants};
+use crate::lower::steps::{Came, Does, Step, Wants};
 use ioc_common::InputKind;
 use ioc_fields::{FieldNo, OwnField};
 use ioc_links::Mode;

@@ -1,6 +1,6 @@
 //! Tests of one record as lists of steps, each with what must come of it. One list holds all tests of a type, since
 //! a list costs the prover little and a function much.
-use crate::acts::{Act, is_done};
+use crate::lower::acts::{Act, is_done};
 use ioc_common::{
     FieldAddress, Fresh, Got, InputKind, KeptLink, Lead, LinkUse, Need, Output, StandingLink,
 };
