@@ -13,7 +13,7 @@ use ioc_journal::{Base, Desk};
 use ioc_lent::{Changed, Held, change_link};
 use ioc_names::RecordNo;
 use ioc_record::RecordKind;
-use ioc_topology::{all_sound, are_lent};
+use ioc_topology::{NewPlaces, all_sound, are_lent};
 use ioc_values::IocError;
 use ioc_workplace::Workplace;
 use std::alloc::Global;
@@ -83,15 +83,41 @@ impl<K: RecordKind + Drop, B: Base<K>, D: Device> Engine<K, B, D> {
         if self.is_closed() {
             return Err(IocError::Stopped);
         }
-        let other = link.record_named();
         let _guard = self.sets.guard_topology(rt);
         let new = self.sets.new_places(rt, alloc)?;
+        self.relink(
+            rt, alloc, desk, workplace, &new, number, field, link, twin, moment,
+        )
+    }
+
+    // Finds the sets of a link change under the topology guard, takes their locks, and does it there.
+    fn relink<R: Wait>(
+        &self,
+        rt: &R,
+        alloc: Global,
+        desk: &mut Desk<K, B>,
+        workplace: &mut Workplace<K, D>,
+        new: &NewPlaces<Held<K, B, D>>,
+        number: RecordNo,
+        field: FieldNo,
+        link: KeptLink,
+        twin: KeptLink,
+        moment: u64,
+    ) -> Result<Changed<K, B>, IocError>
+        requires twin { twin ≡ link }
+        ensures changed { IfOk result (λ c. WasLinked D K.rules B.base number field link desk.old moment c.reply c.moved desk.new (world_of workplace.new.store)) }
+        ensures receipt { IfOk result (λ c. c.receipt ≡ desk.new.seen) }
+        ensures known { OnOk result (AreKnown self.now number (other_of link)) }
+        ensures refused { IfErr result (LinkWasRefused D K.rules B.base self.now number field link) }
+        ensures err { OnErr result (desk.new ≡ desk.old) }
+    {
+        let other = link.record_named();
         for _ in rt.forever() {
-            let both = match self.sets.both_places(rt, &new, number, &other) {
+            let both = match self.sets.both_places(rt, new, number, &other) {
                 Ok(Some(both)) => both,
                 Ok(None) => continue,
                 Err(refused) => {
-                    self.sets.leave_new(rt, &new);
+                    self.sets.leave_new(rt, new);
                     return Err(refused);
                 }
             };
@@ -105,7 +131,7 @@ impl<K: RecordKind + Drop, B: Base<K>, D: Device> Engine<K, B, D> {
                     rt, alloc, desk, workplace, first, second, spare, number, field, link, twin,
                     moment,
                 );
-                self.sets.settle_all(rt, &both, &new, first, second, spare);
+                self.sets.settle_all(rt, &both, new, first, second, spare);
                 return changed;
             }
         }

@@ -6,7 +6,7 @@ use Rattle.ioc_journal.specs.Account.{DeskView}
 use Rattle.ioc_topology.specs.Change.{AreLent}
 use Rattle.ioc_lent.specs.Holding.{numbers_of}
 use Rattle.ioc_engine.specs.Linked.{other_of, WasLinked, LinkWasRefused}
-use Rattle.ioc_engine.proofs.engine.Engine.set_link.Goals as goal
+use Rattle.ioc_engine.proofs.engine.Engine.relink.Goals as goal
 
 pub change_lent-changed-requires-clause-twin : goal.change_lent-changed-requires-clause-twin
 change_lent-changed-requires-clause-twin g c = c.loop.invariant.1.1 ∙ c.requires.twin ∙ sym c.loop.invariant.1.0
