@@ -8,27 +8,29 @@ use Rattle.ioc_alarms.specs.declared.limits.ReachedLimit.{ReachedLimit}
 use Rattle.ioc_alarms.specs.Alarms.{raised, takes_effect}
 use Rattle.ioc_alarms.specs.Severities.{is_alarm}
 
--- the value is at or above the limit, or has not come back below it by the hysteresis since its alarm
+-- Whether the value is at or above the limit, or hasn't come back below it by the hysteresis since
+-- its alarm.
 unfoldable pub is_high : ℤ → ℤ → ℤ → ℤ → Bool
 is_high limit hysteresis value last = int_le limit value || (int_eq last limit && int_le (limit -ℤ hysteresis) value)
 
--- the value is at or below the limit, or has not come back above it by the hysteresis since its alarm
+-- Whether the value is at or below the limit, or hasn't come back above it by the hysteresis since
+-- its alarm.
 unfoldable pub is_low : ℤ → ℤ → ℤ → ℤ → Bool
 is_low limit hysteresis value last = int_le value limit || (int_eq last limit && int_le value (limit +ℤ hysteresis))
 
--- the first whose test holds
+-- The first limit whose test holds.
 abbrev pub first_that_holds : {N : Type 0} → List (Bool × ReachedLimit N) → Option (ReachedLimit N)
 first_that_holds [] = None
 first_that_holds (c ∷ cs) = if c.0 then Some c.1 else first_that_holds cs
 
--- a limit's test, at a value and LALM; `whole` is the whole number of a value
+-- Whether a high limit is reached, at a value and LALM. `whole` is the integer of a value.
 abbrev pub high_holds : {N : Type 0} → (N → ℤ) → Limits N → N → N → N → Bool
 high_holds whole l value last limit = is_high (whole limit) (whole l.hysteresis) (whole value) (whole last)
 
 abbrev pub low_holds : {N : Type 0} → (N → ℤ) → Limits N → N → N → N → Bool
 low_holds whole l value last limit = is_low (whole limit) (whole l.hysteresis) (whole value) (whole last)
 
--- the limits in the order in which they are tested, each with its test
+-- The limits in the order in which they are tested, each with its test.
 abbrev pub limit_tests : {N : Type 0} → (N → ℤ) → N → N → Limits N → List (Bool × ReachedLimit N)
 limit_tests whole value last l =
     (is_alarm l.hihi_severity && high_holds whole l value last l.hihi, record { status = Hihi; severity = l.hihi_severity; limit = l.hihi })
@@ -37,15 +39,16 @@ limit_tests whole value last l =
     ∷ (is_alarm l.low_severity && low_holds whole l value last l.low, record { status = Low; severity = l.low_severity; limit = l.low })
     ∷ []
 
--- the limit that is reached, if one is
+-- The first limit that is reached, if any.
 unfoldable pub first_reached : {N : Type 0} → (N → ℤ) → N → N → Limits N → Option (ReachedLimit N)
 first_reached whole value last l = first_that_holds (limit_tests whole value last l)
 
--- with the alarm of a limit that is reached raised: LALM becomes the limit where the alarm took effect, else it stays. Where no limit is reached LALM becomes the value
+-- The alarms with the alarm of a reached limit raised, and LALM: the limit if the alarm took
+-- effect, else the old LALM. If no limit is reached, LALM becomes the value.
 abbrev pub limited_by : {N : Type 0} → N → N → Option (ReachedLimit N) → Alarms → Alarms × N
 limited_by value last None a = (a, value)
 limited_by value last (Some r) a = (raised r.status r.severity a, if takes_effect r.severity a then r.limit else last)
 
--- the alarms and LALM once the limits are tested, at a value and LALM
+-- The alarms and LALM after the limits are tested, at a value and LALM.
 unfoldable pub limited : {N : Type 0} → (N → ℤ) → N → N → Limits N → Alarms → Alarms × N
 limited whole value last l a = limited_by value last (first_reached whole value last l) a

@@ -1,11 +1,12 @@
-//! The alarm fields of a record, and the steps on them.
+//! The alarm fields of a record, and the operations on them.
 ghost use Rattle.std.specs.Prelude.{◌≡◌};
 
 use crate::limits::{Limits, WholeNumber};
 use ioc_links::Mode;
 use ioc_menus::{Severity, Status};
 
-/// The alarm that a record shows (STAT, SEVR), and the one that its body has raised so far (NSTA, NSEV).
+/// The alarm that a record shows (STAT, SEVR), and the one that its processing has raised so far
+/// (NSTA, NSEV).
 #[derive(Clone, Copy, PartialEq, Eq, Debug)]
 pub struct Alarms {
     pub status: Status,
@@ -19,15 +20,15 @@ impl Alarms {
     ghost use Rattle.ioc_alarms.specs.Alarms.{takes_effect, raised, settled, inherited};
     ghost use Rattle.ioc_alarms.specs.Limits.{limited};
 
-    /// Would an alarm of this severity take effect if it were raised?
+    /// Returns whether an alarm of this severity would take effect if it were raised.
     pub fn takes_effect(&self, severity: Severity) -> bool
         ensures { result ≡ takes_effect severity self.now }
     {
         severity.number() > self.new_severity.number()
     }
 
-    /// Raises an alarm, which takes effect where it is graver than those raised before.
-    /// Record Reference Manual, "Alarm Fields".
+    /// Raises an alarm, which takes effect if its severity is greater than that of those raised
+    /// before. Record Reference Manual, "Alarm Fields".
     pub fn raise(&mut self, status: Status, severity: Severity)
         ensures { self.new ≡ raised status severity self.old }
     {
@@ -37,7 +38,7 @@ impl Alarms {
         }
     }
 
-    /// The alarm raised becomes the one that the record shows.
+    /// Makes the raised alarm the one that the record shows, and clears the raised alarm.
     pub fn settle(&mut self)
         ensures { self.new ≡ settled self.old }
     {
@@ -47,8 +48,8 @@ impl Alarms {
         self.new_severity = Severity::NoAlarm;
     }
 
-    /// Takes over the alarm of another record, as the link's mode says.
-    /// Record Reference Manual, "Link types: maximize severity attribute".
+    /// Takes over the alarm of another record according to the link's mode. Record Reference
+    /// Manual, "Link types: maximize severity attribute".
     pub fn inherit(&mut self, mode: Mode, status: Status, severity: Severity)
         ensures { self.new ≡ inherited mode status severity self.old }
     {
@@ -64,9 +65,10 @@ impl Alarms {
         }
     }
 
-    /// Raises the alarm of the first limit that a value has reached, in the order HIHI, LOLO, HIGH,
-    /// LOW, and gives the new LALM: the limit where the alarm took effect, else LALM as it was; the
-    /// value where no limit is reached. Record Reference Manual, "Alarm Parameters" of longin.
+    /// Raises the alarm of the first limit that the value has reached, in the order HIHI, LOLO,
+    /// HIGH, LOW, and returns the new LALM. That is the limit if the alarm took effect, the old
+    /// LALM if it didn't, and the value if no limit is reached. Record Reference Manual, "Alarm
+    /// Parameters" of longin.
     pub fn limits<N: WholeNumber>(&mut self, value: N, last_alarmed: N, limits: &Limits<N>) -> N
         ensures alarms { self.new ≡ (limited N.whole value last_alarmed limits.now self.old).0 }
         ensures last_alarmed { result ≡ (limited N.whole value last_alarmed limits.now self.old).1 }

@@ -1,5 +1,5 @@
-//! Alarms: raised, settled, inherited, and those of limits.
-//! Record Reference Manual, "Alarm Fields"; Application Developer's Guide, "Alarms".
+//! Alarms: raising, settling and inheriting them, and the alarms of limits. Record Reference
+//! Manual, "Alarm Fields"; Application Developer's Guide, "Alarms".
 #![tactic(auto)]
 
 pub mod alarms;

@@ -4,11 +4,11 @@ ghost use Rattle.ioc_alarms.specs.Severities.{is_alarm};
 
 use ioc_menus::{Severity, Status};
 
-/// A number of a record's value and limits: its whole number is of 64 bits at most.
+/// A type of a record's value and limits: integers of at most 64 bits.
 pub trait WholeNumber: Copy {
     ghost whole: { Self → ℤ };
 
-    /// The number, in 64 bits.
+    /// Returns the number in 64 bits.
     fn wide(self) -> i64
         ensures { result ≡ whole self };
 }
@@ -29,7 +29,7 @@ impl WholeNumber for i64 {
     }
 }
 
-/// The limits of a value, the severity of each one's alarm, and how far a value must come back
+/// The limits of a value, the severity of each limit's alarm, and how far a value must come back
 /// from a limit until its alarm ends. A limit whose severity is NO_ALARM isn't tested.
 #[derive(Clone, Copy, PartialEq, Eq, Debug)]
 pub struct Limits<N> {
@@ -49,7 +49,7 @@ pub struct Limits<N> {
     pub high_severity: Severity,
     /// LSV.
     pub low_severity: Severity,
-    /// HYST. A negative one is taken as it stands.
+    /// HYST. A negative hysteresis is used as it is.
     pub hysteresis: N,
 }
 
@@ -65,7 +65,7 @@ pub struct ReachedLimit<N> {
 impl<N: WholeNumber> Limits<N> {
     ghost use Rattle.ioc_alarms.specs.Limits.{is_high, is_low, first_reached};
 
-    // Does a high limit hold?
+    // Returns whether a high limit is reached.
     fn is_high(&self, limit: N, value: N, last_alarmed: N) -> bool
         ensures { result ≡ is_high (N.whole limit) (N.whole self.now.hysteresis) (N.whole value) (N.whole last_alarmed) }
     {
@@ -74,7 +74,7 @@ impl<N: WholeNumber> Limits<N> {
         value >= limit || (is_last && is_from_below(limit, self.hysteresis.wide(), value))
     }
 
-    // Does a low limit hold?
+    // Returns whether a low limit is reached.
     fn is_low(&self, limit: N, value: N, last_alarmed: N) -> bool
         ensures { result ≡ is_low (N.whole limit) (N.whole self.now.hysteresis) (N.whole value) (N.whole last_alarmed) }
     {
@@ -83,7 +83,7 @@ impl<N: WholeNumber> Limits<N> {
         value <= limit || (is_last && is_to_above(limit, self.hysteresis.wide(), value))
     }
 
-    /// The first limit that holds, in the order HIHI, LOLO, HIGH, LOW.
+    /// Returns the first limit that is reached, in the order HIHI, LOLO, HIGH, LOW.
     #[tactic(auto, unfolding(crate::specs::Limits::first_reached))]
     pub fn first_reached(&self, value: N, last_alarmed: N) -> Option<ReachedLimit<N>>
         ensures { result ≡ first_reached N.whole value last_alarmed self.now }
@@ -120,15 +120,15 @@ impl<N: WholeNumber> Limits<N> {
     }
 }
 
-// Is the severity any but NO_ALARM?
+// Returns whether the severity is other than NO_ALARM.
 fn is_alarm(severity: Severity) -> bool
     ensures { result ≡ is_alarm severity }
 {
     !matches!(severity, Severity::NoAlarm)
 }
 
-// Is the value at least the limit less the hysteresis? 128 bits hold every difference of two
-// values of 64 bits, so it doesn't wrap.
+// Returns whether the value is at least the limit minus the hysteresis. Every difference of two
+// 64-bit values fits 128 bits, so it doesn't wrap.
 fn is_from_below(limit: i64, hysteresis: i64, value: i64) -> bool
     ensures { result ≡ int_le (limit -ℤ hysteresis) value }
 {
@@ -136,7 +136,7 @@ fn is_from_below(limit: i64, hysteresis: i64, value: i64) -> bool
     edge <= value as i128
 }
 
-// Is the value at most the limit and the hysteresis?
+// Returns whether the value is at most the limit plus the hysteresis.
 fn is_to_above(limit: i64, hysteresis: i64, value: i64) -> bool
     ensures { result ≡ int_le value (limit +ℤ hysteresis) }
 {

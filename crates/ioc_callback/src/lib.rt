@@ -1,5 +1,5 @@
-//! The callback queues HIGH, MEDIUM and LOW, and the queue of once requests.
-//! Application Developer's Guide, "Scanning Specification": callback tasks, scanOnce.
+//! The callback queues HIGH, MEDIUM and LOW, and the queue of once requests. Application
+//! Developer's Guide, "Scanning Specification": callback tasks, scanOnce.
 #![tactic(auto)]
 
 pub mod queue;

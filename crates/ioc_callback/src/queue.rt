@@ -5,7 +5,7 @@ use std::alloc::{AllocError, Global};
 use std::collections::VecDeque;
 use std::marker::Model;
 
-/// A queue, first in, first out, of at most `LIMIT` items. All its room is taken when it is made.
+/// A queue, first in, first out, of at most `LIMIT` items. All its memory is allocated at creation.
 #[derive(Drop)]
 pub struct Queue<T, const LIMIT: usize> {
     items: VecDeque<T>,
@@ -23,11 +23,11 @@ impl<T, const LIMIT: usize> Model for Queue<T, LIMIT> {
 }
 
 impl<T, const LIMIT: usize> Queue<T, LIMIT> {
-    /// An empty queue, with room for all that it will hold.
+    /// Creates an empty queue, with room for `LIMIT` items.
     ///
     /// # Errors
     ///
-    /// [`AllocError`] where memory is wanting.
+    /// [`AllocError`] if allocation fails.
     pub fn new(alloc: Global) -> Result<Self, AllocError>
         ensures { IfOk result (λ q. q ≡ []) }
     {
@@ -35,32 +35,32 @@ impl<T, const LIMIT: usize> Queue<T, LIMIT> {
         Ok(Queue { items })
     }
 
-    /// Does it hold as many items as it can?
+    /// Returns whether the queue is full.
     pub fn is_full(&self) -> bool
         ensures { IsTrue result ↔ (length self.now ≡ LIMIT) }
     {
         self.items.len() == LIMIT
     }
 
-    /// How many items it holds.
+    /// Returns the number of items.
     pub fn len(&self) -> usize
         ensures { result ≡ length self.now }
     {
         self.items.len()
     }
 
-    /// Does it hold none?
+    /// Returns whether the queue is empty.
     pub fn is_empty(&self) -> bool
         ensures { IsTrue result ↔ (self.now ≡ []) }
     {
         self.items.is_empty()
     }
 
-    /// Puts an item at the end.
+    /// Appends an item.
     ///
     /// # Errors
     ///
-    /// The item, where the queue is full: it is as before then.
+    /// The item, if the queue is full; nothing has changed then.
     pub fn push(&mut self, item: T) -> Result<(), T>
         ensures room { OnOk result (length self.old < LIMIT) }
         ensures pushed { OnOk result (self.new ≡ self.old ++ item ∷ []) }
@@ -75,7 +75,7 @@ impl<T, const LIMIT: usize> Queue<T, LIMIT> {
         Ok(())
     }
 
-    /// Takes the first item.
+    /// Removes and returns the first item.
     pub fn pop(&mut self) -> Option<T>
         ensures taken { self.old ≡ option_to_list result ++ self.new }
         ensures some { IsSome result ↔ (0 < length self.old) }

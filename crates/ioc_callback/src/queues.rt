@@ -5,25 +5,26 @@ use crate::queue::Queue;
 use ioc_menus::Priority;
 use std::alloc::{AllocError, Global};
 
-/// The callback queues, of 2,000 items each, and the once queue, of 1,000. All their room is taken when they are made.
+/// The callback queues, of 2,000 items each, and the once queue, of 1,000. All their memory is
+/// allocated at creation.
 #[derive(Drop)]
 pub struct Queues<T> {
     pub high: Queue<T, 2000>,
     pub medium: Queue<T, 2000>,
     pub low: Queue<T, 2000>,
     pub once: Queue<T, 1000>,
-    /// How many items found their queue full. A count that reaches 2^64 - 1 is full and stays there.
+    /// The number of items that found their queue full. The count saturates at 2^64 - 1.
     pub dropped: u64,
 }
 
 impl<T> Queues<T> {
     ghost use Rattle.ioc_callback.specs.Serving.{no_items, callbacks, with_callback, with_once, with_dropped, in_turn, served};
 
-    /// Four empty queues, with room for all that they will hold.
+    /// Creates four empty queues, with room for all their items.
     ///
     /// # Errors
     ///
-    /// [`AllocError`] where memory is wanting.
+    /// [`AllocError`] if allocation fails.
     pub fn new(alloc: Global) -> Result<Self, AllocError>
     where
         T: Drop,
@@ -42,11 +43,12 @@ impl<T> Queues<T> {
         })
     }
 
-    /// Puts an item at the end of the callback queue of this priority.
+    /// Appends an item to the callback queue of this priority.
     ///
     /// # Errors
     ///
-    /// The item, where that queue is full: it is counted as dropped then, and the queues are as before.
+    /// The item, if that queue is full; the queues haven't changed then, and the item is counted as
+    /// dropped.
     pub fn push(&mut self, priority: Priority, item: T) -> Result<(), T>
         ensures room { OnOk result (length (callbacks self.old priority) < 2000) }
         ensures pushed { OnOk result (self.new ≡ with_callback self.old priority item) }
@@ -65,11 +67,12 @@ impl<T> Queues<T> {
         pushed
     }
 
-    /// Puts an item at the end of the once queue.
+    /// Appends an item to the once queue.
     ///
     /// # Errors
     ///
-    /// The item, where that queue is full: it is counted as dropped then, and the queues are as before.
+    /// The item, if that queue is full; the queues haven't changed then, and the item is counted as
+    /// dropped.
     pub fn push_once(&mut self, item: T) -> Result<(), T>
         ensures room { OnOk result (length self.old.once < 1000) }
         ensures pushed { OnOk result (self.new ≡ with_once self.old item) }
@@ -84,7 +87,8 @@ impl<T> Queues<T> {
         pushed
     }
 
-    /// Takes the item whose turn it is: the first of HIGH, else of MEDIUM, else of LOW, else of the once queue.
+    /// Removes and returns the next item to serve: the first one of HIGH, or else of MEDIUM, of
+    /// LOW, or of the once queue.
     pub fn next(&mut self) -> Option<T>
         ensures taken { in_turn self.old ≡ option_to_list result ++ in_turn self.new }
         ensures after { self.new ≡ served self.old }

@@ -1,4 +1,5 @@
--- The values of the fields that every record has. Record Reference Manual, "Fields Common to All Record Types".
+-- The values of the fields that every record has. Record Reference Manual, "Fields Common to All
+-- Record Types".
 use Rattle.std.specs.Prelude.{ℕ, Bool, if◌then◌else◌, Option, Some, None, take, pos, unwrap_or}
 use Rattle.std.specs.Fmt.{signed_decimal}
 use Rattle.ioc_values.specs.declared.value.Value.{Value}
@@ -11,19 +12,19 @@ use Rattle.ioc_common.specs.Scanning.{scanning_get, scanning_stored}
 use Rattle.ioc_common.specs.Disabling.{disabling_get, disabling_stored}
 use Rattle.ioc_common.specs.Parts.{text_in, uchar_in}
 
--- NAME shows the first bytes of the name
+-- NAME shows the first bytes of the name.
 unfoldable pub shown_name : Common → Value
 shown_name c = value.Text (take 39 c.name)
 
--- TIME shows the moment in decimal
+-- TIME shows the time stamp in decimal.
 unfoldable pub shown_time : ℕ → Value
 shown_time moment = value.Text (take 39 (signed_decimal (pos moment)))
 
--- a mark shows as 0 or 1
+-- A flag shows as 0 or 1.
 abbrev pub flag : Bool → Value
 flag is_set = value.UChar (if is_set then 1 else 0)
 
--- the value of a field that every record has; none of its links. TSE is always 0
+-- The value of a field that every record has; links have none. TSE is always 0.
 unfoldable pub common_get : Common → CommonField → Option Value
 common_get c Name = Some (shown_name c)
 common_get c Desc = Some (value.Text c.description)
@@ -54,7 +55,7 @@ common_get c Putf = Some (flag c.by_put)
 common_get c Rpro = Some (flag c.reprocess)
 common_get c Time = Some (shown_time c.time)
 
--- with a converted value stored; the others don't change
+-- The fields with a converted value stored.
 unfoldable pub common_stored : Common → CommonField → Value → Common
 common_stored c Desc v = record c { description = unwrap_or (text_in v) c.description }
 common_stored c Asg v = record c { access_group = unwrap_or (text_in v) c.access_group }

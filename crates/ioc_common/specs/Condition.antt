@@ -1,4 +1,5 @@
--- Steps on the fields that a type's body works with. Record Reference Manual, "Alarm Fields".
+-- Operations on the common fields that the body of a type uses. Record Reference Manual, "Alarm
+-- Fields".
 use Rattle.std.specs.Prelude.{[], ◌==◌, if◌then◌else◌, Option, Some, None, unwrap_or}
 use Rattle.ioc_values.specs.declared.value.Value.{Value}
 use Rattle.ioc_values.specs.declared.value.Value.TheVariants as value
@@ -14,23 +15,24 @@ use Rattle.ioc_alarms.specs.Alarms.{raised as raised_in, settled as settled_in, 
 use Rattle.ioc_common.specs.declared.condition.Condition.{Condition}
 use Rattle.ioc_common.specs.Parts.{text_in, uchar_in, severity_in}
 
--- with an alarm raised
+-- The condition with an alarm raised.
 abbrev pub raised : Status → Severity → Condition → Condition
 raised status severity c = record c { alarms = raised_in status severity c.alarms }
 
--- with another record's alarm taken over
+-- The condition with another record's alarm taken over.
 abbrev pub inherited : Mode → Status → Severity → Condition → Condition
 inherited mode status severity c = record c { alarms = inherited_in mode status severity c.alarms }
 
--- the alarm raised is shown
+-- The condition with the raised alarm shown.
 abbrev pub settled : Condition → Condition
 settled c = record c { alarms = settled_in c.alarms }
 
--- while the value is undefined, UDF is raised with UDFS
+-- The condition with UDF raised with UDFS, if the value is undefined.
 unfoldable pub undefined_tested : Condition → Condition
 undefined_tested c = if c.undefined == 0 then c else raised Udf c.undefined_severity c
 
--- at the end of a load UDF is shown: with UDFS while the value is undefined, else with no severity
+-- The condition with UDF shown at the end of a load, with UDFS if the value is undefined and else
+-- without severity.
 unfoldable pub first_shown : Condition → Condition
 first_shown c = record c {
   alarms = record {
@@ -41,7 +43,7 @@ first_shown c = record c {
   };
 }
 
--- that of a new record
+-- The condition of a new record.
 unfoldable pub new_condition : Condition
 new_condition = record {
   device_type = [];
@@ -60,7 +62,7 @@ condition_get c field.Nsta = Some (value.Enum (status_number c.alarms.new_status
 condition_get c field.Nsev = Some (value.Enum (severity_number c.alarms.new_severity))
 condition_get c _ = None
 
--- with a converted value stored; the alarms change by no put
+-- The condition with a converted value stored. A put doesn't change the alarms.
 unfoldable pub condition_stored : Condition → CommonField → Value → Condition
 condition_stored c field.Dtyp v = record c { device_type = unwrap_or (text_in v) c.device_type }
 condition_stored c field.Udf v = record c { undefined = unwrap_or (uchar_in v) c.undefined }

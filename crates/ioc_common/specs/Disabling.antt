@@ -1,4 +1,4 @@
--- The fields by which a record, and puts to it, are disabled. Record Reference Manual, "Scan Fields".
+-- The fields that disable a record, and puts to it. Record Reference Manual, "Scan Fields".
 use Rattle.std.specs.Prelude.{Option, Some, None, pos, unwrap_or}
 use Rattle.ioc_values.specs.declared.value.Value.{Value}
 use Rattle.ioc_values.specs.declared.value.Value.TheVariants as value
@@ -9,7 +9,7 @@ use Rattle.ioc_fields.specs.declared.field_no.CommonField.TheVariants.{Disv, Dis
 use Rattle.ioc_common.specs.declared.disabling.Disabling.{Disabling}
 use Rattle.ioc_common.specs.Parts.{short_in, severity_in, uchar_in}
 
--- those of a new record
+-- The fields of a new record.
 unfoldable pub new_disabling : Disabling
 new_disabling = record { value = pos 1; input = pos 0; severity = NoAlarm; puts = 0 }
 
@@ -20,7 +20,7 @@ disabling_get d Diss = Some (value.Enum (severity_number d.severity))
 disabling_get d Disp = Some (value.UChar d.puts)
 disabling_get d _ = None
 
--- with a converted value stored
+-- The fields with a converted value stored.
 unfoldable pub disabling_stored : Disabling → CommonField → Value → Disabling
 disabling_stored d Disv v = record d { value = unwrap_or (short_in v) d.value }
 disabling_stored d Disa v = record d { input = unwrap_or (short_in v) d.input }

@@ -1,4 +1,5 @@
--- The fields by which the output types are driven, and drive. Record Reference Manual, "Output Specification" and "Invalid Output Action".
+-- The fields that control the output of the output types. Record Reference Manual, "Output
+-- Specification" and "Invalid Output Action".
 use Rattle.std.proofs.Common.{◌≡◌, ◌≢◌, ℕ, Bool, true, false, Option, Some, None, refl, ap, ◌⊎◌, inl, inr}
 use Rattle.std.specs.Prelude.{◌<◌, unwrap_or, is_some}
 use Rattle.ioc_values.specs.declared.value.Value.{Value}
@@ -28,7 +29,7 @@ use Rattle.ioc_common.specs.Parts.{omsl_in, ivoa_in, omsl_back, ivoa_back}
 unfoldable pub new_drive : Drive
 new_drive = record { output = no_link; desired = no_link; mode = Supervisory; on_invalid = ContinueNormally }
 
--- OUT and DOL
+-- The links OUT and DOL.
 abbrev pub drive_link : LinkField → LinkField → OwnField → Option LinkField
 drive_link out dol Out = Some out
 drive_link out dol Dol = Some dol
@@ -49,12 +50,13 @@ drive_stored d Omsl-field v = record d { mode = unwrap_or (omsl_in v) d.mode }
 drive_stored d Ivoa-field v = record d { on_invalid = unwrap_or (ivoa_in v) d.on_invalid }
 drive_stored d _ v = d
 
--- in a closed loop DOL is read
+-- What is read first: DOL in a closed loop.
 unfoldable pub drive_begin : Omsl → LinkField → Want
 drive_begin ClosedLoop dol = ReadLink (use_of dol)
 drive_begin Supervisory dol = NoInput
 
--- with an alarm raised, INVALID, IVOA says whether the output is set to IVOV, and whether it is driven
+-- Whether the output is set to IVOV: with an INVALID alarm raised, IVOA decides this and whether
+-- the output is driven.
 abbrev pub sets_by : Severity → Ivoa → Bool
 sets_by Invalid SetOutputToIvov = true
 sets_by _ _ = false
@@ -69,7 +71,7 @@ drives_by _ _ = true
 unfoldable pub drives : Ivoa → Condition → Bool
 drives action c = drives_by c.alarms.new_severity action
 
--- a value goes where OUT leads
+-- The output of a value by the use of OUT.
 abbrev pub written_by : LinkUse → Value → Output
 written_by Unused v = NoOutput
 written_by OwnDevice v = WriteDevice v
@@ -79,7 +81,7 @@ written_by (Standing t) v = WriteLink (Standing t) v
 unfoldable pub written : LinkField → Value → Output
 written out v = written_by (use_of out) v
 
--- ---- laws
+-- ---- Laws
 
 pub drive_stored-output : (d : Drive) (f : OwnField) (v : Value) → (drive_stored d f v).output ≡ d.output
 unfolding drive_stored

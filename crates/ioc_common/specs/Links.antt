@@ -1,4 +1,4 @@
--- Links in use. Application Developer's Guide, "Database Links".
+-- The use of links. Application Developer's Guide, "Database Links".
 use Rattle.std.specs.Prelude.{ℕ, List, [], ◌∷◌, ◌++◌, Option, Some, None}
 use Rattle.ioc_links.specs.declared.link.Link.{Link}
 use Rattle.ioc_links.specs.declared.link.Link.TheVariants.{Empty, Constant, Device, Database}
@@ -10,58 +10,58 @@ use Rattle.ioc_common.specs.declared.link_field.Lead.TheVariants.{Nowhere, Field
 use Rattle.ioc_common.specs.declared.link_field.LinkUse.{LinkUse}
 use Rattle.ioc_common.specs.declared.link_field.LinkUse.TheVariants.{Unused, OwnDevice, Absent, Standing as Standing-link}
 
--- an empty link
+-- An empty link.
 abbrev pub no_link : LinkField
 no_link = record { link = Empty; lead = Nowhere }
 
--- a database link with these flags is absent where it leads to no field
+-- A database link is absent if it leads to no field.
 abbrev pub database_use : Flags → Lead → LinkUse
 database_use flags Nowhere = Absent
 database_use flags To-device = Absent
 database_use flags (Field to) = Standing-link (record { number = to.number; field = to.field; process_passive = flags.process_passive; mode = flags.mode })
 
--- a device link is absent where it doesn't lead to the record's own device
+-- A device link is absent if it doesn't lead to the record's own device.
 abbrev pub device_use : Lead → LinkUse
 device_use To-device = OwnDevice
 device_use _ = Absent
 
--- what a link comes to, with where it leads
+-- The use of a link that leads there.
 abbrev pub use_as : Link → Lead → LinkUse
 use_as Empty lead = Unused
 use_as (Constant n) lead = Unused
 use_as (Device text) lead = device_use lead
 use_as (Database target flags) lead = database_use flags lead
 
--- what a link comes to in use: an empty one and a constant give nothing, a database link that leads nowhere is absent, and so is a device
--- link unless it is that of the record's own device
+-- The use of a link field. An empty link and a constant are unused, a database link that leads
+-- nowhere is absent, and so is a device link unless it leads to the record's own device.
 unfoldable pub use_of : LinkField → LinkUse
 use_of field = use_as field.link field.lead
 
--- the text of a device link; of any other it is empty
+-- The text of a device link, or an empty one for any other link.
 abbrev pub device_text : Link → List ℕ
 device_text (Device text) = text
 device_text _ = []
 
--- the records that a link in use names
+-- The records that a link in use names.
 abbrev pub named_by : LinkUse → List ℕ
 named_by (Standing-link target) = target.number ∷ []
 named_by Unused = []
 named_by OwnDevice = []
 named_by Absent = []
 
--- the record that a link in use names, if it names one
+-- The record that a link in use names, if any.
 abbrev pub record_named : LinkUse → Option ℕ
 record_named (Standing-link target) = Some target.number
 record_named Unused = None
 record_named OwnDevice = None
 record_named Absent = None
 
--- the records that a link field names
+-- The records that a link field names.
 abbrev pub named_by_field : Option LinkField → List ℕ
 named_by_field None = []
 named_by_field (Some field) = named_by (use_of field)
 
--- the records that these link fields name
+-- The records that these link fields name.
 abbrev pub named_by_all : (FieldNo → Option LinkField) → List FieldNo → List ℕ
 named_by_all link [] = []
 named_by_all link (f ∷ fs) = named_by_field (link f) ++ named_by_all link fs

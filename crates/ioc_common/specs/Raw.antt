@@ -1,4 +1,5 @@
--- Which of two values a binary type reads or writes, and what comes for each of them. Record Reference Manual, "Device Support for Soft Records".
+-- Whether a binary type reads or writes RVAL or VAL, and the input that each receives. Record
+-- Reference Manual, "Device Support for Soft Records".
 use Rattle.std.specs.Prelude.{ℕ, ℤ, Bool, true, false, ◌||◌, codes, Option, Some, None, unwrap_or}
 use Rattle.std.specs.Option.{option_and_then}
 use Rattle.std.specs.Str.{bytes_eq}
@@ -15,22 +16,22 @@ abbrev pub is_device : Link → Bool
 is_device (Device text) = true
 is_device _ = false
 
--- raw: the link names a device, or DTYP says so
+-- Whether the raw value is used: the link names a device, or DTYP says so.
 unfoldable pub is_raw : Link → Condition → Bool
 is_raw link c = is_device link || bytes_eq c.device_type (codes "Raw Soft Channel")
 
--- what RVAL takes of what came: RVAL as it stands where nothing came, and nothing after a fault
+-- The new RVAL for an input: the old RVAL if there was no input, and none after a fault.
 abbrev pub raw_came : Got → ℕ → Option ℕ
 raw_came (got.Value v) raw = Some (unwrap_or (ulong_in v) raw)
 raw_came got.Nothing raw = Some raw
 raw_came got.Fault raw = None
 
--- what VAL takes of what came: nothing where nothing came, and after a fault
+-- The new VAL for an input: none if there was no input, or after a fault.
 abbrev pub state_came : Got → ℕ → Option ℕ
 state_came (got.Value v) state = Some (unwrap_or (ushort_in v) state)
 state_came _ state = None
 
--- a constant as RVAL, and as VAL
+-- A constant as RVAL.
 abbrev pub raw_constant : ℤ → Option ℕ
 raw_constant z = option_and_then ulong_in (of_number (Numbers range.ULong) z)
 

@@ -1,4 +1,5 @@
--- The fields by which a record is processed of itself. Record Reference Manual, "Scan Fields".
+-- The fields that control when a record is processed by scanning. Record Reference Manual, "Scan
+-- Fields".
 use Rattle.std.specs.Prelude.{Option, Some, None, [], pos, unwrap_or}
 use Rattle.ioc_values.specs.declared.value.Value.{Value}
 use Rattle.ioc_values.specs.declared.value.Value.TheVariants as value
@@ -11,7 +12,7 @@ use Rattle.ioc_fields.specs.declared.field_no.CommonField.TheVariants.{Scan, Pin
 use Rattle.ioc_common.specs.declared.scanning.Scanning.{Scanning}
 use Rattle.ioc_common.specs.Parts.{scan_in, pini_in, short_in, text_in, priority_in}
 
--- those of a new record: it is passive
+-- The fields of a new record, which is passive.
 unfoldable pub new_scanning : Scanning
 new_scanning = record { event = []; scan = Passive; at_start = No; phase = pos 0; priority = Low }
 
@@ -23,7 +24,7 @@ scanning_get s Evnt = Some (value.Text s.event)
 scanning_get s Prio = Some (value.Enum (priority_number s.priority))
 scanning_get s _ = None
 
--- with a converted value stored
+-- The fields with a converted value stored.
 unfoldable pub scanning_stored : Scanning → CommonField → Value → Scanning
 scanning_stored s Scan v = record s { scan = unwrap_or (scan_in v) s.scan }
 scanning_stored s Pini v = record s { at_start = unwrap_or (pini_in v) s.at_start }

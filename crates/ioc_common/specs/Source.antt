@@ -1,4 +1,5 @@
--- The field by which the input types are fed. Record Reference Manual, "Input Specification".
+-- The field that names the input of the input types. Record Reference Manual, "Input
+-- Specification".
 use Rattle.std.proofs.Common.{◌≡◌, ◌≢◌, true, Option, Some, None, refl, ◌⊎◌, inl, inr}
 use Rattle.std.specs.Prelude.{is_some}
 use Rattle.ioc_fields.specs.declared.field_no.OwnField.{OwnField}
@@ -15,7 +16,7 @@ use Rattle.ioc_common.specs.Links.{no_link, use_of}
 unfoldable pub new_source : Source
 new_source = record { input = no_link }
 
--- INP
+-- The link INP.
 abbrev pub source_link : LinkField → OwnField → Option LinkField
 source_link input Inp = Some input
 source_link input _ = None
@@ -24,7 +25,7 @@ unfoldable pub source_with_link : Source → OwnField → LinkField → Source
 source_with_link s Inp link = record s { input = link }
 source_with_link s _ link = s
 
--- the device is read where INP names the record's own; else INP is read
+-- What is read first: the device if INP names the record's own, else INP itself.
 abbrev pub begin_by : LinkUse → Want
 begin_by OwnDevice = ReadDevice
 begin_by link = ReadLink link
@@ -32,7 +33,7 @@ begin_by link = ReadLink link
 abbrev pub source_begin : LinkField → Want
 source_begin input = begin_by (use_of input)
 
--- ---- laws
+-- ---- Laws
 
 pub source_set_here : (s : Source) (f : OwnField) (l : LinkField) → is_some (source_link s.input f) ≡ true → source_link (source_with_link s f l).input f ≡ Some l
 unfolding source_with_link

@@ -1,4 +1,5 @@
--- Steps on the fields that every record has. Application Developer's Guide, "dbProcess"; Record Reference Manual, "Alarm Fields".
+-- Operations on the common fields. Application Developer's Guide, "dbProcess"; Record Reference
+-- Manual, "Alarm Fields".
 use Rattle.std.specs.Prelude.{ℕ, List, [], ◌+◌, min, Bool, true, false, ◌||◌, nat_lt, if◌then◌else◌, Option, Some, None, ℤ, unwrap_or}
 use Rattle.std.specs.Option.{option_and_then}
 use Rattle.ioc_menus.specs.declared.severity.Severity.{Severity}
@@ -23,21 +24,22 @@ use Rattle.ioc_common.specs.declared.body.InputKind.TheVariants.{Number}
 use Rattle.ioc_common.specs.Links.{no_link}
 use Rattle.ioc_common.specs.Parts.{short_in}
 
--- the status that says that a record was found active too often
+-- Whether the status is SCAN: the record was found active too often.
 abbrev pub is_scan : Status → Bool
 is_scan Scan = true
 is_scan _ = false
 
--- with an alarm raised
+-- The fields with an alarm raised.
 abbrev pub raised : Status → Severity → Common → Common
 raised status severity c = record c { condition = raised_in status severity c.condition }
 
--- with another record's alarm taken over
+-- The fields with another record's alarm taken over.
 abbrev pub inherited : Mode → Status → Severity → Common → Common
 inherited mode status severity c = record c { condition = inherited_in mode status severity c.condition }
 
--- after a request that found the record active: counted, and where ten were counted before, SCAN is raised and shown.
--- A record that shows SCAN is left alone, and one that shows an INVALID alarm raises none
+-- The fields after a request that found the record active. It is counted, and SCAN is raised and
+-- shown if ten were counted before. Nothing changes if the record shows SCAN, and no alarm is
+-- raised if it shows an INVALID one.
 unfoldable pub blocked : Common → Common
 blocked c =
     if is_scan c.condition.alarms.status then c
@@ -46,29 +48,30 @@ blocked c =
     if nat_lt c.lock_count 10 || is_invalid c.condition.alarms.severity then counted
     else record counted { condition = settled_in (raised_in Scan Invalid c.condition) }
 
--- with the active mark as given
+-- The fields with PACT set.
 abbrev pub with_active : Bool → Common → Common
 with_active active c = record c { active = active }
 
--- after a request that found the record idle
+-- The fields after a request that found the record idle.
 abbrev pub unblocked : Common → Common
 unblocked c = record c { lock_count = 0 }
 
--- TIME becomes the event's moment, the alarm raised is shown, and the record is active while it goes on to others
+-- The fields after the raised alarm is shown: TIME is the time stamp of the event, and the record
+-- is active while its links are followed.
 abbrev pub shown : ℕ → Common → Common
 shown moment c = record c { active = true; time = moment; condition = settled_in c.condition }
 
--- the status of a disabled record
+-- Whether the status is DISABLE.
 abbrev pub is_disable : Status → Bool
 is_disable Disable = true
 is_disable _ = false
 
--- with DISABLE shown, of this severity, and no alarm raised
+-- The condition with DISABLE shown, with this severity, and no alarm raised.
 abbrev pub disable_shown : Severity → Condition → Condition
 disable_shown severity c = record c { alarms = record { status = Disable; severity = severity; new_status = NoAlarm; new_severity = NoSeverity } }
 
--- after a request that found the record disabled: it shows DISABLE with DISS, where it doesn't show DISABLE yet, and no put
--- is under way any more
+-- The fields after a request that found the record disabled: it shows DISABLE with DISS, unless it
+-- shows DISABLE already, and PUTF and RPRO are cleared.
 unfoldable pub disabled : Common → Common
 disabled c = record c {
   by_put = false;
@@ -76,11 +79,11 @@ disabled c = record c {
   condition = if is_disable c.condition.alarms.status then c.condition else disable_shown c.disabling.severity c.condition;
 }
 
--- with PUTF as given
+-- The fields with PUTF set.
 abbrev pub with_put_mark : Bool → Common → Common
 with_put_mark by_put c = record c { by_put = by_put }
 
--- with RPRO as given
+-- The fields with RPRO set.
 abbrev pub with_reprocess_mark : Bool → Common → Common
 with_reprocess_mark reprocess c = record c { reprocess = reprocess }
 
@@ -88,40 +91,40 @@ abbrev pub is_passive_choice : Scan-choice → Bool
 is_passive_choice Passive = true
 is_passive_choice _ = false
 
--- it is processed only where a client or another record asks for it
+-- Whether the record is processed only if a client or another record asks for it.
 abbrev pub is_passive : Common → Bool
 is_passive c = is_passive_choice c.scanning.scan
 
--- its device answers later
+-- The fields after the record has begun to wait for its device.
 abbrev pub waiting : Common → Common
 waiting c = record c { active = true; pending = Some (c.last_pending + 1); last_pending = c.last_pending + 1 }
 
--- its device has answered at last
+-- The fields after the record's device has answered.
 abbrev pub answered : Common → Common
 answered c = record c { pending = None }
 
--- with this put with notification, or none
+-- The fields with this put with notification, or with none.
 abbrev pub with_notification : Option ℕ → Common → Common
 with_notification number c = record c { notification = number }
 
--- where it stands on its scan list changes once more
+-- The fields with one more change of the record's scan list numbered.
 abbrev pub change_numbered : Common → Common
 change_numbered c = record c { last_change = c.last_change + 1 }
 
--- what SDIS gives is a Short
+-- The kind of SDIS's value, which is a Short.
 abbrev pub disable_kind : InputKind
 disable_kind = Number Short
 
--- a constant as a Short, where it is in range
+-- A constant link as a Short, if it is in range.
 abbrev pub short_constant : Link → Option ℤ
 short_constant (Constant z) = option_and_then short_in (of_number (Numbers Short) z)
 short_constant _ = None
 
--- at the end of a load a constant SDIS goes into DISA
+-- The fields with a constant SDIS put into DISA, at the end of a load.
 unfoldable pub constant_put : Common → Common
 constant_put c = record c { disabling = record c.disabling { input = unwrap_or (short_constant c.disable_link.link) c.disabling.input } }
 
--- the fields of a new record
+-- The fields of a new record.
 unfoldable pub new_common : List ℕ → Common
 new_common name = record {
   name = name;

@@ -1,4 +1,4 @@
--- What a body needs first, of what it wants, and whether it puts anything out.
+-- The input that a body needs first, derived from what it requests, and whether it has any output.
 use Rattle.std.specs.Prelude.{◌≡◌, Bool, true, false, refl, if◌then◌else◌}
 use Rattle.ioc_common.specs.declared.link_field.LinkUse.{LinkUse}
 use Rattle.ioc_common.specs.declared.link_field.LinkUse.TheVariants.{Unused, OwnDevice, Absent, Standing}
@@ -10,7 +10,7 @@ use Rattle.ioc_common.specs.declared.body.Output.{Output}
 use Rattle.ioc_common.specs.declared.body.Output.TheVariants.{NoOutput, WriteLink, WriteDevice, FollowLinks, PostEvent}
 use Rattle.ioc_common.specs.Source.{begin_by}
 
--- a link that is unused gives nothing
+-- Whether the link is empty or a constant.
 abbrev pub is_unused : LinkUse → Bool
 is_unused Unused = true
 is_unused OwnDevice = false
@@ -23,7 +23,7 @@ is_own_device OwnDevice = true
 is_own_device Absent = false
 is_own_device (Standing t) = false
 
--- so a body that reads it needs nothing
+-- The input that a body that reads the link needs: none if the link is unused.
 abbrev pub need_of_link : LinkUse → Need
 need_of_link link = if is_unused link then Nothing else Link
 
@@ -32,13 +32,13 @@ need_of NoInput = Nothing
 need_of (ReadLink link) = need_of_link link
 need_of ReadDevice = Device
 
--- the link that it reads, if it reads one
+-- The link that a body reads, if it reads one.
 abbrev pub link_wanted : Want → LinkUse
 link_wanted (ReadLink link) = link
 link_wanted NoInput = Unused
 link_wanted ReadDevice = Unused
 
--- does it put anything out?
+-- Whether there is any output.
 abbrev pub puts_out : Output → Bool
 puts_out NoOutput = false
 puts_out (WriteLink link v) = true
@@ -46,16 +46,17 @@ puts_out (WriteDevice v) = true
 puts_out (FollowLinks links) = true
 puts_out (PostEvent name) = true
 
--- ---- laws
+-- ---- Laws
 
--- a body that reads its device where its link leads there
+-- A body with INP needs its device if the link leads there, nothing if the link is unused, and else
+-- the link.
 pub source_need : (link : LinkUse) → need_of (begin_by link) ≡ (if is_unused link then Nothing else (if is_own_device link then Device else Link))
 source_need Unused = refl
 source_need OwnDevice = refl
 source_need Absent = refl
 source_need (Standing t) = refl
 
--- the link that it reads else
+-- The link that a body with INP reads, if it doesn't read its device.
 abbrev pub source_link_by : LinkUse → LinkUse
 source_link_by OwnDevice = Unused
 source_link_by Unused = Unused

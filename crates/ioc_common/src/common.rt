@@ -1,4 +1,4 @@
-//! The fields that every record has, and the steps on them.
+//! The fields that every record has, and the operations on them.
 ghost use Rattle.std.specs.Prelude.{◌≡◌, ◌<◌, ◌-◌, ◌^◌};
 ghost use Rattle.ioc_common.specs.Steps.{raised, inherited, blocked, unblocked, shown, waiting, answered, disabled, with_put_mark, with_reprocess_mark, is_passive, disable_kind, constant_put, new_common};
 
@@ -17,7 +17,7 @@ use ioc_values::{Kind, Name, Range, Text, of_number};
 /// The fields that every record has. Record Reference Manual, "Fields Common to All Record Types".
 #[derive(Drop)]
 pub struct Common {
-    /// The record's name; NAME shows its first 39 bytes.
+    /// The record's name. NAME shows its first 39 bytes.
     pub name: Name,
     /// DESC.
     pub description: Text,
@@ -33,29 +33,31 @@ pub struct Common {
     pub disable_link: KeptLink,
     /// FLNK.
     pub forward_link: KeptLink,
-    /// PROC: what was put there at last. A put to it processes the record.
+    /// PROC: the value last put to it. A put to it processes the record.
     pub process: u8,
-    /// LCNT: how many requests in a row found the record active, up to 255.
+    /// LCNT: how many requests in a row found the record active, at most 255.
     pub lock_count: u8,
-    /// PACT: the record is being processed, or awaits a completion.
+    /// PACT: the record is being processed, or waits for a completion.
     pub active: bool,
     /// PUTF: the record is being processed for a client's put.
     pub by_put: bool,
-    /// RPRO: it is to be processed once more when it is done.
+    /// RPRO: the record is to be reprocessed when it is done.
     pub reprocess: bool,
-    /// TIME: the moment of the event in which it showed its alarm at last, in nanoseconds.
+    /// TIME: the time stamp of the event in which the record last showed its alarm, in nanoseconds.
     pub time: u64,
-    /// The number of the completion that the record awaits.
+    /// The number of the completion that the record waits for.
     pub pending: Option<u64>,
-    /// The number that was given to a completion at last: they run 1, 2, 3, .. in each record.
+    /// The number that was last assigned to a completion. They are 1, 2, 3 and so on in each
+    /// record.
     pub last_pending: u64,
-    /// The number that was given at last to a change of where it stands on its scan list: they run 1, 2, 3, .. in each record.
+    /// The number that was last assigned to a change of the record's scan list. They are 1, 2, 3
+    /// and so on in each record.
     pub last_change: u64,
-    /// The put with notification that the record is processed for.
+    /// The put with notification that the record is part of.
     pub notification: Option<NotifyId>,
 }
 
-/// What SDIS gives is a Short.
+/// Returns the kind of SDIS's value, which is a Short.
 pub fn disable_kind() -> InputKind
     ensures { result ≡ disable_kind }
 {
@@ -71,15 +73,15 @@ impl Common {
         self.condition.raise(status, severity);
     }
 
-    /// Takes over another record's alarm, as the link's mode says.
+    /// Takes over another record's alarm, according to the link's mode.
     pub fn inherit(&mut self, mode: Mode, status: Status, severity: Severity)
         ensures { self.new ≡ inherited mode status severity self.old }
     {
         self.condition.inherit(mode, status, severity);
     }
 
-    /// A request found the record active: it is counted, and the eleventh in a row raises SCAN, INVALID.
-    /// Application Developer's Guide, "dbProcess".
+    /// Counts a request that found the record active. The eleventh in a row raises SCAN with
+    /// INVALID. Application Developer's Guide, "dbProcess".
     pub fn block(&mut self)
         ensures { self.new ≡ blocked self.old }
     {
@@ -98,15 +100,15 @@ impl Common {
         self.condition.settle();
     }
 
-    /// A request found the record idle.
+    /// Resets the count, because a request found the record idle.
     pub fn unblock(&mut self)
         ensures { self.new ≡ unblocked self.old }
     {
         self.lock_count = 0;
     }
 
-    /// The record shows the alarm that its body raised, with the moment of the event, and is active while it goes on to
-    /// others.
+    /// Shows the alarm that the body raised, with the time stamp of the event. The record is active
+    /// while its links are followed.
     pub fn show(&mut self, moment: u64)
         ensures { self.new ≡ shown moment self.old }
     {
@@ -115,8 +117,9 @@ impl Common {
         self.condition.settle();
     }
 
-    /// A request found the record disabled: it shows DISABLE, where it doesn't yet, and no put is under way any more.
-    /// Application Developer's Guide, "dbProcess".
+    /// Shows DISABLE, unless the record shows it already, and clears the marks of a put and of
+    /// reprocessing, because a request found the record disabled. Application Developer's Guide,
+    /// "dbProcess".
     #[tactic(auto, unfolding(crate::specs::Steps::disabled))]
     pub fn disable(&mut self)
         ensures { self.new ≡ disabled self.old }
@@ -134,21 +137,22 @@ impl Common {
         };
     }
 
-    /// Marks whether the record is being processed for a client's put.
+    /// Sets whether the record is being processed for a client's put.
     pub fn mark_put(&mut self, by_put: bool)
         ensures { self.new ≡ with_put_mark by_put self.old }
     {
         self.by_put = by_put;
     }
 
-    /// Marks whether the record is to be processed once more.
+    /// Sets whether the record is marked for reprocessing.
     pub fn mark_reprocess(&mut self, reprocess: bool)
         ensures { self.new ≡ with_reprocess_mark reprocess self.old }
     {
         self.reprocess = reprocess;
     }
 
-    /// Is the record processed only where a client or another record asks for it?
+    /// Returns whether the record is passive, so that it is processed only if a client or another
+    /// record asks for it.
     pub fn is_passive(&self) -> bool
         ensures { result ≡ is_passive self.now }
     {
@@ -158,7 +162,7 @@ impl Common {
         }
     }
 
-    /// The end of a load: a constant SDIS goes into DISA.
+    /// Puts a constant SDIS into DISA, at the end of a load.
     #[tactic(auto, unfolding(crate::specs::Steps::constant_put, ioc_values::specs::Conversion::sort_of))]
     pub fn put_constant(&mut self)
         ensures { self.new ≡ constant_put self.old }
@@ -170,7 +174,7 @@ impl Common {
         }
     }
 
-    /// The record's device answers later.
+    /// Begins to wait for the answer of the record's device.
     pub fn wait(&mut self)
         requires { self.old.last_pending < 2 ^ 64 - 1 }
         ensures { self.new ≡ waiting self.old }
@@ -180,15 +184,16 @@ impl Common {
         self.pending = Some(self.last_pending);
     }
 
-    /// The record's device has answered at last.
+    /// Ends the wait for the answer of the record's device.
     pub fn end_wait(&mut self)
         ensures { self.new ≡ answered self.old }
     {
         self.pending = None;
     }
 
-    /// The fields of a new record: its value is undefined, with UDFS INVALID, DISV is 1, and all else is 0 or empty.
-    /// Record Reference Manual, "Fields Common to All Record Types", column "Default".
+    /// Creates the fields of a new record: its value is undefined, with UDFS INVALID, DISV is 1,
+    /// and everything else is 0 or empty. Record Reference Manual, "Fields Common to All Record
+    /// Types", column "Default".
     #[tactic(auto, unfolding(crate::specs::Steps::new_common))]
     pub fn new(name: Name) -> Self
         ensures { result ≡ new_common name }

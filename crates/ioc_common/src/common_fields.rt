@@ -8,7 +8,7 @@ use ioc_fields::CommonField;
 use ioc_values::{Text, Value};
 use itoa::Buffer;
 
-// The value of NAME.
+// Returns the value of NAME.
 #[tactic(auto, unfolding(crate::specs::CommonFields::shown_name))]
 fn shown_name(common: &Common) -> Value
     ensures { result ≡ shown_name common.now }
@@ -16,7 +16,7 @@ fn shown_name(common: &Common) -> Value
     Value::Text(Text::cut(common.name.as_slice()))
 }
 
-// The value of TIME.
+// Returns the value of TIME.
 #[tactic(auto, unfolding(crate::specs::CommonFields::shown_time))]
 fn shown_time(moment: u64) -> Value
     ensures { result ≡ shown_time moment }
@@ -24,7 +24,7 @@ fn shown_time(moment: u64) -> Value
     Value::Text(Text::cut(Buffer::new().format(moment).as_bytes()))
 }
 
-// The value of a field that is 0 or 1.
+// Returns the value of a field that is 0 or 1.
 fn flag(is_set: bool) -> Value
     ensures { result ≡ flag is_set }
 {
@@ -33,7 +33,7 @@ fn flag(is_set: bool) -> Value
 
 #[tactic(auto, unfolding(crate::specs::CommonFields::common_get, crate::specs::CommonFields::common_stored))]
 impl Common {
-    /// The value of a field that every record has; none of its links.
+    /// Returns the value of a field that every record has, or `None` for a link.
     pub fn get(&self, field: CommonField) -> Option<Value>
         ensures { result ≡ common_get self.now field }
     {

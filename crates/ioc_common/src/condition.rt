@@ -1,4 +1,4 @@
-//! What a type's body sees and changes of the fields that every record has.
+//! The common fields that a type's body reads and changes.
 ghost use Rattle.std.specs.Prelude.{◌≡◌};
 ghost use Rattle.ioc_common.specs.Condition.{raised, inherited, settled, first_shown, undefined_tested, new_condition, condition_get, condition_stored};
 
@@ -9,8 +9,8 @@ use ioc_links::Mode;
 use ioc_menus::{Severity, Status};
 use ioc_values::{Text, Value};
 
-/// The fields that every record has and that its type's body works with.
-/// Record Reference Manual, "Fields Common to All Record Types".
+/// The fields that every record has and that the body of its type uses. Record Reference Manual,
+/// "Fields Common to All Record Types".
 #[derive(Clone, Copy)]
 pub struct Condition {
     /// DTYP.
@@ -31,21 +31,21 @@ impl Condition {
         self.alarms.raise(status, severity);
     }
 
-    /// Takes over another record's alarm, as the link's mode says.
+    /// Takes over another record's alarm, according to the link's mode.
     pub fn inherit(&mut self, mode: Mode, status: Status, severity: Severity)
         ensures { self.new ≡ inherited mode status severity self.old }
     {
         self.alarms.inherit(mode, status, severity);
     }
 
-    /// The alarm raised is shown.
+    /// Shows the raised alarm.
     pub fn settle(&mut self)
         ensures { self.new ≡ settled self.old }
     {
         self.alarms.settle();
     }
 
-    /// While the value is undefined, UDF is raised with UDFS.
+    /// Raises UDF with UDFS if the value is undefined.
     #[tactic(auto, unfolding(crate::specs::Condition::undefined_tested))]
     pub fn test_undefined(&mut self)
         ensures { self.new ≡ undefined_tested self.old }
@@ -56,7 +56,7 @@ impl Condition {
         }
     }
 
-    /// The value of one of these fields.
+    /// Returns the value of one of these fields.
     #[tactic(auto, unfolding(crate::specs::Condition::condition_get))]
     pub fn get(&self, field: CommonField) -> Option<Value>
         ensures { result ≡ condition_get self.now field }
@@ -73,7 +73,7 @@ impl Condition {
         })
     }
 
-    /// Stores a value that was converted for the field. The alarms change by no put.
+    /// Stores a value that was converted for the field. A put doesn't change the alarms.
     #[tactic(auto, unfolding(crate::specs::Condition::condition_stored))]
     pub fn store(&mut self, field: CommonField, value: Value)
         ensures { self.new ≡ condition_stored self.old field value }
@@ -88,7 +88,8 @@ impl Condition {
         }
     }
 
-    /// The end of a load: the alarm of an undefined value is shown, without severity where the value is defined.
+    /// Shows UDF at the end of a load, with UDFS if the value is undefined and else without
+    /// severity.
     #[tactic(auto, unfolding(crate::specs::Condition::first_shown))]
     pub fn show_first(&mut self)
         ensures { self.new ≡ first_shown self.old }
@@ -106,7 +107,8 @@ impl Condition {
         };
     }
 
-    /// That of a new record: its value is undefined, with UDFS INVALID, and all else is 0 or empty.
+    /// Creates the condition of a new record: its value is undefined, with UDFS INVALID, and
+    /// everything else is 0 or empty.
     #[tactic(auto, unfolding(crate::specs::Condition::new_condition))]
     pub fn new() -> Self
         ensures { result ≡ new_condition }

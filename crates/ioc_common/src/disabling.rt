@@ -1,4 +1,4 @@
-//! The fields by which a record, and puts to it, are disabled.
+//! The fields that disable a record, and puts to it.
 ghost use Rattle.std.specs.Prelude.{◌≡◌};
 ghost use Rattle.ioc_common.specs.Disabling.{new_disabling, disabling_get, disabling_stored};
 
@@ -7,21 +7,22 @@ use ioc_fields::CommonField;
 use ioc_menus::Severity;
 use ioc_values::Value;
 
-/// DISV, DISA, DISS and DISP. Record Reference Manual, "Scan Fields" and "Fields Common to All Record Types".
+/// DISV, DISA, DISS and DISP. Record Reference Manual, "Scan Fields" and "Fields Common to All
+/// Record Types".
 #[derive(Clone, Copy)]
 pub struct Disabling {
-    /// DISV: the record is disabled where DISA is this.
+    /// DISV: the record is disabled if DISA has this value.
     pub value: i16,
-    /// DISA: what SDIS gave.
+    /// DISA: the value read from SDIS.
     pub input: i16,
     /// DISS: the severity of a disabled record.
     pub severity: Severity,
-    /// DISP: not 0 where clients may put no field but this.
+    /// DISP: not 0 if clients can put no other field than this one.
     pub puts: u8,
 }
 
 impl Disabling {
-    /// That of a new record: DISV is 1, and all else 0.
+    /// Creates the fields of a new record: DISV is 1, and everything else is 0.
     #[tactic(auto, unfolding(crate::specs::Disabling::new_disabling))]
     pub fn new() -> Self
         ensures { result ≡ new_disabling }
@@ -34,7 +35,7 @@ impl Disabling {
         }
     }
 
-    /// The value of one of these fields.
+    /// Returns the value of one of these fields.
     #[tactic(auto, unfolding(crate::specs::Disabling::disabling_get))]
     pub fn get(&self, field: CommonField) -> Option<Value>
         ensures { result ≡ disabling_get self.now field }

@@ -1,4 +1,4 @@
-//! The fields by which the output types are driven, and drive.
+//! The fields that control the output of the output types.
 ghost use Rattle.std.specs.Prelude.{◌≡◌, IfOk};
 ghost use Rattle.std.specs.Option.{option_copied};
 ghost use Rattle.std.specs.Prelude.{IsTrue};
@@ -15,7 +15,8 @@ use ioc_menus::{Ivoa, Omsl, Severity};
 use ioc_values::Value;
 use std::alloc::{AllocError, Global};
 
-/// OUT, DOL, OMSL and IVOA. Record Reference Manual, "Output Specification" and "Invalid Output Action".
+/// OUT, DOL, OMSL and IVOA. Record Reference Manual, "Output Specification" and "Invalid Output
+/// Action".
 #[derive(Drop)]
 pub struct Drive {
     /// OUT.
@@ -29,7 +30,7 @@ pub struct Drive {
 }
 
 impl Drive {
-    /// Those of a new record.
+    /// Creates the fields of a new record.
     #[tactic(auto, unfolding(crate::specs::Drive::new_drive))]
     pub fn new() -> Self
         ensures { result ≡ new_drive }
@@ -42,11 +43,11 @@ impl Drive {
         }
     }
 
-    /// The same drive.
+    /// Copies the fields.
     ///
     /// # Errors
     ///
-    /// [`AllocError`] where memory is wanting.
+    /// [`AllocError`] if allocation fails.
     pub fn copy(&self, alloc: Global) -> Result<Self, AllocError>
         ensures { IfOk result (λ copy. copy ≡ self.now) }
     {
@@ -60,7 +61,7 @@ impl Drive {
         })
     }
 
-    /// This drive becomes the same as another with the same links. It takes no room.
+    /// Copies the fields of `other`, which must have the same links. It never allocates.
     pub fn copy_from(&mut self, other: &Drive)
         requires output { self.old.output ≡ other.now.output }
         requires desired { self.old.desired ≡ other.now.desired }
@@ -113,7 +114,7 @@ impl Drive {
         }
     }
 
-    /// In a closed loop DOL is read.
+    /// Returns what is needed first: DOL in a closed loop.
     #[tactic(auto, unfolding(crate::specs::Drive::drive_begin))]
     pub fn begin(&self) -> Need
         ensures { result ≡ need_of (drive_begin self.now.mode self.now.desired) }
@@ -124,7 +125,7 @@ impl Drive {
         }
     }
 
-    /// The link that is read, if one is.
+    /// Returns the link that is read, if there is one.
     #[tactic(auto, unfolding(crate::specs::Drive::drive_begin))]
     pub fn wanted_link(&self) -> LinkUse
         ensures { result ≡ link_wanted (drive_begin self.now.mode self.now.desired) }
@@ -135,7 +136,7 @@ impl Drive {
         }
     }
 
-    /// Does an alarm raised, INVALID, set the output to IVOV?
+    /// Returns whether the output is set to IVOV because of a raised INVALID alarm.
     #[tactic(auto, unfolding(crate::specs::Drive::sets))]
     pub fn sets(&self, condition: &Condition) -> bool
         ensures { result ≡ sets self.now.on_invalid condition.now }
@@ -146,7 +147,8 @@ impl Drive {
         }
     }
 
-    /// Is the output driven? Not with an alarm raised, INVALID, where IVOA says so.
+    /// Returns whether the output is driven. It isn't if an INVALID alarm is raised and IVOA says
+    /// so.
     #[tactic(auto, unfolding(crate::specs::Drive::drives))]
     pub fn drives(&self, condition: &Condition) -> bool
         ensures { result ≡ drives self.now.on_invalid condition.now }
@@ -157,7 +159,8 @@ impl Drive {
         }
     }
 
-    /// A value goes where OUT leads: does it go anywhere?
+    /// Writes a value to the output that OUT leads to. Returns false, with `output` unchanged, if
+    /// OUT leads nowhere.
     #[tactic(auto, unfolding(crate::specs::Drive::written))]
     pub fn write(&self, value: Value, output: &mut Output) -> bool
         ensures puts_out { result ≡ puts_out (written self.now.output value) }

@@ -5,16 +5,17 @@ ghost use Rattle.std.specs.Borrow.{Lends, sem};
 use std::alloc::{AllocError, Global};
 use std::marker::Model;
 
-/// A body that can be made anew.
+/// A body that can be made with the defaults of a new record.
 pub trait Fresh {
     ghost new_one: { Self };
 
-    /// The own fields of a new record.
+    /// Creates a new body with the defaults.
     fn fresh() -> Self
         ensures { result ≡ new_one };
 }
 
-/// A body on the heap: it takes room, which a record of another type is spared. It moves as a pointer does.
+/// A body on the heap, so that records of other types take less memory. Moving it only moves a
+/// pointer.
 #[derive(Drop)]
 pub struct Kept<B> {
     place: Box<B>,
@@ -29,7 +30,7 @@ impl<B> Model for Kept<B> {
 impl<B> Kept<B> {
     ghost use Rattle.ioc_common.specs.contracts.kept.Kept.{the_row};
 
-    /// That of a new record.
+    /// Creates a new body with the defaults.
     pub fn fresh(alloc: Global) -> Result<Self, AllocError>
     where
         B: Fresh + Drop,
@@ -38,11 +39,11 @@ impl<B> Kept<B> {
         Kept::new(alloc, B::fresh())
     }
 
-    /// That of a body.
+    /// Moves a body to the heap.
     ///
     /// # Errors
     ///
-    /// [`AllocError`] where memory is wanting.
+    /// [`AllocError`] if allocation fails.
     pub fn new(alloc: Global, body: B) -> Result<Self, AllocError>
     where
         B: Drop,

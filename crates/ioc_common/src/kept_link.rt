@@ -1,4 +1,4 @@
-//! A link field as its record keeps it.
+//! A link field as a record stores it.
 ghost use Rattle.std.specs.Prelude.{◌≡◌, IfOk};
 ghost use Rattle.ioc_common.specs.Links.{no_link, use_of, device_text, record_named};
 ghost use Rattle.ioc_common.specs.Wants.{is_unused, is_own_device, need_of_link};
@@ -12,8 +12,8 @@ use ioc_values::Short;
 use std::alloc::{AllocError, Global};
 use std::marker::Model;
 
-/// A link field in its record, which contracts see as the link field. It lies on the heap, and an empty one takes no room
-/// there.
+/// A link field in its record; contracts see it as the link field. It is on the heap, where an
+/// empty link takes no memory.
 #[derive(Drop)]
 pub struct KeptLink {
     place: Option<Box<LinkField>>,
@@ -29,14 +29,14 @@ impl Model for KeptLink {
 }
 
 impl KeptLink {
-    /// An empty link.
+    /// Creates an empty link.
     pub fn empty() -> Self
         ensures { result ≡ no_link }
     {
         KeptLink { place: None }
     }
 
-    /// That of a link field. It takes room, unless the link is empty.
+    /// Creates a link from a link field. It allocates, unless the link is empty.
     pub fn new(alloc: Global, field: LinkField) -> Result<Self, AllocError>
         ensures { IfOk result (λ k. k ≡ field) }
     {
@@ -47,7 +47,7 @@ impl KeptLink {
         Ok(KeptLink { place: Some(place) })
     }
 
-    /// The link field.
+    /// Returns the link field.
     pub fn get(&self) -> LinkField
         ensures { result ≡ self.now }
     {
@@ -57,18 +57,18 @@ impl KeptLink {
         }
     }
 
-    /// The same link. It takes room, unless the link is empty.
+    /// Copies the link. It allocates, unless the link is empty.
     ///
     /// # Errors
     ///
-    /// [`AllocError`] where memory is wanting.
+    /// [`AllocError`] if allocation fails.
     pub fn copy(&self, alloc: Global) -> Result<Self, AllocError>
         ensures { IfOk result (λ copy. copy ≡ self.now) }
     {
         KeptLink::new(alloc, self.get())
     }
 
-    /// What the link comes to in use.
+    /// Returns how the link is used.
     #[tactic(auto, unfolding(crate::specs::Links::use_of))]
     pub fn in_use(&self) -> LinkUse
         ensures { result ≡ use_of self.now }
@@ -79,7 +79,7 @@ impl KeptLink {
         }
     }
 
-    /// Is the link empty or a constant?
+    /// Returns whether the link is empty or a constant.
     #[tactic(auto, unfolding(crate::specs::Links::use_of))]
     pub fn is_unused(&self) -> bool
         ensures { result ≡ is_unused (use_of self.now) }
@@ -90,7 +90,7 @@ impl KeptLink {
         }
     }
 
-    /// Does the link lead to the record's own device?
+    /// Returns whether the link leads to the record's own device.
     #[tactic(auto, unfolding(crate::specs::Links::use_of))]
     pub fn is_own_device(&self) -> bool
         ensures { result ≡ is_own_device (use_of self.now) }
@@ -101,7 +101,7 @@ impl KeptLink {
         }
     }
 
-    /// What a body needs first that reads the link.
+    /// Returns the input that a body that reads the link needs first.
     pub fn need(&self) -> Need
         ensures { result ≡ need_of_link (use_of self.now) }
     {
@@ -112,7 +112,7 @@ impl KeptLink {
         }
     }
 
-    /// The record that the link names in use, if it names one.
+    /// Returns the record that the link names in use, if any.
     #[tactic(auto, unfolding(crate::specs::Links::use_of))]
     pub fn record_named(&self) -> Option<RecordNo>
         ensures { result ≡ record_named (use_of self.now) }
@@ -123,7 +123,7 @@ impl KeptLink {
         }
     }
 
-    /// Does the link name a device?
+    /// Returns whether the link names a device.
     pub fn is_device(&self) -> bool
         ensures { result ≡ is_device self.now.link }
     {
@@ -133,7 +133,7 @@ impl KeptLink {
         }
     }
 
-    /// The text of a device link; of any other it is empty.
+    /// Returns the text of a device link, or an empty one for any other link.
     pub fn device_text(&self) -> Short<MAX_DEVICE_BYTES>
         ensures { result ≡ device_text self.now.link }
     {

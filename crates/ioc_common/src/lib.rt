@@ -1,5 +1,5 @@
-//! What records of all types share: the fields that each has and the steps on them, link fields, the fields by which
-//! types are fed and drive others, and what a body asks for.
+//! What records of all types share: the common fields and the operations on them, link fields, the
+//! inputs and outputs of types, and what a body requests.
 #![tactic(auto)]
 
 pub mod body;

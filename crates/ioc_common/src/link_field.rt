@@ -1,4 +1,4 @@
-//! Link fields, and what a link in use comes to.
+//! Link fields, and how links are used.
 ghost use Rattle.std.specs.Prelude.{◌≡◌};
 ghost use Rattle.ioc_common.specs.Links.{no_link, use_of, record_named};
 ghost use Rattle.ioc_common.specs.Wants.{is_unused, is_own_device};
@@ -7,7 +7,7 @@ use ioc_fields::FieldNo;
 use ioc_links::{Link, Mode};
 use ioc_names::RecordNo;
 
-/// Where a database link leads: to a record that is there, and a field of it that is no link.
+/// The field that a database link leads to: a field, other than a link, of an existing record.
 #[derive(Clone, Copy, PartialEq, Eq, Debug)]
 pub struct FieldAddress {
     pub number: RecordNo,
@@ -22,38 +22,39 @@ pub enum Lead {
     OwnDevice,
 }
 
-/// A link field: the link as written, and where it leads. A database link or a device link that leads nowhere is absent.
+/// A link field: the link as written, and where it leads. A database link or a device link that
+/// leads nowhere is absent.
 #[derive(Clone, Copy, PartialEq, Eq)]
 pub struct LinkField {
     pub link: Link,
     pub lead: Lead,
 }
 
-/// A standing link: a record, one of its fields, and how it is read or written.
+/// A link that leads to a field: a record, the field of it, and how it is read or written.
 #[derive(Clone, Copy, PartialEq, Eq, Debug)]
 pub struct StandingLink {
     pub number: RecordNo,
     pub field: FieldNo,
-    /// PP: the record is requested, if it is passive.
+    /// PP: the record is requested if it is passive.
     pub process_passive: bool,
     pub mode: Mode,
 }
 
-/// What a link comes to when it is used.
+/// How a link is used.
 #[derive(Clone, Copy, PartialEq, Eq, Debug)]
 pub enum LinkUse {
-    /// Empty or a constant.
+    /// The link is empty or a constant.
     Unused,
-    /// The record's own device.
+    /// The link leads to the record's own device.
     OwnDevice,
-    /// A database link whose record or field isn't there, or a device link without a device.
+    /// A database link whose record or field doesn't exist, or a device link without a device.
     Absent,
     Standing(StandingLink),
 }
 
 #[tactic(auto, unfolding(crate::specs::Links::use_of))]
 impl LinkField {
-    /// An empty link.
+    /// Creates an empty link.
     pub fn empty() -> Self
         ensures { result ≡ no_link }
     {
@@ -63,7 +64,7 @@ impl LinkField {
         }
     }
 
-    /// Is the link empty or a constant?
+    /// Returns whether the link is empty or a constant.
     pub fn is_unused(&self) -> bool
         ensures { result ≡ is_unused (use_of self.now) }
     {
@@ -78,7 +79,7 @@ impl LinkField {
         }
     }
 
-    /// Does the link lead to the record's own device?
+    /// Returns whether the link leads to the record's own device.
     pub fn is_own_device(&self) -> bool
         ensures { result ≡ is_own_device (use_of self.now) }
     {
@@ -94,7 +95,7 @@ impl LinkField {
         }
     }
 
-    /// The record that the link names in use, if it names one.
+    /// Returns the record that the link names in use, if any.
     pub fn record_named(&self) -> Option<RecordNo>
         ensures { result ≡ record_named (use_of self.now) }
     {
@@ -110,8 +111,7 @@ impl LinkField {
         }
     }
 
-    /// What the link comes to in use.
-    /// Application Developer's Guide, "Database Links".
+    /// Returns how the link is used. Application Developer's Guide, "Database Links".
     pub fn in_use(&self) -> LinkUse
         ensures { result ≡ use_of self.now }
     {

@@ -1,11 +1,11 @@
-//! What a converted value is, by the kind of the field that it goes into.
+//! The parts of a converted value, by the kind of the field that it is for.
 ghost use Rattle.std.specs.Prelude.{◌≡◌};
 ghost use Rattle.ioc_common.specs.Parts.{long_in, int64_in, ulong_in, short_in, ushort_in, uchar_in, state_in, text_in, severity_in, omsl_in, ivoa_in, scan_in, pini_in, priority_in};
 
 use ioc_menus::{Ivoa, Omsl, Pini, Priority, Scan, Severity};
 use ioc_values::{Text, Value};
 
-/// A Long.
+/// Returns the number of a Long.
 pub fn long_in(value: Value) -> Option<i32>
     ensures { result ≡ long_in value }
 {
@@ -16,7 +16,7 @@ pub fn long_in(value: Value) -> Option<i32>
     }
 }
 
-/// A number of 64 bits.
+/// Returns the number of an Int64.
 pub fn int64_in(value: Value) -> Option<i64>
     ensures { result ≡ int64_in value }
 {
@@ -27,7 +27,7 @@ pub fn int64_in(value: Value) -> Option<i64>
     }
 }
 
-/// A ULong.
+/// Returns the number of a ULong.
 pub fn ulong_in(value: Value) -> Option<u32>
     ensures { result ≡ ulong_in value }
 {
@@ -38,7 +38,7 @@ pub fn ulong_in(value: Value) -> Option<u32>
     }
 }
 
-/// A Short.
+/// Returns the number of a Short.
 pub fn short_in(value: Value) -> Option<i16>
     ensures { result ≡ short_in value }
 {
@@ -49,7 +49,7 @@ pub fn short_in(value: Value) -> Option<i16>
     }
 }
 
-/// A UShort.
+/// Returns the number of a UShort.
 pub fn ushort_in(value: Value) -> Option<u16>
     ensures { result ≡ ushort_in value }
 {
@@ -60,7 +60,7 @@ pub fn ushort_in(value: Value) -> Option<u16>
     }
 }
 
-/// A UChar.
+/// Returns the number of a UChar.
 pub fn uchar_in(value: Value) -> Option<u8>
     ensures { result ≡ uchar_in value }
 {
@@ -71,7 +71,7 @@ pub fn uchar_in(value: Value) -> Option<u8>
     }
 }
 
-/// The number of a state or a choice.
+/// Returns the number of a state or a choice.
 pub fn state_in(value: Value) -> Option<u16>
     ensures { result ≡ state_in value }
 {
@@ -82,7 +82,7 @@ pub fn state_in(value: Value) -> Option<u16>
     }
 }
 
-/// A text.
+/// Returns the text of a text value.
 pub fn text_in(value: Value) -> Option<Text>
     ensures { result ≡ text_in value }
 {
@@ -93,7 +93,7 @@ pub fn text_in(value: Value) -> Option<Text>
     }
 }
 
-/// A severity.
+/// Returns the severity of a value for a severity field.
 pub fn severity_in(value: Value) -> Option<Severity>
     ensures { result ≡ severity_in value }
 {
@@ -104,7 +104,7 @@ pub fn severity_in(value: Value) -> Option<Severity>
     }
 }
 
-/// A choice of OMSL.
+/// Returns the OMSL choice of a value.
 pub fn omsl_in(value: Value) -> Option<Omsl>
     ensures { result ≡ omsl_in value }
 {
@@ -115,7 +115,7 @@ pub fn omsl_in(value: Value) -> Option<Omsl>
     }
 }
 
-/// A choice of IVOA.
+/// Returns the IVOA choice of a value.
 pub fn ivoa_in(value: Value) -> Option<Ivoa>
     ensures { result ≡ ivoa_in value }
 {
@@ -126,7 +126,7 @@ pub fn ivoa_in(value: Value) -> Option<Ivoa>
     }
 }
 
-/// A choice of SCAN.
+/// Returns the SCAN choice of a value.
 pub fn scan_in(value: Value) -> Option<Scan>
     ensures { result ≡ scan_in value }
 {
@@ -137,7 +137,7 @@ pub fn scan_in(value: Value) -> Option<Scan>
     }
 }
 
-/// A choice of PINI.
+/// Returns the PINI choice of a value.
 pub fn pini_in(value: Value) -> Option<Pini>
     ensures { result ≡ pini_in value }
 {
@@ -148,7 +148,7 @@ pub fn pini_in(value: Value) -> Option<Pini>
     }
 }
 
-/// A choice of PRIO.
+/// Returns the PRIO choice of a value.
 pub fn priority_in(value: Value) -> Option<Priority>
     ensures { result ≡ priority_in value }
 {

@@ -1,4 +1,4 @@
-//! Which of two values a binary type reads or writes, and what comes for each of them.
+//! Whether a binary type reads or writes RVAL or VAL, and the input that each receives.
 ghost use Rattle.std.specs.Prelude.{◌≡◌};
 ghost use Rattle.ioc_common.specs.Raw.{is_raw, raw_came, state_came, raw_constant, state_constant};
 
@@ -10,8 +10,9 @@ use ioc_values::{Kind, Range, of_number};
 
 #[tactic(auto, unfolding(crate::specs::Raw::is_raw))]
 impl KeptLink {
-    /// Is the raw value read or written through this link? So it is where the link names a device,
-    /// and where DTYP is the raw one. Record Reference Manual, "Device Support for Soft Records".
+    /// Returns whether the raw value is read or written through this link. It is if the link names
+    /// a device, or if DTYP is `Raw Soft Channel`. Record Reference Manual, "Device Support for
+    /// Soft Records".
     pub fn is_raw(&self, condition: &Condition) -> bool
         ensures { result ≡ is_raw self.now.link condition.now }
     {
@@ -19,7 +20,7 @@ impl KeptLink {
     }
 }
 
-/// What RVAL takes of what came: itself where nothing came, and nothing after a fault.
+/// Returns the new RVAL for an input: the old RVAL if there was no input, or `None` after a fault.
 pub fn raw_came(got: &Got, raw: u32) -> Option<u32>
     ensures { result ≡ raw_came got.now raw }
 {
@@ -30,7 +31,7 @@ pub fn raw_came(got: &Got, raw: u32) -> Option<u32>
     }
 }
 
-/// What VAL takes of what came: nothing where nothing came, and after a fault.
+/// Returns the new VAL for an input, or `None` if there was no input or after a fault.
 pub fn state_came(got: &Got, state: u16) -> Option<u16>
     ensures { result ≡ state_came got.now state }
 {
@@ -40,7 +41,7 @@ pub fn state_came(got: &Got, state: u16) -> Option<u16>
     }
 }
 
-/// A constant as RVAL; none below 0 or above 4294967295.
+/// Returns a constant as RVAL, or `None` if it is below 0 or above 4294967295.
 #[tactic(auto, unfolding(ioc_values::specs::Conversion::sort_of))]
 pub fn raw_constant(constant: i64) -> Option<u32>
     ensures { result ≡ raw_constant constant }
@@ -48,7 +49,7 @@ pub fn raw_constant(constant: i64) -> Option<u32>
     ulong_in(of_number(Kind::Number(Range::ULong), constant)?)
 }
 
-/// A constant as VAL; none below 0 or above 65535.
+/// Returns a constant as VAL, or `None` if it is below 0 or above 65535.
 #[tactic(auto, unfolding(ioc_values::specs::Conversion::sort_of))]
 pub fn state_constant(constant: i64) -> Option<u16>
     ensures { result ≡ state_constant constant }

@@ -1,4 +1,4 @@
-//! The fields by which a record is processed of itself.
+//! The fields that control when a record is processed by scanning.
 ghost use Rattle.std.specs.Prelude.{◌≡◌};
 ghost use Rattle.ioc_common.specs.Scanning.{new_scanning, scanning_get, scanning_stored};
 
@@ -10,20 +10,20 @@ use ioc_values::{Text, Value};
 /// SCAN, PINI, PHAS, EVNT and PRIO. Record Reference Manual, "Scan Fields".
 #[derive(Clone, Copy, PartialEq, Eq)]
 pub struct Scanning {
-    /// EVNT: the event that has the record processed, where SCAN is Event.
+    /// EVNT: the event that processes the record if SCAN is Event.
     pub event: Text,
     /// SCAN.
     pub scan: Scan,
-    /// PINI: is the record processed once at the start?
+    /// PINI: whether the record is processed once when the engine starts.
     pub at_start: Pini,
-    /// PHAS: its place among the records that are processed together.
+    /// PHAS: the record's order among those that are processed together.
     pub phase: i16,
     /// PRIO.
     pub priority: Priority,
 }
 
 impl Scanning {
-    /// That of a new record: it is passive.
+    /// Creates the fields of a new record, which is passive.
     #[tactic(auto, unfolding(crate::specs::Scanning::new_scanning))]
     pub fn new() -> Self
         ensures { result ≡ new_scanning }
@@ -37,7 +37,7 @@ impl Scanning {
         }
     }
 
-    /// The value of one of these fields.
+    /// Returns the value of one of these fields.
     #[tactic(auto, unfolding(crate::specs::Scanning::scanning_get))]
     pub fn get(&self, field: CommonField) -> Option<Value>
         ensures { result ≡ scanning_get self.now field }

@@ -1,4 +1,4 @@
-//! The field by which the input types are fed.
+//! The field that names the input of the input types.
 ghost use Rattle.std.specs.Prelude.{◌≡◌, IfOk};
 ghost use Rattle.std.specs.Option.{option_copied};
 ghost use Rattle.ioc_common.specs.Source.{new_source, source_link, source_with_link, source_begin};
@@ -18,7 +18,7 @@ pub struct Source {
 }
 
 impl Source {
-    /// That of a new record: empty.
+    /// Creates the field of a new record, which is empty.
     #[tactic(auto, unfolding(crate::specs::Source::new_source))]
     pub fn new() -> Self
         ensures { result ≡ new_source }
@@ -28,11 +28,11 @@ impl Source {
         }
     }
 
-    /// The same source.
+    /// Copies the field.
     ///
     /// # Errors
     ///
-    /// [`AllocError`] where memory is wanting.
+    /// [`AllocError`] if allocation fails.
     pub fn copy(&self, alloc: Global) -> Result<Self, AllocError>
         ensures { IfOk result (λ copy. copy ≡ self.now) }
     {
@@ -58,7 +58,7 @@ impl Source {
         }
     }
 
-    /// The device is read where INP names the record's own; else INP is read.
+    /// Returns what is needed first: the device if INP names the record's own, else INP itself.
     #[tactic(auto, using(crate::specs::Wants::source_need))]
     pub fn begin(&self) -> Need
         ensures { result ≡ need_of (source_begin self.now.input) }
@@ -72,7 +72,7 @@ impl Source {
         }
     }
 
-    /// The link that is read, if one is.
+    /// Returns the link that is read, if there is one.
     #[tactic(auto, using(crate::specs::Wants::source_wanted))]
     pub fn wanted_link(&self) -> LinkUse
         ensures { result ≡ link_wanted (source_begin self.now.input) }

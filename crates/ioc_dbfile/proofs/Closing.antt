@@ -1,4 +1,4 @@
--- Each standing link of a loaded database names a record that is there.
+-- Each resolved link of a loaded database leads to a record of the database.
 use Rattle.std.proofs.Common.{◌≡◌, ℕ, zero, suc, ◌+◌, ◌<◌, Bool, true, false, cond, List, [], ◌∷◌, ◌++◌, length, map, Option, Some, None, refl, sym, ap, ◌∙◌, ◌⊎◌, inl, inr, arith, lt-ltb, unwrap_or}
 use Rattle.std.specs.Prelude.{slice_get, slice_index_or, Contains, is_some}
 use Rattle.ioc_names.specs.NameTable.{NameTable, number_of}
@@ -25,7 +25,7 @@ use Rattle.ioc_store.specs.World.{at, IsClosed}
 use Rattle.ioc_dbfile.specs.Finished.{target_field, target_in, target_at, standing_of, lead_of, leads_to, with_standing, linked, linked_all, finished, by_place, Owner}
 use Rattle.ioc_dbfile.specs.Owners.{owner_of, device_lead}
 
--- each number is below a limit
+-- Holds if each number is below a limit.
 abbrev Below : ℕ → List ℕ → Type 0
 Below n [] = Unit {0}
 Below n (x ∷ xs) = (x < n) × Below n xs
@@ -39,7 +39,7 @@ below_at n [] i x h lt e = absurd (omega arith)
 below_at n (y ∷ ys) zero x h lt e = let same : y ≡ x = e in rw same at h.0
 below_at n (y ∷ ys) (suc i) x h lt e = let within : i < length ys = omega arith in below_at n ys i x h.1 within e
 
--- a standing link names a number below a limit
+-- Holds if the link leads to a record with a number below a limit, or to none.
 abbrev StandsBelow : ℕ → Option FieldAddress → Type 0
 StandsBelow n None = Unit {0}
 StandsBelow n (Some s) = s.number < n
@@ -81,7 +81,7 @@ link_below names types owner n (Constant z) = tt
 link_below names types owner n (Device text) = device_below (length types) (device_lead n (owner text))
 link_below names types owner n (Database target flags) = database_below (length types) flags (target_at types target.field (number_of names target.record_name)) (target_below types target.field (number_of names target.record_name))
 
--- a link field whose link leads where it leads
+-- A resolved link field leads to a record of the database.
 led_below : (names : NameTable) (types : List RecordType) (owner : Owner) (n : ℕ) (l : LinkField)
     → Below (length types) (named_by_field (Some (record { link = l.link; lead = leads_to names types owner n l.link })))
 unfolding use_of
@@ -94,7 +94,7 @@ some_is : {X : Type 0} (o : Option X) (x : X) → o ≡ Some x → is_some o ≡
 some_is o x is = rw is refl
 
 module _ {R : Type 0} (k : RecordRules R) (lawful : IsLawful k) (names : NameTable) (types : List RecordType) (owner : Owner) (n : ℕ) where
-  -- a field is still to be linked, or its link leads to a record that is there
+  -- Holds if a field is still to be resolved, or its link leads to a record of the database.
   abbrev Ready : List FieldNo → R → FieldNo → Type 0
   Ready fields r g = ((i : ℕ) × (slice_get fields i ≡ Some g)) ⊎ Below (length types) (named_by_field (k.link r g))
 
@@ -143,7 +143,7 @@ module _ {R : Type 0} (k : RecordRules R) (lawful : IsLawful k) (names : NameTab
   all_below link [] each = tt
   all_below link (f ∷ fs) each = below_append (length types) (named_by_field (link f)) (named_by_all link fs) (each f) (all_below link fs each)
 
-  -- every field with a link is a link field
+  -- Every field with a link is a link field.
   ready_by : (r : R) (g : FieldNo) (o : Option LinkField) → k.link r g ≡ o → Ready (k.link_fields r) r g
   ready_by r g None is = inr (none_below (length types) (k.link r g) is)
   ready_by r g (Some l) is =
@@ -155,7 +155,7 @@ module _ {R : Type 0} (k : RecordRules R) (lawful : IsLawful k) (names : NameTab
   first_ready : (r : R) (g : FieldNo) → Ready (k.link_fields r) r g
   first_ready r g = ready_by r g (k.link r g) refl
 
-  -- the links of a record at the end of a load lead to records that are there
+  -- At the end of a load, the links of a record lead to records of the database.
   finished_below : (r : R) → Below (length types) (targets k (finished k names types owner n r))
   unfolding finished
   finished_below r =
@@ -163,7 +163,7 @@ module _ {R : Type 0} (k : RecordRules R) (lawful : IsLawful k) (names : NameTab
       all_below (k.link (k.loaded ready)) (k.link_fields (k.loaded ready))
       (λ g. rw (lawful.loaded_links ready) (all_ready (k.link_fields r) r (first_ready r) g))
 
--- ---- the whole database
+-- The whole database.
 
 length-by_place : {A : Type 0} (f : ℕ → A → A) (n : ℕ) (xs : List A) → length (by_place f n xs) ≡ length xs
 length-by_place f n [] = refl
@@ -179,7 +179,7 @@ at_below names types owner n [] i = rw record_lawful.missing_targets tt
 at_below names types owner n (r ∷ rs) zero = finished_below record_rules record_lawful names types owner n r
 at_below names types owner n (r ∷ rs) (suc i) = at_below names types owner (n + 1) rs i
 
--- records at the end of a load
+-- All records at the end of a load.
 pub finished_closed : (names : NameTable) (owner : Owner) (rs items : List Record)
     → items ≡ by_place (finished record_rules names (map record_rules.record_type rs) owner) 0 rs → IsClosed record_rules (first_world items)
 unfolding at first_world

@@ -1,4 +1,5 @@
--- A loaded database is quiet: new records are idle, and neither a field that is set nor the end of a load changes that.
+-- A loaded database is quiet: new records are idle, and stay so when a field is set and when the
+-- load ends.
 use Rattle.std.proofs.Common.{◌≡◌, ℕ, zero, suc, ◌+◌, Bool, true, false, cond, List, [], ◌∷◌, ◌++◌, map, Option, Some, None, Result, Ok, Err, IsTrue, refl, sym, subst, ◌∙◌}
 use Rattle.std.specs.Prelude.{slice_get, slice_set, is_some, unwrap_or}
 use Rattle.ioc_values.specs.declared.value.Value.{Value}
@@ -50,7 +51,7 @@ module _ {R : Type 0} (k : RecordRules R) where
   idle-there (q ∷ qs) zero idle has = idle.0
   idle-there (q ∷ qs) (suc n) idle has = idle-there qs n idle.1 has
 
-  -- what was made of a record, where something was, is idle
+  -- Holds if the resulting record, if there is one, is idle.
   abbrev IdleIfMade : Result R IocError → Type 0
   IdleIfMade (Ok r) = IsIdle k r
   IdleIfMade (Err e) = Unit {0}
@@ -88,7 +89,7 @@ module _ {R : Type 0} (k : RecordRules R) where
     unfolding set_field
     set-idle r f text idle = row-idle r f text (row_of (k.record_type r) f) idle
 
-    -- a field that is set leaves a record idle
+    -- Setting a field leaves a record idle.
     pub set_field-idle : (r r' : R) (f : FieldNo) (text : List ℕ) → set_field k r f text ≡ Ok r' → IsIdle k r → IsIdle k r'
     set_field-idle r r' f text is idle = subst IdleIfMade is (set-idle r f text idle)
 
@@ -116,18 +117,18 @@ module _ {R : Type 0} (k : RecordRules R) where
       all-finished n [] idle = tt
       all-finished n (r ∷ rs) idle = (finished-idle n r idle.0, all-finished (n + 1) rs idle.1)
 
--- a record that was set, among the others
+-- Setting a field of one record leaves the other records as they are.
 pub set-made : (names : NameTable) (items : List Record) (n : ℕ) (f : FieldNo) (text : List ℕ) (old new : Record) → slice_get items n ≡ Some old → set_field record_rules old f text ≡ Ok new
     → set_at record_rules new_record n f text (record { names = names; records = items }) ≡ Ok (record { names = names; records = slice_set items n new })
 unfolding set_at
 set-made names items n f text old new is made = rw (is, made) refl
 
--- a new record is idle
+-- A new record is idle.
 pub new-idle : (type : RecordType) (name : List ℕ) → IsIdle record_rules (new_record type name)
 unfolding new_common
 new-idle type name = record { active = refl; pending = refl }
 
--- records at the end of a load are quiet
+-- The records are quiet at the end of a load.
 pub finished_quiet : (names : NameTable) (owner : Owner) (rs items : List Record) → items ≡ by_place (finished record_rules names (map record_rules.record_type rs) owner) 0 rs
     → AllIdle record_rules rs → IsQuiet record_rules (first_world items)
 unfolding at first_world

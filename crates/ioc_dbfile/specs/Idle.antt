@@ -1,14 +1,14 @@
--- Records that nothing is under way in.
+-- Idle records.
 use Rattle.std.specs.Prelude.{◌≡◌, List, [], ◌∷◌, false, None}
 use Rattle.ioc_record.specs.RecordRules.{RecordRules}
 
 module _ {R : Type 0} (k : RecordRules R) where
-  -- a record that is not active, and awaits no completion
+  -- Holds of a record that isn't active and awaits no completion.
   pub record IsIdle (r : R) : Type 0 where
     pub active : (k.common r).active ≡ false
     pub pending : (k.common r).pending ≡ None
 
-  -- each of these records is so
+  -- Holds if each of these records is idle.
   abbrev pub AllIdle : List R → Type 0
   AllIdle [] = Unit {0}
   AllIdle (r ∷ rs) = IsIdle r × AllIdle rs

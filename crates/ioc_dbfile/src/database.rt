@@ -9,8 +9,9 @@ use ioc_names::Names;
 use ioc_types::Record;
 use std::alloc::{AllocError, Global};
 
-/// A loaded database: the names of its records, and the records by their numbers. A device that links name belongs to the first of the
-/// records that have such a link: only its link leads to it ([`owns_device`](crate::owns_device)).
+/// A loaded database: the names of its records, and the records by their numbers. A device that
+/// links name belongs to the first of the records with such a link: only the link of that record
+/// leads to it (see [`owns_device`](crate::owns_device)).
 #[derive(Drop)]
 pub struct Database {
     pub names: Names,
@@ -25,8 +26,8 @@ impl Database {
     ghost use Rattle.ioc_dbfile.specs.SeenDatabase.{database_of};
     ghost use Rattle.ioc_dbfile.specs.Idle.{AllIdle};
 
-    /// The database of names and records that a text has made: it is decided where links lead, and
-    /// constants are put.
+    /// Creates the database of the names and records of a text: links are resolved and constants
+    /// are put.
     pub fn new(alloc: Global, names: Names, records: Vec<Record>) -> Result<Self, AllocError>
         requires { AllIdle record_rules records.items }
         ensures { IfOk result (λ d. database_of d ≡ all_finished record_rules (record { names = names; records = records.items })) }

@@ -1,4 +1,4 @@
-//! The database that statements fill.
+//! The builder of a database from statements.
 ghost use Rattle.std.specs.Prelude.{◌≡◌, ◌↔◌, [], true, IsSome, IfSome, IfOk, slice_get};
 ghost use Rattle.ioc_links.specs.Grammar.{is_record_name};
 ghost use Rattle.ioc_dbfile.specs.Loader.{same_type, kind_of_refusal, build_error};
@@ -16,10 +16,10 @@ use ioc_values::{BadDbKind, IocError, Name};
 use std::alloc::{AllocError, Global};
 use std::marker::Model;
 
-/// The most records of a database.
+/// The maximal number of records of a database.
 pub const MAX_RECORDS: usize = 131_072;
 
-/// The names and the records that statements have made so far.
+/// The names and records of the statements so far.
 #[derive(Drop)]
 pub struct DatabaseBuilder {
     alloc: Global,
@@ -51,7 +51,7 @@ impl DatabaseBuilder {
     ghost use Rattle.ioc_dbfile.specs.Finished.{all_finished};
     ghost use Rattle.ioc_dbfile.specs.SeenDatabase.{database_of};
 
-    /// No records.
+    /// Creates a builder without records.
     pub fn new(alloc: Global) -> Self
         ensures { result ≡ record { names = no_names; records = [] } }
     {
@@ -62,7 +62,7 @@ impl DatabaseBuilder {
         }
     }
 
-    /// The record of this number gets more fields, where it has this type.
+    /// Selects an existing record for more fields, if it has this type.
     #[tactic(auto, unfolding(crate::specs::Loader::same_type))]
     fn add_more(&self, record_type: RecordType, number: RecordNo) -> Result<RecordNo, BuildError>
         ensures { Builds (λ n. (n, self.now)) result (add_more record_rules new_record record_type self.now number (slice_get self.now.records number)) }
@@ -76,7 +76,7 @@ impl DatabaseBuilder {
         Ok(number)
     }
 
-    /// The database of these names and records: it is decided where links lead, and constants are put.
+    /// Creates the database of these names and records: links are resolved and constants are put.
     pub fn finish(self, alloc: Global) -> Result<Database, AllocError>
         ensures { IfOk result (λ d. database_of d ≡ all_finished record_rules self) }
     {
@@ -85,7 +85,7 @@ impl DatabaseBuilder {
     }
 }
 
-/// Why the database did not take what a field was to be set to.
+/// Returns the build error of a field that can't be set.
 fn build_error(refusal: IocError) -> BuildError
     ensures { result ≡ build_error refusal }
 {
@@ -95,7 +95,7 @@ fn build_error(refusal: IocError) -> BuildError
     }
 }
 
-/// What is wrong with a database text where a field can't be set.
+/// Returns the fault of a database text in which a field can't be set.
 fn kind_of_refusal(refusal: IocError) -> BadDbKind
     ensures { result ≡ kind_of_refusal refusal }
 {
@@ -187,7 +187,7 @@ impl Builder for DatabaseBuilder {
     }
 }
 
-/// Whether two record types are one.
+/// Returns whether two record types are equal.
 #[tactic(auto, unfolding(crate::specs::Loader::same_type))]
 fn same_type(a: RecordType, b: RecordType) -> bool
     ensures { result ≡ same_type a b }
@@ -195,7 +195,7 @@ fn same_type(a: RecordType, b: RecordType) -> bool
     a.name().as_bytes() == b.name().as_bytes()
 }
 
-/// The name, where it is one.
+/// Returns the name if it is a valid record name.
 fn valid_name(name: &[u8]) -> Option<Name>
     ensures valid { IsSome result ↔ (is_record_name name.now ≡ true) }
     ensures same { IfSome result (λ n. n ≡ name.now) }

@@ -1,4 +1,4 @@
-//! Names of devices as keys of a hash table.
+//! Device names as keys of a hash table.
 ghost use Rattle.std.specs.Prelude.{◌≡◌, nat_eq};
 ghost use Rattle.std.specs.Hash as fed;
 ghost use Rattle.std.specs.Cmp.Lexicographic.{pointwise, nat_list_eq_equiv};
@@ -11,7 +11,7 @@ use ioc_values::Short;
 use std::hash::{Hash, Hasher};
 use std::marker::Model;
 
-/// The name of a device, compared and hashed by its bytes alone.
+/// The name of a device, compared and hashed by its bytes.
 #[derive(Clone, Copy)]
 pub struct DeviceName {
     text: Short<MAX_DEVICE_BYTES>,
@@ -28,7 +28,7 @@ impl Model for DeviceName {
 }
 
 impl DeviceName {
-    /// The name that a device link has behind its `@`.
+    /// The name behind the `@` of a device link.
     pub fn new(text: Short<MAX_DEVICE_BYTES>) -> Self
         ensures { result ≡ text }
     {

@@ -1,4 +1,4 @@
-//! The end of a load: where links lead, and what constants put.
+//! The end of a load, which resolves links and puts constants.
 ghost use Rattle.std.specs.Prelude.{◌≡◌, Some, IfOk, OnOk, map};
 ghost use Rattle.ioc_types.specs.Record.{record_rules};
 ghost use Rattle.ioc_fields.specs.Table.{is_link_kind};
@@ -15,7 +15,7 @@ use ioc_record::RecordKind;
 use ioc_types::Record;
 use std::alloc::{AllocError, Global};
 
-// What is known of all records when it is decided where their links lead.
+// What is known of all records when their links are resolved.
 #[derive(Drop)]
 struct Whole {
     types: Vec<RecordType>,
@@ -28,8 +28,8 @@ fn is_link(kind: Option<FieldKind>) -> bool
     matches!(kind, Some(FieldKind::Link(_)))
 }
 
-/// The field of this name, in a record of this type and number, that a link can lead to: none, if there is no such field or it is a link
-/// field itself.
+/// Returns the field with this name, in a record of this type and number, as the target of a link,
+/// or `None` if there is no such field or it is a link field itself.
 pub fn target_field(number: RecordNo, record_type: RecordType, name: &[u8]) -> Option<FieldAddress>
     ensures { result ≡ target_in number name.now (Some record_type) }
 {
@@ -40,7 +40,8 @@ pub fn target_field(number: RecordNo, record_type: RecordType, name: &[u8]) -> O
     Some(FieldAddress { number, field })
 }
 
-/// Where a database link leads: nowhere, if its record or field isn't there or the field is a link field.
+/// Returns the field that a database link leads to, or `None` if the record or field doesn't exist
+/// or the field is a link field.
 #[tactic(auto, unfolding(crate::specs::Finished::standing_of))]
 fn standing_of(names: &Names, types: &[RecordType], target: &Target) -> Option<FieldAddress>
     ensures { result ≡ standing_of names.now types.now target.now }
@@ -63,7 +64,7 @@ fn leads_to(names: &Names, whole: &Whole, number: RecordNo, link: &Link) -> Lead
     }
 }
 
-/// Decides where a link field leads.
+/// Resolves a link field.
 #[tactic(auto, unfolding(crate::specs::Finished::linked))]
 fn link_one(
     alloc: Global,
@@ -85,7 +86,7 @@ fn link_one(
     Ok(())
 }
 
-/// Decides where these link fields lead.
+/// Resolves these link fields.
 fn link_all(
     alloc: Global,
     names: &Names,
@@ -104,7 +105,7 @@ fn link_all(
     Ok(())
 }
 
-/// Ends the load of a record.
+/// Finishes the load of a record.
 #[tactic(auto, unfolding(crate::specs::Finished::finished))]
 fn finish_record(
     alloc: Global,
@@ -121,7 +122,7 @@ fn finish_record(
     Ok(())
 }
 
-/// The types of records.
+/// Returns the types of records.
 fn types_of(alloc: Global, records: &[Record]) -> Result<Vec<RecordType>, AllocError>
     ensures { IfOk result (λ v. v.items ≡ map record_rules.record_type records.now) }
 {
@@ -134,7 +135,7 @@ fn types_of(alloc: Global, records: &[Record]) -> Result<Vec<RecordType>, AllocE
     Ok(types)
 }
 
-/// Ends the load of records.
+/// Finishes the load of all records.
 pub fn finish_all(alloc: Global, names: &Names, records: &mut [Record]) -> Result<(), AllocError>
     ensures { OnOk result (records.new ≡ by_place (finished record_rules names.now (map record_rules.record_type records.old) (owner_of record_rules records.old)) 0 records.old) }
 {

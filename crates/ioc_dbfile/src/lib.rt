@@ -1,7 +1,7 @@
-//! Database texts: the records that they make, or the first fault.
+//! Database texts: the records that they define, or the first fault.
 //!
-//! The statements of a text (`ioc_statements`) fill a database; at its end it is decided where each link leads, and constants are put. EPICS
-//! Application Developer's Guide, "Database Definition".
+//! The statements of a text (`ioc_statements`) fill a database; at its end each link is resolved,
+//! and constants are put. EPICS Application Developer's Guide, "Database Definition".
 #![tactic(auto)]
 
 pub mod database;

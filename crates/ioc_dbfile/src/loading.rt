@@ -1,4 +1,4 @@
-//! From a database text to a database.
+//! Loads a database from a text.
 ghost use Rattle.ioc_statements.specs.Statements.{Gives};
 ghost use Rattle.ioc_dbfile.specs.Finished.{loaded_by};
 ghost use Rattle.ioc_dbfile.specs.SeenDatabase.{database_of};
@@ -11,12 +11,12 @@ use ioc_statements::fill_by_text;
 use ioc_values::IocError;
 use std::alloc::Global;
 
-/// The database of a text by the macros that it may use.
+/// Loads the database of a text, with the macros that it may use.
 ///
 /// # Errors
 ///
-/// [`IocError::BadDb`] with the line and the kind of the first fault in the text, and
-/// [`IocError::NoMemory`] where a growth was refused; nothing is loaded then.
+/// [`IocError::BadDb`] with the line and the kind of the first fault in the text.
+/// [`IocError::NoMemory`] if allocation fails. Nothing is loaded then.
 #[tactic(auto, unfolding(crate::specs::Finished::loaded_by))]
 pub fn load(alloc: Global, text: &[u8], macros: &Macros) -> Result<Database, IocError>
     ensures { Gives database_of result (loaded_by record_rules new_record macros.now text.now) }

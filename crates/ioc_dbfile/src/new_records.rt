@@ -1,4 +1,4 @@
-//! Records that are made.
+//! New records.
 ghost use Rattle.std.specs.Prelude.{◌≡◌, ◌++◌, ◌∷◌, [], OnOk, OnErr, IfOk, List, ℕ};
 ghost use Rattle.ioc_fields.specs.declared.record_type.RecordType.{RecordType};
 
@@ -7,11 +7,11 @@ use ioc_types::{Body, Record};
 use ioc_values::Name;
 use std::alloc::{AllocError, Global};
 
-/// What a type and a name make.
+/// Records that are created from a type and a name.
 pub trait NewRecord: Drop {
     ghost created: { RecordType → List ℕ → Self };
 
-    /// A record of this type and name, with no field set.
+    /// Creates a record of this type and name, with no field set.
     fn create(alloc: Global, record_type: RecordType, name: Name) -> Result<Self, AllocError>
         ensures { IfOk result (λ r. r ≡ created record_type name) };
 }
@@ -27,7 +27,7 @@ impl NewRecord for Record {
     }
 }
 
-/// Adds a record of this type and name behind the others, with no field set.
+/// Appends a record of this type and name, with no field set.
 pub fn push_new<R: NewRecord>(
     alloc: Global,
     records: &mut Vec<R>,
@@ -37,7 +37,7 @@ pub fn push_new<R: NewRecord>(
     ensures ok { OnOk result (records.new.items ≡ records.old.items ++ R.created record_type name ∷ []) }
     ensures err { OnErr result (records.new.items ≡ records.old.items) }
 {
-    // Room is taken first: a push that can fail carries the record back, which is large.
+    // Room is reserved first, because a push that can fail returns the record, which is large.
     records.reserve(1)?;
     let record = R::create(alloc, record_type, name)?;
     records.push_reserved(record);

@@ -1,4 +1,4 @@
-//! Which record owns each device.
+//! The record that owns each device.
 ghost use Rattle.std.specs.Prelude.{◌≡◌, ℕ, List, Some, None, if◌then◌else◌, IfOk, OnOk};
 ghost use Rattle.std.specs.Option.{option_copied};
 ghost use Rattle.ioc_types.specs.Record.{record_rules};
@@ -15,13 +15,14 @@ use ioc_values::Short;
 use std::alloc::{AllocError, Global};
 use std::collections::HashMap;
 
-/// The owner of each device: the first record that has a link to it.
+/// The owner of each device, which is the first record with a link to it.
 #[derive(Drop)]
 pub struct Owners {
     numbers: HashMap<DeviceName, RecordNo>,
 }
 
-// The first record that has this link owns what it names, if that is a device.
+// Makes a record the owner of the device that its link names, if the link names one and no record
+// before owns it.
 fn add_link(owners: &mut Owners, number: RecordNo, link: &Link) -> Result<(), AllocError>
     ensures { OnOk result ((text : List ℕ) → owner_in owners.new text ≡ or_else (owner_in owners.old text) (if names_device text link.now then Some number else None)) }
 {
@@ -34,13 +35,13 @@ fn add_link(owners: &mut Owners, number: RecordNo, link: &Link) -> Result<(), Al
     Ok(())
 }
 
-// The record owns the devices that its links name, where no record before it does.
+// Makes a record the owner of the devices that its links name and no record before owns.
 fn add_record(owners: &mut Owners, number: RecordNo, item: &Record) -> Result<(), AllocError>
     ensures { OnOk result ((text : List ℕ) → owner_in owners.new text ≡ or_else (owner_in owners.old text) (if asks_for record_rules text item.now then Some number else None)) }
 {
     let mut rest = item.link_fields();
     while let [field, others @ ..] = rest {
-        // A link field is large: only one that names a device is looked at as a whole.
+        // A link field is large, so only device links are copied.
         if let Some(kept) = item.link(*field) {
             if kept.is_device() {
                 add_link(owners, number, &kept.get().link)?;
@@ -51,7 +52,7 @@ fn add_record(owners: &mut Owners, number: RecordNo, item: &Record) -> Result<()
     Ok(())
 }
 
-/// The owners of all devices that these records name.
+/// Returns the owners of all devices that these records name.
 pub fn owners_of(alloc: Global, records: &[Record]) -> Result<Owners, AllocError>
     ensures { IfOk result (λ owners. (text : List ℕ) → owner_in owners text ≡ owner_of record_rules records.now text) }
 {
@@ -76,7 +77,7 @@ impl Owners {
         self.numbers.get(&name).copied()
     }
 
-    /// Where a link of this record to the device of this name leads.
+    /// Returns where a link of this record to the device with this name leads.
     pub fn lead(&self, number: RecordNo, text: &Short<MAX_DEVICE_BYTES>) -> Lead
         ensures { result ≡ device_lead number (owner_in self.now text.now) }
     {
@@ -96,7 +97,7 @@ fn leads_home(link: Option<&KeptLink>) -> bool
     }
 }
 
-/// Does a link of the record lead to a device of its own?
+/// Returns whether a link of the record leads to a device of its own.
 #[tactic(auto, unfolding(crate::specs::Owners::owns_device))]
 pub fn owns_device(item: &Record) -> bool
     ensures { result ≡ owns_device record_rules item.now }

@@ -1,4 +1,4 @@
--- The tokens of a line that begin before a limit, one by one.
+-- The tokens of a line that begin before a limit, one at a time.
 use Rattle.std.proofs.Common.{◌≡◌, ℕ, suc, ◌+◌, ◌-◌, ◌<◌, List, length, true, refl, sym, ap, ◌∙◌, arith, lt-ltb, ltb}
 use Rattle.ioc_dbtext.specs.Bytes.{behind_gap}
 use Rattle.ioc_dbtext.specs.Lexing.{token_at, rest_of, behind_begun}
@@ -7,7 +7,7 @@ module _ (turns i past : ℕ) (bs solid total : List ℕ) (lt : i < turns) (gap 
   turn : turns - i ≡ suc (turns - (i + 1))
   turn = omega arith
 
-  -- one more token
+  -- One more token begins before the limit.
   pub begun_more : (rest : List ℕ) → past < length solid → rest ≡ rest_of (token_at 0 solid) solid → behind_begun (turns - (i + 1)) past rest ≡ total
   begun_more rest more e =
       let longer : ltb past (length (behind_gap bs)) ≡ true = rw (← gap) (lt-ltb past (length solid) more) in

@@ -1,4 +1,4 @@
--- The texts of lines, line by line.
+-- The texts of lines, one line at a time.
 use Rattle.std.proofs.Common.{◌≡◌, ℕ, ◌+◌, ◌-◌, ◌<◌, Bool, true, false, cond, eqb, List, [], ◌∷◌, ◌++◌, length, nat_lt, Some, None, refl, sym, ap, ◌∙◌, append_assoc, append-nil, length-append, arith}
 use Rattle.std.proofs.lemmas.Bool.{eqb-true, eqb-false}
 use Rattle.ioc_dbtext.specs.declared.texts.End.TheVariants.{Whole, BadMacro, TooLong}
@@ -8,7 +8,7 @@ use Rattle.ioc_dbtext.specs.Lexing.{begun_within}
 use Rattle.ioc_dbtext.specs.Texts.{parts_of, most_bytes, Expansion, onto_texts, last_text, expansion}
 use Rattle.ioc_dbtext.proofs.LineLemmas.{line_some}
 
--- texts before others
+-- Texts followed by an expansion.
 abbrev pub after : List (List ℕ) → Expansion → Expansion
 after front e = record { texts = front ++ e.texts; end = e.end }
 
@@ -40,19 +40,19 @@ module _ (rest line behind : List ℕ) (some : eqb (length rest) 0 ≡ false) (p
     none_step true e = refl
     none_step false e = refl
 
-    -- a line without a text
+    -- A line without a text ends the expansion.
     pub stops : line_text ds line ≡ None → record { texts = front; end = BadMacro } ≡ total
     stops e =
         let k : expansion ds room (line ∷ lines_of behind) ≡ record { texts = []; end = BadMacro } = rw e (none_step (nat_lt room (length line)) (expansion ds (room - length line) (lines_of behind))) in
         ap (λ (ts : List (List ℕ)). let x : Expansion = record { texts = ts; end = BadMacro } in x) (sym (append-nil front)) ∙ ap (after front) (sym k) ∙ split
 
-    -- the line on which the limit is passed
+    -- The line on which the limit is exceeded ends the expansion.
     pub passes : (text : List ℕ) → line_text ds line ≡ Some text → nat_lt room (length line) ≡ true → record { texts = front ++ begun_within room text ∷ []; end = TooLong } ≡ total
     passes text e p =
         let k : expansion ds room (line ∷ lines_of behind) ≡ record { texts = begun_within room text ∷ []; end = TooLong } = rw (p, e) refl in
         ap (after front) (sym k) ∙ split
 
-    -- a line, and those behind it
+    -- A line within the limit is followed by those after it.
     pub goes_on : (text : List ℕ) → line_text ds line ≡ Some text → nat_lt room (length line) ≡ false → after (front ++ text ∷ []) (expansion ds (room - length line) (lines_of behind)) ≡ total
     goes_on text e p =
         let left = expansion ds (room - length line) (lines_of behind) in

@@ -1,4 +1,4 @@
--- Where a line ends.
+-- The end of a line.
 use Rattle.std.proofs.Common.{◌≡◌, ℕ, zero, suc, ◌+◌, ◌-◌, ◌≤◌, ◌<◌, Bool, true, false, cond, ◌&&◌, eqb, List, [], ◌∷◌, length, take, drop, slice_index, slice_index_or, refl, sym, ap, ◌∙◌, inl, inr, arith}
 use Rattle.std.proofs.lemmas.Bool.{cases_Bool, eqb-true, eqb-false, ltb-true, lt-ltb}
 use Rattle.ioc_dbtext.specs.Macros.{back_of, lacks}
@@ -9,7 +9,7 @@ use Rattle.ioc_dbtext.proofs.LineLemmas.{first_line, behind_line}
 use Rattle.ioc_dbtext.proofs.Searching.{NoneTo, first_other, others_none}
 use Rattle.ioc_dbtext.proofs.Pieces.{lacks_first}
 
--- ---- the first line feed
+-- ---- The first line feed
 
 pub first_at : (bs : List ℕ) (k : ℕ) → k < length bs → NoneTo 10 bs k → eqb (slice_index bs k) 10 ≡ true → take (k + 1) bs ≡ first_line bs
 first_at [] k lt none is = absurd (omega arith)
@@ -35,16 +35,16 @@ pub none_behind : (bs : List ℕ) → NoneTo 10 bs (length bs) → [] ≡ behind
 none_behind [] none = refl
 none_behind (b ∷ bs) none = rw (first_other 10 b bs (length bs) none) (none_behind bs (others_none 10 b bs (length bs) none))
 
--- a first line has no byte behind its line feed
+-- A first line has no byte after its line feed.
 pub one_line_feed : (bs : List ℕ) → length (back_of 10 (first_line bs)) ≤ 1
 one_line_feed [] = omega arith
 one_line_feed (b ∷ bs) =
     let behind : length (back_of 10 (first_line bs)) ≤ 1 = one_line_feed bs in
     elim (cases_Bool (eqb b 10)) [ inl is ↦ rw is (rw is (omega arith)) | inr is ↦ rw is (rw is behind) ]
 
--- ---- the end of a line
+-- ---- The end of a line
 
--- behind another byte
+-- The bytes after the first one have at most one byte from a line feed on, too.
 back_other : (b c : ℕ) (cs : List ℕ) → length (back_of 10 (b ∷ c ∷ cs)) ≤ 1 → (eqb b 10 ≡ false) × (length (back_of 10 (c ∷ cs)) ≤ 1)
 back_other b c cs h = by_test (eqb b 10) refl h
   where
@@ -56,7 +56,7 @@ never : (t : Bool) → (t && false) ≡ false
 never true = refl
 never false = refl
 
--- a byte before two others stays
+-- A byte with two others after it isn't part of the line end.
 stays : (b c d : ℕ) (ds : List ℕ) → length (back_of 10 (b ∷ c ∷ d ∷ ds)) ≤ 1 → without_end (b ∷ c ∷ d ∷ ds) ≡ b ∷ without_end (c ∷ d ∷ ds)
 stays b c d ds h =
     let first = back_other b c (d ∷ ds) h in
@@ -150,7 +150,7 @@ line_one line h s t =
 pub has_last : (c before : ℕ) (line : List ℕ) → stands c before line ≡ true → before < length line
 has_last c before line s = (stands_true c before line s).0
 
--- ---- a line without a number sign
+-- ---- A line without a number sign
 
 pub no_comment : (quoting : Quoting) (bs : List ℕ) → lacks 35 bs ≡ true → bs ≡ uncommented quoting bs
 unfolding begins_comment

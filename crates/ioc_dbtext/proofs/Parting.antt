@@ -1,4 +1,4 @@
--- Parts of a text are replaced by what they stand for.
+-- The parts of a text are replaced by their values.
 use Rattle.std.proofs.Common.{◌≡◌, ℕ, suc, ◌+◌, Bool, true, false, cond, eqb, List, [], ◌∷◌, ◌++◌, length, drop, Option, Some, None, refl, sym, ap, ◌∙◌, append_assoc, arith, inl, inr}
 use Rattle.std.proofs.lemmas.Bool.{cases_Bool, eqb-true, eqb-false}
 use Rattle.ioc_dbtext.specs.Macros.{Defined, is_macro_byte, all_macro_bytes, is_macro_name, value_of, front_of, back_of, or_default, lacks, used, closing_of, use_at, opens_macro, onto_text, replaced}
@@ -6,7 +6,7 @@ use Rattle.ioc_dbtext.specs.MacroLaws.{Brackets, Round, Curly, opening, closing,
 use Rattle.ioc_dbtext.proofs.Replacing.{onto_onto, use_piece}
 use Rattle.ioc_dbtext.proofs.Pieces.{lacks_first, lacks_front, lacks_back}
 
--- ---- bytes of a name
+-- ---- Bytes of a name
 
 name_byte : (b : ℕ) (bs : List ℕ) → all_macro_bytes (b ∷ bs) ≡ true → (is_macro_byte b ≡ true) × (all_macro_bytes bs ≡ true)
 name_byte b bs h = by_test (is_macro_byte b) refl h
@@ -28,7 +28,7 @@ name_bytes : (name : List ℕ) → is_macro_name name ≡ true → all_macro_byt
 name_bytes [] h = cc
 name_bytes (b ∷ bs) h = h
 
--- ---- up to a byte
+-- ---- Up to a byte
 
 lacks_append : (c : ℕ) (xs ys : List ℕ) → lacks c xs ≡ true → lacks c ys ≡ true → lacks c (xs ++ ys) ≡ true
 lacks_append c [] ys h k = k
@@ -49,7 +49,7 @@ drop_until : (c : ℕ) (xs rest : List ℕ) → drop (length xs + 1) (xs ++ (c �
 drop_until c [] rest = refl
 drop_until c (x ∷ xs) rest = let one : length (x ∷ xs) + 1 ≡ suc (length xs + 1) = omega arith in rw one (drop_until c xs rest)
 
--- ---- a macro
+-- ---- A macro
 
 closes : (b : Brackets) → closing_of (opening b) ≡ closing b
 unfolding closing_of
@@ -97,7 +97,7 @@ used_or ds name default value h plain is =
     let equals = name_lacks 61 name no_equals bytes in
     rw (front_until 61 name default equals, back_until 61 name default equals, h, lacks_append 36 name (61 ∷ default) (name_lacks 36 name no_dollar bytes) plain) is
 
--- ---- all parts
+-- ---- All parts
 
 plain_part : (ds : List Defined) (bytes rest : List ℕ) → lacks 36 bytes ≡ true → replaced ds (bytes ++ rest) ≡ onto_text bytes (replaced ds rest)
 plain_part ds [] rest h = onto_nil (replaced ds rest)

@@ -1,4 +1,4 @@
--- Pieces of a text that are cut off, as slices have them.
+-- Pieces split off from a text, as slices.
 use Rattle.std.proofs.Common.{◌≡◌, ℕ, zero, suc, ◌+◌, ◌-◌, ◌≤◌, ◌<◌, Bool, true, false, cond, ◌&&◌, eqb, List, [], ◌∷◌, length, take, drop, slice_index_or, Option, Some, None, Bor, refl, sym, ap, ◌∙◌, arith, inl, inr, length-drop}
 use Rattle.std.proofs.Math.Seq.{take-length}
 use Rattle.std.proofs.lemmas.Bool.{cases_Bool}
@@ -6,7 +6,7 @@ use Rattle.ioc_dbtext.specs.Macros.{Defined, front_of, back_of, lacks, opens_mac
 use Rattle.ioc_dbtext.specs.SeenMacros.{UseSo, PieceSo}
 use Rattle.ioc_dbtext.proofs.Replacing.{use_piece, no_piece, run_piece, plain_same}
 
--- all but the first
+-- All bytes but the first.
 abbrev pub tail : List ℕ → List ℕ
 tail bs = take (length bs - 1) (drop 1 bs)
 
@@ -44,7 +44,7 @@ tail_drop : (bs : List ℕ) → tail bs ≡ drop 1 bs
 tail_drop [] = refl
 tail_drop (b ∷ bs) = tail_is b bs
 
--- ---- a macro
+-- ---- A macro
 
 pub use_so : (ds : List Defined) (text : List ℕ) (r : Option (Bor (List ℕ) × Bor (List ℕ))) → 1 ≤ length text → (eqb (slice_index_or text 0 0) 36 && opens_macro (tail text)) ≡ true → UseSo (use_at ds (tail text)) (tail text) r → PieceSo ds text r
 use_so ds [] r some opens h = absurd (omega arith)
@@ -68,7 +68,7 @@ use_found ds (b ∷ bs) inner (e ∷ es) value some front back closes is =
     let behind : drop (length inner) bs ≡ e ∷ es = rw front' (front_drop c bs) ∙ sym back' in
     (length inner + 2, rw (← front', ← back', is) refl, tail_is e es ∙ ap (drop 1) (sym behind) ∙ sym (drop_one (length inner) bs) ∙ ap (λ (n : ℕ). drop n (b ∷ bs)) (sym size))
 
--- ---- bytes up to the next `$`
+-- ---- Bytes up to the next `$`
 
 pub run_fits : (text front : List ℕ) → 1 ≤ length text → front ≡ front_of 36 (tail text) → length front + 1 ≤ length text
 run_fits [] front some is = absurd (omega arith)
@@ -87,7 +87,7 @@ run_so ds (b ∷ bs) front back run some opens is behind cut =
     let shorter : length back ≡ length (back_of 36 bs) = ap length back' in
     (run_piece ds b bs (rw (tail_is b bs) at opens) ∙ ap (λ (l : List ℕ). onto_text l (replaced ds (back_of 36 bs))) (sym run') ∙ ap (λ (l : List ℕ). onto_text run (replaced ds l)) (sym back'), omega (arith, back_le 36 bs))
 
--- ---- a text without a `$`
+-- ---- A text without a `$`
 
 pub lacks_first : (c b : ℕ) (bs : List ℕ) → lacks c (b ∷ bs) ≡ true → (eqb b c ≡ false) × (lacks c bs ≡ true)
 lacks_first c b bs h = by_test (eqb b c) refl h

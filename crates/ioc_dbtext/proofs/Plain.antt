@@ -30,7 +30,7 @@ lacks_parts c (x ∷ xs) ys h =
 joined : (a b : Bool) → a ≡ true → b ≡ true → (a && b) ≡ true
 joined a b h k = rw (h, k) refl
 
--- the parts of a plain text are plain
+-- The parts of a plain text are plain.
 pub plain_parts : (rest line behind : List ℕ) → line ++ behind ≡ rest → is_plain rest ≡ true → (is_plain line ≡ true) × (is_plain behind ≡ true)
 plain_parts rest line behind parted h =
     let p = both (lacks 35 rest) (lacks 36 rest) h in
@@ -38,7 +38,7 @@ plain_parts rest line behind parted h =
     let dollar = lacks_parts 36 line behind (ap (lacks 36) parted ∙ p.1) in
     (joined (lacks 35 line) (lacks 36 line) number.0 dollar.0, joined (lacks 35 behind) (lacks 36 behind) number.1 dollar.1)
 
--- a plain line stands for itself
+-- The text of a plain line is the line without its end.
 pub plain_line : (ds : List Defined) (line : List ℕ) → is_plain line ≡ true → Some (without_end line) ≡ line_text ds line
 unfolding line_text
 plain_line ds line h =

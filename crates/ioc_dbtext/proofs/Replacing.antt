@@ -3,7 +3,7 @@ use Rattle.std.proofs.Common.{◌≡◌, ℕ, zero, suc, true, false, ◌&&◌, 
 use Rattle.std.proofs.lemmas.Bool.{cases_Bool}
 use Rattle.ioc_dbtext.specs.Macros.{Defined, Use, front_of, back_of, opens_macro, onto_text, use_at, replaced_behind, replaced}
 
--- bytes that belong to a macro that is replaced already
+-- The skipped bytes belong to a macro that is replaced already.
 pub skipped : (n : ℕ) (ds : List Defined) (bs : List ℕ) → replaced_behind n ds bs ≡ replaced ds (drop n bs)
 skipped zero ds [] = refl
 skipped (suc n) ds [] = refl
@@ -14,14 +14,14 @@ pub onto_onto : (xs ys : List ℕ) (o : Option (List ℕ)) → onto_text xs (ont
 onto_onto xs ys None = refl
 onto_onto xs ys (Some t) = ap (λ (l : List ℕ). Some l) (sym (append_assoc xs ys t))
 
--- a macro and the bytes behind its use
+-- A text that begins with a macro use is replaced by the macro's value, followed by the rest.
 pub use_piece : (ds : List Defined) (b : ℕ) (bs : List ℕ) (used : Use) → ((eqb b 36) && opens_macro bs) ≡ true → use_at ds bs ≡ Some used → replaced ds (b ∷ bs) ≡ onto_text used.value (replaced ds (drop used.size bs))
 use_piece ds b bs used opens is = rw (opens, is) (ap (onto_text used.value) (skipped used.size ds bs))
 
 pub no_piece : (ds : List Defined) (b : ℕ) (bs : List ℕ) → ((eqb b 36) && opens_macro bs) ≡ true → use_at ds bs ≡ None → replaced ds (b ∷ bs) ≡ None
 no_piece ds b bs opens is = rw (opens, is) refl
 
--- bytes up to the next `$`
+-- The bytes up to the next `$` are kept.
 plain_run : (ds : List Defined) (bs : List ℕ) → replaced ds bs ≡ onto_text (front_of 36 bs) (replaced ds (back_of 36 bs))
 plain_run ds [] = refl
 plain_run ds (b ∷ bs) =
@@ -43,7 +43,7 @@ plain_run ds (b ∷ bs) =
 pub run_piece : (ds : List Defined) (b : ℕ) (bs : List ℕ) → ((eqb b 36) && opens_macro bs) ≡ false → replaced ds (b ∷ bs) ≡ onto_text (b ∷ front_of 36 bs) (replaced ds (back_of 36 bs))
 run_piece ds b bs opens = rw opens (ap (onto_text (b ∷ [])) (plain_run ds bs) ∙ onto_onto (b ∷ []) (front_of 36 bs) (replaced ds (back_of 36 bs)))
 
--- a text without a `$`
+-- A text without a `$` is kept.
 pub plain_same : (ds : List Defined) (bs : List ℕ) → back_of 36 bs ≡ [] → front_of 36 bs ≡ bs → replaced ds bs ≡ Some bs
 plain_same ds bs back front =
     plain_run ds bs ∙ ap (λ (l : List ℕ). onto_text (front_of 36 bs) (replaced ds l)) back ∙ rw front (ap (λ (l : List ℕ). Some l) (append_nil' bs))

@@ -1,11 +1,11 @@
--- What a search for a byte says of the bytes before the one that it found.
+-- The bytes before the one that a search finds.
 use Rattle.std.proofs.Common.{◌≡◌, ℕ, zero, suc, ◌≤◌, ◌<◌, true, false, not, eqb, List, [], ◌∷◌, length, take, drop, slice_index, Option, Some, None, refl, sym, ap, inl, inr, arith}
 use Rattle.std.specs.Prelude.{is_some}
 use Rattle.std.proofs.lemmas.Bool.{cases_Bool}
 use Rattle.memchr.specs.Find.{IsFirstByte, is_byte}
 use Rattle.ioc_dbtext.specs.Macros.{front_of, back_of, lacks}
 
--- no byte before this place is this one
+-- Holds if this byte doesn't occur before the index.
 abbrev pub NoneTo : ℕ → List ℕ → ℕ → Type 0
 NoneTo c bs n = (k : ℕ) → 0 ≤ k → k < n → eqb (slice_index bs k) c ≡ true → ⊥
 

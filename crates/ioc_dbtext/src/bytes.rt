@@ -1,14 +1,14 @@
-//! Bytes of a database text, and the parts that they cut.
+//! Bytes of a database text, and the parts into which they split it.
 ghost use Rattle.std.specs.Prelude.{◌≡◌, false, true, None, IfSome};
 ghost use Rattle.ioc_dbtext.specs.Bytes.{is_word_byte, word_of, behind_word, closes, escapes, quoted_of, behind_quoted, behind_gap};
 
-/// Whether a byte may stand in a bareword.
+/// Returns whether the byte is valid in a bareword.
 #[inline]
 #[tactic(auto, unfolding(crate::specs::Bytes::is_word_byte))]
 pub fn is_word_byte(b: u8) -> bool
     ensures { result ≡ is_word_byte b }
 {
-    // Most are small letters: one comparison tells these from all others.
+    // Most bytes are small letters, which one comparison tells from all others.
     if b >= b'a' {
         return b <= b'z';
     }
@@ -19,7 +19,7 @@ pub fn is_word_byte(b: u8) -> bool
     }
 }
 
-/// The word at the front, and what stands behind it.
+/// Splits the word at the front from the bytes after it.
 #[inline]
 pub fn split_word(bytes: &[u8]) -> (&[u8], &[u8])
     ensures word { result.0.now ≡ word_of bytes.now }
@@ -37,7 +37,7 @@ pub fn split_word(bytes: &[u8]) -> (&[u8], &[u8])
     (&bytes[..count], rest)
 }
 
-/// Whether the next byte is escaped.
+/// Returns whether the next byte is escaped.
 #[tactic(auto, unfolding(crate::specs::Bytes::escapes))]
 pub fn escapes(escaped: bool, b: u8) -> bool
     ensures { result ≡ escapes escaped b }
@@ -45,7 +45,8 @@ pub fn escapes(escaped: bool, b: u8) -> bool
     !escaped && b == b'\\'
 }
 
-/// Whether the byte behind this one is escaped; none where this one closes the text. Two comparisons tell that of most bytes.
+/// Returns whether the byte after this one is escaped, or `None` if this one closes the text. Two
+/// comparisons suffice for most bytes.
 #[inline(always)]
 #[tactic(auto, unfolding(crate::specs::Bytes::closes, crate::specs::Bytes::escapes))]
 fn escaped_behind(escaped: bool, b: u8) -> Option<bool>
@@ -59,7 +60,8 @@ fn escaped_behind(escaped: bool, b: u8) -> Option<bool>
     }
 }
 
-/// The text up to the closing quote or the line's end, and what stands from there on.
+/// Splits the text before the closing quote or the end of the line from the bytes after it, the
+/// quote included.
 #[inline]
 pub fn split_quoted(bytes: &[u8]) -> (&[u8], &[u8])
     ensures text { result.0.now ≡ quoted_of false bytes.now }
@@ -79,7 +81,7 @@ pub fn split_quoted(bytes: &[u8]) -> (&[u8], &[u8])
     (&bytes[..count], rest)
 }
 
-/// The bytes behind spaces and tabs.
+/// Returns the bytes after spaces and tabs at the front.
 #[inline]
 pub fn skip_gap(bytes: &[u8]) -> &[u8]
     ensures { result.now ≡ behind_gap bytes.now }

@@ -1,4 +1,4 @@
-//! From a database text to the texts of its lines.
+//! Expansion of a database text to the texts of its lines.
 ghost use Rattle.std.specs.Prelude.{◌≡◌, ◌+◌, ◌++◌, ◌∷◌, [], length, sum, IfOk, OnOk};
 ghost use Rattle.ioc_dbtext.specs.Lexing.{begun_within, behind_begun, rest_of, token_at};
 ghost use Rattle.ioc_dbtext.specs.Lines.{lines_of};
@@ -12,10 +12,10 @@ use crate::macros::Macros;
 use crate::texts::{End, Texts};
 use std::alloc::{AllocError, Global};
 
-/// The longest database text, in bytes: 16 MiB.
+/// The maximum length of a database text in bytes: 16 MiB.
 pub const MAX_BYTES: usize = 1 << 24;
 
-/// What stands behind the first token.
+/// Returns the bytes after the first token.
 #[tactic(auto, unfolding(crate::specs::Lexing::token_at))]
 fn behind_token(bytes: &[u8]) -> &[u8]
     ensures { result.now ≡ rest_of (token_at 0 bytes.now) bytes.now }
@@ -26,7 +26,7 @@ fn behind_token(bytes: &[u8]) -> &[u8]
     }
 }
 
-/// What is left behind the tokens that begin before the last so many bytes.
+/// Returns what is left after the tokens that begin before the last `past` bytes.
 fn behind_begun(past: usize, text: &[u8]) -> &[u8]
     ensures { result.now ≡ behind_begun (length text.now) past text.now }
 {
@@ -41,7 +41,8 @@ fn behind_begun(past: usize, text: &[u8]) -> &[u8]
     rest
 }
 
-/// A line's text up to the end of the last token that begins among its first `room` bytes.
+/// Returns the line's text up to the end of the last token that begins among its first `room`
+/// bytes.
 #[tactic(auto, unfolding(crate::specs::Lexing::begun_within))]
 fn begun_within(room: usize, text: &[u8]) -> &[u8]
     ensures { result.now ≡ begun_within room text.now }
@@ -51,7 +52,7 @@ fn begun_within(room: usize, text: &[u8]) -> &[u8]
     &text[..text.len().saturating_sub(left)]
 }
 
-/// Adds the text of one more line.
+/// Appends the text of one more line.
 #[tactic(auto, using(crate::proofs::Parts::parts_push, crate::proofs::Parts::sum_push))]
 fn add_text(bytes: &mut Vec<u8>, lengths: &mut Vec<usize>, text: &[u8]) -> Result<(), AllocError>
     requires { sum lengths.old.items ≡ length bytes.old.items }
@@ -64,12 +65,13 @@ fn add_text(bytes: &mut Vec<u8>, lengths: &mut Vec<usize>, text: &[u8]) -> Resul
     Ok(())
 }
 
-/// The texts of a database text's lines, up to the first that has none or that passes the limit of
-/// [`MAX_BYTES`]. Of that line the text, with its macros replaced, ends behind the last token that begins before the limit.
+/// Returns the texts of a database text's lines, up to the first line whose macros can't be
+/// replaced or that exceeds the limit of [`MAX_BYTES`]. In the latter case the text of that line,
+/// with its macros replaced, ends after the last token that begins before the limit.
 ///
 /// # Errors
 ///
-/// [`AllocError`] where a growth was refused.
+/// [`AllocError`] if allocation fails.
 pub fn expand(alloc: Global, macros: &Macros, text: &[u8]) -> Result<Texts, AllocError>
     ensures { IfOk result (λ t. expansion_of t ≡ expansion macros.now most_bytes (lines_of text.now)) }
 {

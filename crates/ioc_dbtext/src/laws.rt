@@ -1,9 +1,10 @@
-//! Laws of lines. The functions do nothing: each contract is a law.
+//! Laws of lines. Each function's contract is a law; its body is empty.
 ghost use Rattle.ioc_dbtext.specs.MacroLaws.{PartsAreReplaced};
 
 use crate::macros::Macros;
 
-/// A text that is written as plain bytes and uses of macros is replaced by what these stand for, one behind the other.
+/// A text of plain bytes and macro uses is replaced by the bytes and the values of the macros, one
+/// after the other.
 #[tactic(auto, using(crate::proofs::Parting::parts_are_replaced))]
 pub fn parts_are_replaced(macros: &Macros)
     ensures { PartsAreReplaced macros.now }

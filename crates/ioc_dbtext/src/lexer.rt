@@ -1,4 +1,4 @@
-//! One token of a line.
+//! The tokens of a line, one at a time.
 ghost use Rattle.std.specs.Prelude.{◌≡◌, ◌≤◌, Some, None, false, length, option_map};
 ghost use Rattle.ioc_dbtext.specs.Bytes.{quoted_of, behind_quoted};
 ghost use Rattle.ioc_dbtext.specs.Lexing.{is_sign, behind_sign, bare, quoted_at, token_at, is_fault, behind_begun, begun_within};
@@ -35,8 +35,8 @@ fn quoted_at<'a>(line: u64, bytes: &'a [u8]) -> (Token<'a>, &'a [u8])
     }
 }
 
-/// The token at the front of some bytes of this line that begin with no blank, and what stands behind it: none
-/// where there are no bytes. Behind a fault stands nothing.
+/// Returns the token at the front of some bytes of this line, which begin with no blank, and the
+/// bytes after it. Returns `None` if there are no bytes. After a fault there are no bytes.
 #[inline(always)]
 #[tactic(auto, unfolding(crate::specs::Lexing::token_at))]
 pub fn token_at<'a>(line: u64, bytes: &'a [u8]) -> Option<(Token<'a>, &'a [u8])>
@@ -59,7 +59,7 @@ pub fn token_at<'a>(line: u64, bytes: &'a [u8]) -> Option<(Token<'a>, &'a [u8])>
     Some(bare(line, TokenKind::Fault(BadDbKind::Syntax), &[]))
 }
 
-/// What stands behind this sign, where it is the first of some bytes.
+/// Returns the bytes after this sign, or `None` if it isn't the first of the bytes.
 #[inline]
 pub fn behind_sign(b: u8, bytes: &[u8]) -> Option<&[u8]>
     ensures { option_map (λ behind. behind.now) result ≡ behind_sign b bytes.now }
@@ -73,7 +73,7 @@ pub fn behind_sign(b: u8, bytes: &[u8]) -> Option<&[u8]>
     Some(behind)
 }
 
-/// Whether no token can stand behind this one.
+/// Returns whether the token is a fault, after which there are no tokens.
 pub fn is_fault(kind: TokenKind) -> bool
     ensures { result ≡ is_fault kind }
 {

@@ -1,5 +1,5 @@
-//! The lines of a database text: what is left of each without its comment, its macros and its line end, all in
-//! one piece, and the token at the front of a line.
+//! The lines of a database text, each without its comment and its line end and with its macros
+//! replaced, stored in one piece, and the token at the front of a line.
 //!
 //! EPICS Application Developer's Guide, "Database Definition".
 #![tactic(auto)]

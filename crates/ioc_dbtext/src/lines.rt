@@ -1,4 +1,4 @@
-//! The lines of a text, and what is left of one.
+//! The lines of a text, and the text of each without its comment and line end.
 ghost use Rattle.std.specs.Prelude.{◌≡◌, ◌<◌, ◌≤◌, ◌∷◌, ◌++◌, length, option_map, true, IfOk};
 ghost use Rattle.ioc_dbtext.specs.Macros.{back_of};
 ghost use Rattle.ioc_dbtext.specs.Lines.{quoting_after, begins_comment, uncommented, stands, without_end, is_plain, line_text, lines_of};
@@ -9,13 +9,13 @@ use crate::search::lacks;
 use memchr::memchr;
 use std::alloc::AllocError;
 
-/// Where a byte of a line stands.
+/// Whether a byte of a line is quoted.
 #[derive(Clone, Copy, PartialEq, Eq, Debug)]
 pub enum Quoting {
     Outside,
     /// Between double quotes.
     Inside,
-    /// Between double quotes, behind a backslash.
+    /// Between double quotes, after a backslash.
     Escaped,
 }
 
@@ -53,7 +53,7 @@ fn begins_comment(quoting: Quoting, b: u8) -> bool
     }
 }
 
-/// The line without its comment.
+/// Returns the line without its comment.
 fn uncommented(line: &[u8]) -> &[u8]
     ensures { result.now ≡ uncommented Quoting.Outside line.now }
 {
@@ -74,14 +74,14 @@ fn uncommented(line: &[u8]) -> &[u8]
     &line[..count]
 }
 
-/// Whether no byte begins a comment or a macro.
+/// Returns whether no byte begins a comment or a macro.
 pub fn is_plain(bytes: &[u8]) -> bool
     ensures { result ≡ is_plain bytes.now }
 {
     lacks(b'#', bytes) && lacks(b'$', bytes)
 }
 
-/// Whether this byte stands so many bytes before the last.
+/// Returns whether this byte is at `before` bytes before the last one.
 fn stands(c: u8, before: usize, bytes: &[u8]) -> bool
     requires { before < 2 }
     ensures { result ≡ stands c before bytes.now }
@@ -89,7 +89,7 @@ fn stands(c: u8, before: usize, bytes: &[u8]) -> bool
     bytes.len() > before && bytes[bytes.len() - before - 1] == c
 }
 
-/// One line without its line feed, and without a carriage return before it.
+/// Returns the line without its line feed, and without a carriage return before it.
 fn without_end(line: &[u8]) -> &[u8]
     requires { length (back_of 10 line.now) ≤ 1 }
     ensures { result.now ≡ without_end line.now }
@@ -103,7 +103,7 @@ fn without_end(line: &[u8]) -> &[u8]
     &line[..line.len() - 1]
 }
 
-/// The first line with its line feed, and the text behind it.
+/// Splits the first line, with its line feed, from the text after it.
 pub fn split_line(text: &[u8]) -> (&[u8], &[u8])
     ensures whole { result.0.now ++ result.1.now ≡ text.now }
     ensures first { 0 < length text.now → lines_of text.now ≡ result.0.now ∷ lines_of result.1.now }
@@ -115,12 +115,13 @@ pub fn split_line(text: &[u8]) -> (&[u8], &[u8])
     }
 }
 
-/// What stands in one line, without comment and line end and with its macros replaced; none where one of them can't be.
-/// Where a macro is used, it stands in `replacement`. Where it is known to be plain, it isn't searched again.
+/// Returns the text of a line without its comment and line end and with its macros replaced, or
+/// `None` if one of them can't be replaced. If a macro is used, the text is in `replacement`. If
+/// the line is known to be plain, it isn't searched again.
 ///
 /// # Errors
 ///
-/// [`AllocError`] where a growth was refused.
+/// [`AllocError`] if allocation fails.
 #[tactic(auto, unfolding(crate::specs::Lines::line_text))]
 pub fn line_text<'a>(
     macros: &Macros,

@@ -7,14 +7,15 @@ use ioc_values::IocError;
 use std::alloc::{AllocError, Global};
 use std::marker::Model;
 
-/// A macro's name and its value.
+/// The name of a macro and its value.
 #[derive(Drop)]
 struct Definition {
     name: Vec<u8>,
     value: Vec<u8>,
 }
 
-/// The macros that a database text may use. Contracts see the list of definitions, the oldest first.
+/// The macros that a database text can use. Contracts see the list of definitions, the oldest
+/// first.
 #[derive(Drop)]
 pub struct Macros {
     definitions: Vec<Definition>,
@@ -37,7 +38,7 @@ fn is_macro_byte(b: u8) -> bool
     matches!(b, b'0'..=b'9' | b'A'..=b'Z' | b'a'..=b'z' | b'_')
 }
 
-/// Whether a macro may have this name: letters, digits and `_`, at least one.
+/// Returns whether the text is a valid macro name: letters, digits and `_`, at least one.
 pub fn is_macro_name(name: &[u8]) -> bool
     ensures { result ≡ is_macro_name name.now }
 {
@@ -59,7 +60,7 @@ fn copy(alloc: Global, bytes: &[u8]) -> Result<Vec<u8>, AllocError>
     Ok(copied)
 }
 
-/// What a name stands for by one more definition.
+/// Returns the value of the definition if it has this name, else the one that was found before.
 fn newer<'a>(definition: &'a Definition, name: &[u8], found: Option<&'a [u8]>) -> Option<&'a [u8]>
     ensures { option_map (λ v. v.now) result ≡ newer (defined definition.entry.now) name.now (option_map (λ v. v.now) found.entry) }
 {
@@ -71,7 +72,7 @@ fn newer<'a>(definition: &'a Definition, name: &[u8], found: Option<&'a [u8]>) -
 }
 
 impl Macros {
-    /// No macros.
+    /// Creates a list without macros.
     pub fn new(alloc: Global) -> Self
         ensures { result ≡ [] }
     {
@@ -80,12 +81,12 @@ impl Macros {
         }
     }
 
-    /// A name stands for this value from now on, whatever it stood for before.
+    /// Defines a macro. A later definition of the same name takes precedence.
     ///
     /// # Errors
     ///
-    /// [`IocError::BadValue`] where a macro can't have this name, which has letters, digits and `_` alone, at least one;
-    /// and [`IocError::NoMemory`] where a growth was refused. Nothing has changed then.
+    /// [`IocError::BadValue`] if the name isn't valid: it must consist of letters, digits and `_`,
+    /// at least one. [`IocError::NoMemory`] if allocation fails. Nothing has changed then.
     pub fn define(&mut self, alloc: Global, name: &[u8], value: &[u8]) -> Result<(), IocError>
         ensures defined { OnOk result (self.new ≡ self.old ++ (record { name = name.now; value = value.now }) ∷ []) }
         ensures unchanged { OnErr result (self.new ≡ self.old) }
@@ -101,7 +102,7 @@ impl Macros {
         Ok(())
     }
 
-    /// What a name stands for.
+    /// Returns the value of the macro with this name.
     pub fn value_of(&self, name: &[u8]) -> Option<&[u8]>
         ensures { option_map (λ v. v.now) result ≡ value_of self.now name.now }
     {

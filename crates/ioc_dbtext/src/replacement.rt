@@ -1,4 +1,4 @@
-//! Texts in which macros are replaced.
+//! Replacement of macros in texts.
 ghost use Rattle.std.specs.Prelude.{◌≡◌, ◌<◌, length, Some, None, option_map, ◌==◌, ◌&&◌, IfOk, if◌then◌else◌};
 ghost use Rattle.ioc_dbtext.specs.Macros.{used, closing_of, use_at, opens_macro, onto_text, replaced};
 ghost use Rattle.ioc_dbtext.specs.SeenMacros.{UseSo, PieceSo};
@@ -7,7 +7,7 @@ use crate::macros::{Macros, is_macro_name};
 use crate::search::{lacks, split_at_byte};
 use std::alloc::AllocError;
 
-/// What `N` or `N=D` stands for between its brackets.
+/// Returns the value of `N` or `N=D` between its brackets.
 #[tactic(auto, unfolding(crate::specs::Macros::used))]
 fn used<'a>(macros: &'a Macros, inner: &'a [u8]) -> Option<&'a [u8]>
     ensures { option_map (λ v. v.now) result ≡ used macros.now inner.now }
@@ -25,7 +25,7 @@ fn used<'a>(macros: &'a Macros, inner: &'a [u8]) -> Option<&'a [u8]>
     }
 }
 
-/// The sign that closes a bracket.
+/// Returns the closing bracket of an opening one.
 #[tactic(auto, unfolding(crate::specs::Macros::closing_of))]
 fn closing_of(bracket: u8) -> u8
     ensures { result ≡ closing_of bracket }
@@ -33,7 +33,8 @@ fn closing_of(bracket: u8) -> u8
     if bracket == b'(' { b')' } else { b'}' }
 }
 
-/// The value of the macro that is used behind a `$`, and what stands behind its closing sign.
+/// Returns the value of the macro that is used after a `$`, and the bytes after its closing
+/// bracket.
 #[tactic(auto, unfolding(crate::specs::Macros::use_at))]
 fn use_at<'a>(macros: &'a Macros, bytes: &'a [u8]) -> Option<(&'a [u8], &'a [u8])>
     ensures { UseSo (use_at macros.now bytes.now) bytes.now result }
@@ -58,14 +59,15 @@ fn opens_macro(bytes: &[u8]) -> bool
     }
 }
 
-/// Whether a macro is used where this byte stands before others.
+/// Returns whether a macro use begins with this byte, followed by the others.
 fn begins_use(first: u8, after: &[u8]) -> bool
     ensures { result ≡ ((first == 36) && opens_macro after.now) }
 {
     first == b'$' && opens_macro(after)
 }
 
-/// The next piece of a text, and what stands behind it: a macro's value, or the bytes up to the next `$`.
+/// Returns the next piece of a text and the bytes after it. A piece is a macro's value, or the
+/// bytes up to the next `$`.
 fn piece_at<'a>(macros: &'a Macros, text: &'a [u8]) -> Option<(&'a [u8], &'a [u8])>
     requires { 0 < length text.now }
     ensures { PieceSo macros.now text.now result }
@@ -80,11 +82,11 @@ fn piece_at<'a>(macros: &'a Macros, text: &'a [u8]) -> Option<(&'a [u8], &'a [u8
     Some((text.split_at(run.len() + 1).0, behind))
 }
 
-/// Adds a text with its macros replaced: whether they can be.
+/// Appends a text with its macros replaced. Returns whether they can be replaced.
 ///
 /// # Errors
 ///
-/// [`AllocError`] where a growth was refused.
+/// [`AllocError`] if allocation fails.
 pub fn add_replaced(macros: &Macros, text: &[u8], bytes: &mut Vec<u8>) -> Result<bool, AllocError>
     ensures { IfOk result (λ can. onto_text bytes.old.items (replaced macros.now text.now) ≡ (if can then Some bytes.new.items else None)) }
 {

@@ -4,7 +4,7 @@ ghost use Rattle.ioc_dbtext.specs.Macros.{front_of, back_of, lacks};
 
 use memchr::memchr;
 
-/// The bytes before the first of this one, and those from it on.
+/// Splits the bytes before the first occurrence of this one from those from it on.
 pub fn split_at_byte(c: u8, bytes: &[u8]) -> (&[u8], &[u8])
     ensures front { result.0.now ≡ front_of c bytes.now }
     ensures back { result.1.now ≡ back_of c bytes.now }
@@ -15,7 +15,7 @@ pub fn split_at_byte(c: u8, bytes: &[u8]) -> (&[u8], &[u8])
     }
 }
 
-/// Whether no byte is this one.
+/// Returns whether this byte doesn't occur.
 pub fn lacks(c: u8, bytes: &[u8]) -> bool
     ensures { result ≡ lacks c bytes.now }
 {

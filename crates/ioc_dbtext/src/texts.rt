@@ -1,21 +1,21 @@
-//! The texts of a database text's lines, held in one piece.
+//! The texts of a database text's lines, stored in one piece.
 ghost use Rattle.std.specs.Prelude.{◌≤◌, ◌<◌, ◌^◌, length, sum};
 
-/// What ended the texts.
+/// The reason why the texts end.
 #[derive(Clone, Copy, PartialEq, Eq, Debug)]
 pub enum End {
-    /// The end of the database text.
+    /// The database text ends.
     Whole,
     /// The macros of the next line can't be replaced.
     BadMacro,
-    /// The database text passes 16 MiB on the last of these lines.
+    /// The database text exceeds 16 MiB on the last of these lines.
     TooLong,
 }
 
 /// The texts of lines, without comments and line ends and with their macros replaced.
 #[derive(Drop)]
 pub struct Texts {
-    /// One text behind the other.
+    /// The texts one after another.
     pub bytes: Vec<u8>,
     /// The length of each text, in bytes.
     pub lengths: Vec<usize>,

@@ -1,4 +1,4 @@
--- What stands at a place in some lines.
+-- The tokens at a place in some lines.
 use Rattle.std.proofs.Common.{◌≡◌, ℕ, ◌+◌, Bool, true, false, cond, List, [], ◌∷◌, length, Option, Some, None, refl, sym, ap, ◌∙◌, arith}
 use Rattle.ioc_dbtext.specs.declared.texts.End.{End}
 use Rattle.ioc_dbtext.specs.declared.texts.End.TheVariants.{Whole, BadMacro, TooLong}
@@ -8,12 +8,12 @@ use Rattle.ioc_dbtokens.specs.Tokens.{end_of, tokens_of, tokens_at, TakesToken, 
 use Rattle.ioc_dbtext.specs.Texts.{parts_of}
 use Rattle.ioc_dbtokens.proofs.Turns.{tokens_nil, one_left}
 
--- at the end nothing is to come
+-- At the end there are no more tokens.
 pub all_done : (line : ℕ) (lengths bytes : List ℕ) → length lengths ≡ 0 → tokens_at line [] (parts_of lengths bytes) Whole ≡ []
 all_done line [] bytes h = tokens_nil line []
 all_done line (n ∷ ns) bytes h = absurd (omega arith)
 
--- behind the last line stands what ends them
+-- After the last line comes the token that ends the lines.
 pub ends : (line : ℕ) (rest lengths bytes : List ℕ) (end : End) → token_at line rest ≡ None → (length rest ≡ 0 → length lengths ≡ 0) → tokens_at line rest (parts_of lengths bytes) end ≡ end_of end (line + 1)
 unfolding token_at
 ends line [] [] bytes end e h = tokens_nil line (end_of end (line + 1))

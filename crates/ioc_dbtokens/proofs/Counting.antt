@@ -1,4 +1,4 @@
--- How many tokens some lines have: each takes a byte at least, and one may end them.
+-- The number of tokens in some lines. Each has at least one byte, and there may be one at the end.
 use Rattle.std.proofs.Common.{◌≡◌, ℕ, zero, suc, ◌+◌, ◌≤◌, ◌<◌, Bool, true, false, cond, List, [], ◌∷◌, length, sum, take, drop, Option, Some, None, refl, arith}
 use Rattle.ioc_dbtext.specs.declared.texts.End.{End}
 use Rattle.ioc_dbtext.specs.declared.texts.End.TheVariants.{Whole, BadMacro, TooLong}
@@ -37,7 +37,7 @@ take_count zero bs = omega arith
 take_count (suc n) [] = omega arith
 take_count (suc n) (b ∷ bs) = omega (arith, take_count n bs)
 
--- no more than there are bytes, and one that ends them
+-- There are at most as many tokens as bytes, and one at the end.
 pub tokens_count : (end : End) (line : ℕ) (lengths bytes : List ℕ) → length (tokens_of end line (parts_of lengths bytes)) ≤ sum lengths + 1
 tokens_count end line [] bytes = end_count end line
 tokens_count end line (n ∷ ns) bytes =

@@ -5,7 +5,7 @@ use Rattle.ioc_dbtext.specs.Macros.{lacks}
 use Rattle.ioc_dbtext.proofs.Pieces.{lacks_first}
 use Rattle.ioc_dbtokens.specs.Escapes.{piece_of, unescaped_from}
 
--- they stand for themselves
+-- A text without a backslash has no escapes.
 pub plain_said : (in_value : Bool) (bs : List ℕ) → lacks 92 bs ≡ true → bs ≡ unescaped_from in_value false bs
 unfolding piece_of escapes
 plain_said in_value [] h = refl

@@ -1,4 +1,4 @@
--- The first token of a text, and those behind it.
+-- The first token of a text, and those after it.
 use Rattle.std.proofs.Common.{◌≡◌, ℕ, zero, suc, ◌+◌, ◌≤◌, ◌<◌, Bool, true, false, cond, ◌||◌, eqb, List, [], ◌∷◌, length, Option, Some, None, refl, sym, ap, ◌∙◌, inl, inr, arith}
 use Rattle.std.proofs.lemmas.Bool.{cases_Bool}
 use Rattle.ioc_dbtext.specs.declared.texts.End.{End}
@@ -88,7 +88,7 @@ step line (b ∷ bs) more =
     chain_same (token_at line (behind_gap (b ∷ bs))) (λ rest. tokens_in (length bs) line rest more) (λ rest. tokens_in (length rest) line rest more) more (λ cut e.
     let s = first_shorter line (b ∷ bs) cut e in turns_same (length bs) (length cut.rest) line cut.rest more (omega arith) (omega arith))
 
--- a line with nothing but blanks
+-- A line with only blanks has no tokens.
 pub none_left : (line : ℕ) (bs : List ℕ) (more : List Lexeme) → token_at line (behind_gap bs) ≡ None → tokens_before line bs more ≡ more
 none_left line bs more e = step line bs more ∙ ap (λ (o : Option Cut). chain o (λ rest. tokens_before line rest more) more) e
 
@@ -103,7 +103,7 @@ gap_again (b ∷ bs) = elim (cases_Bool ((eqb b 32) || (eqb b 9))) [ inl is ↦ 
 pub solid : (bs left : List ℕ) → left ≡ behind_gap bs → behind_gap left ≡ left
 solid bs left e = ap behind_gap e ∙ gap_again bs ∙ sym e
 
--- blanks at the front don't matter
+-- Blanks at the front don't matter.
 pub without_gap : (line : ℕ) (bs left : List ℕ) (more : List Lexeme) → left ≡ behind_gap bs → tokens_before line left more ≡ tokens_before line bs more
 without_gap line bs left more e =
     step line left more ∙ ap (λ (x : List ℕ). chain (token_at line x) (λ rest. tokens_before line rest more) more) (solid bs left e ∙ e) ∙ sym (step line bs more)
@@ -112,7 +112,7 @@ none : (bs : List ℕ) → length bs ≡ 0 → bs ≡ []
 none [] h = refl
 none (b ∷ bs) h = absurd (omega arith)
 
--- from an empty rest to the line behind it
+-- An empty rest of a line is followed by the tokens of the next line.
 pub next_line : (line : ℕ) (bs text left : List ℕ) (texts : List (List ℕ)) (end : End) → length bs ≡ 0 → left ≡ behind_gap text
     → tokens_at (line + 1) left texts end ≡ tokens_at line bs (text ∷ texts) end
 next_line line bs text left texts end h e =

@@ -1,9 +1,9 @@
--- What the bytes between double quotes stand for.
--- EPICS Application Developer's Guide, "Database Definition", "Quoted strings" and "Escape sequences".
+-- Escapes in the bytes between double quotes. EPICS Application Developer's Guide, "Database
+-- Definition", "Quoted strings" and "Escape sequences".
 use Rattle.std.specs.Prelude.{ℕ, Bool, List, [], ◌∷◌, ◌++◌, Option, Some, None, ◌==◌, ◌||◌, if◌then◌else◌}
 use Rattle.ioc_dbtext.specs.Bytes.{escapes}
 
--- what a backslash and this byte stand for in a field's value alone: ' a b t n v f r
+-- The byte that a backslash and one of ' a b t n v f r escape in field values only.
 unfoldable pub control_of : ℕ → Option ℕ
 control_of b =
     if b == 39 then Some 39
@@ -15,20 +15,21 @@ control_of b =
     else (if b == 102 then Some 12
     else (if b == 114 then Some 13 else None)))))))
 
--- what a backslash and this byte stand for: in a name for a double quote or a backslash alone
+-- The byte that a backslash and this byte escape. In a name only a double quote and a backslash can
+-- be escaped.
 unfoldable pub escaped_byte : Bool → ℕ → Option ℕ
 escaped_byte in_value b = if (b == 34) || (b == 92) then Some b else (if in_value then control_of b else None)
 
--- a backslash that is no escape stands for itself
+-- The bytes of a pair with a backslash. A pair that isn't an escape is kept.
 abbrev pub escaped_pair : Option ℕ → ℕ → List ℕ
 escaped_pair (Some c) b = c ∷ []
 escaped_pair None b = 92 ∷ b ∷ []
 
--- what one more byte adds
+-- What one more byte adds to the text.
 unfoldable pub piece_of : Bool → Bool → ℕ → List ℕ
 piece_of in_value escaped b = if escaped then escaped_pair (escaped_byte in_value b) b else (if b == 92 then [] else b ∷ [])
 
--- what the bytes stand for, where a backslash stands before them or not
+-- The bytes with escapes replaced. The first one may be escaped already.
 abbrev pub unescaped_from : Bool → Bool → List ℕ → List ℕ
 unescaped_from in_value escaped [] = if escaped then 92 ∷ [] else []
 unescaped_from in_value escaped (b ∷ bs) = piece_of in_value escaped b ++ unescaped_from in_value (escapes escaped b) bs

@@ -1,14 +1,14 @@
--- What a clause sees of lines.
+-- Lines as contracts see them.
 use Rattle.std.specs.Borrow.{Bor}
 use Rattle.std.specs.Prelude.{◌≡◌, ℕ, ◌+◌, List, ◌∷◌, length, Option, Some, None}
 use Rattle.ioc_dbtokens.specs.declared.lines.Lines.{Lines}
 use Rattle.ioc_dbtext.specs.Texts.{parts_of}
 
--- the texts of some lines
+-- The texts of some lines.
 abbrev pub texts : Lines → List (List ℕ)
 texts lines = parts_of lines.lengths.now lines.bytes.now
 
--- the first of some lines was taken, or there is none
+-- Holds if the result is the first of the lines and those after it, or none if there are no lines.
 abbrev pub TakesLine : Lines → Option (Bor (List ℕ) × Lines) → Type 0
 TakesLine lines None = length lines.lengths.now ≡ 0
 TakesLine lines (Some p) = (texts lines ≡ p.0.now ∷ texts p.1) × (length lines.lengths.now ≡ length p.1.lengths.now + 1)

@@ -5,6 +5,6 @@ use Rattle.ioc_dbtext.specs.Lexing.{Lexeme}
 use Rattle.ioc_dbtokens.specs.Tokens.{tokens_at}
 use Rattle.ioc_dbtokens.specs.SeenLines.{texts}
 
--- the tokens of what is left of the line, then those of the lines behind it
+-- The tokens of the rest of the line, followed by those of the lines after it.
 abbrev pub tokens_of_place : Place → List Lexeme
 tokens_of_place p = tokens_at p.line p.rest.now (texts p.behind) p.end

@@ -1,4 +1,4 @@
-//! What the bytes between double quotes stand for.
+//! Escapes in the bytes between double quotes.
 ghost use Rattle.std.specs.Prelude.{◌≡◌, ◌++◌, false, OnOk, IfOk};
 ghost use Rattle.ioc_dbtext.specs.Bytes.{escapes};
 ghost use Rattle.ioc_dbtokens.specs.SeenSaid.{said_bytes};
@@ -7,7 +7,7 @@ ghost use Rattle.ioc_dbtokens.specs.Escapes.{control_of, escaped_byte, piece_of,
 use ioc_dbtext::{escapes, lacks};
 use std::alloc::{AllocError, Global};
 
-/// What a backslash and this byte stand for in a field's value alone.
+/// Returns the byte that a backslash and this byte escape in field values only.
 #[tactic(auto, unfolding(crate::specs::Escapes::control_of))]
 fn control_of(b: u8) -> Option<u8>
     ensures { result ≡ control_of b }
@@ -25,7 +25,7 @@ fn control_of(b: u8) -> Option<u8>
     }
 }
 
-/// What a backslash and this byte stand for.
+/// Returns the byte that a backslash and this byte escape.
 #[tactic(auto, unfolding(crate::specs::Escapes::escaped_byte))]
 fn escaped_byte(in_value: bool, b: u8) -> Option<u8>
     ensures { result ≡ escaped_byte in_value b }
@@ -36,7 +36,7 @@ fn escaped_byte(in_value: bool, b: u8) -> Option<u8>
     }
 }
 
-/// Adds what one more byte stands for, and says whether a backslash stands before the next.
+/// Appends what one more byte adds to the text. Returns whether the next byte is escaped.
 #[tactic(auto, unfolding(crate::specs::Escapes::piece_of))]
 fn add_piece(text: &mut Vec<u8>, in_value: bool, escaped: bool, b: u8) -> Result<bool, AllocError>
     ensures text { OnOk result (text.new.items ≡ text.old.items ++ piece_of in_value escaped b) }
@@ -53,17 +53,17 @@ fn add_piece(text: &mut Vec<u8>, in_value: bool, escaped: bool, b: u8) -> Result
     Ok(escapes(escaped, b))
 }
 
-/// What a token says.
+/// The text of a token.
 #[derive(Drop)]
 pub enum Said<'a> {
-    /// Just the bytes that are written.
+    /// The bytes as they are written.
     Written(&'a [u8]),
-    /// The bytes that escapes stand for, among others.
+    /// The bytes with escapes replaced.
     Unescaped(Vec<u8>),
 }
 
 impl<'a> Said<'a> {
-    /// Its bytes.
+    /// Returns the bytes.
     pub fn as_slice(&self) -> &[u8]
         ensures { result.now ≡ said_bytes self.now }
     {
@@ -74,11 +74,12 @@ impl<'a> Said<'a> {
     }
 }
 
-/// What the bytes of a token stand for, in a field's value or in a name. Memory is taken only where there is a backslash.
+/// Returns the text of a token, in a field's value or in a name. It only allocates if there is a
+/// backslash.
 ///
 /// # Errors
 ///
-/// [`AllocError`] where a growth was refused.
+/// [`AllocError`] if allocation fails.
 pub fn read_escapes<'a>(
     alloc: Global,
     in_value: bool,
@@ -92,11 +93,12 @@ pub fn read_escapes<'a>(
     Ok(Said::Unescaped(unescaped(alloc, in_value, bytes)?))
 }
 
-/// What the bytes between double quotes stand for: in a field's value, or in a name, which knows fewer escapes.
+/// Returns the bytes between double quotes with escapes replaced, in a field's value or in a name.
+/// A name has fewer escapes.
 ///
 /// # Errors
 ///
-/// [`AllocError`] where a growth was refused.
+/// [`AllocError`] if allocation fails.
 pub fn unescaped(alloc: Global, in_value: bool, bytes: &[u8]) -> Result<Vec<u8>, AllocError>
     ensures { IfOk result (λ v. v.items ≡ unescaped_from in_value false bytes.now) }
 {

@@ -1,5 +1,5 @@
-//! The tokens of a database text, each with the line on which it begins, and what they say. The first fault that
-//! they have is itself the last token.
+//! The tokens of a database text, each with the line on which it begins, and their texts. The first
+//! fault is itself the last token.
 //!
 //! EPICS Application Developer's Guide, "Database Definition".
 #![tactic(auto)]

@@ -1,7 +1,7 @@
-//! Texts of lines that are still to come.
+//! The texts of the remaining lines.
 ghost use Rattle.std.specs.Prelude.{◌≤◌, length, sum};
 
-/// Some of a database text's lines: one text behind the other, and the length of each in bytes.
+/// Some of a database text's lines: the texts one after another, and the length of each in bytes.
 #[derive(Clone, Copy)]
 pub struct Lines<'a> {
     pub bytes: &'a [u8],

@@ -1,16 +1,16 @@
-//! Places in lines.
+//! Places in the lines of a text.
 use crate::lines::Lines;
 use ioc_dbtext::End;
 
 /// A place in some lines.
 #[derive(Clone, Copy)]
 pub struct Place<'a> {
-    /// The number of the line, from 1 on.
+    /// The number of the line, counted from 1.
     pub line: u64,
-    /// What is left of it.
+    /// The rest of the line.
     pub rest: &'a [u8],
-    /// The lines behind it.
+    /// The lines after it.
     pub behind: Lines<'a>,
-    /// What ends them.
+    /// The reason why the lines end.
     pub end: End,
 }

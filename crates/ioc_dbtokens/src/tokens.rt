@@ -1,4 +1,4 @@
-//! The tokens of lines, one after the other.
+//! The tokens of lines, one after another.
 ghost use Rattle.std.specs.Prelude.{◌≡◌, ◌+◌, ◌<◌, ◌≤◌, ◌^◌, [], length, option_map};
 ghost use Rattle.ioc_dbtext.specs.Bytes.{behind_gap};
 ghost use Rattle.ioc_dbtokens.specs.Tokens.{tokens_of, TakesToken, front_of, end_of};
@@ -14,7 +14,7 @@ use ioc_dbtext::{End, Texts, Token, TokenKind, behind_sign, is_fault, skip_gap, 
 use ioc_values::BadDbKind;
 use std::marker::Model;
 
-/// The tokens that are still to come: each is made once, when it is taken.
+/// The remaining tokens. Each is made once, when it is taken.
 #[derive(Drop)]
 pub struct Tokens<'a> {
     place: Place<'a>,
@@ -33,7 +33,7 @@ impl<'a> Model for Tokens<'a> {
     ghost invariant = { λ t. t.place.line + length t.place.behind.lengths.now < 2 ^ 63 };
 }
 
-/// The first of some lines, and those behind it.
+/// Returns the first of the lines and those after it.
 fn next_line<'a>(lines: Lines<'a>) -> Option<(&'a [u8], Lines<'a>)>
     ensures { TakesLine lines.entry result }
 {
@@ -44,7 +44,7 @@ fn next_line<'a>(lines: Lines<'a>) -> Option<(&'a [u8], Lines<'a>)>
     Some((line, Lines { bytes, lengths }))
 }
 
-/// Goes on to the first place at which no blank stands, and no line end that another line follows.
+/// Advances to the first byte that isn't a blank, on this line or on one after it.
 fn find<'a>(place: &mut Place<'a>)
     requires { place.old.line + length place.old.behind.lengths.now < 2 ^ 63 }
     ensures same { tokens_of_place place.new ≡ tokens_of_place place.old }
@@ -64,7 +64,7 @@ fn find<'a>(place: &mut Place<'a>)
     }
 }
 
-/// The token that ends lines of which the last has this number.
+/// Returns the token at the end of the lines, the last of which has this number.
 fn end_token<'a>(end: End, line: u64) -> Option<Token<'a>>
     requires { line < 2 ^ 63 }
     ensures { option_map seen result ≡ front_of (end_of end (line + 1)) }
@@ -79,7 +79,7 @@ fn end_token<'a>(end: End, line: u64) -> Option<Token<'a>>
     Some(Token { line, kind, text })
 }
 
-/// The next token from a place on, behind which the place stands then.
+/// Returns the next token and advances past it.
 fn advance<'a>(place: &mut Place<'a>) -> Option<Token<'a>>
     requires { place.old.line + length place.old.behind.lengths.now < 2 ^ 63 }
     ensures takes { TakesToken (tokens_of_place place.old) (option_map seen result) (tokens_of_place place.new) }
@@ -99,7 +99,7 @@ fn advance<'a>(place: &mut Place<'a>) -> Option<Token<'a>>
     Some(token)
 }
 
-/// Leaves no token to come.
+/// Discards the remaining tokens.
 fn stop<'a>(place: &mut Place<'a>)
     ensures tokens { tokens_of_place place.new ≡ [] }
     ensures line { place.new.line ≡ place.old.line }
@@ -113,7 +113,7 @@ fn stop<'a>(place: &mut Place<'a>)
     place.end = End::Whole;
 }
 
-/// Takes this sign from a place on, behind which the place stands then: whether it stands there.
+/// Advances past this sign if it is the next token. Returns whether it is.
 fn take_sign_at<'a>(b: u8, place: &mut Place<'a>) -> bool
     requires { place.old.line + length place.old.behind.lengths.now < 2 ^ 63 }
     ensures takes { (result, tokens_of_place place.new) ≡ takes_sign b (tokens_of_place place.old) }
@@ -128,7 +128,8 @@ fn take_sign_at<'a>(b: u8, place: &mut Place<'a>) -> bool
 }
 
 impl<'a> Tokens<'a> {
-    /// The tokens of some texts, of which the first is line 1: no more than there are bytes, and one that ends them.
+    /// Creates the tokens of the texts, the first of which is line 1. There are at most as many as
+    /// there are bytes, and one at the end.
     pub fn new(texts: &'a Texts) -> Self
         ensures tokens { result ≡ tokens_of texts.now.end 1 (expansion_of texts.now).texts }
         ensures few { length result ≤ length texts.now.bytes.items + 1 }
@@ -146,14 +147,14 @@ impl<'a> Tokens<'a> {
         Tokens { place }
     }
 
-    /// The next token, if there is one. Behind a fault there is none.
+    /// Returns the next token, if there is one. After a fault there is none.
     pub fn next(&mut self) -> Option<Token<'a>>
         ensures { TakesToken self.old (option_map seen result) self.new }
     {
         advance(&mut self.place)
     }
 
-    /// Takes the next token where it is this sign: whether it is. Any other stays.
+    /// Takes the next token if it is this sign, and returns whether it is. Any other token is kept.
     pub fn take_sign(&mut self, b: u8) -> bool
         ensures { (result, self.new) ≡ takes_sign b self.old }
     {

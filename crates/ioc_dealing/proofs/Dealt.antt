@@ -1,4 +1,4 @@
--- Sets once one record more is dealt.
+-- The sets after one more record is assigned.
 use Rattle.std.proofs.Common.{◌≡◌, ◌≢◌, ℕ, zero, suc, ◌+◌, ◌<◌, ◌≤◌, List, [], ◌∷◌, ◌++◌, Option, Some, None, Bool, true, false, cond, length, take, set, get_or, refl, sym, ap, ◌∙◌, subst, ⊎_elim, arith, drop, drop-cons, add-one}
 use Rattle.std.specs.Prelude.{◌==◌, IsSome, is_some, slice_get, slice_index}
 use Rattle.std.specs.Option.{option_map, option_and_then}
@@ -35,7 +35,7 @@ module _ {R D : Type 0} (parts : List ℕ) where
   abbrev device_in : Option (Loaded R D) → Option D
   device_in o = option_and_then (λ l. l.device) o
 
-  -- where the part or the place is another, nothing more is dealt
+  -- If the part or the index is another, the assignment is unchanged.
   dealt_elsewhere : (xs : List (Loaded R D)) (l : Loaded R D) (p q : ℕ) → q ≢ length xs → dealt_at (xs ++ l ∷ []) parts p q ≡ dealt_at xs parts p q
   dealt_elsewhere xs l p q a = ap (λ o. cond (slice_index parts q == p) o None) (got_there xs l q a)
 
@@ -54,7 +54,7 @@ module _ {R D : Type 0} (parts : List ℕ) where
       (dealt_elsewhere xs l p q)
       (cases_eq q (length xs))
 
-  -- before any record is dealt
+  -- No set has a record before any is assigned.
   pub has_none : (p : ℕ) → HasPart [] parts p (nothing {R = R} {D = D})
   has_none p = record {
     records = λ q. get-empty nat_cmp q ∙ sym (ap record_in (none_past [] p q (omega arith)));
@@ -63,7 +63,7 @@ module _ {R D : Type 0} (parts : List ℕ) where
   }
 
   module _ (xs : List (Loaded R D)) (p : ℕ) (m : Contents R D) (has : HasPart xs parts p m) where
-    -- the numbers in a set are below the next
+    -- The numbers in a set are below the next.
     pub all_below : (q : ℕ) → IsSome (get m.records q) → q < length xs
     all_below q there =
         ⊎_elim
@@ -89,7 +89,7 @@ module _ {R D : Type 0} (parts : List ℕ) where
         (λ a. has.devices q ∙ ap device_in (sym (dealt_elsewhere xs l p q a)))
         (cases_eq q (length xs))
 
-    -- one more of its own
+    -- A record of its own part is added to a set.
     pub has_more : (l : Loaded R D) → slice_index parts (length xs) ≡ p → HasPart (xs ++ l ∷ []) parts p (with_loaded m (length xs) l)
     has_more l own = record {
       records = λ q. ⊎_elim
@@ -101,7 +101,7 @@ module _ {R D : Type 0} (parts : List ℕ) where
       base = ap (λ b. insert b (length xs) l.fields) has.base;
     }
 
-    -- one more of another
+    -- A record of another part leaves a set unchanged.
     pub has_as_before : (l : Loaded R D) → slice_index parts (length xs) ≢ p → HasPart (xs ++ l ∷ []) parts p m
     has_as_before l other = record {
       records = λ q. has.records q ∙ ap record_in (sym (dealt_to_another xs l p q other));
@@ -109,17 +109,17 @@ module _ {R D : Type 0} (parts : List ℕ) where
       base = has.base;
     }
 
--- what a lent list leaves, where its length is the same
+-- The first items of a slice that was borrowed, if its length is unchanged.
 pub lent_back : {X : Type 0} (xs ys : List X) (n : ℕ) → length xs ≡ n → take n (xs ++ ys) ≡ xs
 lent_back xs ys n e = ap (λ i. take i (xs ++ ys)) (sym e) ∙ take-append_seam xs ys
 
--- the next record of those that are left
+-- The next record of those that are left.
 pub next_loaded : {X : Type 0} (all left after : List X) (n : ℕ) (l : X) → n < length all → left ≡ drop n all → left ≡ l ∷ after → (get_or all n l ≡ l) × (after ≡ drop (n + 1) all)
 next_loaded all left after n l within was is =
     let at : drop n all ≡ get_or all n l ∷ drop (n + 1) all = rw (add-one) (drop-cons all n l within) in
     let e = sym is ∙ was ∙ at in (cc, cc)
 
--- the step of dealing one record more, over all sets
+-- The step that assigns one more record, over all sets.
 module _ {R D : Type 0} (all : List (Loaded R D)) (parts : List ℕ) (n : ℕ) (l : Loaded R D) (within : n < length all) (at : get_or all n l ≡ l) where
   taken_more : take (n + 1) all ≡ take n all ++ l ∷ []
   taken_more = take_more all n l within ∙ ap (λ (x : Loaded R D). take n all ++ x ∷ []) at

@@ -31,7 +31,7 @@ module _ {X : Type 0} (m : FinMap nat_cmp X) where
   pub keys_count : len m ≡ length (keys m)
   keys_count = len-entries m ∙ sym (length-map (entries m) (λ e. e.0))
 
--- what holds of the items so far holds with one item more
+-- A property of the items so far and of the next holds of one more item.
 pub all_and_next : {X : Type 0} (P : X → Type 0) (xs : List X) (n : ℕ) (x : X) → n < length xs → x ≡ get_or xs n x → P x → ((i : ℕ) (d : X) → i < n → P (get_or xs i d))
     → (i : ℕ) (d : X) → i < n + 1 → P (get_or xs i d)
 all_and_next P xs n x within at here before i d l =

@@ -1,4 +1,4 @@
--- Edges of links, and what their parts say of the links.
+-- Edges of links, and what their parts say about the links.
 use Rattle.std.proofs.Common.{◌≡◌, ℕ, zero, suc, ◌+◌, ◌<◌, ◌≤◌, List, [], ◌∷◌, ◌++◌, Option, Some, None, Bool, true, false, cond, length, get_or, refl, sym, ap, ◌∙◌, subst, inl, inr, ⊎_elim, arith}
 use Rattle.std.specs.Prelude.{◌==◌, ◌↔◌, Contains, All, IsSome, is_some, slice_get, slice_index}
 use Rattle.std.specs.Option.{option_map}
@@ -56,7 +56,7 @@ module _ {R D : Type 0} (k : RecordRules R) (all : List (Loaded R D)) where
   link_from : (a b : ℕ) → Names (links_in k all) a b → a < length all
   link_from a b n = by_there (λ l. targets k l.fields) all a (ap is_some n.1)
 
-  -- the edges of one record more
+  -- The edges of one more record.
   pub edges_more : (es after : List Edge) (n : ℕ) (l : Loaded R D) → slice_get all n ≡ Some l → after ≡ es ++ edges_from n (targets k l.fields)
       → ((a b : ℕ) → Contains es (record { from = a; to = b }) ↔ ((a < n) × Names (links_in k all) a b))
       → (a b : ℕ) → Contains after (record { from = a; to = b }) ↔ ((a < n + 1) × Names (links_in k all) a b)

@@ -1,4 +1,4 @@
--- Finite maps from numbers: what they answer once a number is set.
+-- Finite maps from numbers: their lookups after a number is set.
 use Rattle.std.proofs.Common.{◌≡◌, ◌≢◌, ℕ, Some, cond, true, false, refl, ap, ◌∙◌, arith}
 use Rattle.std.specs.Prelude.{◌==◌}
 use Rattle.std.specs.Ordering.{nat_cmp}

@@ -3,6 +3,6 @@ use Rattle.std.specs.Prelude.{ℕ, ◌↔◌, List, Contains}
 use Rattle.ioc_graph.specs.declared.edges.Edge.{Edge}
 use Rattle.ioc_members.specs.Joined.{Links, Names}
 
--- there is an edge exactly where a link leads
+-- Holds if there is an edge if and only if there is a link.
 abbrev pub AreEdges : Links → List Edge → Type 0
 AreEdges links edges = (a b : ℕ) → Contains edges (record { from = a; to = b }) ↔ Names links a b

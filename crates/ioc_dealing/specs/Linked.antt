@@ -1,5 +1,7 @@
 -- The links of a loaded database, and the parts that they make of it.
--- Application Developer's Guide, "Database Locking, Scanning, and Processing": records that links join are in one lock set.
+--
+-- Application Developer's Guide, "Database Locking, Scanning, and Processing": records that links
+-- join are in one lock set.
 use Rattle.std.specs.Prelude.{ℕ, ◌≡◌, ◌<◌, ◌≤◌, List, length, All, slice_get, slice_index}
 use Rattle.std.specs.Option.{option_map}
 use Rattle.ioc_graph.specs.Paths.{Connected}
@@ -8,16 +10,17 @@ use Rattle.ioc_members.specs.Joined.{Links, Names, Joined}
 use Rattle.ioc_dealing.specs.declared.dealing.Loaded.{Loaded}
 
 module _ {R D : Type 0} (k : RecordRules R) where
-  -- the records that each record's standing links name, all by their places; none where there is no such record
+  -- The records that the standing links of each record name, by their indices; none if there is no
+  -- such record.
   abbrev pub links_in : List (Loaded R D) → Links
   links_in all number = option_map (λ l. targets k l.fields) (slice_get all number)
 
-  -- for each record the number of its part, which is that of the part's first record
+  -- The number of its part for each record, which is that of the first record of the part.
   pub record AreParts (all : List (Loaded R D)) (parts : List ℕ) : Type 0 where
     pub one_each : length parts ≡ length all
     pub below : All (λ part. part < length parts) parts
     pub first : (a : ℕ) → a < length all → (slice_index parts a ≤ a) × (slice_index parts (slice_index parts a) ≡ slice_index parts a)
-    -- a link leads to a record that is there, and is of the same part
+    -- A link leads to a record that exists and is in the same part.
     pub together : (a b : ℕ) → Names (links_in all) a b → (b < length all) × (slice_index parts a ≡ slice_index parts b)
-    -- the records of a part are joined by links
+    -- The records of a part are joined by links.
     pub joined : (a b : ℕ) → a < length all → b < length all → slice_index parts a ≡ slice_index parts b → Connected (Joined (links_in all)) a b

@@ -1,4 +1,4 @@
-//! Records dealt to sets by the numbers of their parts.
+//! Assignment of records to sets by the numbers of their parts.
 ghost use Rattle.std.specs.Prelude.{◌≡◌, ◌<◌, ℕ, length, replicate, All, IfOk, OnOk, IsSome, slice_index_or, slice_set};
 ghost use Rattle.std.specs.FinMap as map;
 ghost use Rattle.ioc_members.specs.Contents.{nothing};
@@ -8,7 +8,7 @@ use ioc_members::Members;
 use ioc_names::RecordNo;
 use std::alloc::{AllocError, Global};
 
-/// A record of a loaded database, with a copy of it for its base, and its device if it has one.
+/// A record of a loaded database, with a copy for its base, and its device, if it has one.
 #[derive(Drop)]
 pub struct Loaded<K, D> {
     pub fields: K,
@@ -27,7 +27,8 @@ fn count_up(sizes: &mut [usize], parts: &[usize])
     }
 }
 
-// So many sets with no records, each with room for those of its part and no more: a database may have as many parts as records.
+// Creates one empty set for each record, with room for exactly the records of its part: a database
+// may have as many parts as records.
 fn empty_sets<K: Drop, D: Drop>(
     alloc: Global,
     parts: &[usize],
@@ -46,7 +47,7 @@ fn empty_sets<K: Drop, D: Drop>(
     Ok(sets)
 }
 
-// The set of a part gets a record more.
+// Adds a record to the set of its part.
 fn add_to<K: Drop, D: Drop>(
     sets: &mut [Members<K, D>],
     part: usize,
@@ -66,12 +67,12 @@ fn add_to<K: Drop, D: Drop>(
     sets[part].add(number, fields, base, device)
 }
 
-/// Deals the records of a database to sets: each, by its place as its number, to the set of its part. The copies become the
-/// bases. Cost: the number of records.
+/// Assigns the records of a database to sets: each to the set of its part, with its index as its
+/// number. The copies become the bases. The cost is proportional to the number of records.
 ///
 /// # Errors
 ///
-/// [`AllocError`] where memory is wanting.
+/// [`AllocError`] if allocation fails.
 pub fn deal<K: Drop, D: Drop>(
     alloc: Global,
     all: Vec<Loaded<K, D>>,

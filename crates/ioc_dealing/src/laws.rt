@@ -1,4 +1,5 @@
-//! What follows for the sets that records are dealt to. A law is a function that does nothing: its contract is the law.
+//! Laws of the sets that records are assigned to. The contract of each function is a law; its body
+//! is empty.
 ghost use Rattle.std.specs.Prelude.{ℕ, List, All};
 ghost use Rattle.ioc_members.specs.Contents.{Contents};
 ghost use Rattle.ioc_members.specs.Joined.{links_of, IsPart};
@@ -8,7 +9,8 @@ ghost use Rattle.ioc_dealing.specs.declared.dealing.Loaded.{Loaded};
 
 use ioc_record::RecordKind;
 
-/// Where records are dealt by the parts of their links, each set is one connected part, or has no record, and no link leaves it.
+/// If records are assigned by the parts of their links, each set is one connected part or has no
+/// record, and no link leaves it.
 pub fn dealt_sets_are_parts<K: RecordKind, D>()
     ensures { (all : List (Loaded K D)) (parts : List ℕ) (sets : List (Contents K D)) →
         AreParts K.rules all parts → AreDealt all parts sets → All (λ members. IsPart (links_of K.rules members.records)) sets }

@@ -1,5 +1,7 @@
-//! The records of a loaded database, dealt to the lock sets that their links make.
-//! Application Developer's Guide, "Database Locking, Scanning, and Processing": records that links join are in one lock set.
+//! The assignment of the records of a loaded database to the lock sets that their links make.
+//!
+//! Application Developer's Guide, "Database Locking, Scanning, and Processing": records that links
+//! join are in one lock set.
 #![tactic(auto)]
 
 pub mod dealing;

@@ -11,7 +11,7 @@ use ioc_names::RecordNo;
 use ioc_record::RecordKind;
 use std::alloc::{AllocError, Global};
 
-// The edges of all links.
+// Returns the edges of all links.
 fn edges_of<K: RecordKind, D>(alloc: Global, all: &[Loaded<K, D>]) -> Result<Vec<Edge>, AllocError>
     ensures { IfOk result (λ edges. AreEdges (links_in K.rules all.now) edges.items) }
 {
@@ -22,12 +22,13 @@ fn edges_of<K: RecordKind, D>(alloc: Global, all: &[Loaded<K, D>]) -> Result<Vec
     Ok(edges)
 }
 
-/// For each record of a database the number of its part: records that links join have one number, and no others have it. None
-/// where a link leads to no record. Cost: near the number of records and links.
+/// Returns the number of its part for each record of a database: two records have the same number
+/// if and only if links join them. Returns `None` if a link leads to no record. The cost is nearly
+/// proportional to the number of records and links.
 ///
 /// # Errors
 ///
-/// [`AllocError`] where memory is wanting.
+/// [`AllocError`] if allocation fails.
 pub fn parts_of<K: RecordKind, D>(
     alloc: Global,
     all: &[Loaded<K, D>],

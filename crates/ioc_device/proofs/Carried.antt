@@ -1,7 +1,7 @@
--- What a device behind a box does, carried along an equation of boxes.
+-- The relation of a boxed device, transported along an equation of boxes.
 use Rattle.std.proofs.Common.{◌≡◌, refl, subst}
 
--- what holds of a value behind one table of methods holds behind an equal one
+-- A relation that holds for a value with one method table holds with an equal one.
 pub carried :
     {I : Type 0} {F : I → Type 0} {B : Type 0}
     (P : (i : I) → F i → F i → Type 0)

@@ -1,5 +1,5 @@
-//! Devices: what they are asked, and what they answer.
-//! Application Developer's Guide, "Device Support".
+//! Device support: the requests to a device and its answers. Application Developer's Guide, "Device
+//! Support".
 #![tactic(auto)]
 
 ghost use Rattle.std.specs.Prelude.{◌≡◌};
@@ -9,24 +9,24 @@ use ioc_values::Value;
 /// The answer of a device to a read or a write.
 #[derive(Clone, Copy, PartialEq, Eq)]
 pub enum Answer {
-    /// It is done; a read gives the value.
+    /// The request is done. The answer to a read has the value.
     Done(Value),
     Fault,
-    /// It answers later, by a completion.
+    /// The device answers later, by a completion.
     Later,
 }
 
-/// What a device is asked.
+/// A request to a device.
 #[derive(Clone, Copy, PartialEq, Eq)]
 pub enum Ask {
-    /// To read a value.
+    /// Reads a value.
     Read,
-    /// To write this one.
+    /// Writes this value.
     Write(Value),
 }
 
-/// A device of one record. What it means is a relation between its states: it says which answers it may give, and no
-/// more; a device that isn't asked keeps its state.
+/// A device of one record. Its meaning is a relation between its states, which limits the answers
+/// that it can return and nothing else. Without a request a device keeps its state.
 pub trait Device: Drop {
     ghost use Rattle.std.specs.Prelude.{ℕ};
     ghost use Rattle.ioc_values.specs.declared.value.Value.{Value};
@@ -34,14 +34,15 @@ pub trait Device: Drop {
     ghost use Rattle.ioc_device.specs.declared.Ask.{Ask};
     ghost use Rattle.ioc_device.specs.declared.Ask.TheVariants.{Read, Write};
 
-    /// The device before, what it is asked, the moment, its answer, and the device after.
+    /// Relates the device before, the request, the time stamp, the answer, and the device after.
     ghost gives: { Self → Ask → ℕ → Answer → Self → Type 0 };
 
-    /// Reads a value. The moment is that of the event, in nanoseconds since 1970-01-01 00:00 UTC.
+    /// Reads a value. `moment` is the time stamp of the event, in nanoseconds since 1970-01-01
+    /// 00:00 UTC.
     fn read(&mut self, moment: u64) -> Answer
         ensures { gives self.old Read moment result self.new };
 
-    /// Writes a value; the one that an answer has is not looked at.
+    /// Writes a value. A value in the answer is ignored.
     fn write(&mut self, value: Value, moment: u64) -> Answer
         ensures { gives self.old (Write value) moment result self.new };
 }
@@ -58,7 +59,7 @@ impl Device for Box<dyn Device + Send> {
     }
 }
 
-/// Asks a device, and gives its answer.
+/// Sends the request to the device and returns its answer.
 pub fn answer_of<D: Device>(device: &mut D, ask: &Ask, moment: u64) -> Answer
     ensures { D.gives device.old ask.now moment result device.new }
 {

@@ -1,4 +1,4 @@
--- A cell whose keeper has seen nothing keeps its rule.
+-- The rule of a cell holds for a keeper's pass that has seen nothing.
 use Rattle.std.proofs.Common.{◌≡◌, ℕ, zero, suc, List, [], ◌∷◌, refl, sym, subst, ⊎_elim}
 use mathlib.Core.Option.{some, some-injective, some-ne-none}
 use lib.ListN.{get_elem?}

@@ -1,4 +1,4 @@
--- Items that are taken from the front of a list and kept, one after another.
+-- Items that are moved from the front of one list to the end of another.
 use Rattle.std.proofs.Common.{◌≡◌, ℕ, ◌<◌, zero, suc, List, [], ◌∷◌, ◌++◌, ◌+◌, length, map, get_or, drop, refl, sym, ap, ◌∙◌, append_assoc, append-nil, length-append, below_more, arith}
 use Rattle.std.specs.Prelude.{All}
 use Rattle.std.proofs.Math.Seq.{get_or-append_seam}
@@ -26,7 +26,7 @@ nothing_left (x ∷ xs) e = absurd (let z : ⊥ = omega (arith, e) in z)
 pub all_taken : {A : Type 0} (kept left items : List A) → length left ≡ 0 → kept ++ left ≡ items → kept ≡ items
 all_taken kept left items none h = sym (append-nil kept) ∙ ap (λ l. kept ++ l) (sym (nothing_left left none)) ∙ h
 
--- what is told of each place so far, and of the next
+-- What is true of each place so far and of the next one is true of each place up to it.
 pub each_at : {A B : Type 0} (f : A → B) (none : B) (xs : List A) (y : A) (bs : List B) → ((i : ℕ) (d : A) → i < length xs → f (get_or xs i d) ≡ get_or bs i none) → f y ≡ get_or bs (length xs) none
     → (i : ℕ) (d : A) → i < length (xs ++ y ∷ []) → f (get_or (xs ++ y ∷ []) i d) ≡ get_or bs i none
 each_at f none xs y bs h e i d lt =
@@ -35,10 +35,10 @@ each_at f none xs y bs h e i d lt =
     (λ j below. ap f (get_or_append_left xs (y ∷ []) d j below) ∙ h j d below)
     (ap f (get_or-append_seam xs y [] d) ∙ e) i (omega (arith, lt, long))
 
--- the first of those that are left is the one at this place
+-- The first of the remaining items is the one at this place.
 pub first_left : {A : Type 0} (n : ℕ) (left xs : List A) (d : A) → left ≡ drop n xs → get_or left 0 d ≡ get_or xs n d
 first_left n left xs d e = ap (λ l. get_or l 0 d) e ∙ get_or-drop n xs 0 d ∙ ap (λ i. get_or xs i d) (omega arith)
 
--- those that are left after the first
+-- The items that remain after the first is moved.
 pub fewer_left : {A B : Type 0} (all : List A) (y : A) (left after xs : List B) → left ≡ drop (length all) xs → after ≡ drop 1 left → after ≡ drop (length (all ++ y ∷ [])) xs
 fewer_left all y left after xs e h = h ∙ ap (λ l. drop 1 l) e ∙ drop-drop 1 (length all) xs ∙ ap (λ n. drop n xs) (let long = length-append all (y ∷ []) in omega (arith, long))

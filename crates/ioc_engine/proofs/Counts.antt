@@ -1,4 +1,4 @@
--- Counts of sets that are added one after another.
+-- The counts of sets, added one after another.
 use Rattle.std.proofs.Common.{◌≡◌, ℕ, ◌+◌, List, [], ◌∷◌, refl, sym, ap, ◌∙◌, arith}
 use Rattle.std.proofs.lemmas.List.Sums.{sum_by-cons}
 use Rattle.std.specs.List.{sum_by}
@@ -8,16 +8,16 @@ use Rattle.ioc_set.specs.Linking.{added}
 use Rattle.ioc_lent.specs.Holding.{HeldView}
 use Rattle.ioc_engine.specs.Ended.{counts_in}
 
--- these counts, and then those of each set
+-- The tally with the counts of each set added in turn.
 abbrev pub counted_with : {R D : Type 0} → Tally → List (HeldView R D) → Tally
 counted_with t [] = t
 counted_with t (h ∷ hs) = counted_with (added t h.set.tally) hs
 
--- up to the last number once is as good as twice
+-- A sum that stops at the greatest number may be made in two steps.
 filled-on : (n a b : ℕ) → filled (filled n a) b ≡ filled n (a + b)
 filled-on n a b = omega arith
 
--- these counts and the sums of those of the sets, each up to the last number
+-- The tally with the sums of the counts of the sets, each stopping at the greatest number.
 abbrev summed_with : {R D : Type 0} → Tally → List (HeldView R D) → Tally
 summed_with t sets = record {
   begun = filled t.begun (sum_by (λ (h : HeldView _ _). h.set.tally.begun) sets);
@@ -29,12 +29,12 @@ summed_with t sets = record {
   completed = filled t.completed (sum_by (λ (h : HeldView _ _). h.set.tally.completed) sets);
 }
 
--- two tallies are one where their counts are
+-- Two tallies with the same counts are equal.
 alike : (t u : Tally) → t.begun ≡ u.begun → t.processed ≡ u.processed → t.disabled ≡ u.disabled → t.active ≡ u.active → t.reprocess ≡ u.reprocess → t.started ≡ u.started → t.completed ≡ u.completed → t ≡ u
 alike t u a b c d e f g =
     ap (λ (n : ℕ). record { begun = n; processed = t.processed; disabled = t.disabled; active = t.active; reprocess = t.reprocess; started = t.started; completed = t.completed }) a ∙ ap (λ (n : ℕ). record { begun = u.begun; processed = n; disabled = t.disabled; active = t.active; reprocess = t.reprocess; started = t.started; completed = t.completed }) b ∙ ap (λ (n : ℕ). record { begun = u.begun; processed = u.processed; disabled = n; active = t.active; reprocess = t.reprocess; started = t.started; completed = t.completed }) c ∙ ap (λ (n : ℕ). record { begun = u.begun; processed = u.processed; disabled = u.disabled; active = n; reprocess = t.reprocess; started = t.started; completed = t.completed }) d ∙ ap (λ (n : ℕ). record { begun = u.begun; processed = u.processed; disabled = u.disabled; active = u.active; reprocess = n; started = t.started; completed = t.completed }) e ∙ ap (λ (n : ℕ). record { begun = u.begun; processed = u.processed; disabled = u.disabled; active = u.active; reprocess = u.reprocess; started = n; completed = t.completed }) f ∙ ap (λ (n : ℕ). record { begun = u.begun; processed = u.processed; disabled = u.disabled; active = u.active; reprocess = u.reprocess; started = u.started; completed = n }) g
 
--- a count of the first set, and then those of the others
+-- The count of the first set and those of the others may be added in turn.
 first_count : {R D : Type 0} (n : ℕ) (count : HeldView R D → ℕ) (h : HeldView R D) (hs : List (HeldView R D)) → filled (filled n (count h)) (sum_by count hs) ≡ filled n (sum_by count (h ∷ hs))
 first_count n count h hs = filled-on n (count h) (sum_by count hs) ∙ ap (λ (s : ℕ). filled n s) (sym (sum_by-cons count h hs))
 
@@ -48,7 +48,7 @@ first_too t h hs = alike (summed_with (added t h.set.tally) hs) (summed_with t (
     (first_count t.started (λ (g : HeldView _ _). g.set.tally.started) h hs)
     (first_count t.completed (λ (g : HeldView _ _). g.set.tally.completed) h hs)
 
--- counts that a number of 64 bits can tell stay as they are with none added
+-- Adding zero changes no count.
 full_or_less : (n a : ℕ) → filled (filled n a) 0 ≡ filled n a
 full_or_less n a = omega arith
 

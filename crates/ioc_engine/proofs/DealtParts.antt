@@ -36,7 +36,7 @@ some_mapped : {A B : Type 0} (f : A → B) (o : Option A) → IsSome (option_map
 some_mapped f None some = some
 some_mapped f (Some a) some = refl
 
--- where a choice came out as something, the answer was yes
+-- If a conditional option has a value, the condition is true.
 module _ {A B : Type 0} (f : A → B) (o : Option A) where
   chosen : (b : Bool) (x : Option B) → x ≡ option_map f (cond b o None) → IsSome x → (b ≡ true) × (x ≡ option_map f o)
   chosen true x is some = (refl, is)
@@ -54,7 +54,7 @@ some_below (x ∷ xs) (suc q) lt = some_below xs q (omega (arith, lt))
 some_same : {A : Type 0} {x y : A} → Some x ≡ Some y → x ≡ y
 some_same e = cc
 
--- one that is idle is calm
+-- An idle record is active exactly if it awaits a completion, because it does neither.
 neither : (b : Bool) (o : Option ℕ) → b ≡ false → o ≡ None → IsTrue b ↔ IsSome o
 neither true o idle none = cc
 neither false None idle none = (λ is. cc, λ is. cc)
@@ -76,11 +76,11 @@ idle_of (x ∷ xs) (suc q) l found idle = idle_of xs q l found (λ i d lt. idle 
 
 module _ {R D : Type 0} (k : RecordRules R) (missing : targets k k.missing ≡ []) (base : World R) (had : ℕ → Bool) (parts : List ℕ) (all : List (Loaded R D)) (rest : IsAtRest k base had parts all)
     (part : ℕ) (c : Contents R D) (has : HasPart all parts part c) where
-  -- a record of the database
+  -- The record of the database at a number.
   loaded : (q : ℕ) → get base.records q ≡ option_map (λ (l : Loaded R D). l.fields) (slice_get all q)
   loaded q = ap (λ (w : World R). get w.records q) rest.world ∙ get-numbered (map (λ (l : Loaded R D). l.fields) all) q ∙ slice_get-map (λ (l : Loaded R D). l.fields) all q
 
-  -- a record of the set is one of the part, as it was loaded
+  -- A record of the set is in the part, as it was loaded.
   here : (q : ℕ) → IsSome (get c.records q) → (slice_index parts q ≡ part) × (get c.records q ≡ get base.records q)
   here q some =
       let h = chosen (λ (l : Loaded R D). l.fields) (slice_get all q) (slice_index parts q == part) (get c.records q) (has.records q) some in
@@ -89,7 +89,7 @@ module _ {R D : Type 0} (k : RecordRules R) (missing : targets k k.missing ≡ [
   there : (q : ℕ) → slice_index parts q ≡ part → get c.records q ≡ get base.records q
   there q is = choose (λ (l : Loaded R D). l.fields) (slice_get all q) (slice_index parts q == part) (get c.records q) (has.records q) (is_same (slice_index parts q) part is) ∙ sym (loaded q)
 
-  -- what holds of all that were loaded holds of what is found
+  -- A record that is found is idle if all loaded records are.
   idle_at : (q : ℕ) (o : Option (Loaded R D)) (x : Option R) → slice_get all q ≡ o → x ≡ option_map (λ (l : Loaded R D). l.fields) o → IsSome x → IsIdle k (unwrap_or x k.missing)
   idle_at q None x found is some = absurd (none_some x is some)
   idle_at q (Some l) x found is some = subst (λ (y : Option R). IsIdle k (unwrap_or y k.missing)) (sym is) (idle_of all q l found rest.idle)
@@ -103,7 +103,7 @@ module _ {R D : Type 0} (k : RecordRules R) (missing : targets k k.missing ≡ [
   pub set_awaits_none : NoneAwaits k c.records
   set_awaits_none n some = (set_is_idle n some).nothing_awaited
 
-  -- what a record's links name, as the record is there
+  -- The targets of a record's links are those of the loaded record.
   names_of : (a t : ℕ) (o : Option (Loaded R D)) → slice_get all a ≡ o → Contains (targets k (unwrap_or (option_map (λ (l : Loaded R D). l.fields) o) k.missing)) t → Names (links_in k all) a t
   names_of a t None found named = absurd (none_in t (subst (λ (l : List ℕ). Contains l t) missing named))
   names_of a t (Some r) found named = (targets k r.fields, ap (option_map (λ (l : Loaded R D). targets k l.fields)) found, named)
@@ -145,7 +145,7 @@ module _ {R D : Type 0} (k : RecordRules R) (missing : targets k k.missing ≡ [
     apart = apart;
   }
 
-  -- the keys of the set are those of records of the part
+  -- The keys of the set are those of records of the part.
   key_of_part : (key : Key) → Has_key key (record_keys (keys c.records)) → (key.0 ≡ 0) × (slice_index parts key.1 ≡ part)
   key_of_part key h = (record_kind key (keys c.records) h, (here key.1 (key_there c.records key.1 (record_contains key (keys c.records) h))).0)
 
@@ -162,7 +162,7 @@ module _ {R D : Type 0} (k : RecordRules R) (missing : targets k k.missing ≡ [
       (λ (other : Has_key key born). let p = below key other in (p.0, (let lt = p.1 in omega (arith, lt))))
       (has_either key (record_keys (keys c.records)) born h)
 
--- a database at rest, as a whole
+-- A whole database at rest.
 module _ {R D : Type 0} (k : RecordRules R) (missing : targets k k.missing ≡ []) (parts : List ℕ) (all : List (Loaded R D)) (idle : (i : ℕ) (d : Loaded R D) → i < length all → IsIdle k (get_or all i d).fields) (are : AreParts k all parts) where
   fields_at : (q : ℕ) → get (loaded_world all).records q ≡ option_map (λ (l : Loaded R D). l.fields) (slice_get all q)
   fields_at q = get-numbered (map (λ (l : Loaded R D). l.fields) all) q ∙ slice_get-map (λ (l : Loaded R D). l.fields) all q
@@ -189,7 +189,7 @@ module _ {R D : Type 0} (k : RecordRules R) (missing : targets k k.missing ≡ [
   pub database_is_small : (n : ℕ) → length all < n → len (loaded_world all).records < n
   database_is_small n lt = omega (arith, lt, len-numbered (map (λ (l : Loaded R D). l.fields) all), length-map all (λ (l : Loaded R D). l.fields))
 
--- the sets behind the first that is left
+-- The sets that remain after the first is taken.
 pub sets_left : {R D : Type 0} (k : RecordRules R) (base : World R) (had : ℕ → Bool) (parts : List ℕ) (from : ℕ) (sets : List (Contents R D)) (x : Contents R D) → AreSetsFrom k base had parts from sets → AreSetsFrom k base had parts (from + 1) (set sets from x)
 sets_left {R} {D} k base had parts from sets x left =
     let as_long = length-set sets from x in
@@ -201,7 +201,7 @@ sets_left {R} {D} k base had parts from sets x left =
       one_part = λ p le lt. subst (λ (c : Contents R D). IsPart (links_of k c.records)) (sym (other p le)) (left.one_part p (omega (arith, le)) (omega (arith, lt, as_long)));
     }
 
--- the first that is left
+-- The first of the remaining sets.
 pub set_here : {R D : Type 0} (k : RecordRules R) (base : World R) (had : ℕ → Bool) (parts : List ℕ) (from : ℕ) (sets : List (Contents R D)) (c : Contents R D) → c ≡ get_or sets from nothing → from < length sets → AreSetsFrom k base had parts from sets → IsSetOf k base had parts from c
 set_here {R} {D} k base had parts from sets c is lt left = record {
   all = left.all;
@@ -210,7 +210,7 @@ set_here {R} {D} k base had parts from sets c is lt left = record {
   one_part = subst (λ (x : Contents R D). IsPart (links_of k x.records)) (sym is) (left.one_part from (omega arith) lt);
 }
 
--- an element that is there, whatever stands for none
+-- An element within the list doesn't depend on the default.
 pub get_or_any : {X : Type 0} (xs : List X) (i : ℕ) (d e : X) → i < length xs → get_or xs i d ≡ get_or xs i e
 get_or_any [] i d e lt = absurd (let z : ⊥ = omega (arith, lt) in z)
 get_or_any (x ∷ xs) zero d e lt = refl

@@ -1,4 +1,4 @@
--- Sets that learn a list one after another.
+-- Sets that are moved on to a longer list one after another.
 use Rattle.std.proofs.Common.{◌≡◌, ℕ, ◌<◌, ◌+◌, zero, suc, List, [], ◌∷◌, ◌++◌, length, map, take, refl, sym, ap, ◌∙◌, subst, inl, inr, ⊎_elim, arith}
 use Rattle.std.proofs.Math.ListN.{get_or, set}
 use Rattle.std.proofs.Math.Seq.{take-append_seam}
@@ -13,7 +13,8 @@ last_or_before zero (suc p) lt = inr (omega arith)
 last_or_before (suc i) zero lt = absurd (let z : ⊥ = omega (arith, lt) in z)
 last_or_before (suc i) (suc p) lt = ⊎_elim (λ e. inl (ap suc e)) (λ l. inr (let m : i < p = l in omega (arith, m))) (last_or_before i p (omega (arith, lt)))
 
--- what holds of those before a place, and of what is put there, holds of those up to the place
+-- A property of the elements before a place and of the one that is put there is one of all elements
+-- up to the place.
 module _ {X : Type 0} (P : X → Type 0) (xs : List X) (p : ℕ) (x : X) (within : p < length xs) (before : (i : ℕ) (d : X) → i < p → P (get_or xs i d)) (here : P x) where
   pub one_more : (i : ℕ) (d : X) → i < p + 1 → P (get_or (set xs p x) i d)
   one_more i d lt =
@@ -22,13 +23,13 @@ module _ {X : Type 0} (P : X → Type 0) (xs : List X) (p : ℕ) (x : X) (within
       (λ (l : i < p). subst P (sym (get_or-set_other xs p i x d (λ e. let m : i ≡ p = e in let z : ⊥ = omega (arith, l, m) in z))) (before i d l))
       (last_or_before i p lt)
 
--- the element at a place, whatever stands for none
+-- An element within the list is the default of itself.
 get_or_self : {X : Type 0} (xs : List X) (i : ℕ) (d : X) → i < length xs → get_or xs i (get_or xs i d) ≡ get_or xs i d
 get_or_self [] i d lt = absurd (let z : ⊥ = omega (arith, lt) in z)
 get_or_self (x ∷ xs) zero d lt = refl
 get_or_self (x ∷ xs) (suc i) d lt = get_or_self xs i d (let l : i < length xs = omega (arith, lt) in l)
 
--- who holds each record is told by what f shows alone
+-- Which set has each record depends only on what `f` shows of the sets.
 module _ {X Y : Type 0} (f : X → Y) (numbers : Y → List ℕ) (xs ys : List X) (same : map f ys ≡ map f xs) where
   as_long : length ys ≡ length xs
   as_long = sym (length-map ys f) ∙ ap (λ l. length l) same ∙ length-map xs f
@@ -59,6 +60,6 @@ module _ {X Y : Type 0} (f : X → Y) (numbers : Y → List ℕ) (xs ys : List X
         );
   }
 
--- as many as there are in front
+-- The first `length xs` elements of `xs ++ ys` are `xs`.
 pub whole : {X : Type 0} (xs ys : List X) (n : ℕ) → n ≡ length xs → take n (xs ++ ys) ≡ xs
 whole xs ys n is = ap (λ m. take m (xs ++ ys)) is ∙ take-append_seam xs ys

@@ -32,7 +32,7 @@ tie x y e = nat_cmp-IsAntisymmetric x y (equal_of (nat_cmp x y) e)
 pub there_key : {X : Type 0} (m : FinMap nat_cmp X) (n : ℕ) → contains_key m n ≡ true → Contains (keys m) n
 there_key m n has = Contains-from_any tie n (keys m) (sym (contains_key-keys m n) ∙ has)
 
--- with the key of the puts with notification, keys of records are none of desks
+-- Keys of records together with the key of the puts with notification include no key of a desk.
 pub no_desks_with : (born now : List Key) → ((key : Key) → Has key born → key.0 ≡ 0) → now ≡ (2, 0) ∷ born → (key : Key) → Has key now → key.0 ≡ 1 → ⊥
 no_desks_with born now records is key has one =
     ⊎_elim (λ (e : (2, 0) ≡ key). let z = ap (λ (p : Key). p.0) e in absurd (omega (arith, one, z)))

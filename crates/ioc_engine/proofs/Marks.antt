@@ -1,4 +1,4 @@
--- Records that are in one of the parts, and their marks.
+-- Marks of the records that are in one of the parts.
 use Rattle.std.proofs.Common.{◌≡◌, ℕ, List, [], ◌∷◌, ◌++◌, Bool, true, false, set, sym, subst, ◌∙◌, inl, inr, ⊎_elim, arith}
 use Rattle.std.proofs.lemmas.Bool.{cases_eq}
 use Rattle.std.proofs.lemmas.List.{length-append, get_or_append_left, get_or-set_other}
@@ -9,7 +9,7 @@ use Rattle.ioc_topology.specs.Gathered.{IsMarked}
 mark_from : (marks : List Bool) (n q : ℕ) → IsMarked (set marks n true) q → IsMarked marks q ⊎ (q ≡ n)
 mark_from marks n q m = ⊎_elim (λ e. inr e) (λ ne. inl (sym (get_or-set_other marks n q true false ne) ∙ m)) (cases_eq q n)
 
--- those named so far have a mark, and one more
+-- The records marked after one more mark are those before it, or those named so far with one more.
 pub marked_more : (before marks : List Bool) (ns : List ℕ) (n : ℕ) → ((q : ℕ) → IsMarked marks q → IsMarked before q ⊎ Contains ns q)
     → (q : ℕ) → IsMarked (set marks n true) q → IsMarked before q ⊎ Contains (ns ++ n ∷ []) q
 marked_more before marks ns n so_far q m =
@@ -18,12 +18,12 @@ marked_more before marks ns n so_far q m =
     (λ (e : q ≡ n). inr (subst (λ p. Contains (ns ++ n ∷ []) p) (sym e) (Contains-push ns n)))
     (mark_from marks n q m)
 
--- and one that has no place among the marks
+-- The same with a record that has no place among the marks.
 pub named_more : (before marks : List Bool) (ns : List ℕ) (n : ℕ) → ((q : ℕ) → IsMarked marks q → IsMarked before q ⊎ Contains ns q)
     → (q : ℕ) → IsMarked marks q → IsMarked before q ⊎ Contains (ns ++ n ∷ []) q
 named_more before marks ns n so_far q m = ⊎_elim (λ b. inl b) (λ c. inr (Contains-append_left ns (n ∷ []) q c)) (so_far q m)
 
--- with one part more each of the parts has what it had
+-- An element that satisfies a predicate still does so in a list with one more element.
 pub in_more : {X : Type 0} (P : X → Type 0) (xs : List X) (x : X) → Any P xs → Any P (xs ++ x ∷ [])
 in_more P xs x any =
     let long = length-append xs (x ∷ []) in

@@ -1,4 +1,4 @@
--- Calls that a set refuses before they have a place.
+-- Calls that a set refuses before a place is held for them.
 use Rattle.std.proofs.Common.{ℕ, Result, Ok, Err, inl, inr, Contains}
 use Rattle.std.specs.Prelude.{IfOk, IfErr}
 use Rattle.ioc_values.specs.declared.error.IocError.{IocError}
@@ -13,7 +13,7 @@ module _ {R D : Type 0} (k : RecordRules R) (base : World R) (held : HeldView R 
   refused_by_set here sound (inl none) = inr (inr (inr (record { held = held; here = here; sound = sound; none = none })))
   refused_by_set here sound (inr place) = inr (inl place)
 
--- what follows from an answer, and from a refusal
+-- What follows from a result, and from an error.
 pub ok_then : {A E : Type 0} (P Q : A → Type 0) (r : Result A E) → ((x : A) → P x → Q x) → IfOk r P → IfOk r Q
 ok_then P Q (Ok x) then is = then x is
 ok_then P Q (Err e) then is = is

@@ -1,5 +1,5 @@
--- A put with notification that was given up by a call of the engine.
--- Application Developer's Guide, "Put with Notification" (dbNotifyCancel). The journal is this project's own.
+-- A put with notification that was canceled by a call of the engine. Application Developer's Guide,
+-- "Put with Notification" (dbNotifyCancel). The journal is this project's own.
 use Rattle.std.specs.Prelude.{◌⊎◌, ℕ, List, All}
 use Rattle.ioc_record.specs.RecordRules.{RecordRules}
 use Rattle.ioc_store.specs.World.{World}
@@ -10,7 +10,8 @@ use Rattle.ioc_lent.specs.Puts.{PutsView, WasStale}
 use Rattle.ioc_lent.specs.GivingUp.{GaveUpOn}
 
 module _ {R : Type 0} (D : Type 0) (k : RecordRules R) (base : World R) (number : ℕ) (desk : DeskView) (moment : ℕ) (reply : Reply) (desk_then : DeskView) where
-  -- all sets that had it have given it up: each was sound, and is so again
+  -- The put with notification was canceled on all sets with its records, which were sound before
+  -- and are sound afterwards.
   pub record WasGivenUp : Type 0 where
     pub puts : PutsView
     pub puts_then : PutsView
@@ -20,12 +21,12 @@ module _ {R : Type 0} (D : Type 0) (k : RecordRules R) (base : World R) (number 
     pub gave_up : GaveUpOn k base moment number desk before puts reply desk_then after puts_then
     pub sound_then : All (IsSoundlyHeld k base) after
 
-  -- it wasn't live
+  -- The put with notification wasn't live.
   pub record WasNotLive : Type 0 where
     pub puts : PutsView
     pub puts_then : PutsView
     pub stale : WasStale k base puts desk moment number reply puts_then desk_then
 
-  -- a cancel of a desk: it was given up, or wasn't live
+  -- A cancel of a desk: the put with notification was canceled, or wasn't live.
   abbrev pub WasCancelled : Type 0
   WasCancelled = WasGivenUp ⊎ WasNotLive

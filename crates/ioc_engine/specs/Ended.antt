@@ -1,5 +1,5 @@
--- What an engine leaves at its end.
--- Application Developer's Guide, "Database Locking, Scanning, and Processing", lock sets. The journal is this project's own.
+-- What is left of an engine when it ends. Application Developer's Guide, "Database Locking,
+-- Scanning, and Processing", lock sets. The journal is this project's own.
 use Rattle.std.specs.Prelude.{◌≡◌, ℕ, Bool, List, IsSome, All}
 use Rattle.std.specs.List.{sum_by}
 use Rattle.std.specs.FinMap.{get}
@@ -14,12 +14,14 @@ use Rattle.ioc_ledger.specs.declared.tally.Tally.{Tally}
 use Rattle.ioc_ledger.specs.Requests.{filled}
 
 module _ {R D : Type 0} (k : RecordRules R) (base : World R) where
-  -- the list leads to records that are, of the set's numbers, those of the set
+  -- Holds if, at the set's numbers, the list leads to the records of the set.
   abbrev pub IsAsTold : List Note → HeldView R D → Type 0
   IsAsTold log h = (n : ℕ) → IsSome (get h.set.records n) → get (map_of k base log).records n ≡ get h.set.records n
 
-  -- the sets have each of the first records, and none in two of them; each is sound, so its records are one connected part, and a device is there for
-  -- those that had one at the load; the list of all calls is legal, and leads from the world at the load to what they have
+  -- The sets have each of the first `count` records, and none is in two of them. Each set is sound,
+  -- so its records are one connected part, and exactly those records have a device that had one at
+  -- the load. The list of all calls is legal, and leads from the world at the load to the records
+  -- of the sets.
   pub record IsEnd (had : ℕ → Bool) (count : ℕ) (log : List Note) (sets : List (HeldView R D)) : Type 0 where
     pub each : HoldEach numbers_of sets count
     pub sound : All (IsSoundlyHeld k base) sets
@@ -27,11 +29,11 @@ module _ {R D : Type 0} (k : RecordRules R) (base : World R) where
     pub told : All (IsAsTold log) sets
     pub legal : IsAccount k base log
 
--- the sum of a count of these sets, up to the last number
+-- The sum of a count of these sets, which stops at the greatest number of 64 bits.
 abbrev pub summed : {R D : Type 0} → (Tally → ℕ) → List (HeldView R D) → ℕ
 summed count sets = filled 0 (sum_by (λ (h : HeldView _ _). count h.set.tally) sets)
 
--- the counts of these sets together
+-- The counts of these sets together.
 abbrev pub counts_in : {R D : Type 0} → List (HeldView R D) → Tally
 counts_in sets = record {
   begun = summed (λ t. t.begun) sets;

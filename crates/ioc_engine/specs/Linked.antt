@@ -1,6 +1,5 @@
--- What a link change of the engine was.
--- Application Developer's Guide, "Database Locking, Scanning, and Processing": a changed link parts lock sets or joins them. The journal is
--- this project's own.
+-- Link changes of the engine. Application Developer's Guide, "Database Locking, Scanning, and
+-- Processing": a changed link parts lock sets or joins them. The journal is this project's own.
 use Rattle.std.specs.Prelude.{ℕ, ◌≡◌, ◌⊎◌, Option, Contains}
 use Rattle.ioc_values.specs.declared.error.IocError.{IocError}
 use Rattle.ioc_values.specs.declared.error.IocError.TheVariants.{NoField, Stopped}
@@ -17,12 +16,13 @@ use Rattle.ioc_topology.specs.Change.{AreLent, AreSound, LinkIsRefused}
 use Rattle.ioc_lent.specs.Holding.{HeldView, numbers_of, IsSoundlyHeld}
 use Rattle.ioc_lent.specs.Changing.{Relinks}
 
--- the record that a link names, if it names one
+-- The record that a link leads to, if there is one.
 abbrev pub other_of : LinkField → Option ℕ
 other_of link = record_named (use_of link)
 
 module _ {R : Type 0} (D : Type 0) (k : RecordRules R) (base : World R) where
-  -- a link change of a desk was done, or refused, on sets that have the record and what the link names, each of which was sound, and is so again
+  -- A link change of a desk was done or refused on the sets of the record and of the record that
+  -- the link leads to, which were sound before and are sound afterwards.
   pub record WasLinked (number : ℕ) (field : FieldNo) (link : LinkField) (desk : DeskView) (at_moment : ℕ) (reply : Reply) (moved : ℕ) (desk_then : DeskView) (come_to : World R) : Type 0 where
     pub first : HeldView R D
     pub second : HeldView R D
@@ -35,15 +35,16 @@ module _ {R : Type 0} (D : Type 0) (k : RecordRules R) (base : World R) where
     pub relinks : Relinks k base first second spare desk at_moment number field link reply moved first_then second_then spare_then desk_then come_to
     pub after : AreSound (IsSoundlyHeld k base) first_then second_then spare_then
 
-  -- a sound set has the record, and the field is no link of it
+  -- A sound set has the record, and the field is no link of it.
   pub record IsNoLink (number : ℕ) (field : FieldNo) : Type 0 where
     pub held : HeldView R D
     pub here : Contains (numbers_of held) number
     pub sound : IsSoundlyHeld k base held
     pub none : HasLink k held.set.records number field → ⊥
 
-  -- why a link change is no call: the engine was closed, the journal has no place for it, memory is wanting, a record is beyond the directory's,
-  -- or the field is no link
+  -- The errors of a link change that isn't added to the journal: the engine was closed, the journal
+  -- has no place left, allocation fails, there is no record with one of the numbers, or the field
+  -- is no link.
   abbrev pub LinkWasRefused : ℕ → ℕ → FieldNo → LinkField → IocError → Type 0
   LinkWasRefused count number field link error =
       (error ≡ Stopped) ⊎ (IsNoPlace error ⊎ (LinkIsRefused count number (other_of link) error ⊎ ((error ≡ NoField) × IsNoLink number field)))

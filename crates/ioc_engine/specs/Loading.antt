@@ -1,5 +1,5 @@
--- A loaded database before its first event.
--- Application Developer's Guide, "Database Locking, Scanning, and Processing": records that links join are in one lock set.
+-- A loaded database before its first event. Application Developer's Guide, "Database Locking,
+-- Scanning, and Processing": records that are connected by links are in one lock set.
 use Rattle.std.specs.Prelude.{◌≡◌, ℕ, ◌<◌, ◌≤◌, Bool, false, Option, None, List, [], map, length, All, is_some, slice_get, slice_index, slice_index_or}
 use Rattle.std.specs.Option.{option_and_then}
 use Rattle.ioc_record.specs.RecordRules.{RecordRules}
@@ -13,44 +13,46 @@ use Rattle.ioc_dealing.specs.declared.dealing.Loaded.{Loaded}
 use Rattle.ioc_dealing.specs.Dealing.{HasPart}
 use Rattle.ioc_dealing.specs.Linked.{AreParts}
 
--- the world at the load: the records by their places
+-- The world at the load, in which the records are numbered by their places.
 abbrev pub loaded_world : {R D : Type 0} → List (Loaded R D) → World R
 loaded_world all = resting (numbered (map (λ l. l.fields) all)) [] []
 
--- which records have a device, by their places
+-- The places of the records that have a device.
 abbrev pub have_device : {R D : Type 0} → List (Loaded R D) → ℕ → Bool
 have_device all number = is_some (option_and_then (λ l. l.device) (slice_get all number))
 
--- each record has the device at its place; none where there is none at that place
+-- Holds if each record has the device at its place, or none if there is none at that place.
 abbrev pub HaveDevices : {R D : Type 0} → List (Loaded R D) → List (Option D) → Type 0
 HaveDevices all devices = (i : ℕ) (l : Loaded _ _) → i < length all → (slice_index_or all i l).device ≡ slice_index_or devices i None
 
--- each of these keys is that of a record whose part has a lower number
+-- Holds if these are keys of records of parts with lower numbers.
 abbrev pub AreOfPartsBelow : List ℕ → ℕ → List Key → Type 0
 AreOfPartsBelow parts part keys = (key : Key) → Has key keys → (key.0 ≡ 0) × (slice_index parts key.1 < part)
 
--- a record as it is loaded: it is idle, awaits no completion, and no put with notification has it
+-- Holds of a record as it is loaded: it is idle, awaits no completion, and is part of no put with
+-- notification.
 pub record IsIdle {R : Type 0} (k : RecordRules R) (r : R) : Type 0 where
   pub inactive : (k.common r).active ≡ false
   pub nothing_awaited : (k.common r).pending ≡ None
   pub free : (k.common r).notification ≡ None
 
 module _ {R D : Type 0} (k : RecordRules R) where
-  -- the world is that of these records, which are idle; these of them have a device, and their links make these parts
+  -- Holds if the world is that of these records, which are idle, `had` tells which of them have a
+  -- device, and their links make these parts.
   pub record IsAtRest (base : World R) (had : ℕ → Bool) (parts : List ℕ) (all : List (Loaded R D)) : Type 0 where
     pub world : base ≡ loaded_world all
     pub devices : had ≡ have_device all
     pub idle : All (λ l. IsIdle k l.fields) all
     pub parts_are : AreParts k all parts
 
-  -- a set that has the records of a part of such a world
+  -- Holds of a set with the records of one part of such a world.
   pub record IsSetOf (base : World R) (had : ℕ → Bool) (parts : List ℕ) (part : ℕ) (members : Contents R D) : Type 0 where
     pub all : List (Loaded R D)
     pub rest : IsAtRest base had parts all
     pub has : HasPart all parts part members
     pub one_part : IsPart (links_of k members.records)
 
-  -- sets, of which each from a number on has the records of the part of its number
+  -- Holds of sets of which each, from a number on, has the records of the part with its number.
   pub record AreSetsFrom (base : World R) (had : ℕ → Bool) (parts : List ℕ) (from : ℕ) (sets : List (Contents R D)) : Type 0 where
     pub all : List (Loaded R D)
     pub rest : IsAtRest base had parts all

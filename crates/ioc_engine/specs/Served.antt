@@ -1,5 +1,5 @@
--- What a call of the engine was.
--- Application Developer's Guide, "Database Locking, Scanning, and Processing". The journal is this project's own.
+-- Calls of the engine. Application Developer's Guide, "Database Locking, Scanning, and Processing".
+-- The journal is this project's own.
 use Rattle.std.specs.Prelude.{ℕ, ◌≡◌, ◌⊎◌, Some, Contains}
 use Rattle.ioc_values.specs.declared.error.IocError.{IocError}
 use Rattle.ioc_values.specs.declared.error.IocError.TheVariants.{Stopped}
@@ -17,19 +17,21 @@ use Rattle.ioc_topology.specs.Change.{IsRefused}
 use Rattle.ioc_lent.specs.Holding.{HeldView, numbers_of, IsSoundlyHeld, Serves, Tells}
 
 module _ {R : Type 0} (D : Type 0) (k : RecordRules R) (base : World R) where
-  -- a sound set has the record, which has no such field, or it can't be put
+  -- A sound set has the record, and the record has no such field, or the field can't be put.
   pub record IsInVain (number : ℕ) (event : Event) (error : IocError) : Type 0 where
     pub held : HeldView R D
     pub here : Contains (numbers_of held) number
     pub sound : IsSoundlyHeld k base held
     pub none : no_call k (now_of held.set) event ≡ Some error
 
-  -- why a call is none: the engine was closed, the journal has no place for it, memory is wanting, there are no more records than its number
-  -- says, or the record has no such field, or it can't be put
+  -- The errors of a call that isn't added to the journal: the engine was closed, the journal has no
+  -- place left, allocation fails, there is no record with this number, the record has no such
+  -- field, or the field can't be put.
   abbrev pub CallIsRefused : ℕ → ℕ → Event → IocError → Type 0
   CallIsRefused count number event error = (error ≡ Stopped) ⊎ (IsNoPlace error ⊎ (IsRefused count number error ⊎ IsInVain number event error))
 
-  -- a question of a desk was answered by a set that has the record, was sound, and is so again
+  -- A question of a desk was answered by the set of the record, which was sound before and is sound
+  -- afterwards.
   pub record WasTold (number : ℕ) (desk : DeskView) (at_moment : ℕ) (asked : Event) (reply : Reply) (desk_then : DeskView) : Type 0 where
     pub held : HeldView R D
     pub held_then : HeldView R D
@@ -38,7 +40,8 @@ module _ {R : Type 0} (D : Type 0) (k : RecordRules R) (base : World R) where
     pub tells : Tells k base held desk at_moment asked reply held_then desk_then
     pub after : IsSoundlyHeld k base held_then
 
-  -- an event of a desk was done on a set that has the record, was sound, and is so again
+  -- An event of a desk was done on the set of the record, which was sound before and is sound
+  -- afterwards.
   pub record WasServed (gives : D → Ask → ℕ → Answer → D → Type 0) (number : ℕ) (desk : DeskView) (at_moment : ℕ) (done : Event) (reply : Reply) (desk_then : DeskView) (come_to : World R) : Type 0 where
     pub held : HeldView R D
     pub held_then : HeldView R D

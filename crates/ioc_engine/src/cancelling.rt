@@ -1,4 +1,4 @@
-//! Puts with notification that are given up by calls of the engine.
+//! Cancels of puts with notification.
 ghost use Rattle.std.specs.Prelude.{◌≡◌, ◌⊎◌, All, IfOk, IfErr, IfNone, OnErr};
 ghost use Rattle.std.specs.Option.{IfSome};
 ghost use Rattle.ioc_values.specs.declared.error.IocError.TheVariants.{Stopped};
@@ -19,7 +19,7 @@ use ioc_workplace::Workplace;
 use std::alloc::Global;
 use std::sync::Wait;
 
-// What always holds of each of these sets.
+// States the invariant of each of these sets. Does nothing.
 pub(crate) fn all_sound<K: RecordKind + Drop, B: Base<K>, D: Drop>(sets: &[Held<K, B, D>])
     ensures { All (IsSoundlyHeld K.rules B.base) sets.now }
 {
@@ -29,7 +29,8 @@ pub(crate) fn all_sound<K: RecordKind + Drop, B: Base<K>, D: Drop>(sets: &[Held<
 }
 
 impl<K: RecordKind + Drop, B: Base<K>, D: Device> Engine<K, B, D> {
-    // Refuses to give up a put with notification that isn't live; nothing is done where it is.
+    // Refuses to cancel a put with notification that isn't live. Returns `None` if it is live;
+    // nothing is done then.
     fn refuse_stale<R: Wait>(
         &self,
         rt: &R,
@@ -52,7 +53,8 @@ impl<K: RecordKind + Drop, B: Base<K>, D: Device> Engine<K, B, D> {
         Ok(Some(told))
     }
 
-    // Gives up a put with notification in all sets on which it is live, if these are all that have it.
+    // Cancels a put with notification in all sets on which it is live. Returns `None` if some of
+    // its records aren't in these sets; nothing is done then.
     fn give_up<R: Wait>(
         &self,
         rt: &R,
@@ -84,13 +86,16 @@ impl<K: RecordKind + Drop, B: Base<K>, D: Device> Engine<K, B, D> {
         given
     }
 
-    /// Gives up the put with notification of this number, in one event of all lock sets that have it: no record has it any more, it waits nowhere, and it
-    /// doesn't end. The sets are taken out of their cells for that, under the topology guard.
+    /// Cancels the put with notification with this number, in one event of all lock sets with its
+    /// records: no record is part of it any more, it waits nowhere, and it doesn't end. For that,
+    /// the sets are taken out of their cells under the topology guard.
     ///
     /// # Errors
     ///
-    /// [`IocError::Stopped`]: the engine was closed. [`IocError::JournalFull`], [`IocError::NoMemory`]. Nothing has changed then. That it isn't live
-    /// ([`IocError::Stale`]) is a reply, and stands in the journal.
+    /// [`IocError::Stopped`] if the engine was closed. [`IocError::JournalFull`] if the journal has
+    /// no place left. [`IocError::NoMemory`] if allocation fails. Nothing has changed then. If the
+    /// put with notification isn't live, [`IocError::Stale`] is the reply, which is added to the
+    /// journal.
     pub fn cancel<R: Wait>(
         &self,
         rt: &R,

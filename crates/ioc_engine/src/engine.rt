@@ -26,17 +26,17 @@ use std::marker::Model;
 use std::sync::atomic::{AtomicBool, Ordering};
 use std::sync::{Mutex, Wait};
 
-/// The records of a database in their lock sets, each set under a lock of its own, and the journal of all calls. Contracts see it as the number
-/// of its records.
+/// The records of a database in their lock sets, each set under its own lock, and the journal of
+/// all calls. Contracts see the number of records.
 #[derive(Drop)]
 pub struct Engine<K: RecordKind + Drop, B: Base<K>, D: Drop> {
     pub(crate) sets: Directory<Held<K, B, D>>,
     pub(crate) book: Book<K, B>,
-    // Its lock is taken while the lock of a set is held, and before that of the journal.
+    // Locked while the lock of a set is held, and before the journal.
     pub(crate) puts: Mutex<AllPuts<K, B>>,
-    // Its lock is taken while no other is held.
+    // Locked while no other lock is held.
     pub(crate) once: Mutex<OnceList<OnceTickets<K, B>>>,
-    // Is raised once, and stays so.
+    // Set once, and never cleared.
     pub(crate) closed: AtomicBool,
 }
 
@@ -49,8 +49,8 @@ impl<K: RecordKind + Drop, B: Base<K>, D: Drop> Model for Engine<K, B, D> {
 }
 
 impl<K: RecordKind + Drop, B: Base<K>, D: Drop> Engine<K, B, D> {
-    /// The engine of these sets, whose calls are kept in this journal, whose puts with notification are counted in this table, and in whose list
-    /// records wait that are to be requested once more.
+    /// Creates an engine with these sets, the journal of its calls, the table of its puts with
+    /// notification, and the list of its once requests.
     pub fn new(
         sets: Directory<Held<K, B, D>>,
         book: Book<K, B>,
@@ -68,21 +68,22 @@ impl<K: RecordKind + Drop, B: Base<K>, D: Drop> Engine<K, B, D> {
         }
     }
 
-    /// Closes the engine: no call is begun from then on. A call that has begun is done.
+    /// Closes the engine: no call begins from then on. A call that has begun is finished.
     pub fn close(&self) {
         self.closed.store(true, Ordering::SeqCst);
     }
 
-    /// Was it closed?
+    /// Returns whether the engine was closed.
     pub fn is_closed(&self) -> bool {
         self.closed.load(Ordering::SeqCst)
     }
 
-    /// A desk, by which a caller makes its calls: it has made none.
+    /// Opens a desk, by which a caller makes its calls. It has made none yet.
     ///
     /// # Errors
     ///
-    /// [`IocError::Stopped`] where the engine was closed, and [`IocError::JournalFull`] where the numbers of desks are used up.
+    /// [`IocError::Stopped`] if the engine was closed. [`IocError::JournalFull`] if no number is
+    /// left for a desk.
     pub fn open_desk<R: Wait>(&self, rt: &R) -> Result<Desk<K, B>, IocError>
         ensures new { IfOk result (λ d. (d.next ≡ 0) × (calls_by d.number (calls d.seen) ≡ [])) }
         ensures refused { IfErr result (λ error. (error ≡ Stopped) ⊎ (error ≡ JournalFull)) }
@@ -93,7 +94,8 @@ impl<K: RecordKind + Drop, B: Base<K>, D: Drop> Engine<K, B, D> {
         self.book.open_desk(rt)
     }
 
-    /// A desk takes over what a receipt knows, where that is more than it has seen.
+    /// Moves a desk on to the list of a receipt, if that is longer than the list that the desk has
+    /// seen.
     pub fn learn<R: Wait>(&self, rt: &R, desk: &mut Desk<K, B>, receipt: &mut Receipt<K, B>)
         ensures desk { (desk.new.number ≡ desk.old.number) × (desk.new.next ≡ desk.old.next) }
         ensures learnt { desk.new.seen ≡ longer desk.old.seen receipt.old }
@@ -108,8 +110,9 @@ impl<K: RecordKind + Drop, B: Base<K>, D: Drop> Engine<K, B, D> {
 }
 
 impl<K: RecordKind + Drop, B: Base<K>, D: Device> Engine<K, B, D> {
-    // Does an event on the set of a record, and then what it has sent. This is inlined, as is what it calls up to the journal, so that each call knows which
-    // kind of event it does and the entry is put together where it is kept.
+    // Performs an event on the set of a record, and then takes what the event has sent. Inlined, as
+    // are its callees up to the journal, so that each call knows its kind of event and the entry is
+    // built in its place.
     #[inline(always)]
     fn serve<R: Wait>(
         &self,
@@ -152,8 +155,9 @@ impl<K: RecordKind + Drop, B: Base<K>, D: Device> Engine<K, B, D> {
     ///
     /// # Errors
     ///
-    /// [`IocError::Stopped`]: the engine was closed. [`IocError::NoRecord`]: there are no more records than the number says.
-    /// [`IocError::JournalFull`], [`IocError::NoMemory`]. Nothing has changed then.
+    /// [`IocError::Stopped`] if the engine was closed. [`IocError::NoRecord`] if there is no record
+    /// with this number. [`IocError::JournalFull`] if the journal has no place left.
+    /// [`IocError::NoMemory`] if allocation fails. Nothing has changed then.
     pub fn process<R: Wait>(
         &self,
         rt: &R,
@@ -172,13 +176,15 @@ impl<K: RecordKind + Drop, B: Base<K>, D: Device> Engine<K, B, D> {
         self.serve(rt, alloc, desk, workplace, number, &event, moment)
     }
 
-    /// Puts a value into a field, and processes the record where the field or the record asks for it.
+    /// Puts a value into a field, and processes the record if the field or the record asks for it.
     ///
     /// # Errors
     ///
-    /// [`IocError::Stopped`]: the engine was closed. [`IocError::NoRecord`]: there are no more records than the number says.
-    /// [`IocError::NoField`]: the record has no such field. [`IocError::NoMod`]: the field can't be put. [`IocError::JournalFull`],
-    /// [`IocError::NoMemory`]. Nothing has changed then. What else is refused is a reply, and stands in the journal.
+    /// [`IocError::Stopped`] if the engine was closed. [`IocError::NoRecord`] if there is no record
+    /// with this number. [`IocError::NoField`] if the record has no such field. [`IocError::NoMod`]
+    /// if the field can't be put. [`IocError::JournalFull`] if the journal has no place left.
+    /// [`IocError::NoMemory`] if allocation fails. Nothing has changed then. Any other refusal is a
+    /// reply, which is added to the journal.
     pub fn put<R: Wait>(
         &self,
         rt: &R,
@@ -199,12 +205,15 @@ impl<K: RecordKind + Drop, B: Base<K>, D: Device> Engine<K, B, D> {
         self.serve(rt, alloc, desk, workplace, number, &event, moment)
     }
 
-    /// The device of a record has answered at last, to the wait of this number.
+    /// Completes a record with the asynchronous answer of its device. `wait` is the number of the
+    /// completion that the record awaits.
     ///
     /// # Errors
     ///
-    /// [`IocError::Stopped`]: the engine was closed. [`IocError::NoRecord`]: there are no more records than the number says.
-    /// [`IocError::JournalFull`], [`IocError::NoMemory`]. Nothing has changed then. What else is refused is a reply, and stands in the journal.
+    /// [`IocError::Stopped`] if the engine was closed. [`IocError::NoRecord`] if there is no record
+    /// with this number. [`IocError::JournalFull`] if the journal has no place left.
+    /// [`IocError::NoMemory`] if allocation fails. Nothing has changed then. Any other refusal is a
+    /// reply, which is added to the journal.
     pub fn complete<R: Wait>(
         &self,
         rt: &R,
@@ -225,12 +234,14 @@ impl<K: RecordKind + Drop, B: Base<K>, D: Device> Engine<K, B, D> {
         self.serve(rt, alloc, desk, workplace, number, &event, moment)
     }
 
-    /// The text of a field.
+    /// Returns the text of a field.
     ///
     /// # Errors
     ///
-    /// [`IocError::Stopped`]: the engine was closed. [`IocError::NoRecord`]: there are no more records than the number says.
-    /// [`IocError::NoField`]: the record has no such field. [`IocError::JournalFull`], [`IocError::NoMemory`]. Nothing has changed then.
+    /// [`IocError::Stopped`] if the engine was closed. [`IocError::NoRecord`] if there is no record
+    /// with this number. [`IocError::NoField`] if the record has no such field.
+    /// [`IocError::JournalFull`] if the journal has no place left. [`IocError::NoMemory`] if
+    /// allocation fails. Nothing has changed then.
     pub fn get<R: Wait>(
         &self,
         rt: &R,

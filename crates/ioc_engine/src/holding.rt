@@ -1,4 +1,4 @@
-//! Sets that are held from the load on.
+//! The journaled sets of a loaded database.
 ghost use Rattle.std.specs.Prelude.{◌≡◌, ◌+◌, ◌++◌, [], length, IfOk, OnOk};
 ghost use Rattle.std.specs.FinMap as map;
 ghost use Rattle.ioc_ledger.specs.Requests.{no_counts};
@@ -24,7 +24,7 @@ use std::alloc::{AllocError, Global};
 use std::marker::Brand;
 use std::mem;
 
-// A set of these members, whose holder gets the keys of `P`.
+// A journaled set of these members, with a pass that owns the keys of `P`.
 fn hold_as<P: Keys, K: RecordKind, B: Base<K>, D>(
     alloc: Global,
     cell: &Cell,
@@ -50,7 +50,8 @@ fn hold_as<P: Keys, K: RecordKind, B: Base<K>, D>(
     Held::new(set, pass)
 }
 
-/// A set of these members, whose holder gets the keys of their records and has seen no call yet.
+/// A journaled set of these members, with a pass that owns the keys of their records and has seen
+/// no call.
 pub fn hold<K: RecordKind, B: Base<K>, D>(
     alloc: Global,
     cell: &Cell,
@@ -73,7 +74,8 @@ pub fn hold<K: RecordKind, B: Base<K>, D>(
     hold_as::<Brand, K, B, D>(alloc, cell, master, members)
 }
 
-// A set of the records of one part, whose holder gets the keys of these records and has seen no call yet.
+// A journaled set of the records of one part, with a pass that owns the keys of these records and
+// has seen no call.
 fn hold_part<K: RecordKind, B: Base<K>, D>(
     alloc: Global,
     cell: &Cell,
@@ -94,11 +96,12 @@ fn hold_part<K: RecordKind, B: Base<K>, D>(
     hold(alloc, cell, master, members)
 }
 
-/// The sets of all parts, in a directory for so many records; a part with no record has no set. What is lent is left without records.
+/// Moves the sets of all parts into a directory for these records. A part without records has no
+/// set. `sets` is left without records.
 ///
 /// # Errors
 ///
-/// [`AllocError`] where memory is wanting.
+/// [`AllocError`] if allocation fails.
 pub fn hold_all<K: RecordKind + Drop, B: Base<K>, D: Drop>(
     alloc: Global,
     cell: &Cell,

@@ -1,10 +1,12 @@
-//! The engine for threads: lock sets in a directory, and one journal of all calls.
+//! The engine for several threads: lock sets in a directory, and one journal of all calls.
 //!
-//! A call finds the lock of its record's set, works on that set under the lock, and stands in the journal before the lock is let go. So
-//! each desk's calls stand in one list by which an engine with all records in one map could have answered them.
+//! A call takes the lock of its record's set, works on that set, and is added to the journal before
+//! the lock is released. So the calls of all desks are in one list, which is a possible run of an
+//! engine with all records in one map.
 //!
-//! At the start records that links join come into one set. The holder of each set is given the keys of its records, and knows that the world at the
-//! load has them as they are. Application Developer's Guide, "Database Locking, Scanning, and Processing", lock sets; "iocInit".
+//! At the start, records that are connected by links come into one set. The pass of each set gets
+//! the keys of its records, and knows that they are as in the world at the load. Application
+//! Developer's Guide, "Database Locking, Scanning, and Processing", lock sets; "iocInit".
 #![tactic(auto)]
 
 mod cancelling;

@@ -20,7 +20,7 @@ use std::alloc::Global;
 use std::sync::Wait;
 
 impl<K: RecordKind + Drop, B: Base<K>, D: Device> Engine<K, B, D> {
-    // Changes a link of a record on these sets, which are lent: the first has the record.
+    // Changes a link of a record of the first of these sets.
     fn change_lent<R: Wait>(
         &self,
         rt: &R,
@@ -52,15 +52,18 @@ impl<K: RecordKind + Drop, B: Base<K>, D: Device> Engine<K, B, D> {
         changed
     }
 
-    /// Changes a link of a record, under the topology guard and the locks of the sets that it concerns alone: the set of the record falls
-    /// apart, or goes together with that of the record which the link names then, and each record is found where it is. `link` and `twin` are
-    /// alike.
+    /// Changes a link of a record, under the topology guard and the locks of the sets that it
+    /// concerns. The set of the record may part in two, or its part joins the set of the record
+    /// that the link leads to. Each record is found in its set afterwards. `link` and `twin` are
+    /// equal.
     ///
     /// # Errors
     ///
-    /// [`IocError::Stopped`]: the engine was closed. [`IocError::NoRecord`]: there are no more records than one of the two numbers says.
-    /// [`IocError::NoField`]: the field is no link of the record. [`IocError::JournalFull`], [`IocError::NoMemory`]. Nothing stands in the
-    /// journal then. That DISP forbids it is a reply, and stands in the journal.
+    /// [`IocError::Stopped`] if the engine was closed. [`IocError::NoRecord`] if there is no record
+    /// with one of the two numbers. [`IocError::NoField`] if the field is no link of the record.
+    /// [`IocError::JournalFull`] if the journal has no place left. [`IocError::NoMemory`] if
+    /// allocation fails. Nothing is added to the journal then. If DISP forbids the change, the
+    /// refusal is a reply, which is added to the journal.
     pub fn set_link<R: Wait>(
         &self,
         rt: &R,
@@ -90,7 +93,8 @@ impl<K: RecordKind + Drop, B: Base<K>, D: Device> Engine<K, B, D> {
         )
     }
 
-    // Finds the sets of a link change under the topology guard, takes their locks, and does it there.
+    // Finds and locks the sets of a link change, and changes the link. The caller holds the
+    // topology guard.
     fn relink<R: Wait>(
         &self,
         rt: &R,

@@ -8,7 +8,7 @@ use ioc_record::RecordKind;
 use std::alloc::{AllocError, Global};
 use std::vec::IntoIter;
 
-// The device at the next place; none where there is none at that place, and past the last place.
+// Returns the next device, or `None` if that place has none or is past the last.
 fn next_device<D: Drop>(beside: &mut IntoIter<Option<D>>) -> Option<D>
     ensures first { result ≡ slice_index_or (into_iter_items beside.old) 0 None }
     ensures left { into_iter_items beside.new ≡ drop 1 (into_iter_items beside.old) }
@@ -19,11 +19,12 @@ fn next_device<D: Drop>(beside: &mut IntoIter<Option<D>>) -> Option<D>
     }
 }
 
-/// The records of a database, each with a copy of it as its base, and with the device at its place; where there is none at that place, it has none.
+/// Returns the records of a database, each with a copy of itself as its base and with the device at
+/// its place, if there is one.
 ///
 /// # Errors
 ///
-/// [`AllocError`] where memory is wanting.
+/// [`AllocError`] if allocation fails.
 pub fn with_copies<K: RecordKind + Drop, D: Drop>(
     alloc: Global,
     records: Vec<K>,

@@ -1,4 +1,4 @@
-//! Puts with notification by calls of the engine.
+//! Puts with notification.
 ghost use Rattle.std.specs.Prelude.{◌≡◌, ◌⊎◌, ℕ, IfOk, IfErr, OnErr};
 ghost use Rattle.ioc_values.specs.declared.error.IocError.TheVariants.{QueueFull, Stopped};
 ghost use Rattle.ioc_events.specs.declared.event.Event.TheVariants.{Put, Notify};
@@ -22,15 +22,18 @@ use std::alloc::Global;
 use std::sync::Wait;
 
 impl<K: RecordKind + Drop, B: Base<K>, D: Device> Engine<K, B, D> {
-    /// Puts a value into a field, as [`Engine::put`] does, with a notification: it passes to the records that are processed for it, and ends when the
-    /// last of them is done. Its number is in the reply. Where the record awaits its device, the put waits for it.
+    /// Puts a value into a field as [`Engine::put`] does, with a notification: the records that are
+    /// processed for it become part of the put with notification, which ends when the last of them
+    /// is done. Its number is in the reply. If the record awaits its device, the put waits for it.
     ///
     /// # Errors
     ///
-    /// [`IocError::Stopped`]: the engine was closed. [`IocError::NoRecord`]: there are no more records than the number says.
-    /// [`IocError::NoField`]: the record has no such field. [`IocError::NoMod`]: the field can't be put. [`IocError::QueueFull`]: 256 are live,
-    /// or the numbers are used up. [`IocError::JournalFull`], [`IocError::NoMemory`]. Nothing has changed then. What else is refused is a
-    /// reply, and stands in the journal.
+    /// [`IocError::Stopped`] if the engine was closed. [`IocError::NoRecord`] if there is no record
+    /// with this number. [`IocError::NoField`] if the record has no such field. [`IocError::NoMod`]
+    /// if the field can't be put. [`IocError::QueueFull`] if 256 puts with notification are live or
+    /// no number is left. [`IocError::JournalFull`] if the journal has no place left.
+    /// [`IocError::NoMemory`] if allocation fails. Nothing has changed then. Any other refusal is a
+    /// reply, which is added to the journal.
     pub fn put_notify<R: Wait>(
         &self,
         rt: &R,
@@ -68,11 +71,13 @@ impl<K: RecordKind + Drop, B: Base<K>, D: Device> Engine<K, B, D> {
         unreachable!()
     }
 
-    /// Is the put with notification of this number live? It is from its call until the last that has it is done, or it is given up.
+    /// Replies whether the put with notification with this number is live, which it is from its
+    /// call until the last of its records is done or it is canceled.
     ///
     /// # Errors
     ///
-    /// [`IocError::Stopped`]: the engine was closed. [`IocError::JournalFull`], [`IocError::NoMemory`]. Nothing has changed then.
+    /// [`IocError::Stopped`] if the engine was closed. [`IocError::JournalFull`] if the journal has
+    /// no place left. [`IocError::NoMemory`] if allocation fails. Nothing has changed then.
     pub fn live<R: Wait>(
         &self,
         rt: &R,

@@ -1,4 +1,4 @@
-//! What an engine is named by.
+//! The cell that an engine is named by.
 ghost use Rattle.std.specs.Prelude.{◌≡◌, [], IfOk};
 ghost use Rattle.crossbeam_utils.specs.Seq.{cell_view};
 ghost use Rattle.ioc_line.specs.Line.{keeper};
@@ -6,11 +6,12 @@ ghost use Rattle.ioc_line.specs.Line.{keeper};
 use ioc_line::{Cell, Token};
 use std::alloc::{AllocError, Global};
 
-/// The cell of an engine that isn't started yet, and its keeper's pass, which has seen no call.
+/// Creates the cell of an engine that isn't started yet, and the keeper's pass, which has seen no
+/// call.
 ///
 /// # Errors
 ///
-/// [`AllocError`] where memory is wanting.
+/// [`AllocError`] if allocation fails.
 pub fn new_cell(alloc: Global) -> Result<(Cell, Token), AllocError>
     ensures table { IfOk result (λ x. x.1.table_id ≡ x.0.table.shared.table_id) }
     ensures master { IfOk result (λ x. cell_view x.1 ≡ keeper [] []) }

@@ -1,4 +1,4 @@
-//! Which records are in one lock set.
+//! The records of each lock set.
 ghost use Rattle.std.specs.Prelude.{◌≡◌, ◌⊎◌, ◌<◌, ℕ, false, slice_index_or, All, Any, Contains, IfOk, IfErr};
 ghost use Rattle.ioc_lent.specs.Holding.{numbers_of};
 ghost use Rattle.ioc_topology.specs.Change.{IsRefused};
@@ -16,7 +16,7 @@ use ioc_values::IocError;
 use std::alloc::{AllocError, Global};
 use std::sync::Wait;
 
-// The numbers of a set's records.
+// Returns the numbers of a set's records.
 fn numbers_in<K: RecordKind + Drop, B: Base<K>, D: Drop>(
     alloc: Global,
     held: &Held<K, B, D>,
@@ -30,14 +30,14 @@ fn numbers_in<K: RecordKind + Drop, B: Base<K>, D: Drop>(
     Ok(numbers)
 }
 
-// Has this record been seen?
+// Returns whether this record was seen.
 fn is_marked(marks: &Vec<bool>, number: usize) -> bool
     ensures { result ≡ slice_index_or marks.now.items number false }
 {
     number < marks.len() && marks[number]
 }
 
-// These records have been seen: no other gets a mark.
+// Marks these records as seen, and no others.
 fn mark_all(numbers: &[RecordNo], marks: &mut Vec<bool>)
     ensures { (q : ℕ) → IsMarked marks.new.items q → IsMarked marks.old.items q ⊎ Contains numbers.now q }
 {
@@ -50,7 +50,7 @@ fn mark_all(numbers: &[RecordNo], marks: &mut Vec<bool>)
 }
 
 impl<K: RecordKind + Drop, B: Base<K>, D: Drop> Engine<K, B, D> {
-    // The records of the set that has this one.
+    // Returns the numbers of the records of the set with this record.
     fn part_of<R: Wait>(
         &self,
         rt: &R,
@@ -75,12 +75,13 @@ impl<K: RecordKind + Drop, B: Base<K>, D: Drop> Engine<K, B, D> {
         unreachable!()
     }
 
-    /// The records of each set, as they were while its lock was held: sets that link changes part and join meanwhile may be seen before or after that.
-    /// Each record is in one list at least, and in one alone where no link is changed meanwhile.
+    /// Returns the numbers of the records of each set, as they were while its lock was held: sets
+    /// that are parted or joined by link changes meanwhile may be seen before or after the change.
+    /// Each record is in at least one list, and in exactly one if no link is changed meanwhile.
     ///
     /// # Errors
     ///
-    /// [`IocError::Stopped`]: the engine was closed. [`IocError::NoMemory`].
+    /// [`IocError::Stopped`] if the engine was closed. [`IocError::NoMemory`] if allocation fails.
     pub fn parts<R: Wait>(&self, rt: &R, alloc: Global) -> Result<Vec<Vec<RecordNo>>, IocError>
         ensures seen { IfOk result (λ all. All (λ v. IsPartSeen D K.rules B.base v.items) all.items) }
         ensures each { IfOk result (λ all. (q : ℕ) → q < self.now → Any (λ v. Contains v.items q) all.items) }

@@ -19,7 +19,7 @@ use std::alloc::Global;
 use std::sync::Wait;
 use std::sync::ledger::Ledger;
 
-/// What an engine leaves.
+/// What is left of an engine when it ends.
 #[derive(Drop)]
 pub struct Report<K: RecordKind + Drop, B: Base<K>, D: Drop> {
     /// The lock sets, each with its records and their devices.
@@ -28,26 +28,27 @@ pub struct Report<K: RecordKind + Drop, B: Base<K>, D: Drop> {
     pub journal: Journal<K, B>,
     /// The cell that ties the passes of receipts and desks to the journal.
     pub cell: Cell,
-    /// What came of the requests that were to be made once more.
+    /// The counts of the once requests.
     pub once: OnceTally,
 }
 
-/// The tickets of requests that were to be made once more. Each was begun with its request.
+/// The counts of the tickets of once requests. Each ticket begins with its request.
 #[derive(Clone, Copy, PartialEq, Eq)]
 pub struct OnceTally {
-    /// How many were begun: as many as such requests were sent.
+    /// The number of tickets that were begun, which is the number of once requests that were sent.
     pub begun: u64,
-    /// How many were spent in their requests.
+    /// The number of tickets that were spent by their requests.
     pub spent: u64,
-    /// How many were handed back: those whose request waited at the end, or found no room.
+    /// The number of tickets that were handed back, because their request was waiting at the end or
+    /// found no room.
     pub handed_back: u64,
-    /// How many are still out.
+    /// The number of tickets that are still out.
     pub out: u64,
-    /// How many requests found no room.
+    /// The number of requests that found no room.
     pub dropped: u64,
 }
 
-// The requests that wait are given up: their tickets are handed back.
+// Drops the waiting requests and hands their tickets back.
 fn give_up_all<L: Ledger>(once: OnceList<L>) -> OnceTally
     ensures begun { result.begun ≡ once.tickets.begun }
     ensures spent { result.spent ≡ once.tickets.spent }
@@ -66,7 +67,7 @@ fn give_up_all<L: Ledger>(once: OnceList<L>) -> OnceTally
     }
 }
 
-// The counts of these sets together.
+// Returns the counts of these sets together.
 fn counts_of<K: RecordKind + Drop, B: Base<K>, D: Drop>(sets: &[Held<K, B, D>]) -> Tally
     ensures { result ≡ counts_in sets.now }
 {
@@ -77,7 +78,7 @@ fn counts_of<K: RecordKind + Drop, B: Base<K>, D: Drop>(sets: &[Held<K, B, D>]) 
     tally
 }
 
-// Each record of these sets has its device.
+// States that each record of these sets has its device.
 fn all_keep_devices<K: RecordKind + Drop, B: Base<K>, D: Drop>(sets: &[Held<K, B, D>])
     ensures { All (λ h. KeepsDevices B.had_device h.set) sets.now }
 {
@@ -86,7 +87,7 @@ fn all_keep_devices<K: RecordKind + Drop, B: Base<K>, D: Drop>(sets: &[Held<K, B
     }
 }
 
-// The holders of sets learn all calls.
+// Moves the sets on to the list of all calls.
 fn tell_all<K: RecordKind + Drop, B: Base<K>, D: Drop, R: Wait>(
     rt: &R,
     cell: &Cell,
@@ -104,11 +105,11 @@ fn tell_all<K: RecordKind + Drop, B: Base<K>, D: Drop, R: Wait>(
 }
 
 impl<K: RecordKind + Drop, B: Base<K>, D: Drop> Engine<K, B, D> {
-    /// Ends the engine. It waits for ever if a record is in no set.
+    /// Ends the engine. Waits forever if a record is in no set.
     ///
     /// # Errors
     ///
-    /// The engine itself, as it was, where memory is wanting.
+    /// The unchanged engine if allocation fails.
     pub fn stop<R: Wait>(self, rt: &R, alloc: Global) -> Result<Report<K, B, D>, Engine<K, B, D>>
         ensures end { IfOk result (λ r. IsEnd K.rules B.base B.had_device self r.journal.filled r.sets.items) }
         ensures table { IfOk result (λ r. r.cell.table.shared.table_id ≡ B.table) }
@@ -146,14 +147,15 @@ impl<K: RecordKind + Drop, B: Base<K>, D: Drop> Engine<K, B, D> {
 }
 
 impl<K: RecordKind + Drop, B: Base<K>, D: Drop> Report<K, B, D> {
-    /// The counts of requests, and of answers that came later, of all sets together.
+    /// Returns the counts of requests and of asynchronous answers of all sets together.
     pub fn tally(&self) -> Tally
         ensures { result ≡ counts_in self.now.sets.items }
     {
         counts_of(self.sets.as_slice())
     }
 
-    /// Tells the caller that the journal's list begins with what a receipt of the engine knows.
+    /// Compares a receipt of the engine with the journal, whose list begins with what the receipt
+    /// knows.
     pub fn compare<R: Wait>(&mut self, rt: &R, receipt: &mut Receipt<K, B>)
         requires table { self.old.cell.table.shared.table_id ≡ B.table }
         ensures begins { Begins receipt.old self.old.journal.filled }
@@ -163,8 +165,8 @@ impl<K: RecordKind + Drop, B: Base<K>, D: Drop> Report<K, B, D> {
         self.journal.compare_receipt(rt, &self.cell, receipt);
     }
 
-    /// The call that a receipt was given for, which was compared: it stands at the receipt's place in the journal, and the receipt's list
-    /// ends with it.
+    /// Returns the call of a receipt that was compared: it is at the receipt's place in the
+    /// journal, and the receipt's list ends with it.
     pub fn entry(&self, receipt: &Receipt<K, B>) -> &JournalEntry
         requires begins { Begins receipt.now self.now.journal.filled }
         ensures { IsEntryOf receipt.now self.now.journal.filled result.now }

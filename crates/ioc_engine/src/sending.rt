@@ -1,4 +1,4 @@
-//! What events of the engine have sent.
+//! What the events of the engine send.
 use crate::engine::Engine;
 use ioc_journal::Base;
 use ioc_once::add_once;
@@ -8,7 +8,7 @@ use std::marker::PhantomData;
 use std::sync::Wait;
 use std::sync::ledger::Ledger;
 
-/// The ledger of the tickets of records that are to be requested once more.
+/// The ledger of the tickets of once requests.
 pub struct OnceTickets<K, B: Base<K>> {
     of: PhantomData<B>,
     kind: PhantomData<K>,
@@ -21,9 +21,9 @@ impl<K, B: Base<K>> Ledger for OnceTickets<K, B> {
 }
 
 impl<K: RecordKind + Drop, B: Base<K>, D: Drop> Engine<K, B, D> {
-    // What the last event in this workplace has sent is done, while no lock is held: records that are to be requested once more wait for it. Nobody
-    // serves them yet, and posted events and changes of scan lists go nowhere yet. No clause sees the list, which lies under a lock: that of
-    // `add_once` says what becomes of it.
+    // Takes what the last event has sent, while no lock is held: its once requests are added to the
+    // list. They aren't served yet, and posted events and changes of scan lists have no effect yet.
+    // The list is under a lock, so this has no contract; see that of `add_once`.
     pub(crate) fn do_sent<R: Wait>(&self, rt: &R, workplace: &Workplace<K, D>) {
         let items = workplace.items();
         if !items.is_empty() {

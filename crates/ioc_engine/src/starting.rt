@@ -1,4 +1,4 @@
-//! The start.
+//! The start of an engine.
 ghost use Rattle.std.specs.Prelude.{◌≡◌, ◌-◌, ◌^◌, ◌↔◌, [], All, IsTrue, IfOk, IfErr, OnOk, length};
 ghost use Rattle.crossbeam_utils.specs.Seq.{cell_view};
 ghost use Rattle.ioc_line.specs.Line.{keeper};
@@ -25,20 +25,20 @@ use ioc_topology::Directory;
 use std::alloc::{AllocError, Global};
 use std::sync::ledger::Blank;
 
-/// Why an engine isn't started.
+/// The reason why an engine can't be started.
 #[derive(Clone, Copy, PartialEq, Eq)]
 pub enum StartError {
-    /// A limit is out of its range.
+    /// A limit is out of range.
     BadValue,
-    /// Memory is wanting.
+    /// Allocation fails.
     NoMemory,
-    /// A record is active, awaits a completion, or has a put with notification.
+    /// A record is active, awaits a completion, or is part of a put with notification.
     NotAtRest,
-    /// A link leads to a record that isn't there.
+    /// A link leads to a record that doesn't exist.
     LinkLeaves,
 }
 
-// Is a record idle, and awaits nothing, and has no put with notification?
+// Returns whether a record is idle, awaits no completion, and is part of no put with notification.
 fn is_at_rest<K: RecordKind>(item: &K) -> bool
     ensures { IsTrue result ↔ IsIdle K.rules item.now }
 {
@@ -46,14 +46,15 @@ fn is_at_rest<K: RecordKind>(item: &K) -> bool
     !common.active && common.pending.is_none() && common.notification.is_none()
 }
 
-// Is each record?
+// Returns whether all records are at rest.
 fn are_at_rest<K: RecordKind, D>(all: &[Loaded<K, D>]) -> bool
     ensures { IsTrue result ↔ All (λ l. IsIdle K.rules l.fields) all.now }
 {
     all.iter().all(|loaded| is_at_rest(&loaded.fields))
 }
 
-// The table of all puts with notification, whose keeper gets their key, and the list of requests that are to be made once more: both are empty.
+// Creates the table of puts with notification, whose pass gets their key, and the list of once
+// requests. Both are empty.
 fn new_lists<K: RecordKind, B: Base<K>>(
     alloc: Global,
     cell: &Cell,
@@ -75,7 +76,8 @@ fn new_lists<K: RecordKind, B: Base<K>>(
     Ok((puts, once))
 }
 
-// The numbers of the parts of records that an engine may be started with. They are only lent, so that no refusal drops them.
+// Returns the part of each record, if an engine can be started with these records. They are passed
+// by reference, so a refusal doesn't drop them.
 fn startable_parts<K: RecordKind, D>(
     alloc: Global,
     all: &[Loaded<K, D>],
@@ -104,8 +106,8 @@ fn startable_parts<K: RecordKind, D>(
     Ok(parts)
 }
 
-// What an engine has beside its book: the sets of all parts, and both lists. The cell and the pass are only lent, so that want of memory drops
-// neither of them here.
+// Creates all that an engine has beside the journal: the sets of all parts, the table and the list.
+// The cell and the pass are passed by reference, so a failed allocation drops neither.
 fn holdings<K: RecordKind + Drop, B: Base<K>, D: Drop>(
     alloc: Global,
     cell: &Cell,
@@ -143,12 +145,14 @@ fn holdings<K: RecordKind + Drop, B: Base<K>, D: Drop>(
     Ok((directory, puts, once))
 }
 
-/// The engine of these records, each with its device, of which none was requested yet. Its name is `B`, which stands for its cell, the world at the
-/// load and which records have a device there, the ledger of places and that of once tickets: who starts it calls a function for any such name with `Brand` in the place of `B`.
+/// Starts an engine with these records, each with its device. No record was requested yet. `B`
+/// names the engine: its cell, the world at the load and the records with a device there, the
+/// ledger of places and that of once tickets. To start an engine, call a function that is generic
+/// over such a name with `Brand` for `B`.
 ///
 /// # Errors
 ///
-/// [`StartError`].
+/// [`StartError`] if the engine can't be started.
 pub fn start<K: RecordKind + Drop, B: Base<K>, D: Drop>(
     alloc: Global,
     cell: Cell,

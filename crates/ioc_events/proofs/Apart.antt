@@ -1,4 +1,4 @@
--- Between events what waits for some records keeps apart from what waits for others.
+-- Between events, those that wait for some records are apart from those that wait for others.
 use Rattle.std.proofs.Common.{◌≡◌, ◌≢◌, ℕ, zero, suc, ◌+◌, ◌≤◌, Bool, true, false, cond, not, eqb, nat_lt, length, List, [], ◌∷◌, Option, Some, None as Nothing_, refl, sym, ap, subst, ◌∙◌, arith}
 use Rattle.std.specs.Prelude.{Contains}
 use Rattle.std.proofs.lemmas.Bool.{eq-eqb, and_parts}
@@ -19,7 +19,7 @@ use Rattle.ioc_events.proofs.Ended.{there-counted, live-is}
 abbrev waiters : ℕ → List Waiting → ℕ
 waiters = how_many (λ (x : Waiting). x.number)
 
--- two that wait for two records under one number are counted twice
+-- Two that wait for different records with one number are counted twice.
 counted-twice : (xs : List Waiting) (x y : Waiting) → Contains xs x → Contains xs y → x.number ≡ y.number → x.target ≢ y.target → 2 ≤ waiters x.number xs
 counted-twice [] x y (i, lt, is) other same apart = absurd (omega arith)
 counted-twice (z ∷ xs) x y (zero, lt, is) (zero, other_lt, other_is) same apart = absurd (apart (ap (λ (v : Waiting). v.target) (sym is ∙ other_is)))
@@ -58,7 +58,7 @@ module _ {R : Type 0} (k : RecordRules R) (lawful : IsLawful k) where
         omega (arith, twice, once);
   }
 
-  -- one that waits is live, so no put with notification has a place under its number
+  -- A waiting put with notification is live, so none may begin with its number.
   no-place : (w : World R) → IsCounted k w → (x : Waiting) → Contains w.waiting x → (number : ℕ) → has_place w number ≡ true → number ≢ x.number
   no-place w counted x waits number place same =
       let live : is_live x.number w.live ≡ true = (live-is k lawful w x.number counted).1 (in_a_waiting_list x waits) in

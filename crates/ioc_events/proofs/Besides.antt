@@ -1,4 +1,5 @@
--- Requests look at the records that links lead to, and change these alone, whatever notifications other records have.
+-- Requests depend only on the records that links lead to, and change only these, whatever puts with
+-- notification other records are part of.
 use Rattle.std.proofs.Common.{◌≡◌, ◌≢◌, ℕ, Bool, true, false, cond, eqb, List, [], ◌∷◌, length, Option, refl, sym, ap, subst, ◌∙◌, arith}
 use Rattle.std.proofs.lemmas.Grind.{common_steps}
 use Rattle.std.specs.Prelude.{Contains, nat_lt, ◌++◌}
@@ -30,11 +31,11 @@ unfolding put
 there-put_other w n m r apart = grind (gets, arith, common_steps)
 
 module _ {R : Type 0} (k : RecordRules R) (mine : ℕ → Bool) (w0 v0 : World R) where
-  -- the records of these numbers
+  -- The records with these numbers.
   abbrev U : ℕ → Type 0
   U = λ n. mine n ≡ true
 
-  -- the two worlds go on from w0 and v0
+  -- The two worlds are results from `w0` and `v0`.
   pub record Along (w v : World R) : Type 0 where
     pub same : Same k mine w v
     pub there : (n : ℕ) → mine n ≡ true → contains_key w0.records n ≡ contains_key v0.records n → contains_key w.records n ≡ contains_key v.records n
@@ -42,7 +43,8 @@ module _ {R : Type 0} (k : RecordRules R) (mine : ℕ → Bool) (w0 v0 : World R
     pub spares : Spares k mine w0 w
     pub other_spares : Spares k mine v0 v
 
-  -- what holds of the record that was put, and of each other record as it was
+  -- A property holds of all records after a put if it holds of the record that was put and of every
+  -- other as it was.
   by_put : (P : ℕ → R → Type 0) (w : World R) (n : ℕ) (r : R) → P n r → ((m : ℕ) → m ≢ n → P m (at k w m)) → (m : ℕ) → P m (at k (put w n r) m)
   by_put P w n r here there m =
       elim (eqb m n) as (λ b. eqb m n ≡ b → P m (at k (put w n r) m)) [
@@ -64,7 +66,7 @@ module _ {R : Type 0} (k : RecordRules R) (mine : ℕ → Bool) (w0 v0 : World R
         | false ↦ λ is. let apart : m ≢ n = grind (arith, common_steps) in there-put_other w n m r apart ∙ same ∙ sym (there-put_other v n m r apart)
       ] refl
 
-  -- a put in U spares what is outside
+  -- A record in `U` differs from every one outside.
   outside-apart : (m n : ℕ) → U n → mine m ≡ false → m ≢ n
   outside-apart m n may out e = not_both may (ap mine (sym e) ∙ out)
 
@@ -76,7 +78,7 @@ module _ {R : Type 0} (k : RecordRules R) (mine : ℕ → Bool) (w0 v0 : World R
     waiting = spares.waiting;
   }
 
-  -- its links stay in U
+  -- The links of the record stay in `U`.
   abbrev pub Within : ℕ → R → Type 0
   Within n r = (target : ℕ) → Contains (targets k r) target → U target
 

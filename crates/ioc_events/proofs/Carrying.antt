@@ -1,4 +1,4 @@
--- A request counts who has a notification as records take it on and let it go.
+-- A request counts the parts of a put with notification as records join and leave it.
 use Rattle.std.proofs.Common.{◌≡◌, ℕ, ◌+◌, ◌-◌, ◌^◌, ◌<◌, ◌≤◌, Bool, true, false, cond, eqb, List, [], ◌∷◌, ◌++◌, Option, Some, None as Nothing_, is_some, refl, sym, ap, subst, ◌∙◌, arith}
 use Rattle.std.specs.FinMap.{len}
 use Rattle.ioc_notify.specs.declared.live_numbers.Live.{Live}
@@ -19,7 +19,7 @@ use Rattle.ioc_events.specs.Holding.{how_many, holders}
 use Rattle.ioc_events.proofs.Counting.{lives, one_if, Counts, counts-same, counts-gained, lives-gained, counts-lost, lives-lost, how_many-append}
 use Rattle.ioc_events.proofs.Holders.{ends, stands, holders-few, holds-some, one-more, one-fewer, Alike, alike-put, alike-sent, alike-lost, alike-same, changed-holds}
 
--- what is taken over is the notification of the source, and goes to a record that has none
+-- What is taken over is the put with notification of the source, and the target is part of none.
 taken_over-some : (source target : Common) (m : ℕ) → taken_over source target ≡ Some m → (source.notification ≡ Some m) × (target.notification ≡ Nothing_)
 taken_over-some source target m is =
     elim target.active as (λ b. cond b Nothing_ (cond (is_some target.notification) Nothing_ source.notification) ≡ Some m → (source.notification ≡ Some m) × (target.notification ≡ Nothing_)) [
@@ -35,7 +35,7 @@ ends-more n m es true = how_many-append (λ x. x) n es (m ∷ [])
 ends-more n m es false = omega arith
 
 module _ {R : Type 0} (k : RecordRules R) (lawful : IsLawful k) (w0 : World R) (closed : IsClosed k w0) (few : len w0.records < 2 ^ 63) (once : (n : ℕ) → how_many (λ x. x.number) n w0.waiting ≤ 1) where
-  -- the counts are those of the holders, and each that was live or had ended is live or has ended
+  -- The counts are those of the parts, and each that was live or had ended is live or has ended.
   pub record Carried (w : World R) : Type 0 where
     pub waits : w.waiting ≡ w0.waiting
     pub counts : Counts (holders k w) w.live

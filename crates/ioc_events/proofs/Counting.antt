@@ -1,4 +1,4 @@
--- Lists of notifications that are live, and how many have each, as these numbers change.
+-- Lists of live puts with notification, and the counts of their parts, as these change.
 use Rattle.std.proofs.Common.{◌≡◌, ◌≢◌, ℕ, zero, suc, ◌+◌, ◌-◌, ◌^◌, ◌≤◌, Bool, true, false, not, cond, ◌||◌, eqb, nat_eq, nat_lt, List, [], ◌∷◌, ◌++◌, refl, sym, ap, subst, ◌∙◌, arith}
 use Rattle.std.specs.Prelude.{◌&&◌}
 use Rattle.std.specs.List.{list_any}
@@ -7,11 +7,11 @@ use Rattle.ioc_notify.specs.declared.live_numbers.Live.{Live}
 use Rattle.ioc_notify.specs.Living.{at_number, one_more, one_less, begun, gained, lost, forgotten, holders_of, is_at_its_last, is_live}
 use Rattle.ioc_events.specs.Holding.{how_many}
 
--- how many live ones have this number
+-- The number of live ones with this number.
 abbrev pub lives : ℕ → List Live → ℕ
 lives = how_many (λ l. l.number)
 
--- one if it is
+-- One if it holds, and zero otherwise.
 abbrev pub one_if : Bool → ℕ
 one_if b = cond b 1 0
 
@@ -24,7 +24,7 @@ how_many-append number n (x ∷ xs) ys =
       | false ↦ rest
     ]
 
--- ---- of another number
+-- Lemmas about another number.
 
 module _ (m n : ℕ) (apart : m ≢ n) (others : Live → List Live) (alone : (l : Live) → l.number ≡ m → (rest : List Live) → (lives n (others l ++ rest) ≡ lives n rest) × (holders_of n (others l ++ rest) ≡ holders_of n rest)) where
   at-lives : (ls : List Live) → lives n (at_number m others ls) ≡ lives n ls
@@ -71,9 +71,9 @@ module _ (m n : ℕ) (apart : m ≢ n) where
   pub forgotten-other : (ls : List Live) → (lives n (forgotten m ls) ≡ lives n ls) × (holders_of n (forgotten m ls) ≡ holders_of n ls)
   forgotten-other ls = (at-lives m n apart (λ l. []) (λ l is rest. (refl, refl)) ls, at-holders m n apart (λ l. []) (λ l is rest. (refl, refl)) ls)
 
--- ---- of the number itself
+-- Lemmas about the number itself.
 
--- nobody has one that isn't live
+-- One that isn't live has no part.
 pub none-holds : (n : ℕ) (ls : List Live) → lives n ls ≡ 0 → holders_of n ls ≡ 0
 none-holds n [] none = refl
 none-holds n (l ∷ ls) none = elim (eqb l.number n) as (λ b. cond b (1 + lives n ls) (lives n ls) ≡ 0 → cond b l.holders (holders_of n ls) ≡ 0) [
@@ -97,7 +97,7 @@ gained-holders m (l ∷ ls) some few =
       | false ↦ λ e some' few'. rw e (gained-holders m ls some' few')
     ] refl some few
 
--- with the last it is live no more
+-- After its last part has left, it is no longer live.
 pub lost-lives : (m : ℕ) (ls : List Live) → lives m ls ≡ 1 → lives m (lost m ls) + one_if (is_at_its_last m ls) ≡ 1
 lost-lives m [] one = absurd (omega arith)
 lost-lives m (l ∷ ls) one =
@@ -124,7 +124,7 @@ lost-holders m (l ∷ ls) one some =
       | false ↦ λ e one' some'. rw e (lost-holders m ls one' some')
     ] refl one some
 
--- it has as many as hold it: with one holder it is at its last
+-- A live one is at its last part if and only if its count is at most one.
 pub at_last : (m : ℕ) (ls : List Live) → 1 ≤ lives m ls → is_at_its_last m ls ≡ not (nat_lt 1 (holders_of m ls))
 at_last m [] some = absurd (omega arith)
 at_last m (l ∷ ls) some =
@@ -141,7 +141,7 @@ forgotten-lives m (l ∷ ls) few = elim (eqb l.number m) as (λ b. eqb l.number 
   | false ↦ λ e few'. rw e (forgotten-lives m ls few')
 ] refl few
 
--- is it live?
+-- Whether one is live is whether it is counted among the live ones.
 pub live-lives : (m : ℕ) (ls : List Live) (b : Bool) → is_live m ls ≡ b → lives m ls ≤ 1 → lives m ls ≡ one_if b
 live-lives m [] b is few = subst (λ (x : Bool). 0 ≡ one_if x) is refl
 live-lives m (l ∷ ls) b is few = elim (eqb l.number m) as (λ c. c || is_live m ls ≡ b → cond c (1 + lives m ls) (lives m ls) ≤ 1 → cond c (1 + lives m ls) (lives m ls) ≡ one_if b) [
@@ -172,14 +172,14 @@ begun-holders m n (l ∷ ls) none =
       | false ↦ λ e. rest
     ] refl
 
--- ---- as counted
+-- Lemmas about counted parts.
 
--- each is live as often as it has holders, by a count of these
+-- Each one is live with the count of its parts, given by `held`.
 pub record Counts (held : ℕ → ℕ) (ls : List Live) : Type 0 where
   pub counted : (n : ℕ) → holders_of n ls ≡ held n
   pub live : (n : ℕ) → lives n ls ≡ one_if (nat_lt 0 (held n))
 
--- what holds of a number and of every other
+-- A property that holds of a number and of every other number holds of all.
 pub of_each : (P : ℕ → Type 0) (m : ℕ) → P m → ((n : ℕ) → m ≢ n → P n) → (n : ℕ) → P n
 of_each P m here there n = elim (eqb m n) as (λ b. eqb m n ≡ b → P n) [
   | true ↦ λ e. subst P (eqb-true m n e) here
@@ -248,7 +248,7 @@ module _ (held held' : ℕ → ℕ) (m : ℕ) (ls : List Live) (counts : Counts 
             (λ n apart. (lost-other m n apart ls).0 ∙ counts.live n ∙ ap (λ (x : ℕ). one_if (nat_lt 0 x)) (same n apart));
       }
 
-  -- one that is lost has ended or is live
+  -- One that loses a part has ended or is still live.
   pub lives-lost : 1 ≤ held m → (n : ℕ) → lives n (lost m ls) + cond (is_at_its_last m ls) (one_if (eqb m n)) 0 ≡ lives n ls
   lives-lost some n =
       let once = live-once some in

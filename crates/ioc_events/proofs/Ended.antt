@@ -1,4 +1,4 @@
--- One ends exactly where nobody has it any more.
+-- A put with notification ends if and only if nothing is part of it any more.
 use Rattle.std.proofs.Common.{◌<◌, ◌^◌, ◌≡◌, ◌≢◌, ℕ, zero, suc, ◌+◌, ◌≤◌, true, false, cond, eqb, nat_lt, List, [], ◌∷◌, Option, Some, None as Nothing_, T, is_some, IsTrue, unwrap_or, refl, sym, ap, subst, ◌∙◌, ◌⊎◌, inl, inr, arith}
 use Rattle.std.specs.Prelude.{◌↔◌, Contains}
 use Rattle.std.specs.Ordering.{nat_cmp, is_eq}
@@ -26,7 +26,7 @@ use Rattle.ioc_events.proofs.Holders.{ends, stands, holds-some}
 use Rattle.ioc_events.proofs.HeldStarts.{waiters, waiters-some, Sound}
 use Rattle.ioc_events.proofs.HeldSteps.{begins, ceases, step-leads, step-cancelled}
 
--- ---- what is counted is there
+-- An item that is counted is in the list.
 
 pub counted-there : {A : Type 0} (number : A → ℕ) (n : ℕ) (xs : List A) → 1 ≤ how_many number n xs → (x : A) × Contains xs x × (number x ≡ n)
 counted-there number n [] some = absurd (omega arith)
@@ -49,13 +49,13 @@ there-counted number (y ∷ xs) x (suc i, lt, is) =
 none-some : {X : Type 0} {x : X} → Nothing_ ≡ Some x → ⊥
 none-some is = cc
 
--- a key below all others isn't among them
+-- A key below all others isn't among them.
 find_apart : {X : Type 0} (q : ℕ) (es : List (ℕ × X)) → T (below_all nat_cmp q es) → find nat_cmp q es ≡ Nothing_
 find_apart q [] below = refl
 find_apart q (e ∷ es) below =
     ap (λ r. cond (is_eq r) (Some e.1) (find nat_cmp q es)) (less (nat_cmp q e.0) (first _ _ below)) ∙ find_apart q es (second _ _ below)
 
--- a sum that isn't 0 has an item that isn't
+-- A sum that isn't zero has an item that isn't zero.
 total-found : {X : Type 0} (weight : X → ℕ) (es : List (ℕ × X)) → T (is_sorted nat_cmp es) → 1 ≤ total weight es → (n : ℕ) × (r : X) × (find nat_cmp n es ≡ Some r) × (1 ≤ weight r)
 total-found weight [] sorted some = absurd (omega arith)
 total-found weight (e ∷ es) sorted some =
@@ -107,7 +107,7 @@ module _ {R : Type 0} (k : RecordRules R) (lawful : IsLawful k) where
       let found = counted-there (λ (x : Waiting). x.number) n w.waiting some in
       subst (IsHeld k w) found.2 (in_a_waiting_list found.0 found.1)
 
-  -- one that is counted is held, and one that is held is counted
+  -- One with a count is held, and one that is held has a count.
   pub counted-held : (w : World R) (n : ℕ) → 1 ≤ holders k w n → IsHeld k w n
   unfolding holders
   counted-held w n some =
@@ -128,7 +128,7 @@ module _ {R : Type 0} (k : RecordRules R) (lawful : IsLawful k) where
   none-held (by_a_record s there has) waiting none = none-some (sym (none s there) ∙ has)
   none-held (in_a_waiting_list {w} x h) waiting none = let gone : Contains {X = Waiting} [] x = subst (λ (xs : List Waiting). Contains xs x) waiting h in absurd (omega (arith, gone.1))
 
-  -- ---- between events
+  -- Lemmas about worlds between events.
 
   pub sound-of : {w : World R} → IsCounted k w → Sound k lawful w
   sound-of is = record { closed = is.closed; few = is.few; counts = record { counted = is.counted.counted; live = is.counted.live }; once = is.counted.waits_once }
@@ -155,7 +155,7 @@ module _ {R : Type 0} (k : RecordRules R) (lawful : IsLawful k) where
   replay-counted at_the_end is = is
   replay-counted (and_then {w} {w'} {w''} {entry} {entries} step _ rest) is = replay-counted rest (step-counted (listed entry.answers) step (begun-counted entry.moment w is))
 
-  -- where there is none, none is counted
+  -- If there is no put with notification, none is counted.
   pub first-counted : (w : World R) → IsClosed k w → len w.records < 2 ^ 63 → w.live ≡ [] → w.waiting ≡ [] → ((n : ℕ) → Has w n → (common_at k w n).notification ≡ Nothing_) → IsCounted k w
   first-counted w closed few live waiting none =
       let nobody : (n : ℕ) → IsHeld k w n → ⊥ = λ n held. none-held held waiting none in
@@ -173,7 +173,7 @@ module _ {R : Type 0} (k : RecordRules R) (lawful : IsLawful k) where
         };
       }
 
-  -- ---- one ends
+  -- Lemmas about the end of one.
 
   live-held : (w : World R) → Sound k lawful w → (n : ℕ) → 1 ≤ holders k w n → lives n w.live ≡ 1
   live-held w sound n some = sound.counts.live n ∙ some_more (holders k w n) some
@@ -244,7 +244,7 @@ module _ {R : Type 0} (k : RecordRules R) (lawful : IsLawful k) where
         once = λ n. let before : ends n w.ended ≡ 0 = ap (ends n) empty in omega (arith, led.balance n, led.fresh n);
       }
 
-  -- ---- never after a cancel
+  -- Lemmas about cancelled ones, which never end.
 
   over-of : (w : World R) → Sound k lawful w → (n : ℕ) → stands w n ≡ 0 → IsOver k w n
   over-of w sound n none = record {
@@ -263,7 +263,7 @@ module _ {R : Type 0} (k : RecordRules R) (lawful : IsLawful k) where
       let same = begun-ended moment w in
       omega (arith, ap (lives n) same.1, ap (ends n) same.0)
 
-  -- an event by which it doesn't begin
+  -- One that is over stays so after an event by which it doesn't begin.
   stays-over : {w w' : World R} (entry : Entry) (n : ℕ) {requests : Requests} → Step k (listed entry.answers) (begun_at entry.moment w) entry.event w' entry.reply requests → IsCounted k w
       → lives n w.live ≡ 0 → entry.reply ≢ Notify-reply n → IsCounted k w' × (stands w' n ≡ 0)
   stays-over {w} {w'} entry n step is dead other =

@@ -1,4 +1,4 @@
--- Puts with notification that start: who has one is counted.
+-- Starts of puts with notification keep the counts of their parts.
 use Rattle.std.proofs.Common.{◌≡◌, ◌≢◌, ℕ, zero, suc, ◌+◌, ◌^◌, ◌<◌, ◌≤◌, true, false, cond, not, eqb, nat_eq, List, [], ◌∷◌, Option, Some, None as Nothing_, is_some, refl, sym, ap, subst, ◌∙◌, arith}
 use Rattle.std.specs.Prelude.{Contains}
 use Rattle.std.specs.FinMap.{len}
@@ -31,9 +31,9 @@ use Rattle.ioc_events.proofs.Counting.{lives, one_if, of_each, itself, another, 
 use Rattle.ioc_events.proofs.Holders.{ends, stands, Alike, alike-on, alike-put, alike-marked, alike-rescanned, changed-holds, one-more}
 use Rattle.ioc_events.proofs.Carrying.{Carried, tell-carried, request-carried, at_last-carried}
 
--- ---- those that wait
+-- Lemmas about those that wait.
 
--- how many wait with this number
+-- The number of those that wait with this number.
 abbrev pub waiters : ℕ → List Waiting → ℕ
 waiters = how_many (λ x. x.number)
 
@@ -82,14 +82,15 @@ none-of Nothing_ is = refl
 none-of (Some n) is = cc
 
 module _ {R : Type 0} (k : RecordRules R) (lawful : IsLawful k) where
-  -- no link leaves it, its records are fewer than 2^63, and who has a notification is counted
+  -- No link leaves the world, it has fewer than 2^63 records, and the parts of each put with
+  -- notification are counted.
   pub record Sound (w : World R) : Type 0 where
     pub closed : IsClosed k w
     pub few : len w.records < 2 ^ 63
     pub counts : Counts (holders k w) w.live
     pub once : (n : ℕ) → waiters n w.waiting ≤ 1
 
-  -- a sound world, in which each that was live or had ended is live or has ended
+  -- A sound world, in which each that was live or had ended is live or has ended.
   pub record Leads (w v : World R) : Type 0 where
     pub sound : Sound v
     pub balance : (n : ℕ) → stands v n ≡ stands w n
@@ -139,9 +140,9 @@ module _ {R : Type 0} (k : RecordRules R) (lawful : IsLawful k) where
       leads-carried w _ sound (notified-keeps k lawful w s there)
       (tell-carried k lawful w sound.closed sound.few sound.once w s there (record { waits = refl; counts = sound.counts; balance = λ n. refl }))
 
-  -- ---- a start
+  -- Lemmas about a start.
 
-  -- a record takes the notification, and the value is stored
+  -- A record becomes part of the put with notification, and the value is stored.
   record Took (w v : World R) (m : ℕ) : Type 0 where
     held : (n : ℕ) → holders k v n ≡ holders k w n + one_if (eqb m n)
     live : v.live ≡ w.live
@@ -170,7 +171,7 @@ module _ {R : Type 0} (k : RecordRules R) (lawful : IsLawful k) where
         waiting = alike.waiting ∙ rest.waiting;
       }
 
-  -- what is asked before a start: with its notification who has one is counted
+  -- The condition before a start: the counts are right once this one is included.
   pub record MayStart (w : World R) (x : Waiting) : Type 0 where
     pub there : Has w x.target
     pub none : (common_at k w x.target).notification ≡ Nothing_

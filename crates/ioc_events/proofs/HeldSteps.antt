@@ -1,4 +1,5 @@
--- Events: who has a notification is counted, and one ends where it isn't live any more.
+-- Events keep the counts of the parts of puts with notification, and one ends when it is no longer
+-- live.
 use Rattle.std.proofs.Common.{◌≡◌, ◌≢◌, ℕ, zero, suc, ◌+◌, ◌^◌, ◌<◌, ◌≤◌, true, false, cond, eqb, nat_lt, List, [], ◌∷◌, ◌++◌, map, Option, Some, None as Nothing_, Ok, is_some, refl, sym, ap, subst, ◌∙◌, arith}
 use Rattle.std.specs.FinMap.{entries}
 use Rattle.std.proofs.lemmas.Bool.{eq-eqb, eqb-true, ne_eqb, and_parts, or_parts, not-true}
@@ -38,12 +39,12 @@ use Rattle.ioc_events.proofs.Counting.{lives, one_if, of_each, itself, another, 
 use Rattle.ioc_events.proofs.Holders.{ends, stands, Alike, alike-on, alike-put, alike-rescanned, alike-rewired}
 use Rattle.ioc_events.proofs.HeldStarts.{marked-has, waiters, without-here, without-other, without-few, Sound, Leads, leads-on, leads-alike, request-leads, completion-leads, marked-leads, MayStart, starts-leads, starts_all-leads}
 
--- one begins
+-- One if the reply reports that this one began, and zero otherwise.
 abbrev pub begins : Reply → ℕ → ℕ
 begins (Notify-reply m) n = one_if (eqb m n)
 begins _ n = 0
 
--- one is given up
+-- One if this one is cancelled, and zero otherwise.
 abbrev pub ceases : Event → Reply → ℕ → ℕ
 ceases (Cancel m) Plain n = one_if (eqb m n)
 ceases _ _ n = 0
@@ -52,7 +53,7 @@ ceases-refused : (event : Event) (e : IocError) (n : ℕ) → ceases event (Refu
 ceases-refused (Cancel m) e n = refl
 ceases-refused event e n = refl
 
--- a count of 0
+-- A count that isn't positive is zero.
 pub none-counted : (a : ℕ) → one_if (nat_lt 0 a) ≡ 0 → a ≡ 0
 none-counted zero is = refl
 none-counted (suc a) is = absurd (let one : one_if (nat_lt 0 (suc a)) ≡ 1 = some_more (suc a) (omega arith) in omega arith)
@@ -62,11 +63,11 @@ none-is Nothing_ is = refl
 none-is (Some n) is = cc
 
 module _ {R : Type 0} (k : RecordRules R) (lawful : IsLawful k) where
-  -- what an event leaves
+  -- What an event leaves.
   pub record LeadsBy (w : World R) (event : Event) (w' : World R) (reply : Reply) : Type 0 where
     pub sound : Sound k lawful w'
     pub balance : (n : ℕ) → stands w' n + ceases event reply n ≡ stands w n + begins reply n
-    -- one that begins wasn't live
+    -- One that begins wasn't live.
     pub fresh : (n : ℕ) → lives n w.live + begins reply n ≤ 1
 
   live-few : (w : World R) → Sound k lawful w → (n : ℕ) → lives n w.live ≤ 1
@@ -82,7 +83,7 @@ module _ {R : Type 0} (k : RecordRules R) (lawful : IsLawful k) where
     fresh = λ n. omega (arith, nothing n, live-few w sound n);
   }
 
-  -- ---- a put, and a link change
+  -- Lemmas about a put, and a link change.
 
   stored-leads : (w w' : World R) (s : ℕ) (field : FieldNo) (given : Input) (r : R) → Has w s → put_field k (at k w s) field given ≡ Ok r → w' ≡ rescanned k (put w s r) s field → Sound k lawful w → Leads k lawful w w'
   stored-leads w w' s field given r there is stored sound =
@@ -107,16 +108,16 @@ module _ {R : Type 0} (k : RecordRules R) (lawful : IsLawful k) where
       let second = leads-alike k lawful v _ first keeps (alike-rewired k lawful (device_of k (at k w s)) v s here) in
       record { sound = second.sound; balance = λ n. second.balance n ∙ ap (λ (ls : List Live). lives n ls + ends n v.ended) alike.live ∙ ap (λ (es : List ℕ). lives n w.live + ends n es) alike.ended }
 
-  -- ---- a put with notification
+  -- Lemmas about a put with notification.
 
-  -- one that finds a place has no holder
+  -- One that may begin has no part.
   place-free : (w : World R) (m : ℕ) → Sound k lawful w → has_place w m ≡ true → holders k w m ≡ 0
   place-free w m sound place =
       let isnt : is_live m w.live ≡ false = not-true _ (and_parts _ _ (and_parts _ _ place).1).1 in
       let few = live-few w sound m in
       none-counted (holders k w m) (sym (sound.counts.live m) ∙ live-lives m w.live false isnt few)
 
-  -- so it isn't live
+  -- One that may begin isn't live.
   place-fresh : (w : World R) (m : ℕ) → Sound k lawful w → has_place w m ≡ true → (n : ℕ) → lives n w.live + one_if (eqb m n) ≤ 1
   place-fresh w m sound place =
       let none = place-free w m sound place in
@@ -195,7 +196,7 @@ module _ {R : Type 0} (k : RecordRules R) (lawful : IsLawful k) where
         ap (λ (ls : List Live). lives q ls + ends q u.ended) same.0 ∙ ap (λ (es : List ℕ). lives q v.live + ends q es) same.1 ∙ admitted-stands m w q,
       )
 
-  -- ---- a cancel
+  -- Lemmas about a cancel.
 
   freed-here : (m : ℕ) (r : R) → one_if_has k m (freed k m r) ≡ 0
   freed-here m r =
@@ -262,7 +263,7 @@ module _ {R : Type 0} (k : RecordRules R) (lawful : IsLawful k) where
         fresh = λ n. omega (arith, live-few w sound n);
       }
 
-  -- ---- an event
+  -- Lemmas about an event.
 
   zero_ : (n : ℕ) → ◌≡◌ {A = ℕ} 0 0
   zero_ n = refl
@@ -308,7 +309,7 @@ module _ {R : Type 0} (k : RecordRules R) (lawful : IsLawful k) where
       let rest = starts_all-leads k lawful answers others first.sound in
       record { sound = rest.sound; balance = λ n. ap (λ (x : ℕ). x + ceases event reply n) (rest.balance n) ∙ first.balance n; fresh = first.fresh }
 
-  -- ---- a cancel leaves it neither live nor ended
+  -- A cancel leaves its put with notification neither live nor ended.
 
   there-always : (w : World R) (event : Event) (n : ℕ) → event ≡ Cancel n → is_there w event ≡ false → ⊥
   there-always w event n is isnt = let there : is_there w event ≡ true = ap (is_there w) is in cc

@@ -1,4 +1,4 @@
--- How many have a notification, as records and waiting lists change.
+-- The number of parts of a put with notification, as records and waiting lists change.
 use Rattle.std.proofs.Common.{◌≡◌, ℕ, ◌+◌, ◌≤◌, Bool, true, false, cond, eqb, nat_lt, List, [], ◌∷◌, ◌++◌, length, Option, Some, None as Nothing_, is_some, IsTrue, unwrap_or, refl, ap, ◌∙◌, arith}
 use Rattle.std.specs.FinMap.{get, entries, len, len-entries}
 use Rattle.ioc_fields.specs.declared.field_no.FieldNo.{FieldNo}
@@ -24,11 +24,11 @@ few-ones : (b : Bool) → cond b 1 0 ≤ 1
 few-ones true = omega arith
 few-ones false = omega arith
 
--- how many times a notification has ended in the event
+-- The number of times that a put with notification has ended in the event.
 abbrev pub ends : ℕ → List ℕ → ℕ
 ends = how_many (λ n. n)
 
--- live, or ended in the event
+-- The number of times that it is live or has ended in the event.
 abbrev pub stands : {R : Type 0} → World R → ℕ → ℕ
 stands w n = lives n w.live + ends n w.ended
 
@@ -40,7 +40,7 @@ module _ {R : Type 0} (k : RecordRules R) (lawful : IsLawful k) where
       let was = weight-there (one_if_has k n) k.missing (get w.records s) there in
       omega (arith, all, was)
 
-  -- the same of two records with the same notification
+  -- Two records that are part of the same put with notification count the same.
   same-holds : (n : ℕ) (a b : R) → (k.common b).notification ≡ (k.common a).notification → one_if_has k n b ≡ one_if_has k n a
   same-holds n a b same = ap (λ (o : Option ℕ). one_if (is_notification n o)) same
 
@@ -48,7 +48,8 @@ module _ {R : Type 0} (k : RecordRules R) (lawful : IsLawful k) where
   unfolding holders
   holders-few w n = omega (arith, len-entries w.records, ones_few (one_if_has k n) (λ r. few-ones (is_notification n (k.common r).notification)) (entries w.records))
 
-  -- as many have each notification, which are live, have ended and wait as before
+  -- Each put with notification has as many parts as before, and the same are live, have ended and
+  -- wait.
   pub record Alike (w v : World R) : Type 0 where
     pub held : (n : ℕ) → holders k v n ≡ holders k w n
     pub live : v.live ≡ w.live
@@ -61,7 +62,7 @@ module _ {R : Type 0} (k : RecordRules R) (lawful : IsLawful k) where
   pub alike-on : {a b c : World R} → Alike a b → Alike b c → Alike a c
   alike-on one two = record { held = λ n. two.held n ∙ one.held n; live = two.live ∙ one.live; ended = two.ended ∙ one.ended; waiting = two.waiting ∙ one.waiting }
 
-  -- a world whose records are the same, and all else that notifications look at
+  -- Worlds with the same records and the same puts with notification are alike.
   pub alike-same : (w v : World R) → v.records ≡ w.records → v.live ≡ w.live → v.ended ≡ w.ended → v.waiting ≡ w.waiting → Alike w v
   unfolding holders
   alike-same w v records live ended waiting = record {
@@ -115,7 +116,7 @@ module _ {R : Type 0} (k : RecordRules R) (lawful : IsLawful k) where
   pub alike-rewired : (before : List ℕ) (w : World R) (n : ℕ) → Has w n → Alike w (rewired k before w n)
   alike-rewired before w n there = rewired-either k (Alike w) before w n (alike-itself w) (alike-moved w n there)
 
-  -- ---- a record takes a notification, or has it no more
+  -- Lemmas about a record that joins or leaves a put with notification.
 
   changed-live : (w : World R) (s : ℕ) (f : Common → Common) → (changed k w s f).live ≡ w.live
   unfolding changed
@@ -129,7 +130,7 @@ module _ {R : Type 0} (k : RecordRules R) (lawful : IsLawful k) where
   unfolding changed
   changed-waiting w s f = put-waiting w s _
 
-  -- the holders, and nothing else
+  -- Only the number of parts differs.
   pub record Holds (w v : World R) : Type 0 where
     pub live : v.live ≡ w.live
     pub ended : v.ended ≡ w.ended
@@ -154,6 +155,6 @@ module _ {R : Type 0} (k : RecordRules R) (lawful : IsLawful k) where
       let was : one_if_has k n (at k w s) ≡ one_if (eqb m n) = ap (λ (o : Option ℕ). one_if (is_notification n o)) some in
       omega (arith, set-held w s Nothing_ there n, was)
 
-  -- one who has it is counted
+  -- A put with notification that a record is part of is counted.
   pub holds-some : (w : World R) (s m : ℕ) → Has w s → (common_at k w s).notification ≡ Some m → 1 ≤ holders k w m
   holds-some w s m there some = omega (arith, one-fewer w s m there some m, itself m)

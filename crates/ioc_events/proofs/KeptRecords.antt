@@ -1,4 +1,4 @@
--- No event adds a record or takes one away.
+-- No event adds or removes a record.
 use Rattle.std.proofs.Common.{◌≡◌, ℕ, List, true, false, refl, ◌∙◌}
 use Rattle.ioc_ledger.specs.Requests.{Requests}
 use Rattle.ioc_record.specs.RecordRules.{RecordRules}
@@ -57,7 +57,7 @@ module _ {R : Type 0} (k : RecordRules R) (lawful : IsLawful k) where
   does-link answers (cancels _) is = cc
   does-link answers (tells_if_live {w}) is = all-kept w
 
-  -- nothing starts after a link change
+  -- Nothing starts after a link change.
   link-starts-none : (event : Event) (reply : Reply) → is_link_change event ≡ true → lets_start event reply ≡ false
   link-starts-none (Link s field link) reply is = refl
   link-starts-none event reply is = cc

@@ -1,4 +1,4 @@
--- What a change of a link does to the records that a record names.
+-- The effect of a link change on the records that a record names.
 use Rattle.std.proofs.Common.{◌≡◌, ℕ, zero, suc, Bool, true, false, List, [], ◌∷◌, Option, Some, refl, ap, ◌∙◌, subst, ◌⊎◌, inl, inr, arith}
 use Rattle.std.specs.Prelude.{Contains, ◌&&◌}
 use Rattle.std.specs.FinMap.{contains_key}
@@ -11,7 +11,8 @@ use Rattle.ioc_record.specs.Laws.{IsLawful}
 use Rattle.ioc_store.specs.World.{World, Has}
 use Rattle.ioc_events.specs.Step.{all_there}
 
--- where each field has the link that it had, or this one
+-- If each field has the link that it had or this one, the record names what it named or what this
+-- link leads to.
 pub named-either : (before after : FieldNo → Option LinkField) (l : LinkField) → ((g : FieldNo) → (after g ≡ Some l) ⊎ (after g ≡ before g)) → (fields : List FieldNo) (target : ℕ)
     → Contains (named_by_all after fields) target → Contains (named_by_all before fields) target ⊎ Contains (named_by (use_of l)) target
 named-either before after l each [] target h = inl h
@@ -36,7 +37,7 @@ one_of : (m n : ℕ) → Contains (m ∷ []) n → m ≡ n
 one_of m n (zero, lt, is) = is
 one_of m n (suc i, lt, is) = absurd (omega arith)
 
--- each of records that are all there is there
+-- Each of several records that all exist exists.
 pub there_of : {R : Type 0} (w : World R) (ns : List ℕ) (n : ℕ) → all_there w ns ≡ true → Contains ns n → Has w n
 there_of w [] n all h = absurd (omega (arith, h.1))
 there_of w (m ∷ ns) n all h =
@@ -47,13 +48,14 @@ there_of w (m ∷ ns) n all h =
     ]
 
 module _ {R : Type 0} (k : RecordRules R) (lawful : IsLawful k) where
-  -- with another link in one field, a record names what it named, or what the link leads to
+  -- With another link in one field, a record names what it named or what the link leads to.
   pub linked-names : (r : R) (f : FieldNo) (l : LinkField) (target : ℕ) → Contains (targets k (k.with_link r f l)) target → Contains (targets k r) target ⊎ Contains (named_by (use_of l)) target
   linked-names r f l target h =
       named-either (k.link r) (k.link (k.with_link r f l)) l (λ g. lawful.set_there r f g l) (k.link_fields r) target
       (subst (λ (fs : List FieldNo). Contains (named_by_all (k.link (k.with_link r f l)) fs) target) (lawful.link_set_link_fields r f l) h)
 
--- records that are each there in both or in neither are all there in both or in neither
+-- If each of these records exists in both worlds or in neither, then all exist in both or not all
+-- exist in either.
 pub all-alike : {R : Type 0} (w v : World R) (ns : List ℕ) → ((n : ℕ) → Contains ns n → contains_key w.records n ≡ contains_key v.records n) → all_there w ns ≡ all_there v ns
 all-alike w v [] alike = refl
 all-alike w v (n ∷ ns) alike =

@@ -1,4 +1,4 @@
--- Events look at the records that links lead to, and change these alone.
+-- Events depend only on the records that links lead to, and change only these.
 use Rattle.std.proofs.Common.{◌≡◌, ◌≢◌, ◌||◌, ℕ, Bool, true, false, cond, List, Ok, Err, is_some, Option, Some, refl, sym, ap, subst, ◌∙◌, nat_eq, inl, inr, [], ◌∷◌, arith}
 use Rattle.std.specs.Prelude.{Result, Contains, not}
 use Rattle.std.specs.Prelude.{None as Nothing_}
@@ -47,13 +47,13 @@ use Rattle.ioc_events.proofs.StartsLocal.{both_followed, ready-by, started-goes,
 use Rattle.ioc_events.proofs.Stepping.{step-there, step-missing, put_targets}
 use Rattle.ioc_events.proofs.Waitings.{alone-within}
 
--- the notification that is asked for
+-- The put with notification is the one that is asked for.
 held-is : (number : ℕ) (held : Option ℕ) → is_notification number held ≡ true → held ≡ Some number
 held-is number Nothing_ is = cc
 held-is number (Some n) is = let e : n ≡ number = grind (arith, common_steps) in ap Some e
 
 module _ {R : Type 0} (k : RecordRules R) (mine : ℕ → Bool) (w v : World R) where
-  -- two events that went on from w and v come to the same
+  -- Two events have equal results from `w` and `v`.
   pub record GoesEvent (event other : Stepped R) : Type 0 where
     pub inv : Along k mine w v event.world other.world
     pub reply : event.reply ≡ other.reply
@@ -91,11 +91,11 @@ module _ {R : Type 0} (k : RecordRules R) (lawful : IsLawful k) (mine : ℕ → 
       let done = at_last-goes k lawful U (Within k mine w v) Both (guards k mine w v lawful) answers both s u x in
       record { inv = done.inv; reply = refl; requests = done.requests }
 
-  -- a mark of this record
+  -- A change of a mark of this record keeps the relation.
   marked : {a b : World R} → Both a b → (s : ℕ) → U s → (f : Common → Common) → ((c : Common) → OwnAlone c (f c)) → Both (changed k a s f) (changed k b s f)
   marked both s u f links = changed-goes k lawful U (Within k mine w v) Both (guards k mine w v lawful) both s u f links
 
-  -- a get of this record
+  -- A get of this record.
   abbrev shows : FieldNo → R → World R → Stepped R
   shows field r a = cond (is_some (row_of (k.record_type r) field)) (made a (Shown (text_of k r field)) None) (refused a NoField)
 
@@ -110,7 +110,7 @@ module _ {R : Type 0} (k : RecordRules R) (lawful : IsLawful k) (mine : ℕ → 
   unfolding done_there
   get-local {a} {b} both s field u = subst (λ (r : R). Agrees (shows field (at k a s) a) (shows field r b)) (both.same.records s u) (shows-local both field (at k a s))
 
-  -- what follows a put, by whether the field processes the record and whether it is active
+  -- What follows a put, given whether the field processes the record and whether it is active.
   abbrev follows : ℕ → Bool → Bool → World R → Stepped R
   follows s proc active a =
       cond proc (cond active (made (changed k a s (with_reprocess_mark true)) (Outcome-reply Reprocess) (Request Reprocess None None)) (told k answers (changed k a s (with_put_mark true)) s))
@@ -145,7 +145,7 @@ module _ {R : Type 0} (k : RecordRules R) (lawful : IsLawful k) (mine : ℕ → 
   unfolding done_there
   process-local both s u = told-local both s u
 
-  -- a completion of this record
+  -- A completion of this record.
   abbrev completes-at : ℕ → Finished → Bool → World R → Stepped R
   completes-at s x is a = cond is (after_completion k answers a s x) (refused a Stale)
 
@@ -158,7 +158,8 @@ module _ {R : Type 0} (k : RecordRules R) (lawful : IsLawful k) (mine : ℕ → 
   complete-local {a} {b} both s number x u =
       subst (λ (r : R). Agrees (completes-at s x (awaits (common_at k a s) number) a) (completes-at s x (awaits (k.common r) number) b)) (both.same.records s u) (completes-local both s x u _)
 
-  -- a change of a link, by whether the records are there that it leads to, whether the field has one, and whether DISP forbids it
+  -- A link change, given whether the records that it leads to exist, whether the field has a link,
+  -- and whether DISP forbids it.
   abbrev linked : ℕ → FieldNo → LinkField → R → Bool → Bool → Bool → World R → Stepped R
   linked s field link r led has stops a =
       cond {A = Stepped R} (not led) (refused a NoRecord)
@@ -189,7 +190,7 @@ module _ {R : Type 0} (k : RecordRules R) (lawful : IsLawful k) (mine : ℕ → 
       (subst (λ (c : Bool). Agrees (links-at s field link (all_there a (named_by (use_of link))) (at k a s) a) (links-at s field link c (at k a s) b)) alike
       (links-local both s field link u into _ _ _))
 
-  -- whether one is live
+  -- The question whether one is live has the same reply in both.
   live-local : {a b : World R} → Both a b → (number : ℕ) → is_live number a.live ≡ is_live number b.live → Agrees (done_there k answers a (IsLive number)) (done_there k answers b (IsLive number))
   unfolding done_there
   live-local {a} {b} both number alike =
@@ -230,7 +231,7 @@ module _ {R : Type 0} (k : RecordRules R) (lawful : IsLawful k) (mine : ℕ → 
     other_spares = queued-spares v b x u both.other_spares;
   }
 
-  -- a put with notification that is let in, by whether it must wait
+  -- A put with notification that is admitted, given whether it must wait.
   abbrev lets_in : Waiting → Bool → World R → Stepped R
   lets_in x waits a =
       cond {A = Stepped R} waits (made (queued x (admitted x.number a)) (Notify-reply x.number) None)
@@ -274,7 +275,7 @@ module _ {R : Type 0} (k : RecordRules R) (lawful : IsLawful k) (mine : ℕ → 
       subst (λ (r : R). Agrees (notify_with k answers a s number field (value_to_put k (at k a s) field given)) (notify_with k answers b s number field (value_to_put k r field given)))
       (both.same.records s u) (notify_with-local both s number field _ u alike)
 
-  -- ---- a cancel
+  -- Lemmas about a cancel.
 
   same-cancelled : (a b : World R) (number n : ℕ) → contains_key a.records n ≡ contains_key b.records n → at k a n ≡ at k b n → at k (cancelled k number a) n ≡ at k (cancelled k number b) n
   same-cancelled a b number n there is =
@@ -298,7 +299,8 @@ module _ {R : Type 0} (k : RecordRules R) (lawful : IsLawful k) (mine : ℕ → 
       at_cancelled-either k number (λ r r'. Contains (targets k r') target → Contains (targets k r) target) (λ r h. h)
       (λ r h. subst (λ (l : List ℕ). Contains l target) (targets-set k lawful r (with_notification Nothing_ (k.common r)) (refl, refl)) h) a n
 
-  -- who is outside has nothing to do with this number: nobody waits under it there, and no record has it
+  -- Nothing outside `U` is part of the put with notification with this number: none waits with it
+  -- there, and no record is part of it.
   record Foreign (a : World R) (number : ℕ) : Type 0 where
     waiting : (x : Waiting) → Contains a.waiting x → mine x.target ≡ false → x.number ≢ number
     holders : (n : ℕ) → mine n ≡ false → Has a n → (common_at k a n).notification ≡ Some number → ⊥
@@ -358,7 +360,7 @@ module _ {R : Type 0} (k : RecordRules R) (lawful : IsLawful k) (mine : ℕ → 
     holders = λ n out has held. not_both (within.holders number n refl has held) out;
   }
 
-  -- ---- events
+  -- Lemmas about events.
 
   there-local : {a b : World R} → Both a b → ((n : ℕ) → U n → contains_key a.records n ≡ contains_key b.records n) → (event : Event) → IsWithin k mine a event → IsWithin k mine b event
       → AskAlike a b event → Agrees (done_there k answers a event) (done_there k answers b event)
@@ -374,7 +376,7 @@ module _ {R : Type 0} (k : RecordRules R) (lawful : IsLawful k) (mine : ℕ → 
   there-local {a} {b} both there (Cancel number) within other_within asks = cancel-local both there number (foreign-of a number within) (foreign-of b number other_within) asks
   there-local both there (IsLive number) within _ asks = live-local both number asks
 
-  -- the record of the event is there in both or in neither
+  -- The record of the event exists in both worlds or in neither.
   there-alike : (a b : World R) (event : Event) → ((n : ℕ) → Contains (names event) n → contains_key a.records n ≡ contains_key b.records n) → is_there a event ≡ is_there b event
   there-alike a b (Get s field) alike = alike s (0, omega arith, refl)
   there-alike a b (Process s) alike = alike s (0, omega arith, refl)
@@ -394,7 +396,7 @@ module _ {R : Type 0} (k : RecordRules R) (lawful : IsLawful k) (mine : ℕ → 
         | false ↦ λ is. rw (step-missing k answers a event is, step-missing k answers b event (sym alike ∙ is)) (unchanged both _ _)
       ] refl
 
-  -- with the starts after it
+  -- The events agree with the starts after them.
   starts-local : (first other : Stepped R) (b : Bool) → Agrees first other → KeepsApart k mine first.world → KeepsApart k mine other.world
       → Agrees (cond {A = Stepped R} b (with_starts k answers first) first) (cond {A = Stepped R} b (with_starts k answers other) other)
   starts-local first other true agrees apart other_apart =
@@ -403,7 +405,8 @@ module _ {R : Type 0} (k : RecordRules R) (lawful : IsLawful k) (mine : ℕ → 
   starts-local first other false agrees apart other_apart = agrees
 
 module _ {R : Type 0} (k : RecordRules R) (lawful : IsLawful k) (mine : ℕ → Bool) (answers : Answers) where
-  -- the number of one that waits in U after an event by itself is none of those that waited outside
+  -- The number of one that waits in `U` after an event by itself is that of none that waited
+  -- outside.
   alone-numbers : (w : World R) (event : Event) → KeepsApart k mine w → IsWithin k mine w event
       → (x : Waiting) → Contains (done_alone k answers w event).world.waiting x → mine x.target ≡ true → (y : Waiting) → Contains w.waiting y → mine y.target ≡ false → x.number ≢ y.number
   alone-numbers w event apart within =
@@ -411,7 +414,7 @@ module _ {R : Type 0} (k : RecordRules R) (lawful : IsLawful k) (mine : ℕ → 
       (λ x own u y waits out e. within.waiting y waits out (own ∙ ap Some e))
       (λ x waits u y other_waits out. apart.numbers x y waits other_waits u out)
 
-  -- those outside stay apart in an event by itself
+  -- Those outside `U` stay apart in an event by itself.
   alone-apart : (w : World R) (event : Event) → KeepsApart k mine w → IsWithin k mine w event → Spares k mine w (done_alone k answers w event).world
       → KeepsApart k mine (done_alone k answers w event).world
   alone-apart w event apart within spares =
@@ -422,7 +425,7 @@ module _ {R : Type 0} (k : RecordRules R) (lawful : IsLawful k) (mine : ℕ → 
         numbers = λ x y waits other_waits u out. alone-numbers w event apart within x waits u y (before y other_waits out) out;
       }
 
-  -- an event with the starts after it
+  -- Events with the starts after them agree.
   stepped-local : (w v : World R) (event : Event) → (goes : GoesEvent k mine w v (done_alone k answers w event) (done_alone k answers v event))
       → KeepsApart k mine (done_alone k answers w event).world → KeepsApart k mine (done_alone k answers v event).world
       → GoesEvent k mine w v (stepped k answers w event) (stepped k answers v event)

@@ -1,4 +1,5 @@
--- After an event none that waits may start, and a cancel leaves nobody with the notification.
+-- After an event, none that waits may start; after a cancel, nothing is part of the put with
+-- notification.
 use Rattle.std.proofs.Common.{◌≡◌, ◌≢◌, ℕ, true, false, cond, not, eqb, nat_eq, nat_lt, List, [], ◌∷◌, ◌++◌, length, Some, None as Nothing_, is_some, refl, sym, ap, subst, ◌∙◌, inl, inr, arith}
 use Rattle.std.specs.Prelude.{Contains, ◌&&◌}
 use Rattle.std.proofs.lemmas.Grind.{common_steps}
@@ -42,7 +43,7 @@ not_itself : (n : ℕ) → nat_eq n n ≡ false → ⊥
 not_itself n is = absurd (let e : nat_eq n n ≡ true = grind (arith, common_steps) in true_false (sym e ∙ is))
 
 module _ {R : Type 0} (k : RecordRules R) (lawful : IsLawful k) where
-  -- each record is as idle as it was, and has a notification where it had one
+  -- Each record is as idle as it was, and is part of a put with notification if it was.
   abbrev AsIdle : World R → World R → Type 0
   AsIdle w v = (n : ℕ) → idle_alone k lawful (at k v n) ≡ idle_alone k lawful (at k w n)
 
@@ -115,7 +116,7 @@ module _ {R : Type 0} (k : RecordRules R) (lawful : IsLawful k) where
   step-none answers (by_itself does lets) none = does-none answers does lets none
   step-none answers (then_others _ _ others) none = all-none answers others
 
-  -- ---- a cancel
+  -- Lemmas about a cancel.
 
   set_free : (number : ℕ) (r : R) → (k.common (freed k number r)).notification ≢ Some number
   set_free number r =
@@ -125,7 +126,7 @@ module _ {R : Type 0} (k : RecordRules R) (lawful : IsLawful k) where
         | false ↦ λ isnt is. absurd (not_itself number (sym (ap (is_notification number) is) ∙ isnt))
       ] refl
 
-  -- those that wait without one of them have other numbers
+  -- Those that wait without one of them have other numbers.
   others-wait : (number : ℕ) (xs : List Waiting) (x : Waiting) → Contains (without number xs) x → x.number ≢ number
   others-wait number [] x h = absurd (omega (arith, h.1))
   others-wait number (y ∷ xs) x h =

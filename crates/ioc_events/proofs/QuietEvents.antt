@@ -1,4 +1,4 @@
--- Events leave a quiet database quiet.
+-- Events keep a quiet database quiet.
 use Rattle.std.proofs.Common.{◌≡◌, ◌≢◌, ℕ, true, false, eqb, Ok, IsSome, IsTrue, Option, None as Nothing_, Bool, refl, ap, subst, ◌∙◌, inl, inr, arith, cond, Some, length, [], ◌∷◌, ◌++◌, sym}
 use Rattle.std.specs.Prelude.{◌↔◌, Contains, nat_lt, ◌&&◌, List}
 use Rattle.std.proofs.lemmas.Grind.{common_steps}
@@ -63,7 +63,7 @@ module _ {R : Type 0} (k : RecordRules R) (lawful : IsLawful k) where
     quiet = quiet-put w s r there (put_active k lawful _ r field given is) (put_pending k lawful _ r field given is) settled.quiet;
   }
 
-  -- a mark leaves it settled
+  -- Changing a mark keeps a world settled.
   mark-settled : (w : World R) (s : ℕ) (f : Common → Common) → ((c : Common) → OwnLinks c (f c)) → ((c : Common) → (f c).active ≡ c.active) → ((c : Common) → (f c).pending ≡ c.pending)
       → Has w s → IsSettled k w → IsSettled k (changed k w s f)
   unfolding changed
@@ -80,7 +80,7 @@ module _ {R : Type 0} (k : RecordRules R) (lawful : IsLawful k) where
         quiet = request-quiet k lawful answers w s there settled.closed settled.quiet;
       })
 
-  -- a record that goes on another scan list
+  -- Moving a record to another scan list keeps a world settled.
   lost-settled : (w : World R) → IsSettled k w → IsSettled k (lost w)
   unfolding at lost
   lost-settled w settled = record {
@@ -103,12 +103,12 @@ module _ {R : Type 0} (k : RecordRules R) (lawful : IsLawful k) where
   rescanned-settled : (w : World R) (n : ℕ) (field : FieldNo) → Has w n → IsSettled k w → IsSettled k (rescanned k w n field)
   rescanned-settled w n field there settled = rescanned-either k (IsSettled k) w n field settled (moved-settled w n there settled)
 
-  -- a record that was marked is there
+  -- A record that was marked exists.
   marked-has : (w : World R) (s : ℕ) → Has w s → Has (changed k w s (with_put_mark true)) s
   unfolding changed
   marked-has w s there = has-put k w s s _ there
 
-  -- a record that was put to is there, and all is settled
+  -- A record that was put to exists, and the world is settled.
   stored-has : (w w' : World R) (s : ℕ) (field : FieldNo) (r : R) → Has w s → w' ≡ rescanned k (put w s r) s field → Has w' s
   stored-has w w' s field r there stored = rw stored ((rescanned-keeps k lawful (put w s r) s field (has-put k w s s r there)).has s (has-put k w s s r there))
 
@@ -120,7 +120,7 @@ module _ {R : Type 0} (k : RecordRules R) (lawful : IsLawful k) where
   stored-keeps w w' s field given r there is stored =
       subst (Keeps k w) (sym stored) (keeps_on k (keeps-put_field k lawful w s field given r there is) (rescanned-keeps k lawful (put w s r) s field (has-put k w s s r there)))
 
-  -- a record whose device answered at last waits no more, and every other goes on as it was, or waits
+  -- A record whose device answered later no longer waits, and every other is as it was, or waits.
   completion-settled : (answers : Answers) {w w' : World R} {s : ℕ} {x : Finished} {requests : Requests} → Has w s → Resumes k answers w s x w' requests → IsSettled k w → IsSettled k w'
   completion-settled answers {w} {w'} {s} {x} there r settled =
       let keeps : Keeps k w w' = subst (Keeps k w) (ap (λ (d : Done R). d.world) (at_last-is k lawful answers r)) (at_last-keeps k lawful w settled.closed answers s there x) in
@@ -157,7 +157,7 @@ module _ {R : Type 0} (k : RecordRules R) (lawful : IsLawful k) where
     quiet = quiet-put w s _ there (lawful.link_set_active _ f l) (lawful.link_set_pending _ f l) settled.quiet;
   }
 
-  -- ---- puts with notification
+  -- Lemmas about puts with notification.
 
   pub ready-has : (w : World R) (x : Waiting) → is_ready k w x ≡ true → Has w x.target
   unfolding is_ready
@@ -281,7 +281,7 @@ module _ {R : Type 0} (k : RecordRules R) (lawful : IsLawful k) where
   step-settled answers (by_itself does _) settled = does-settled answers does settled
   step-settled answers (then_others does _ others) settled = starts_all-settled answers others (does-settled answers does settled)
 
-  -- an event adds no record, takes none away, and changes no link
+  -- An event adds or removes no record and changes no link.
   request-kept : (answers : Answers) {w w' : World R} {s : ℕ} {requests : Requests} → Has w s → Requested k answers w s w' requests → IsClosed k w → Keeps k w w'
   request-kept answers {w} {w'} {s} there r closed = subst (Keeps k w) (ap (λ (d : Done R). d.world) (request-is k lawful answers r)) (request-keeps k lawful w closed answers s there)
 

@@ -1,4 +1,4 @@
--- The waiting list of one record, as one more waits and one less.
+-- The waiting list of one record, as one is added or removed.
 use Rattle.std.proofs.Common.{◌≡◌, ◌≢◌, ℕ, zero, suc, Bool, true, false, cond, not, nat_eq, List, [], ◌∷◌, ◌++◌, refl, sym, ap, subst, ◌∙◌, inl, inr, arith, append-nil}
 use Rattle.std.specs.Prelude.{Contains, ◌||◌}
 use Rattle.std.specs.List.{filter, list_any}
@@ -7,7 +7,7 @@ use Rattle.std.proofs.lemmas.List.Elements.{Contains-append_cases, filter-append
 use Rattle.ioc_notify.specs.declared.waiting_lists.Waiting.{Waiting}
 use Rattle.ioc_notify.specs.Waits.{at_record, without}
 
--- ---- lists that are filtered
+-- Lemmas about filtered lists.
 
 one-there : {X : Type 0} (x y : X) → Contains (x ∷ []) y → x ≡ y
 one-there x y (zero, lt, is) = is
@@ -16,7 +16,7 @@ one-there x y (suc i, lt, is) = absurd (omega arith)
 later : {X : Type 0} (y : X) (xs : List X) (x : X) → Contains xs x → Contains (y ∷ xs) x
 later y xs x (i, lt, is) = (suc i, omega (arith, lt), is)
 
--- one that passes is among those that do, and nothing else is
+-- An item is in the filtered list if and only if it is in the list and passes.
 passes-there : {X : Type 0} (p : X → Bool) (xs : List X) (x : X) → Contains (filter p xs) x → Contains xs x × (p x ≡ true)
 passes-there p [] x h = absurd (omega (arith, h.1))
 passes-there p (y ∷ xs) x h =
@@ -38,7 +38,7 @@ there-passes p (y ∷ xs) x (suc i, lt, there) is =
       | false ↦ rest
     ]
 
--- two filters in either order
+-- Two filters commute.
 by_tests : {X : Type 0} (p q : X → Bool) (x : X) (xs : List X) (b c : Bool) → p x ≡ b → q x ≡ c → filter p (filter q xs) ≡ filter q (filter p xs)
     → filter p (cond c (x ∷ filter q xs) (filter q xs)) ≡ filter q (cond b (x ∷ filter p xs) (filter p xs))
 by_tests p q x xs true true eb ec h =
@@ -55,7 +55,7 @@ all-pass : {X : Type 0} (p : X → Bool) (xs : List X) → ((x : X) → Contains
 all-pass p [] all = refl
 all-pass p (x ∷ xs) all = rw (all x (0, omega arith, refl)) (ap (λ ys. x ∷ ys) (all-pass p xs (λ y h. all y (later x xs y h))))
 
--- whether one passes is said of those that do
+-- Whether one passes depends only on those that do.
 any-passes : {X : Type 0} (p : X → Bool) (xs : List X) → list_any p xs ≡ list_any p (filter p xs)
 any-passes p [] = refl
 any-passes p (x ∷ xs) = elim (p x) as (λ b. p x ≡ b → (b || list_any p xs) ≡ list_any p (cond b (x ∷ filter p xs) (filter p xs))) [
@@ -63,7 +63,7 @@ any-passes p (x ∷ xs) = elim (p x) as (λ b. p x ≡ b → (b || list_any p xs
   | false ↦ λ is. any-passes p xs
 ] refl
 
--- ---- waiting lists of records
+-- Lemmas about waiting lists of records.
 
 nat-same : (a b : ℕ) → a ≡ b → nat_eq a b ≡ true
 nat-same a b e = grind (arith, common_steps)
@@ -74,18 +74,18 @@ nat-other a b e = grind (arith, common_steps)
 nat-is : (a b : ℕ) → nat_eq a b ≡ true → a ≡ b
 nat-is a b e = grind (arith, common_steps)
 
--- one that waits is in the list of its record, and one in the list of a record waits for it
+-- One that waits is in the list of its record, and one in the list of a record waits for it.
 pub in-list : (xs : List Waiting) (x : Waiting) → Contains xs x → Contains (at_record x.target xs) x
 in-list xs x h = there-passes (λ (w : Waiting). nat_eq w.target x.target) xs x h (nat-same x.target x.target refl)
 
 pub of-list : (xs : List Waiting) (target : ℕ) (x : Waiting) → Contains (at_record target xs) x → Contains xs x × (x.target ≡ target)
 of-list xs target x h = let one = passes-there (λ (w : Waiting). nat_eq w.target target) xs x h in (one.0, nat-is x.target target one.1)
 
--- where a record has the same list, who waits for it in the one waits in the other
+-- If a record has the same list in both worlds, the same wait for it.
 pub waits-too : (xs ys : List Waiting) (x : Waiting) → at_record x.target xs ≡ at_record x.target ys → Contains xs x → Contains ys x
 waits-too xs ys x same h = (of-list ys x.target x (subst (λ (l : List Waiting). Contains l x) same (in-list xs x h))).0
 
--- with one more
+-- The lists of a record stay equal if one is added to both.
 pub added-same : (xs ys : List Waiting) (x : Waiting) (target : ℕ) → at_record target xs ≡ at_record target ys → at_record target (xs ++ x ∷ []) ≡ at_record target (ys ++ x ∷ [])
 added-same xs ys x target same =
     let p : Waiting → Bool = λ w. nat_eq w.target target in
@@ -97,7 +97,7 @@ added-elsewhere xs x target apart =
     let none : p x ≡ false = nat-other x.target target apart in
     filter-append p xs (x ∷ []) ∙ ap (λ (b : Bool). filter p xs ++ cond b (x ∷ []) []) none ∙ append-nil (filter p xs)
 
--- without one
+-- Removing one commutes with selecting the list of a record.
 taken-from_each : (number target : ℕ) (xs : List Waiting) → at_record target (without number xs) ≡ without number (at_record target xs)
 taken-from_each number target xs = two_filters (λ (w : Waiting). nat_eq w.target target) (λ (w : Waiting). not (nat_eq w.number number)) xs
 
@@ -110,7 +110,7 @@ taken-elsewhere number target xs apart =
     ∙ all-pass (λ (w : Waiting). not (nat_eq w.number number)) (at_record target xs)
     (λ x h. let one = of-list xs target x h in ap not (nat-other x.number number (apart x one.0 one.1)))
 
--- does one wait for this record?
+-- Whether one waits for this record depends only on its list.
 pub any-same : (xs ys : List Waiting) (target : ℕ) → at_record target xs ≡ at_record target ys → list_any (λ (x : Waiting). nat_eq x.target target) xs ≡ list_any (λ (x : Waiting). nat_eq x.target target) ys
 any-same xs ys target same =
     let p : Waiting → Bool = λ x. nat_eq x.target target in

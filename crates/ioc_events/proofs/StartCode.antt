@@ -1,4 +1,4 @@
--- The starts of puts with notification, as the code meets them.
+-- The starts of puts with notification, in the order of the code.
 use Rattle.std.proofs.Common.{◌≡◌, ◌≤◌, ℕ, length, zero, suc, true, false, Option, Some, refl, sym, ap, subst, ◌∙◌, arith}
 use Rattle.ioc_ledger.specs.declared.outcome.Outcome.{Outcome}
 use Rattle.ioc_ledger.specs.declared.tally.Tally.{Tally}
@@ -23,7 +23,7 @@ pub admitted-waiting : {R : Type 0} (number : ℕ) (w : World R) → (admitted n
 unfolding admitted
 admitted-waiting number w = refl
 
--- where none waits none starts
+-- If none waits, none starts.
 pub none-waits : {R : Type 0} (k : RecordRules R) (answers : Answers) (w : World R) → length w.waiting ≡ 0 → all_started k answers w ≡ record { world = w; requests = None }
 unfolding all_started started_most
 none-waits k answers w none = rw none refl
@@ -39,7 +39,7 @@ module _ {R : Type 0} (k : RecordRules R) (lawful : IsLawful k) (answers : Answe
       rw (started-by k lawful answers w x true proc, request-rule k lawful answers (changed k (taken_and_stored k w x) x.target (with_put_mark true)) x.target)
       (record { world = leaves.world; tally = leaves.tally })
 
-  -- what has started so far leads on to the same as those that are left
+  -- What has started so far has the same final result as the ones that are left.
   pub record LeadsOn (most left : ℕ) (before now : World R) (t counts : Tally) : Type 0 where
     pub world : (started_most k answers most before).world ≡ (started_most k answers left now).world
     pub tally : counted t (started_most k answers most before).requests ≡ counted counts (started_most k answers left now).requests
@@ -59,7 +59,7 @@ module _ {R : Type 0} (k : RecordRules R) (lawful : IsLawful k) (answers : Answe
             ∙ ap (λ (v : World R). counted more (started_most k answers left v).requests) (sym one.world);
       }
 
-  -- none is left that may start
+  -- None is left that may start.
   pub leads-end : (most left : ℕ) (before w : World R) (t counts : Tally) → LeadsOn most left before w t counts → started_most k answers left w ≡ record { world = w; requests = None }
       → Counts w t counts (started_most k answers most before)
   leads-end most left before w t counts so_far none = record {
@@ -67,12 +67,12 @@ module _ {R : Type 0} (k : RecordRules R) (lawful : IsLawful k) (answers : Answe
     tally = sym (so_far.tally ∙ ap (λ (d : Done R). counted counts d.requests) none);
   }
 
-  -- no more may start than wait
+  -- No more may start than wait.
   pub leads-done : (most left : ℕ) (before w : World R) (t counts : Tally) → LeadsOn most left before w t counts → left ≤ 0 → Counts w t counts (started_most k answers most before)
   unfolding started_most
   leads-done most zero before w t counts so_far none = leads-end most 0 before w t counts so_far refl
   leads-done most (suc left) before w t counts so_far none = absurd (omega arith)
 
-  -- the record of the next one is there
+  -- The record of the next one exists.
   pub next-has : (w : World R) (x : Waiting) → next_waiting k w ≡ Some x → Has w x.target
   next-has w x is = ready-has k lawful w x (is-next k w x (subst (λ (o : Option Waiting). IsBest k w w.waiting o) is (best-next k w))).ready

@@ -1,4 +1,5 @@
--- Which put with notification starts next: the rules allow what the functions give, and nothing else.
+-- The put with notification that starts next: the rules allow the result of the functions, and
+-- nothing else.
 use Rattle.std.proofs.Common.{◌≡◌, ◌≢◌, ℕ, zero, suc, ◌+◌, ◌<◌, ◌≤◌, Bool, true, false, cond, not, nat_eq, List, [], ◌∷◌, ◌++◌, length, Option, Some, None as Nothing_, refl, sym, ap, subst, ◌∙◌, inl, inr, arith, append_assoc, append-nil}
 use Rattle.std.specs.Prelude.{slice_get, Contains, nat_le}
 use Rattle.std.specs.List.{filter}
@@ -22,7 +23,7 @@ use Rattle.ioc_process.specs.RulesAlone.{request-is}
 use Rattle.ioc_process.specs.RulesAllowed.{request-allowed}
 use Rattle.ioc_events.proofs.Waitings.{started-waiting}
 
--- ---- lists
+-- Lemmas about lists.
 
 filter-append : {X : Type 0} (p : X → Bool) (xs ys : List X) → filter p (xs ++ ys) ≡ filter p xs ++ filter p ys
 filter-append p [] ys = refl
@@ -42,7 +43,7 @@ filter-none : {X : Type 0} (p : X → Bool) (xs : List X) → ((x : X) → Conta
 filter-none p [] none = refl
 filter-none p (x ∷ xs) none = rw (none x (0, omega arith, refl)) (filter-none p xs (λ y h. none y (contains-later x xs y h)))
 
--- the first of those that pass a test is among them, and passes
+-- The first item that passes a test is in the list and passes.
 first-passes : {X : Type 0} (p : X → Bool) (xs : List X) (x : X) → slice_get (filter p xs) 0 ≡ Some x → Contains xs x × (p x ≡ true)
 first-passes p [] x is = cc
 first-passes p (y ∷ xs) x is =
@@ -64,7 +65,7 @@ no_longer number (y ∷ xs) =
       | false ↦ omega (arith, rest)
     ]
 
--- without one that is there, a list is shorter
+-- Removing one from a list that contains it makes the list shorter.
 shorter : (number : ℕ) (xs : List Waiting) (x : Waiting) → Contains xs x → x.number ≡ number → length (without number xs) + 1 ≤ length xs
 shorter number [] x (i, lt, is) e = absurd (omega arith)
 shorter number (y ∷ xs) x (zero, lt, is) e =
@@ -80,12 +81,12 @@ shorter number (y ∷ xs) x (suc i, lt, is) e =
     ]
 
 module _ {R : Type 0} (k : RecordRules R) where
-  -- which one starts next, of these that wait
+  -- The one that starts next, of these that wait.
   pub IsBest : World R → List Waiting → Option Waiting → Type 0
   IsBest w xs Nothing_ = (y : Waiting) → Contains xs y → is_ready k w y ≡ false
   IsBest w xs (Some x) = (is_ready k w x ≡ true) × (slice_get (at_record x.target xs) 0 ≡ Some x) × ((y : Waiting) → Contains xs y → is_ready k w y ≡ true → x.target ≤ y.target)
 
-  -- whether one may start is said of its record alone
+  -- Whether one may start depends only on its record.
   ready-same : (w : World R) (x y : Waiting) → x.target ≡ y.target → is_ready k w x ≡ is_ready k w y
   unfolding is_ready
   ready-same w x y e = rw e refl
@@ -93,7 +94,7 @@ module _ {R : Type 0} (k : RecordRules R) where
   not_both : {b : Bool} → b ≡ true → b ≡ false → ⊥
   not_both is isnt = cc
 
-  -- one whose record has none before it in the list
+  -- One whose record has none before it in the list is the first of that record.
   comes_first : (xs : List Waiting) (x : Waiting) → ((y : Waiting) → Contains xs y → y.target ≢ x.target) → slice_get (at_record x.target (xs ++ x ∷ [])) 0 ≡ Some x
   comes_first xs x apart =
       let none : at_record x.target xs ≡ [] = filter-none (λ w. nat_eq w.target x.target) xs (λ y h. let other : y.target ≢ x.target = apart y h in grind (arith, common_steps)) in
@@ -183,7 +184,7 @@ module _ {R : Type 0} (k : RecordRules R) where
   pub one-next : (w : World R) (x : Waiting) → IsNext k w x → next_waiting k w ≡ Some x
   one-next w x next = best-one w x _ (best-next w) next
 
-  -- none is left that may start, or one is next
+  -- None is left that may start, or one is next.
   none-ready : (w : World R) → IsBest w w.waiting Nothing_ → NoneReady k w
   unfolding IsBest
   none-ready w best = record { none = best }
@@ -219,7 +220,7 @@ module _ {R : Type 0} (k : RecordRules R) (lawful : IsLawful k) (answers : Answe
   unfolding unqueued
   unqueued-waiting number w = refl
 
-  -- fewer wait after one has started
+  -- Fewer wait after one has started.
   fewer : (w : World R) (x : Waiting) (most : ℕ) → IsNext k w x → length w.waiting ≤ suc most → length (started k answers (unqueued x.number w) x).world.waiting ≤ most
   fewer w x most next few =
       let less = shorter x.number w.waiting x (waits-there k w x next) refl in
@@ -245,7 +246,7 @@ module _ {R : Type 0} (k : RecordRules R) (lawful : IsLawful k) (answers : Answe
   unfolding all_started
   starts_all-is {w} r = starts_most-is r (length w.waiting) (omega arith)
 
-  -- what is allowed of those that start in this world
+  -- What is allowed of those that start in this world.
   AllowedFrom : ℕ → World R → Type 0
   AllowedFrom most w = StartsAll k answers w (started_most k answers most w).world (started_most k answers most w).requests
 

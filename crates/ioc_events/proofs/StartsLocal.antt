@@ -1,4 +1,4 @@
--- Starts of puts with notification look at the records of U, and change these alone.
+-- Starts of puts with notification depend only on the records of `U`, and change only these.
 use Rattle.std.proofs.Common.{◌≡◌, ◌≢◌, ℕ, Bool, true, false, cond, not, List, Option, Some, None as Nothing_, is_some, unwrap_or, refl, sym, ap, subst, ◌∙◌}
 use Rattle.std.specs.Prelude.{Contains, ◌&&◌, slice_get}
 use Rattle.std.specs.FinMap.{get, contains_key}
@@ -35,7 +35,7 @@ module _ {R : Type 0} (k : RecordRules R) (lawful : IsLawful k) where
   unfolding at
   missing-is w n isnt = none-there k lawful (get w.records n) isnt
 
-  -- whether one may start is said of its record
+  -- Whether one may start depends only on its record.
   abbrev pub idle_alone : R → Bool
   idle_alone r = not (k.common r).active && not (is_some (k.common r).notification)
 
@@ -50,14 +50,14 @@ module _ {R : Type 0} (k : RecordRules R) (lawful : IsLawful k) where
   ready-by a b x same = ready-is a x ∙ ap (λ (r : R). not (k.common r).active && not (is_some (k.common r).notification)) same ∙ sym (ready-is b x)
 
 module _ {R : Type 0} (k : RecordRules R) (lawful : IsLawful k) (mine : ℕ → Bool) where
-  -- one that may start waits for a record in U
+  -- One that may start waits for a record in `U`.
   inside : (a : World R) → KeepsApart k mine a → (x : Waiting) → Contains a.waiting x → is_ready k a x ≡ true → mine x.target ≡ true
   inside a apart x waits ready = elim (mine x.target) as (λ b. mine x.target ≡ b → mine x.target ≡ true) [
     | true ↦ λ is. is
     | false ↦ λ out. absurd (not_both ready (apart.none_ready x waits out))
   ] refl
 
-  -- where nobody new waits, and what is outside is the same, they stay apart
+  -- If no new one waits and what is outside `U` is unchanged, they stay apart.
   fewer-apart : (a b : World R) → ((n : ℕ) → mine n ≡ false → at k b n ≡ at k a n) → ((x : Waiting) → Contains b.waiting x → Contains a.waiting x) → KeepsApart k mine a → KeepsApart k mine b
   fewer-apart a b same fewer apart = record {
     none_ready = λ x waits out. ready-by k lawful b a x (same x.target out) ∙ apart.none_ready x (fewer x waits) out;
@@ -108,7 +108,7 @@ module _ {R : Type 0} (k : RecordRules R) (lawful : IsLawful k) (mine : ℕ → 
         | false ↦ record { inv = (guards k mine w v lawful).tell first x.target u; requests = refl }
       ])
 
-  -- the next one in the one is the next in the other, and waits for a record in U
+  -- The next one in one world is the next in the other, and waits for a record in `U`.
   next-goes : {a b : World R} → Both a b → KeepsApart k mine a → KeepsApart k mine b → (x : Waiting) → IsNext k a x → IsNext k b x × (mine x.target ≡ true)
   next-goes {a} {b} both apart other_apart x next =
       let u : mine x.target ≡ true = inside k lawful mine a apart x (waits-there k a x next) next.ready in (
@@ -148,7 +148,7 @@ module _ {R : Type 0} (k : RecordRules R) (lawful : IsLawful k) (mine : ℕ → 
     other_spares = unqueued-spares k lawful mine v b number other_others both.other_spares;
   }
 
-  -- the next one starts in both
+  -- The next one starts in both worlds.
   start-goes : {a b : World R} → Both a b → KeepsApart k mine a → KeepsApart k mine b → (x : Waiting) → IsNext k a x → IsNext k b x → U x.target
       → Goes Both (started k answers (unqueued x.number a) x) (started k answers (unqueued x.number b) x)
   start-goes {a} {b} both apart other_apart x next other_next u =
@@ -156,12 +156,12 @@ module _ {R : Type 0} (k : RecordRules R) (lawful : IsLawful k) (mine : ℕ → 
       (λ y waits out e. apart.numbers x y (waits-there k a x next) waits u out (sym e))
       (λ y waits out e. other_apart.numbers x y (waits-there k b x other_next) waits u out (sym e))) x u
 
-  -- who waits after one has started waited before
+  -- One that waits after a start waited before.
   waited-before : (a : World R) (x y : Waiting) → Contains (started k answers (unqueued x.number a) x).world.waiting y → Contains a.waiting y
   unfolding unqueued
   waited-before a x y waits = waited x.number a.waiting y (subst (λ (l : List Waiting). Contains l y) (started-waiting k lawful answers (unqueued x.number a) x) waits)
 
-  -- what the other does where one starts and then others
+  -- The result if one starts and then the others.
   all-next : (b : World R) (x : Waiting) → IsNext k b x
       → let first = started k answers (unqueued x.number b) x in
       let rest = all_started k answers first.world in

@@ -1,4 +1,4 @@
--- The rules of an event allow what the function gives, and nothing else.
+-- The rules of an event allow the result of the function, and nothing else.
 use Rattle.std.proofs.Common.{◌≡◌, ℕ, Bool, true, false, cond, List, Some, is_some, refl, sym, ap, subst, ◌∙◌}
 use Rattle.std.specs.Prelude.{Result, Ok, Err, not}
 use Rattle.std.specs.FinMap.{contains_key}
@@ -111,7 +111,7 @@ module _ {R : Type 0} (k : RecordRules R) (lawful : IsLawful k) (answers : Answe
   unfolding done_alone done_there
   live-is w number = refl
 
-  -- no other result than that of the function
+  -- The rules allow no other result than that of the function.
   pub does-is : {w : World R} {event : Event} {w' : World R} {reply : Reply} {requests : Requests} → Does k answers w event w' reply requests
       → done_alone k answers w event ≡ record { world = w'; reply = reply; requests = requests }
   does-is (no_such_record {w} {event} missing) = step-missing k answers w event missing
@@ -145,7 +145,7 @@ module _ {R : Type 0} (k : RecordRules R) (lawful : IsLawful k) (answers : Answe
   does-is (cancels {w} {number} is) = step-cancel k answers w number true is
   does-is (tells_if_live {w} {number}) = live-is w number
 
-  -- ---- and the result of the function is allowed
+  -- Lemmas that the result of the function is allowed.
 
   Allows : World R → Event → Stepped R → Type 0
   Allows w event x = Does k answers w event x.world x.reply x.requests
@@ -267,7 +267,7 @@ module _ {R : Type 0} (k : RecordRules R) (lawful : IsLawful k) (answers : Answe
         | false ↦ λ missing. rw (step-missing k answers w event missing) (no_such_record missing)
       ] refl
 
-  -- ---- with the starts after it
+  -- Lemmas about the starts after an event.
 
   starting-is : (event : Event) (first : Stepped R) (b : Bool) → lets_start event first.reply ≡ b
       → cond {A = Stepped R} (lets_start event first.reply) (with_starts k answers first) first ≡ cond {A = Stepped R} b (with_starts k answers first) first
@@ -295,7 +295,7 @@ module _ {R : Type 0} (k : RecordRules R) (lawful : IsLawful k) (answers : Answe
       ] refl
 
 module _ {R : Type 0} (k : RecordRules R) (lawful : IsLawful k) where
-  -- a list of events replays in one way
+  -- A list of events replays in one way.
   pub replay-is : {w w' w'' : World R} {entries : List Entry} → Replay k w entries w' → Replay k w entries w'' → w' ≡ w''
   replay-is at_the_end at_the_end = refl
   replay-is (and_then {w} {w'} {w''} {entry} {entries} first _ rest) (and_then second _ others) =

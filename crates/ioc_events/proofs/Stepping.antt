@@ -1,4 +1,4 @@
--- The cases of an event, as the code meets them.
+-- The cases of an event, in the order of the code.
 use Rattle.std.proofs.Common.{◌≡◌, ℕ, Bool, true, false, cond, length, drop, refl, sym, ap, subst, ◌∙◌}
 use Rattle.std.specs.Prelude.{Result, Ok, Err, not}
 use Rattle.std.specs.FinMap.{contains_key}
@@ -52,7 +52,7 @@ module _ {R : Type 0} (k : RecordRules R) where
     unfolding told
     makes-told w after s outcome before counts leaves = record { world = leaves.world; reply = ap Outcome-reply leaves.outcome; tally = leaves.tally }
 
-    -- what follows a put
+    -- A put to a field that doesn't process the record has the plain reply.
     pub makes-plain : (w : World R) (s : ℕ) (field : FieldNo) (counts : Tally) → processes k (at k w s) field ≡ false → Makes w Plain counts counts (after_put k answers w s field)
     unfolding after_put
     makes-plain w s field counts is = rw is (record { world = refl; reply = refl; tally = refl })
@@ -70,7 +70,7 @@ module _ {R : Type 0} (k : RecordRules R) where
         ap (λ (b : Bool). cond {A = Stepped R} b (cond {A = Stepped R} (common_at k w s).active down on) (record { world = w; reply = Plain; requests = None })) is
         ∙ ap (λ (b : Bool). cond {A = Stepped R} b down on) idle
 
-    -- a completion
+    -- A completion has the plain reply.
     pub makes-completion : (w after : World R) (s : ℕ) (x : Finished) (before counts : Tally) → Comes after before counts Processed (processed (went_on_at_last k answers w s x))
         → Makes after Plain before counts (after_completion k answers w s x)
     unfolding after_completion
@@ -80,19 +80,19 @@ module _ {R : Type 0} (k : RecordRules R) where
     unfolding done_there
     step-process w s is = step-there w (Process s) is
 
-    -- a put that is refused
+    -- A put that is refused.
     pub step-put_refused : (w : World R) (s : ℕ) (field : FieldNo) (given : Input) (e : IocError) → contains_key w.records s ≡ true
         → put_field k (at k w s) field given ≡ Err e → done_alone k answers w (Put s field given) ≡ refused w e
     unfolding done_there
     step-put_refused w s field given e there is = step-there w (Put s field given) there ∙ ap (put_with k answers w s field) is
 
-    -- a put that is done
+    -- A put that is done.
     pub step-put : (w : World R) (s : ℕ) (field : FieldNo) (given : Input) (r : R) → contains_key w.records s ≡ true
         → put_field k (at k w s) field given ≡ Ok r → done_alone k answers w (Put s field given) ≡ after_put k answers (rescanned k (put w s r) s field) s field
     unfolding done_there
     step-put w s field given r there is = step-there w (Put s field given) there ∙ ap (put_with k answers w s field) is
 
-    -- a completion that isn't awaited, and one that is
+    -- A completion that isn't awaited, and one that is.
     pub step-stale : (w : World R) (s number : ℕ) (x : Finished) → contains_key w.records s ≡ true → awaits (common_at k w s) number ≡ false
         → done_alone k answers w (Complete s number x) ≡ refused w Stale
     unfolding done_there
@@ -103,7 +103,7 @@ module _ {R : Type 0} (k : RecordRules R) where
     unfolding done_there
     step-complete w s number x there is = step-there w (Complete s number x) there ∙ rw is refl
 
-    -- a put with notification that is refused, or has no place, and one that is let in
+    -- A put with notification that is refused or can't begin, and one that is admitted.
     pub step-notify : (w : World R) (s number : ℕ) (field : FieldNo) (given : Input) (value : Result Value IocError) → contains_key w.records s ≡ true
         → value_to_put k (at k w s) field given ≡ value → done_alone k answers w (Notify s number field given) ≡ notify_with k answers w s number field value
     unfolding done_there
@@ -118,13 +118,13 @@ module _ {R : Type 0} (k : RecordRules R) where
         → done_alone k answers w (Notify s number field given) ≡ begun_or_queued k answers w (record { number = number; target = s; field = field; value = v })
     step-let_in w s number field given v there is place = step-notify w s number field given (Ok v) there is ∙ rw place refl
 
-    -- a cancel
+    -- A cancel.
     pub step-cancel : (w : World R) (number : ℕ) (b : Bool) → is_live number w.live ≡ b
         → done_alone k answers w (Cancel number) ≡ cond {A = Stepped R} b (record { world = cancelled k number w; reply = Plain; requests = None }) (refused w Stale)
     unfolding done_alone done_there
     step-cancel w number b is = rw is refl
 
-    -- ---- what comes after an event by itself
+    -- Lemmas about what follows an event by itself.
 
     same-first : (first : Stepped R) (w1 : World R) (reply : Reply) (t t1 : Tally) → Makes w1 reply t t1 first → record { world = w1; reply = reply; requests = first.requests } ≡ first
     same-first first w1 reply t t1 makes i = record { world = makes.world i; reply = makes.reply i; requests = first.requests }
@@ -167,7 +167,7 @@ module _ {R : Type 0} (k : RecordRules R) where
           ∙ ap (λ (r : Reply). let begun = counted_started (counted t done.requests) (later_among (calls_since w done.world)) in cond (completes event r) (counted_completion begun) begun) is.reply_is;
     }
 
-    -- an event by itself, and what comes after it
+    -- An event by itself, and what follows it.
     pub tells-event : (w w1 w2 : World R) (event : Event) (reply : Reply) (asked : ℕ) (t t1 t2 counts : Tally) → asked ≡ length w.calls → Makes w1 reply t t1 (done_alone k answers w event)
         → lets_start event reply ≡ not (is_refusal reply) → Ends w2 asked t1 t2 (ends k answers w1 reply) → counts ≡ cond (completes event reply) (counted_completion t2) t2
         → Tells w w2 reply t counts event (stepped k answers w event)
@@ -175,7 +175,7 @@ module _ {R : Type 0} (k : RecordRules R) where
         tells-from w w2 event reply t t2 counts _ (subst (λ (n : ℕ). IsStepped w2 n reply t t2 (stepped k answers w event)) at_first (is_stepped w w1 w2 event reply asked t t1 t2 makes lets ends)) counted_last
 
 module _ {R : Type 0} (k : RecordRules R) (lawful : IsLawful k) where
-  -- the record after is that before with some value stored in the field
+  -- The record afterwards is that before with some value stored in the field.
   abbrev Stores : R → FieldNo → R → Type 0
   Stores r field r' = (v : Value) × (k.stored r field v ≡ r')
 
@@ -188,7 +188,7 @@ module _ {R : Type 0} (k : RecordRules R) (lawful : IsLawful k) where
   unfolding put_field
   put_stores r r' field given is = put_tested_stores r r' field given (put_tested k r field) is
 
-  -- a put changes no link, no active mark and nothing that is pending
+  -- A put changes no link, no active mark and no pending number.
   put_links : (r r' : R) (field : FieldNo) (given : Input) → put_field k r field given ≡ Ok r' → SameLinks k r r'
   put_links r r' field given is = let s = put_stores r r' field given is in subst (λ (x : R). SameLinks k r x) s.1 (links-stored k lawful r field s.0)
 

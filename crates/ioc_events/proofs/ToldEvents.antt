@@ -1,4 +1,4 @@
--- After an event an idle record has no notification.
+-- After an event, an idle record is part of no put with notification.
 use Rattle.std.proofs.Common.{◌≡◌, ◌≢◌, ℕ, Bool, true, false, not, List, Option, Some, None as Nothing_, Ok, IsSome, is_some, refl, sym, ap, subst, ◌∙◌}
 use Rattle.std.specs.Prelude.{◌&&◌}
 use Rattle.std.specs.FinMap.{contains_key}
@@ -101,7 +101,7 @@ module _ {R : Type 0} (k : RecordRules R) (lawful : IsLawful k) (n : ℕ) where
   step-told answers (by_itself does _) told = does-told answers does told
   step-told answers (then_others does _ others) told = starts_all-told answers others (does-told answers does told)
 
--- ---- between events
+-- Lemmas about worlds between events.
 
 some-one : (o : Option ℕ) → (IsSome o → ⊥) → o ≡ Nothing_
 some-one Nothing_ none = refl
@@ -117,7 +117,7 @@ some-not_none some is = cc
 not-both : {b : Bool} → b ≡ true → b ≡ false → ⊥
 not-both is isnt = cc
 
--- an item may start where its record is there, idle and free
+-- A waiting one may start if its record exists, is idle and is part of none.
 ready-parts : (there active : Bool) (o : Option ℕ) → there && (not active && not (is_some o)) ≡ false → there ≡ true → active ≡ false → IsSome o
 ready-parts true false (Some m) unready is idle = refl
 ready-parts true false Nothing_ unready is idle = cc

@@ -1,4 +1,4 @@
--- A request leaves alone who waits.
+-- A request leaves the waiting list unchanged.
 use Rattle.std.proofs.Common.{◌≡◌, nat_eq, ℕ, zero, suc, Bool, true, false, cond, List, [], ◌∷◌, ◌++◌, length, Option, Some, None as Nothing_, is_some, refl, ap, subst, ◌∙◌, inl, inr, arith}
 use Rattle.std.specs.Prelude.{nat_lt, not, Contains, Result, Ok, Err}
 use Rattle.ioc_ledger.specs.Requests.{None, more}
@@ -42,7 +42,7 @@ last-item : (x y : Waiting) → Contains (x ∷ []) y → x ≡ y
 last-item x y (zero, lt, is) = is
 last-item x y (suc i, lt, is) = absurd (omega arith)
 
--- those that wait without one of them all waited
+-- Those that wait without one of them all waited.
 pub waited : (number : ℕ) (xs : List Waiting) (x : Waiting) → Contains (without number xs) x → Contains xs x
 waited number [] x h = h
 waited number (y ∷ xs) x h =
@@ -63,7 +63,7 @@ sent-waiting item w = elim (nat_lt (length w.outbox) 256) as (λ b. (cond b (rec
 ]
 
 module _ {R : Type 0} (k : RecordRules R) (lawful : IsLawful k) where
-  -- the same world, with these that wait
+  -- The same world, with these that wait.
   abbrev Waits : List Waiting → World R → World R → Type 0
   Waits waiting w v = (w ≡ v) × (w.waiting ≡ waiting)
 
@@ -136,7 +136,7 @@ module _ {R : Type 0} (k : RecordRules R) (lawful : IsLawful k) where
         | false ↦ notified-waiting stored x.target ∙ stored-waiting w x
       ]
 
-  -- ---- an event by itself
+  -- Lemmas about an event by itself.
 
   refused-waiting : (w : World R) (e : IocError) → (refused w e).world.waiting ≡ w.waiting
   refused-waiting w e = refl
@@ -186,7 +186,7 @@ module _ {R : Type 0} (k : RecordRules R) (lawful : IsLawful k) where
         ]
       ]
 
-  -- who waits after it waited before, or it is the event's own
+  -- One that waits afterwards waited before, or is that of the event.
   Within : (Waiting → Type 0) → World R → Type 0
   Within P w = (x : Waiting) → Contains w.waiting x → P x
 

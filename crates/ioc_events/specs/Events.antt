@@ -1,4 +1,4 @@
--- What the code of an event does, by what the event does.
+-- The effect of the code of an event in terms of the effect of the event.
 use Rattle.std.specs.Prelude.{◌≡◌, ℕ, Bool, drop, if◌then◌else◌, Option, Some, None as Nothing_, Result, Ok, Err}
 use Rattle.ioc_record.specs.declared.put_fault.PutFault.{PutFault}
 use Rattle.ioc_record.specs.PutFaults.{error_of}
@@ -15,37 +15,40 @@ use Rattle.ioc_process.specs.Processing.{Done}
 use Rattle.ioc_events.specs.Starting.{all_started}
 use Rattle.ioc_events.specs.Step.{Stepped, is_refusal, tallied}
 
--- the reply that tells what a request or a put came to: what became of the request, where there was one, or a refusal
+-- The reply for the effect of a request or a put: the outcome of the request, if there was one, or
+-- a refusal.
 abbrev pub reply_of : Result (Option Outcome) PutFault → Reply
 reply_of (Ok (Some outcome)) = Outcome-reply outcome
 reply_of (Ok Nothing_) = Plain
 reply_of (Err e) = Refused (error_of e)
 
--- the database, the reply and the tally after this event
+-- The database, the reply and the tally after this event.
 pub record Tells {R : Type 0} (w after : World R) (result : Reply) (before counts : Tally) (event : Event) (done : Stepped R) : Type 0 where
   pub world : after ≡ done.world
   pub reply : result ≡ done.reply
   pub tally : counts ≡ tallied before w event done
 
--- the database and the reply after an event by itself, and the tally with its requests
+-- The database and the reply after an event by itself, and the tally with its requests.
 pub record Makes {R : Type 0} (after : World R) (result : Reply) (before counts : Tally) (done : Stepped R) : Type 0 where
   pub world : after ≡ done.world
   pub reply : result ≡ done.reply
   pub tally : counts ≡ counted before done.requests
 
--- the database after requests, and the tally with them
+-- The database after requests, and the tally with them.
 pub record Counts {R : Type 0} (after : World R) (before counts : Tally) (done : Done R) : Type 0 where
   pub world : after ≡ done.world
   pub tally : counts ≡ counted before done.requests
 
--- what comes after an event by itself: those that wait start where they can, unless it was refused
+-- What follows an event by itself: waiting puts with notification start if they can, unless it was
+-- refused.
 abbrev pub ends_unless : {R : Type 0} → RecordRules R → Answers → World R → Bool → Done R
 ends_unless k answers w refused = if refused then record { world = w; requests = None } else all_started k answers w
 
 abbrev pub ends : {R : Type 0} → RecordRules R → Answers → World R → Reply → Done R
 ends k answers w reply = ends_unless k answers w (is_refusal reply)
 
--- the database after that, and the tally with its requests and with the answers, from this call on, that come later
+-- The database after that, and the tally with its requests and with the calls from `asked` on that
+-- are answered later.
 pub record Ends {R : Type 0} (after : World R) (asked : ℕ) (before counts : Tally) (done : Done R) : Type 0 where
   pub world : after ≡ done.world
   pub tally : counts ≡ counted_started (counted before done.requests) (later_among (drop asked after.calls))

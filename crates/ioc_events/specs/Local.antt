@@ -1,5 +1,8 @@
--- What an event does to the records of some numbers, whatever stands beside them, whichever notifications those have, and whatever waits for them.
--- Application Developer's Guide, "Database Locking, Scanning, and Processing": records of other lock sets play no part.
+-- The effect of an event on the records of some numbers, whatever other records exist, whichever
+-- puts with notification those are part of, and whatever waits for them.
+--
+-- Application Developer's Guide, "Database Locking, Scanning, and Processing": records of other
+-- lock sets play no part.
 use Rattle.std.specs.Prelude.{◌≡◌, ◌≢◌, ℕ, Bool, true, false, if◌then◌else◌, Contains, Option, Some}
 use Rattle.std.specs.Prelude.{None as Nothing_}
 use Rattle.std.specs.FinMap.{contains_key}
@@ -14,39 +17,44 @@ use Rattle.ioc_events.specs.Beside.{Shut, Same, Spares}
 use Rattle.ioc_events.specs.Starting.{is_ready}
 use Rattle.ioc_events.specs.Step.{Stepped, names, stepped}
 
--- the number of the put with notification that an event gives up, or that it begins if there is a place for one more
+-- The number of the put with notification that an event cancels, or that it begins if one more may
+-- begin.
 abbrev pub number_of : {R : Type 0} → World R → Event → Option ℕ
 number_of w (Notify s number field given) = if has_place w number then Some number else Nothing_
 number_of w (Cancel number) = Some number
 number_of w _ = Nothing_
 
--- what an event asks of all puts with notification comes out the same in both: whether there is a place for one more, and whether one is live
+-- Holds if the answers to what an event asks about all puts with notification are equal in both
+-- worlds: whether one more may begin, and whether one is live.
 abbrev pub AskAlike : {R : Type 0} → World R → World R → Event → Type 0
 AskAlike w v (Notify s number field given) = has_place w number ≡ has_place v number
 AskAlike w v (Cancel number) = is_live number w.live ≡ is_live number v.live
 AskAlike w v (IsLive number) = is_live number w.live ≡ is_live number v.live
 AskAlike w v _ = Unit {0}
 
--- `mine` tells of each number whether it is one of these; U are the records of these numbers
+-- `mine` holds of the numbers of these records; `U` are the records with these numbers.
 module _ {R : Type 0} (k : RecordRules R) (mine : ℕ → Bool) where
-  -- the two are the same in U, and each record in U is there in both or in neither
+  -- The two worlds are equal in `U`, and each record in `U` exists in both or in neither.
   pub record Alike (w v : World R) : Type 0 where
     pub same : Same k mine w v
     pub there : (n : ℕ) → mine n ≡ true → contains_key w.records n ≡ contains_key v.records n
 
-  -- those that wait for records outside U stay apart: none of them may start, and none has the number of one that waits in U
+  -- Those that wait for records outside `U` are apart: none of them may start, and none has the
+  -- number of one that waits in `U`.
   pub record KeepsApart (w : World R) : Type 0 where
     pub none_ready : (x : Waiting) → Contains w.waiting x → mine x.target ≡ false → is_ready k w x ≡ false
     pub numbers : (x y : Waiting) → Contains w.waiting x → Contains w.waiting y → mine x.target ≡ true → mine y.target ≡ false → x.number ≢ y.number
 
-  -- an event is done within U: it names records in U alone, its number is none of one that waits outside U, and the records that have
-  -- the notification that a cancel gives up are in U
+  -- An event is done within `U`: it names only records in `U`, its number is that of none that
+  -- waits outside `U`, and the records that are part of a cancelled put with notification are in
+  -- `U`.
   pub record IsWithin (w : World R) (event : Event) : Type 0 where
     pub named : (n : ℕ) → Contains (names event) n → mine n ≡ true
     pub waiting : (x : Waiting) → Contains w.waiting x → mine x.target ≡ false → number_of w event ≢ Some x.number
     pub holders : (number n : ℕ) → event ≡ Cancel number → Has w n → (common_at k w n).notification ≡ Some number → mine n ≡ true
 
-  -- The two lead to the same in U, by the same requests, with the same reply, and change nothing outside; U stays shut
+  -- The two have equal results in `U`, make the same requests, have the same reply, and change
+  -- nothing outside `U`; every link of a record in `U` still names a record in `U`.
   pub record AgreeEvent (w v : World R) (event other : Stepped R) : Type 0 where
     pub alike : Alike event.world other.world
     pub reply : event.reply ≡ other.reply
@@ -56,8 +64,9 @@ module _ {R : Type 0} (k : RecordRules R) (mine : ℕ → Bool) where
     pub other_spares : Spares k mine v other.world
 
 module _ {R : Type 0} (k : RecordRules R) (mine : ℕ → Bool) (answers : Answers) where
-  -- an event that is done within U looks at U alone and changes U alone, with the starts after it. Which notifications are live, which have
-  -- ended and what waits for other records may differ, where what the event asks of these comes out the same
+  -- An event that is done within `U`, with the starts after it, depends only on `U` and changes
+  -- only `U`. The puts with notification that are live or have ended and those that wait for other
+  -- records may differ, if the answers to what the event asks about them are equal.
   abbrev pub EventIsLocal : Type 0
   EventIsLocal =
       (w v : World R) (event : Event) → Shut k mine w → Alike k mine w v → KeepsApart k mine w → KeepsApart k mine v

@@ -1,5 +1,8 @@
--- What one event does to a database, as a function. The rules that it computes stand in StepRules.
--- Application Developer's Guide, "Runtime Database Access": dbGetField, dbPutField, dbProcess, dbPutNotify, dbNotifyCancel.
+-- The effect of one event on a database, as a function. The rules that it computes are in
+-- `StepRules`.
+--
+-- Application Developer's Guide, "Runtime Database Access": dbGetField, dbPutField, dbProcess,
+-- dbPutNotify, dbNotifyCancel.
 use Rattle.std.specs.Prelude.{ℕ, Bool, true, false, ◌==◌, length, drop, ◌&&◌, not, if◌then◌else◌, List, [], ◌∷◌, Option, Some, None as Nothing_, Result, Ok, Err, is_some}
 use Rattle.std.specs.FinMap.{contains_key}
 use Rattle.ioc_values.specs.declared.error.IocError.{IocError}
@@ -31,7 +34,7 @@ use Rattle.ioc_process.specs.Processing.{ran, went_on_at_last}
 use Rattle.ioc_events.specs.Starting.{value_to_put, must_wait, started, all_started}
 pub use Rattle.ioc_events.specs.Starting.{processes}
 
--- is the record there that an event is done on? A cancel and a question name none
+-- Holds if the record of the event exists. A cancel and the question whether one is live name none.
 abbrev pub is_there : {R : Type 0} → World R → Event → Bool
 is_there w (Get s field) = contains_key w.records s
 is_there w (Process s) = contains_key w.records s
@@ -42,12 +45,12 @@ is_there w (Notify s number field given) = contains_key w.records s
 is_there w (Cancel number) = true
 is_there w (IsLive number) = true
 
--- a link change
+-- Holds of a link change.
 abbrev pub is_link_change : Event → Bool
 is_link_change (Link s field link) = true
 is_link_change _ = false
 
--- the records that an event names
+-- The records that an event names.
 abbrev pub names : Event → List ℕ
 names (Get s field) = s ∷ []
 names (Process s) = s ∷ []
@@ -58,12 +61,12 @@ names (Notify s number field given) = s ∷ []
 names (Cancel number) = []
 names (IsLive number) = []
 
--- these records are all there
+-- Holds if all these records exist.
 abbrev pub all_there : {R : Type 0} → World R → List ℕ → Bool
 all_there w [] = true
 all_there w (n ∷ ns) = contains_key w.records n && all_there w ns
 
--- what an event leaves, what its caller is answered, and which requests were made
+-- The result of an event: the world afterwards, the reply, and the requests that were made.
 pub record Stepped (R : Type 0) : Type 0 where
   pub world : World R
   pub reply : Reply
@@ -73,21 +76,22 @@ abbrev pub is_pending : Option ℕ → ℕ → Bool
 is_pending Nothing_ number = false
 is_pending (Some pending) number = pending == number
 
--- the record awaits the completion of this number
+-- Holds if the record awaits the completion with this number.
 abbrev pub awaits : Common → ℕ → Bool
 awaits c number = is_pending c.pending number
 
--- nothing is changed
+-- A refusal: nothing has changed.
 abbrev pub refused : {R : Type 0} → World R → IocError → Stepped R
 refused w e = record { world = w; reply = Refused e; requests = None }
 
--- a refusal
+-- Holds of a refusal.
 abbrev pub is_refusal : Reply → Bool
 is_refusal (Refused e) = true
 is_refusal _ = false
 
--- do those that wait start after this event, where they can? Not after a refusal, a get, a question or a link change: these leave every
--- record as active as it was, with the notification that it had
+-- Holds if waiting puts with notification start after this event, if they can. They don't after a
+-- refusal, a get, the question whether one is live, or a link change: these leave every record as
+-- active as it was, and part of the same put with notification.
 abbrev pub lets_start : Event → Reply → Bool
 lets_start (Get s field) reply = false
 lets_start (Link s field link) reply = false
@@ -95,12 +99,12 @@ lets_start (IsLive number) reply = false
 lets_start event reply = not (is_refusal reply)
 
 module _ {R : Type 0} (k : RecordRules R) (answers : Answers) where
-  -- a request whose outcome is told
+  -- A request whose outcome is the reply.
   unfoldable pub told : World R → ℕ → Stepped R
   told w s = let done = ran k answers w s in record { world = done.world; reply = Outcome-reply done.outcome; requests = Request done.outcome done.requests None }
 
-  -- the record was put to, and is processed if the field says so: it is marked so; one that is active is put down for another
-  -- processing
+  -- A record that was put to is processed if the field requires it, and is marked so; an active one
+  -- is marked for reprocessing.
   unfoldable pub after_put : World R → ℕ → FieldNo → Stepped R
   after_put w s field =
       if processes k (at k w s) field
@@ -109,11 +113,11 @@ module _ {R : Type 0} (k : RecordRules R) (answers : Answers) where
       else told (changed k w s (with_put_mark true)) s)
       else record { world = w; reply = Plain; requests = None }
 
-  -- the device of the record has answered at last
+  -- The device of the record has answered later.
   unfoldable pub after_completion : World R → ℕ → Finished → Stepped R
   after_completion w s x = let done = went_on_at_last k answers w s x in record { world = done.world; reply = Plain; requests = done.requests }
 
-  -- a link field has another link, and nothing is processed
+  -- A link field has another link, and nothing is processed.
   unfoldable pub relinked : World R → ℕ → FieldNo → LinkField → Stepped R
   relinked w s field link =
       if not (all_there w (named_by (use_of link))) then refused w NoRecord
@@ -125,7 +129,7 @@ module _ {R : Type 0} (k : RecordRules R) (answers : Answers) where
   put_with w s field (Ok r) = after_put (rescanned k (put w s r) s field) s field
   put_with w s field (Err e) = refused w e
 
-  -- a put with notification whose value was tested and converted: it waits for its record, or starts
+  -- A put with notification whose value was tested and converted waits for its record, or starts.
   unfoldable pub begun_or_queued : World R → Waiting → Stepped R
   begun_or_queued w x =
       let entered = admitted x.number w in
@@ -140,7 +144,7 @@ module _ {R : Type 0} (k : RecordRules R) (answers : Answers) where
       else refused w QueueFull
   notify_with w s number field (Err e) = refused w e
 
-  -- an event by itself, of a record that is there
+  -- An event by itself, of a record that exists.
   unfoldable pub done_there : World R → Event → Stepped R
   done_there w (Get s field) =
       if is_some (row_of (k.record_type (at k w s)) field) then record { world = w; reply = Shown (text_of k (at k w s) field); requests = None } else refused w NoField
@@ -152,28 +156,29 @@ module _ {R : Type 0} (k : RecordRules R) (answers : Answers) where
   done_there w (Cancel number) = if is_live number w.live then record { world = cancelled k number w; reply = Plain; requests = None } else refused w Stale
   done_there w (IsLive number) = record { world = w; reply = Live-reply (is_live number w.live); requests = None }
 
-  -- an event by itself
+  -- An event by itself.
   unfoldable pub done_alone : World R → Event → Stepped R
   done_alone w event = if is_there w event then done_there w event else refused w NoRecord
 
-  -- what was done, and then the starts of those that waited and now can
+  -- What was done, followed by the starts of those that waited and can start now.
   abbrev pub with_starts : Stepped R → Stepped R
   with_starts first = let rest = all_started k answers first.world in record { world = rest.world; reply = first.reply; requests = followed_by first.requests rest.requests }
 
-  -- an event, after which those that wait start where they can
+  -- An event, after which waiting puts with notification start if they can.
   unfoldable pub stepped : World R → Event → Stepped R
   stepped w event = let first = done_alone w event in if lets_start event first.reply then with_starts first else first
 
--- a completion that isn't refused
+-- Holds of a completion that isn't refused.
 abbrev pub completes : Event → Reply → Bool
 completes (Complete s number x) Plain = true
 completes _ _ = false
 
--- the calls of devices that were made in an event
+-- The device calls that were made in an event.
 abbrev pub calls_since : {R : Type 0} → World R → World R → List Call
 calls_since before after = drop (length before.calls) after.calls
 
--- what is counted of an event: each request, each answer that comes later, and a completion
+-- The tally with what an event adds: each request, each call that is answered later, and a
+-- completion.
 unfoldable pub tallied : {R : Type 0} → Tally → World R → Event → Stepped R → Tally
 tallied t w event done =
     let begun = counted_started (counted t done.requests) (later_among (calls_since w done.world)) in

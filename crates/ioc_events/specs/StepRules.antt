@@ -1,5 +1,8 @@
--- What one event does to a database, as rules over whole databases: one for each way in which an event can go.
--- Application Developer's Guide, "Runtime Database Access": dbGetField, dbPutField, dbProcess, dbPutNotify, dbNotifyCancel.
+-- The effect of one event on a database, as rules over whole databases: one for each way in which
+-- an event can proceed.
+--
+-- Application Developer's Guide, "Runtime Database Access": dbGetField, dbPutField, dbProcess,
+-- dbPutNotify, dbNotifyCancel.
 use Rattle.std.specs.Prelude.{◌≡◌, ℕ, true, false, List, [], ◌∷◌, Some, Ok, Err, is_some}
 use Rattle.std.specs.FinMap.{contains_key, len}
 use Rattle.ioc_values.specs.declared.error.IocError.{IocError}
@@ -33,8 +36,8 @@ use Rattle.ioc_events.specs.Step.{is_there, all_there, processes, awaits, lets_s
 use Rattle.ioc_store.specs.Given.{Answers, answers_of, listed}
 
 module _ {R : Type 0} (k : RecordRules R) (answers : Answers) where
-  -- a put with notification starts: its record takes it, the value is stored, and the record is processed as after a put. Where nothing is
-  -- processed it is told at once
+  -- A put with notification starts: its record becomes part of it, the value is stored, and the
+  -- record is processed as after a put. If nothing is processed, it ends immediately.
   pub data Starts : World R → Waiting → World R → Requests → Type 0 where
     to_be_processed : {w stored w' : World R} {x : Waiting} {requests : Requests}
         → stored ≡ taken_and_stored k w x
@@ -46,7 +49,7 @@ module _ {R : Type 0} (k : RecordRules R) (answers : Answers) where
         → processes k (at k stored x.target) x.field ≡ false
         → Starts w x (notified k stored x.target) None
 
-  -- those that wait start where they can, one after another, until there is none
+  -- Those that wait start if they can, one after another, until there is none.
   pub data StartsAll : World R → World R → Requests → Type 0 where
     no_more : {w : World R}
         → NoneReady k w
@@ -57,7 +60,7 @@ module _ {R : Type 0} (k : RecordRules R) (answers : Answers) where
         → StartsAll w' w'' rest
         → StartsAll w w'' (followed_by first rest)
 
-  -- an event by itself leads from one database to another, with this reply and these requests
+  -- An event by itself leads from one database to another, with this reply and these requests.
   pub data Does : World R → Event → World R → Reply → Requests → Type 0 where
     no_such_record : {w : World R} {event : Event}
         → is_there w event ≡ false
@@ -162,7 +165,8 @@ module _ {R : Type 0} (k : RecordRules R) (answers : Answers) where
     tells_if_live : {w : World R} {number : ℕ}
         → Does w (IsLive number) w (Live-reply (is_live number w.live)) None
 
-  -- an event, after which those that wait start where they can, leads from one database to another
+  -- An event, after which waiting puts with notification start if they can, leads from one database
+  -- to another.
   pub data Step : World R → Event → World R → Reply → Requests → Type 0 where
     by_itself : {w w' : World R} {event : Event} {reply : Reply} {requests : Requests}
         → Does w event w' reply requests
@@ -175,8 +179,8 @@ module _ {R : Type 0} (k : RecordRules R) (answers : Answers) where
         → Step w event w'' reply (followed_by first rest)
 
 module _ {R : Type 0} (k : RecordRules R) where
-  -- the events of a list, one after another, lead from one database to another, each at its moment, with the reply kept beside it
-  -- and all its answers used
+  -- The events of a list, one after another, lead from one database to another, each at its time
+  -- stamp, with its reply, and with all its answers used.
   pub data Replay : World R → List Entry → World R → Type 0 where
     at_the_end : {w : World R} → Replay w [] w
     and_then : {w w' w'' : World R} {entry : Entry} {entries : List Entry} {requests : Requests}
@@ -185,7 +189,7 @@ module _ {R : Type 0} (k : RecordRules R) where
         → Replay w' entries w''
         → Replay w (entry ∷ entries) w''
 
--- no record comes or goes
+-- No record is added or removed.
 pub record KeepsRecords {R : Type 0} (before after : World R) : Type 0 where
   pub has : (n : ℕ) → Has before n → Has after n
   pub only : (n : ℕ) → Has after n → Has before n

@@ -1,4 +1,4 @@
--- The replies and events that are kept of a lock set, by their narrow forms.
+-- The compact forms of replies and events of a lock set.
 use Rattle.ioc_events.specs.declared.event.Event.{Event}
 use Rattle.ioc_events.specs.declared.event.Event.TheVariants.{Process, Put, Complete, Notify, Cancel}
 use Rattle.ioc_events.specs.declared.event.SetEvent.{SetEvent}
@@ -8,14 +8,14 @@ use Rattle.ioc_events.specs.declared.reply.Reply.TheVariants.{Plain, Outcome, Re
 use Rattle.ioc_events.specs.declared.told.Told.{Told}
 use Rattle.ioc_events.specs.declared.told.Told.TheVariants.{Plain as plain, Outcome as outcome, Notify as told-notify, Refused as refused}
 
--- the reply that tells the same
+-- The corresponding `Reply`.
 abbrev pub told_by : Told → Reply
 told_by plain = Plain
 told_by (outcome o) = Outcome o
 told_by (told-notify number) = Notify-reply number
 told_by (refused error) = Refused error
 
--- the same event, as one of any database
+-- The corresponding event of a database.
 abbrev pub event_by : SetEvent → Event
 event_by (process s) = Process s
 event_by (put s field given) = Put s field given

@@ -1,4 +1,4 @@
-//! What an event does by itself: a request, a put, a completion.
+//! The effect of an event by itself: a request, a put, a completion.
 ghost use Rattle.std.specs.FinMap.{len};
 ghost use Rattle.std.specs.Vec.{vec_capacity};
 ghost use Rattle.std.specs.Prelude.{◌≡◌, ◌≤◌, [], true, OnOk, OnErr, IfErr, Some, Ok, Err};
@@ -31,7 +31,7 @@ use ioc_store::frames::Frame;
 use ioc_store::store::Store;
 use ioc_values::{Finished, Input, IocError};
 
-// VAL is process-passive in each type.
+// VAL is process-passive in each record type.
 #[tactic(auto, unfolding(ioc_fields::specs::Table::is_process_passive, ioc_fields::specs::Table::row_of, ioc_fields::specs::Table::own_row, ioc_fields::specs::Table::numeric_input_row, ioc_fields::specs::Table::numeric_output_row, ioc_fields::specs::Table::output_row, ioc_fields::specs::Table::numeric_row, ioc_fields::specs::Table::bi_row, ioc_fields::specs::Table::bo_row, ioc_fields::specs::Table::two_state_row, ioc_fields::specs::Table::mbbi_row, ioc_fields::specs::Table::mbbo_row, ioc_fields::specs::Table::multi_state_row, ioc_fields::specs::Table::text_row, ioc_fields::specs::Table::text_input_row, ioc_fields::specs::Table::stringout_row, ioc_fields::specs::Table::fanout_row))]
 fn val_is_passive(record_type: RecordType)
     ensures { is_process_passive record_type (Own Val) ≡ true }
@@ -46,7 +46,8 @@ fn val_is_passive(record_type: RecordType)
     }
 }
 
-// Is the field process-passive? VAL, which each type has, is told before any other field, since most puts are to this.
+// Returns whether the field is process-passive. VAL, which each type has, is tested before any
+// other field, since most puts are to it.
 fn is_passive_field<K: RecordKind>(record: &K, field: FieldNo) -> bool
     ensures { result ≡ is_process_passive (K.rules.record_type record.now) field }
 {
@@ -59,7 +60,7 @@ fn is_passive_field<K: RecordKind>(record: &K, field: FieldNo) -> bool
     }
 }
 
-/// Does a put to the field process the record?
+/// Returns whether a put to the field processes the record.
 #[tactic(auto, unfolding(crate::specs::Starting::processes))]
 pub fn processes<K: RecordKind>(record: &K, field: FieldNo) -> bool
     ensures { result ≡ processes K.rules record.now field }
@@ -67,7 +68,7 @@ pub fn processes<K: RecordKind>(record: &K, field: FieldNo) -> bool
     is_proc(field) || (is_passive_field(record, field) && record.common().is_passive())
 }
 
-// Requests a record that is there, and answers what became of the request.
+// Requests a record that exists, and returns the outcome.
 fn tell<S: Store>(
     store: &mut S,
     frames: &mut Vec<Frame>,
@@ -113,7 +114,7 @@ pub fn request<S: Store>(
     Ok(Some(outcome))
 }
 
-// Puts a value into a field of a record that is there.
+// Puts a value into a field of a record that exists.
 fn put_into<S: Store>(
     store: &mut S,
     number: RecordNo,
@@ -131,7 +132,7 @@ fn put_into<S: Store>(
     put_field(record, field, given)
 }
 
-// The same with what a text spells.
+// Puts the value of a text into a field of a record that exists.
 fn spell_into<S: Store>(
     store: &mut S,
     number: RecordNo,
@@ -149,7 +150,8 @@ fn spell_into<S: Store>(
     put_spelled(record, field, text)
 }
 
-// The record was put to, and is processed if the field says so; one that is active is put down for another processing.
+// Processes a record that was put to, if the field requires it. An active record is marked for
+// reprocessing.
 #[tactic(auto, unfolding(crate::specs::Step::after_put))]
 fn process_after_put<S: Store>(
     store: &mut S,
@@ -181,7 +183,7 @@ fn process_after_put<S: Store>(
     Some(tell(store, frames, number, tally))
 }
 
-/// Puts a value into a field, and processes the record where the field says so.
+/// Puts a value into a field, and processes the record if the field requires it.
 pub fn put<S: Store>(
     store: &mut S,
     frames: &mut Vec<Frame>,
@@ -212,7 +214,7 @@ pub fn put<S: Store>(
     }
 }
 
-/// The same with what a text spells.
+/// Puts the value of a text into a field, and processes the record if the field requires it.
 pub fn spell<S: Store>(
     store: &mut S,
     frames: &mut Vec<Frame>,
@@ -243,7 +245,7 @@ pub fn spell<S: Store>(
     }
 }
 
-// Does the record await the completion of this number?
+// Returns whether the record awaits the completion with this number.
 fn awaits(common: &Common, wait: u64) -> bool
     ensures { result ≡ awaits common.now wait }
 {
@@ -253,7 +255,7 @@ fn awaits(common: &Common, wait: u64) -> bool
     }
 }
 
-/// The device of a record has answered at last, to the wait of this number.
+/// Completes the wait with this number of a record whose device has answered later.
 pub fn complete<S: Store>(
     store: &mut S,
     frames: &mut Vec<Frame>,

@@ -1,4 +1,4 @@
-//! What can happen to a database, and what is kept of it.
+//! Events of a database, and their history entries.
 ghost use Rattle.std.specs.Prelude.{◌≡◌};
 
 use crate::reply::Reply;
@@ -10,28 +10,30 @@ use ioc_notify::NotifyId;
 use ioc_values::{Finished, Input};
 use std::marker::Model;
 
-/// An event of a database, with what its caller gives.
+/// An event of a database, with the arguments of its caller.
 #[derive(Clone, Copy, PartialEq, Eq)]
 pub enum Event {
-    /// The text of a field is asked for.
+    /// Gets the text of a field.
     Get(RecordNo, FieldNo),
-    /// A record is requested.
+    /// Requests a record.
     Process(RecordNo),
-    /// A value is put into a field.
+    /// Puts a value into a field.
     Put(RecordNo, FieldNo, Input),
-    /// The device of a record has answered at last, to the wait of this number.
+    /// Completes the wait with this number of a record, with what its device returned later.
     Complete(RecordNo, u64, Finished),
-    /// A link field gets another link.
+    /// Changes the link of a link field.
     Link(RecordNo, FieldNo, LinkField),
-    /// A value is put into a field, and its caller is to know when the records that it processes are done.
+    /// Puts a value into a field, with a notification when the records that the put processes are
+    /// done.
     Notify(RecordNo, NotifyId, FieldNo, Input),
-    /// A put with notification is given up.
+    /// Cancels a put with notification.
     Cancel(NotifyId),
-    /// It is asked whether a put with notification is live.
+    /// Asks whether a put with notification is live.
     IsLive(NotifyId),
 }
 
-/// An event that is done on a lock set, as in [`Event`], without the room that the link of a link change needs.
+/// An event on a lock set, as in [`Event`], but without the room that the link of a link change
+/// needs.
 #[derive(Clone, Copy)]
 pub enum SetEvent {
     Process(RecordNo),
@@ -41,7 +43,7 @@ pub enum SetEvent {
     Cancel(NotifyId),
 }
 
-/// What devices answered in an event, in order. Contracts see it as their list.
+/// The answers of devices in an event, in order. Contracts see it as their list.
 #[derive(Drop)]
 pub struct KeptAnswers {
     answers: Vec<Answer>,
@@ -57,7 +59,7 @@ impl Model for KeptAnswers {
 }
 
 impl KeptAnswers {
-    /// These answers.
+    /// Wraps these answers.
     pub fn new(answers: Vec<Answer>) -> Self
         ensures { result ≡ answers.items }
     {
@@ -65,10 +67,10 @@ impl KeptAnswers {
     }
 }
 
-/// An event that was done: when, what devices answered in it, and the reply.
+/// The history entry of an event: its time stamp, the answers of devices in it, and the reply.
 #[derive(Drop)]
 pub struct Entry {
-    /// Nanoseconds since 1970-01-01 00:00 UTC.
+    /// The time stamp, in nanoseconds since 1970-01-01 00:00 UTC.
     pub moment: u64,
     pub event: Event,
     pub answers: KeptAnswers,

@@ -1,5 +1,6 @@
-//! One event of a database: a get, a request, a put, a completion, a put with notification, a cancel. Each of the functions that takes
-//! frames finds them empty and leaves them so; they have room for all records.
+//! One event of a database: a get, a request, a put, a completion, a put with notification, a
+//! cancel. A function that takes frames requires that they are empty and have room for all records,
+//! and leaves them empty.
 ghost use Rattle.std.specs.FinMap.{len};
 ghost use Rattle.std.specs.Vec.{vec_capacity};
 ghost use Rattle.std.specs.Prelude.{◌≡◌, ◌≤◌, ℕ, [], drop};
@@ -27,12 +28,12 @@ use ioc_store::frames::Frame;
 use ioc_store::store::Store;
 use ioc_values::{Finished, Input, IocError};
 
-/// The text of a field.
+/// Returns the text of a field.
 ///
 /// # Errors
 ///
-/// The reply is a refusal, [`IocError::NoRecord`] or [`IocError::NoField`] in this order, where there is no such record
-/// or field. Nothing is changed.
+/// The reply is a refusal, [`IocError::NoRecord`] or [`IocError::NoField`] in this order, if there
+/// is no such record or field. Nothing has changed then.
 #[tactic(auto, unfolding(crate::specs::Step::stepped, crate::specs::Step::done_alone, crate::specs::Step::done_there))]
 pub fn run_get<S: Store>(store: &S, number: RecordNo, field: FieldNo) -> Reply
     ensures { (answers : Answers) → result ≡ (stepped S.Record.rules answers (S.world store.now) (Get number field)).reply }
@@ -47,7 +48,7 @@ pub fn run_get<S: Store>(store: &S, number: RecordNo, field: FieldNo) -> Reply
     }
 }
 
-/// Whether a put with notification is live.
+/// Returns whether a put with notification is live.
 #[tactic(auto, unfolding(crate::specs::Step::stepped, crate::specs::Step::done_alone, crate::specs::Step::done_there))]
 pub fn run_live<S: Store>(store: &S, number: NotifyId) -> Reply
     ensures { (answers : Answers) → result ≡ (stepped S.Record.rules answers (S.world store.now) (IsLive number)).reply }
@@ -55,22 +56,22 @@ pub fn run_live<S: Store>(store: &S, number: NotifyId) -> Reply
     Reply::Live(store.is_live(number))
 }
 
-// Counts the answers, from this call on, that are to come later.
+// Counts the calls from `start` on that are answered later.
 fn count_started<S: Store>(store: &S, start: usize, tally: &mut Tally)
     ensures { tally.new ≡ counted_started tally.old (later_among (drop start (S.world store.now).calls)) }
 {
     tally.count_started(store.later_from(start) as u64);
 }
 
-// Does the reply tell that a completion was taken?
+// Returns whether the reply means that a completion was taken.
 fn is_done(told: &Told) -> bool
     ensures { (s wait : ℕ) (finished : Finished) → result ≡ completes (Complete s wait finished) (told_by told.now) }
 {
     matches!(told, Told::Plain)
 }
 
-// What comes after an event by itself: those that wait start where they can, unless it was refused, and the answers, from this call on,
-// that are to come later are counted.
+// Ends an event. Unless it was refused, waiting puts with notification start if they can. The calls
+// from `asked` on that are answered later are counted.
 #[inline(always)]
 fn end_unless<S: Store>(
     store: &mut S,
@@ -95,7 +96,7 @@ fn end_unless<S: Store>(
     count_started(store, asked, tally);
 }
 
-// The same by the reply.
+// Ends an event, given its reply.
 fn end_event<S: Store>(
     store: &mut S,
     frames: &mut Vec<Frame>,
@@ -116,7 +117,7 @@ fn end_event<S: Store>(
     end_unless(store, frames, asked, reply.is_refused(), tally);
 }
 
-// The same by what a request or a put came to.
+// Ends an event, given the effect of a request or a put.
 #[inline(always)]
 fn end_effect<S: Store>(
     store: &mut S,
@@ -138,11 +139,11 @@ fn end_effect<S: Store>(
     end_unless(store, frames, asked, is_refused(effect), tally);
 }
 
-/// Requests a record, and answers what that came to.
+/// Requests a record, and returns the effect.
 ///
 /// # Errors
 ///
-/// [`IocError::NoRecord`] where there is no such record. Nothing is changed then.
+/// [`IocError::NoRecord`] if there is no such record. Nothing has changed then.
 #[inline(always)]
 pub fn make_request<S: Store>(
     store: &mut S,
@@ -170,7 +171,8 @@ pub fn make_request<S: Store>(
 ///
 /// # Errors
 ///
-/// The reply is a refusal, [`IocError::NoRecord`], where there is no such record.
+/// The reply is a refusal, [`IocError::NoRecord`], if there is no such record. Nothing has changed
+/// then.
 #[inline(always)]
 pub fn run_request<S: Store>(
     store: &mut S,
@@ -192,14 +194,15 @@ pub fn run_request<S: Store>(
     Told::of(effect)
 }
 
-/// Puts a value into a field, and processes the record where the field is PROC, or is process-passive and the record
-/// passive. A record that is active is put down for another processing.
+/// Puts a value into a field. The record is processed if the field is PROC, or if the field is
+/// process-passive and the record is passive; an active record is marked for reprocessing instead.
 ///
 /// # Errors
 ///
 /// The reply is a refusal, [`IocError::NoRecord`], [`IocError::NoField`], [`IocError::NoMod`],
-/// [`IocError::PutDisabled`] or [`IocError::BadValue`] in this order, where there is no such record or field, the field can't
-/// be put, DISP forbids it, or the value doesn't convert. Nothing is changed then.
+/// [`IocError::PutDisabled`] or [`IocError::BadValue`] in this order, if there is no such record or
+/// field, the field can't be put, DISP forbids it, or the value doesn't convert. Nothing has
+/// changed then.
 pub fn run_put<S: Store>(
     store: &mut S,
     frames: &mut Vec<Frame>,
@@ -224,11 +227,12 @@ pub fn run_put<S: Store>(
     reply
 }
 
-/// Puts what a text spells into a field as [`run_put`] does, and answers what that came to: the text is converted where it lies.
+/// Puts the value of a text into a field as [`run_put`] does, and returns the effect. The text is
+/// converted in place.
 ///
 /// # Errors
 ///
-/// Those that [`run_put`] replies. Nothing is changed then.
+/// Those of [`run_put`]. Nothing has changed then.
 pub fn make_spelled_put<S: Store>(
     store: &mut S,
     frames: &mut Vec<Frame>,
@@ -253,13 +257,15 @@ pub fn make_spelled_put<S: Store>(
     effect
 }
 
-/// The device of a record has answered at last, to the wait of this number: the record goes on with what it gave. What the device of an
-/// output gives is not looked at, but for a fault.
+/// Completes the wait with this number of a record whose device has answered later: the record
+/// resumes with what the device returned. Of what the device of an output returns, only a fault
+/// matters.
 ///
 /// # Errors
 ///
-/// The reply is a refusal, [`IocError::NoRecord`] or [`IocError::Stale`] in this order, where there is no such record, or it doesn't
-/// await the completion of this number. Nothing is changed then.
+/// The reply is a refusal, [`IocError::NoRecord`] or [`IocError::Stale`] in this order, if there is
+/// no such record, or if it doesn't await the completion with this number. Nothing has changed
+/// then.
 pub fn run_complete<S: Store>(
     store: &mut S,
     frames: &mut Vec<Frame>,
@@ -287,14 +293,15 @@ pub fn run_complete<S: Store>(
     reply
 }
 
-/// Puts a value into a field as [`run_put`] does, with a notification: it passes to the records that are processed for it, and ends with
-/// the last of them. Where the record is active, has a notification or has one waiting, the put waits; it is tested and its value
-/// converted at once. The caller gives each number to one put.
+/// Puts a value into a field as [`run_put`] does, with a notification: it passes to the records
+/// that are processed for the put, and ends with the last of them. If the record is active, is part
+/// of a put with notification or has one waiting, the put waits; it is tested and its value
+/// converted immediately. The caller assigns each number to one put.
 ///
 /// # Errors
 ///
-/// The reply is a refusal, those of [`run_put`] and then [`IocError::QueueFull`], where 256 are live, or the number is that of one that
-/// is live. Nothing is changed then.
+/// The reply is a refusal: those of [`run_put`], and then [`IocError::QueueFull`], if 256 are live
+/// or one with this number is live. Nothing has changed then.
 pub fn run_notify<S: Store>(
     store: &mut S,
     frames: &mut Vec<Frame>,
@@ -320,11 +327,12 @@ pub fn run_notify<S: Store>(
     reply
 }
 
-/// A put with notification is given up: no record has it any more, it waits nowhere, and it doesn't end.
+/// Cancels a put with notification: no record is part of it any more, it no longer waits, and it
+/// doesn't end.
 ///
 /// # Errors
 ///
-/// The reply is a refusal, [`IocError::Stale`], where it isn't live. Nothing is changed then.
+/// The reply is a refusal, [`IocError::Stale`], if it isn't live. Nothing has changed then.
 pub fn run_cancel<S: Store>(
     store: &mut S,
     frames: &mut Vec<Frame>,

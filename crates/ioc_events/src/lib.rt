@@ -1,4 +1,5 @@
-//! What one event does to a database: requests, puts, puts with notification, completions and link changes.
+//! The effect of one event on a database: requests, puts, puts with notification, completions and
+//! link changes.
 #![tactic(auto)]
 
 pub mod alone;

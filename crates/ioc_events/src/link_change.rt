@@ -1,4 +1,4 @@
-//! A change of a link.
+//! Link changes.
 ghost use Rattle.std.specs.Prelude.{◌≡◌, ◌&&◌, true, is_some};
 ghost use Rattle.ioc_common.specs.Links.{named_by};
 ghost use Rattle.ioc_ledger.specs.Requests.{None};
@@ -17,7 +17,7 @@ use ioc_steps::scanning::{device_of, rewire};
 use ioc_store::store::Store;
 use ioc_values::IocError;
 
-// Is the record there that a link leads to, if it leads to any?
+// Returns whether the record that a link leads to exists, if the link leads to one.
 fn leads_within<S: Store>(store: &S, link: LinkUse) -> bool
     ensures { result ≡ all_there (S.world store.now) (named_by link) }
 {
@@ -36,12 +36,14 @@ fn set_link<S: Store>(store: &mut S, number: RecordNo, field: FieldNo, link: Kep
     store.record_mut(number).set_link(field, link);
 }
 
-/// A link field gets another link, and nothing is processed. The room for the link was taken before.
+/// Changes the link of a link field; nothing is processed. The memory for the link was allocated
+/// before.
 ///
 /// # Errors
 ///
-/// The reply is a refusal, [`IocError::NoRecord`], [`IocError::NoField`] or [`IocError::PutDisabled`] in this order, where there
-/// is no such record, or none that the link leads to, the field is no link field, or DISP forbids it. Nothing is changed then.
+/// The reply is a refusal, [`IocError::NoRecord`], [`IocError::NoField`] or
+/// [`IocError::PutDisabled`] in this order, if there is no such record or the link leads to none
+/// that exists, the field is no link field, or DISP forbids it. Nothing has changed then.
 #[tactic(auto, unfolding(crate::specs::Step::stepped, crate::specs::Step::done_alone, crate::specs::Step::done_there, crate::specs::Step::relinked))]
 pub fn run_link<S: Store>(store: &mut S, number: RecordNo, field: FieldNo, link: KeptLink) -> Reply
     ensures step { (answers : Answers) →

@@ -1,4 +1,4 @@
-//! A put with notification by itself, and a cancel.
+//! The effect of a put with notification by itself, and of a cancel.
 ghost use Rattle.std.specs.FinMap.{len};
 ghost use Rattle.std.specs.Vec.{vec_capacity};
 ghost use Rattle.std.specs.Prelude.{◌≡◌, ◌≤◌, ◌==◌, ◌+◌, ◌<◌, [], length};
@@ -25,7 +25,7 @@ use ioc_store::frames::Frame;
 use ioc_store::store::Store;
 use ioc_values::{Input, IocError, Value};
 
-// What a client's put stores: tested and converted.
+// Returns the value that a client's put stores, tested and converted.
 #[tactic(auto, unfolding(crate::specs::Starting::value_to_put))]
 fn value_to_put<K: RecordKind>(record: &K, field: FieldNo, given: Input) -> Result<Value, IocError>
     ensures { result ≡ value_to_put K.rules record.now field given }
@@ -34,14 +34,14 @@ fn value_to_put<K: RecordKind>(record: &K, field: FieldNo, given: Input) -> Resu
     convert_for(record, field, given)
 }
 
-// Does one wait for this record?
+// Returns whether one of these waits for the record.
 fn has_waiting(waiting: &[Waiting], number: RecordNo) -> bool
     ensures { result ≡ list_any (λ x. x.target == number) waiting.now }
 {
     waiting.iter().any(|one| one.target == number)
 }
 
-// Must a put with notification wait for this record?
+// Returns whether a put with notification must wait for this record.
 #[tactic(auto, unfolding(crate::specs::Starting::must_wait))]
 fn must_wait<S: Store>(store: &S, number: RecordNo) -> bool
     requires { Has (S.world store.now) number }
@@ -51,7 +51,8 @@ fn must_wait<S: Store>(store: &S, number: RecordNo) -> bool
     common.active || (common.notification.is_some() || has_waiting(store.waiting(), number))
 }
 
-// A put with notification whose value was tested and converted waits for its record, or starts.
+// Starts a put with notification whose value was tested and converted, or lets it wait for its
+// record.
 #[tactic(auto, unfolding(crate::specs::Step::begun_or_queued))]
 fn begin_or_queue<S: Store>(
     store: &mut S,
@@ -81,7 +82,7 @@ fn begin_or_queue<S: Store>(
     }
 }
 
-/// A put with notification is tested and converted, and starts or waits for its record.
+/// Tests and converts a put with notification, and starts it or lets it wait for its record.
 pub fn notify<S: Store>(
     store: &mut S,
     frames: &mut Vec<Frame>,
@@ -121,7 +122,8 @@ pub fn notify<S: Store>(
     Told::Notify(number)
 }
 
-/// A put with notification is given up: it is taken from all records and from the waiting list, and doesn't end.
+/// Cancels a put with notification: it is removed from all records and from the waiting list, and
+/// doesn't end.
 pub fn cancel<S: Store>(store: &mut S, number: NotifyId) -> Told
     ensures done { (answers : Answers) →
         done_alone S.Record.rules answers (S.world store.old) (Cancel number) ≡ record { world = S.world store.new; reply = told_by result; requests = None } }

@@ -1,4 +1,5 @@
-//! Puts with notification that wait for their record: which of them starts next, and how one starts.
+//! Puts with notification that wait for their record: the order in which they start, and how one
+//! starts.
 ghost use Rattle.std.specs.FinMap.{len};
 ghost use Rattle.std.specs.Vec.{vec_capacity};
 ghost use Rattle.std.specs.Prelude.{◌≡◌, ◌≤◌, []};
@@ -22,7 +23,8 @@ use ioc_store::frames::Frame;
 use ioc_store::store::Store;
 use ioc_values::Value;
 
-// May it start: is its record there, idle, and without a notification?
+// Returns whether it may start: its record exists, is idle, and is part of no put with
+// notification.
 #[tactic(auto, unfolding(crate::specs::Starting::is_ready))]
 fn is_ready<S: Store>(store: &S, waiting: &Waiting) -> bool
     ensures { result ≡ is_ready S.Record.rules (S.world store.now) waiting.now }
@@ -34,7 +36,8 @@ fn is_ready<S: Store>(store: &S, waiting: &Waiting) -> bool
     !common.active && common.notification.is_none()
 }
 
-// The one that starts sooner: that of the lower record number, and of one record the one that came first.
+// Returns the one that starts sooner: that of the lower record number, and for the same record the
+// one that came first.
 fn sooner(best: Option<Waiting>, waiting: &Waiting) -> Waiting
     ensures { result ≡ sooner best waiting.now }
 {
@@ -44,7 +47,7 @@ fn sooner(best: Option<Waiting>, waiting: &Waiting) -> Waiting
     }
 }
 
-// The one that starts next, of those that wait.
+// Returns the waiting one that starts next.
 fn next_waiting<S: Store>(store: &S) -> Option<Waiting>
     ensures { result ≡ next_waiting S.Record.rules (S.world store.now) }
 {
@@ -68,7 +71,7 @@ fn store_value<S: Store>(store: &mut S, number: RecordNo, field: FieldNo, value:
     store.record_mut(number).store(field, value);
 }
 
-// Its record takes the notification, and the value is stored.
+// Makes the record part of the put with notification, and stores the value.
 #[tactic(auto, unfolding(crate::specs::Starting::taken_and_stored))]
 fn take_and_store<S: Store>(store: &mut S, waiting: &Waiting)
     requires { Has (S.world store.old) waiting.now.target }
@@ -80,8 +83,8 @@ fn take_and_store<S: Store>(store: &mut S, waiting: &Waiting)
     rescan(store, waiting.target, waiting.field);
 }
 
-/// A put with notification starts: its record takes it, the put is done, and the record is processed as after a put. Where nothing is
-/// processed it is told at once.
+/// Starts a put with notification: its record becomes part of it, the value is stored, and the
+/// record is processed as after a put. If nothing is processed, it ends immediately.
 pub fn start<S: Store>(store: &mut S, frames: &mut Vec<Frame>, waiting: &Waiting, tally: &mut Tally)
     requires there { Has (S.world store.old) waiting.now.target }
     requires closed { IsClosed S.Record.rules (S.world store.old) }
@@ -103,7 +106,8 @@ pub fn start<S: Store>(store: &mut S, frames: &mut Vec<Frame>, waiting: &Waiting
     let _outcome = request_record(store, frames, waiting.target, tally);
 }
 
-// The same, where some wait. This isn't inlined, since mostly none waits.
+// Starts those that wait and can start, one after another. It is not inlined, since mostly none
+// waits.
 #[inline(never)]
 fn start_each<S: Store>(store: &mut S, frames: &mut Vec<Frame>, tally: &mut Tally)
     requires closed { IsClosed S.Record.rules (S.world store.old) }
@@ -127,7 +131,7 @@ fn start_each<S: Store>(store: &mut S, frames: &mut Vec<Frame>, tally: &mut Tall
     }
 }
 
-/// Those that wait start where they can, one after another, until there is none.
+/// Starts those that wait and can start, one after another, until there is none.
 pub fn start_all<S: Store>(store: &mut S, frames: &mut Vec<Frame>, tally: &mut Tally)
     requires closed { IsClosed S.Record.rules (S.world store.old) }
     requires empty { frames.old.items ≡ [] }

@@ -1,4 +1,4 @@
-//! What an event came to, in little room.
+//! The reply of an event on a set, in compact form.
 ghost use Rattle.std.specs.Prelude.{◌≡◌};
 ghost use Rattle.ioc_events.specs.Step.{is_refusal};
 ghost use Rattle.ioc_events.specs.Events.{reply_of};
@@ -9,21 +9,22 @@ use ioc_ledger::Outcome;
 use ioc_notify::NotifyId;
 use ioc_values::IocError;
 
-/// What an event that may change a database came to: a [`Reply`] in a quarter of its room, since it shows no text of a field.
+/// The reply of an event that may change a database. It takes a quarter of the size of a [`Reply`],
+/// since it has no text of a field.
 #[derive(Clone, Copy)]
 pub enum Told {
-    /// What was asked for is done, and there is no more to tell.
+    /// The event is done, and there is nothing to report.
     Plain,
-    /// What became of the request.
+    /// The outcome of the request.
     Outcome(Outcome),
-    /// The put with notification of this number is live, or has ended in this very event.
+    /// The put with notification with this number is live, or has ended in this event.
     Notify(NotifyId),
-    /// Nothing was changed.
+    /// The event is refused, and nothing has changed.
     Refused(IocError),
 }
 
 impl Told {
-    /// What a request or a put came to.
+    /// Creates the reply that corresponds to the effect of a request or a put.
     pub fn of(effect: Effect) -> Self
         ensures { told_by result ≡ reply_of effect }
     {
@@ -34,14 +35,14 @@ impl Told {
         }
     }
 
-    /// Was nothing changed?
+    /// Returns whether nothing has changed.
     pub fn is_refused(&self) -> bool
         ensures { result ≡ is_refusal (told_by self.now) }
     {
         matches!(self, Told::Refused(_))
     }
 
-    /// The reply that tells the same.
+    /// Returns the corresponding [`Reply`].
     pub fn reply(&self) -> Reply
         ensures { result ≡ told_by self.now }
     {

@@ -28,7 +28,7 @@ val_named : (type : RecordType) → field_of type (86 ∷ 65 ∷ 76 ∷ []) ≡ 
 unfolding own_name
 val_named type = (field_of-exact type (86 ∷ 65 ∷ 76 ∷ []) (Own Val)).1 (refl, has_val type)
 
--- so its name leads to it
+-- So the name VAL finds that field in each type.
 pub val_is : (type : RecordType) (name : List ℕ) → name ≡ 86 ∷ 65 ∷ 76 ∷ [] → Some (Own Val) ≡ field_of type name
 val_is type name is = rw is (sym (val_named type))
 

@@ -9,7 +9,7 @@ use Rattle.ioc_fields.specs.declared.record_type.RecordType.TheVariants.{Longin,
 use Rattle.ioc_fields.specs.Names.{common_name, own_name, link_name, name_of}
 use Rattle.ioc_fields.specs.LinkFields.{link_fields}
 
--- no two fields of the list have one name
+-- Holds if no two fields of the list have the same name.
 unfoldable pub are_named_apart : List FieldNo → Bool
 are_named_apart [] = true
 are_named_apart (f ∷ fs) = not (list_any (λ g. bytes_eq (name_of f) (name_of g)) fs) && are_named_apart fs
@@ -30,7 +30,7 @@ not_among p (g ∷ gs) (suc n) f e h = not_among p gs n f e (or_false (p g) (lis
 not_itself : (f g : FieldNo) → g ≡ f → bytes_eq (name_of g) (name_of f) ≡ false → true ≡ false
 not_itself f g is differ = sym ((bytes_eq-Decides (name_of g) (name_of f)).1 (ap name_of is)) ∙ differ
 
--- where no two fields have one name, a field stands at one place
+-- If no two fields of a list have the same name, each field is at one place.
 once : (fs : List FieldNo) → are_named_apart fs ≡ true → (m n : ℕ) (f : FieldNo) → slice_get fs m ≡ Some f → slice_get fs n ≡ Some f → m ≡ n
 unfolding are_named_apart
 once [] apart m n f at again = cc
@@ -59,6 +59,6 @@ links_named_apart Stringin = refl
 links_named_apart Stringout = refl
 links_named_apart Event = refl
 
--- a link field stands at one place among those of its type
+-- A link field is at one place among those of its type.
 pub link_listed_once : (type : RecordType) (m n : ℕ) (f : FieldNo) → slice_get (link_fields type) m ≡ Some f → slice_get (link_fields type) n ≡ Some f → m ≡ n
 link_listed_once type m n f at again = once (link_fields type) (links_named_apart type) m n f at again

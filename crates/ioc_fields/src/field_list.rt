@@ -137,7 +137,7 @@ static FIELDS: [FieldNo; 130] = [
     FieldNo::Own(OwnField::Lnk(Slot::N15)),
 ];
 
-// Every field of whatever type.
+// Returns every field of every type.
 #[tactic(auto, unfolding(crate::specs::Names::all_fields))]
 pub fn fields() -> &'static [FieldNo]
     ensures { result.now ≡ all_fields }

@@ -40,7 +40,7 @@ static FANOUT_LINKS: [FieldNo; 19] = [
     FieldNo::Own(OwnField::Lnk(Slot::N15)),
 ];
 
-/// The link fields of the type, each once.
+/// Returns the link fields of the type, each once.
 #[tactic(auto, unfolding(crate::specs::LinkFields::link_fields))]
 pub fn link_fields(record_type: RecordType) -> &'static [FieldNo]
     ensures { result.now ≡ link_fields record_type }

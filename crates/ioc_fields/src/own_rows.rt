@@ -1,4 +1,4 @@
-//! The rows of the fields that types have of their own, by the groups of types that share them.
+//! The rows of the type-specific fields, by the groups of types that share them.
 ghost use Rattle.std.specs.Prelude.{◌≡◌};
 ghost use Rattle.ioc_fields.specs.Table.{numeric_row, numeric_input_row, numeric_output_row, output_row, two_state_row, bi_row, bo_row, multi_state_row, mbbi_row, mbbo_row, text_row, text_input_row, stringout_row, fanout_row, own_row};
 
@@ -9,7 +9,7 @@ use crate::row::Row;
 use ioc_menus::Menu;
 use ioc_values::Range;
 
-// The row of a field that longin, longout, int64in and int64out have, of their numbers.
+// Returns the row of a numeric field that longin, longout, int64in and int64out share.
 #[tactic(auto, unfolding(crate::specs::Table::numeric_row))]
 fn numeric_row(range: Range, field: OwnField) -> Option<Row>
     ensures { result ≡ numeric_row range field }
@@ -31,7 +31,7 @@ fn numeric_row(range: Range, field: OwnField) -> Option<Row>
     })
 }
 
-// The row of a field of longin's or int64in's own.
+// Returns the row of a type-specific field of longin or int64in.
 #[tactic(auto, unfolding(crate::specs::Table::numeric_input_row))]
 fn numeric_input_row(range: Range, field: OwnField) -> Option<Row>
     ensures { result ≡ numeric_input_row range field }
@@ -42,7 +42,7 @@ fn numeric_input_row(range: Range, field: OwnField) -> Option<Row>
     }
 }
 
-// The row of a field that the output types have: where they write, and when.
+// Returns the row of a field that the output types share: where they write, and when.
 #[tactic(auto, unfolding(crate::specs::Table::output_row))]
 fn output_row(field: OwnField) -> Option<Row>
     ensures { result ≡ output_row field }
@@ -56,7 +56,7 @@ fn output_row(field: OwnField) -> Option<Row>
     })
 }
 
-// The row of a field of longout's or int64out's own.
+// Returns the row of a type-specific field of longout or int64out.
 #[tactic(auto, unfolding(crate::specs::Table::numeric_output_row))]
 fn numeric_output_row(range: Range, field: OwnField) -> Option<Row>
     ensures { result ≡ numeric_output_row range field }
@@ -72,7 +72,7 @@ fn numeric_output_row(range: Range, field: OwnField) -> Option<Row>
     }
 }
 
-// The row of a field that bi and bo have.
+// Returns the row of a field that bi and bo share.
 #[tactic(auto, unfolding(crate::specs::Table::two_state_row))]
 fn two_state_row(field: OwnField) -> Option<Row>
     ensures { result ≡ two_state_row field }
@@ -90,7 +90,7 @@ fn two_state_row(field: OwnField) -> Option<Row>
     })
 }
 
-// The row of a field of bi's own.
+// Returns the row of a type-specific field of bi.
 #[tactic(auto, unfolding(crate::specs::Table::bi_row))]
 fn bi_row(field: OwnField) -> Option<Row>
     ensures { result ≡ bi_row field }
@@ -101,7 +101,7 @@ fn bi_row(field: OwnField) -> Option<Row>
     }
 }
 
-// The row of a field of bo's own.
+// Returns the row of a type-specific field of bo.
 #[tactic(auto, unfolding(crate::specs::Table::bo_row))]
 fn bo_row(field: OwnField) -> Option<Row>
     ensures { result ≡ bo_row field }
@@ -115,7 +115,7 @@ fn bo_row(field: OwnField) -> Option<Row>
     }
 }
 
-// The row of a field that mbbi and mbbo have.
+// Returns the row of a field that mbbi and mbbo share.
 #[tactic(auto, unfolding(crate::specs::Table::multi_state_row))]
 fn multi_state_row(field: OwnField) -> Option<Row>
     ensures { result ≡ multi_state_row field }
@@ -135,7 +135,7 @@ fn multi_state_row(field: OwnField) -> Option<Row>
     })
 }
 
-// The row of a field of mbbi's own.
+// Returns the row of a type-specific field of mbbi.
 #[tactic(auto, unfolding(crate::specs::Table::mbbi_row))]
 fn mbbi_row(field: OwnField) -> Option<Row>
     ensures { result ≡ mbbi_row field }
@@ -146,7 +146,7 @@ fn mbbi_row(field: OwnField) -> Option<Row>
     }
 }
 
-// The row of a field of mbbo's own.
+// Returns the row of a type-specific field of mbbo.
 #[tactic(auto, unfolding(crate::specs::Table::mbbo_row))]
 fn mbbo_row(field: OwnField) -> Option<Row>
     ensures { result ≡ mbbo_row field }
@@ -160,7 +160,7 @@ fn mbbo_row(field: OwnField) -> Option<Row>
     }
 }
 
-// The row of the field that stringin, stringout and event have.
+// Returns the row of the field that stringin, stringout and event share.
 #[tactic(auto, unfolding(crate::specs::Table::text_row))]
 fn text_row(field: OwnField) -> Option<Row>
     ensures { result ≡ text_row field }
@@ -171,7 +171,7 @@ fn text_row(field: OwnField) -> Option<Row>
     }
 }
 
-// The row of a field of stringin's or event's own.
+// Returns the row of a type-specific field of stringin or event.
 #[tactic(auto, unfolding(crate::specs::Table::text_input_row))]
 fn text_input_row(field: OwnField) -> Option<Row>
     ensures { result ≡ text_input_row field }
@@ -182,7 +182,7 @@ fn text_input_row(field: OwnField) -> Option<Row>
     }
 }
 
-// The row of a field of stringout's own.
+// Returns the row of a type-specific field of stringout.
 #[tactic(auto, unfolding(crate::specs::Table::stringout_row))]
 fn stringout_row(field: OwnField) -> Option<Row>
     ensures { result ≡ stringout_row field }
@@ -196,7 +196,7 @@ fn stringout_row(field: OwnField) -> Option<Row>
     }
 }
 
-// The row of a field of fanout's own.
+// Returns the row of a type-specific field of fanout.
 #[tactic(auto, unfolding(crate::specs::Table::fanout_row))]
 fn fanout_row(field: OwnField) -> Option<Row>
     ensures { result ≡ fanout_row field }
@@ -212,7 +212,7 @@ fn fanout_row(field: OwnField) -> Option<Row>
     })
 }
 
-// The row of a field, where the type has it of its own.
+// Returns the row of a type-specific field, if the type has it.
 #[inline(always)]
 #[tactic(auto, unfolding(crate::specs::Table::own_row))]
 pub fn own_row(record_type: RecordType, field: OwnField) -> Option<Row>

@@ -1,14 +1,16 @@
-//! Where the name of a field leads.
+//! A perfect hash of the field names.
 ghost use Rattle.std.specs.Prelude.{◌≡◌, ◌<◌};
 ghost use Rattle.ioc_fields.specs.Places.{place_of, field_at, candidate_of};
 
 use crate::field_list::fields;
 use crate::field_no::FieldNo;
 
-// By this factor, which was found by trying, the names of the fields have 130 places of 512 of their own.
+// With this factor, which was found by trial, the names of the 130 fields hash to different places
+// out of 512.
 const FACTOR: u32 = 633_921_379;
 
-// For each place, where in the list of fields the one stands whose name leads there: past its end where there is none.
+// For each place, the index in the list of fields of the one whose name hashes there, or 255, past
+// the end of the list, if there is none.
 static PLACES: [u8; 512] = [
     255, 255, 255, 255, 255, 69, 255, 255, 255, 6, 255, 255, 255, 255, 255, 60, 255, 255, 255, 255,
     255, 255, 125, 255, 255, 255, 8, 94, 66, 255, 255, 255, 255, 29, 80, 255, 255, 255, 255, 4,
@@ -39,7 +41,7 @@ static PLACES: [u8; 512] = [
     255,
 ];
 
-// The place to which the bytes of a name lead.
+// Returns the place to which the bytes of a name hash.
 #[tactic(auto, unfolding(crate::specs::Places::place_of))]
 fn place_of(bytes: [u8; 4]) -> usize
     ensures place { result ≡ place_of bytes }
@@ -49,7 +51,7 @@ fn place_of(bytes: [u8; 4]) -> usize
     (key.wrapping_mul(FACTOR) >> 23) as usize
 }
 
-// The field whose number stands at the place of these bytes.
+// Returns the field whose index is stored at the place of these bytes.
 #[tactic(auto, unfolding(crate::specs::Places::field_at))]
 fn field_at(bytes: [u8; 4]) -> Option<FieldNo>
     ensures { result ≡ field_at bytes }
@@ -57,7 +59,7 @@ fn field_at(bytes: [u8; 4]) -> Option<FieldNo>
     fields().get(PLACES[place_of(bytes)] as usize).copied()
 }
 
-// The one field that may have this name.
+// Returns the only field that can have this name.
 #[tactic(auto, unfolding(crate::specs::Places::candidate_of))]
 pub fn candidate(name: &[u8]) -> Option<FieldNo>
     ensures { result ≡ candidate_of name.now }

@@ -1,10 +1,10 @@
-//! The names of the fields that come sixteenfold.
+//! The names of the fields of which there are sixteen.
 ghost use Rattle.std.specs.Prelude.{◌≡◌};
 ghost use Rattle.ioc_fields.specs.Names.{link_name, state_value_name, state_text_name, state_severity_name};
 
 use crate::field_no::Slot;
 
-// The name of the field with the number that stands for a state.
+// Returns the name of the field with the value of a state.
 #[tactic(auto, unfolding(crate::specs::Names::state_value_name))]
 pub fn state_value_name(slot: Slot) -> &'static str
     ensures { result.now ≡ state_value_name slot }
@@ -29,7 +29,7 @@ pub fn state_value_name(slot: Slot) -> &'static str
     }
 }
 
-// The name of the field with the text of a state.
+// Returns the name of the field with the text of a state.
 #[tactic(auto, unfolding(crate::specs::Names::state_text_name))]
 pub fn state_text_name(slot: Slot) -> &'static str
     ensures { result.now ≡ state_text_name slot }
@@ -54,7 +54,7 @@ pub fn state_text_name(slot: Slot) -> &'static str
     }
 }
 
-// The name of the field with the severity of a state.
+// Returns the name of the field with the severity of a state.
 #[tactic(auto, unfolding(crate::specs::Names::state_severity_name))]
 pub fn state_severity_name(slot: Slot) -> &'static str
     ensures { result.now ≡ state_severity_name slot }
@@ -79,7 +79,7 @@ pub fn state_severity_name(slot: Slot) -> &'static str
     }
 }
 
-// The name of a link of a fanout.
+// Returns the name of a link of a fanout.
 #[tactic(auto, unfolding(crate::specs::Names::link_name))]
 pub fn link_name(slot: Slot) -> &'static str
     ensures { result.now ≡ link_name slot }

@@ -1,4 +1,4 @@
--- The nodes 0, 1, 2, ..
+-- The nodes 0, 1, 2 and so on.
 use Rattle.std.proofs.Common.{◌≡◌, ℕ, ◌<◌, length, get_or, sym, ◌∙◌, arith}
 use Rattle.std.proofs.lemmas.List.FromFn.{length-range_with_len, get_or-range_with_len}
 use Rattle.ioc_graph.specs.Parts.{all_below}

@@ -12,7 +12,7 @@ use Rattle.ioc_graph.specs.Parts.{all_below}
 use Rattle.ioc_graph.specs.Members.{numbers_after, part_numbers, members_from, Follow}
 use Rattle.ioc_graph.proofs.All.{count_of, itself}
 
--- each node by itself
+-- A list in which each node is its own parent is the list of all nodes.
 pub all_alone : (n : ℕ) (ps : List ℕ) → length ps ≡ n → ((i : ℕ) → i < length ps → slice_index ps i ≡ i) → ps ≡ all_below n
 all_alone n ps len at = same_number_lists ps (all_below n) (len ∙ sym (count_of n)) (λ i l. at i l ∙ sym (itself n i (omega (arith, l, len))))
 
@@ -40,7 +40,7 @@ module _ (numbers : List ℕ) (p : ℕ) where
   unfolding members_from
   none_here a l n = rw (range_step a (length numbers) l, ne_eqb (slice_index numbers a) p n) refl
 
--- a write before a place changes nothing that follows from there
+-- Writing before an index doesn't change what follows from there.
 set_follow : (next : List ℕ) (j v at : ℕ) (ns : List ℕ) → j < at → Follow next at ns → Follow (set next j v) at ns
 set_follow next j v at [] l f = f ∙ sym (length-set {A = ℕ} next j v)
 set_follow next j v at (n ∷ ns) l f =
@@ -51,17 +51,17 @@ set_follow next j v at (n ∷ ns) l f =
 next_above : (p i : ℕ) → i ≤ p → p ≢ i → i + 1 ≤ p
 next_above p i l n = ⊎_elim (λ (h : i < p). omega (arith, h)) (λ (h : p ≤ i). absurd (n (omega (arith, h, l)))) (cases_lt i p)
 
--- what stands when the nodes from a place on were looked at
+-- The state after the nodes from `place` on are visited.
 pub record Built (numbers next : List ℕ) (place : ℕ) : Type 0 where
   pub one_each : length next ≡ length numbers
   pub within : place ≤ length numbers
-  -- each leads behind itself, and to none that wasn't looked at
+  -- Each node leads to a later one, and to none that isn't visited.
   pub behind : (j : ℕ) → j < length numbers → (place ≤ slice_index next j) × (j < slice_index next j)
-  -- from a first node that wasn't looked at, those of its part that were looked at follow
+  -- The visited nodes of a part follow its first node, if that one isn't visited.
   pub before : (p : ℕ) → p < length numbers → slice_index numbers p ≡ p → p < place → Follow next (slice_index next p) (members_from numbers p place)
   pub done : (p : ℕ) → p < length numbers → slice_index numbers p ≡ p → place ≤ p → Follow next (slice_index next p) (members_from numbers p (p + 1))
 
--- none was looked at
+-- The state before any node is visited.
 pub nothing_built : (numbers next : List ℕ) (count : ℕ) → length next ≡ length numbers → count ≡ length numbers → ((j : ℕ) → j < length numbers → slice_index next j ≡ count) → Built numbers next count
 nothing_built numbers next count len is at = record {
   one_each = len;
@@ -75,7 +75,7 @@ module _ (numbers next : List ℕ) (i place : ℕ) (up : place ≡ i + 1) (b : B
   here : i < length numbers
   here = omega (arith, up, b.within)
 
-  -- a first node
+  -- The first node of a part is visited.
   pub build_own : slice_index numbers i ≡ i → Built numbers next i
   build_own own = record {
     one_each = b.one_each;
@@ -90,7 +90,7 @@ module _ (numbers next : List ℕ) (i place : ℕ) (up : place ≡ i + 1) (b : B
         (cases_eq p i);
   }
 
-  -- one behind the first node q of its part
+  -- A node after the first node `q` of its part is visited.
   module _ (q : ℕ) (is : q ≡ slice_index numbers i) (low : q < i) where
     abbrev mid : List ℕ
     mid = set next i (slice_index next q)
@@ -154,11 +154,11 @@ module _ (numbers next : List ℕ) (i place : ℕ) (up : place ≡ i + 1) (b : B
           (follow_after (slice_index next p) (members_from numbers p (p + 1)) (omega (arith, h.1, lower)) (b.done p l first (omega (arith, up, next_above p i lower n))));
     }
 
--- the numbers after all edges
+-- The numbers after all edges.
 pub all_joined : (edges : List Edge) (numbers : List ℕ) (k count : ℕ) → numbers ≡ numbers_after (all_below count) (take k edges) → length edges ≤ k → numbers ≡ part_numbers edges count
 unfolding part_numbers
 all_joined edges numbers k count is l = is ∙ ap (numbers_after (all_below count)) (take_all k edges l)
 
--- a list that was written over whole
+-- A list that is wholly overwritten.
 pub whole : (ps items : List ℕ) (n : ℕ) → length ps ≡ n → length items ≡ n → take n (ps ++ drop (length ps) items) ≡ ps
 whole ps items n e f = take-append-le n ps (drop (length ps) items) (omega (arith, e)) ∙ take_all n ps (omega (arith, e))

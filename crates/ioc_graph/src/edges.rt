@@ -1,4 +1,4 @@
-//! Connected parts.
+//! The connected parts of a graph.
 ghost use Rattle.std.specs.Prelude.{◌≡◌, ◌<◌, length, slice_index, All, Contains, IfOk, IsTrue, ◌↔◌};
 ghost use Rattle.std.specs.List.Sorted.{IsStrictlyIncreasing};
 ghost use Rattle.ioc_graph.specs.Parts.{ArePartsOf, all_below};
@@ -8,14 +8,14 @@ use crate::forest::{each_alone, join, settle};
 use ioc_names::RecordNo;
 use std::alloc::{AllocError, Global};
 
-/// Two records that a link joins.
+/// Two records that are joined by a link.
 #[derive(Clone, Copy, PartialEq, Eq, Debug)]
 pub struct Edge {
     pub from: RecordNo,
     pub to: RecordNo,
 }
 
-// The place of a node, by binary search.
+// Returns the index of the node, by binary search.
 fn place_of(nodes: &[RecordNo], node: RecordNo) -> usize
     requires ascending { IsStrictlyIncreasing nodes.now }
     requires there { Contains nodes.now node }
@@ -35,12 +35,13 @@ fn place_of(nodes: &[RecordNo], node: RecordNo) -> usize
     low
 }
 
-/// The connected parts: for each node the number of its part, which is the place of the part's first node. Cost: near
-/// the number of nodes and edges, each end of an edge being looked up by binary search.
+/// Returns the connected parts: for each node the number of its part, which is the index of the
+/// part's first node. The time is nearly linear in the number of nodes and edges, except that each
+/// end of an edge is looked up by binary search.
 ///
 /// # Errors
 ///
-/// [`AllocError`] where memory is wanting. The one list that is answered is all that is allocated.
+/// [`AllocError`] if allocation fails. The returned list is the only allocation.
 pub fn parts(alloc: Global, edges: &[Edge], nodes: &[RecordNo]) -> Result<Vec<usize>, AllocError>
     requires ascending { IsStrictlyIncreasing nodes.now }
     requires ends { All (λ e. Contains nodes.now e.from × Contains nodes.now e.to) edges.now }
@@ -59,12 +60,13 @@ pub fn parts(alloc: Global, edges: &[Edge], nodes: &[RecordNo]) -> Result<Vec<us
     Ok(numbers)
 }
 
-/// The connected parts of the records 0, 1, 2, .. up to a count: for each the number of its part, which is that of the
-/// part's first record. Cost: near the number of records and edges.
+/// Returns the connected parts of the records 0 to `count - 1`: for each record the number of its
+/// part, which is that of the part's first record. The time is nearly linear in the number of
+/// records and edges.
 ///
 /// # Errors
 ///
-/// [`AllocError`] where memory is wanting. The one list that is answered is all that is allocated.
+/// [`AllocError`] if allocation fails. The returned list is the only allocation.
 pub fn parts_of_all(alloc: Global, edges: &[Edge], count: usize) -> Result<Vec<usize>, AllocError>
     requires ends { All (λ e. (e.from < count) × (e.to < count)) edges.now }
     ensures parts { IfOk result (λ numbers. ArePartsOf edges.now (all_below count) numbers.items) }
@@ -79,7 +81,7 @@ pub fn parts_of_all(alloc: Global, edges: &[Edge], count: usize) -> Result<Vec<u
     Ok(numbers)
 }
 
-/// Do all edges join records below the count? See [`parts_of_all`].
+/// Returns whether all edges join records with numbers below `count`. See [`parts_of_all`].
 pub fn are_below(edges: &[Edge], count: usize) -> bool
     ensures { IsTrue result ↔ All (λ e. (e.from < count) × (e.to < count)) edges.now }
 {

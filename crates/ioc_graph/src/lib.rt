@@ -1,5 +1,5 @@
-//! The connected parts of records that links join. Application Developer's Guide, "Database Locking, Scanning, and
-//! Processing": lock sets.
+//! The connected parts of records that are joined by links. Application Developer's Guide,
+//! "Database Locking, Scanning, and Processing": lock sets.
 #![tactic(auto)]
 
 pub mod edges;

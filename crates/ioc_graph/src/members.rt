@@ -4,12 +4,13 @@ ghost use Rattle.ioc_graph.specs.Members.{AreFirsts, AreFollowers};
 
 use std::alloc::{AllocError, Global};
 
-/// For each node the one behind it in its part, by the numbers that [`crate::parts_of_all`] gives; the count of nodes, where it is the
-/// last. Cost: the number of nodes.
+/// Returns for each node the next one in its part, by the numbers that [`crate::parts_of_all`]
+/// returns. For the last node of a part it is the number of nodes. The time is linear in the number
+/// of nodes.
 ///
 /// # Errors
 ///
-/// [`AllocError`] where memory is wanting. The one list that is answered is all that is allocated.
+/// [`AllocError`] if allocation fails. The returned list is the only allocation.
 pub fn followers(alloc: Global, numbers: &[usize]) -> Result<Vec<usize>, AllocError>
     requires { AreFirsts numbers.now }
     ensures { IfOk result (λ next. AreFollowers numbers.now next.items) }

@@ -1,4 +1,4 @@
--- What the holder of a set and the keeper of the puts with notification know after an event on the set.
+-- What a set and the table of the puts with notification know after an event on the set.
 use Rattle.std.proofs.Common.{◌≡◌, ℕ, ◌+◌, ◌≤◌, Bool, true, false, cond, nat_eq, nat_lt, List, [], ◌∷◌, ◌++◌, refl, sym, ap, subst, inl, arith}
 use Rattle.std.specs.Prelude.{Contains}
 use Rattle.std.proofs.lemmas.List.Sums.{sum_by-cons}
@@ -28,7 +28,7 @@ use Rattle.ioc_set.specs.Doing.{Does}
 use Rattle.ioc_held.specs.Puts.{AreMoved}
 use Rattle.ioc_held.proofs.Serving.{holds_on, live_then, records_then, waiting_then, noted_on, moved_on}
 
--- lines of a number, counted either way
+-- The two ways of counting the lines of a number agree.
 pub lines_are : (n : ℕ) (ls : List Live) → lines_of n ls ≡ how_many (λ (l : Live). l.number) n ls
 lines_are n [] = refl
 lines_are n (x ∷ xs) =
@@ -43,7 +43,7 @@ one_at_most : (b : Bool) → cond b 1 0 ≤ 1
 one_at_most true = omega arith
 one_at_most false = omega arith
 
--- what is live in a world that is counted has one line each
+-- Each put with notification has at most one line in a counted world.
 pub once_live : {R : Type 0} (k : RecordRules R) (w : World R) → IsCounted k w → (n : ℕ) → lines_of n w.live ≤ 1
 once_live k w counted n = let lines = lines_are n w.live in let once = counted.counted.live n in let one = one_at_most (nat_lt 0 (holders k w n)) in omega (arith, lines, once, one)
 
@@ -79,7 +79,7 @@ module _ {R D : Type 0} (k : RecordRules R) (gives : D → Ask → ℕ → Answe
         (λ r s. has_left (key_of r) (owned ++ puts_key) own (has_left (key_of r) owned puts_key (covers r s)))
         (cancels log sound also legal held) (asks log sound also legal held) (λ out. absurd (out (has_puts own)))
 
-  -- any legal list that both know goes on with the event
+  -- The event may follow any legal list that continues from what both have seen.
   pub both_follow : (entry : Entry) → does.entry ≡ entry → BothMayFollow k base seen owned also_seen puts_key entry
   both_follow entry is = subst (λ (x : Entry). BothMayFollow k base seen owned also_seen puts_key x) is (λ log desk call own sound go also legal. (goes log desk call own sound go also legal).legal)
 
@@ -87,7 +87,7 @@ module _ {R D : Type 0} (k : RecordRules R) (gives : D → Ask → ℕ → Answe
     as_done : AddedByBoth k base seen owned also_seen puts_key does.entry log longer
     as_done = subst (λ (x : Entry). AddedByBoth k base seen owned also_seen puts_key x log longer) (sym is) added
 
-    -- what is held then is what the world has there
+    -- The set is held after the event.
     pub held_beside : Holds k (map_of k base longer) (now_of h')
     held_beside =
         let a = as_done in
@@ -95,7 +95,7 @@ module _ {R D : Type 0} (k : RecordRules R) (gives : D → Ask → ℕ → Answe
         alike (map_of k base longer) after (now_of h') (subst (λ (l : List Note). Holds k (map_of k base l) after) (sym a.ends) known)
         (records_then k gives h h' moment event reply come_to does there) (waiting_then k gives h h' moment event reply come_to does there)
 
-    -- and how many have each changes among all as in the set
+    -- The counts of all records change as those of the set do.
     pub moved_beside : (fewer : HeldAreFewer k) (few : HoldersAreFew k) (stays : StaysSound k) (told : (ls : List Live) (n : ℕ) → lines_of n ls ≤ 1 → holders_of n ls ≡ holders_in n ls)
         (counted : IsCounted k (now_of h)) (counted_then : IsCounted k (now_of h')) → AreMoved k base log longer h.live h'.live
     moved_beside fewer few stays told counted counted_then =

@@ -1,4 +1,5 @@
--- What the keeper of the puts with notification knows of a longer list, and after an event that was counted.
+-- What the table of the puts with notification knows of a longer list, and after an event that was
+-- counted.
 use Rattle.std.proofs.Common.{◌≡◌, ℕ, ◌+◌, ◌<◌, ◌≤◌, ◌^◌, List, sym, ◌∙◌, subst, inl, refl, arith}
 use Rattle.ioc_notify.specs.declared.live_numbers.Live.{Live}
 use Rattle.ioc_notify.specs.Living.{holders_of}
@@ -13,14 +14,16 @@ use Rattle.ioc_held.specs.Puts.{AreCounted, AreMoved}
 use Rattle.ioc_journal.specs.Account.{puts_key}
 
 module _ {R : Type 0} (k : RecordRules R) where
-  -- how many have each in what the keeper has seen, and in a list that goes on from it without its key
+  -- The counts of a list that was seen are those of a list that continues from it without the key
+  -- of the puts with notification.
   pub counted_on : LiveLasts k → (base : World R) (seen log : List Note) (lines : List Live) → AreCounted k base lines seen → Continues seen puts_key log → IsLegal k base log → AreCounted k base lines log
   counted_on lasts base seen log lines counted go legal n =
       counted n
       ∙ subst (λ (l : List Note). holders_of n (map_of k base seen).live ≡ holders_of n (map_of k base l).live) (sym go.1)
       (lasts base seen go.0 (go.2 notifications_key (inl refl)) (subst (λ (l : List Note). IsLegal k base l) go.1 legal) n)
 
-  -- where a set's event is added: no more have any in the set than by the lines, the sums fit, and how many have each then
+  -- The event of a set is added: the counts of the set are at most those of the lines, the sums
+  -- fit, and the counts afterwards are right.
   module _ (lasts : LiveLasts k) (base : World R) (seen log longer : List Note) (lines before after : List Live) (counted : AreCounted k base lines seen) (go : Continues seen puts_key log) (legal : IsLegal k base log)
       (moved : AreMoved k base log longer before after) where
     at_log : (n : ℕ) → holders_in n lines ≡ holders_of n (map_of k base log).live

@@ -1,4 +1,4 @@
--- Keys that are dealt to two sets, and what their holders know then.
+-- Keys that are divided among two sets, and what the sets know then.
 use Rattle.std.proofs.Common.{◌≡◌, ℕ, zero, suc, false, true, List, [], ◌∷◌, ◌++◌, Option, None, refl, sym, ap, ◌∙◌, subst, inl, inr, ⊎_elim, arith}
 use Rattle.std.specs.Prelude.{Contains, IsSome, is_some}
 use Rattle.std.specs.FinMap.{get, keys}
@@ -37,7 +37,7 @@ contains_record n (x ∷ xs) (suc i, lt, is) = inr (contains_record n xs (i, ome
 pub none_some : {A : Type 0} (o : Option A) → o ≡ None → IsSome o → ⊥
 none_some {A = A} o none some = let h : false ≡ true = sym (ap (λ (p : Option A). is_some p) none) ∙ some in cc
 
--- what is in one of two that share is in what they share, and not in the other
+-- An entry of one of two maps that share a map is in the shared map, and not in the other.
 module _ {X : Type 0} (f g h : ℕ → Option X) (shared : AreShared f g h) (q : ℕ) where
   pub of_first : IsSome (g q) → IsSome (f q)
   of_first some = elim (shared q) [
@@ -64,7 +64,7 @@ module _ {R D : Type 0} where
   as_record : (h : Held R D) (key : Key) → Has key (keys_of h) → (0, key.1) ≡ key
   as_record h key has = ap (λ (x : ℕ). (x, key.1)) (sym (record_kind key (keys h.records) has))
 
-  -- the keys of two sets are owned where those of each of their records are
+  -- The keys of two sets are owned if the key of each of their records is.
   pub dealt_within : (stay rest : Held R D) (owns : List Key) → ((q : ℕ) → IsSome (get stay.records q) → Has (0, q) owns) → ((q : ℕ) → IsSome (get rest.records q) → Has (0, q) owns)
       → (key : Key) → Has key (keys_of stay ++ keys_of rest) → Has key owns
   dealt_within stay rest owns one other key has =
@@ -73,11 +73,11 @@ module _ {R D : Type 0} where
       (λ (y : Has key (keys_of rest)). subst (λ (p : Key). Has p owns) (as_record rest key y) (other key.1 (own_record rest key y)))
       (has_either key (keys_of stay) (keys_of rest) has)
 
-  -- sets with no record together have no key together
+  -- Sets without a common record have no common key.
   pub dealt_apart : (stay rest : Held R D) → ((q : ℕ) → IsSome (get stay.records q) → IsSome (get rest.records q) → ⊥) → (key : Key) → Has key (keys_of stay) → Has key (keys_of rest) → ⊥
   dealt_apart stay rest apart key x y = apart key.1 (own_record stay key x) (own_record rest key y)
 
-  -- a pass that was dealt the keys of a set is its owner's
+  -- A pass to which the keys of a set were assigned is the owner of its records.
   pub dealt_owner : (table id : TableId) (v : View) (seen : List Note) (h : Held R D) → id ≡ table → v ≡ holder seen (keys_of h) → IsOwner table id v (now_of h)
   dealt_owner table id v seen h same is = record {
     same = same;
@@ -86,7 +86,7 @@ module _ {R D : Type 0} where
     covers = subst (λ (x : View). Cover x.owns (now_of h)) (sym is) (λ n has. contains_record n (keys h.records) (there_key h.records n has));
   }
 
--- a link change of two that may follow what both have seen, and what is known then
+-- A link change that may follow what two passes have seen, and what is known after it.
 module _ {R : Type 0} (k : RecordRules R) (base : World R) (moment s : ℕ) (field : FieldNo) (link : LinkField) (seen : List Note) (owned : List Key) (also_seen : List Note) (also_owned : List Key)
     (Known : World R → Type 0)
     (goes : (log : List Note) (desk call : ℕ) (own : List Key) → IsSound k base → Continues seen owned log → Continues also_seen also_owned log → IsLegal k base log

@@ -16,7 +16,7 @@ pub not_some : {A : Type 0} (o : Option A) → (IsSome o → ⊥) → o ≡ None
 not_some None h = refl
 not_some (Some x) h = absurd (h refl)
 
--- of two that share, one has what they share where the other has nothing
+-- One of two maps that share a map is equal to it at each key that the other lacks.
 module _ {X : Type 0} (f g h : ℕ → Option X) (shared : AreShared f g h) (q : ℕ) where
   pub first_has : (IsSome (h q) → ⊥) → g q ≡ f q
   first_has none = elim (shared q) [
@@ -34,7 +34,7 @@ set_there : {D : Type 0} (ds : ℕ → Option D) (t n : ℕ) (b : Bool) (before 
 set_there {D} ds t n true before after same there = sym (ap (λ (o : Option D). is_some o) there) ∙ sym (ap (λ (q : ℕ). is_some (ds q)) (eqb-true n t same))
 set_there ds t n false before after other there = refl
 
--- a device that was called is there still
+-- A device is still there after a call.
 module _ {D : Type 0} {gives : D → Ask → ℕ → Answer → D → Type 0} where
   called_there : {ds : ℕ → Option D} {moment : ℕ} {call : Call} {es : ℕ → Option D} → DeviceGives gives ds moment call es → (n : ℕ) → is_some (es n) ≡ is_some (ds n)
   unfolding with_device
@@ -46,6 +46,6 @@ module _ {D : Type 0} {gives : D → Ask → ℕ → Answer → D → Type 0} wh
   worked_there (and_then first rest) n = worked_there rest n ∙ called_there first n
 
 module _ {R D : Type 0} (had : ℕ → Bool) where
-  -- no record has come, and no device has gone or come
+  -- Each record keeps its device if no record was added and no device was added or removed.
   pub keeps_on : (h h' : Held R D) → KeepsDevices had h → ((n : ℕ) → is_some (get h'.devices n) ≡ is_some (get h.devices n)) → ((n : ℕ) → Has (now_of h') n → Has (now_of h) n) → KeepsDevices had h'
   keeps_on h h' keeps same only n has = same n ∙ keeps n (only n has)

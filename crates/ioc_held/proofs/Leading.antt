@@ -1,4 +1,4 @@
--- What the holders of two sets know after a link change that leads from one into the other.
+-- What two sets know after a link change that leads from one into the other.
 use Rattle.std.proofs.Common.{◌≡◌, ◌⊎◌, ℕ, Bool, List, [], ◌∷◌, ◌++◌, Option, None, sym, ap, ◌∙◌, subst, inl, inr, ⊎_elim}
 use Rattle.std.specs.Prelude.{IsSome, is_some}
 use Rattle.std.specs.FinMap.{get, insert}
@@ -37,7 +37,7 @@ abbrev AreOwned : {R D : Type 0} → Held R D → Type 0
 AreOwned h = (q : ℕ) → IsSome (get h.devices q) → IsSome (get h.records q)
 
 module _ {R : Type 0} (k : RecordRules R) (s q : ℕ) (rs : Records R) (r : R) (own : IsSome (get rs s)) where
-  -- a record that is set comes in the place of one that is there
+  -- Setting a record that is there adds no record.
   set_back : IsSome (get (insert rs s r) q) → IsSome (get rs q)
   unfolding put
   set_back has = has-put_back k (resting rs [] []) s q r own has
@@ -89,7 +89,7 @@ module _ {R D : Type 0} (k : RecordRules R) (before other after other_then rest 
       dealt_apart after rest
       (λ q one two. ⊎_elim (λ a. not_both (get freed) (get led.stay.records) (get rest.records) led.falls.shared q a two) (λ b. none_some (get other.records q) (apart q (fell q two)) b) (led_back q one))
 
-  -- devices go where their records go
+  -- Devices go with their records.
   module _ (had : ℕ → Bool) (keeps : KeepsDevices had before) (others_keep : KeepsDevices had other) (own : AreOwned before) (others_own : AreOwned other) (owned_then : AreOwned after) (rest_own : AreOwned rest) where
     left_behind : (q : ℕ) → IsSome (get rest.records q) → IsSome (get led.stay.devices q) → ⊥
     left_behind q at_rest has = elim (led.joins.devices q) [
@@ -107,7 +107,7 @@ module _ {R D : Type 0} (k : RecordRules R) (before other after other_then rest 
     stay_has q has = first_has (get before.devices) (get led.stay.devices) (get rest.devices) led.falls.devices q
         (λ there. not_both (get freed) (get led.stay.records) (get rest.records) led.falls.shared q has (rest_own q there))
 
-    -- a device of what stays is of a record that the other hasn't
+    -- A device of the part that stays is of a record that the other set doesn't have.
     none_of_stay : (q : ℕ) → IsSome (get other.records q) → IsSome (get led.stay.devices q) → ⊥
     none_of_stay q at_other has = elim (led.falls.devices q) [
       | inl p ↦ none_some (get other.records q) (apart q (own q (subst (λ (o : Option D). IsSome o) p.0 has))) at_other
@@ -139,18 +139,19 @@ module _ {R D : Type 0} (k : RecordRules R) (before other after other_then rest 
         (λ r has. has_left (key_of r) (owned ++ also) own (has_right (key_of r) owned also (also_covers r has)))
         apart takes to led rest_sound
 
--- what a holder knows of a longer list without its keys, which it has seen then
+-- A set that is held after the list that its pass has seen is held after a longer list without its
+-- keys, which the pass has seen then.
 pub holds_known : {R : Type 0} (k : RecordRules R) → Lasts k → (base w : World R) (old view : View) (log : List Note) → Cover old.owns w → Holds k (map_of k base old.seen) w → Continues old.seen old.owns log → IsLegal k base log
     → view ≡ holder log old.owns → Holds k (map_of k base view.seen) w
 holds_known k lasts base w old view log covers holds go legal is =
     subst (λ (x : View). Holds k (map_of k base x.seen) w) (sym is) (holds_on k lasts base w old.seen old.owns covers holds log go legal)
 
--- sets whose keys are apart have no record together
+-- Sets without a common key have no common record.
 pub sets_apart : {R D : Type 0} (one other : Held R D) (owned also : List Key) → Cover owned (now_of one) → Cover also (now_of other) → ((key : Key) → Has_key key owned → Has_key key also → ⊥)
     → (q : ℕ) → IsSome (get one.records q) → get other.records q ≡ None
 sets_apart one other owned also covers also_covers apart q has = not_some (get other.records q) (λ there. apart (key_of q) (covers q has) (also_covers q there))
 
--- two sets that are held, whose keys are apart, may become one: the world that their holders know then is sound
+-- Two held sets without a common key may be joined, because the world that both know is sound.
 pub sets_may_be_one : {R D : Type 0} (k : RecordRules R) → Lasts k → StaysSound k → SetsMayBeOne D k → (base : World R) (one other : Held R D) → IsSound-set k one → IsSound-set k other
     → (v also one_then other_then : View) (log : List Note) → AreKnown k base v also log one_then other_then
     → Cover v.owns (now_of one) → Holds k (map_of k base v.seen) (now_of one) → Cover also.owns (now_of other) → Holds k (map_of k base also.seen) (now_of other)

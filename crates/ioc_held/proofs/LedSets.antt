@@ -32,7 +32,7 @@ lone : (x y : ℕ) → Contains (x ∷ []) y → x ≡ y
 lone x y (zero, lt, is) = is
 lone x y (suc i, lt, is) = absurd (omega (arith, lt))
 
--- none waits for a record for which no one of these does
+-- The waiting list of a record is empty if no entry waits for the record.
 none-waits : (n : ℕ) (xs : List Waiting) → ((x : Waiting) → Contains xs x → x.target ≢ n) → at_record n xs ≡ []
 none-waits n [] apart = refl
 none-waits n (x ∷ xs) apart =
@@ -40,7 +40,7 @@ none-waits n (x ∷ xs) apart =
     ap (λ (b : Bool). cond b (x ∷ at_record n xs) (at_record n xs)) here ∙ none-waits n xs (λ y c. apart y (suc c.0, (let l = c.1 in omega (arith, l)), c.2))
 
 module _ {R D : Type 0} (k : RecordRules R) where
-  -- the records with the link set, as a world
+  -- The records with the link changed, as a world.
   free-halves : (h stay rest : Held R D) (s : ℕ) (field : FieldNo) (link : LinkField) → FallsApart h (relinked k h.records s field link) s stay rest
       → AreHalves (put (now_of h) s (k.with_link (at k (now_of h) s) field link)) (now_of stay) (now_of rest)
   unfolding put at
@@ -50,7 +50,7 @@ module _ {R D : Type 0} (k : RecordRules R) where
     second = record { waiting = λ n has. falls.rest_waiting.same n has; within = falls.rest_waiting.own };
   }
 
-  -- what waits in each of two that become one waits for records of its own
+  -- The waiting requests of each of two sets that are joined wait for records of that set.
   module _ (stay other both other_then : Held R D) (moment s : ℕ) (field : FieldNo) (link : LinkField) (joins : BecomeOne stay other (relinked k stay.records s field link) both other_then)
       (own : (x : Waiting) → Contains stay.waiting x → IsSome (get stay.records x.target)) (others_own : (x : Waiting) → Contains other.waiting x → IsSome (get other.records x.target)) where
     abbrev linked : World R
@@ -119,7 +119,7 @@ module _ {R D : Type 0} (k : RecordRules R) where
     | inr p ↦ subst (λ (o : Option R). IsSome o) p.1 there
   ]
 
-  -- what is held once the change of the scan list is sent
+  -- The set is held once the change of the scan list is sent.
   sent-held : HeldAlike k → (m : World R) (before both after : Held R D) (moment s : ℕ) (come_to : World R) → after.waiting ≡ both.waiting
       → with_kept after.records both.live both.waiting come_to ≡ rewired k (device_of k (record_at k before.records s)) (begun_at moment (now_of both)) s
       → Holds k m (rewired k (device_of k (at k (now_of before) s)) (begun_at moment (now_of both)) s) → Holds k m (now_of after)

@@ -1,4 +1,4 @@
--- A set of no records is held by whom it may.
+-- A set without records is held as a part of any world.
 use Rattle.std.proofs.Common.{◌≡◌, ℕ, Bool, true, false, List, [], Option, None, sym, ap, ◌∙◌, subst, arith}
 use Rattle.std.specs.Prelude.{Contains, is_some, unwrap_or}
 use Rattle.std.specs.Ordering.{nat_cmp}
@@ -39,6 +39,6 @@ module _ {R : Type 0} (k : RecordRules R) (missing : targets k k.missing ≡ [])
 pub no_numbers : {R D : Type 0} (h : Held R D) → h ≡ nothing_held → keys h.records ≡ []
 no_numbers {R} {D} h is = ap (λ (x : Held R D). keys x.records) is ∙ no_keys R
 
--- a set of no records is held of any world
+-- A set without records is held as a part of any world.
 pub nothing_known : {R : Type 0} (k : RecordRules R) (m m' v : World R) → ((n : ℕ) → Has v n → ⊥) → Holds k m v → Holds k m' v
 nothing_known k m m' v none h = record { records = λ n has. absurd (none n has); waiting = λ n has. absurd (none n has); within = h.within; shut = h.shut; apart = λ a n out has c. none n has }

@@ -1,4 +1,4 @@
--- A link change of a held set after which it falls apart.
+-- A link change of a held set that parts it in two.
 use Rattle.std.proofs.Common.{◌≡◌, ℕ, List, refl, sym, ap, ◌∙◌}
 use Rattle.ioc_fields.specs.declared.field_no.FieldNo.{FieldNo}
 use Rattle.ioc_common.specs.declared.link_field.LinkField.{LinkField}
@@ -25,7 +25,7 @@ module _ {R : Type 0} (k : RecordRules R) where
   pub rewired-waiting : (before : List ℕ) (w : World R) (s : ℕ) → (rewired k before w s).waiting ≡ w.waiting
   rewired-waiting before w s = rewired-either k (λ (x : World R). x.waiting ≡ w.waiting) before w s refl (moved-waiting w s)
 
-  -- what is known of a set at rest is known of it as an event begins
+  -- A set that is held is held as an event begins.
   pub holds-begun : HeldAlike k → (m w : World R) (moment : ℕ) → Holds k m w → Holds k m (begun_at moment w)
   unfolding begun_at begun
   holds-begun alike m w moment holds = alike m w (begun_at moment w) holds refl refl

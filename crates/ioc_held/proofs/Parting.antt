@@ -1,4 +1,4 @@
--- What the holder of a set knows after a link change in it.
+-- What a set knows after a link change within it.
 use Rattle.std.proofs.Common.{◌≡◌, ℕ, Bool, false, true, List, ◌++◌, Option, sym, ap, ◌∙◌, subst}
 use Rattle.std.specs.Prelude.{Contains, IsSome, is_some, unwrap_or}
 use Rattle.std.specs.FinMap.{get}
@@ -39,7 +39,7 @@ module _ {R : Type 0} (k : RecordRules R) where
       (λ item has. has-put_back k w s q _ there (subst (λ (x : World R). Has x q) (sym (sent_by item _)) has))
       (λ has. has)
 
-  -- no record comes by a change of a scan list
+  -- A change of a scan list adds no record.
   pub rewired_back : (device : List ℕ) (w : World R) (s q : ℕ) → Has w s → Has (rewired k device w s) q → Has w q
   rewired_back device w s q there = rewired-either k (λ (x : World R). Has x q → Has w q) device w s (λ has. has) (moved_back w s q there)
 
@@ -51,7 +51,7 @@ module _ {R : Type 0} (k : RecordRules R) where
   unfolding begun_at begun
   begun_back w moment n has = has
 
-  -- a link field that may be put takes another link
+  -- A link field that may be put takes another link.
   pub takes_link : {D : Type 0} (h : Held R D) (s : ℕ) (field : FieldNo) → HasLink k h.records s field → stops_put (common_at k (now_of h) s) field ≡ false → TakesLink k (now_of h) s field
   unfolding at
   takes_link h s field has allowed = record {
@@ -83,7 +83,7 @@ module _ {R D : Type 0} (k : RecordRules R) (before stay rest : Held R D) (momen
         (λ q some. owned_there q (of_first (get all) (get stay.records) (get rest.records) falls.shared q some))
         (λ q some. owned_there q (of_other (get all) (get stay.records) (get rest.records) falls.shared q some))
 
-  -- devices go where their records go
+  -- Devices go with their records.
   module _ (had : ℕ → Bool) (keeps : KeepsDevices had before) where
     pub stay_keeps : ((q : ℕ) → IsSome (get rest.devices q) → IsSome (get rest.records q)) → KeepsDevices had stay
     stay_keeps own q has =

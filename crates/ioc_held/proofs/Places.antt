@@ -1,4 +1,5 @@
--- There is a place for one more put with notification in what is held where there is one in the table of all.
+-- There is a place for one more put with notification on a held set if there is one in the table of
+-- all.
 use Rattle.std.proofs.Common.{◌≡◌, ◌↔◌, ℕ, zero, suc, ◌<◌, Bool, true, false, eqb, ◌||◌, List, [], ◌∷◌, length, refl, sym, ◌∙◌, arith}
 use Rattle.std.specs.Prelude.{Contains, IsTrue, map}
 use Rattle.std.proofs.lemmas.Bool.{eq-eqb, eqb-true}

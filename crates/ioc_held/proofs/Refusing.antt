@@ -1,4 +1,4 @@
--- What the holder of a set knows after a link change that DISP forbids.
+-- What a set knows after a link change that DISP forbids.
 use Rattle.std.proofs.Common.{◌≡◌, ℕ, Bool, true, false, not, cond, zero, suc, List, [], ◌∷◌, ◌++◌, Option, refl, sym, ap, ◌∙◌, subst, arith}
 use Rattle.std.specs.Prelude.{◌&&◌, Contains, IsSome, is_some, unwrap_or}
 use Rattle.std.specs.FinMap.{contains_key}
@@ -51,14 +51,14 @@ module _ {R : Type 0} (k : RecordRules R) where
       both (contains_key w.records n) (all_there w ns) (has n (zero, omega arith, refl))
       (all_known w ns (λ t c. has t (suc c.0, (let lt = c.1 in omega (arith, lt)), c.2)))
 
-  -- a link change that DISP forbids is refused, where all its records are there
+  -- A link change that DISP forbids is refused if all its records are there.
   refusal : (answers : Answers) (w : World R) (s : ℕ) (field : FieldNo) (link : LinkField) → Has w s → all_there w (named_by (use_of link)) ≡ true → is_some (k.link (at k w s) field) ≡ true
       → stops_put (common_at k w s) field ≡ true → stepped k answers w (Link s field link) ≡ refused w PutDisabled
   unfolding stepped done_alone done_there relinked
   refusal answers w s field link there all has stops =
       fourth {A = Stepped R} (contains_key w.records s) (all_there w (named_by (use_of link))) (is_some (k.link (at k w s) field)) (stops_put (common_at k w s) field) _ _ _ _ _ there all has stops
 
--- a link field of a held set: its record is there, and it has a link
+-- A link field of a held set: its record is there, and the field is a link.
 module _ {R D : Type 0} (k : RecordRules R) (h : Held R D) (s : ℕ) (field : FieldNo) (has : HasLink k h.records s field) where
   pub link_there : Has (now_of h) s
   link_there = ap (λ (o : Option R). is_some o) has.1
@@ -70,7 +70,7 @@ module _ {R D : Type 0} (k : RecordRules R) (h : Held R D) (s : ℕ) (field : Fi
 module _ {R : Type 0} (k : RecordRules R) (lasts : Lasts k) (stays : StaysSound k) (base v : World R) (moment s : ℕ) (field : FieldNo) (link : LinkField) (there : Has v s)
     (has_link : is_some (k.link (at k v s) field) ≡ true) (stops : stops_put (common_at k v s) field ≡ true) (known : (t : ℕ) → Contains (named_by (use_of link)) t → IsKnown k base t)
     (seen : List Note) (owned : List Key) (covers : Cover owned v) (holds : Holds k (map_of k base seen) v) where
-  -- it is refused on the world of all, which is left as it was
+  -- The change is refused in the world of all records, which is unchanged.
   refused_of_all : (log : List Note) (desk call : ℕ) (keys : List Key) → IsSound k base → Holds k (map_of k base log) v
       → done k (map_of k base log) (noted (journalled desk call (link_refusal moment s field link)) keys) ≡ refused (begun_at moment (map_of k base log)) PutDisabled
   unfolding done at begun begun_at
@@ -112,11 +112,11 @@ module _ {R : Type 0} (k : RecordRules R) (lasts : Lasts k) (stays : StaysSound 
         known = subst (λ (w : World R). Holds k w v) (sym (map_join k log (n ∷ []) base ∙ ap (λ (d : Stepped R). d.world) comes)) (still_holds m h);
       }
 
-  -- any legal list goes on with the refusal
+  -- The refusal may follow any legal list.
   pub refusal_may_follow : (entry : Entry) → link_refusal moment s field link ≡ entry → MayFollow k base seen owned entry
   refusal_may_follow entry is = subst (λ (x : Entry). MayFollow k base seen owned x) is (λ log desk call own sound go legal. (refusal_goes_on log desk call own sound go legal).legal)
 
-  -- and what was held is held
+  -- A held set stays held after the refusal.
   pub held_after_refusal : (entry : Entry) → link_refusal moment s field link ≡ entry → (log longer : List Note) → Added k base seen owned entry log longer → Holds k (map_of k base longer) v
   held_after_refusal entry is log longer added =
       let a = subst (λ (x : Entry). Added k base seen owned x log longer) (sym is) added in

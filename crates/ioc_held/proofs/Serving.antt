@@ -1,4 +1,4 @@
--- What a holder knows after an event of its own.
+-- What a set knows after an event of its own.
 use Rattle.std.proofs.Common.{◌≡◌, ℕ, Bool, true, false, cond, List, [], ◌∷◌, ◌++◌, length, None, refl, sym, ap, ◌∙◌, subst, zero, suc, arith}
 use Rattle.std.specs.Prelude.{◌==◌, Contains, is_some}
 use Rattle.std.specs.Ordering.{nat_cmp}
@@ -39,7 +39,7 @@ one_there x y (suc i, lt, is) = absurd (omega arith)
 false_true : false ≡ true → ⊥
 false_true e = cc
 
--- such an event names a record
+-- An ordinary event names a record.
 pub names_one : (event : Event) → is_ordinary event ≡ true → (n : ℕ) × Contains (names event) n
 names_one (Get s field) is = absurd (false_true is)
 names_one (Process s) is = (s, (zero, omega arith, refl))
@@ -50,7 +50,7 @@ names_one (Notify s n field given) is = absurd (false_true is)
 names_one (Cancel n) is = absurd (false_true is)
 names_one (IsLive n) is = absurd (false_true is)
 
--- such an event begins no put with notification
+-- An ordinary event begins no put with notification.
 pub begins_no_put : (event : Event) → is_ordinary event ≡ true → number_given event ≡ None
 begins_no_put (Get s field) is = refl
 begins_no_put (Process s) is = refl
@@ -61,7 +61,7 @@ begins_no_put (Notify s n field given) is = absurd (false_true is)
 begins_no_put (Cancel n) is = refl
 begins_no_put (IsLive n) is = refl
 
--- the pass of a holder that has seen more of the list, for records that were there
+-- A pass that has seen more of the list still owns the keys of the records that were there.
 pub owner_on : {R : Type 0} (table id id' : TableId) (v v' : View) (seen : List Note) (w w' : World R) → IsOwner table id v w → id' ≡ id → v' ≡ holder seen v.owns → ((n : ℕ) → Has w' n → Has w n) → IsOwner table id' v' w'
 owner_on table id id' v v' seen w w' owner same is only = record {
   same = same ∙ owner.same;
@@ -99,7 +99,7 @@ module _ {R : Type 0} (k : RecordRules R) where
   unfolding begun_at begun
   there_begun w moment n h = h
 
-  -- what a holder knows of a longer list without its keys
+  -- What a set knows of a longer list without its keys.
   module _ (lasts : Lasts k) (base v : World R) (seen : List Note) (owned : List Key) (covers : Cover owned v) (holds : Holds k (map_of k base seen) v) where
     pub holds_on : (log : List Note) → Continues seen owned log → IsLegal k base log → Holds k (map_of k base log) v
     holds_on log go legal =
@@ -138,7 +138,7 @@ module _ {R D : Type 0} (k : RecordRules R) (gives : D → Ask → ℕ → Answe
   replied : (done_by k (now_of h) e).reply ≡ e.reply
   replied = subst (λ (w : World R). (done_by k w e).reply ≡ e.reply) was_now does.tells.reply
 
-  -- the entry, by what stands where the event was done
+  -- The entry has the answers of devices that the event left.
   pub entry_is : (answers : List Answer) → answers ≡ answers_of come_to.calls → e ≡ record { moment = moment; event = event; answers = answers; reply = reply }
   entry_is answers copied =
       let told : e.answers ≡ answers = sym used ∙ ap (λ (w : World R). answers_of w.calls) (sym does.left) ∙ sym copied in
@@ -156,7 +156,7 @@ module _ {R D : Type 0} (k : RecordRules R) (gives : D → Ask → ℕ → Answe
   pub live_then : (now_of h').live ≡ after.live
   live_then = ap (λ (w : World R). w.live) now_then ∙ ap (λ (w : World R). (done_by k w e).world.live) was_now
 
-  -- where no put with notification is live before and after, nobody has one
+  -- If no put with notification is live before and after, no record is part of one.
   pub none_held : (counted : (answers : Answers) (w after : World R) (event : Event) (reply : Reply) (requests : Requests) → Step k answers w event after reply requests → IsCounted k w → IsCounted k after)
       → (allowed : (answers : Answers) (w : World R) (event : Event) → Step k answers w event (stepped k answers w event).world (stepped k answers w event).reply (stepped k answers w event).requests)
       → IsCounted k (now_of h) → NoneIsLive h → NoneIsLive h' → AreHeldAlike k (now_of h) after
@@ -166,8 +166,8 @@ module _ {R D : Type 0} (k : RecordRules R) (gives : D → Ask → ℕ → Answe
       let then = counted (listed e.answers) (begun_at e.moment (now_of h)) after e.event done.reply done.requests step (counted_begun k (now_of h) e.moment before) in
       sym (before.counted.counted number) ∙ live_alike k (now_of h) after (none.0 ∙ sym none_then.0 ∙ live_then) number ∙ then.counted.counted number
 
-  -- the event, noted with these keys, goes on from a legal list to which what is held belongs: what it leaves is held, and as many have each put
-  -- with notification more or less as in what is held
+  -- The event, noted with these keys, follows a legal list after which the set is held: the set is
+  -- held after it, and the counts of all records change as those of the set do.
   module _ (one_more : OneMore k) (moves : HoldersMove k) (base : World R) (log : List Note) (desk call : ℕ) (keys : List Key) (sound : IsSound k base) (legal : IsLegal k base log)
       (holds : Holds k (map_of k base log) (now_of h)) (covers : Cover keys (now_of h)) (cancels : CancelsWithin k (map_of k base log) (now_of h) event)
       (asks : AskAlike (begun_at moment (now_of h)) (begun_at moment (map_of k base log)) event) (same : (Has_key notifications_key keys → ⊥) → AreHeldAlike k (now_of h) after) where
@@ -194,7 +194,7 @@ module _ {R D : Type 0} (k : RecordRules R) (gives : D → Ask → ℕ → Answe
     pub moved_on : MovesAlike k (map_of k base log) (map_of k base (log ++ note ∷ [])) (now_of h) after
     moved_on = moves base (now_of h) after log note sound legal holds is_of is_done
 
-  -- no record has come
+  -- The event adds no record.
   pub only : ((answers : Answers) (w : World R) (event : Event) → Step k answers w event (stepped k answers w event).world (stepped k answers w event).reply (stepped k answers w event).requests)
       → ((answers : Answers) (w after : World R) (event : Event) (reply : Reply) (requests : Requests) → Step k answers w event after reply requests → IsClosed k w → KeepsRecords w after)
       → IsClosed k (now_of h) → (n : ℕ) → Has (now_of h') n → Has (now_of h) n
@@ -204,7 +204,8 @@ module _ {R D : Type 0} (k : RecordRules R) (gives : D → Ask → ℕ → Answe
       ((kept (listed e.answers) (begun_at e.moment (now_of h)) after e.event (done_by k (now_of h) e).reply (done_by k (now_of h) e).requests step (closed_begun k (now_of h) e.moment shut)).only n
       (subst (λ (rs : FinMap nat_cmp R). is_some (get rs n) ≡ true) records_then has))
 
-  -- an event that asks nothing of all puts with notification, and leaves as many in what is held with each
+  -- An event that asks nothing of all puts with notification, and leaves the counts of the set as
+  -- they were.
   module _ (lasts : Lasts k) (one_more : OneMore k) (moves : HoldersMove k) (alike : HeldAlike k) (ordinary : is_ordinary event ≡ true) (same : AreHeldAlike k (now_of h) after)
       (base : World R) (seen : List Note) (owned : List Key) (covers : Cover owned (now_of h)) (holds : Holds k (map_of k base seen) (now_of h)) where
     goes_on : (log : List Note) (desk call : ℕ) (own : List Key) → IsSound k base → Continues seen owned log → IsLegal k base log
@@ -214,18 +215,18 @@ module _ {R D : Type 0} (k : RecordRules R) (gives : D → Ask → ℕ → Answe
         (λ r s. has_left (key_of r) owned own (covers r s)) (no_cancel k (map_of k base log) (now_of h) event ordinary)
         (asks_nothing k (begun_at moment (now_of h)) (begun_at moment (map_of k base log)) event ordinary) (λ out. same)
 
-    -- any legal list goes on with it
+    -- The event may follow any legal list.
     pub may_follow : (done_entry : Entry) → e ≡ done_entry → MayFollow k base seen owned done_entry
     may_follow done_entry is = subst (λ (x : Entry). MayFollow k base seen owned x) is (λ log desk call own sound go legal. (goes_on log desk call own sound go legal).legal)
 
-    -- and what is held then is what the world has there
+    -- The set is held after the event.
     pub held_then : (done_entry : Entry) → e ≡ done_entry → (log longer : List Note) → Added k base seen owned done_entry log longer → Holds k (map_of k base longer) (now_of h')
     held_then done_entry is log longer added =
         let a = subst (λ (x : Entry). Added k base seen owned x log longer) (sym is) added in
         let known = (goes_on log a.desk a.call a.own a.sound a.goes_on a.legal).known in
         alike (map_of k base longer) after (now_of h') (subst (λ (l : List Note). Holds k (map_of k base l) after) (sym a.ends) known) records_then waiting_then
 
--- a get that what is held answers
+-- A get on a held set.
 module _ {R : Type 0} (k : RecordRules R) (lasts : Lasts k) (asks : Asks k) (base v : World R) (moment s : ℕ) (field : FieldNo) (reply : Reply)
     (answer : (answers : Answers) → reply ≡ (stepped k answers v (Get s field)).reply) (there : Has v s)
     (seen : List Note) (owned : List Key) (covers : Cover owned v) (holds : Holds k (map_of k base seen) v) where

@@ -1,4 +1,5 @@
--- Two held sets may become one: what is live on them, and what waits, is live in the world of all.
+-- Two held sets may be joined: their live puts with notification and waiting requests are live in
+-- the world of all records.
 use Rattle.std.proofs.Common.{◌≡◌, ◌≢◌, ℕ, zero, suc, ◌+◌, ◌≤◌, Bool, true, false, cond, not, eqb, nat_lt, List, [], ◌∷◌, ◌++◌, length, Option, None, refl, sym, ap, subst, ◌∙◌, ⊎_elim, arith}
 use Rattle.std.specs.Prelude.{IsSome, is_some, Contains}
 use Rattle.std.specs.FinMap.{get}
@@ -26,7 +27,7 @@ use Rattle.ioc_held.specs.LinkLaws.{SetsMayBeOne}
 not-there : {A : Type 0} (o : Option A) → o ≡ None → IsSome o → ⊥
 not-there {A} o none some = let h : false ≡ true = sym (ap (λ (p : Option A). is_some p) none) ∙ some in cc
 
--- ---- how often a number is in a list
+-- The number of occurrences of a number in a list.
 
 module _ {A : Type 0} (number : A → ℕ) where
   counted-append : (n : ℕ) (xs ys : List A) → how_many number n (xs ++ ys) ≡ how_many number n xs + how_many number n ys
@@ -57,7 +58,7 @@ module _ {A : Type 0} (number : A → ℕ) where
         | false ↦ λ _ rest. let i = counted-there n xs rest in (i.0, (suc i.1.0, omega (arith, i.1.1), i.1.2), i.2)
       ] refl some
 
-  -- two of one number are the same, where none is there twice
+  -- Two elements with the same number are equal if no number is in the list twice.
   once-same : (xs : List A) (x y : A) → Contains xs x → Contains xs y → number x ≡ number y → how_many number (number x) xs ≤ 1 → x ≡ y
   once-same [] x y (i, lt, is) there same once = absurd (omega (arith, lt))
   once-same (z ∷ zs) x y (zero, lt, is) (zero, within, so) same once = sym is ∙ so
@@ -71,7 +72,7 @@ module _ {A : Type 0} (number : A → ℕ) where
       let tail = counted-tail (number x) z zs in
       once-same zs x y (i, omega (arith, lt), is) (j, omega (arith, within), so) same (omega (arith, tail, once))
 
-  -- none of two lists is in both, and none twice in one: none is twice in both together
+  -- If two lists have no common number and none twice, their concatenation has none twice.
   append-once : (n : ℕ) (xs ys : List A) → ((x y : A) → Contains xs x → Contains ys y → number x ≢ number y) → how_many number n xs ≤ 1 → how_many number n ys ≤ 1 → how_many number n (xs ++ ys) ≤ 1
   append-once n xs ys apart one two =
       let all = counted-append n xs ys in
@@ -86,7 +87,7 @@ module _ {A : Type 0} (number : A → ℕ) where
         | false ↦ λ first. let none = ltb-false 0 (how_many number n xs) first in omega (arith, all, none, two)
       ] refl
 
--- ---- those that are live on either of two
+-- The puts with notification that are live on either of two sets.
 
 module _ (one : List Live) where
   abbrev number : Live → ℕ
@@ -131,11 +132,12 @@ module _ {R : Type 0} (D : Type 0) (k : RecordRules R) where
         let is : x ≡ y = once-same (λ (w : Waiting). w.number) m.waiting x y (waits-in-all (now_of before) holds x c) (waits-in-all (now_of other) others y d) same (sound.counted.counted.waits_once x.number) in
         not-there (get other.records x.target) (disjoint x.target (holds.within x c)) (subst (λ (w : Waiting). IsSome (get other.records w.target)) (sym is) (others.within y d))
 
-    -- what waits in one of them is live in all
+    -- A request that waits in one of the sets is part of a put with notification that is live among
+    -- all records.
     waits-live : (v : World R) → Holds k m v → (x : Waiting) → Contains v.waiting x → Contains (numbers m.live) x.number
     waits-live v h x c = number-there x.number m.live (is-held-live k m sound.counted x.number (has-waiting k m sound.counted x (waits-in-all v h x c)))
 
-    -- what is live on one of them is live in all
+    -- A put with notification that is live on one of the sets is live among all records.
     lives-in-all : (v : World R) → Holds k m v → IsCounted k v → (l : Live) → Contains v.live l → Contains (numbers m.live) l.number
     lives-in-all v h counted l c = number-there l.number m.live (held-live k m v h sound.counted counted l.number (entry-live v.live l c))
 

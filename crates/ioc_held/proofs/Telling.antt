@@ -1,4 +1,4 @@
--- What the keeper of the puts with notification may note that changes nothing.
+-- The events without effect that the owner of the key of the puts with notification may note.
 use Rattle.std.proofs.Common.{◌≡◌, ◌↔◌, ℕ, ◌<◌, Bool, true, false, cond, nat_lt, List, [], ◌∷◌, ◌++◌, refl, sym, ap, ◌∙◌, subst, arith}
 use Rattle.std.specs.Prelude.{IsTrue}
 use Rattle.std.proofs.lemmas.Bool.{ltb-true, lt-ltb}
@@ -26,7 +26,7 @@ use Rattle.ioc_journal.specs.Account.{journalled, MayFollow, Added, puts_key}
 use Rattle.ioc_held.specs.Puts.{told_at}
 use Rattle.ioc_held.proofs.Beside.{lines_are}
 
--- an entry, with these answers
+-- An entry with these answers.
 abbrev pub entry_with : ℕ → Event → Reply → List Answer → Entry
 entry_with moment event reply answers = record { moment = moment; event = event; answers = answers; reply = reply }
 
@@ -43,7 +43,7 @@ if_one : (a : ℕ) → 0 < a → 0 < cond (nat_lt 0 a) 1 0
 if_one a some = subst (λ (b : Bool). 0 < cond b 1 0) (sym (lt-ltb 0 a some)) (omega arith)
 
 module _ {R : Type 0} (k : RecordRules R) (live_lines : (ls : List Live) (n : ℕ) → IsTrue (is_live n ls) ↔ (0 < lines_of n ls)) where
-  -- one is live in a world that is counted where somebody has it
+  -- A put with notification is live in a counted world exactly if its count isn't zero.
   live_in : (w : World R) (n : ℕ) → IsCounted k w → (is_live n w.live ≡ true → 0 < holders_of n w.live) × (0 < holders_of n w.live → is_live n w.live ≡ true)
   live_in w n counted =
       let lines = lines_are n w.live in
@@ -53,7 +53,8 @@ module _ {R : Type 0} (k : RecordRules R) (live_lines : (ls : List Live) (n : �
         λ some. (live_lines w.live n).1 (let one = if_one (holders k w n) (omega (arith, some, all)) in omega (arith, one, lines, once)),
       )
 
-  -- and so it is in a table that tells how many have each
+  -- A put with notification is live in a table with the counts of a world exactly if it is live in
+  -- that world.
   pub same_live : (lines : List Live) (w : World R) (n : ℕ) → IsTable lines → ((ls : List Live) (m : ℕ) → IsTable ls → IsTrue (is_live m ls) ↔ (0 < holders_in m ls))
       → IsCounted k w → holders_in n lines ≡ holders_of n w.live → is_live n lines ≡ is_live n w.live
   same_live lines w n table held counted same =
@@ -78,7 +79,7 @@ module _ {R : Type 0} (k : RecordRules R) where
   unfolding begun begun_at
   live_begun m moment number = refl
 
-  -- those live where an event begins are those before it
+  -- The beginning of an event leaves the live puts with notification as they are.
   pub live_at : (m : World R) (moment number : ℕ) → is_live number m.live ≡ is_live number (begun_at moment m).live
   unfolding begun begun_at
   live_at m moment number = refl
@@ -87,7 +88,7 @@ module _ {R : Type 0} (k : RecordRules R) where
   unfolding begun begun_at
   none_called m moment = refl
 
-  -- a question, and a refusal, of a keeper: told of any legal list, it leaves the world as it was
+  -- A question or a refusal leaves the world after any legal list as it is.
   module _ (base : World R) (moment : ℕ) (event : Event) (reply : Reply) (seen : List Note)
       (comes : (log : List Note) → IsSound k base → Continues seen puts_key log → IsLegal k base log
       → (answers : Answers) → stepped k answers (begun_at moment (map_of k base log)) event ≡ record { world = begun_at moment (map_of k base log); reply = reply; requests = None }) where
@@ -122,7 +123,7 @@ module _ {R : Type 0} (k : RecordRules R) where
         let a = subst (λ (x : Entry). Added k base seen puts_key x log longer) (sym is) added in
         subst (λ (l : List Note). AreLiveAlike (map_of k base log) (map_of k base l)) (sym a.ends) (alike_then log a.desk a.call (puts_key ++ a.own) a.sound a.goes_on a.legal)
 
-  -- the question whether one is live
+  -- The question whether a put with notification is live.
   pub ask_comes : (answers : Answers) (w : World R) (number : ℕ) → stepped k answers w (IsLive number) ≡ record { world = w; reply = Live-reply (is_live number w.live); requests = None }
   unfolding stepped done_alone done_there
   ask_comes answers w number = refl
@@ -132,7 +133,7 @@ module _ {R : Type 0} (k : RecordRules R) where
   stale answers w number first true is = cc
   stale answers w number first false is = refl
 
-  -- giving up one that isn't live
+  -- Canceling a put with notification that isn't live.
   pub stale_comes : (answers : Answers) (w : World R) (number : ℕ) → is_live number w.live ≡ false → stepped k answers w (Cancel number) ≡ refused w Stale
   unfolding stepped done_alone done_there
   stale_comes answers w number none = stale answers w number _ (is_live number w.live) none

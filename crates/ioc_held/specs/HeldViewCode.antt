@@ -1,4 +1,4 @@
--- A held set, as a pair of its parts.
+-- The encoding of a journaled set as a pair of its parts.
 use Rattle.std.specs.Prelude.{List, refl}
 use Rattle.std.specs.Coded.{Coded, code_by, coded×, coded_list}
 use Rattle.ioc_line.specs.declared.entry.Note.{Note}

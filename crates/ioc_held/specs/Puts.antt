@@ -1,6 +1,6 @@
--- The puts with notification of all lock sets, in one table beside the journal.
--- Application Developer's Guide, "Put with Notification" (dbPutNotify): it is complete when all that it has reached is done. The table and its
--- place beside the journal are this project's own.
+-- The puts with notification of all lock sets, in one table beside the journal. Application
+-- Developer's Guide, "Put with Notification" (dbPutNotify): it is complete when all processing that
+-- it has caused is done. The table and its place beside the journal are this project's own.
 use Rattle.std.specs.Prelude.{◌≡◌, ◌⊎◌, ◌+◌, ◌-◌, ◌≤◌, ◌<◌, ◌^◌, ℕ, true, false, List, [], length, All}
 use Rattle.atomic_table.specs.Seated.{TableId}
 use Rattle.crossbeam_utils.specs.Seq.{cell_view}
@@ -21,8 +21,8 @@ use Rattle.ioc_line.specs.declared.room.View.{View}
 use Rattle.ioc_line.specs.Line.{holder}
 use Rattle.ioc_holding.specs.Legal.{map_of}
 
--- the puts with notification that are live, with how many have each; the number that was given last; and the beginning of the journal's list that
--- their keeper has seen
+-- The live puts with notification, each with its count, the last number assigned, and the beginning
+-- of the journal's list that their pass has seen.
 pub record PutsView : Type 0 where
   pub live : List Live
   pub last : ℕ
@@ -31,27 +31,30 @@ pub record PutsView : Type 0 where
 abbrev pub puts_view : List Live → ℕ → List Note → PutsView
 puts_view live last seen = record { live = live; last = last; seen = seen }
 
--- one more may begin, under the number after the last: fewer than 256 are live, and none has it
+-- Holds if a put with notification may begin under the number after the last: fewer than 256 are
+-- live, and none of them has this number.
 pub record CanBegin (p : PutsView) (number : ℕ) : Type 0 where
   pub after : number ≡ p.last + 1
   pub few : length p.live < 256
   pub free : is_live number p.live ≡ false
 
--- none may begin: 256 are live, the numbers are used up, or one has the next
+-- Holds if no put with notification may begin: 256 are live, no number is left, or a live one has
+-- the next number.
 abbrev pub NoneCanBegin : PutsView → Type 0
 NoneCanBegin p = (256 ≤ length p.live) ⊎ ((p.last ≡ 2 ^ 64 - 1) ⊎ (is_live (p.last + 1) p.live ≡ true))
 
--- no put with notification began under a higher number than this
+-- Holds if no put with notification began under a number above this one.
 abbrev pub NoneIsAbove : ℕ → List Note → Type 0
 NoneIsAbove last seen = All (λ number. number ≤ last) (numbers_given (calls seen))
 
 module _ {R : Type 0} (k : RecordRules R) (base : World R) where
-  -- as many have each in the world of all, after these notes, as the lines say
+  -- Holds if the counts of the lines are those of the world of all records after these notes.
   abbrev pub AreCounted : List Live → List Note → Type 0
   AreCounted live seen = (n : ℕ) → holders_in n live ≡ holders_of n (map_of k base seen).live
 
-  -- the keeper owns the key of the puts with notification, and its table counts all; none began under a higher number than the last; there is
-  -- room for what a set has besides
+  -- The invariant of the table: the pass owns the key of the puts with notification, the table has
+  -- the counts of all, none began under a number above the last, and there is room for the lines of
+  -- a set.
   pub record AreKept (table : TableId) (pass : Pass) (t : Table) (last : ℕ) : Type 0 where
     pub same : pass.table_id ≡ table
     pub holds : cell_view {V = View} pass ≡ holder (cell_view {V = View} pass).seen puts_key
@@ -60,27 +63,30 @@ module _ {R : Type 0} (k : RecordRules R) (base : World R) where
     pub few : length t.live ≤ 256
     pub room : 512 ≤ t.room
 
-  -- from the world of all after some notes to that after more, how many have each changes as from the lines of a set to those that it has then; no
-  -- more have any among those of the set than among all; and at most 256 are live then
+  -- Holds if, from `log` to `longer`, the counts in the world of all records change as the lines of
+  -- a set do from `before` to `after`, the counts of the set were at most those of all, and at most
+  -- 256 puts with notification are live afterwards.
   pub record AreMoved (log longer : List Note) (before after : List Live) : Type 0 where
     pub moved : (n : ℕ) → holders_of n (map_of k base longer).live + holders_in n before ≡ holders_of n (map_of k base log).live + holders_in n after
     pub fewer : (n : ℕ) → holders_in n before ≤ holders_of n (map_of k base log).live
     pub fits : (n : ℕ) → holders_of n (map_of k base longer).live ≤ 2 ^ 63
     pub few : length (map_of k base longer).live ≤ 256
 
--- what the journal keeps of a question or of a refusal: no device is asked
+-- The journal's entry of a question or of a refusal, in which no device answers.
 abbrev pub told_at : (moment : ℕ) → Event → Reply → Entry
 told_at moment event reply = record { moment = moment; event = event; answers = []; reply = reply }
 
 module _ {R : Type 0} (k : RecordRules R) (base : World R) (puts : PutsView) (desk : DeskView) (moment number : ℕ) (reply : Reply) (puts_then : PutsView) (desk_then : DeskView) where
-  -- it was asked whether a put with notification is live: so it is where it is in the table. The question stands at the end of the legal list that
-  -- the desk and the keeper have seen then, and nothing else has changed
+  -- A desk asks whether a put with notification is live, which it is if the table has it. The
+  -- question is the last call of the legal list that desk and table have seen afterwards, and
+  -- nothing else has changed.
   pub record WasAsked : Type 0 where
     pub answer : reply ≡ Live-reply (is_live number puts.live)
     pub call : Call k base desk (told_at moment (IsLive number) reply) desk_then
     pub kept : puts_then ≡ puts_view puts.live puts.last desk_then.seen
 
-  -- a put with notification wasn't given up, since it isn't live. The refusal stands at the end of that list, and nothing else has changed
+  -- A put with notification isn't canceled because it isn't live. The refusal is the last call of
+  -- that list, and nothing else has changed.
   pub record WasStale : Type 0 where
     pub none : is_live number puts.live ≡ false
     pub answer : reply ≡ Refused Stale

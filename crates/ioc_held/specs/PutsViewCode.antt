@@ -1,4 +1,4 @@
--- The puts with notification, as a tuple of their parts.
+-- The encoding of the puts with notification as a tuple of their parts.
 use Rattle.std.specs.Prelude.{ℕ, List, refl}
 use Rattle.std.specs.Coded.{Coded, code_by, coded×, coded_list, coded_ℕ}
 use Rattle.ioc_notify.specs.declared.live_numbers.Live.{Live}

@@ -1,4 +1,4 @@
-//! Calls about puts with notification that concern no set.
+//! Calls that concern puts with notification but no set.
 ghost use Rattle.std.specs.Prelude.{◌≡◌, ◌∷◌, false, List, None, IfOk, IfErr, OnErr};
 ghost use Rattle.ioc_events.specs.declared.event.Event.TheVariants.{Cancel, IsLive};
 ghost use Rattle.ioc_notify.specs.Living.{is_live};
@@ -20,14 +20,14 @@ use std::alloc::Global;
 use std::sync::Wait;
 
 impl<K: RecordKind, B: Base<K>> AllPuts<K, B> {
-    /// Is the put with notification of this number live?
+    /// Returns whether the put with notification with this number is live.
     pub fn is_live(&self, number: NotifyId) -> bool
         ensures { result ≡ is_live number self.now.live }
     {
         self.table.is_live(number)
     }
 
-    // Keeps in the journal what leaves all puts with notification as they are.
+    // Adds an event to the journal that leaves all puts with notification as they are.
     fn keep_told<R: Wait>(
         &mut self,
         rt: &R,
@@ -47,11 +47,12 @@ impl<K: RecordKind, B: Base<K>> AllPuts<K, B> {
         book.append(rt, place, &mut self.pass, desk, entry)
     }
 
-    /// Answers whether a put with notification is live; the journal keeps the question.
+    /// Replies whether a put with notification is live, and adds the question to the journal.
     ///
     /// # Errors
     ///
-    /// [`IocError::JournalFull`] where the journal has no place left, and [`IocError::NoMemory`] where memory is wanting: nothing has changed then.
+    /// [`IocError::JournalFull`] if the journal has no place left. [`IocError::NoMemory`] if
+    /// allocation fails. Nothing has changed then.
     pub fn ask<R: Wait>(
         &mut self,
         rt: &R,
@@ -82,11 +83,13 @@ impl<K: RecordKind, B: Base<K>> AllPuts<K, B> {
         Ok((Reply::Live(is_live), receipt))
     }
 
-    /// Refuses to give up a put with notification that isn't live; the journal keeps the refusal.
+    /// Refuses to cancel a put with notification that isn't live, and adds the refusal to the
+    /// journal.
     ///
     /// # Errors
     ///
-    /// [`IocError::JournalFull`] where the journal has no place left, and [`IocError::NoMemory`] where memory is wanting: nothing has changed then.
+    /// [`IocError::JournalFull`] if the journal has no place left. [`IocError::NoMemory`] if
+    /// allocation fails. Nothing has changed then.
     pub fn refuse_cancel<R: Wait>(
         &mut self,
         rt: &R,

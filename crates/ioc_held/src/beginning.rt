@@ -1,4 +1,4 @@
-//! Puts with notification on held sets.
+//! Puts with notification on journaled sets.
 ghost use Rattle.std.specs.Prelude.{◌≡◌, ◌⊎◌, ℕ, None, IfOk, IfErr, OnOk, OnErr, Contains};
 ghost use Rattle.ioc_values.specs.declared.error.IocError.TheVariants.{QueueFull};
 ghost use Rattle.ioc_events.specs.declared.event.Event.TheVariants.{Put, Notify};
@@ -31,7 +31,7 @@ use std::alloc::Global;
 use std::sync::{Mutex, Wait};
 
 impl<K: RecordKind + Drop, B: Base<K>, D: Device> Held<K, B, D> {
-    // Does a put with notification on the set, under a number that may begin.
+    // Makes a put with notification on the set, under a number that may begin.
     fn begin_counted<R: Wait>(
         &mut self,
         rt: &R,
@@ -96,15 +96,18 @@ impl<K: RecordKind + Drop, B: Base<K>, D: Device> Held<K, B, D> {
         Ok((reply, receipt))
     }
 
-    /// Puts a value into a field as [`Held::put`] does, with a notification, and keeps that in the journal: the put ends when all that it has
-    /// caused is done. Its number is the one after the last that was given, and is in the reply. While it is done no other put with notification
-    /// begins.
+    /// Puts a value into a field as [`Held::put`] does, with a notification, and adds the call to
+    /// the journal. The put with notification ends when all that it has caused is done. Its number
+    /// is in the reply and is one more than the last number assigned. No other put with
+    /// notification begins during the call.
     ///
     /// # Errors
     ///
-    /// [`IocError::NoField`] where the record has no such field, [`IocError::NoMod`] where it can't be put, [`IocError::QueueFull`] where 256 are
-    /// live or the numbers are used up, [`IocError::JournalFull`] where the journal has no place left, and [`IocError::NoMemory`] where memory is
-    /// wanting: nothing has changed then. Any other refusal is a reply, which the journal keeps too.
+    /// [`IocError::NoField`] if the record has no such field, [`IocError::NoMod`] if the field
+    /// can't be put, [`IocError::QueueFull`] if 256 puts with notification are live or no number is
+    /// left, [`IocError::JournalFull`] if the journal has no place left, and [`IocError::NoMemory`]
+    /// if allocation fails. Nothing has changed then. Any other refusal is a reply, which is added
+    /// to the journal too.
     #[tactic(auto, unfolding(ioc_set::specs::NoCalls::no_call))]
     pub fn put_notify<R: Wait>(
         &mut self,

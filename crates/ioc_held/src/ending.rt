@@ -1,4 +1,4 @@
-//! What a set's holder learns and tells at the end.
+//! What a journaled set knows and reports when the engine ends.
 ghost use Rattle.std.specs.Prelude.{◌≡◌, ℕ, IsSome};
 ghost use Rattle.ioc_events.specs.declared.event.Event.TheVariants.{Get};
 ghost use Rattle.ioc_events.specs.Step.{stepped};
@@ -20,26 +20,28 @@ use ioc_record::RecordKind;
 use std::sync::Wait;
 
 impl<K: RecordKind, B: Base<K>, D> Held<K, B, D> {
-    /// The counts of the set's requests, and of answers that come later.
+    /// Returns the counts of the set's requests, and of asynchronous answers.
     pub fn tally(&self) -> Tally
         ensures { result ≡ self.now.set.tally }
     {
         self.set.tally()
     }
 
-    /// The text of a field of one of the set's records, which no journal keeps.
+    /// Returns the text of a field of one of the set's records, without adding the call to the
+    /// journal.
     ///
     /// # Errors
     ///
-    /// The reply is a refusal, [`ioc_values::IocError::NoRecord`] or [`ioc_values::IocError::NoField`] in this order, where there is no such record or
-    /// field.
+    /// The reply is a refusal if there is no such record or field:
+    /// [`ioc_values::IocError::NoRecord`] or [`ioc_values::IocError::NoField`], in this order.
     pub fn text(&self, number: RecordNo, field: FieldNo) -> Reply
         ensures { (answers : Answers) → result ≡ (stepped K.rules answers (now_of self.now.set) (Get number field)).reply }
     {
         self.set.get(number, field)
     }
 
-    /// The holder learns the whole list: it leads to records that are, of this set's numbers, those of this set.
+    /// Moves the set on to the whole list of the journal. At the set's numbers, the list leads to
+    /// the records of this set.
     pub fn learn_all<R: Wait>(&mut self, rt: &R, cell: &Cell, journal: &mut Journal<K, B>)
         requires table { cell.now.table.shared.table_id ≡ B.table }
         ensures set { self.new.set ≡ self.old.set }

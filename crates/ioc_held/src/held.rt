@@ -1,4 +1,4 @@
-//! Sets that are held.
+//! Sets whose events are added to the journal.
 ghost use Rattle.std.specs.Prelude.{◌≡◌, ℕ, true, None, Some, IfOk, IfErr, OnOk, OnErr, Contains};
 ghost use Rattle.crossbeam_utils.specs.Seq.{cell_view};
 ghost use Rattle.ioc_events.specs.declared.event.Event.TheVariants.{Get, Process, Put, Complete};
@@ -36,8 +36,9 @@ use std::alloc::Global;
 use std::marker::{Model, PhantomData};
 use std::sync::{Mutex, Wait};
 
-/// A set, and the pass that owns the keys of its records; a set of no records needs none. Contracts see what the set holds, and the beginning
-/// of the journal's list that its holder has seen: what the set holds is what the world of all records has there.
+/// A set, and the pass that owns the keys of its records; a set without records needs none.
+/// Contracts see the set, and the beginning of the journal's list that the pass has seen: the set
+/// is equal to the world of all records at its own records.
 #[derive(Drop)]
 pub struct Held<K: RecordKind, B: Base<K>, D> {
     pub set: LockSet<K, D>,
@@ -61,7 +62,8 @@ impl<K: RecordKind, B: Base<K>, D> Model for Held<K, B, D> {
 }
 
 impl<K: RecordKind, B: Base<K>, D> Held<K, B, D> {
-    /// A set, whose holder knows that the world has its records, and which of these have a device.
+    /// A set with the pass of its records. The world has the set's records and the same devices for
+    /// them.
     pub fn new(set: LockSet<K, D>, pass: Token) -> Self
         requires owner { IsOwner B.table pass.table_id (cell_view pass) (now_of set) }
         requires holds { Holds K.rules (map_of K.rules B.base (cell_view pass).seen) (now_of set) }
@@ -75,14 +77,15 @@ impl<K: RecordKind, B: Base<K>, D> Held<K, B, D> {
         }
     }
 
-    /// Each of its records has its device: where it had one at the load, it has one, and else it has none.
+    /// States that exactly those of its records have a device that had one at the load.
     pub fn keeps_devices(&self)
         ensures { KeepsDevices B.had_device self.now.set }
     {
         let _ = &self.set;
     }
 
-    /// The set, and the pass that owns the keys of its records; a set of no records that has none gets one.
+    /// Returns the set and the pass that owns the keys of its records. A set without records and
+    /// pass gets a pass.
     pub fn into_parts(self, cell: &Cell, keeper: &mut Token) -> (LockSet<K, D>, Token)
         requires table { (keeper.old.table_id ≡ B.table) × (cell.now.table.shared.table_id ≡ B.table) }
         ensures keeper { (keeper.new.table_id ≡ keeper.old.table_id) × (cell_view keeper.new ≡ cell_view keeper.old) }
@@ -102,7 +105,7 @@ impl<K: RecordKind, B: Base<K>, D> Held<K, B, D> {
 }
 
 impl<K: RecordKind + Drop, B: Base<K>, D: Device> Held<K, B, D> {
-    /// Is the put with notification of this number live on the set?
+    /// Returns whether the put with notification with this number is live on the set.
     pub fn has_live(&self, number: NotifyId) -> bool
         ensures { result ≡ is_live number self.now.set.live }
     {
@@ -112,7 +115,8 @@ impl<K: RecordKind + Drop, B: Base<K>, D: Device> Held<K, B, D> {
             .any(|live| live.number == number)
     }
 
-    // A question or a put that names no field of its record, or one that can't be put, is no call.
+    // Refuses a get or a put that names no field of its record, and a put to a field that can't be
+    // put. Such a call isn't added to the journal.
     #[inline(always)]
     pub(crate) fn test_call(&self, event: &Event) -> Result<(), IocError>
         requires there { (n : ℕ) → Contains (names event.now) n → Contains (numbers_of self.now) n }
@@ -125,7 +129,7 @@ impl<K: RecordKind + Drop, B: Base<K>, D: Device> Held<K, B, D> {
         }
     }
 
-    // Does a request, a put or a completion on the set, on which no put with notification is live.
+    // Performs a request, a put or a completion on a set on which no put with notification is live.
     #[inline(always)]
     fn serve_alone<R: Wait>(
         &mut self,
@@ -178,8 +182,8 @@ impl<K: RecordKind + Drop, B: Base<K>, D: Device> Held<K, B, D> {
         Ok((*answer, receipt))
     }
 
-    // Does a request, a put or a completion on the set, on which puts with notification are live: all are counted anew with it. This isn't inlined, since
-    // such sets are few.
+    // Performs a request, a put or a completion on a set on which puts with notification are live:
+    // the counts of all are updated with it. Not inlined, because such sets are rare.
     #[inline(never)]
     fn serve_counted<R: Wait>(
         &mut self,
@@ -232,13 +236,14 @@ impl<K: RecordKind + Drop, B: Base<K>, D: Device> Held<K, B, D> {
         Ok((reply, receipt))
     }
 
-    /// Does a request, a put or a completion on the set, and keeps it in the journal.
+    /// Performs a request, a put or a completion on the set, and adds it to the journal.
     ///
     /// # Errors
     ///
-    /// [`IocError::NoField`] or [`IocError::NoMod`] where a put names a field that the record hasn't or that can't be put,
-    /// [`IocError::JournalFull`] where the journal has no place left, and [`IocError::NoMemory`] where memory is wanting: nothing has changed then.
-    /// Any other refusal is a reply, which the journal keeps too.
+    /// [`IocError::NoField`] or [`IocError::NoMod`] for a put if the record has no such field or
+    /// the field can't be put, [`IocError::JournalFull`] if the journal has no place left, and
+    /// [`IocError::NoMemory`] if allocation fails. Nothing has changed then. Any other refusal is a
+    /// reply, which is added to the journal too.
     #[inline(always)]
     pub fn serve<R: Wait>(
         &mut self,
@@ -265,11 +270,12 @@ impl<K: RecordKind + Drop, B: Base<K>, D: Device> Held<K, B, D> {
         self.serve_counted(rt, alloc, book, puts, desk, workplace, event, moment)
     }
 
-    /// Requests a record, and keeps it in the journal.
+    /// Requests a record, and adds the call to the journal.
     ///
     /// # Errors
     ///
-    /// [`IocError::JournalFull`] where the journal has no place left, and [`IocError::NoMemory`] where memory is wanting: nothing has changed then.
+    /// [`IocError::JournalFull`] if the journal has no place left. [`IocError::NoMemory`] if
+    /// allocation fails. Nothing has changed then.
     pub fn request<R: Wait>(
         &mut self,
         rt: &R,
@@ -291,13 +297,14 @@ impl<K: RecordKind + Drop, B: Base<K>, D: Device> Held<K, B, D> {
         self.serve(rt, alloc, book, puts, desk, workplace, &event, moment)
     }
 
-    /// Puts a value into a field, as [`LockSet::put`] does, and keeps it in the journal.
+    /// Puts a value into a field as [`LockSet::put`] does, and adds the call to the journal.
     ///
     /// # Errors
     ///
-    /// [`IocError::NoField`] where the record has no such field, [`IocError::NoMod`] where it can't be put, [`IocError::JournalFull`] where the
-    /// journal has no place left, and [`IocError::NoMemory`] where memory is wanting: nothing has changed then. Any other refusal is a reply,
-    /// which the journal keeps too.
+    /// [`IocError::NoField`] if the record has no such field, [`IocError::NoMod`] if the field
+    /// can't be put, [`IocError::JournalFull`] if the journal has no place left, and
+    /// [`IocError::NoMemory`] if allocation fails. Nothing has changed then. Any other refusal is a
+    /// reply, which is added to the journal too.
     pub fn put<R: Wait>(
         &mut self,
         rt: &R,
@@ -321,12 +328,14 @@ impl<K: RecordKind + Drop, B: Base<K>, D: Device> Held<K, B, D> {
         self.serve(rt, alloc, book, puts, desk, workplace, &event, moment)
     }
 
-    /// The device of a record has answered at last, as for [`LockSet::complete`]; the journal keeps it.
+    /// Completes a record with the answer of its device as [`LockSet::complete`] does, and adds the
+    /// call to the journal.
     ///
     /// # Errors
     ///
-    /// [`IocError::JournalFull`] where the journal has no place left, and [`IocError::NoMemory`] where memory is wanting: nothing has changed then.
-    /// A refusal is a reply, which the journal keeps too.
+    /// [`IocError::JournalFull`] if the journal has no place left. [`IocError::NoMemory`] if
+    /// allocation fails. Nothing has changed then. A refusal is a reply, which is added to the
+    /// journal too.
     pub fn complete<R: Wait>(
         &mut self,
         rt: &R,
@@ -350,12 +359,14 @@ impl<K: RecordKind + Drop, B: Base<K>, D: Device> Held<K, B, D> {
         self.serve(rt, alloc, book, puts, desk, workplace, &event, moment)
     }
 
-    /// The text of a field, kept in the journal with its moment. It changes nothing in the set.
+    /// Returns the text of a field, and adds the call to the journal with its time stamp. The set
+    /// stays as it is.
     ///
     /// # Errors
     ///
-    /// [`IocError::NoField`] where the record has no such field, [`IocError::JournalFull`] where the journal has no place left, and
-    /// [`IocError::NoMemory`] where memory is wanting: nothing has changed then.
+    /// [`IocError::NoField`] if the record has no such field, [`IocError::JournalFull`] if the
+    /// journal has no place left, and [`IocError::NoMemory`] if allocation fails. Nothing has
+    /// changed then.
     pub fn get<R: Wait>(
         &mut self,
         rt: &R,

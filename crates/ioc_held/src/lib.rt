@@ -1,7 +1,8 @@
-//! What lies under the lock of a set: the set, and what its holder knows of the journal.
+//! What is kept under the lock of a set: the set, and what its pass has seen of the journal.
 //!
-//! Each event on a set is kept in the journal while the set's lock is held. So all that was done on all sets stands in one list, by which an
-//! engine with all records in one map could have done it, with the same replies.
+//! Each event on a set is added to the journal while the set's lock is held. The events of all sets
+//! therefore form one list, which is a possible run of an engine with all records in one map, with
+//! the same replies.
 #![tactic(auto)]
 
 mod asking;

@@ -1,4 +1,4 @@
-//! Link changes of held sets, kept in the journal.
+//! Link changes of journaled sets.
 ghost use Rattle.std.specs.Prelude.{◌≡◌, ◌++◌, ◌∷◌, ℕ, List, [], None, true, false, IsSome, IfOk, IfErr, OnErr, Contains};
 ghost use Rattle.std.specs.FinMap.{get};
 ghost use Rattle.crossbeam_utils.specs.Seq.{cell_view};
@@ -36,7 +36,8 @@ use std::alloc::Global;
 use std::marker::{Brand, PhantomData};
 use std::sync::Wait;
 
-// Keeps a link change in the journal, and deals the keys of its records to the passes of the two sets that it has left.
+// Adds a link change to the journal, and assigns the keys of the records to the passes of the two
+// sets after it.
 fn keep_change<P: Keys, K: RecordKind, B: Base<K>, D, R: Wait>(
     rt: &R,
     alloc: Global,
@@ -77,14 +78,15 @@ fn keep_change<P: Keys, K: RecordKind, B: Base<K>, D, R: Wait>(
 }
 
 impl<K: RecordKind + Drop, B: Base<K>, D: Device> Held<K, B, D> {
-    /// Changes a link of a record, which leads nowhere then, or to a record of this set, and keeps that in the journal. The set keeps the
-    /// record's part, and the records that no link joins to it any more come back as a held set of their own, which may have none. Puts with
-    /// notification that are live go with their records, as [`LockSet::part`] says. `link` and `twin` are alike.
+    /// Changes a link of a record to a record of this set, or to none, and adds the change to the
+    /// journal. The set keeps the record's part, and the records that no link connects with it any
+    /// more are returned as a journaled set of their own, which may be without records. Live puts
+    /// with notification go with their records; see [`LockSet::part`]. `link` and `twin` are equal.
     ///
     /// # Errors
     ///
-    /// [`IocError::JournalFull`] where the journal has no place left, and [`IocError::NoMemory`] where memory is wanting: nothing has changed then,
-    /// but that the history may be forgotten.
+    /// [`IocError::JournalFull`] if the journal has no place left. [`IocError::NoMemory`] if
+    /// allocation fails. Nothing has changed then, except that the history may be forgotten.
     pub fn part<R: Wait>(
         &mut self,
         rt: &R,
@@ -144,7 +146,8 @@ impl<K: RecordKind + Drop, B: Base<K>, D: Device> Held<K, B, D> {
         Ok((rest, receipt))
     }
 
-    // No record is in both of two held sets, of which each has one, and they may become one. Both holders know the same list then.
+    // Compares two journaled sets with records: they have no record in common and may be joined.
+    // Afterwards both have seen the same list.
     fn compare<R: Wait>(&mut self, rt: &R, book: &Book<K, B>, other: &mut Held<K, B, D>)
         requires one { (n : ℕ) × IsSome (get self.old.set.records n) }
         requires other { (n : ℕ) × IsSome (get other.old.set.records n) }
@@ -168,14 +171,16 @@ impl<K: RecordKind + Drop, B: Base<K>, D: Device> Held<K, B, D> {
         other.pass = Some(beside);
     }
 
-    /// Leads a link of a record of this set to a record of another, which it takes over, and keeps that in the journal. The records of this set
-    /// that the link alone had joined to that record come back as a held set of their own, which may have none; the other has nothing then.
-    /// Puts with notification that are live go with their records, as [`LockSet::lead_into`] says. `link` and `twin` are alike.
+    /// Changes a link of a record of this set to a record of another set, takes over the records of
+    /// that set, and adds the change to the journal. The records of this set that only the old link
+    /// connected with the record are returned as a journaled set of their own, which may be without
+    /// records; the other set is left without records. Live puts with notification go with their
+    /// records; see [`LockSet::lead_into`]. `link` and `twin` are equal.
     ///
     /// # Errors
     ///
-    /// [`IocError::JournalFull`] where the journal has no place left, and [`IocError::NoMemory`] where memory is wanting: nothing has changed then,
-    /// but that the history may be forgotten.
+    /// [`IocError::JournalFull`] if the journal has no place left. [`IocError::NoMemory`] if
+    /// allocation fails. Nothing has changed then, except that the history may be forgotten.
     pub fn lead_into<R: Wait>(
         &mut self,
         rt: &R,
@@ -256,11 +261,13 @@ impl<K: RecordKind + Drop, B: Base<K>, D: Device> Held<K, B, D> {
         Ok((rest, receipt))
     }
 
-    /// Refuses a link change that DISP forbids, and keeps that in the journal. It changes nothing in the set.
+    /// Refuses a link change that DISP forbids, and adds the refusal to the journal. The set stays
+    /// as it is.
     ///
     /// # Errors
     ///
-    /// [`IocError::JournalFull`] where the journal has no place left, and [`IocError::NoMemory`] where memory is wanting: nothing has changed then.
+    /// [`IocError::JournalFull`] if the journal has no place left. [`IocError::NoMemory`] if
+    /// allocation fails. Nothing has changed then.
     pub fn refuse_link<R: Wait>(
         &mut self,
         rt: &R,

@@ -1,4 +1,4 @@
-//! Held sets under the locks of a directory.
+//! Journaled sets under the locks of a directory.
 use crate::held::Held;
 use ioc_journal::Base;
 use ioc_names::RecordNo;

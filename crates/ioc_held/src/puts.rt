@@ -22,9 +22,10 @@ use std::alloc::{AllocError, Global};
 use std::marker::{Brand, Model, PhantomData};
 use std::sync::Wait;
 
-/// The puts with notification that are live, each with how many records and waiting lists of all sets have it, and the pass that owns their key.
-/// Contracts see the lines, the number that was given last, and the beginning of the journal's list that the keeper has seen: the lines are
-/// what is live in the world of all then.
+/// The live puts with notification, each with the number of records and waiting lists of all sets
+/// that are part of it, and the pass that owns their key. Contracts see the lines of the table, the
+/// last number assigned, and the beginning of the journal's list that the pass has seen. The lines
+/// are the live puts with notification of the world of all records after that list.
 #[derive(Drop)]
 pub struct AllPuts<K: RecordKind, B: Base<K>> {
     pub table: PutTable,
@@ -51,11 +52,12 @@ impl<K: RecordKind, B: Base<K>> Model for AllPuts<K, B> {
 }
 
 impl<K: RecordKind, B: Base<K>> AllPuts<K, B> {
-    /// None is live, and none was given a number. The pass owns the key of the puts with notification, and has seen no call.
+    /// An empty table: no put with notification is live, and no number is assigned. The pass owns
+    /// the key of the puts with notification, and has seen no call.
     ///
     /// # Errors
     ///
-    /// [`AllocError`] where memory is wanting.
+    /// [`AllocError`] if allocation fails.
     pub fn new(alloc: Global, pass: Token) -> Result<Self, AllocError>
         requires table { pass.table_id ≡ B.table }
         requires holds { cell_view pass ≡ holder [] puts_key }
@@ -73,8 +75,8 @@ impl<K: RecordKind, B: Base<K>> AllPuts<K, B> {
         })
     }
 
-    /// What is always true of it: each is live once, the lines tell how many have it in the world of all, and none began under a higher number than
-    /// the last.
+    /// States the invariant: each put with notification has one line with its count in the world of
+    /// all records, and none began under a number above the last one assigned.
     pub fn is_counted(&self)
         ensures table { IsTable self.now.live }
         ensures counted { AreCounted K.rules B.base self.now.live self.now.seen }
@@ -83,7 +85,7 @@ impl<K: RecordKind, B: Base<K>> AllPuts<K, B> {
         self.table.is_table();
     }
 
-    /// The number under which the next may begin; none where none may.
+    /// Returns the number of the next put with notification, or `None` if none may begin.
     pub fn next_number(&self) -> Option<NotifyId>
         ensures next { IfSome result (λ n. CanBegin self.now n) }
         ensures full { IfNone result (NoneCanBegin self.now) }
@@ -100,7 +102,8 @@ impl<K: RecordKind, B: Base<K>> AllPuts<K, B> {
     }
 }
 
-// What a set had is taken off the table, and what it has then is added.
+// Subtracts the counts that a set had before an event from the table, and adds those that it has
+// after it.
 fn count_anew(table: &mut PutTable, before: &[Live], after: &[Live])
     requires there { (n : ℕ) → holders_in n before.now ≤ holders_in n table.old.live }
     requires fits { (n : ℕ) → holders_in n table.old.live + holders_in n after.now < 2 ^ 64 + holders_in n before.now }
@@ -114,8 +117,9 @@ fn count_anew(table: &mut PutTable, before: &[Live], after: &[Live])
     table.add_on(after);
 }
 
-/// Keeps an event that was done on a set in the journal, with the keys of the set's records and that of the puts with notification, and counts in
-/// the table what the set has then in the place of what it had. The number that was given last is told.
+/// Adds an event that was done on a set to the journal, with the keys of the set's records and the
+/// key of the puts with notification, and updates the table by the set's counts before and after
+/// it. `last` becomes the last number assigned.
 pub(crate) fn keep_beside<K: RecordKind, B: Base<K>, D, R: Wait>(
     rt: &R,
     book: &Book<K, B>,

@@ -1,4 +1,4 @@
-//! The event of a call.
+//! Performs the event of a call on a set.
 ghost use Rattle.std.specs.Prelude.{◌≡◌, true, IfOk, IfErr, OnErr};
 ghost use Rattle.ioc_store.specs.Given.{answers_of};
 ghost use Rattle.ioc_events.specs.Told.{told_by};
@@ -19,17 +19,18 @@ use std::alloc::{AllocError, Global};
 use std::mem;
 use std::sync::Wait;
 
-/// What an event has come to that was done on a set with live puts with notification, and isn't in the journal yet. Its place has to be filled.
+/// The result of an event that was done on a set with live puts with notification, and isn't in the
+/// journal yet. Its place has to be filled.
 pub(crate) struct Ran<K: RecordKind, B: Base<K>> {
-    /// The place that is held for it.
+    /// The held place of the event.
     pub place: Place<K, B>,
-    /// The puts with notification that were live on the set.
+    /// The puts with notification that were live on the set before the event.
     pub before: Vec<Live>,
     pub reply: Reply,
     pub entry: Entry,
 }
 
-// Does an event on a set; where memory is wanting, nothing has changed.
+// Performs an event on a set. If allocation fails, nothing has changed.
 #[inline(always)]
 fn do_in<K: RecordKind + Drop, D: Device>(
     set: &mut LockSet<K, D>,
@@ -58,11 +59,12 @@ fn do_in<K: RecordKind + Drop, D: Device>(
     }
 }
 
-/// Does an event on a set: the reply, and what devices answered, in room of its own size.
+/// Performs an event on a set, and returns the reply and the answers of devices, in memory of their
+/// own size.
 ///
 /// # Errors
 ///
-/// [`AllocError`] where memory is wanting: nothing has changed then.
+/// [`AllocError`] if allocation fails; nothing has changed then.
 #[inline(always)]
 pub(crate) fn run_in<K: RecordKind + Drop, D: Device>(
     set: &mut LockSet<K, D>,
@@ -76,7 +78,8 @@ pub(crate) fn run_in<K: RecordKind + Drop, D: Device>(
     ensures answers { IfOk result (λ done. done.1 ≡ answers_of (world_of workplace.new.store).calls) }
     ensures err { OnErr result (set.new ≡ set.old) }
 {
-    // Taken before anything is done: after that nothing may be refused. It is kept for the next event.
+    // Reserved before the event, because nothing may be refused after it, and kept for the next
+    // one.
     let mut spare = mem::replace(&mut workplace.journal_spare, Vec::new(alloc));
     spare.reserve(256)?;
     let told = do_in(set, workplace, alloc, event, moment)?;
@@ -85,11 +88,13 @@ pub(crate) fn run_in<K: RecordKind + Drop, D: Device>(
     Ok((told.reply(), answers))
 }
 
-/// Holds a place in the journal for an event, and does it on a set, whose live puts with notification are told as they were.
+/// Reserves a place in the journal for an event, and performs the event on a set. The result has
+/// the set's live puts with notification before the event.
 ///
 /// # Errors
 ///
-/// [`IocError::JournalFull`] where the journal has no place left, and [`IocError::NoMemory`] where memory is wanting: nothing has changed then.
+/// [`IocError::JournalFull`] if the journal has no place left. [`IocError::NoMemory`] if allocation
+/// fails. Nothing has changed then.
 pub(crate) fn run_counted<K: RecordKind + Drop, B: Base<K>, D: Device, R: Wait>(
     rt: &R,
     alloc: Global,

@@ -1,4 +1,4 @@
--- A get and a question change nothing.
+-- A get, and the question whether a put with notification is live, change nothing.
 use Rattle.std.proofs.Common.{◌≡◌, ℕ, Bool, true, false, cond, List, [], ◌∷◌, ◌++◌, refl, sym, ap, ◌∙◌}
 use Rattle.std.specs.Prelude.{is_some}
 use Rattle.std.specs.FinMap.{contains_key}
@@ -25,7 +25,7 @@ use Rattle.ioc_holding.proofs.Doing.{one-more}
 use Rattle.ioc_holding.proofs.Linking.{held-alike}
 
 module _ {R : Type 0} (k : RecordRules R) where
-  -- what a get comes to, by whether the record is there and the field
+  -- The result of a get, by whether the record and the field exist.
   abbrev gets : R → FieldNo → Bool → Bool → World R → Stepped R
   gets r field there has w = cond {A = Stepped R} there (cond {A = Stepped R} has (record { world = w; reply = Shown (text_of k r field); requests = None }) (refused w NoField)) (refused w NoRecord)
 
@@ -50,7 +50,7 @@ module _ {R : Type 0} (k : RecordRules R) where
   question-world answers w (Notify s number field given) is = cc
   question-world answers w (Cancel number) is = cc
 
-  -- it is answered alike at any moment
+  -- The reply to an event that changes nothing doesn't depend on the time stamp.
   question-reply : (answers others : Answers) (moment : ℕ) (w : World R) (event : Event) → is_question event ≡ true → (stepped k answers (begun_at moment w) event).reply ≡ (stepped k others w event).reply
   unfolding at begun begun_at stepped done_alone done_there
   question-reply answers others moment w (Get s field) is =
@@ -63,7 +63,7 @@ module _ {R : Type 0} (k : RecordRules R) where
   question-reply answers others moment w (Notify s number field given) is = cc
   question-reply answers others moment w (Cancel number) is = cc
 
-  -- it cancels nothing
+  -- An event that changes nothing cancels nothing.
   no-cancel : (m v : World R) (event : Event) → is_question event ≡ true → CancelsWithin k m v event
   no-cancel m v (Get s field) is = tt
   no-cancel m v (IsLive number) is = tt

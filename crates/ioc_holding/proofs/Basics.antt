@@ -1,4 +1,4 @@
--- Answers of maps, and waiting lists of one record.
+-- Lookups in maps, and the waiting list of a record.
 use Rattle.std.proofs.Common.{◌≡◌, ℕ, zero, suc, Bool, true, false, cond, nat_eq, List, [], ◌∷◌, Option, Some, None, refl, sym, ap, subst, ◌∙◌, inl, inr, arith}
 use Rattle.std.specs.Prelude.{is_some, unwrap_or, Contains}
 use Rattle.std.specs.FinMap.{get, contains_key}
@@ -18,7 +18,7 @@ pub not_true : (b : Bool) → (b ≡ true → ⊥) → b ≡ false
 not_true true never = absurd (never refl)
 not_true false never = refl
 
--- two answers are one that are there alike and stand for the same
+-- Two options are equal if both or none have a value and their values with a default are equal.
 pub same_option : {X : Type 0} (d : X) (o p : Option X) → is_some o ≡ is_some p → unwrap_or o d ≡ unwrap_or p d → o ≡ p
 same_option d None None s e = refl
 same_option d None (Some y) s e = cc
@@ -29,7 +29,7 @@ pub is-none : {X : Type 0} (o : Option X) → (is_some o ≡ true → ⊥) → o
 is-none None never = refl
 is-none (Some x) never = absurd (never refl)
 
--- ---- lists that are filtered
+-- Filtered lists.
 
 pub one-there : {X : Type 0} (x y : X) → Contains (x ∷ []) y → x ≡ y
 one-there x y (zero, lt, is) = is
@@ -38,7 +38,7 @@ one-there x y (suc i, lt, is) = absurd (omega arith)
 pub later : {X : Type 0} (y : X) (xs : List X) (x : X) → Contains xs x → Contains (y ∷ xs) x
 later y xs x (i, lt, is) = (suc i, omega (arith, lt), is)
 
--- one that passes is among those that do, and nothing else is
+-- An element is in the filtered list exactly if it is in the list and passes the test.
 pub passes-there : {X : Type 0} (p : X → Bool) (xs : List X) (x : X) → Contains (filter p xs) x → Contains xs x × (p x ≡ true)
 passes-there p [] x h = absurd (omega (arith, h.1))
 passes-there p (y ∷ xs) x h =
@@ -60,7 +60,7 @@ there-passes p (y ∷ xs) x (suc i, lt, there) is =
       | false ↦ rest
     ]
 
--- ---- waiting lists of records
+-- The waiting lists of records.
 
 nat-same : (a b : ℕ) → a ≡ b → nat_eq a b ≡ true
 nat-same a b e = grind (arith, common_steps)
@@ -68,25 +68,26 @@ nat-same a b e = grind (arith, common_steps)
 nat-is : (a b : ℕ) → nat_eq a b ≡ true → a ≡ b
 nat-is a b e = grind (arith, common_steps)
 
--- one that waits is in the list of its record, and one in the list of a record waits for it
+-- An entry is in the waiting list of a record exactly if it waits for that record.
 pub in-list : (xs : List Waiting) (x : Waiting) → Contains xs x → Contains (at_record x.target xs) x
 in-list xs x h = there-passes (λ (w : Waiting). nat_eq w.target x.target) xs x h (nat-same x.target x.target refl)
 
 pub of-list : (xs : List Waiting) (target : ℕ) (x : Waiting) → Contains (at_record target xs) x → Contains xs x × (x.target ≡ target)
 of-list xs target x h = let one = passes-there (λ (w : Waiting). nat_eq w.target target) xs x h in (one.0, nat-is x.target target one.1)
 
--- where a record has the same list, who waits for it in the one waits in the other
+-- If a record has the same waiting list in both, an entry that waits for it in one waits for it in
+-- the other.
 pub waits-too : (xs ys : List Waiting) (x : Waiting) → at_record x.target xs ≡ at_record x.target ys → Contains xs x → Contains ys x
 waits-too xs ys x same h = (of-list ys x.target x (subst (λ (l : List Waiting). Contains l x) same (in-list xs x h))).0
 
--- nobody waits for a record that none of these waits for
+-- The waiting list of a record is empty if no entry waits for the record.
 pub nobody-waits : (xs : List Waiting) (n : ℕ) → ((x : Waiting) → Contains xs x → x.target ≡ n → ⊥) → at_record n xs ≡ []
 nobody-waits xs n none = elim (at_record n xs) as (λ l. at_record n xs ≡ l → l ≡ []) [
   | [] ↦ λ is. refl
   | (y ∷ ys) ↦ λ is. let one = of-list xs n y (subst (λ (l : List Waiting). Contains l y) (sym is) (0, omega arith, refl)) in absurd (none y one.0 one.1)
 ] refl
 
--- ---- a record that isn't there names none
+-- A missing record has no links.
 
 module _ {R : Type 0} (k : RecordRules R) (lawful : IsLawful k) where
   missing-option : (o : Option R) (target : ℕ) → is_some o ≡ false → Contains (targets k (unwrap_or o k.missing)) target → ⊥

@@ -28,7 +28,7 @@ use Rattle.ioc_holding.proofs.LiveFew.{done-few}
 use Rattle.ioc_holding.proofs.Summing.{point, same-point, holders-moved}
 
 module _ {R : Type 0} (k : RecordRules R) where
-  -- ---- as an event begins
+  -- The beginning of an event.
 
   pub begun-counted : (moment : ℕ) (m : World R) → IsCounted k m → IsCounted k (begun_at moment m)
   unfolding at begun begun_at holders
@@ -46,7 +46,7 @@ module _ {R : Type 0} (k : RecordRules R) where
   unfolding at begun begun_at
   begun-closed moment v closed = record { closed = closed.closed }
 
-  -- ---- a sound world stays sound
+  -- A sound world stays sound.
 
   module _ (laws : EventLaws k) where
     pub done-counted : (m : World R) (n : Note) → IsCounted k m → IsCounted k (done k m n).world
@@ -88,7 +88,7 @@ module _ {R : Type 0} (k : RecordRules R) where
         let kept = laws.kept answers w d.world event d.reply d.requests (laws.allowed answers w event) (begun-closed (entry_of n).moment v closed) in
         record { has = kept.has; only = kept.only; count = kept.count }
 
-  -- ---- a set among all records
+  -- A held part `v` of all records `m`.
 
   module _ (lawful : IsLawful k) (laws : EventLaws k) (m v : World R) (n : Note) (sound : IsSound k m) (holds : Holds k m v) (of : IsOf k m v n) where
     abbrev mine : ℕ → Bool
@@ -170,7 +170,7 @@ module _ {R : Type 0} (k : RecordRules R) where
     outside : (r : ℕ) → (Has v r → ⊥) → contains_key v.records r ≡ false
     outside r out = not_true (contains_key v.records r) out
 
-    -- a record outside v is as it was, and so is its waiting list
+    -- A record outside `v` and its waiting list are unchanged.
     pub same-outside : (r : ℕ) → (Has v r → ⊥) → get (done k m n).world.records r ≡ get m.records r
     unfolding at begun begun_at
     same-outside r out =
@@ -189,7 +189,7 @@ module _ {R : Type 0} (k : RecordRules R) where
     unfolding begun begun_at
     own-waiting-outside r out = agree.spares.waiting r (outside r out)
 
-    -- a record of v is in the one as in the other, and names records of v
+    -- A record of `v` is the same after the event in both worlds, and leads to records of `v`.
     same-inside : (r : ℕ) → Has v r → get (done k m n).world.records r ≡ get (done k v n).world.records r
     unfolding at
     same-inside r there =
@@ -199,7 +199,7 @@ module _ {R : Type 0} (k : RecordRules R) where
     targets-inside : (a r : ℕ) → Has v a → Contains (targets k (at k (done k m n).world a)) r → Has v r
     targets-inside a r there named = agree.shut.shut a r there (subst (λ (x : R). Contains (targets k x) r) (sym (agree.alike.same.records a there)) named)
 
-    -- no link comes to name a record outside v
+    -- No new link leads to a record outside `v`.
     named-outside : (r : ℕ) → (Has v r → ⊥) → (a : ℕ) → Contains (targets k (at k (done k m n).world a)) r → Contains (targets k (at k m a)) r
     named-outside r out a named =
         elim (contains_key v.records a) as (λ b. contains_key v.records a ≡ b → Contains (targets k (at k m a)) r) [
@@ -210,7 +210,8 @@ module _ {R : Type 0} (k : RecordRules R) where
     pub kept : KeepsRecords v (done k v n).world
     kept = done-kept laws v n holds.shut
 
-    -- at each record how many have a put with notification changes alike: at one of v as in v, and elsewhere not at all
+    -- At each record the count of a put with notification changes alike: at a record of `v` as in
+    -- `v`, and elsewhere not at all.
     points-move : (number q : ℕ) → point k number (done k m n).world q + point k number v q ≡ point k number m q + point k number (done k v n).world q
     points-move number q =
         elim (contains_key v.records q) as (λ b. contains_key v.records q ≡ b → point k number (done k m n).world q + point k number v q ≡ point k number m q + point k number (done k v n).world q) [

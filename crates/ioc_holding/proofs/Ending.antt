@@ -1,4 +1,4 @@
--- When a put with notification has ended in the world of all.
+-- When a put with notification has ended in the world of all records.
 use Rattle.std.proofs.Common.{◌≡◌, ℕ, true, false, cond, eqb, List, [], ◌∷◌, Option, Some, refl, sym, ap, subst, ◌∙◌, inl, inr, ⊎_elim, arith}
 use Rattle.std.specs.Prelude.{◌↔◌, ◌||◌, is_some, unwrap_or, Contains}
 use Rattle.std.specs.FinMap.{get, contains_key}
@@ -23,7 +23,8 @@ use Rattle.ioc_holding.proofs.Lists.{map-join}
 use Rattle.ioc_holding.proofs.Placing.{has-live}
 
 module _ {R : Type 0} (k : RecordRules R) where
-  -- who has one has it in a world with the same records and the same that wait
+  -- A put with notification that a record is part of has a record in every world with the same
+  -- records and waiting lists.
   has-alike : {w : World R} {n : ℕ} → IsHeld k w n → (v : World R) → v.records ≡ w.records → v.waiting ≡ w.waiting → IsHeld k v n
   unfolding at
   has-alike (by_a_record {w} {n} s there has) v records waits =
@@ -38,18 +39,19 @@ module _ {R : Type 0} (k : RecordRules R) where
   unfolding begun begun_at
   begun-has moment w n held = has-alike held (begun_at moment w) refl refl
 
-  -- a record at which two worlds are the same
+  -- A record that two worlds share is the same in both.
   at-same : (m v : World R) (s : ℕ) → get m.records s ≡ get v.records s → at k m s ≡ at k v s
   unfolding at
   at-same m v s same = ap (λ (o : Option R). unwrap_or o k.missing) same
 
-  -- who has one in what is held has it in the world of all
+  -- A put with notification that has a record in a held part has one in the world of all.
   has-in-all : {v : World R} {n : ℕ} → IsHeld k v n → (m : World R) → Holds k m v → IsHeld k m n
   has-in-all (by_a_record {w} {n} s there has) m holds =
       by_a_record s (ap (λ (o : Option R). is_some o) (holds.records s there) ∙ there) (ap (λ (r : R). (k.common r).notification) (at-same m w s (holds.records s there)) ∙ has)
   has-in-all (in_a_waiting_list {w} x c) m holds = in_a_waiting_list x (waits-too w.waiting m.waiting x (sym (holds.waiting x.target (holds.within x c))) c)
 
-  -- who has one in the world of all, and no more in another that is the same outside v, has it in v
+  -- A put with notification has a record in `v` if it has one in the world of all, and none in a
+  -- world that is equal to that outside `v`.
   has-inside : {m : World R} {n : ℕ} → IsHeld k m n → (v after : World R) → Holds k m v
       → ((s : ℕ) → (Has v s → ⊥) → get after.records s ≡ get m.records s) → ((s : ℕ) → (Has v s → ⊥) → at_record s after.waiting ≡ at_record s m.waiting)
       → (IsHeld k after n → ⊥) → IsHeld k v n
@@ -119,7 +121,7 @@ module _ {R : Type 0} (k : RecordRules R) (lawful : IsLawful k) (laws : EventLaw
       (subst (λ (x : World R). Contains (done k m n).world.ended number ↔ (Contains x.ended number × (IsHeld k (done k m n).world number → ⊥))) is.world
       ((λ over. ends-in-part m v n known holds of counted number over), (λ both. ends-in-all m v n known holds of counted number both.0 both.1)))
 
-  -- ---- nobody has one that isn't live
+  -- No record is part of a put with notification that isn't live.
 
   none-counted : (n : ℕ) (ls : List Live) → is_live n ls ≡ false → holders_of n ls ≡ 0
   none-counted n [] isnt = refl

@@ -1,4 +1,4 @@
--- No put with notification has more holders than a number of 64 bits can tell.
+-- The count of a put with notification fits in 64 bits.
 use Rattle.std.proofs.Common.{ℕ, ◌≤◌, Bool, true, false, cond, List, [], ◌∷◌, length, arith}
 use Rattle.std.specs.FinMap.{entries}
 use Rattle.std.specs.FinMap.{len-entries}

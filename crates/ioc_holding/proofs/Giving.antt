@@ -1,4 +1,4 @@
--- What is held is held where a put with notification is given up, and at the beginning of an event.
+-- A held part stays held when a put with notification is canceled, and when an event begins.
 use Rattle.std.proofs.Common.{◌≡◌, ℕ, Bool, true, false, cond, List, [], ◌∷◌, Option, Some, None, refl, sym, ap, subst, ◌∙◌}
 use Rattle.std.specs.Prelude.{◌==◌, not, Contains}
 use Rattle.std.specs.FinMap.{get}
@@ -15,7 +15,7 @@ use Rattle.ioc_holding.specs.Held.{Holds}
 use Rattle.ioc_holding.specs.Laws.{CancelIsHeld, BeginningIsHeld}
 use Rattle.ioc_holding.proofs.Basics.{passes-there}
 
--- what passes two tests, in either order
+-- Two filters may be exchanged.
 filter-swap : {X : Type 0} (p q : X → Bool) (xs : List X) → filter p (filter q xs) ≡ filter q (filter p xs)
 filter-swap p q [] = refl
 filter-swap p q (x ∷ xs) =

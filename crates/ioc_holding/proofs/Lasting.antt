@@ -1,4 +1,4 @@
--- What is held is held as long as no note has its keys.
+-- A held part stays held as long as no note has its keys.
 use Rattle.std.proofs.Common.{List, [], ◌∷◌, refl, sym, subst, ◌∙◌}
 use Rattle.ioc_record.specs.RecordRules.{RecordRules}
 use Rattle.ioc_store.specs.World.{World}

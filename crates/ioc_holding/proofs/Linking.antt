@@ -35,13 +35,13 @@ use Rattle.ioc_holding.proofs.Sharing.{falls, gathers, either, from-one}
 use Rattle.ioc_holding.proofs.Rewiring.{set-at, changed-record, changed-point, get-put, set-same, put-there, changed-get, changed-waiting, changed-calls, put-waiting, set-here, set-again, set-twice}
 use Rattle.ioc_holding.proofs.Summing.{point, of-number, holders-alike}
 
--- records that are each there are all there
+-- `all_there` is true if each of the records is there.
 all-there : {R : Type 0} (w : World R) (ns : List ℕ) → ((n : ℕ) → Contains ns n → Has w n) → all_there w ns ≡ true
 all-there w [] each = refl
 all-there w (n ∷ ns) each = rw (each n (0, omega arith, refl)) (all-there w ns (λ m c. each m (Contains-append_right (n ∷ []) ns m c)))
 
 module _ {R : Type 0} (k : RecordRules R) where
-  -- what is held of a world is held of one with the same records and waiting lists
+  -- A held part is held as any world with the same records and waiting lists.
   pub held-alike : (m w x : World R) → ((q : ℕ) → get x.records q ≡ get w.records q) → x.waiting ≡ w.waiting → Holds k m w → Holds k m x
   unfolding at
   held-alike m w x same waits holds = record {
@@ -92,7 +92,7 @@ module _ {R : Type 0} (k : RecordRules R) (lawful : IsLawful k) (laws : EventLaw
       | inr later ↦ within r later
     ]
 
-    -- at each record as many have a put with notification as before
+    -- At each record the count of a put with notification is unchanged.
     points-stay : (number q : ℕ) → point k number (done k a note).world q ≡ point k number a q
     points-stay number q =
         let records = ap (weight_of (one_if_has k number)) (done-get q) ∙ changed-point k lawful number a s field link takes.there q in
@@ -120,17 +120,17 @@ module _ {R : Type 0} (k : RecordRules R) (lawful : IsLawful k) (laws : EventLaw
       (changed-waiting k v s field link ∙ sym (done-waiting v desk call moment s field link keys takes within)) more.known in
       record { legal = more.legal; known = falls k m changed stay rest held halves closed other_closed }
 
-  -- ---- a link from v to o, where all has v with its link changed, and o
+  -- A link change from `v` to `o`; `all` is `v` with its link changed, and `o`.
   module _ (m v o all : World R) (s : ℕ) (field : FieldNo) (link : LinkField) (holds : Holds k m v) (takes : TakesLink k v s field)
       (halves : AreHalves all (with_link_changed k v s field link) o) (within-all : WaitsWithin all) where
     abbrev linked : R
     linked = changed-record k field link (at k v s)
 
-    -- v and o before the change
+    -- The records of `v` and `o` before the change.
     abbrev both : World R
     both = put all s (at k v s)
 
-    -- what stands at one number, which is that of the record or not
+    -- The entries of one number, which is the number of the record or not.
     shared-one : (b : Bool) (was now : R) (c whole two one other : Option R) → c ≡ cond b (Some now) one → two ≡ cond b (Some was) whole → one ≡ cond b (Some was) one
         → ((c ≡ whole) × (other ≡ Nothing_)) ⊎ ((c ≡ Nothing_) × (other ≡ whole)) → ((one ≡ two) × (other ≡ Nothing_)) ⊎ ((one ≡ Nothing_) × (other ≡ two))
     shared-one true was now c whole two one other is_c is_two is_one (inl p) = inl (is_one ∙ sym is_two, p.1)
@@ -177,7 +177,7 @@ module _ {R : Type 0} (k : RecordRules R) (lawful : IsLawful k) (laws : EventLaw
     both-cover : (keys : List Key) → Cover keys v → Cover keys o → Cover keys both
     both-cover keys covers other_covers q there = ⊎_elim (λ here. covers q here) (λ here. other_covers q here) (either both v o both-halves q there)
 
-    -- the record stands in all with its link changed
+    -- The record in `all` is the one with its link changed.
     all-here : get all.records s ≡ Some linked
     all-here =
         (from-one all (with_link_changed k v s field link) o halves s (changed-there s takes.there)).0

@@ -1,4 +1,4 @@
--- Lists of notes, one after another.
+-- Lists of notes, appended to each other.
 use Rattle.std.proofs.Common.{◌≡◌, List, [], ◌∷◌, ◌++◌, refl, sym, subst}
 use Rattle.ioc_record.specs.RecordRules.{RecordRules}
 use Rattle.ioc_store.specs.World.{World}
@@ -19,7 +19,7 @@ module _ {R : Type 0} (k : RecordRules R) where
   map-join [] ys m = refl
   map-join (x ∷ xs) ys m = map-join xs ys (done k m x).world
 
-  -- one note more
+  -- A legal list stays legal with one more note that fits.
   pub goes-on : (base : World R) (log : List Note) (n : Note) (Known : World R → Type 0) → IsLegal k base log → Fits k (map_of k base log) n → Known (done k (map_of k base log) n).world → GoesOn k base log n Known
   goes-on base log n Known legal fits known = record {
     legal = legal-join log (n ∷ []) base legal (fits, tt);

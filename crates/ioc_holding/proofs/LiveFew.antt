@@ -22,7 +22,7 @@ use Rattle.ioc_holding.specs.EventLaws.{EventLaws}
 use Rattle.ioc_holding.proofs.Basics.{not_both, not_true, one-there, later}
 use Rattle.ioc_holding.proofs.Placing.{there-counted, few-of, some-live, live-once}
 
--- ---- the numbers of those that are live
+-- The numbers of the live puts with notification.
 
 abbrev pub numbers : List Live → List ℕ
 numbers ls = map (λ (l : Live). l.number) ls
@@ -41,7 +41,7 @@ same-number : {a b : ℕ} → Notify-reply a ≡ Notify-reply b → a ≡ b
 same-number is = cc
 
 module _ {R : Type 0} (k : RecordRules R) where
-  -- ---- one begins where there is a place
+  -- A put with notification begins only if there is a place for it.
 
   module _ (answers : Answers) (n : ℕ) where
     does-place : {w w' : World R} {event : Event} {reply : Reply} {requests : Requests} → Does k answers w event w' reply requests → reply ≡ Notify-reply n → has_place w n ≡ true
@@ -71,7 +71,8 @@ module _ {R : Type 0} (k : RecordRules R) where
     step-place (by_itself does _) e = does-place does e
     step-place (then_others does _ _) e = does-place does e
 
-  -- ---- no more are live after an event than were before it, and the one that it begins
+  -- After an event, the live puts with notification are among those before it and the one that it
+  -- begins.
 
   among-few : (w : World R) → IsCounted k w → (ns : List ℕ) → ((n : ℕ) → is_live n w.live ≡ true → Contains ns n) → length w.live ≤ length ns
   among-few w counted ns among = few-of (λ (l : Live). l.number) ns w.live (live-once k w counted) (λ l c. among l.number (entry-live w.live l c))
@@ -115,7 +116,7 @@ module _ {R : Type 0} (k : RecordRules R) where
     by-reply (Live-reply b) place fresh = none-begun (λ n isnt. fresh n isnt (λ is. cc))
     by-reply (Refused e) place fresh = none-begun (λ n isnt. fresh n isnt (λ is. cc))
 
-  -- ---- the event of a note
+  -- The event of a note.
 
   module _ (laws : EventLaws k) (m : World R) (n : Note) (fits : Fits k m n) where
     abbrev next : World R

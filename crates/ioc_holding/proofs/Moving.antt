@@ -1,4 +1,4 @@
--- A link change to other records that are held, done in steps.
+-- A link change to other held records, done in steps.
 use Rattle.std.proofs.Common.{◌≡◌, ℕ, cond, eqb, List, [], ◌∷◌, ◌++◌, Option, Some, refl, sym, ap, ◌∙◌}
 use Rattle.std.specs.Prelude.{Contains}
 use Rattle.std.specs.FinMap.{get}
@@ -28,7 +28,7 @@ module _ {R : Type 0} (k : RecordRules R) (v o stay rest joined : World R) (s : 
   abbrev device : List ℕ
   device = device_of k (at k v s)
 
-  -- the record with another link for a while, and with its new link
+  -- The record with the link between the two, and with its new link.
   abbrev freed : R
   freed = k.with_link (at k v s) field between
 
@@ -44,7 +44,7 @@ module _ {R : Type 0} (k : RecordRules R) (v o stay rest joined : World R) (s : 
   abbrev changed : World R
   changed = with_link_changed k v s field link
 
-  -- what stays, with the new link and a change of the scan list sent
+  -- The part that stays with the record, with the new link and the change of the scan list sent.
   abbrev own : World R
   own = rewired k device linked s
 
@@ -88,7 +88,7 @@ module _ {R : Type 0} (k : RecordRules R) (v o stay rest joined : World R) (s : 
   pub after-within : WaitsWithin joined → WaitsWithin after
   after-within within = set-within s (landed k device (at k joined s)) joined after after-set (rewired-waiting k device joined s) within
 
-  -- v with its link changed has the records of v
+  -- The records of `v` with its link changed are those of `v`.
   pub changed-before : (q : ℕ) → Has changed q → Has v q
   changed-before q has = there-before s (landed k device led) v changed there (changed-get k v s field link) q has
 

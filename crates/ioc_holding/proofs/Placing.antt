@@ -16,7 +16,7 @@ use Rattle.ioc_holding.specs.Laws.{PlaceForOneMore, HeldAreFewer}
 use Rattle.ioc_holding.proofs.Basics.{not_both, not_true, is-none, nobody-waits, passes-there}
 use Rattle.ioc_holding.proofs.Summing.{point, same-point, of-number, holders-least}
 
--- ---- as many as there are numbers
+-- Lists with as many elements as numbers.
 
 pub there-counted : {A : Type 0} (number : A → ℕ) (xs : List A) (x : A) → Contains xs x → 1 ≤ how_many number (number x) xs
 there-counted number [] x (i, lt, is) = absurd (omega arith)
@@ -28,7 +28,7 @@ there-counted number (y ∷ xs) x (suc i, lt, is) =
       | false ↦ rest
     ]
 
--- those of another number
+-- The elements with another number.
 abbrev others : {A : Type 0} → (A → ℕ) → ℕ → List A → List A
 others number n xs = filter (λ x. not (eqb (number x) n)) xs
 
@@ -60,7 +60,7 @@ among-rest : (n m : ℕ) (ns : List ℕ) → Contains (n ∷ ns) m → n ≢ m �
 among-rest n m ns (zero, lt, is) apart = absurd (apart is)
 among-rest n m ns (suc i, lt, is) apart = (i, omega (arith, lt), is)
 
--- of those with numbers from a list, no two with the same, there are no more than numbers
+-- A list of elements with distinct numbers from `ns` is at most as long as `ns`.
 pub few-of : {A : Type 0} (number : A → ℕ) (ns : List ℕ) (xs : List A) → ((n : ℕ) → how_many number n xs ≤ 1) → ((x : A) → Contains xs x → Contains ns (number x)) → length xs ≤ length ns
 few-of number [] [] once among = omega arith
 few-of number [] (x ∷ xs) once among = let none = among x (0, omega arith, refl) in absurd (omega (arith, none.1))
@@ -78,7 +78,7 @@ few-of {A} number (n ∷ ns) xs once among =
     differ true isnt is = cc
     differ false isnt is = cc
 
--- ---- live numbers
+-- Live numbers.
 
 live-some : (n : ℕ) (ls : List Live) → is_live n ls ≡ true → 1 ≤ how_many (λ (l : Live). l.number) n ls
 live-some n [] is = cc
@@ -115,7 +115,7 @@ at-most-one false = omega arith
 
 module _ {R : Type 0} (k : RecordRules R) where
   module _ (w : World R) (counted : IsCounted k w) where
-    -- somebody has a number that is live, and a number that somebody has is live
+    -- A number is live exactly if a record is part of the put with notification under it.
     pub has-live : (n : ℕ) → is_live n w.live ≡ true → 1 ≤ holders k w n
     has-live n is = let some = live-some n w.live is in let once = counted.counted.live n in one-if (holders k w n) (omega arith)
 
@@ -140,7 +140,7 @@ module _ {R : Type 0} (k : RecordRules R) where
         all-three _ _ _ (lt-ltb (length w.live + 0) 256 (omega arith)) (lt-ltb (length w.waiting) 256 (omega arith))
         (not_true (is_live number w.live) (λ is. free (among number (has-live number is))))
 
-  -- no more have it in what is held than in all
+  -- The count of a put with notification in a held part is at most its count in the world of all.
   held-fewer : (m v : World R) → Holds k m v → (n : ℕ) → holders k v n ≤ holders k m n
   held-fewer m v holds n = holders-least k n v m (λ q. least q)
     where
@@ -154,7 +154,7 @@ module _ {R : Type 0} (k : RecordRules R) where
             omega (arith, record_none, none_waits)
       ] refl
 
-  -- what is live in what is held is live in all
+  -- A put with notification that is live in a held part is live in the world of all.
   pub held-live : (m v : World R) → Holds k m v → IsCounted k m → IsCounted k v → (n : ℕ) → is_live n v.live ≡ true → is_live n m.live ≡ true
   held-live m v holds counted own n is =
       let fewer = held-fewer m v holds n in

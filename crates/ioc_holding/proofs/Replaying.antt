@@ -1,4 +1,4 @@
--- A legal list replays by the rules of events, and parted and joined records are held.
+-- A legal list is a run by the rules of events, and parted and joined records are held.
 use Rattle.std.proofs.Common.{List, [], ◌∷◌, ◌++◌, sym, subst}
 use Rattle.ioc_record.specs.RecordRules.{RecordRules}
 use Rattle.ioc_record.specs.Laws.{IsLawful}

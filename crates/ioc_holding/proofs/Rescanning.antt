@@ -16,7 +16,7 @@ use Rattle.ioc_holding.specs.Laws.{RescansApart}
 use Rattle.ioc_holding.proofs.Rewiring.{set-at, landed, rewired-get, rewired-waiting}
 use Rattle.ioc_holding.proofs.Sharing.{none-there, one-in, from-one}
 
--- what a world with one record set has
+-- The records of a world in which one record was set.
 module _ {R : Type 0} (s : ℕ) (r : R) (one own : World R) where
   set-some : (b : Bool) (x : Option R) → is_some x ≡ true → is_some (cond b (Some r) x) ≡ true
   set-some true x has = refl
@@ -38,11 +38,12 @@ module _ {R : Type 0} (s : ℕ) (r : R) (one own : World R) where
   pub set-within : ((q : ℕ) → get own.records q ≡ set-at s r (get one.records) q) → own.waiting ≡ one.waiting → WaitsWithin one → WaitsWithin own
   set-within own-get waits within x c = set-there own-get x.target (within x (subst (λ (l : List Waiting). Contains l x) waits c))
 
--- two worlds are as two others but for one record, which stands in both as it does in the one
+-- Two worlds that differ from two others only in one record, which is set to the same value in
+-- both.
 module _ {R : Type 0} (s : ℕ) (r : R) (all one other after own : World R) (halves : AreHalves all one other) (there : Has one s)
     (all-get : (q : ℕ) → get after.records q ≡ set-at s r (get all.records) q) (own-get : (q : ℕ) → get own.records q ≡ set-at s r (get one.records) q)
     (all-waits : after.waiting ≡ all.waiting) (own-waits : own.waiting ≡ one.waiting) where
-  -- what stands at one number, which is that of the record or not
+  -- The entries of one number, which is the number of the record or not.
   shared-one : (b : Bool) (x y whole part rest : Option R) → x ≡ cond b (Some r) whole → y ≡ cond b (Some r) part → (b ≡ true → is_some part ≡ true)
       → ((part ≡ whole) × (rest ≡ Nothing_)) ⊎ ((part ≡ Nothing_) × (rest ≡ whole)) → ((y ≡ x) × (rest ≡ Nothing_)) ⊎ ((y ≡ Nothing_) × (rest ≡ x))
   shared-one true x y whole part rest is_x is_y has (inl p) = inl (is_y ∙ sym is_x, p.1)
@@ -64,11 +65,11 @@ module _ {R : Type 0} (s : ℕ) (r : R) (all one other after own : World R) (hal
   }
 
 module _ {R : Type 0} (k : RecordRules R) where
-  -- a change of the record's scan list sets one record of a world
+  -- A change of a record's scan list sets that one record.
   pub rewired-set : (device : List ℕ) (w : World R) (s : ℕ) (r : R) → Has w s → at k w s ≡ r → (q : ℕ) → get (rewired k device w s).records q ≡ set-at s (landed k device r) (get w.records) q
   rewired-set device w s r there is q = rewired-get k device w s there q ∙ ap (λ (x : R). set-at s (landed k device x) (get w.records) q) is
 
-  -- the record as the half has it
+  -- A record of the half is the same in the whole.
   pub half-at : (all one other : World R) (s : ℕ) → AreHalves all one other → Has one s → at k all s ≡ at k one s
   unfolding at
   half-at all one other s halves there = ap (λ (o : Option R). unwrap_or o k.missing) (from-one all one other halves s there).0

@@ -1,4 +1,5 @@
--- What a change of a link does to a world: one record has another link, and maybe one more number of a change of its scan list.
+-- The effect of a link change on a world: one record has another link, and perhaps a higher number
+-- of scan list changes.
 use Rattle.std.proofs.Common.{◌≡◌, ◌≢◌, ℕ, ◌+◌, ◌-◌, ◌^◌, Bool, true, false, cond, eqb, List, Option, Some, None, nat_lt, nat_eq, refl, sym, ap, ◌∙◌, arith}
 use Rattle.std.specs.Prelude.{is_some, unwrap_or}
 use Rattle.std.specs.FinMap.{FinMap, get, insert, gets}
@@ -20,7 +21,7 @@ use Rattle.ioc_store.specs.Weights.{weight_of}
 use Rattle.ioc_store.specs.Worlds.{at-put_same, sent_by}
 use Rattle.ioc_events.specs.Holding.{one_if_has}
 
--- the map with one record set, as it answers
+-- The lookup function of a map in which one record was set.
 abbrev pub set-at : {R : Type 0} → ℕ → R → (ℕ → Option R) → ℕ → Option R
 set-at s r f q = cond (eqb q s) (Some r) (f q)
 
@@ -32,7 +33,7 @@ module _ {R : Type 0} (k : RecordRules R) where
     | false ↦ λ is. let apart : q ≢ s = grind (arith, common_steps) in grind (gets, arith, common_steps)
   ] refl
 
-  -- a record that is there, set as it is
+  -- Setting a record to its own value changes nothing.
   pub set-same : (w : World R) (s : ℕ) → Has w s → (q : ℕ) → get w.records q ≡ set-at s (at k w s) (get w.records) q
   unfolding at
   set-same w s there q = elim (eqb q s) as (λ b. eqb q s ≡ b → get w.records q ≡ cond b (Some (unwrap_or (get w.records s) k.missing)) (get w.records q)) [
@@ -47,7 +48,7 @@ module _ {R : Type 0} (k : RecordRules R) where
   sent-records : (item : OutboxItem) (w : World R) → (sent item w).records ≡ w.records
   sent-records item w = ap (λ (x : World R). x.records) (sym (sent_by item w))
 
-  -- the record once a change of its scan list was numbered, where there is one
+  -- The record with its scan list change numbered, if there is a number left.
   abbrev renumbered : R → R
   renumbered r = cond (nat_lt (k.common r).last_change (2 ^ 64 - 1)) (k.with_common r (change_numbered (k.common r))) r
 
@@ -72,7 +73,7 @@ module _ {R : Type 0} (k : RecordRules R) where
         | false ↦ moved-get w s there q
       ]
 
-  -- who waits, and the calls of devices, are as they were
+  -- The waiting lists and the calls of devices are unchanged.
   moved-waiting : (w : World R) (s : ℕ) → (moved k w s).waiting ≡ w.waiting
   unfolding changed put lost
   moved-waiting w s = moved-either k (λ (x : World R). x.waiting ≡ w.waiting) w s (λ item. ap (λ (x : World R). x.waiting) (sym (sent_by item _))) refl
@@ -87,9 +88,9 @@ module _ {R : Type 0} (k : RecordRules R) where
   pub rewired-calls : (before : List ℕ) (w : World R) (s : ℕ) → (rewired k before w s).calls ≡ w.calls
   rewired-calls before w s = rewired-either k (λ (x : World R). x.calls ≡ w.calls) before w s refl (moved-calls w s)
 
-  -- ---- a changed link
+  -- Link changes.
 
-  -- the record with its link changed
+  -- The record with its link changed.
   abbrev pub changed-record : FieldNo → LinkField → R → R
   changed-record field link r = landed (device_of k r) (k.with_link r field link)
 
@@ -104,7 +105,7 @@ module _ {R : Type 0} (k : RecordRules R) where
   pub set-here : (s : ℕ) (r : R) (f : ℕ → Option R) → set-at s r f s ≡ Some r
   set-here s r f = let e : eqb s s ≡ true = grind (arith, common_steps) in ap (λ (b : Bool). cond b (Some r) (f s)) e
 
-  -- set as it is
+  -- Setting a value that the function already has changes nothing.
   pub set-again : (s : ℕ) (r : R) (f : ℕ → Option R) → f s ≡ Some r → (q : ℕ) → f q ≡ set-at s r f q
   set-again s r f is q = elim (eqb q s) as (λ b. eqb q s ≡ b → f q ≡ cond b (Some r) (f q)) [
     | true ↦ λ here. let e : q ≡ s = grind (arith, common_steps) in ap f e ∙ is
@@ -133,7 +134,7 @@ module _ {R : Type 0} (k : RecordRules R) where
   unfolding put
   changed-calls w s field link = rewired-calls (device_of k (at k w s)) (put w s (k.with_link (at k w s) field link)) s
 
-  -- ---- it changes no notification
+  -- A link change leaves the notification of the record unchanged.
   module _ (lawful : IsLawful k) where
     landed-holds : (before : List ℕ) (r : R) → (k.common (landed before r)).notification ≡ (k.common r).notification
     landed-holds before r = elim (pointwise nat_eq before (device_of k r)) as (λ b. (k.common (cond b r (renumbered r))).notification ≡ (k.common r).notification) [

@@ -1,4 +1,4 @@
--- Held records that fall apart, and held records together.
+-- Held records that are parted, and held records that are joined.
 use Rattle.std.proofs.Common.{◌≡◌, ◌⊎◌, ℕ, true, false, Option, None, refl, sym, ap, subst, ◌∙◌, inl, inr, ⊎_elim}
 use Rattle.std.specs.Prelude.{is_some, unwrap_or, Contains}
 use Rattle.std.specs.FinMap.{get, contains_key, same_map, nat_cmp-IsAntisymmetric}
@@ -17,7 +17,7 @@ none-there o none there = not_both there (ap (λ (p : Option _). is_some p) none
 pub there-as : {X : Type 0} (o p : Option X) → o ≡ p → is_some o ≡ true → is_some p ≡ true
 there-as o p same there = ap (λ (q : Option _). is_some q) (sym same) ∙ there
 
--- the other way round
+-- The two halves may be exchanged.
 pub turned : {R : Type 0} (all one other : World R) → AreHalves all one other → AreHalves all other one
 turned all one other halves = record {
   records = λ q. ⊎_elim (λ p. inr (p.1, p.0)) (λ p. inl (p.1, p.0)) (halves.records q);
@@ -26,7 +26,7 @@ turned all one other halves = record {
 }
 
 module _ {R : Type 0} (all one other : World R) (halves : AreHalves all one other) where
-  -- a record of the one is in all, as it is there, and not in the other
+  -- A record of `one` is the same in `all`, and isn't in `other`.
   pub from-one : (q : ℕ) → Has one q → (get all.records q ≡ get one.records q) × (get other.records q ≡ None)
   from-one q there = ⊎_elim (λ p. (sym p.0, p.1)) (λ p. absurd (none-there (get one.records q) p.0 there)) (halves.records q)
 
@@ -46,7 +46,7 @@ module _ {R : Type 0} (all one other : World R) (halves : AreHalves all one othe
       (halves.records q)
 
 module _ {R : Type 0} (k : RecordRules R) (all one other : World R) (halves : AreHalves all one other) where
-  -- what a world has at the records of all it has at those of the one
+  -- A world that is equal to `all` at its records holds `one`, if no link leaves either half.
   pub falls-as : (m : World R) → ((q : ℕ) → Has all q → get m.records q ≡ get all.records q) → ((q : ℕ) → Has all q → at_record q m.waiting ≡ at_record q all.waiting)
       → ((a q : ℕ) → (Has all a → ⊥) → Has all q → Contains (targets k (at k m a)) q → ⊥) → IsClosed k one → IsClosed k other → Holds k m one
   unfolding at
@@ -72,7 +72,7 @@ module _ {R : Type 0} (k : RecordRules R) where
   )
 
   module _ (lawful : IsLawful k) where
-    -- no link leaves what two have that no link leaves
+    -- No link leaves a world if none leaves its halves.
     half-shut : (all one other : World R) → AreHalves all one other → IsClosed k one → (a q : ℕ) → Has one a → Contains (targets k (at k all a)) q → Has all q
     unfolding at
     half-shut all one other halves closed a q there named =
@@ -98,7 +98,7 @@ module _ {R : Type 0} (k : RecordRules R) where
           | false ↦ λ isnt. missing-names k lawful m a q isnt named
         ] refl) closed other_closed
 
-    -- of one of the two
+    -- The records of one half, and their waiting lists, are the same in the world.
     half-holds : (m all one other : World R) → AreHalves all one other → Holds k m one → (q : ℕ) → Has one q → (get m.records q ≡ get all.records q) × (at_record q m.waiting ≡ at_record q all.waiting)
     half-holds m all one other halves holds q there = (holds.records q there ∙ sym (from-one all one other halves q there).0, holds.waiting q there ∙ halves.first.waiting q there)
 

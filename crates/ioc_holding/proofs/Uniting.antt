@@ -1,4 +1,4 @@
--- A world of what two worlds have that share no record.
+-- The world of all that two worlds without a common record have.
 use Rattle.std.proofs.Common.{◌≡◌, ◌⊎◌, ℕ, true, false, cond, List, [], ◌∷◌, ◌++◌, Option, Some, None as Nothing_, refl, sym, ap, subst, ◌∙◌, inl, inr, ⊎_elim, append-nil}
 use Rattle.std.specs.Prelude.{is_some}
 use Rattle.std.specs.Ordering.{nat_cmp, eq_by_cmp}
@@ -12,7 +12,7 @@ use Rattle.ioc_holding.specs.Held.{AreHalves, WaitsWithin}
 use Rattle.ioc_holding.proofs.Basics.{is-none, nobody-waits}
 use Rattle.ioc_holding.proofs.Sharing.{none-there, there-as, one-in, turned, from-one}
 
--- the first answer, or else the second
+-- The first option, or else the second.
 abbrev pub first-of : {X : Type 0} → Option X → Option X → Option X
 first-of o p = cond (is_some o) o p
 
@@ -67,7 +67,7 @@ module _ {R : Type 0} (a b : World R) (disjoint : (q : ℕ) → Has a q → Has 
       (λ here. one-in (united a b) b a (turned (united a b) a b united-halves) x.target (other_within x here))
       (Contains-append_cases a.waiting b.waiting x c)
 
--- three that share: c is p and r, and a is p and o
+-- Three parts: `c` is `p` and `r`, and `a` is `p` and `o`.
 module _ {R : Type 0} (c p r a o : World R) (halves : AreHalves c p r) (others : AreHalves a p o) (disjoint : (q : ℕ) → Has c q → Has o q → ⊥) (c_within : WaitsWithin c) (a_within : WaitsWithin a) where
   rest-apart : (q : ℕ) → Has a q → Has r q → ⊥
   rest-apart q there rests =
@@ -87,7 +87,7 @@ module _ {R : Type 0} (c p r a o : World R) (halves : AreHalves c p r) (others :
   pub whole-within : WaitsWithin whole
   whole-within = united-within a r rest-apart a_within halves.second.within
 
-  -- what stands at one number
+  -- The entries of one number.
   three-one : (u c' p' r' a' o' : Option R) → ((a' ≡ u) × (r' ≡ Nothing_)) ⊎ ((a' ≡ Nothing_) × (r' ≡ u)) → ((p' ≡ c') × (r' ≡ Nothing_)) ⊎ ((p' ≡ Nothing_) × (r' ≡ c'))
       → ((p' ≡ a') × (o' ≡ Nothing_)) ⊎ ((p' ≡ Nothing_) × (o' ≡ a')) → (is_some c' ≡ true → is_some o' ≡ true → ⊥) → ((c' ≡ u) × (o' ≡ Nothing_)) ⊎ ((c' ≡ Nothing_) × (o' ≡ u))
   three-one u c' p' r' a' o' (inl x) (inl y) (inl z) never = inl (sym y.0 ∙ z.0 ∙ x.0, z.1)

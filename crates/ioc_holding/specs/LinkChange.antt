@@ -1,5 +1,5 @@
--- A change of a link, by the records that it concerns.
--- Application Developer's Guide, "Database Links"; "Database Locking, Scanning, and Processing": a changed link parts lock sets or joins them.
+-- Link changes, by the records that they concern. Application Developer's Guide, "Database Links";
+-- "Database Locking, Scanning, and Processing": a changed link parts lock sets or joins them.
 use Rattle.std.specs.Prelude.{◌≡◌, ℕ, List, [], true, false, is_some}
 use Rattle.ioc_fields.specs.declared.field_no.FieldNo.{FieldNo}
 use Rattle.ioc_common.specs.declared.link_field.LinkField.{LinkField}
@@ -11,13 +11,13 @@ use Rattle.ioc_events.specs.declared.reply.Reply.TheVariants.{Plain}
 use Rattle.ioc_line.specs.declared.entry.Note.{Note}
 use Rattle.ioc_line.specs.Key.{Key}
 
--- this link field of this record may get another link
+-- Holds if this field of this record is a link that may be changed.
 pub record TakesLink {R : Type 0} (k : RecordRules R) (v : World R) (s : ℕ) (field : FieldNo) : Type 0 where
   pub there : Has v s
   pub has_link : is_some (k.link (at k v s) field) ≡ true
   pub allowed : stops_put (common_at k v s) field ≡ false
 
--- the note of a link change that was done
+-- The note of a link change that was done.
 abbrev pub link_note : (desk call moment s : ℕ) → FieldNo → LinkField → List Key → Note
 link_note desk call moment s field link keys =
     record { entry = record { desk = desk; call = call; entry = record { moment = moment; event = Link s field link; answers = []; reply = Plain } }; keys = keys }

@@ -1,4 +1,5 @@
-//! Laws of held records. Each function's contract is a law; its body only names the laws that it rests on.
+//! Laws of held records. The contract of each function is a law; its body only calls the functions
+//! whose laws it rests on.
 ghost use Rattle.ioc_holding.specs.EventLaws.{EventLaws};
 ghost use Rattle.ioc_holding.specs.Laws.{Lasts, LiveLasts, OneMore, HoldersMove, HoldersAreFew, HeldAreFewer, EndsOver, NobodyHas, PlaceForOneMore, CancelIsHeld, BeginningIsHeld, Asks, HeldAlike, Falls, Gathers, Opens, HoldsAll, Parts, Joins, LinkParts, LinkJoins, LinkMoves, RescansApart, BeginsSound, StaysSound, Replays};
 
@@ -9,7 +10,7 @@ use ioc_events::notification_rules::{
 };
 use ioc_record::RecordKind;
 
-// The laws of events that those below rest on.
+// The laws of events that the laws below rest on.
 fn events_have_laws<K: RecordKind>()
     ensures { EventLaws K.rules }
 {
@@ -23,19 +24,21 @@ fn events_have_laws<K: RecordKind>()
     those_over_never_end::<K>();
 }
 
-/// Who holds records knows them as long as no note has their keys.
+/// Held records stay as they are known as long as no note has their keys.
 pub fn holding_lasts<K: RecordKind>()
     ensures { Lasts K.rules }
 {}
 
-/// How many have each put with notification stays the same as long as no note has the key of these.
+/// The number of records that each put with notification has stays the same as long as no note has
+/// the key of the puts with notification.
 pub fn live_lasts<K: RecordKind>()
     ensures { LiveLasts K.rules }
 {}
 
-/// An event of held records changes how many have each put with notification by as much among all as among those held. So who owns the key
-/// of these adds what the count of a set changed by. There are never more than a number of 64 bits can
-/// tell, and never more among those held than among all.
+/// An event of held records changes the number of records that are part of each put with
+/// notification by as much among all records as among the held ones, so whoever owns the key of the
+/// puts with notification adds the change in a set to its own count. The number always fits in 64
+/// bits, and is never greater among the held records than among all.
 pub fn holders_move<K: RecordKind>()
     ensures moves { HoldersMove K.rules }
     ensures few { HoldersAreFew K.rules }
@@ -44,8 +47,8 @@ pub fn holders_move<K: RecordKind>()
     events_have_laws::<K>();
 }
 
-/// An event that concerns held records alone is the same event of all records: the list with its note is legal, and what it leaves is held.
-/// A get leaves it as it was.
+/// An event that concerns held records alone is the same event of all records: the list with its
+/// note is legal, and the records are held after it. A get leaves the held records as they were.
 pub fn events_are_held<K: RecordKind>()
     ensures event { OneMore K.rules }
     ensures asks { Asks K.rules }
@@ -53,14 +56,14 @@ pub fn events_are_held<K: RecordKind>()
     events_have_laws::<K>();
 }
 
-/// Where fewer than 256 numbers have all that are live among them, there is a place for one more put with notification under another number,
-/// in the world of all and in what is held.
+/// If the numbers of all live puts with notification are among fewer than 256 numbers, there is a
+/// place for one more under another number, both among all records and among the held ones.
 pub fn one_more_has_a_place<K: RecordKind>()
     ensures { PlaceForOneMore K.rules }
 {}
 
-/// A put with notification has ended in the world of all exactly where it has ended in what is held and nobody else has it: none is counted
-/// there then.
+/// A put with notification has ended among all records exactly if it has ended among the held ones
+/// and no other record is part of it: its count among all is zero then.
 pub fn those_ended_are_over<K: RecordKind>()
     ensures over { EndsOver K.rules }
     ensures nobody { NobodyHas K.rules }
@@ -68,14 +71,15 @@ pub fn those_ended_are_over<K: RecordKind>()
     events_have_laws::<K>();
 }
 
-/// What is held is held of the world at the beginning of an event, and where a put with notification is given up in both.
+/// Held records stay held when an event begins, and when a put with notification is canceled both
+/// among them and among all records.
 pub fn changes_of_all_are_held<K: RecordKind>()
     ensures begins { BeginningIsHeld K.rules }
     ensures cancel { CancelIsHeld K.rules }
 {}
 
-/// An event of held records after which they fall apart: the list with its note is legal, and both parts are held. So it is of a link change
-/// of a held record to a held record, or to none.
+/// If held records part in two after an event, the list with its note is legal, and both parts are
+/// held. The same goes for a link change of a held record to a held record, or to none.
 pub fn parts_are_held<K: RecordKind>()
     ensures event { Parts K.rules }
     ensures link { LinkParts K.rules }
@@ -83,9 +87,11 @@ pub fn parts_are_held<K: RecordKind>()
     events_have_laws::<K>();
 }
 
-/// An event of two held parts together: the list with its note is legal, and what it leaves is held. So it is of a link change of a record of
-/// the one to a record of the other: what is held is the one with its link changed, and the other. Where the link stood within the one
-/// before, and the change is done in steps, what falls off is held beside.
+/// An event of two held parts together: the list with its note is legal, and the records are held
+/// after it. The same goes for a link change of a record of one part to a record of the other: the
+/// part with its link changed and the other part are then held as one. If the old link was within
+/// the first part and the change is done in steps, the records that part from it are held
+/// separately.
 pub fn joined_are_held<K: RecordKind>()
     ensures event { Joins K.rules }
     ensures link { LinkJoins K.rules }
@@ -94,8 +100,9 @@ pub fn joined_are_held<K: RecordKind>()
     events_have_laws::<K>();
 }
 
-/// What is held may be held in parts, and parts together. A part of the world at the load that no link leaves or enters is held; who holds
-/// every record has the records of the world.
+/// Held records may be held in parts, and parts may be held together. A part of the world at the
+/// load that no link leaves or enters is held. Whoever holds every record knows the records of the
+/// world.
 pub fn parts_share_what_is_held<K: RecordKind>()
     ensures alike { HeldAlike K.rules }
     ensures falls { Falls K.rules }
@@ -105,8 +112,9 @@ pub fn parts_share_what_is_held<K: RecordKind>()
     ensures rescans { RescansApart K.rules }
 {}
 
-/// The world at the load is sound, and where each event is noted as it went, it stays so between events. Whatever is noted, no record comes
-/// or goes, those that have a notification stay counted, and none that waits may start.
+/// The world at the load is sound, and stays sound between events if each event is noted as it
+/// happened. Whatever is noted, no record is added or removed, the records that are part of a put
+/// with notification stay counted, and no waiting request may start.
 pub fn lists_leave_sound<K: RecordKind>()
     ensures first { BeginsSound K.rules }
     ensures after { StaysSound K.rules }
@@ -114,7 +122,8 @@ pub fn lists_leave_sound<K: RecordKind>()
     events_have_laws::<K>();
 }
 
-/// A legal list is a run by the rules of events, each at its moment, with its answers and its reply.
+/// A legal list is a run by the rules of events, each with its time stamp, its answers and its
+/// reply.
 pub fn legal_lists_replay<K: RecordKind>()
     ensures { Replays K.rules }
 {

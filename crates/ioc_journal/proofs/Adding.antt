@@ -1,4 +1,4 @@
--- One call more in a list.
+-- A list with one more call.
 use Rattle.std.proofs.Common.{◌≡◌, ℕ, ◌+◌, List, [], ◌∷◌, ◌++◌, refl, sym, ap, ◌∙◌, subst, inl, arith}
 use Rattle.ioc_record.specs.RecordRules.{RecordRules}
 use Rattle.ioc_store.specs.World.{World}
@@ -12,7 +12,7 @@ use Rattle.ioc_journal.specs.Account.{desk_view, journalled, calls, calls_by, Be
 use Rattle.ioc_journal.proofs.Calls.{calls-append, keyed_append, below_append, below_more, by-append, own_one, rising_snoc, below_on, calls_on}
 use Rattle.ioc_journal.proofs.Numbers.{numbers_rise, puts_stay_keyed}
 
--- of a desk that has seen a beginning of the list
+-- The call is of a desk that has seen a beginning of the list.
 
 module _ {R : Type 0} (k : RecordRules R) (base : World R) (log seen : List Note) (d c : ℕ) (done : Entry) (owns own : List Key) (is : own ≡ desk_key d ∷ [])
     (account : IsAccount k base log) (go : Continues seen own log) (below : Below d c (calls seen)) (legal : IsLegal k base (log ++ noted (journalled d c done) (owns ++ own) ∷ []))

@@ -16,7 +16,7 @@ pub length-calls : (xs : List Note) → length (calls xs) ≡ length xs
 length-calls [] = refl
 length-calls (x ∷ xs) = ap suc (length-calls xs)
 
--- ---- the calls of one desk
+-- The calls of one desk.
 
 pub keyed_append : (xs ys : List Note) → Keyed xs → Keyed ys → Keyed (xs ++ ys)
 keyed_append [] ys h g = g
@@ -34,7 +34,7 @@ pub below_more : (d c c' : ℕ) (xs : List JournalEntry) → c ≤ c' → Below 
 below_more d c c' [] le h = tt
 below_more d c c' (x ∷ xs) le h = ((λ e. let a = h.0 e in omega arith), below_more d c c' xs le h.1)
 
--- notes without the desk's key are not of the desk
+-- Notes without the desk's key aren't calls of the desk.
 spared_below : (xs : List Note) (d c : ℕ) → Keyed xs → Spares (desk_key d) xs → Below d c (calls xs)
 spared_below [] d c k s = tt
 spared_below (x ∷ xs) d c k s = ((λ e. absurd (s.0 (subst (λ n. Has (desk_key n) x.keys) e k.0))), spared_below xs d c k.1 s.1)
@@ -69,7 +69,7 @@ none_below d [] b = refl
 none_below d (e ∷ es) b =
     ap (λ b. if b then e ∷ calls_by d es else calls_by d es) (ne_eqb e.desk d (λ (same : e.desk ≡ d). let lt = b.0 same in omega arith)) ∙ none_below d es b.1
 
--- ---- a list that goes on without the desk's key
+-- Lists that continue without the desk's key.
 
 pub below_on : (seen log : List Note) (d c : ℕ) → Continues seen (desk_key d ∷ []) log → Keyed log → Below d c (calls seen) → Below d c (calls log)
 below_on seen log d c go k b =
@@ -82,7 +82,7 @@ calls_on seen log d go k =
     ap (λ l. calls_by d l) (ap calls go.1 ∙ calls-append seen go.0)
     ∙ (by-append d (calls seen) (calls go.0) ∙ (ap (λ l. calls_by d (calls seen) ++ l) (spared_calls go.0 d keyed (go.2 (desk_key d) (inl refl))) ∙ append-nil (calls_by d (calls seen))))
 
--- of other desks nothing changes
+-- A call of another desk leaves the numbers of this desk unchanged.
 pub below_other : (log : List Note) (e : JournalEntry) (ks : List Key) (d : ℕ) → (e.desk ≡ d → ⊥) → Below d 0 (calls log) → Below d 0 (calls (log ++ noted e ks ∷ []))
 below_other log e ks d ne b =
     subst (Below d 0) (sym (calls-append log (noted e ks ∷ []))) (below_append d 0 (calls log) (e ∷ []) b ((λ same. absurd (ne same)), tt))
@@ -94,7 +94,7 @@ account_longer k base xs ys a b = go (nat_le (length xs) (length ys))
     go true = b
     go false = a
 
--- ---- a list that goes on is longer
+-- A list isn't longer than one that continues from it.
 
 pub no_longer : (seen log : List Note) (ks : List Key) → Continues seen ks log → length seen ≤ length log
 no_longer seen log ks go = omega (arith, ap length go.1, length-append seen go.0)

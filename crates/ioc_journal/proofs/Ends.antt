@@ -10,7 +10,7 @@ use Rattle.ioc_line.specs.Line.{Begins, noted}
 use Rattle.ioc_journal.specs.Account.{calls, IsEntryOf}
 use Rattle.ioc_journal.proofs.Calls.{calls-append, length-calls}
 
--- what is in front of the last, and the last
+-- A list that isn't empty is what precedes its last element, followed by that element.
 last_of : {X : Type 0} (xs : List X) (n : ℕ) → length xs ≡ n + 1 → (before : List X) × (x : X) × (xs ≡ before ++ x ∷ []) × (length before ≡ n)
 last_of [] n is = absurd (let z : ⊥ = omega (arith, is) in z)
 last_of (x ∷ []) n is = ([], x, refl, let z : 0 ≡ n = omega (arith, is) in z)
@@ -21,7 +21,7 @@ at_seam : {X : Type 0} (xs : List X) (y : X) (ys : List X) → slice_get (xs ++ 
 at_seam xs y ys =
     slice_get-get_or (xs ++ y ∷ ys) (length xs) y (omega (arith, length-append xs (y ∷ ys))) ∙ ap (λ x. Some x) (get_or-append_seam xs y ys y)
 
--- the entry at the place where a list ends with which all calls begin
+-- If all calls begin with the receipt's list, the entry at its last place is the receipt's.
 pub is_entry_of : (receipt all : List Note) (place : ℕ) (entry : JournalEntry) → length receipt ≡ place + 1 → Begins receipt all → slice_get (calls all) place ≡ Some entry → IsEntryOf receipt all entry
 is_entry_of receipt all place entry long begins found =
     let r = last_of receipt place long in
@@ -43,7 +43,7 @@ is_entry_of receipt all place entry long begins found =
 none_some : {X : Type 0} (x : X) → Some x ≡ None → ⊥
 none_some x e = cc
 
--- there is an entry at that place
+-- There is an entry at that place.
 pub is_within : (receipt all : List Note) (place : ℕ) → length receipt ≡ place + 1 → Begins receipt all → slice_get (calls all) place ≡ None → ⊥
 is_within receipt all place long begins none =
     let few : length all ≡ length receipt + length begins.0 = ap length begins.1 ∙ length-append receipt begins.0 in

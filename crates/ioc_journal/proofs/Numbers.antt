@@ -13,7 +13,7 @@ use Rattle.ioc_holding.specs.Legal.{notifications_key}
 use Rattle.ioc_journal.specs.Account.{calls, number_given, numbers_given, PutsAreKeyed, MayBegin}
 use Rattle.ioc_journal.proofs.Calls.{calls-append}
 
--- behind a list, or nothing
+-- An optional number in front of `xs ++ ys` is in front of `xs`.
 pub given-append : (o : Option ℕ) (xs ys : List ℕ) → cons_option o (xs ++ ys) ≡ cons_option o xs ++ ys
 given-append None xs ys = refl
 given-append (Some n) xs ys = refl
@@ -34,7 +34,7 @@ puts_right : (xs ys : List Note) → PutsAreKeyed (xs ++ ys) → PutsAreKeyed ys
 puts_right [] ys h = h
 puts_right (x ∷ xs) ys h = puts_right xs ys h.1
 
--- notes without the key of the puts with notification begin none
+-- Notes without the key of the puts with notification begin none.
 none_without : (o : Option ℕ) (keys : List Key) → IfSome o (λ _. Has notifications_key keys) → (Has notifications_key keys → ⊥) → (xs : List ℕ) → cons_option o xs ≡ xs
 none_without None keys h spares xs = refl
 none_without (Some n) keys h spares xs = absurd (spares h)
@@ -43,7 +43,7 @@ spared_numbers : (xs : List Note) → PutsAreKeyed xs → Spares notifications_k
 spared_numbers [] h s = refl
 spared_numbers (x ∷ xs) h s = none_without (number_given x.entry.entry.event) x.keys h.0 s.0 (numbers_given (calls xs)) ∙ spared_numbers xs h.1 s.1
 
--- who owns that key has seen all numbers that were given
+-- The owner of that key has seen all numbers of the list.
 pub numbers_on : (seen log : List Note) (owned : List Key) → Continues seen owned log → Has notifications_key owned → PutsAreKeyed log → numbers_given (calls log) ≡ numbers_given (calls seen)
 numbers_on seen log owned go has keyed =
     let later = puts_right seen go.0 (subst PutsAreKeyed go.1 keyed) in
@@ -51,7 +51,8 @@ numbers_on seen log owned go has keyed =
     ∙ (ap numbers_given (calls-append seen go.0)
     ∙ (numbers-append (calls seen) (calls go.0) ∙ (ap (λ l. numbers_given (calls seen) ++ l) (spared_numbers go.0 later (go.2 notifications_key has)) ∙ append-nil (numbers_given (calls seen)))))
 
--- and those of a list that ends with one call more
+-- The numbers of a list with one more call are those that the owner has seen, followed by the
+-- number of the call, if it has one.
 pub numbers_then : (seen log longer : List Note) (owned : List Key) (n : Note) → Continues seen owned log → longer ≡ log ++ n ∷ [] → Has notifications_key owned → PutsAreKeyed longer
     → numbers_given (calls longer) ≡ numbers_given (calls seen) ++ cons_option (number_given n.entry.entry.event) []
 numbers_then seen log longer owned n go is has keyed =
@@ -59,7 +60,7 @@ numbers_then seen log longer owned n go is has keyed =
     ∙ (ap numbers_given (calls-append log (n ∷ []))
     ∙ (numbers-append (calls log) (n.entry ∷ []) ∙ ap (λ l. l ++ cons_option (number_given n.entry.entry.event) []) (numbers_on seen log owned go has (puts_left log (n ∷ []) (subst PutsAreKeyed is keyed)))))
 
--- ---- one call more
+-- Lists with one more call.
 
 abbrev pub Rise : List ℕ → Type 0
 Rise xs = AllPairs (λ earlier later. earlier < later) xs
@@ -68,7 +69,8 @@ rise_more : (o : Option ℕ) (xs : List ℕ) → Rise xs → IfSome o (λ number
 rise_more None xs h g = subst Rise (sym (append-nil xs)) h
 rise_more (Some n) xs h g = all_pairs_push (λ earlier later. earlier < later) xs n h (λ k d lt. g k d lt)
 
--- where the caller of one that begins a put with notification owns their key, its number is higher than all of the list
+-- If the caller that begins a put with notification owns their key, the number is higher than all
+-- those of the list.
 begins_above : (o : Option ℕ) (seen log : List Note) (owned : List Key) → Continues seen owned log → PutsAreKeyed log
     → IfSome o (λ number. Has notifications_key owned × All (λ earlier. earlier < number) (numbers_given (calls seen))) → IfSome o (λ number. All (λ earlier. earlier < number) (numbers_given (calls log)))
 begins_above None seen log owned go keyed h = tt
@@ -87,7 +89,7 @@ numbers_rise seen log owned n go keyed rise begins =
 pub puts_stay_keyed : (seen log : List Note) (owned : List Key) (n : Note) → ((key : Key) → Has key owned → Has key n.keys) → PutsAreKeyed log → MayBegin seen owned n.entry.entry.event → PutsAreKeyed (log ++ n ∷ [])
 puts_stay_keyed seen log owned n within keyed begins = puts_append log (n ∷ []) keyed (keyed_by (number_given n.entry.entry.event) seen owned n.keys within begins, tt)
 
--- ---- an event that begins none, and what is known of the last number
+-- Events that begin no put with notification, and what is known of the last number.
 
 pub begins_none : (seen : List Note) (owned : List Key) (event : Event) → number_given event ≡ None → MayBegin seen owned event
 begins_none seen owned event none = subst (λ (o : Option ℕ). IfSome o (λ number. Has notifications_key owned × All (λ earlier. earlier < number) (numbers_given (calls seen)))) (sym none) tt
@@ -111,6 +113,6 @@ numbers_below seen log longer owned n last go is has keyed below given =
 pub still_below : (xs : List ℕ) (last later : ℕ) → last ≤ later → All (λ number. number ≤ last) xs → All (λ number. number ≤ later) xs
 still_below xs last later le h k d lt = let was = h k d lt in omega (arith, was, le)
 
--- the next number is higher
+-- The next number is higher than all before.
 pub next_above : (xs : List ℕ) (last next : ℕ) → next ≡ last + 1 → All (λ number. number ≤ last) xs → All (λ number. number < next) xs
 next_above xs last next is h k d lt = let was = h k d lt in omega (arith, was, is)

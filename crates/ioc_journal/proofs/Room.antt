@@ -1,4 +1,4 @@
--- Places for calls: the list of entries has as many as the list of notes, and an entry is found where it was added.
+-- The entries are as many as the notes, and an entry is at the place where it was added.
 use Rattle.std.proofs.Common.{◌≡◌, ℕ, List, [], ◌∷◌, ◌++◌, length, refl, Some, None, Result, Ok, Err, inl, inr, ap, ◌∙◌, arith}
 use Rattle.std.specs.Prelude.{IfOk, IfErr, slice_get}
 use Rattle.ioc_values.specs.declared.error.IocError.{IocError}
@@ -15,7 +15,7 @@ last_is : (items : List JournalEntry) (e : JournalEntry) → slice_get (items ++
 last_is [] e = refl
 last_is (x ∷ items) e = last_is items e
 
--- An entry that was added stands behind those that were there.
+-- An added entry follows those that were there.
 pub stands : (items : List JournalEntry) (e : JournalEntry) (n : ℕ) → n ≡ length items → slice_get (items ++ e ∷ []) n ≡ None → ⊥
 stands items e n is none = let last = last_is items e in let at = ap (slice_get (items ++ e ∷ [])) is in cc
 

@@ -1,4 +1,4 @@
--- A desk, as a tuple of its parts.
+-- The encoding of a desk as a tuple of its parts.
 use Rattle.std.specs.Prelude.{ℕ, List, refl}
 use Rattle.std.specs.Coded.{Coded, code_by, coded×, coded_list, coded_ℕ}
 use Rattle.ioc_line.specs.declared.entry.Note.{Note}

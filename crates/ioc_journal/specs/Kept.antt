@@ -1,4 +1,4 @@
--- What the journal, a desk and a receipt keep.
+-- The invariants of the journal, a desk and a receipt.
 use Rattle.std.specs.Prelude.{◌≡◌, ℕ, ◌+◌, ◌<◌, ◌≤◌, List, [], ◌∷◌, length}
 use Rattle.atomic_table.specs.Seated.{TableId}
 use Rattle.ioc_record.specs.RecordRules.{RecordRules}
@@ -11,19 +11,20 @@ use Rattle.ioc_holding.specs.Legal.{IsSound}
 use Rattle.ioc_journal.specs.Account.{calls, desk_key, Below, IsAccount}
 
 module _ {R : Type 0} (k : RecordRules R) (base : World R) (table id : TableId) (v : View) where
-  -- the journal's pass is the keeper's, its entries are the calls of the list, and the list is legal from a sound world on
+  -- The invariant of a journal: its pass is the keeper's, its entries are the calls of the list,
+  -- and the list is legal from a sound world on.
   pub record IsKept (items : List JournalEntry) (desks : ℕ) : Type 0 where
     pub same : id ≡ table
     pub keeps : v ≡ keeper v.seen v.born
     pub items_are : items ≡ calls v.seen
     pub sound : IsSound k base
     pub account : IsAccount k base v.seen
-    -- only desks below this number have keys and calls
+    -- Only desks below this number have keys and calls.
     pub given : (key : Key) → Has key v.born → key.0 ≡ 1 → key.1 < desks
     pub new_desk : (d : ℕ) → desks ≤ d → Below d 0 (calls v.seen)
 
-  -- a desk's pass owns its key, its calls have numbers below the next, which isn't higher than the count of calls that it has seen, and the
-  -- list of these is legal
+  -- The invariant of a desk: its pass owns its key, its calls have numbers below the next one,
+  -- which is at most the number of calls that it has seen, and the list of these is legal.
   pub record IsDesk (number next : ℕ) : Type 0 where
     pub same : id ≡ table
     pub holds : v ≡ holder v.seen (desk_key number ∷ [])
@@ -31,7 +32,7 @@ module _ {R : Type 0} (k : RecordRules R) (base : World R) (table id : TableId) 
     pub count : next ≤ length v.seen
     pub account : IsAccount k base v.seen
 
-  -- a receipt's pass owns nothing, and its legal list ends at its place
+  -- The invariant of a receipt: its pass owns nothing, and its legal list ends at its place.
   pub record IsReceipt (place : ℕ) : Type 0 where
     pub same : id ≡ table
     pub holds : v ≡ holder v.seen []

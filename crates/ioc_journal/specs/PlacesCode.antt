@@ -1,4 +1,4 @@
--- A list of places, and a journal, each as a tuple of its parts.
+-- The encoding of a list of places, and of a journal, each as a tuple of its parts.
 use Rattle.std.specs.Prelude.{ℕ, List, refl}
 use Rattle.std.specs.Coded.{Coded, code_by, coded×, coded_list, coded_ℕ}
 use Rattle.ioc_line.specs.declared.entry.JournalEntry.{JournalEntry}

@@ -2,8 +2,9 @@
 use ioc_line::Room;
 use std::marker::Brand;
 
-/// Names an engine: its cell, the world at the load and which records have a device there, the ledger of the places that are held in its journal,
-/// and that of its once tickets. Its records are of kind `K`.
+/// Names an engine: its cell, the world at the load and the records with a device at that time, the
+/// ledger of the held places of its journal, and the ledger of its once tickets. Its records are of
+/// kind `K`.
 pub trait Base<K>: Room {
     ghost use Rattle.std.specs.Prelude.{ℕ, Bool};
     ghost use Rattle.ioc_store.specs.World.{World};
@@ -11,13 +12,13 @@ pub trait Base<K>: Room {
     /// The world at the load.
     ghost base: { World K };
 
-    /// Which records have a device at the load, by their numbers.
+    /// The numbers of the records that have a device at the load.
     ghost had_device: { ℕ → Bool };
 
     /// The name of the ledger of places.
     ghost places: { ℕ };
 
-    /// The name of the ledger of tickets for requests that are to be made once more.
+    /// The name of the ledger of tickets for once requests.
     ghost tickets: { ℕ };
 }
 

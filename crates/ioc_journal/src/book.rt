@@ -21,11 +21,12 @@ use std::hint;
 use std::marker::Model;
 use std::sync::{Mutex, MutexGuard, Wait};
 
-// How often a lock that is taken is tried before its thread falls asleep.
+// The number of attempts at a locked journal before the thread sleeps.
 const TRIES: u64 = 500;
 
-/// The journal of an engine under its lock, and the cell that ties it to the passes under other locks. Its lock is held for a moment at a
-/// time, and no other lock is awaited meanwhile. Contracts see which cell it is.
+/// The journal of an engine under its lock, and the cell that ties it to the passes under other
+/// locks. The lock is held only briefly, and no other lock is awaited meanwhile. Contracts see the
+/// identity of the cell.
 #[derive(Drop)]
 pub struct Book<K: RecordKind, B: Base<K>> {
     pub(crate) cell: Cell,
@@ -46,7 +47,7 @@ impl<K: RecordKind, B: Base<K>> Model for Book<K, B> {
 }
 
 impl<K: RecordKind, B: Base<K>> Book<K, B> {
-    /// A journal and its cell.
+    /// Puts a journal under a lock, with its cell.
     pub fn new(cell: Cell, journal: Journal<K, B>) -> Self
         requires table { cell.table.shared.table_id ≡ B.table }
     {
@@ -56,8 +57,8 @@ impl<K: RecordKind, B: Base<K>> Book<K, B> {
         }
     }
 
-    // Takes the journal's lock. It is held for far less time than a thread takes to fall asleep and to be woken: who finds it taken tries again
-    // for a while first.
+    // Locks the journal. The lock is held for far less time than a thread takes to fall asleep and
+    // wake up, so a locked journal is tried repeatedly first.
     fn lock<R: Wait>(&self, rt: &R) -> MutexGuard<'_, Journal<K, B>> {
         for _ in 0..TRIES {
             if let Some(guard) = self.journal.try_lock() {
@@ -68,11 +69,11 @@ impl<K: RecordKind, B: Base<K>> Book<K, B> {
         self.journal.lock(rt)
     }
 
-    /// A desk that has seen all calls, and made none.
+    /// Opens a desk, which has seen all calls and made none.
     ///
     /// # Errors
     ///
-    /// [`IocError::JournalFull`] where the numbers of desks are used up.
+    /// [`IocError::JournalFull`] if no number is left for a desk.
     pub fn open_desk<R: Wait>(&self, rt: &R) -> Result<Desk<K, B>, IocError>
         ensures new { IfOk result (λ d. (d.next ≡ 0) × (calls_by d.number (calls d.seen) ≡ [])) }
         ensures refused { IfErr result (λ error. error ≡ JournalFull) }
@@ -80,18 +81,19 @@ impl<K: RecordKind, B: Base<K>> Book<K, B> {
         self.lock(rt).open_desk(&self.cell)
     }
 
-    /// The cell that ties the passes.
+    /// The cell that ties the passes together.
     pub fn cell(&self) -> &Cell
         ensures { result.now.table.shared.table_id ≡ B.table }
     {
         &self.cell
     }
 
-    /// Holds a place for a call.
+    /// Reserves a place for a call.
     ///
     /// # Errors
     ///
-    /// [`IocError::JournalFull`] where entries and held places make the limit, and else [`IocError::NoMemory`] where memory is wanting.
+    /// [`IocError::JournalFull`] if entries and held places reach the limit, otherwise
+    /// [`IocError::NoMemory`] if allocation fails.
     #[inline(always)]
     pub fn reserve<R: Wait>(&self, rt: &R) -> Result<Place<K, B>, IocError>
         ensures refused { IfErr result IsNoPlace }
@@ -99,13 +101,13 @@ impl<K: RecordKind, B: Base<K>> Book<K, B> {
         self.lock(rt).reserve()
     }
 
-    /// Takes back a place whose call wasn't made: it is free again.
+    /// Frees a place whose call wasn't made.
     pub fn give_back<R: Wait>(&self, rt: &R, place: Place<K, B>) {
         self.lock(rt).give_back(place);
     }
 
-    /// Adds a call of a desk, under the lock of the set that it is about, of whose pass all keys are noted. Desk and pass know the whole
-    /// list then.
+    /// Adds a call of a desk. The caller holds the lock of the set that the call concerns; all keys
+    /// of the set's pass are noted. Afterwards desk and pass know the whole list.
     #[inline(always)]
     pub fn append<R: Wait>(
         &self,
@@ -129,8 +131,9 @@ impl<K: RecordKind, B: Base<K>> Book<K, B> {
         journal.append(rt, &self.cell, place, set, desk, entry)
     }
 
-    /// Adds a call of a desk that is about two sets, under both their locks. Afterwards the first pass owns the keys of `P`, and the other the
-    /// rest of `P`; desk and passes know the whole list.
+    /// Adds a call of a desk that concerns two sets, both of whose locks the caller holds.
+    /// Afterwards the first pass owns the keys of `P` and the second the rest of `P`; the desk and
+    /// both passes know the whole list.
     pub fn append_two<P: Keys, R: Wait>(
         &self,
         rt: &R,
@@ -158,7 +161,7 @@ impl<K: RecordKind, B: Base<K>> Book<K, B> {
         journal.append_two::<P, R>(rt, &self.cell, place, one, other, desk, entry)
     }
 
-    /// Two passes own no key together. Both know the same list then.
+    /// Compares two passes: they have no key in common. Afterwards both know the same list.
     pub fn compare<R: Wait>(&self, rt: &R, one: &mut Token, other: &mut Token)
         requires table { (one.old.table_id ≡ B.table) × (other.old.table_id ≡ B.table) }
         requires holders { IsHolder (cell_view one.old) × IsHolder (cell_view other.old) }
@@ -171,7 +174,8 @@ impl<K: RecordKind, B: Base<K>> Book<K, B> {
         journal.compare(rt, &self.cell, one, other);
     }
 
-    /// The first pass takes over the keys of the other, which owns nothing then. Both know the same list.
+    /// Moves the keys of the second pass to the first. Afterwards the second owns nothing, and both
+    /// know the same list.
     pub fn merge<R: Wait>(&self, rt: &R, one: &mut Token, other: &mut Token)
         requires table { (one.old.table_id ≡ B.table) × (other.old.table_id ≡ B.table) }
         requires holders { IsHolder (cell_view one.old) × IsHolder (cell_view other.old) }

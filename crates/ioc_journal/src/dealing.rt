@@ -1,4 +1,4 @@
-//! Passes whose keys are dealt anew: by a call about what two of them own, or without one.
+//! Divides the keys of passes again, by a call that concerns two of them, or without one.
 ghost use Rattle.std.specs.Prelude.{◌≡◌, [], ◌∷◌, ◌++◌};
 ghost use Rattle.crossbeam_utils.specs.Seq.{cell_view};
 ghost use Rattle.ioc_line.specs.Key.{Key, Has};
@@ -10,7 +10,7 @@ use ioc_line::{Cell, JournalEntry, Keys, Said, Token, pass};
 use std::marker::Brand;
 use std::sync::Wait;
 
-// The same as `relink` of ioc_line, for a note of this entry.
+// `relink` of ioc_line for the note of this entry.
 fn relink_as<K: Keys, L: Keys, S: Said, R: Wait>(
     rt: &R,
     cell: &Cell,
@@ -42,8 +42,9 @@ fn relink_as<K: Keys, L: Keys, S: Said, R: Wait>(
     relink::<K, L, S, R>(rt, cell, master, one, other, desk)
 }
 
-/// A call about what two passes own. Afterwards the first owns the keys of `P`, and the other the rest of `P`; all know the whole list, and
-/// the caller gets a receipt.
+/// Adds a call that concerns the keys of two passes, and returns the pass of its receipt.
+/// Afterwards the first pass owns the keys of `P`, the second the rest of `P`, and all know the
+/// whole list.
 pub(crate) fn deal<P: Keys, R: Wait>(
     rt: &R,
     cell: &Cell,
@@ -72,7 +73,8 @@ pub(crate) fn deal<P: Keys, R: Wait>(
     relink_as::<Brand, Brand, Brand, R>(rt, cell, master, one, other, desk, entry)
 }
 
-/// A pass takes over the keys of another, which owns nothing then. Both know the whole list.
+/// Moves the keys of the second pass to the first. Afterwards the second owns nothing, and both
+/// know the whole list.
 pub(crate) fn take_over<R: Wait>(
     rt: &R,
     cell: &Cell,

@@ -1,4 +1,4 @@
-//! A caller, and what it has seen.
+//! Callers of an engine and the calls that they have seen.
 ghost use Rattle.std.specs.Prelude.{◌≡◌};
 ghost use Rattle.ioc_line.specs.Line.{longer, Begins};
 ghost use Rattle.ioc_journal.specs.Account.{IsAccount, calls, calls_by};
@@ -10,7 +10,8 @@ use ioc_record::RecordKind;
 use std::marker::{Model, PhantomData};
 use std::sync::Wait;
 
-/// A caller. Contracts see its number, that of its next call, and the beginning of the journal's list that it has seen.
+/// A caller of an engine. Contracts see its number, the number of its next call, and the beginning
+/// of the journal's list that it has seen.
 #[derive(Drop)]
 pub struct Desk<K: RecordKind, B: Base<K>> {
     pub(crate) number: u64,
@@ -38,7 +39,8 @@ impl<K: RecordKind, B: Base<K>> Model for Desk<K, B> {
 }
 
 impl<K: RecordKind, B: Base<K>> Desk<K, B> {
-    /// Takes over what a receipt knows, where that is more than it has seen: either list is a beginning of what it knows then.
+    /// Moves on to the list of a receipt, if that is longer than the list that the desk has seen.
+    /// Afterwards both lists are beginnings of the one that the desk knows.
     pub fn learn<R: Wait>(&mut self, rt: &R, cell: &Cell, receipt: &mut Receipt<K, B>)
         requires table { cell.now.table.shared.table_id ≡ B.table }
         ensures desk { (self.new.number ≡ self.old.number) × (self.new.next ≡ self.old.next) }

@@ -1,4 +1,4 @@
-//! What is learnt of the journal at the end.
+//! What is known of the journal when the engine ends.
 ghost use Rattle.std.specs.Prelude.{◌≡◌, []};
 ghost use Rattle.crossbeam_utils.specs.Seq.{cell_view};
 ghost use Rattle.ioc_line.specs.Line.{keeper, holder, Continues};
@@ -12,7 +12,7 @@ use ioc_line::{Cell, Token, pass};
 use ioc_record::RecordKind;
 use std::sync::Wait;
 
-// A pass learns the whole list.
+// Moves a pass on to the whole list.
 fn tell<R: Wait>(rt: &R, cell: &Cell, master: &mut Token, set: &mut Token)
     requires table { (master.old.table_id ≡ cell.now.table.shared.table_id) × (set.old.table_id ≡ master.old.table_id) }
     requires keeper { cell_view master.old ≡ keeper (cell_view master.old).seen (cell_view master.old).born }
@@ -27,7 +27,8 @@ fn tell<R: Wait>(rt: &R, cell: &Cell, master: &mut Token, set: &mut Token)
 }
 
 impl<K: RecordKind, B: Base<K>> Journal<K, B> {
-    /// The pass of a set learns the whole list, which goes on from what it has seen without its keys.
+    /// Moves the pass of a set on to the whole list, which continues from what the pass had seen
+    /// without its keys.
     pub fn tell_all<R: Wait>(&mut self, rt: &R, cell: &Cell, set: &mut Token)
         requires table { (cell.now.table.shared.table_id ≡ B.table) × (set.old.table_id ≡ B.table) }
         requires set { IsHolder (cell_view set.old) }
@@ -39,7 +40,7 @@ impl<K: RecordKind, B: Base<K>> Journal<K, B> {
         tell(rt, cell, &mut self.pass, set);
     }
 
-    /// The list is legal from the world at the load on, which is sound.
+    /// The world at the load is sound, and the list is legal from there on.
     pub fn is_legal(&self)
         ensures sound { IsSound K.rules B.base }
         ensures account { IsAccount K.rules B.base self.now.filled }
@@ -49,7 +50,7 @@ impl<K: RecordKind, B: Base<K>> Journal<K, B> {
 }
 
 impl<K: RecordKind, B: Base<K>> Book<K, B> {
-    /// The cell and the journal, which no lock guards any more.
+    /// Returns the cell and the journal, without their lock.
     pub fn into_parts(self) -> (Cell, Journal<K, B>)
         ensures { result.0.table.shared.table_id ≡ B.table }
     {

@@ -1,4 +1,4 @@
-//! The entries of a journal, and places for more, which are held before they are filled.
+//! The entries of a journal, and places that are held before they are filled.
 ghost use Rattle.std.specs.Prelude.{◌≡◌, ◌≤◌, ◌+◌, ◌^◌, ◌-◌, [], ◌∷◌, ◌++◌, length, IfOk, IfErr, OnErr, slice_get};
 ghost use Rattle.std.specs.Option.{option_map};
 ghost use Rattle.ioc_journal.specs.Account.{journalled};
@@ -13,7 +13,7 @@ use std::alloc::Global;
 use std::marker::{Model, PhantomData};
 use std::sync::ledger::{Blank, Book, Ledger, Share};
 
-/// The parts into which the ledger of places is cut: as many as can be held at once.
+/// The parts of the ledger of places: as many places can be held at once.
 pub const PLACES: u64 = u64::MAX;
 
 /// The ledger of the places that are held in an engine's journal.
@@ -28,13 +28,15 @@ impl<K, B: Base<K>> Ledger for Places<K, B> {
     ghost parts = { 18446744073709551615 };
 }
 
-/// A place that is held for one entry: there is room for it. It can't be dropped: whoever has it has to fill it or to give it back.
+/// A held place of the journal, with memory reserved for its entry. It can't be dropped: it has to
+/// be filled or given back.
 pub struct Place<K, B: Base<K>> {
     share: Share<Places<K, B>>,
     ghost one: { (share.parts ≡ 1) × (share.amount ≡ 1) },
 }
 
-/// Entries, with room for each whose place is held. Contracts see the list of the entries, how many places are held, and how many there are.
+/// Entries, with memory reserved for each held place. Contracts see the list of the entries, the
+/// number of held places, and the limit.
 #[derive(Drop)]
 pub struct Entries<K, B: Base<K>> {
     items: Vec<JournalEntry>,
@@ -63,7 +65,7 @@ impl<K, B: Base<K>> Model for Entries<K, B> {
 }
 
 impl<K, B: Base<K>> Entries<K, B> {
-    /// No entry, and no place is held. The parts are [`PLACES`].
+    /// No entries and no held places. `blank` has [`PLACES`] parts.
     pub fn new(alloc: Global, blank: Blank, limits: Limits) -> Self
         requires name { blank.name ≡ B.places }
         requires parts { blank.parts ≡ 2 ^ 64 - 1 }
@@ -80,7 +82,7 @@ impl<K, B: Base<K>> Entries<K, B> {
         }
     }
 
-    /// How many entries there are.
+    /// Returns the number of entries.
     pub fn len(&self) -> usize
         ensures count { result ≡ length self.now.filled }
         ensures within { length self.now.filled + self.now.held ≤ self.now.limit }
@@ -89,18 +91,19 @@ impl<K, B: Base<K>> Entries<K, B> {
         self.items.len()
     }
 
-    /// The entry at a place, from 0 on; none past the last.
+    /// Returns the entry at a place, from 0 on, or `None` past the last.
     pub fn at(&self, place: u64) -> Option<&JournalEntry>
         ensures { option_map (λ e. e.now) result ≡ slice_get self.now.filled place }
     {
         self.items.get(place as usize)
     }
 
-    /// Holds a place for one entry more.
+    /// Reserves a place for one more entry.
     ///
     /// # Errors
     ///
-    /// [`IocError::JournalFull`] where entries and held places make the limit, and else [`IocError::NoMemory`] where memory is wanting.
+    /// [`IocError::JournalFull`] if entries and held places reach the limit, otherwise
+    /// [`IocError::NoMemory`] if allocation fails.
     #[inline(always)]
     pub fn hold(&mut self) -> Result<Place<K, B>, IocError>
         ensures held { IfOk result (λ _. HoldsOne self.old self.new) }
@@ -119,7 +122,7 @@ impl<K, B: Base<K>> Entries<K, B> {
         Ok(Place { share })
     }
 
-    /// Fills a place with a call of a desk, which is put together where it lies. It takes no memory.
+    /// Fills a place with a call of a desk. It doesn't allocate.
     #[inline(always)]
     pub fn fill(&mut self, place: Place<K, B>, desk: u64, call: u64, entry: Entry)
         ensures held { self.old.held ≡ self.new.held + 1 }
@@ -133,7 +136,7 @@ impl<K, B: Base<K>> Entries<K, B> {
         self.items.push_reserved(JournalEntry { desk, call, entry });
     }
 
-    /// Takes a place back that isn't filled: it is free again.
+    /// Frees a place that wasn't filled.
     pub fn give_back(&mut self, place: Place<K, B>)
         ensures { self.old ≡ one_more_held self.new }
     {

@@ -1,4 +1,4 @@
-//! All calls, in one order.
+//! All calls of an engine in one order.
 ghost use Rattle.std.specs.Prelude.{◌≡◌, ◌+◌, ◌-◌, ◌^◌, ◌++◌, [], IfOk, IfErr, OnOk, OnErr};
 ghost use Rattle.crossbeam_utils.specs.Seq.{cell_view};
 ghost use Rattle.ioc_line.specs.Key.{Key, Has};
@@ -23,8 +23,9 @@ use std::marker::{Model, PhantomData};
 use std::sync::Wait;
 use std::sync::ledger::Blank;
 
-/// All calls of an engine, each with its desk and its number. Contracts see them as one list, with the keys that each call is about, how many
-/// places are held for more, and there are in all, and how many desks were opened.
+/// All calls of an engine, each with its desk and its number. Contracts see them as one list with
+/// the keys that each call concerns, the number of held places, the limit, and the number of desks
+/// that were opened.
 #[derive(Drop)]
 pub struct Journal<K: RecordKind, B: Base<K>> {
     pub(crate) entries: Entries<K, B>,
@@ -51,7 +52,7 @@ impl<K: RecordKind, B: Base<K>> Model for Journal<K, B> {
 }
 
 impl<K: RecordKind, B: Base<K>> Journal<K, B> {
-    /// No call was made yet. The keeper's pass has given out keys of records alone.
+    /// A journal without calls. The keeper's pass has created only keys of records.
     pub fn new(alloc: Global, master: Token, blank: Blank, limits: Limits) -> Self
         requires table { master.table_id ≡ B.table }
         requires pass { cell_view master ≡ keeper [] (cell_view master).born }
@@ -69,11 +70,12 @@ impl<K: RecordKind, B: Base<K>> Journal<K, B> {
         }
     }
 
-    /// A desk that has seen all calls, and made none. Its number is how many were opened before.
+    /// Opens a desk, which has seen all calls and made none. Its number is the number of desks
+    /// opened before.
     ///
     /// # Errors
     ///
-    /// [`IocError::JournalFull`] where the numbers of desks are used up, and only there.
+    /// [`IocError::JournalFull`] exactly if no number is left for a desk.
     pub fn open_desk(&mut self, cell: &Cell) -> Result<Desk<K, B>, IocError>
         requires table { cell.now.table.shared.table_id ≡ B.table }
         ensures desk { IfOk result (λ d. (d.number ≡ self.old.desks) × (d.next ≡ 0) × (d.seen ≡ self.old.filled) × (calls_by d.number (calls d.seen) ≡ [])) }
@@ -96,11 +98,12 @@ impl<K: RecordKind, B: Base<K>> Journal<K, B> {
         })
     }
 
-    /// Holds a place for a call.
+    /// Reserves a place for a call.
     ///
     /// # Errors
     ///
-    /// [`IocError::JournalFull`] where entries and held places make the limit, and else [`IocError::NoMemory`] where memory is wanting.
+    /// [`IocError::JournalFull`] if entries and held places reach the limit, otherwise
+    /// [`IocError::NoMemory`] if allocation fails.
     #[inline(always)]
     pub fn reserve(&mut self) -> Result<Place<K, B>, IocError>
         ensures held { IfOk result (λ _. HoldsOne (places self.old) (places self.new)) }
@@ -111,7 +114,7 @@ impl<K: RecordKind, B: Base<K>> Journal<K, B> {
         self.entries.hold()
     }
 
-    /// Takes back a place whose call wasn't made: it is free again.
+    /// Frees a place whose call wasn't made.
     pub fn give_back(&mut self, place: Place<K, B>)
         ensures free { places self.old ≡ one_more_held (places self.new) }
         ensures desks { self.new.desks ≡ self.old.desks }
@@ -119,7 +122,8 @@ impl<K: RecordKind, B: Base<K>> Journal<K, B> {
         self.entries.give_back(place);
     }
 
-    /// Adds a call of a desk, under the lock of the set that it is about, of whose pass all keys are noted.
+    /// Adds a call of a desk. The caller holds the lock of the set that the call concerns; all keys
+    /// of the set's pass are noted.
     #[inline(always)]
     pub fn append<R: Wait>(
         &mut self,
@@ -156,8 +160,8 @@ impl<K: RecordKind, B: Base<K>> Journal<K, B> {
         }
     }
 
-    /// Adds a call of a desk that is about two sets, under both their locks. Afterwards the first pass owns the keys of `P`, and the other the
-    /// rest of `P`.
+    /// Adds a call of a desk that concerns two sets, both of whose locks the caller holds.
+    /// Afterwards the first pass owns the keys of `P` and the second the rest of `P`.
     pub fn append_two<P: Keys, R: Wait>(
         &mut self,
         rt: &R,
@@ -199,7 +203,7 @@ impl<K: RecordKind, B: Base<K>> Journal<K, B> {
         }
     }
 
-    /// Two passes own no key together. Both know the whole list then.
+    /// Compares two passes: they have no key in common. Afterwards both know the whole list.
     pub fn compare<R: Wait>(&mut self, rt: &R, cell: &Cell, one: &mut Token, other: &mut Token)
         requires table { (cell.now.table.shared.table_id ≡ B.table) × (one.old.table_id ≡ B.table) × (other.old.table_id ≡ B.table) }
         requires holders { IsHolder (cell_view one.old) × IsHolder (cell_view other.old) }
@@ -213,7 +217,8 @@ impl<K: RecordKind, B: Base<K>> Journal<K, B> {
         pass::compare(rt, cell, &mut self.pass, one, other);
     }
 
-    /// The first pass takes over the keys of the other, which owns nothing then. Both know the whole list.
+    /// Moves the keys of the second pass to the first. Afterwards the second owns nothing, and both
+    /// know the whole list.
     pub fn merge<R: Wait>(&mut self, rt: &R, cell: &Cell, one: &mut Token, other: &mut Token)
         requires table { (cell.now.table.shared.table_id ≡ B.table) × (one.old.table_id ≡ B.table) × (other.old.table_id ≡ B.table) }
         requires holders { IsHolder (cell_view one.old) × IsHolder (cell_view other.old) }

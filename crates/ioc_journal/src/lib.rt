@@ -1,7 +1,8 @@
 //! All calls in one order: the journal, the desks that call, and the receipts of their calls.
 //!
-//! A call is kept in the journal while the lock of the set that it is about is held. A desk knows a beginning of the journal's list, which
-//! ends with its own last call; that list is legal: it is what an engine with all records in one map could have done.
+//! A call is added to the journal while the lock of the set that it concerns is held. A desk knows
+//! a beginning of the journal's list that includes all its own calls. This list is legal: it is a
+//! possible run of an engine with all records in one map.
 #![tactic(auto)]
 
 pub mod base;

@@ -1,11 +1,13 @@
-//! What an engine is limited to.
+//! The limits of an engine.
 ghost use Rattle.std.specs.Prelude.{◌≡◌, ◌↔◌, IsTrue};
 ghost use Rattle.ioc_journal.specs.Places.{AreAllowed};
 
-/// The limits of an engine. The number of places in its journal is that of the calls it can take.
+/// The limits of an engine. The number of places in its journal is the number of calls that it can
+/// take.
 #[derive(Clone, Copy, PartialEq, Eq, Debug)]
 pub struct Limits {
-    /// How many places the journal has, for entries and for those that are on their way: from 1 to 4,194,304.
+    /// The number of places in the journal, for entries and for calls on their way: from 1 to
+    /// 4,194,304.
     pub journal: u64,
 }
 
@@ -18,7 +20,7 @@ impl Default for Limits {
 }
 
 impl Limits {
-    /// Are they within their ranges?
+    /// Returns whether the limits are within their ranges.
     pub fn are_allowed(&self) -> bool
         ensures { IsTrue result ↔ AreAllowed self.now }
     {

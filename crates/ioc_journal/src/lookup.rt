@@ -1,4 +1,4 @@
-//! What the journal has of a call.
+//! The entries of the journal, and the entry of a receipt.
 ghost use Rattle.std.specs.Prelude.{◌≡◌, ◌≤◌, ◌+◌, length, slice_get};
 ghost use Rattle.std.specs.Option.{option_map};
 ghost use Rattle.crossbeam_utils.specs.Seq.{cell_view};
@@ -12,7 +12,7 @@ use ioc_line::{Cell, JournalEntry, Token, pass};
 use ioc_record::RecordKind;
 use std::sync::Wait;
 
-// The keeper's list begins with what a pass has seen.
+// Compares a pass with the keeper's list, which begins with what the pass has seen.
 fn compare_one<R: Wait>(rt: &R, cell: &Cell, master: &mut Token, one: &mut Token)
     requires table { (master.old.table_id ≡ cell.now.table.shared.table_id) × (one.old.table_id ≡ master.old.table_id) }
     requires keeper { cell_view master.old ≡ keeper (cell_view master.old).seen (cell_view master.old).born }
@@ -25,7 +25,7 @@ fn compare_one<R: Wait>(rt: &R, cell: &Cell, master: &mut Token, one: &mut Token
 }
 
 impl<K: RecordKind, B: Base<K>> Journal<K, B> {
-    /// How many calls there are. With the places that are held for more they aren't more than the limit.
+    /// Returns the number of calls. With the held places it is at most the limit.
     pub fn len(&self) -> usize
         ensures count { result ≡ length self.now.filled }
         ensures within { length self.now.filled + self.now.held ≤ self.now.limit }
@@ -34,14 +34,14 @@ impl<K: RecordKind, B: Base<K>> Journal<K, B> {
         self.entries.len()
     }
 
-    /// The call at a place, from 0 on; none past the last.
+    /// Returns the call at a place, from 0 on, or `None` past the last.
     pub fn entry_at(&self, place: u64) -> Option<&JournalEntry>
         ensures { option_map (λ e. e.now) result ≡ slice_get (calls self.now.filled) place }
     {
         self.entries.at(place)
     }
 
-    /// Tells the caller that the list of calls begins with what a receipt knows.
+    /// Compares a receipt with the list of calls, which begins with what the receipt knows.
     pub fn compare_receipt<R: Wait>(&mut self, rt: &R, cell: &Cell, receipt: &mut Receipt<K, B>)
         requires table { cell.now.table.shared.table_id ≡ B.table }
         ensures begins { Begins receipt.old self.old.filled }
@@ -51,8 +51,8 @@ impl<K: RecordKind, B: Base<K>> Journal<K, B> {
         compare_one(rt, cell, &mut self.pass, &mut receipt.pass);
     }
 
-    /// The call that a receipt was given for, where the list of calls begins with what the receipt knows: it stands at the receipt's place,
-    /// and the receipt's list ends with it.
+    /// Returns the call of a receipt: it is at the receipt's place, and the receipt's list ends
+    /// with it. The list of calls has to begin with the receipt's list.
     pub fn entry_of(&self, receipt: &Receipt<K, B>) -> &JournalEntry
         requires begins { Begins receipt.now self.now.filled }
         ensures { IsEntryOf receipt.now self.now.filled result.now }

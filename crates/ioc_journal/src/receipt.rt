@@ -7,7 +7,7 @@ use ioc_line::Token;
 use ioc_record::RecordKind;
 use std::marker::{Model, PhantomData};
 
-/// What a call left in the journal. Contracts see the journal's list up to that call.
+/// The trace of a call in the journal. Contracts see the journal's list up to that call.
 #[derive(Drop)]
 pub struct Receipt<K: RecordKind, B: Base<K>> {
     pub(crate) place: u64,
@@ -31,7 +31,7 @@ impl<K: RecordKind, B: Base<K>> Model for Receipt<K, B> {
 }
 
 impl<K: RecordKind, B: Base<K>> Receipt<K, B> {
-    /// Where the call stands in the journal's list, from 0 on.
+    /// Returns the place of the call in the journal's list, from 0 on.
     pub fn place(&self) -> u64
         ensures place { length self.now ≡ result + 1 }
         ensures legal { IsAccount K.rules B.base self.now }

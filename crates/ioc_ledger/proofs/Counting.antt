@@ -1,4 +1,4 @@
--- Counts of requests, by how many there are.
+-- The counts of requests by their number.
 use Rattle.std.proofs.Common.{◌≡◌, ℕ, zero, suc, ◌+◌, ◌-◌, ◌^◌, ◌≤◌, ◌<◌, min, ◌⊎◌, inl, inr, refl, ap, sym, ◌∙◌, arith}
 use Rattle.std.proofs.lemmas.Bool.{cases_lt}
 use Rattle.ioc_ledger.specs.declared.outcome.Outcome.{Outcome}
@@ -13,7 +13,7 @@ counted-followed_by t (Request outcome caused later) others = counted-followed_b
 filled-none : (n : ℕ) → n < 2 ^ 64 → n ≡ filled n 0
 filled-none n fits = omega arith
 
--- filled once, then by one if there is one more, then again
+-- Adding three times in turn adds the sum.
 filled-on : (n a one b : ℕ) → filled (filled (filled n a) one) b ≡ filled n (a + (one + b))
 filled-on n a one b = omega arith
 
@@ -29,7 +29,7 @@ fits-filled {before} {after} {requests} c = (
   rw c.reprocess (filled-fits before.reprocess (nodes_of Reprocess requests)),
 )
 
--- one request more
+-- Holds if one more request is counted.
 pub record CountsOne (before after : Tally) (outcome : Outcome) : Type 0 where
   pub begun : after.begun ≡ filled before.begun 1
   pub processed : after.processed ≡ filled before.processed (one_if Processed outcome)
@@ -54,7 +54,7 @@ fits-one {before} {after} {outcome} c = (
   rw c.reprocess (filled-fits before.reprocess (one_if Reprocess outcome)),
 )
 
--- one count through those caused, the request itself, and those after it
+-- A count after the caused requests, the request itself, and those after it.
 through : (n m l z a one b : ℕ) → m ≡ filled n a → l ≡ filled m one → z ≡ filled l b → z ≡ filled n (a + (one + b))
 through n m l z a one b first then last = last ∙ ap (λ x. filled x b) (then ∙ ap (λ x. filled x one) first) ∙ filled-on n a one b
 
@@ -82,7 +82,7 @@ counts-each t (Request outcome caused later) fits =
       completed = last.completed ∙ one.completed ∙ first.completed;
     }
 
--- one outcome each
+-- A request has exactly one outcome.
 one-each : (outcome : Outcome) → 1 ≡ ((one_if Processed outcome + one_if Disabled outcome) + one_if Active outcome) + one_if Reprocess outcome
 one-each Processed = refl
 one-each Disabled = refl
@@ -93,7 +93,7 @@ pub nodes-each : (requests : Requests) → nodes requests ≡ ((nodes_of Process
 nodes-each None = refl
 nodes-each (Request outcome caused later) = omega (arith, nodes-each caused, nodes-each later, one-each outcome)
 
--- each cut at the last number: the sum is, or those begun are as many as can be counted
+-- After each addition is capped, the counts add up, or the count of those begun is full.
 sums : (t : Tally) (b p d a r : ℕ) → b ≡ ((p + d) + a) + r
     → t.begun ≡ min (2 ^ 64 - 1) b → t.processed ≡ min (2 ^ 64 - 1) p → t.disabled ≡ min (2 ^ 64 - 1) d → t.active ≡ min (2 ^ 64 - 1) a → t.reprocess ≡ min (2 ^ 64 - 1) r → AddsUp t
 sums t b p d a r sum begun processed disabled active reprocess =

@@ -4,60 +4,61 @@ use Rattle.ioc_ledger.specs.declared.outcome.Outcome.{Outcome}
 use Rattle.ioc_ledger.specs.declared.outcome.Outcome.TheVariants.{Processed, Disabled, Active, Reprocess}
 use Rattle.ioc_ledger.specs.declared.tally.Tally.{Tally}
 
--- requests in order: one with its outcome and those that it caused, and then those after it
+-- Requests in order: one with its outcome and the requests that it caused, followed by those after
+-- it.
 pub data Requests : Type 0 where
   None : Requests
   Request : (outcome : Outcome) → (caused : Requests) → (later : Requests) → Requests
 
--- requests, and others after them
+-- The requests followed by others.
 abbrev pub followed_by : Requests → Requests → Requests
 followed_by None others = others
 followed_by (Request outcome caused later) others = Request outcome caused (followed_by later others)
 
--- one more, unless it is full
+-- One more, up to 2^64 - 1.
 abbrev pub more : ℕ → ℕ
 more n = min (2 ^ 64 - 1) (n + 1)
 
--- before the first request
+-- The tally before the first request.
 abbrev pub no_counts : Tally
 no_counts = record { begun = 0; processed = 0; disabled = 0; active = 0; reprocess = 0; started = 0; completed = 0 }
 
--- with one request counted: as begun, and by its outcome
+-- The tally with one request counted, as begun and by its outcome.
 abbrev pub counted_one : Tally → Outcome → Tally
 counted_one t Processed = record t { begun = more t.begun; processed = more t.processed }
 counted_one t Disabled = record t { begun = more t.begun; disabled = more t.disabled }
 counted_one t Active = record t { begun = more t.begun; active = more t.active }
 counted_one t Reprocess = record t { begun = more t.begun; reprocess = more t.reprocess }
 
--- with each request of these counted, after those that it caused
+-- The tally with each of these requests counted, after those that it caused.
 abbrev pub counted : Tally → Requests → Tally
 counted t None = t
 counted t (Request outcome caused later) = counted (counted_one (counted t caused) outcome) later
 
--- so many more, up to the last number
+-- The sum, up to 2^64 - 1; adding 0 changes nothing.
 abbrev pub more_by : ℕ → ℕ → ℕ
 more_by n zero = n
 more_by n (suc count) = min (2 ^ 64 - 1) (n + suc count)
 
--- with so many answers that come later counted as started
+-- The tally with `count` answers that are to come later counted.
 abbrev pub counted_started : Tally → ℕ → Tally
 counted_started t count = record t { started = more_by t.started count }
 
--- with one completion counted
+-- The tally with one completion counted.
 abbrev pub counted_completion : Tally → Tally
 counted_completion t = record t { completed = more t.completed }
 
--- the outcome of the first
+-- The outcome of the first request.
 abbrev pub first_outcome : Requests → Option Outcome
 first_outcome None = Nothing_
 first_outcome (Request outcome caused later) = Some outcome
 
--- how many requests these are, with those that they caused
+-- The number of requests, including those that they caused.
 abbrev pub nodes : Requests → ℕ
 nodes None = 0
 nodes (Request outcome caused later) = nodes caused + (1 + nodes later)
 
--- one, where the outcome is this
+-- 1 if the outcome is this one, else 0.
 abbrev pub one_if : Outcome → Outcome → ℕ
 one_if Processed Processed = 1
 one_if Disabled Disabled = 1
@@ -65,24 +66,26 @@ one_if Active Active = 1
 one_if Reprocess Reprocess = 1
 one_if _ _ = 0
 
--- how many of them have this outcome
+-- The number of requests with this outcome.
 abbrev pub nodes_of : Outcome → Requests → ℕ
 nodes_of wanted None = 0
 nodes_of wanted (Request outcome caused later) = nodes_of wanted caused + (one_if wanted outcome + nodes_of wanted later)
 
--- so many more, unless it is full
+-- The sum, up to 2^64 - 1.
 abbrev pub filled : ℕ → ℕ → ℕ
 filled n count = min (2 ^ 64 - 1) (n + count)
 
--- each count of requests is a number of 64 bits
+-- Holds if each count of requests fits 64 bits.
 abbrev pub Fits : Tally → Type 0
 Fits t = (t.begun < 2 ^ 64) × (t.processed < 2 ^ 64) × (t.disabled < 2 ^ 64) × (t.active < 2 ^ 64) × (t.reprocess < 2 ^ 64)
 
--- the requests begun are those processed, disabled, active or put down for reprocessing, or the count of those begun is full
+-- Holds if the requests begun are those processed, disabled, active or marked for reprocessing, or
+-- if the count of those begun is full.
 abbrev pub AddsUp : Tally → Type 0
 AddsUp t = (t.begun ≡ 2 ^ 64 - 1) ⊎ (t.begun ≡ ((t.processed + t.disabled) + t.active) + t.reprocess)
 
--- with these requests counted, each count is so many more as there are of them, and no other count has changed
+-- Holds if each count of requests is greater by the number of these requests, up to 2^64 - 1, and
+-- no other count has changed.
 pub record CountsEach (before after : Tally) (requests : Requests) : Type 0 where
   pub begun : after.begun ≡ filled before.begun (nodes requests)
   pub processed : after.processed ≡ filled before.processed (nodes_of Processed requests)

@@ -1,4 +1,4 @@
-//! What becomes of requests, and how many there were.
+//! The outcomes of requests, and their counts.
 #![tactic(auto)]
 
 pub mod laws;

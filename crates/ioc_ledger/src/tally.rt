@@ -3,8 +3,8 @@ ghost use Rattle.std.specs.Prelude.{◌≡◌};
 
 use crate::outcome::Outcome;
 
-/// How many requests were begun, and what became of them; how many answers of devices were to come later, and how many came.
-/// A count that reaches 2^64 - 1 is full and stays there.
+/// The number of requests that were begun, and their outcomes; the number of device answers that
+/// were to come later, and of those that came. Each count saturates at 2^64 - 1.
 #[derive(Clone, Copy, PartialEq, Eq, Debug, Default)]
 pub struct Tally {
     pub begun: u64,
@@ -12,16 +12,16 @@ pub struct Tally {
     pub disabled: u64,
     pub active: u64,
     pub reprocess: u64,
-    /// Answers that were to come later.
+    /// The number of answers that were to come later.
     pub started: u64,
-    /// Completions, by which they came.
+    /// The number of completions.
     pub completed: u64,
 }
 
 impl Tally {
     ghost use Rattle.ioc_ledger.specs.Requests.{counted_one, counted_started, counted_completion};
 
-    /// Counts one request.
+    /// Counts a request.
     pub fn count(&mut self, outcome: Outcome)
         ensures { self.new ≡ counted_one self.old outcome }
     {
@@ -34,7 +34,7 @@ impl Tally {
         }
     }
 
-    /// Counts answers that come later.
+    /// Counts answers that are to come later.
     pub fn count_started(&mut self, count: u64)
         ensures { self.new ≡ counted_started self.old count }
     {

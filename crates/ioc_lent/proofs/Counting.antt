@@ -1,4 +1,4 @@
--- How many records two sets have that share those of a third.
+-- The number of records of two sets that share those of a third.
 use Rattle.std.proofs.Common.{◌≡◌, ℕ, zero, suc, Bool, true, false, cond, List, [], ◌∷◌, length, Option, None, refl, sym, ap, ◌∙◌, inl, inr, ◌+◌, ◌-◌, arith}
 use Rattle.std.specs.Prelude.{◌⊎◌, Contains, IsSome, is_some}
 use Rattle.std.specs.Ordering.{nat_cmp, eq_by_cmp}
@@ -49,7 +49,7 @@ module _ {X : Type 0} where
       | inr p ↦ inr (p.0, beside_key h q r is ∙ p.1 ∙ sym (beside_key f q r is))
     ]
 
-  -- two that share what a third has are as many together
+  -- Two maps that share the entries of a third have as many entries together.
   shared_by : (n : ℕ) (f g h : FinMap nat_cmp X) → len h ≡ n → AreShared (get f) (get g) (get h) → len f ≡ len g + len h
   shared_by zero f g h none shared =
       let same : g ≡ f = same_map nat_cmp_total nat_cmp-IsAntisymmetric g f (λ q. elim (shared q) [
@@ -69,11 +69,12 @@ module _ {X : Type 0} where
   pub shared_count : (f g h : FinMap nat_cmp X) → AreShared (get f) (get g) (get h) → len f ≡ len g + len h
   shared_count f g h shared = shared_by (len h) f g h refl shared
 
-  -- a record that is set comes in the place of one that is there
+  -- Setting an entry that is there adds no entry.
   pub set_count : (m : FinMap nat_cmp X) (n : ℕ) (x : X) → IsSome (get m n) → len (insert m n x) ≡ len m
   set_count m n x has = len-insert nat_cmp_total m n x ∙ ap (λ (b : Bool). cond b (len m) (len m + 1)) has
 
--- what falls off a set, and what stays with the record whose link is taken away, are as many as the set had
+-- If the link of a record is removed, the part that stays with the record and the rest have as many
+-- records together as the set had.
 pub part_count : {R D : Type 0} (k : RecordRules R) (before stay rest : Held R D) (s : ℕ) (field : FieldNo) → HasLink k before.records s field → FallsApart before (relinked k before.records s field no_link) s stay rest
     → length (keys before.records) - length (keys rest.records) ≡ len stay.records
 part_count {R} k before stay rest s field has falls =

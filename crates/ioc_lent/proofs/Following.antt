@@ -1,4 +1,5 @@
--- What follows once one pass owns the keys of all sets that have a put with notification, and of the puts with notification.
+-- What follows once one pass owns the keys of all sets with records of a put with notification, and
+-- the key of the puts with notification.
 use Rattle.std.proofs.Common.{◌≡◌, ◌≢◌, ℕ, ◌<◌, List, ◌++◌, length, get_or, Option, None, true, refl, sym, ap, subst, ◌∙◌, inl, arith}
 use Rattle.std.specs.Prelude.{IsSome, is_some, Contains}
 use Rattle.std.specs.List.{AllPairs}
@@ -29,13 +30,13 @@ use Rattle.ioc_lent.specs.Sets.{EachGivesUp, EachIsHeldBy, HaveAll}
 use Rattle.ioc_lent.proofs.TakingOver.{continues_on}
 
 module _ {R : Type 0} (k : RecordRules R) (base : World R) where
-  -- a holder knows its records in a longer list without its keys
+  -- Held records stay held in a longer list without their keys.
   holds_on : Lasts k → (v : World R) (seen log : List Note) (owned : List Key) → Cover owned v → Holds k (map_of k base seen) v → Continues seen owned log → IsLegal k base log → Holds k (map_of k base log) v
   holds_on lasts v seen log owned covers holds go legal =
       subst (λ (l : List Note). Holds k (map_of k base l) v) (sym go.1)
       (lasts base v seen go.0 holds (λ r s. go.2 (key_of r) (covers r s)) (subst (λ (l : List Note). IsLegal k base l) go.1 legal))
 
-  -- and who owns the key of the puts with notification, how many have each
+  -- The owner of the key of the puts with notification knows their counts.
   lives_on : LiveLasts k → (seen log : List Note) (owned : List Key) → Has_key notifications_key owned → Continues seen owned log → IsLegal k base log
       → (number : ℕ) → holders_of number (map_of k base log).live ≡ holders_of number (map_of k base seen).live
   lives_on lasts seen log owned key go legal number =
@@ -48,21 +49,22 @@ module _ {R : Type 0} (k : RecordRules R) (base : World R) where
     has_key : Has_key notifications_key before.owns
     has_key = subst (λ (x : View). Has_key notifications_key x.owns) (sym owner) (inl refl)
 
-    -- the sets share no record
+    -- The sets have no common record.
     pub share_none : AllPairs ShareNone sets
     share_none i j d lt within q there =
         is-none (get (get_or sets j d).records q)
         (λ also. taken.apart i j None lt (omega (arith, within, beside)) (key_of q)
         ((held i d None (omega (arith, lt, within))).covers q there) ((held j d None within).covers q also))
 
-    -- the pass owns the keys of each
+    -- The pass owns the keys of each set.
     pub all_covered : (i : ℕ) (d : Held R D) → i < length sets → Cover v.owns (now_of (get_or sets i d))
     all_covered i d lt n there = (taken.taken i None (omega (arith, lt, beside))).owned (key_of n) ((held i d None lt).covers n there)
 
     pub puts_owned : Has_key notifications_key v.owns
     puts_owned = taken.owned notifications_key has_key
 
-    -- in a list that goes on without the keys of the pass each set is still held, and as many have each put
+    -- In a list that continues without the keys of the pass, each set is still held, and the counts
+    -- are unchanged.
     module _ (log : List Note) (goes : Continues v.seen v.owns log) (legal : IsLegal k base log) where
       still_held : (i : ℕ) (d : Held R D) → i < length sets → Holds k (map_of k base log) (now_of (get_or sets i d))
       still_held i d lt =
@@ -107,7 +109,7 @@ module _ {R : Type 0} (k : RecordRules R) (base : World R) where
           numbers_same before.seen log longer before.owns (noted (journalled added.desk added.call (cancel_entry moment number)) (v.owns ++ added.own))
           (continues_on before.seen v.seen log before.owns v.owns taken.goes_on added.goes_on taken.owned) added.ends has_key keyed refl
 
-    -- the sets have the same records when they have given it up
+    -- The sets have the same records after the cancel.
     module _ (after : List (Held R D)) (gives : EachGivesUp k moment number sets after) (same : length after ≡ length sets) where
       was_there : (i : ℕ) (d : Held R D) → i < length sets → (q : ℕ) → IsSome (get (get_or after i d).records q) → IsSome (get (get_or sets i d).records q)
       was_there i d lt q there =

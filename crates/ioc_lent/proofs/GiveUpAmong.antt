@@ -1,4 +1,5 @@
--- Where as many have a put with notification in some held sets as among all, nobody else has it.
+-- If a put with notification has as many records in some held sets as among all, no other record is
+-- part of it.
 use Rattle.std.proofs.Common.{◌≡◌, ◌⊎◌, ℕ, zero, suc, ◌+◌, ◌≤◌, true, false, nat_lt, List, [], ◌∷◌, Option, refl, sym, ap, ap₂, subst, ◌∙◌, inl, inr, arith}
 use Rattle.std.specs.Prelude.{is_some, Contains}
 use Rattle.std.specs.List.{AllPairs}
@@ -17,7 +18,7 @@ use Rattle.ioc_lent.specs.GiveUpLaws.{ShareNone, holders_in_all}
 use Rattle.ioc_lent.proofs.GiveUpSumming.{sum-below, sum-add, sum-none, sum-less, point, of-number, reach, holders-sum}
 
 module _ {R D : Type 0} where
-  -- a set has the record, or none has it
+  -- One of the sets has the record, or none has.
   pub some-or-none : (q : ℕ) (hs : List (Held R D)) → ((h : Held R D) × Contains hs h × Has (now_of h) q) ⊎ ((h : Held R D) → Contains hs h → Has (now_of h) q → ⊥)
   some-or-none q [] = inr (λ h c there. absurd (let lt = c.1 in omega (arith, lt)))
   some-or-none q (h ∷ hs) = elim (contains_key h.records q) as (λ b. contains_key h.records q ≡ b → ((g : Held R D) × Contains (h ∷ hs) g × Has (now_of g) q) ⊎ ((g : Held R D) → Contains (h ∷ hs) g → Has (now_of g) q → ⊥)) [
@@ -32,7 +33,7 @@ module _ {R D : Type 0} where
       or-later h hs g here there (zero, lt, is) = here is
       or-later h hs g here there (suc i, lt, is) = there (i, omega (arith, lt), is)
 
-  -- the first shares no record with those behind it, and neither do these
+  -- The first set has no common record with those after it, and no two of these have one.
   pub shares-first : (h : Held R D) (hs : List (Held R D)) → AllPairs ShareNone (h ∷ hs) → (g : Held R D) → Contains hs g → ShareNone h g
   shares-first h hs pairs g (j, lt, is) = subst (ShareNone h) is (pairs 0 (suc j) g (omega arith) (omega (arith, lt)))
 
@@ -66,7 +67,7 @@ module _ {R D : Type 0} where
         let sum = sum_by-cons (λ (x : Held R D). holders_of number x.live) h hs in
         omega (arith, here, rest, sum)
 
-    -- a set has nothing at a record that isn't its own
+    -- The count of a put with notification in a set is zero at every record outside it.
     none-outside : (h : Held R D) (q : ℕ) → WaitsWithin (now_of h) → (Has (now_of h) q → ⊥) → point k number (now_of h) q ≡ 0
     none-outside h q within out =
         let record_ : weight_of (one_if_has k number) (get h.records q) ≡ 0 = ap (weight_of (one_if_has k number)) (is-none (get h.records q) out) in
@@ -103,7 +104,8 @@ module _ {R D : Type 0} where
                 omega (arith, here, rest)
           ] refl
 
-      -- nobody has it at a record of no set, where as many have it in the sets as among all
+      -- If the count in the sets is the count among all, no record outside the sets is part of the
+      -- put with notification.
       pub nobody-outside : (hs : List (Held R D)) → ((h : Held R D) → Contains hs h → Holds k m (now_of h)) → ((h : Held R D) → Contains hs h → IsCounted k (now_of h)) → AllPairs ShareNone hs
           → holders_in_all number hs ≡ holders k m number → (r : ℕ) → ((h : Held R D) → Contains hs h → Has (now_of h) r → ⊥) → point k number m r ≡ 0
       nobody-outside hs held counted pairs all r out =

@@ -1,4 +1,4 @@
--- What a cancel comes to where nothing may start after it.
+-- The result of a cancel after which no waiting request may start.
 use Rattle.std.proofs.Common.{◌≡◌, ℕ, zero, suc, Bool, true, false, cond, ◌&&◌, not, nat_eq, List, [], ◌∷◌, Option, Some, None as Nothing_, refl, sym, ap, subst, ◌∙◌, arith}
 use Rattle.std.specs.Prelude.{is_some, Contains}
 use Rattle.std.specs.FinMap.{contains_key}
@@ -26,7 +26,7 @@ false_and true = refl
 false_and false = refl
 
 module _ {R : Type 0} (k : RecordRules R) where
-  -- ---- where none may start, none starts
+  -- If no waiting request may start, none starts.
 
   next-none : (w : World R) (xs : List Waiting) → ((x : Waiting) → Contains xs x → is_ready k w x ≡ false) → next_from k w Nothing_ xs ≡ Nothing_
   next-none w [] none = refl
@@ -43,7 +43,7 @@ module _ {R : Type 0} (k : RecordRules R) where
   unfolding all_started
   all-none answers w none = most-none answers w none _
 
-  -- ---- a cancel after which none may start
+  -- A cancel after which no waiting request may start.
 
   pub cancel-steps : (answers : Answers) (w : World R) (number : ℕ) → is_live number w.live ≡ true → NoneReady k (cancelled k number w)
       → stepped k answers w (Cancel number) ≡ record { world = cancelled k number w; reply = Plain; requests = followed_by None None }
@@ -54,7 +54,8 @@ module _ {R : Type 0} (k : RecordRules R) where
       cond (lets_start (Cancel number) first.reply) (with_starts k answers first) first) live
       ∙ ap (λ (d : Done R). record { world = d.world; reply = Plain; requests = followed_by None d.requests }) (all-none answers (cancelled k number w) none)
 
-  -- ---- where each that has it is active, none may start once it is given up
+  -- If each record of a put with notification is active, no waiting request may start once it is
+  -- canceled.
 
   abbrev alone : R → Bool
   alone r = not (k.common r).active && not (is_some (k.common r).notification)
@@ -63,7 +64,7 @@ module _ {R : Type 0} (k : RecordRules R) where
   is-notified number Nothing_ is = cc
   is-notified number (Some held) is = ap Some (eqb-true held number is)
 
-  -- a record that has it is active with it or without it
+  -- A record that is part of the put with notification is active before and after the cancel.
   freed-alone : IsLawful k → (number : ℕ) (r : R) → ((k.common r).notification ≡ Some number → (k.common r).active ≡ true) → alone r ≡ false → alone (freed k number r) ≡ false
   freed-alone lawful number r active none = elim (is_notification number (k.common r).notification) as (λ b. is_notification number (k.common r).notification ≡ b → alone (cond b (k.with_common r (with_notification Nothing_ (k.common r))) r) ≡ false) [
     | true ↦ λ is.
@@ -89,7 +90,7 @@ module _ {R : Type 0} (k : RecordRules R) where
   unfolding cancelled
   waits-before number w x c = (passes-there (λ (y : Waiting). not (nat_eq y.number number)) w.waiting x c).0
 
-  -- who has the put awaits its device
+  -- Holds if each record of the put with notification awaits its device.
   abbrev pub AreActive : ℕ → World R → Type 0
   AreActive number w = (q : ℕ) → Has w q → (common_at k w q).notification ≡ Some number → (common_at k w q).active ≡ true
 
@@ -106,7 +107,7 @@ module _ {R : Type 0} (k : RecordRules R) where
         ] refl;
   }
 
-  -- ---- as an event begins
+  -- The beginning of an event.
 
   pub begun-none : (moment : ℕ) (w : World R) → NoneReady k w → NoneReady k (begun_at moment w)
   unfolding at begun begun_at is_ready

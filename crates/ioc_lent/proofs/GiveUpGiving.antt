@@ -1,4 +1,5 @@
--- A put with notification that is given up in all held sets that have it: one event of all records.
+-- A put with notification that is canceled in all held sets with its records: one event of all
+-- records.
 use Rattle.std.proofs.Common.{◌≡◌, ◌≢◌, ℕ, ◌+◌, ◌≤◌, Bool, true, false, cond, not, eqb, nat_eq, ◌||◌, List, [], ◌∷◌, ◌++◌, length, Option, Some, None, refl, sym, ap, subst, ◌∙◌, inl, inr, arith}
 use Rattle.std.specs.Prelude.{is_some, unwrap_or, IsSome, Contains}
 use Rattle.std.specs.List.{filter, AllPairs}
@@ -42,7 +43,7 @@ use Rattle.ioc_lent.proofs.GiveUpSumming.{point, of-number}
 use Rattle.ioc_lent.proofs.GiveUpAmong.{some-or-none, nobody-outside}
 use Rattle.ioc_lent.proofs.GiveUpEvents.{cancel-steps, AreActive, none-then, begun-none, begun-active}
 
--- ---- how many have each, once one is forgotten
+-- The counts once a put with notification is removed.
 
 uncounted : (n : ℕ) (ls : List Live) → how_many (λ (l : Live). l.number) n ls ≡ 0 → holders_of n ls ≡ 0
 uncounted n [] none = refl
@@ -65,7 +66,7 @@ forgotten-other n other apart (l ∷ ls) = elim (eqb l.number n) as (λ b. eqb l
   | false ↦ λ _. ap (λ (rest : ℕ). cond (eqb l.number other) l.holders rest) (forgotten-other n other apart ls)
 ] refl
 
--- one that somebody has is live
+-- A put with notification is live if its count isn't zero.
 held-live : (n : ℕ) (ls : List Live) → holders_of n ls ≢ 0 → is_live n ls ≡ true
 held-live n [] some = absurd (some refl)
 held-live n (l ∷ ls) some = elim (eqb l.number n) as (λ b. (cond b l.holders (holders_of n ls) ≡ 0 → ⊥) → b || is_live n ls ≡ true) [
@@ -73,7 +74,7 @@ held-live n (l ∷ ls) some = elim (eqb l.number n) as (λ b. (cond b l.holders 
   | false ↦ λ rest. held-live n ls rest
 ] some
 
--- ---- one that nobody waits with is taken from nobody
+-- Removing a number that no request waits under changes nothing.
 
 unlisted : (n : ℕ) (xs : List Waiting) → of-number n xs ≡ 0 → without n xs ≡ xs
 unlisted n [] none = refl
@@ -82,7 +83,7 @@ unlisted n (x ∷ xs) none = elim (eqb x.number n) as (λ b. cond b (1 + of-numb
   | false ↦ λ rest. ap (λ (l : List Waiting). x ∷ l) (unlisted n xs rest)
 ] none
 
--- what passes two tests, in either order
+-- Two filters may be exchanged.
 filter-swap : {X : Type 0} (p q : X → Bool) (xs : List X) → filter p (filter q xs) ≡ filter q (filter p xs)
 filter-swap p q [] = refl
 filter-swap p q (x ∷ xs) =
@@ -103,7 +104,7 @@ mapped f None = None
 mapped f (Some x) = Some (f x)
 
 module _ {R : Type 0} (k : RecordRules R) where
-  -- ---- lists of notes
+  -- Lists of notes.
 
   map-append : (xs ys : List Note) (m : World R) → map_of k m (xs ++ ys) ≡ map_of k (map_of k m xs) ys
   map-append [] ys m = refl
@@ -113,7 +114,7 @@ module _ {R : Type 0} (k : RecordRules R) where
   legal-more [] n m legal fits = (fits, tt)
   legal-more (x ∷ log) n m legal fits = (legal.0, legal-more log n (done k m x).world legal.1 fits)
 
-  -- ---- at a record where nobody has it, giving it up changes nothing
+  -- A cancel leaves a record that isn't part of the put with notification unchanged.
 
   no-notification : (number : ℕ) (r : R) → one_if_has k number r ≡ 0 → freed k number r ≡ r
   no-notification number r none = elim (is_notification number (k.common r).notification) as (λ (b : Bool). cond {A = ℕ} b 1 0 ≡ 0 → cond b (k.with_common r (with_notification None (k.common r))) r ≡ r) [
@@ -138,7 +139,7 @@ module _ {R : Type 0} (k : RecordRules R) where
   same-targets : IsLawful k → (number : ℕ) (w : World R) (q : ℕ) → targets k (at k (cancelled k number w) q) ≡ targets k (at k w q)
   same-targets lawful number w q = at_cancelled-either k number (λ r s. targets k s ≡ targets k r) (λ r. refl) (λ r. targets-set k lawful r (with_notification None (k.common r)) (refl, refl)) w q
 
-  -- ---- the event of the note
+  -- The event of the note.
 
   module _ (lawful : IsLawful k) (desk call moment number : ℕ) (keys : List Key) where
     abbrev note : Note
@@ -180,7 +181,7 @@ module _ {R : Type 0} (k : RecordRules R) where
           live = λ out. absurd (out key);
         }
 
-    -- ---- of sets
+    -- The cancel on held sets.
 
     module _ {D : Type 0} (cancels : CancelIsHeld k) (begins : BeginningIsHeld k) (alike : HeldAlike k) where
       held-then : (m : World R) (h then : Held R D) → Holds k m (now_of h) → GivesUp k moment number h then → Holds k (given_up m) (now_of then)
@@ -188,7 +189,7 @@ module _ {R : Type 0} (k : RecordRules R) where
       held-then m h then holds gives =
           alike (given_up m) (given_up (now_of h)) (now_of then) (cancels (begun_at moment m) (begun_at moment (now_of h)) number (begins m (now_of h) moment holds)) gives.records gives.waiting
 
-    -- who has it in a sound set awaits its device
+    -- A record of a sound set that is part of the put with notification awaits its device.
     pub set-active : {D : Type 0} (h : Held R D) → IsSound k h → AreActive k number (now_of h)
     set-active h sound q there has = (sound.settled.quiet.quiet q there).1 (sound.holders_await.records q there (subst (λ (o : Option ℕ). IsSome o) (sym has) refl))
 
@@ -240,7 +241,7 @@ module _ {R : Type 0} (k : RecordRules R) where
         };
       }
 
-  -- ---- a cancel on one set
+  -- The cancel on one set.
 
   module _ {D : Type 0} (lawful : IsLawful k) (number : ℕ) where
     set-steps : (h : Held R D) (moment : ℕ) (answers : List Answer) → IsSound k h → is_live number h.live ≡ true
@@ -269,7 +270,7 @@ module _ {R : Type 0} (k : RecordRules R) where
       unfolding begun begun_at cancelled
       nothing come_to calls outbox ended = record { calls = calls; outbox = outbox; ended = ended }
 
-  -- devices that weren't called are as they were
+  -- Devices that weren't called are unchanged.
   uncalled : {D : Type 0} {gives : D → Ask → ℕ → Answer → D → Type 0} {ds es : ℕ → Option D} {moment : ℕ} {calls : List Call}
       → DevicesWork gives ds moment calls es → calls ≡ [] → es ≡ ds
   uncalled no_call none = refl

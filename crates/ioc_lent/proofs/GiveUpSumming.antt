@@ -1,4 +1,4 @@
--- How many have a put with notification, summed up record by record.
+-- The count of a put with notification as a sum over the records.
 use Rattle.std.proofs.Common.{◌≡◌, ◌≢◌, ℕ, zero, suc, ◌+◌, ◌<◌, ◌≤◌, Bool, true, false, cond, eqb, nat_eq, T, List, [], ◌∷◌, Option, Some, None, refl, sym, ap, subst, ◌∙◌, arith}
 use Rattle.std.specs.Ordering.{nat_cmp, is_eq, eq_by_cmp}
 use Rattle.std.specs.Cmp.{unsigned_tied}
@@ -13,7 +13,7 @@ use Rattle.ioc_store.specs.World.{World, total}
 use Rattle.ioc_store.specs.Weights.{first, second, less, weight_of}
 use Rattle.ioc_events.specs.Holding.{how_many, one_if_has, holders}
 
--- ---- sums
+-- Sums.
 
 abbrev pub sum-below : (ℕ → ℕ) → ℕ → ℕ
 sum-below f zero = 0
@@ -35,7 +35,7 @@ sum-least : (f g : ℕ → ℕ) (n : ℕ) → ((q : ℕ) → f q ≤ g q) → su
 sum-least f g zero least = omega arith
 sum-least f g (suc n) least = let here = least n in let rest = sum-least f g n least in omega arith
 
--- a sum is less where it is nowhere more, and less at one number
+-- A sum is less if no term is greater and one is less.
 pub sum-less : (f g : ℕ → ℕ) (r n : ℕ) → r < n → ((q : ℕ) → f q ≤ g q) → f r < g r → sum-below f n < sum-below g n
 sum-less f g r zero within least less = absurd (omega (arith, within))
 sum-less f g r (suc n) within least less = elim (eqb r n) as (λ b. eqb r n ≡ b → sum-below f n + f n < sum-below g n + g n) [
@@ -53,7 +53,7 @@ sum-less f g r (suc n) within least less = elim (eqb r n) as (λ b. eqb r n ≡ 
     differ : true ≡ false → ⊥
     differ e = cc
 
--- a number alone counts
+-- A sum to which only one number contributes.
 module _ (is : ℕ → Bool) (a x : ℕ) (only : (q : ℕ) → is q ≡ true → q ≡ a) (self : is a ≡ true) where
   at-one : (n : ℕ) (b : Bool) → is n ≡ b → (b ≡ true → n ≡ a) → n ≢ a → cond b x 0 ≡ 0
   at-one n true e same apart = absurd (apart (same refl))
@@ -83,9 +83,9 @@ module _ (is : ℕ → Bool) (a x : ℕ) (only : (q : ℕ) → is q ≡ true →
       differ : true ≡ false → ⊥
       differ e = cc
 
--- ---- the values of a map, with weights
+-- The weighted values of a map.
 
--- a number that no key reaches
+-- A number greater than all keys.
 abbrev top : {X : Type 0} → List (ℕ × X) → ℕ
 top [] = 0
 top (e ∷ es) = e.0 + 1 + top es
@@ -95,7 +95,7 @@ find-none q [] below = refl
 find-none q (e ∷ es) below = ap (λ (r : Ordering). cond (is_eq r) (Some e.1) (find nat_cmp q es)) (less _ (first _ _ below)) ∙ find-none q es (second _ _ below)
 
 module _ {X : Type 0} (weight : X → ℕ) where
-  -- what stands at a number, by what stands there in the rest
+  -- The weight at a number is that of the first entry plus that of the others.
   split-one : (b : Bool) (x : X) (o : Option X) → (b ≡ true → o ≡ None) → weight_of weight (cond b (Some x) o) ≡ cond b (weight x) 0 + weight_of weight o
   split-one true x o none = let is : weight_of weight o ≡ 0 = ap (weight_of weight) (none refl) in omega arith
   split-one false x o none = omega arith
@@ -118,9 +118,9 @@ module _ {X : Type 0} (weight : X → ℕ) where
       total-sum (entries m) n (entries_sorted m) reach
       ∙ sum-same (λ q. weight_of weight (find nat_cmp q (entries m))) (λ q. weight_of weight (get m q)) n (λ q. ap (weight_of weight) (sym (get-entries m q)))
 
--- ---- those that wait
+-- The waiting lists.
 
--- a number that no record for which one waits reaches
+-- A number greater than those of all records that something waits for.
 abbrev far : List Waiting → ℕ
 far [] = 0
 far (x ∷ xs) = x.target + 1 + far xs
@@ -147,10 +147,10 @@ waiting-sum number (x ∷ xs) n reach =
     let counted = listed-one number true x xs in
     omega (arith, each, parts, one, rest, counted)
 
--- ---- both
+-- The records and the waiting lists together.
 
 module _ {R : Type 0} (k : RecordRules R) (number : ℕ) where
-  -- how many have it at one record
+  -- The count of the put with notification at one record.
   abbrev pub point : World R → ℕ → ℕ
   point w q = weight_of (one_if_has k number) (get w.records q) + of-number number (at_record q w.waiting)
 

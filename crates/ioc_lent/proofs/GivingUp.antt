@@ -1,4 +1,4 @@
--- Held sets that are taken apart and put together again.
+-- Sets that are separated from their passes and put together again.
 use Rattle.std.proofs.lemmas.Bool.{eq-eqb, ne_eqb}
 use Rattle.std.proofs.lemmas.List.Sums.{sum_by-cons}
 use Rattle.ioc_notify.specs.declared.live_numbers.Live.{Live}
@@ -75,7 +75,7 @@ module _ {R D : Type 0} (k : RecordRules R) (base : World R) (had : ℕ → Bool
   pub never_empty : (h : Held R D) (slot : Option Pass) → IsLent k base had table h slot → slot ≡ None → ⊥
   never_empty h slot lent none = let e : Some lent.pass ≡ None = sym lent.there ∙ none in cc
 
-  -- ---- after a call on all of them
+  -- After a call on all of them.
 
   as_same : (sets sets_then : List (Held R D)) (passes passes_then : List (Option Pass)) → (sets_then ≡ sets) × (passes_then ≡ passes) → EachIsLent k base had table sets passes → EachIsLent k base had table sets_then passes_then
   as_same sets sets_then passes passes_then same lent = subst (λ (l : List (Held R D)). EachIsLent k base had table l passes_then) (sym same.0) (subst (λ (l : List (Option Pass)). EachIsLent k base had table sets l) (sym same.1) lent)
@@ -159,7 +159,7 @@ module _ {R D : Type 0} (k : RecordRules R) (base : World R) (had : ℕ → Bool
       subst (λ (s : Option Pass). IsHeldBy k base table (get_or sets i d) s) (sym one.there)
       (record { pass = record { same = one.owner.same; holder = one.owner.holder; no_desks = no_desks (cell_view {V = View} one.pass).owns one.owner.records }; covers = one.owner.covers; holds = one.holds })
 
--- ---- one line of a table
+-- A table with one line.
 
 pub line_has : (n h : ℕ) → holders_in n (record { number = n; holders = h } ∷ []) ≡ h
 line_has n h =

@@ -1,4 +1,4 @@
--- The keys of a set's records, among others.
+-- The keys of a set's records among other keys.
 use Rattle.std.proofs.Common.{Ordering, Less, Equal, Greater, ◌≡◌, ℕ, zero, suc, Bool, true, false, cond, ◌&&◌, not, List, [], ◌∷◌, ◌++◌, Option, None, refl, sym, ap, subst, ◌∙◌, inl, inr, ⊎_elim, arith}
 use Rattle.std.specs.Prelude.{Contains, IsSome, is_some}
 use Rattle.std.specs.List.{filter}
@@ -41,7 +41,7 @@ contains_record n [] (i, lt, is) = absurd (omega (arith, lt))
 contains_record n (x ∷ xs) (zero, lt, is) = inl (ap (λ (m : ℕ). (0, m)) is)
 contains_record n (x ∷ xs) (suc i, lt, is) = inr (contains_record n xs (i, omega (arith, lt), is))
 
--- ---- keys that pass a test
+-- The keys that pass a test.
 
 has_filter : (p : Key → Bool) (key : Key) (ks : List Key) → Has key ks → p key ≡ true → Has key (filter p ks)
 has_filter p key [] h is = absurd h
@@ -67,7 +67,7 @@ none_some : {A : Type 0} (o : Option A) → o ≡ None → IsSome o → ⊥
 none_some {A = A} o none some = let h : false ≡ true = sym (ap (λ (p : Option A). is_some p) none) ∙ some in cc
 
 module _ {R D : Type 0} (h : Held R D) where
-  -- a key of one of its records
+  -- A key of the set is that of one of its records.
   own_record : (key : Key) → Has key (keys_of h) → contains_key h.records key.1 ≡ true
   own_record key has = key_there h.records key.1 (record_contains key (keys h.records) has)
 
@@ -78,7 +78,7 @@ module _ {R D : Type 0} (h : Held R D) where
   is_own key has =
       ap (λ (b : Bool). b && contains_key h.records key.1) (eq-eqb key.0 0 (record_kind key (keys h.records) has)) ∙ own_record key has
 
-  -- they and the others are owned, where its records' keys are
+  -- The keys of the set and the other keys are owned if those of its records are.
   pub own_within : (owned : List Key) → Cover owned (now_of h) → (key : Key) → Has key (keys_of h ++ other_keys h owned) → Has key owned
   own_within owned covers key has = ⊎_elim
       (λ (x : Has key (keys_of h)). subst (λ (p : Key). Has p owned) (as_record key x) (covers key.1 (own_record key x)))
@@ -88,7 +88,7 @@ module _ {R D : Type 0} (h : Held R D) where
   pub own_apart : (owned : List Key) (key : Key) → Has key (keys_of h) → Has key (other_keys h owned) → ⊥
   own_apart owned key x y = not_both (is_own key x) (filter_has (λ (p : Key). not (is_key_of h p)) key owned y).1
 
-  -- the others are still those of a set with no record of it
+  -- The other keys still include those of a set without a common record.
   pub others_cover : (owned : List Key) (g : Held R D) → ShareNone h g → Cover owned (now_of g) → Cover (other_keys h owned) (now_of g)
   others_cover owned g shares covers n there =
       has_filter (λ (p : Key). not (is_key_of h p)) (0, n) owned (covers n there)
@@ -97,10 +97,10 @@ module _ {R D : Type 0} (h : Held R D) where
         | false ↦ λ isnt. refl
       ] refl)
 
-  -- the key of the puts with notification is none of them
+  -- The key of the puts with notification is among the other keys.
   pub puts_among : (owned : List Key) → Has notifications_key owned → Has notifications_key (other_keys h owned)
   puts_among owned has = has_filter (λ (p : Key). not (is_key_of h p)) notifications_key owned has refl
 
-  -- its own keys cover its records
+  -- The keys of the set cover its records.
   pub own_cover : Cover (keys_of h) (now_of h)
   own_cover n there = contains_record n (keys h.records) (there_key h.records n there)

@@ -1,4 +1,4 @@
--- What a link names among the sets that a link change is lent.
+-- The record that a link leads to, among the sets that the link change works on.
 use Rattle.std.proofs.Common.{◌≡◌, ℕ, zero, suc, [], ◌∷◌, Option, Some, refl, sym, subst, inl, inr, arith}
 use Rattle.std.specs.Prelude.{Contains, IsSome}
 use Rattle.std.specs.FinMap.{get}
@@ -20,7 +20,7 @@ one_there x y (zero, lt, is) = is
 one_there x y (suc i, lt, is) = absurd (omega arith)
 
 module _ {R D : Type 0} (k : RecordRules R) (base : World R) where
-  -- a record of a sound set is there in the world of all
+  -- A record of a sound set is in the world of all.
   known_in : (v : HeldView R D) → IsSoundlyHeld k base v → (t : ℕ) → Contains (numbers_of v) t → IsKnown k base t
   known_in v sound t has =
       let there : IsSome (get v.set.records t) = key_there v.set.records t has in
@@ -33,7 +33,7 @@ module _ {R D : Type 0} (k : RecordRules R) (base : World R) where
       | inr p ↦ known_in second second_sound o p
     ]
 
-    -- whatever a link names that is lent for is there in the world of all
+    -- The record that the link leads to is in the world of all.
     pub lent_known : (used : LinkUse) → AreLent numbers_of number (record_named used) first second spare → (t : ℕ) → Contains (named_by used) t → IsKnown k base t
     lent_known (Standing target) lent t c = subst (λ (n : ℕ). IsKnown k base n) (one_there target.number t c) (known_at target.number lent)
     lent_known Unused lent t c = absurd (none_in t c)
@@ -47,7 +47,7 @@ module _ {R D : Type 0} (number : ℕ) (first second spare : HeldView R D) where
     | inr p ↦ key_there second.set.records o p
   ]
 
-  -- a link that is lent for leads into the second set where it doesn't lead within the first
+  -- The link leads into the second set if it doesn't lead within the first.
   pub lent_to : (used : LinkUse) → AreLent numbers_of number (record_named used) first second spare → (((t : ℕ) → Contains (named_by used) t → IsSome (get first.set.records t)) → ⊥)
       → (t : ℕ) × (named_by used ≡ t ∷ []) × IsSome (get second.set.records t)
   lent_to (Standing target) lent out = (target.number, refl, at_other target.number lent out)

@@ -14,7 +14,7 @@ use Rattle.ioc_holding.specs.Legal.{IsLegal}
 use Rattle.ioc_journal.specs.Account.{IsHolder, AreNoDesks, AreMerged, Pass}
 use Rattle.ioc_lent.specs.Passes.{Slot, view_of, view_in, IsPassOf, OwnApart, IsTakenOver, AreTakenOver}
 
--- a list that goes on from one that goes on
+-- A list that continues from one that continues from another continues from that one.
 pub continues_on : (seen mid log : List Note) (ks ls : List Key) → Continues seen ks mid → Continues mid ls log → ((key : Key) → Has key ks → Has key ls) → Continues seen ks log
 continues_on seen mid log ks ls a b among = (
   a.0 ++ b.0,
@@ -22,7 +22,7 @@ continues_on seen mid log ks ls a b among = (
   λ key has. spares_append key a.0 b.0 (a.2 key has) (b.2 key (among key has)),
 )
 
--- who has taken over the keys of another is a pass as before
+-- A pass that took over the keys of another is still one of the engine without keys of desks.
 pub pass_then : (table : TableId) (v p : Pass) (v' : Pass) (log : List Note) → IsPassOf table v → IsPassOf table p → v'.table_id ≡ v.table_id → view_of v' ≡ holder log ((view_of v).owns ++ (view_of p).owns) → IsPassOf table v'
 pass_then table v p v' log one other same is = record {
   same = same ∙ one.same;

@@ -1,6 +1,7 @@
--- A link change of a record of one of three sets that are held: what it came to, where the records lie then, and how many moved.
--- Application Developer's Guide, "Database Locking, Scanning, and Processing": a changed link parts lock sets or joins them. That the smaller
--- part moves is this project's own.
+-- A link change of a record of one of three held sets: its result, where the records are
+-- afterwards, and how many were moved. Application Developer's Guide, "Database Locking, Scanning,
+-- and Processing": a changed link parts lock sets or joins them. That the smaller part is moved is
+-- this project's own.
 use Rattle.std.specs.Prelude.{◌≡◌, ◌⊎◌, ◌≤◌, ◌<◌, ◌+◌, ℕ, min, length}
 use Rattle.std.specs.FinMap.{len}
 use Rattle.ioc_values.specs.declared.error.IocError.TheVariants.{PutDisabled}
@@ -14,18 +15,20 @@ use Rattle.ioc_journal.specs.Account.{DeskView}
 use Rattle.ioc_held.specs.Holding.{HeldView, numbers_of}
 use Rattle.ioc_held.specs.LinkChanges.{Parts, Leads, Refuses}
 
--- how many records a set has
+-- The number of records of a set.
 abbrev pub size_of : {R D : Type 0} → HeldView R D → ℕ
 size_of v = length (numbers_of v)
 
 module _ {R D : Type 0} where
-  -- of the parts of a set the larger keeps its place, and the smaller one moves
+  -- The larger part of a set keeps its place, and the smaller one is moved.
   pub record KeepsLarger (stay rest first spare : HeldView R D) (moved : ℕ) : Type 0 where
     pub places : ((size_of rest ≤ size_of stay) × (first ≡ stay) × (spare ≡ rest)) ⊎ ((size_of stay < size_of rest) × (first ≡ rest) × (spare ≡ stay))
     pub count : moved ≡ min (size_of stay) (size_of rest)
 
-  -- a part of so many records, whose rest fell off, was led into another set of so many. If it is the largest of the three, the other came to it;
-  -- else it went to the other. The smaller of it and the rest has moved, and the smaller of it and the other
+  -- A part of `part` records was joined with another set of `other` records, and `rest` was left.
+  -- If the part is the largest of the three, the other set came to its place; otherwise the part
+  -- went to the place of the other. The records moved are those of the smaller of part and rest,
+  -- and those of the smaller of part and other.
   pub record KeepsLargest (part other : ℕ) (joined emptied rest first second spare : HeldView R D) (moved : ℕ) : Type 0 where
     pub places : ((other ≤ part) × (size_of rest ≤ part) × (first ≡ joined) × (second ≡ emptied) × (spare ≡ rest))
         ⊎ (((part < other) ⊎ (part < size_of rest)) × (first ≡ rest) × (second ≡ joined) × (spare ≡ emptied))
@@ -33,7 +36,7 @@ module _ {R D : Type 0} where
 
 module _ {R D : Type 0} (k : RecordRules R) (base : World R) (first second spare : HeldView R D) (desk : DeskView) (at_moment number : ℕ) (field : FieldNo) (link : LinkField)
     (reply : Reply) (moved : ℕ) (first_then second_then spare_then : HeldView R D) (desk_then : DeskView) (come_to : World R) where
-  -- the first set fell apart, or is one part still
+  -- The first set was parted in two, or is still one part.
   pub record FellApart : Type 0 where
     pub stay : HeldView R D
     pub rest : HeldView R D
@@ -42,7 +45,7 @@ module _ {R D : Type 0} (k : RecordRules R) (base : World R) (first second spare
     pub beside : second_then ≡ second
     pub done : reply ≡ Plain
 
-  -- the record's part of the first set was led into the second
+  -- The record's part of the first set was joined with the second.
   pub record WasLed : Type 0 where
     pub joined : HeldView R D
     pub emptied : HeldView R D
@@ -51,7 +54,7 @@ module _ {R D : Type 0} (k : RecordRules R) (base : World R) (first second spare
     pub places : KeepsLargest (len leads.leads.stay.records) (size_of second) joined emptied rest first_then second_then spare_then moved
     pub done : reply ≡ Plain
 
-  -- DISP forbids it: no set has changed
+  -- DISP forbids the change, and no set has changed.
   pub record WasRefused : Type 0 where
     pub refuses : Refuses k base first desk at_moment number field link first_then desk_then
     pub beside : second_then ≡ second
@@ -59,6 +62,6 @@ module _ {R D : Type 0} (k : RecordRules R) (base : World R) (first second spare
     pub unmoved : moved ≡ 0
     pub refused : reply ≡ Refused PutDisabled
 
-  -- the record's link has changed, or was refused
+  -- The record's link was changed, or the change was refused.
   abbrev pub Relinks : Type 0
   Relinks = FellApart ⊎ (WasLed ⊎ WasRefused)

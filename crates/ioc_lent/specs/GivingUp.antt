@@ -1,5 +1,5 @@
--- A put with notification that is given up in several held sets.
--- Application Developer's Guide, "Put with Notification" (dbNotifyCancel). The journal is this project's own.
+-- A put with notification that is canceled in several journaled sets. Application Developer's
+-- Guide, "Put with Notification" (dbNotifyCancel). The journal is this project's own.
 use Rattle.std.specs.Prelude.{◌≡◌, ◌⊎◌, ℕ, Bool, ◌<◌, ◌≢◌, List, length, map, slice_index_or, Option}
 use Rattle.atomic_table.specs.Seated.{TableId}
 use Rattle.ioc_notify.specs.Living.{holders_of}
@@ -24,21 +24,24 @@ module _ {R D : Type 0} (k : RecordRules R) (base : World R) where
   abbrev pub EachIsLent : (ℕ → Bool) → TableId → List (Held R D) → List (Option Pass) → Type 0
   EachIsLent had table sets passes = (i : ℕ) (d : Held R D) (e : Option Pass) → i < length sets → IsLent k base had table (slice_index_or sets i d) (slice_index_or passes i e)
 
--- what the sets hold
+-- The sets of these journaled sets.
 abbrev pub sets_of : {R D : Type 0} → List (HeldView R D) → List (Held R D)
 sets_of held = map (λ (h : HeldView _ _). h.set) held
 
--- nobody has it, or these sets aren't all that have it
+-- Holds if no record is part of the put with notification, or some of its records aren't in these
+-- sets.
 abbrev pub HaveNotAll : {R D : Type 0} → ℕ → List Live → List (Held R D) → Type 0
 HaveNotAll number live sets = (holders_in number live ≡ 0) ⊎ (AreItsSets number (holders_in number live) sets → ⊥)
 
--- each holds one of these sets
+-- Holds if these journaled sets have these sets, in order.
 abbrev pub AreSameSets : {R D : Type 0} → List (Held R D) → List (HeldView R D) → Type 0
 AreSameSets {R} {D} before after = (i : ℕ) (d : Held R D) (e : HeldView R D) → i < length before → (slice_index_or after i e).set ≡ slice_index_or before i d
 
 module _ {R D : Type 0} (k : RecordRules R) (base : World R) (moment number : ℕ) (desk : DeskView) (before : List (Held R D)) where
-  -- each of these held sets has given it up in one call of a desk, which stands at the end of the legal list that the desk, the holders and the keeper
-  -- of the puts with notification have seen then. Nobody has it any more, as many as before have each other, and none has begun meanwhile
+  -- The put with notification is canceled in each of these journaled sets by one call of a desk,
+  -- which is the last of the legal list that the desk, the sets and the table of the puts with
+  -- notification have seen then. No record is part of it any more, the counts of all others are
+  -- unchanged, and none has begun meanwhile.
   pub record HeldGaveUp (kept : View) (desk_then : DeskView) (after : List (HeldView R D)) (kept_then : View) : Type 0 where
     pub gives_up : (i : ℕ) (d : Held R D) (e : HeldView R D) → i < length before → GivesUp k moment number (slice_index_or before i d) (slice_index_or after i e).set
     pub call : Call k base desk (told_at moment (Cancel number) Plain) desk_then
@@ -49,7 +52,7 @@ module _ {R D : Type 0} (k : RecordRules R) (base : World R) (moment number : �
     pub none_began : numbers_given (calls desk_then.seen) ≡ numbers_given (calls kept.seen)
 
 module _ {R D : Type 0} (k : RecordRules R) (base : World R) (moment number : ℕ) (desk : DeskView) (before : List (HeldView R D)) where
-  -- and so do the lines of the table tell
+  -- The same, with the counts of the lines of the table.
   pub record GaveUpOn (puts : PutsView) (reply : Reply) (desk_then : DeskView) (after : List (HeldView R D)) (puts_then : PutsView) : Type 0 where
     pub answer : reply ≡ Plain
     pub gives_up : (i : ℕ) (d e : HeldView R D) → i < length before → GivesUp k moment number (slice_index_or before i d).set (slice_index_or after i e).set

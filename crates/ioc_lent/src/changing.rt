@@ -1,4 +1,4 @@
-//! A link change over the sets that are lent to it.
+//! A link change of a record of one of three sets, passed by reference.
 ghost use Rattle.std.specs.Prelude.{◌≡◌, ◌⊎◌, ◌<◌, ◌-◌, ◌^◌, ◌∷◌, ℕ, false, [], IsSome, IfOk, IfErr, OnErr, Contains};
 ghost use Rattle.std.specs.FinMap.{get};
 ghost use Rattle.ioc_values.specs.declared.error.IocError.TheVariants.{NoField};
@@ -28,18 +28,19 @@ use std::alloc::Global;
 use std::mem;
 use std::sync::Wait;
 
-/// What a link change came to.
+/// The result of a link change.
 #[derive(Drop)]
 pub struct Changed<K: RecordKind, B: Base<K>> {
-    /// The reply, as the journal keeps it.
+    /// The reply, as in the journal.
     pub reply: Reply,
-    /// The journal's list as it was with the call.
+    /// The receipt of the call.
     pub receipt: Receipt<K, B>,
-    /// How many records moved: where a set fell apart, those of the smaller part, and where two became one, those of the smaller set.
+    /// The number of records that were moved: if a set was parted, those of the smaller part, and
+    /// if two sets were joined, those of the smaller set.
     pub moved: usize,
 }
 
-// How many records a set has.
+// Returns the number of records of a set.
 fn size<K: RecordKind + Drop, B: Base<K>, D: Drop>(held: &Held<K, B, D>) -> usize
     ensures size { result ≡ size_of held.now }
     ensures few { result < 2 ^ 63 }
@@ -48,7 +49,8 @@ fn size<K: RecordKind + Drop, B: Base<K>, D: Drop>(held: &Held<K, B, D>) -> usiz
     held.set.len()
 }
 
-// The larger of two parts of a set comes to the first place, or stays there. How many records the smaller one has.
+// Leaves the larger of two parts of a set in the first place, and returns the number of records of
+// the smaller one.
 fn keep_larger<K: RecordKind + Drop, B: Base<K>, D: Drop>(
     first: &mut Held<K, B, D>,
     spare: &mut Held<K, B, D>,
@@ -63,9 +65,11 @@ fn keep_larger<K: RecordKind + Drop, B: Base<K>, D: Drop>(
     stay.min(rest)
 }
 
-// What has become of a set of so many records: in the first place its part with another set of so many, which came to it, and in the spare
-// place what fell off. Unless the part is the largest of the three it goes to the second place, which was the other's, and what fell off to
-// the first. How many records moved.
+// Arranges the sets after a link change that joined a part of one set with another set. `first` is
+// the joined set, `spare` is the rest of the first set, `before` and `other` are the sizes of the
+// two sets before the change. Unless the part is the largest of the three, the joined set goes to
+// the second place, where the other set was, and the rest to the first. Returns the number of
+// records that were moved.
 fn keep_largest<K: RecordKind + Drop, B: Base<K>, D: Drop>(
     first: &mut Held<K, B, D>,
     second: &mut Held<K, B, D>,
@@ -85,7 +89,7 @@ fn keep_largest<K: RecordKind + Drop, B: Base<K>, D: Drop>(
     part.min(other) + part.min(rest)
 }
 
-// Changes a link of a record of the first set to nowhere, or to a record of that set.
+// Changes a link of a record of the first set to a record of that set, or to none.
 fn part_first<K: RecordKind + Drop, B: Base<K>, D: Device, R: Wait>(
     rt: &R,
     alloc: Global,
@@ -122,7 +126,7 @@ fn part_first<K: RecordKind + Drop, B: Base<K>, D: Device, R: Wait>(
     })
 }
 
-// Leads a link of a record of the first set to a record of the second.
+// Changes a link of a record of the first set to a record of the second.
 fn lead_first<K: RecordKind + Drop, B: Base<K>, D: Device, R: Wait>(
     rt: &R,
     alloc: Global,
@@ -162,15 +166,17 @@ fn lead_first<K: RecordKind + Drop, B: Base<K>, D: Device, R: Wait>(
     })
 }
 
-/// Changes a link of a record of the first set, and keeps that in the journal. Where the link leads nowhere then, or to a record of the
-/// first set, that one falls apart, and else the record's part goes together with the second set; what falls off is a set of its own. Of the
-/// parts of a set the larger keeps its place. `link` and `twin` are alike.
+/// Changes a link of a record of the first set, and adds the change to the journal. If the link
+/// leads to a record of the first set then, or to none, this set may part in two; otherwise the
+/// record's part joins the second set, and the rest is a set of its own. The larger part of a set
+/// keeps its place. `link` and `twin` are equal.
 ///
 /// # Errors
 ///
-/// [`IocError::NoField`]: the field is no link of the record; nothing has changed then. [`IocError::JournalFull`]: the journal has no place
-/// left. [`IocError::NoMemory`]: nothing has changed then, but that the history may be forgotten. That DISP forbids it is a reply, which the
-/// journal keeps.
+/// [`IocError::NoField`] if the field is no link of the record; nothing has changed then.
+/// [`IocError::JournalFull`] if the journal has no place left, and [`IocError::NoMemory`] if
+/// allocation fails; nothing has changed then, except that the history may be forgotten. If DISP
+/// forbids the change, the refusal is a reply, which is added to the journal.
 pub fn change_link<K: RecordKind + Drop, B: Base<K>, D: Device, R: Wait>(
     rt: &R,
     alloc: Global,

@@ -1,4 +1,5 @@
-//! Held sets that are taken apart for a call about all of them, and put together again.
+//! Separates journaled sets from their passes for a call that concerns all of them, and puts them
+//! together again.
 ghost use Rattle.std.specs.Prelude.{◌≡◌, ◌≢◌, ◌≤◌, ◌<◌, ℕ, [], Some, Option, length, slice_index_or, IfOk, IfErr, IfNone, OnErr};
 ghost use Rattle.std.specs.Option.{IfSome};
 ghost use Rattle.ioc_notify.specs.Living.{holders_of};
@@ -30,7 +31,7 @@ use std::alloc::Global;
 use std::mem;
 use std::sync::Wait;
 
-// Takes each of these held sets apart, in room that was taken before.
+// Separates each of these journaled sets from its pass, into reserved memory.
 fn lend_all<K: RecordKind + Drop, B: Base<K>, D: Drop>(
     alloc: Global,
     cell: &Cell,
@@ -76,7 +77,8 @@ fn take_back_all<K: RecordKind + Drop, B: Base<K>, D: Drop>(
     }
 }
 
-// Gives a put with notification up on sets that were taken apart, where all that have it are in them: so many. Then they are put together again.
+// Cancels a put with notification on sets that were separated from their passes, if they have all
+// its `total` records. Then puts sets and passes together again.
 fn give_up_lent<K: RecordKind + Drop, B: Base<K>, D: Device, R: Wait>(
     rt: &R,
     alloc: Global,
@@ -110,12 +112,13 @@ fn give_up_lent<K: RecordKind + Drop, B: Base<K>, D: Device, R: Wait>(
     given
 }
 
-/// Gives a put with notification up on held sets, where they hold all that have it, and keeps that in the journal as one call. Where they don't, the
-/// sets hold what they held, and nothing else has changed.
+/// Cancels a put with notification on journaled sets, and adds the cancel to the journal as one
+/// call. Returns `None` if not all its records are in these sets; nothing has changed then.
 ///
 /// # Errors
 ///
-/// [`IocError::JournalFull`] where the journal has no place left, and [`IocError::NoMemory`] where memory is wanting: nothing has changed then.
+/// [`IocError::JournalFull`] if the journal has no place left. [`IocError::NoMemory`] if allocation
+/// fails. Nothing has changed then.
 pub fn cancel_on<K: RecordKind + Drop, B: Base<K>, D: Device, R: Wait>(
     rt: &R,
     alloc: Global,

@@ -1,4 +1,5 @@
-//! Calls on held sets that are lent to them: a link change over one or two sets, and a put with notification that is given up on several.
+//! Calls on journaled sets that are passed by reference: a link change of one or two sets, and the
+//! cancel of a put with notification on several sets.
 #![tactic(auto)]
 
 pub mod changing;

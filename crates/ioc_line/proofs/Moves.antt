@@ -1,4 +1,4 @@
--- Each step keeps the rule.
+-- Each step of a pass keeps the rule of the cell.
 use Rattle.std.proofs.Common.{◌≡◌, ◌≢◌, ◌⊎◌, ℕ, zero, suc, ◌≤◌, List, [], ◌∷◌, ◌++◌, length, set, Bool, true, false, true≢false, nat_le, if◌then◌else◌, refl, sym, ap, ◌∙◌, subst, inl, inr, ⊎_elim, arith, append_assoc, append-nil}
 use mathlib.Core.Option.{some, some-ne-none, some-injective}
 use lib.ListN.{get_elem?}
@@ -13,12 +13,13 @@ use Rattle.ioc_line.specs.Line.{Spares, Continues, Begins, keeper, holder, nobod
 off : false ≡ true → ⊥
 off e = true≢false (sym e)
 
--- a note that has none of the keys
+-- A list continues without the keys if it continues without them before a note that has none of
+-- them.
 continues_more : (seen log : List Note) (ks : List Key) (n : Note) → Continues seen ks log → ((k : Key) → Has k ks → Has k n.keys → ⊥) → Continues seen ks (log ++ n ∷ [])
 continues_more seen log ks n c apart =
     (c.0 ++ n ∷ [], ap (λ l. l ++ n ∷ []) c.1 ∙ append_assoc seen c.0 (n ∷ []), λ k h. spares_append k c.0 (n ∷ []) (c.2 k h) (apart k h, tt))
 
--- of two beginnings of one list, what lies between them
+-- Of two beginnings of a list, the longer is the shorter followed by what lies between them.
 between : (xs ys log : List Note) (p : List Note) (q : List Note) → log ≡ xs ++ p → log ≡ ys ++ q → length xs ≤ length ys → (mid : List Note) × (ys ≡ xs ++ mid) × (p ≡ mid ++ q)
 between [] ys log p q e f le = (ys, refl, sym e ∙ f)
 between (x ∷ xs) [] log p q e f le = absurd (omega arith)
@@ -38,14 +39,14 @@ begins_longer xs ys log p q e f false is =
     let m = between ys xs log q p f e (grind (arith, is)) in
     (([], sym (append-nil xs), (p, refl, e)), (m.0, m.1))
 
--- ---- the list of views
+-- An element of a list of views that was appended to is one of the list, or the last.
 at_end : (l : List View) (a b : View) (j : ℕ) → get_elem? (l ++ a ∷ []) j ≡ some b → ((get_elem? l j ≡ some b) × (j ≢ length l)) ⊎ ((j ≡ length l) × (a ≡ b))
 at_end [] a b zero e = inr (refl, some-injective a b e)
 at_end [] a b (suc j) e = absurd (some-ne-none b (sym e))
 at_end (x ∷ xs) a b zero e = inl (e, λ h. omega arith)
 at_end (x ∷ xs) a b (suc j) e = ⊎_elim (λ t. let n = t.1 in inl (t.0, λ h. n (omega arith))) (λ t. inr (ap suc t.0, t.1)) (at_end xs a b j e)
 
--- ---- a pass gets another view, and the list may grow
+-- The rule is kept if a pass gets another view and the list may grow.
 kept_set : (words words' : List ℕ) (views : List View) (by : ℕ) (v w : View) (log : List Note) (h : Kept words views) → get_elem? views by ≡ some v
     → ((j : ℕ) (u : View) → j ≢ by → get_elem? views j ≡ some u → Fits h.log h.seat j u → Fits log h.seat j u)
     → Fits log h.seat by w
@@ -75,7 +76,7 @@ kept_set words words' views by v w log h at others mine owns keeps = record {
         (λ (t : (i ≢ by) × (get_elem? views i ≡ some a)). (a, t.1, ha))
         (at_set views by i w a e)
 
--- a new pass, whose keys no pass has
+-- The rule is kept if a new pass is added whose keys no other pass owns.
 kept_snoc : (words : List ℕ) (views : List View) (new : View) (h : Kept words views)
     → new.keeps ≡ false
     → ((n : ℕ) → Fits h.log h.seat n new)
@@ -96,7 +97,7 @@ kept_snoc words views new h plain fits alone born = record {
       (at_end views new a i ei);
 }
 
--- a pass is cut in two, and each key goes one way
+-- The rule is kept if a pass is split in two and each key goes to one of the halves.
 fork : (words : List ℕ) (views : List View) (by : ℕ) (v left right : View) (h : Kept words views) → get_elem? views by ≡ some v
     → Fits h.log h.seat by left
     → ((n : ℕ) → Fits h.log h.seat n right)
@@ -128,7 +129,7 @@ continues_none log = (log, refl, λ k h. absurd h)
 fits_holder : (log : List Note) (seat n : ℕ) (seen : List Note) (ks : List Key) → Continues seen ks log → Fits log seat n (holder seen ks)
 fits_holder log seat n seen ks c = ((λ e. absurd (off e)), c, continues_none log, λ k a b. b)
 
--- ---- the steps
+-- The steps of passes.
 pub begins : (words : List ℕ) → Kept words (keeper [] [] ∷ [])
 begins words = record {
   seat = 0;
@@ -236,7 +237,7 @@ merges_shows by v other w none none' x views h at apart there = record {
     fw : Fits h.log h.seat other w
     fw = h.fits other w old
 
-    -- who had the key before
+    -- The pass that owned the key before.
     was : (i : ℕ) (a : View) (k : Key) → get_elem? (set (set views by both) other nobody) i ≡ some a → Holds a k
         → (n : ℕ) × (u : View) × (get_elem? views n ≡ some u) × Holds u k × ((n ≡ i) ⊎ ((n ≡ other) × (i ≡ by))) × (i ≢ other)
     was i a k e ha = ⊎_elim

@@ -1,4 +1,4 @@
--- Lemmas on keys and on lists that go on without them.
+-- Lemmas on keys, and on lists that continue without them.
 use Rattle.std.proofs.Common.{◌≡◌, ◌⊎◌, ℕ, List, [], ◌∷◌, ◌++◌, refl, sym, ap, inl, inr, ⊎_elim, append-nil}
 use Rattle.ioc_line.specs.declared.entry.Note.{Note}
 use Rattle.ioc_line.specs.Key.{Key, Has, record_keys}
@@ -31,7 +31,7 @@ spares_right k (x ∷ xs) ys h = spares_right k xs ys h.1
 pub continues_self : (log : List Note) (ks : List Key) → Continues log ks log
 continues_self log ks = ([], sym (append-nil log), λ k h. tt)
 
--- the keys of records are of kind 0
+-- The keys of records are of kind 0.
 pub record_kind : (k : Key) (rs : List ℕ) → Has k (record_keys rs) → k.0 ≡ 0
 record_kind k [] h = absurd h
 record_kind k (r ∷ rs) h = ⊎_elim (λ (e : (0, r) ≡ k). sym (ap (λ (p : Key). p.0) e)) (λ t. record_kind k rs t) h

@@ -1,7 +1,9 @@
-//! One list that only grows, passes that each know a beginning of it, and keys that each belong to one pass.
+//! A list that only grows, passes that each know a beginning of it, and keys that each belong to
+//! one pass.
 //!
-//! Who holds a set of records holds a pass that owns the keys of these records: what others add to the list meanwhile is about
-//! other records, and no two passes are about one. Passes have no bytes, and the cell that ties them is never written to.
+//! Whoever holds a set of records holds a pass that owns the keys of these records: what others add
+//! to the list meanwhile concerns other records, because no two passes own the same key. Passes
+//! have no bytes, and the cell that ties them together is never written to.
 #![tactic(auto)]
 
 pub mod entry;

@@ -1,4 +1,4 @@
-//! The steps of passes.
+//! Operations on passes.
 ghost use Rattle.std.specs.Prelude.{◌≡◌, ℕ, List, [], ◌∷◌, ◌++◌, true, false, map};
 ghost use Rattle.crossbeam_utils.specs.Register.{Forks, Turns};
 ghost use Rattle.crossbeam_utils.specs.Seq.{cell_view};
@@ -15,7 +15,7 @@ use crossbeam_utils::rule::Outcome;
 use std::marker::Brand;
 use std::sync::Wait;
 
-// Cuts a view in two, of which a new pass gets the second.
+// Splits the view of a pass in two and returns a new pass with the second half.
 #[inline(always)]
 fn cut<M: Split<View>>(cell: &Cell, pass: &mut Token) -> Token
     requires table { pass.old.table_id ≡ cell.now.table.shared.table_id }
@@ -26,7 +26,7 @@ fn cut<M: Split<View>>(cell: &Cell, pass: &mut Token) -> Token
     cell.split_pass::<M>(pass)
 }
 
-// Lays a pass beside another, to be compared with it.
+// Joins another pass to a pass, so that the two can be compared.
 #[inline(always)]
 fn lay_beside(cell: &Cell, pass: &mut Token, other: Token)
     requires table { (pass.old.table_id ≡ cell.now.table.shared.table_id) × (other.table_id ≡ pass.old.table_id) × (other.me.1 ≡ []) }
@@ -36,7 +36,7 @@ fn lay_beside(cell: &Cell, pass: &mut Token, other: Token)
     cell.join_pass::<Shows>(pass, other);
 }
 
-/// A pass that has seen the same list.
+/// Returns a new pass that has seen the same list and owns no key.
 pub fn again(cell: &Cell, pass: &mut Token) -> Token
     requires { pass.old.table_id ≡ cell.now.table.shared.table_id }
     ensures kept { (pass.new.table_id ≡ pass.old.table_id) × (cell_view pass.new ≡ cell_view pass.old) }
@@ -45,7 +45,7 @@ pub fn again(cell: &Cell, pass: &mut Token) -> Token
     cut::<Again>(cell, pass)
 }
 
-/// All that a pass knows and owns, in a new pass.
+/// Moves all that a pass knows and owns into a new pass.
 pub fn whole(cell: &Cell, pass: &mut Token) -> Token
     requires table { pass.old.table_id ≡ cell.now.table.shared.table_id }
     requires keeps { (cell_view pass.old).keeps ≡ false }
@@ -55,7 +55,7 @@ pub fn whole(cell: &Cell, pass: &mut Token) -> Token
     cut::<Whole>(cell, pass)
 }
 
-/// The keeper gives new keys out.
+/// Creates new keys: the keeper's pass records them, and the returned pass owns them.
 pub fn claim<K: Keys>(cell: &Cell, master: &mut Token) -> Token
     requires table { master.old.table_id ≡ cell.now.table.shared.table_id }
     requires keeps { (cell_view master.old).keeps ≡ true }
@@ -66,7 +66,7 @@ pub fn claim<K: Keys>(cell: &Cell, master: &mut Token) -> Token
     cut::<Claims<K>>(cell, master)
 }
 
-/// Some of the keys go to a new pass, with the whole list.
+/// Moves some of the keys to a new pass, which has seen the same list.
 pub fn part<K: Keys>(cell: &Cell, pass: &mut Token) -> Token
     requires table { pass.old.table_id ≡ cell.now.table.shared.table_id }
     requires asks { (cell_view pass.old).asks ≡ [] }
@@ -78,7 +78,7 @@ pub fn part<K: Keys>(cell: &Cell, pass: &mut Token) -> Token
     cut::<Parts<K>>(cell, pass)
 }
 
-// A step of one pass that the rule allows. It leaves the cell's word as it is.
+// Makes a step of one pass that the rule allows. The word of the cell stays as it is.
 #[inline(always)]
 fn step<O: Outcome<[u64; 1], View>, R: Wait>(rt: &R, cell: &Cell, pass: &mut Token)
     requires table { pass.old.table_id ≡ cell.now.table.shared.table_id }
@@ -89,7 +89,8 @@ fn step<O: Outcome<[u64; 1], View>, R: Wait>(rt: &R, cell: &Cell, pass: &mut Tok
     cell.load_as::<O, R>(rt, pass);
 }
 
-/// The keeper takes a pass in, and learns that nothing was noted of its keys since.
+/// Moves the keys of a pass into the keeper's. No note since what that pass had seen has any of its
+/// keys.
 pub fn take_in<R: Wait>(rt: &R, cell: &Cell, master: &mut Token, other: Token)
     requires table { (master.old.table_id ≡ cell.now.table.shared.table_id) × (other.table_id ≡ master.old.table_id) × (other.me.1 ≡ []) }
     requires keeps { ((cell_view master.old).keeps ≡ true) × ((cell_view master.old).mark ≡ []) × ((cell_view master.old).asks ≡ []) }
@@ -103,7 +104,7 @@ pub fn take_in<R: Wait>(rt: &R, cell: &Cell, master: &mut Token, other: Token)
     step::<TakesIn, R>(rt, cell, master);
 }
 
-/// A pass takes over the longer list.
+/// Moves a pass on to the longer of the lists that it and another pass have seen.
 pub fn learn<R: Wait>(rt: &R, cell: &Cell, pass: &mut Token, other: Token)
     requires table { (pass.old.table_id ≡ cell.now.table.shared.table_id) × (other.table_id ≡ pass.old.table_id) × (other.me.1 ≡ []) }
     requires pass { ((cell_view pass.old).keeps ≡ false) × ((cell_view pass.old).asks ≡ []) }
@@ -116,7 +117,7 @@ pub fn learn<R: Wait>(rt: &R, cell: &Cell, pass: &mut Token, other: Token)
     step::<Learns, R>(rt, cell, pass);
 }
 
-/// All keys go to a new pass, with the whole list.
+/// Moves all keys to a new pass, which has seen the same list.
 pub fn rest(cell: &Cell, pass: &mut Token) -> Token
     requires table { pass.old.table_id ≡ cell.now.table.shared.table_id }
     requires asks { (cell_view pass.old).asks ≡ [] }
@@ -126,7 +127,7 @@ pub fn rest(cell: &Cell, pass: &mut Token) -> Token
     cut::<Rest>(cell, pass)
 }
 
-/// The keeper adds a note of whose keys it owns all.
+/// Adds a note to the list. The keeper's pass has to own all keys of the note.
 pub fn note_down<S: Said, R: Wait>(rt: &R, cell: &Cell, master: &mut Token)
     requires table { master.old.table_id ≡ cell.now.table.shared.table_id }
     requires keeps { ((cell_view master.old).keeps ≡ true) × ((cell_view master.old).asks ≡ []) }
@@ -167,7 +168,8 @@ fn append_as<K: Keys, S: Said, R: Wait>(
     again(cell, master)
 }
 
-/// Adds an entry under the journal's lock, with what the caller holds: the pass of a set, and that of a desk. All three know the whole list then, and the caller gets a receipt.
+/// Adds an entry to the list and returns the pass of its receipt. The caller holds the journal's
+/// lock, the pass of a set and that of a desk. Afterwards all passes know the whole list.
 #[inline(always)]
 pub fn append<R: Wait>(
     rt: &R,
@@ -204,7 +206,7 @@ fn claim_as<K: Keys>(cell: &Cell, master: &mut Token, kind: u64, number: u64) ->
     claim::<K>(cell, master)
 }
 
-/// A new key, in a pass that knows the whole list.
+/// Creates a new key and returns the pass that owns it, which knows the whole list.
 pub fn claim_key(cell: &Cell, master: &mut Token, kind: u64, number: u64) -> Token
     requires table { master.old.table_id ≡ cell.now.table.shared.table_id }
     requires keeps { (cell_view master.old).keeps ≡ true }
@@ -240,7 +242,7 @@ fn compare_as<K: Keys, R: Wait>(
     *b = rest(cell, master);
 }
 
-/// Two passes own no key together. Both know the whole list then.
+/// Compares two passes: they have no key in common. Afterwards both know the whole list.
 pub fn compare<R: Wait>(rt: &R, cell: &Cell, master: &mut Token, a: &mut Token, b: &mut Token)
     requires table { (master.old.table_id ≡ cell.now.table.shared.table_id) × (a.old.table_id ≡ master.old.table_id) × (b.old.table_id ≡ master.old.table_id) }
     requires keeper { cell_view master.old ≡ keeper (cell_view master.old).seen (cell_view master.old).born }

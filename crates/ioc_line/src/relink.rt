@@ -1,4 +1,4 @@
-//! A step of two holders at once, after which their keys are dealt anew.
+//! A step of two passes at once, which divides their keys again.
 ghost use Rattle.std.specs.Prelude.{◌≡◌, [], ◌∷◌, ◌++◌, true, false};
 ghost use Rattle.crossbeam_utils.specs.Seq.{cell_view};
 ghost use Rattle.ioc_line.specs.Key.{Key, Has};
@@ -8,8 +8,9 @@ use crate::pass;
 use crate::room::{Cell, Keys, Said, Token};
 use std::sync::Wait;
 
-/// One call about what two passes own, of which the first owns the keys of `K` afterwards and the second those of `L`. All know the whole
-/// list then, and the caller gets a receipt.
+/// Adds a call that concerns the keys of two passes, and returns the pass of its receipt.
+/// Afterwards the first pass owns the keys of `K`, the second those of `L`, and all passes know the
+/// whole list.
 pub fn relink<K: Keys, L: Keys, S: Said, R: Wait>(
     rt: &R,
     cell: &Cell,

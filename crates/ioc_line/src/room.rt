@@ -19,7 +19,7 @@ impl Room for Brand {
     ghost table = { no_table };
 }
 
-/// Names keys: those that one call is about, and the others.
+/// Names keys: those that a call concerns, and the others.
 pub trait Keys {
     ghost use Rattle.std.specs.Prelude.{List};
     ghost use Rattle.ioc_line.specs.Key.{Key};
@@ -37,7 +37,7 @@ impl Keys for Brand {
     ghost rest = { [] };
 }
 
-/// Names what one call adds.
+/// Names the note that a call adds.
 pub trait Said {
     ghost use Rattle.ioc_line.specs.declared.entry.Note.{Note};
 
@@ -50,22 +50,24 @@ impl Said for Brand {
     ghost note = { no_note };
 }
 
-/// What a pass knows. No value of it is made.
+/// What a pass knows. It exists in contracts only: no value of it is made.
 pub struct View {
-    /// Is it the one that knows the whole list?
+    /// Whether the pass is the keeper's, which knows the whole list.
     pub keeps: bool,
     /// The beginning of the list that it has seen.
     pub seen: LinkedList<Note>,
-    /// The keeper's: all keys that were given out.
+    /// All keys that were created. Only the keeper's pass has them.
     pub born: LinkedList<(u64, u64)>,
-    /// The keys that belong to it.
+    /// The keys that the pass owns.
     pub owns: LinkedList<(u64, u64)>,
-    /// What a pass that was laid beside it has seen, and the keys of that one, until both are compared.
+    /// The list that a pass joined to this one has seen, and the keys of that pass, until the two
+    /// are compared.
     pub mark: LinkedList<Note>,
     pub asks: LinkedList<(u64, u64)>,
 }
 
-/// The rule of the cell: there is one list, of which each pass has seen a beginning, and no two passes own one key.
+/// The rule of the cell: there is one list, each pass has seen a beginning of it, and no two passes
+/// own the same key.
 pub struct Line;
 
 impl Protocol<[u64; 1], View> for Line {
@@ -77,7 +79,7 @@ impl Protocol<[u64; 1], View> for Line {
     ghost first = { keeper [] [] };
 }
 
-/// The same list for another pass, which owns nothing.
+/// Splits off a pass that has seen the same list and owns nothing.
 pub struct Again;
 
 impl Split<View> for Again {
@@ -88,7 +90,7 @@ impl Split<View> for Again {
     ghost right = { copied };
 }
 
-/// All of a view for another pass.
+/// Moves a whole view to another pass.
 pub struct Whole;
 
 impl Split<View> for Whole {
@@ -99,7 +101,7 @@ impl Split<View> for Whole {
     ghost right = { λ v. v };
 }
 
-/// New keys.
+/// Splits off a pass that owns new keys.
 pub struct Claims<K: Keys> {
     keys: PhantomData<K>,
 }
@@ -112,7 +114,7 @@ impl<K: Keys> Split<View> for Claims<K> {
     ghost right = { claimed K.keys };
 }
 
-/// Some of the keys for another pass, with the whole list.
+/// Splits off a pass with some of the keys and the whole list.
 pub struct Parts<K: Keys> {
     keys: PhantomData<K>,
 }
@@ -125,7 +127,7 @@ impl<K: Keys> Split<View> for Parts<K> {
     ghost right = { claimed K.keys };
 }
 
-/// All keys for another pass, with the whole list.
+/// Splits off a pass with all keys and the whole list.
 pub struct Rest;
 
 impl Split<View> for Rest {
@@ -137,7 +139,7 @@ impl Split<View> for Rest {
     ghost right = { given };
 }
 
-/// A pass is laid beside another, to be compared with it.
+/// Joins a pass to another, so that the two can be compared.
 pub struct Shows;
 
 impl Join<View> for Shows {
@@ -148,7 +150,7 @@ impl Join<View> for Shows {
     ghost spent = { nobody };
 }
 
-/// The keeper takes in the keys of the pass beside it.
+/// The keeper's pass takes over the keys of the pass that was joined to it.
 pub struct TakesIn;
 
 impl Outcome<[u64; 1], View> for TakesIn {
@@ -157,7 +159,7 @@ impl Outcome<[u64; 1], View> for TakesIn {
     ghost then = { TakenIn };
 }
 
-/// A pass takes over the longer list.
+/// A pass moves on to the longer list.
 pub struct Learns;
 
 impl Outcome<[u64; 1], View> for Learns {
@@ -166,7 +168,7 @@ impl Outcome<[u64; 1], View> for Learns {
     ghost then = { Learnt };
 }
 
-/// The keeper adds an entry.
+/// The keeper's pass adds a note.
 pub struct Appends<S: Said> {
     said: PhantomData<S>,
 }
@@ -177,7 +179,7 @@ impl<S: Said> Outcome<[u64; 1], View> for Appends<S> {
     ghost then = { Appended S.note };
 }
 
-/// The cell of one list.
+/// The cell of a list.
 pub type Cell = RuledSeqCell<[u64; 1], View, Line, 1>;
 
 /// A pass: it has no bytes.

@@ -34,17 +34,17 @@ trimmed_short blank bs =
     let s = skip_front blank bs in
     omega (arith, length-reverse (skip_front blank (reverse s)), skipped_short blank (reverse s), length-reverse s, skipped_short blank bs)
 
--- a reversed text begins with the last byte
+-- A reversed text begins with the last byte.
 backwards : (x : ℕ) (xs zs : List ℕ) → (r : List ℕ) × (reverse_aux (x ∷ xs) zs ≡ last_of x xs ∷ r)
 backwards x [] zs = (zs, refl)
 backwards x (y ∷ ys) zs = backwards y ys (x ∷ zs)
 
--- and ends with the first
+-- A reversed text ends with the first byte.
 last_back : (x y : ℕ) (ts ys : List ℕ) → last_of x (reverse_aux ts (y ∷ ys)) ≡ last_of y ys
 last_back x y [] ys = refl
 last_back x y (u ∷ us) ys = last_back x u us (y ∷ ys)
 
--- what is dropped in front leaves the last byte
+-- Skipping bytes at the front keeps the last byte.
 pub skip_last : (blank : ℕ → Bool) (x : ℕ) (cs : List ℕ) (e : ℕ) (es : List ℕ) → skip_front blank cs ≡ e ∷ es → last_of x cs ≡ last_of e es
 skip_last blank x [] e es h = absurd cc
 skip_last blank x (c ∷ cs) e es h =
@@ -59,7 +59,7 @@ first_of_reversed blank t ts (x ∷ xs) l r o h e =
     let same : x ≡ t = sym (last_back 0 x xs []) ∙ skip_last blank 0 (reverse (x ∷ xs)) l r h ∙ sym (ap (last_of 0) e) ∙ last_back 0 t ts [] in
     sym (ap blank same) ∙ not-true _ o
 
--- neither end of a trimmed text is blank
+-- Neither end of a trimmed text is a blank.
 pub trimmed_solid : (blank : ℕ → Bool) (text : List ℕ) (t : ℕ) (ts : List ℕ) → trimmed blank text ≡ t ∷ ts → (blank t ≡ false) × (blank (last_of t ts) ≡ false)
 trimmed_solid blank text t ts h =
     let s = skip_front blank text in
@@ -71,7 +71,7 @@ trimmed_solid blank text t ts h =
 kept_front : (blank : ℕ → Bool) (x : ℕ) (xs : List ℕ) → blank x ≡ false → skip_front blank (x ∷ xs) ≡ x ∷ xs
 kept_front blank x xs h = rw h refl
 
--- and a text with such ends stays
+-- Trimming keeps a text without blanks at its ends.
 pub solid_kept : (blank : ℕ → Bool) (t : ℕ) (ts : List ℕ) → blank t ≡ false → blank (last_of t ts) ≡ false → trimmed blank (t ∷ ts) ≡ t ∷ ts
 solid_kept blank t ts f l =
     let b = backwards t ts [] in

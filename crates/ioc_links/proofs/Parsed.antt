@@ -1,4 +1,4 @@
--- What a text stands for is read again from its one spelling.
+-- The link that a text spells reads back from its canonical spelling.
 use Rattle.std.proofs.Common.{◌≡◌, ℕ, ◌≤◌, ◌<◌, ◌^◌, Bool, true, false, cond, eqb, leb, ◌&&◌, List, [], ◌∷◌, length, Option, Some, None, ℤ, pos, negsuc, refl, sym, ap, subst, ◌∙◌, ◌⊎◌, inl, inr, arith}
 use Rattle.std.specs.Prelude.{FitsSigned, codes}
 use Rattle.std.specs.Fmt.{signed_decimal}
@@ -41,7 +41,7 @@ where_false false o link h = h
 solid_again : (kind : LinkKind) (text : List ℕ) (link : Link) → length text ≤ 120 → trimmed (is_blank true) text ≡ text → solid_link kind text ≡ Some link → link_of kind text ≡ Some link
 solid_again kind text link short e h = rw (le-leb (length text) 120 short) (ap (solid_link kind) e ∙ h)
 
--- ---- constants
+-- ---- Constants
 
 fits : (z : ℤ) → fits_i64 z ≡ true → FitsSigned w64 z
 fits (pos n) h = let k : n < 2 ^ 63 = ltb-true n (2 ^ 63) h in omega (arith, ints)
@@ -59,7 +59,7 @@ constant_again : (kind : LinkKind) (z : ℤ) → fits_i64 z ≡ true → Again k
 constant_again kind z f =
     solid_again kind (signed_decimal z) (Constant z) (decimal_short z f) (decimal_solid true z (fits z f)) (number_link kind (signed_decimal z) z (decimal_signed z (fits z f)) f)
 
--- ---- device links
+-- ---- Device links
 
 mantissa_no : (whole back : List ℕ) → mantissa_at (64 ∷ whole) back ≡ false
 unfolding in_class
@@ -103,7 +103,7 @@ from_device WithDevice c cs (e ∷ es) link k short l h =
     let few : length (e ∷ es) ≤ length cs = subst (λ (x : List ℕ). length x ≤ length cs) k (skipped_short (is_blank false) cs) in
     same_link WithDevice (Device (e ∷ es)) link h (device_again e es (omega arith) (not-true _ first) last)
 
--- ---- database links
+-- ---- Database links
 
 front_plain : (c : ℕ) (w : List ℕ) → eqb c 64 ≡ false → eqb c 123 ≡ false → is_some_of NameByte (front_of Point (c ∷ w)) ≡ true → begins_plain (front_of Point (c ∷ w)) ≡ true
 front_plain c w a b h =
@@ -151,7 +151,7 @@ from_words_or kind c cs link solid a h =
       | inr other ↦ from_words kind c cs link solid a other (rw other at h)
     ]
 
--- ---- any link
+-- ---- Any link
 
 empty_again : (kind : LinkKind) → Again kind Empty
 unfolding solid_link signed is_float is_mantissa by_first

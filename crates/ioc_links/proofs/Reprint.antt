@@ -18,7 +18,7 @@ use Rattle.ioc_links.specs.Words.{words}
 use Rattle.ioc_links.specs.Grammar.{is_some_of, is_float, is_record_name, is_field_name, target_at, named_at, named, mode_of, flags_of, database_at, database_of, by_first, solid_link, link_of, mode_word, printed_database, printed}
 use Rattle.ioc_links.proofs.Spelling.{Outside, outside_append, front_cut, back_cut, word_cut, signed_stops, float_space, space_within}
 
--- ---- names and fields
+-- ---- Names and fields
 
 name_byte : (b : ℕ) → in_class NameByte b ≡ true → (33 ≤ b) × (in_class Point b ≡ false) × (in_class Blank b ≡ false)
 unfolding in_class
@@ -57,7 +57,7 @@ some_all : (bs : List ℕ) → is_some_of FieldByte bs ≡ true → all_of Field
 some_all [] h = refl
 some_all (b ∷ bs) h = h
 
--- ---- the words behind the target
+-- ---- The words behind the target
 
 abbrev tail_of : Bool → Mode → List ℕ
 tail_of true m = 80 ∷ 80 ∷ 32 ∷ mode_word m
@@ -78,7 +78,7 @@ printed_is : (name field : List ℕ) (p : Bool) (m : Mode) → printed_database 
 printed_is name field true m = append_assoc (name ++ 46 ∷ field) (32 ∷ 80 ∷ 80 ∷ 32 ∷ []) (mode_word m)
 printed_is name field false m = append_assoc (name ++ 46 ∷ field) (32 ∷ 78 ∷ 80 ∷ 80 ∷ 32 ∷ []) (mode_word m)
 
--- ---- nothing to trim
+-- ---- Nothing to trim
 
 aux_append : (xs ys zs : List ℕ) → reverse_aux (xs ++ ys) zs ≡ reverse_aux ys (reverse_aux xs zs)
 aux_append [] ys zs = refl
@@ -104,7 +104,7 @@ trim_again x xs p m h =
     let solid : skip_front (is_blank true) (reverse whole) ≡ reverse whole = ap (skip_front (is_blank true)) back ∙ end_solid p m (reverse_aux (x ∷ xs) []) ∙ sym back in
     ap (λ (l : List ℕ). reverse (skip_front (is_blank true) (reverse l))) (first_solid x (xs ++ 32 ∷ tail_of p m) h) ∙ ap reverse solid ∙ reverse-reverse whole
 
--- ---- the link
+-- ---- The link
 
 named_again : (name field : List ℕ) → is_record_name name ≡ true → is_field_name field ≡ true → Outside Point name → named (name ++ 46 ∷ field) ≡ Some (record { record_name = name; field = field })
 unfolding named target_at in_class
@@ -150,7 +150,7 @@ database_again kind c cs field p m n f no_at no_brace =
     ∙ ap (λ (o : Option Target). database_at o (flags_of (words (tail_of p m)))) (named_again name field n f no.0) ∙ ap (database_at (Some (record { record_name = name; field = field }))) (flags_again p m) in
     ap (link_of kind) (printed_is name field p m) ∙ rw (le-leb (length text) 120 short) (ap (solid_link kind) (trim_again c (cs ++ 46 ∷ field) p m blank) ∙ link_by kind text _ number decimal first)
 
--- neither `@` nor `{` stands first
+-- Holds if the text doesn't begin with `@` or `{`.
 abbrev pub begins_plain : List ℕ → Bool
 begins_plain [] = false
 begins_plain (b ∷ bs) = not (eqb b 64) && not (eqb b 123)
@@ -162,7 +162,7 @@ by_name kind (c ∷ cs) field p m n f b =
     let k = and_parts (not (eqb c 64)) (not (eqb c 123)) b in
     database_again kind c cs field p m n f (eqb-false c 64 (not-true _ k.0)) (eqb-false c 123 (not-true _ k.1))
 
--- a database link with a name and a field that can be spelled is read from its one spelling
+-- A database link with a valid name and a valid field reads back from its canonical spelling.
 pub database_links_again : (kind : LinkKind) (target : Target) (flags : Flags) → is_record_name target.record_name ≡ true → is_field_name target.field ≡ true → begins_plain target.record_name ≡ true
     → link_of kind (printed (Database target flags)) ≡ Some (Database target flags)
 database_links_again kind target flags n f b = by_name kind target.record_name target.field flags.process_passive flags.mode n f b

@@ -1,4 +1,4 @@
--- A database link that is printed is read again.
+-- A printed database link reads back as the same link.
 use Rattle.std.proofs.Common.{◌≡◌, ℕ, ◌≤◌, Bool, true, false, cond, eqb, ltb, ◌&&◌, ◌||◌, List, [], ◌∷◌, ◌++◌, Option, Some, None, is_some, pos, neg_ℤ, refl, sym, ap, ◌∙◌, inl, inr, arith}
 use Rattle.std.specs.Prelude.{option_map}
 use Rattle.std.specs.List.{AllByRecursion}
@@ -13,7 +13,7 @@ use Rattle.ioc_links.specs.Words.{words}
 use Rattle.ioc_links.specs.Grammar.{without_sign, is_some_of, mantissa_at, is_mantissa, float_at, is_float}
 use Rattle.ioc_links.proofs.WordLemmas.{words_first}
 
--- ---- a text with a point in it is no number
+-- ---- A text with a point in it is no number
 
 and_false : (s t : Bool) → t ≡ false → (s && t) ≡ false
 and_false true t e = e
@@ -55,7 +55,7 @@ pub signed_stops : (c : ℕ) (cs ys : List ℕ) → signed (c ∷ (cs ++ 46 ∷ 
 unfolding signed
 signed_stops c cs ys = three (eqb c 45) (eqb c 43) _ _ (magnitude_stops cs ys) (magnitude_stops (c ∷ cs) ys)
 
--- ---- a text with a space in it is no decimal number
+-- ---- A text with a space in it is no decimal number
 
 abbrev pub has_space : List ℕ → Bool
 has_space [] = false
@@ -143,7 +143,7 @@ pub space_within : (xs ys : List ℕ) → has_space (xs ++ 32 ∷ ys) ≡ true
 space_within [] ys = refl
 space_within (x ∷ xs) ys = ap (λ t. eqb x 32 || t) (space_within xs ys) ∙ or_true (eqb x 32)
 
--- ---- a cut at the first of a class
+-- ---- A cut at the first of a class
 
 abbrev pub Outside : Class → List ℕ → Type 0
 Outside k xs = AllByRecursion (λ b. in_class k b ≡ false) xs

@@ -1,4 +1,4 @@
--- The first word of a text, and the words behind it.
+-- The first word of a text, and the words after it.
 use Rattle.std.proofs.Common.{◌≡◌, ℕ, ◌≤◌, ◌<◌, Bool, true, false, List, [], ◌∷◌, length, refl, sym, ap, ◌∙◌, arith}
 use Rattle.std.proofs.lemmas.Bool.{cases_Bool}
 use Rattle.std.proofs.Common.{inl, inr}
@@ -26,7 +26,7 @@ alone : (b : ℕ) (bs : List ℕ) → is_blank true b ≡ false → in_word bs �
 unfolding in_class
 alone b bs h i f k = rw (h, i, f, k) refl
 
--- a text that begins with no blank
+-- The words of a text that begins with no blank are its first word and the words after it.
 pub words_first : (b : ℕ) (bs : List ℕ) → is_blank true b ≡ false → words (b ∷ bs) ≡ front_of Blank (b ∷ bs) ∷ words (back_of Blank (b ∷ bs))
 unfolding in_class
 words_first b [] h = rw h refl

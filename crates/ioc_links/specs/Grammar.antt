@@ -1,5 +1,5 @@
--- Link texts, and the links that they stand for. Record Reference Manual, "Database Concepts: Address Specification";
--- Application Developer's Guide, "Database Links".
+-- Link texts, and the links that they spell. Record Reference Manual, "Database Concepts: Address
+-- Specification"; Application Developer's Guide, "Database Links".
 use Rattle.std.specs.Prelude.{◌≡◌, ℕ, ℤ, Bool, true, false, List, [], ◌∷◌, ◌++◌, length, Option, Some, None, codes, not, nat_le, nat_eq, ◌==◌, ◌&&◌, ◌||◌, if◌then◌else◌}
 use Rattle.std.specs.Fmt.{signed_decimal}
 use Rattle.std.specs.List.{list_all}
@@ -20,133 +20,134 @@ use Rattle.ioc_links.specs.declared.link.Mode.TheVariants.{Nms, Ms, Msi, Mss}
 use Rattle.ioc_links.specs.declared.link.Target.{Target}
 use Rattle.ioc_links.specs.declared.link.Flags.{Flags}
 
--- ---- numbers with a fraction or an exponent
+-- ---- Numbers with a fraction or an exponent
 
--- the text behind a sign, if it begins with one
+-- The text after its sign, or the whole text if it has none.
 abbrev pub without_sign : List ℕ → List ℕ
 without_sign [] = []
 without_sign (b ∷ bs) = if (b == 43) || (b == 45) then bs else b ∷ bs
 
--- one byte or more, each of the class
+-- Whether there is at least one byte and each is in the class.
 abbrev pub is_some_of : Class → List ℕ → Bool
 is_some_of class [] = false
 is_some_of class (b ∷ bs) = all_of class (b ∷ bs)
 
--- digits, at least one, before and behind the point, if there is one
+-- Whether there is at least one digit and nothing else before the point, if there is one, and after
+-- it.
 abbrev pub mantissa_at : List ℕ → List ℕ → Bool
 mantissa_at whole [] = is_some_of Digit whole
 mantissa_at whole (point ∷ part) = is_some_of Digit (whole ++ part)
 
--- digits, at least one, with or without one point
+-- Whether the text consists of digits, at least one, with at most one point.
 unfoldable pub is_mantissa : List ℕ → Bool
 is_mantissa bs = mantissa_at (front_of Point bs) (back_of Point bs)
 
--- a mantissa, and perhaps an exponent behind a mark
+-- Whether the text is a mantissa, with or without an exponent after its mark.
 abbrev pub float_at : List ℕ → List ℕ → Bool
 float_at number [] = is_mantissa number
 float_at number (mark ∷ power) = is_mantissa number && is_some_of Digit (without_sign power)
 
--- a decimal number, whole or not
+-- Whether the text is a decimal number, integer or not.
 unfoldable pub is_float : List ℕ → Bool
 is_float text = float_at (front_of Mark (without_sign text)) (back_of Mark (without_sign text))
 
--- ---- names, fields and words
+-- ---- Names, fields and words
 
--- 1 to 60 bytes, each fit for a name
+-- Whether the text has 1 to 60 bytes, each valid in a name.
 abbrev pub is_record_name : List ℕ → Bool
 is_record_name bs = nat_le (length bs) 60 && is_some_of NameByte bs
 
--- 1 to 8 capital letters or digits
+-- Whether the text has 1 to 8 capital letters or digits.
 abbrev pub is_field_name : List ℕ → Bool
 is_field_name bs = nat_le (length bs) 8 && is_some_of FieldByte bs
 
--- the field of the record, where both can be named so
+-- The field of the record as a target, if both names are valid.
 unfoldable pub target_at : List ℕ → List ℕ → Option Target
 target_at name field = if is_record_name name && is_field_name field then Some (record { record_name = name; field = field }) else None
 
--- a name, and what stands behind it: VAL where there is nothing
+-- The target of a name and the text after it; the field is VAL if there is no such text.
 abbrev pub named_at : List ℕ → List ℕ → Option Target
 named_at name [] = target_at name (codes "VAL")
 named_at name (point ∷ field) = target_at name field
 
--- a word cut at its first point
+-- The target that a word names, split at its first point.
 unfoldable pub named : List ℕ → Option Target
 named word = named_at (front_of Point word) (back_of Point word)
 
--- the words that may stand behind a target
+-- Whether the word is valid after a target.
 abbrev pub is_word : List ℕ → Bool
 is_word w = pointwise nat_eq w (codes "PP") || (pointwise nat_eq w (codes "NPP") || (pointwise nat_eq w (codes "NMS")
     || (pointwise nat_eq w (codes "MS") || (pointwise nat_eq w (codes "MSI") || pointwise nat_eq w (codes "MSS")))))
 
--- each word may
+-- Whether each word is valid after a target.
 abbrev pub all_words : List (List ℕ) → Bool
 all_words ws = list_all is_word ws
 
--- NMS wins over MSI, MSI over MSS, and MSS over MS
+-- The mode that the words spell. NMS takes precedence over MSI, MSI over MSS, and MSS over MS.
 unfoldable pub mode_of : List (List ℕ) → Mode
 mode_of ws = if has (codes "NMS") ws then Nms else (if has (codes "MSI") ws then Msi else (if has (codes "MSS") ws then Mss else (if has (codes "MS") ws then Ms else Nms)))
 
--- what the words behind a target say; NPP wins over PP
+-- The flags that the words after a target spell. NPP takes precedence over PP.
 unfoldable pub flags_of : List (List ℕ) → Option Flags
 flags_of ws = if all_words ws then Some (record { process_passive = has (codes "PP") ws && not (has (codes "NPP") ws); mode = mode_of ws }) else None
 
--- a target and its words
+-- The database link of a target and its flags.
 abbrev pub database_at : Option Target → Option Flags → Option Link
 database_at (Some target) (Some flags) = Some (Database target flags)
 database_at _ _ = None
 
--- the words of a database link
+-- The database link that the words spell.
 abbrev pub database_of : List (List ℕ) → Option Link
 database_of [] = None
 database_of (w ∷ ws) = database_at (named w) (flags_of ws)
 
--- ---- links
+-- ---- Links
 
--- a device link with a text, where the field may hold one
+-- The device link with a text, if the field can hold one.
 abbrev pub device_of : LinkKind → List ℕ → Option Link
 device_of WithDevice [] = None
 device_of WithDevice (c ∷ cs) = Some (Device (c ∷ cs))
 device_of NoDevice text = None
 
--- by the first byte: none, `@`, `{` or another
+-- The link of a text that isn't a number, by its first byte: none, `@`, `{` or another one.
 unfoldable pub by_first : LinkKind → List ℕ → Option Link
 by_first kind [] = Some Empty
 by_first kind (c ∷ cs) =
     if c == 64 then device_of kind (skip_front (is_blank false) cs)
     else (if c == 123 then None else database_of (words (c ∷ cs)))
 
--- a constant of 64 bits
+-- The constant link of a number that fits 64 bits.
 abbrev pub constant_of : ℤ → Option Link
 constant_of z = if fits_i64 z then Some (Constant z) else None
 
--- a text with no blanks at its ends
+-- The link of a text without blanks at its ends.
 unfoldable pub solid_link : LinkKind → List ℕ → Option Link
 solid_link kind text = option_map_or constant_of (signed text) (if is_float text then None else by_first kind text)
 
--- the link that a text stands for, if it stands for one
+-- The link that a text spells, if it spells one.
 abbrev pub link_of : LinkKind → List ℕ → Option Link
 link_of kind text = if nat_le (length text) 120 then solid_link kind (trimmed (is_blank true) text) else None
 
--- ---- the one spelling
+-- ---- The one spelling
 
--- the word for a mode
+-- The word for the mode.
 abbrev pub mode_word : Mode → List ℕ
 mode_word Nms = codes "NMS"
 mode_word Ms = codes "MS"
 mode_word Msi = codes "MSI"
 mode_word Mss = codes "MSS"
 
--- `NAME.FIELD`, PP or NPP, and the mode
+-- `NAME.FIELD`, PP or NPP, and the mode.
 abbrev pub printed_database : Target → Flags → List ℕ
 printed_database target flags = target.record_name ++ 46 ∷ target.field ++ (if flags.process_passive then codes " PP " else codes " NPP ") ++ mode_word flags.mode
 
--- the one spelling of a link
+-- The canonical spelling of a link.
 abbrev pub printed : Link → List ℕ
 printed Empty = []
 printed (Constant z) = signed_decimal z
 printed (Device text) = 64 ∷ text
 printed (Database target flags) = printed_database target flags
 
--- what a text stands for is read again from its one spelling
+-- Each link that a text spells reads back from its canonical spelling.
 abbrev pub LinksAgain : Type 0
 LinksAgain = (kind : LinkKind) (text : List ℕ) (link : Link) → link_of kind text ≡ Some link → link_of kind (printed link) ≡ Some link

@@ -1,16 +1,16 @@
-//! Kinds of bytes, and the parts of a text that they cut.
+//! Classes of bytes, and texts split at a class.
 
 ghost use Rattle.std.specs.Prelude.{◌≡◌, ◌≤◌, length};
 ghost use Rattle.ioc_links.specs.Classes.{in_class, all_of, front_of, back_of};
 
-/// A kind of byte.
+/// A class of bytes.
 #[derive(Clone, Copy, PartialEq, Eq)]
 pub enum Class {
     Digit,
     Point,
-    /// `e` or `E`, before an exponent.
+    /// `e` or `E`, which begins an exponent.
     Mark,
-    /// 33 to 126, without `"`, `$`, `'` and `.`.
+    /// 33 to 126, except `"`, `$`, `'` and `.`.
     NameByte,
     /// A capital letter or a digit.
     FieldByte,
@@ -18,7 +18,7 @@ pub enum Class {
     Blank,
 }
 
-/// Whether the byte is of the class.
+/// Returns whether the byte is in the class.
 #[tactic(auto, unfolding(crate::specs::Classes::in_class))]
 pub fn in_class(class: Class, b: u8) -> bool
     ensures { result ≡ in_class class b }
@@ -35,7 +35,7 @@ pub fn in_class(class: Class, b: u8) -> bool
     }
 }
 
-/// Whether each byte is of the class.
+/// Returns whether each byte is in the class.
 pub fn all_of(class: Class, bytes: &[u8]) -> bool
     ensures { result ≡ all_of class bytes.now }
 {
@@ -49,7 +49,7 @@ pub fn all_of(class: Class, bytes: &[u8]) -> bool
     true
 }
 
-/// The bytes before the first of a class, and those from it on.
+/// Splits the bytes before the first one in the class.
 pub fn split_at(class: Class, bytes: &[u8]) -> (&[u8], &[u8])
     ensures front { result.0.now ≡ front_of class bytes.now }
     ensures back { result.1.now ≡ back_of class bytes.now }

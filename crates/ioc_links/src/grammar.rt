@@ -7,7 +7,7 @@ use crate::class::{Class, all_of, split_at};
 use crate::link::Target;
 use ioc_values::{MAX_FIELD_NAME_BYTES, MAX_NAME_BYTES, Short};
 
-/// The text behind a sign, if it begins with one.
+/// Returns the text after its sign, or the whole text if it has none.
 fn without_sign(text: &[u8]) -> &[u8]
     ensures { result.now ≡ without_sign text.now }
 {
@@ -17,7 +17,7 @@ fn without_sign(text: &[u8]) -> &[u8]
     }
 }
 
-/// Whether there is a byte, and each is of the class.
+/// Returns whether there is at least one byte and each is in the class.
 fn is_some_of(class: Class, bytes: &[u8]) -> bool
     ensures { result ≡ is_some_of class bytes.now }
 {
@@ -27,7 +27,7 @@ fn is_some_of(class: Class, bytes: &[u8]) -> bool
     all_of(class, bytes)
 }
 
-/// Whether there is a byte in either part, and each is of the class.
+/// Returns whether the two parts have at least one byte in all and each is in the class.
 fn is_some_of_both(class: Class, front: &[u8], back: &[u8]) -> bool
     ensures { result ≡ is_some_of class (front.now ++ back.now) }
 {
@@ -37,7 +37,7 @@ fn is_some_of_both(class: Class, front: &[u8], back: &[u8]) -> bool
     }
 }
 
-/// Whether the text is digits, at least one, with or without one point.
+/// Returns whether the text consists of digits, at least one, with at most one point.
 #[tactic(auto, unfolding(crate::specs::Grammar::is_mantissa))]
 fn is_mantissa(text: &[u8]) -> bool
     ensures { result ≡ is_mantissa text.now }
@@ -49,7 +49,7 @@ fn is_mantissa(text: &[u8]) -> bool
     }
 }
 
-/// Whether the text is a decimal number, whole or with a fraction or an exponent.
+/// Returns whether the text is a decimal number: an integer, or one with a fraction or an exponent.
 #[tactic(auto, unfolding(crate::specs::Grammar::is_float))]
 pub(crate) fn is_float(text: &[u8]) -> bool
     ensures { result ≡ is_float text.now }
@@ -61,21 +61,22 @@ pub(crate) fn is_float(text: &[u8]) -> bool
     }
 }
 
-/// Whether the text can name a record: 1 to 60 bytes, each 33 to 126, without `"`, `'`, `.` and `$`.
+/// Returns whether the text is a valid record name: 1 to 60 bytes, each from 33 to 126, except `"`,
+/// `'`, `.` and `$`.
 pub fn is_record_name(name: &[u8]) -> bool
     ensures { result ≡ is_record_name name.now }
 {
     name.len() <= MAX_NAME_BYTES && is_some_of(Class::NameByte, name)
 }
 
-/// Whether the text can name a field: 1 to 8 capital letters or digits.
+/// Returns whether the text is a valid field name: 1 to 8 capital letters or digits.
 fn is_field_name(field: &[u8]) -> bool
     ensures { result ≡ is_field_name field.now }
 {
     field.len() <= MAX_FIELD_NAME_BYTES && is_some_of(Class::FieldByte, field)
 }
 
-/// The field of the record, where both can be named so.
+/// Returns the field of the record as a target, if both names are valid.
 #[tactic(auto, unfolding(crate::specs::Grammar::target_at))]
 fn target_at(name: &[u8], field: &[u8]) -> Option<Target>
     ensures { result ≡ target_at name.now field.now }
@@ -91,7 +92,7 @@ fn target_at(name: &[u8], field: &[u8]) -> Option<Target>
     })
 }
 
-/// What `NAME` or `NAME.FIELD` names: without a field VAL.
+/// Returns the target that `NAME` or `NAME.FIELD` names. Without a field it is VAL.
 #[tactic(auto, unfolding(crate::specs::Grammar::named))]
 pub(crate) fn named(word: &[u8]) -> Option<Target>
     ensures { result ≡ named word.now }

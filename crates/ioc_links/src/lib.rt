@@ -1,6 +1,7 @@
-//! Link texts: the links that they stand for, and the one spelling of each.
+//! Link texts: the links that they spell, and the canonical spelling of each link.
 //!
-//! Record Reference Manual, "Database Concepts: Address Specification"; Application Developer's Guide, "Database Links".
+//! Record Reference Manual, "Database Concepts: Address Specification"; Application Developer's
+//! Guide, "Database Links".
 #![tactic(auto)]
 
 mod class;

@@ -1,22 +1,22 @@
-//! Links as they are written.
+//! Links as they are written in a text.
 use ioc_values::{FieldName, Name, Short};
 
-/// The most bytes of a link's text.
+/// The maximum length of a link text in bytes.
 pub const MAX_LINK_BYTES: usize = 120;
 
-/// The most bytes of a device link's text, which stands behind an `@`.
+/// The maximum length of the text of a device link in bytes, without its `@`.
 pub const MAX_DEVICE_BYTES: usize = MAX_LINK_BYTES - 1;
 
-/// How a link hands on the alarm severity of the record that it names.
+/// How a link passes on the alarm severity of the record that it names.
 #[derive(Clone, Copy, PartialEq, Eq, Debug)]
 pub enum Mode {
     /// Not at all.
     Nms,
-    /// The severity.
+    /// The severity is passed on.
     Ms,
-    /// The severity, where it is INVALID.
+    /// The severity is passed on if it is INVALID.
     Msi,
-    /// The severity and the status.
+    /// The severity and the status are passed on.
     Mss,
 }
 
@@ -27,7 +27,7 @@ pub struct Target {
     pub field: FieldName,
 }
 
-/// The words behind the target of a database link.
+/// The words after the target of a database link.
 #[derive(Clone, Copy, PartialEq, Eq, Debug)]
 pub struct Flags {
     /// PP: a passive target is processed.
@@ -35,21 +35,21 @@ pub struct Flags {
     pub mode: Mode,
 }
 
-/// A link as its text says.
+/// A link as its text spells it.
 #[derive(Clone, Copy, PartialEq, Eq)]
 pub enum Link {
     Empty,
     Constant(i64),
-    /// The text behind the `@`.
+    /// The text after the `@`.
     Device(Short<MAX_DEVICE_BYTES>),
     Database(Target, Flags),
 }
 
-/// Which links may stand in a field.
+/// The links that a field can hold.
 #[derive(Clone, Copy, PartialEq, Eq, Debug)]
 pub enum LinkKind {
-    /// INP and OUT: device links too.
+    /// Device links too: INP and OUT.
     WithDevice,
-    /// Other link fields.
+    /// No device links: every other link field.
     NoDevice,
 }

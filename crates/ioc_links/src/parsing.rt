@@ -1,4 +1,4 @@
-//! Links read from their texts.
+//! Reading links from their texts.
 
 ghost use Rattle.std.specs.Prelude.{◌≡◌, ◌≤◌, length, ok_or};
 ghost use Rattle.ioc_links.specs.Words.{words};
@@ -11,7 +11,7 @@ use ioc_values::number::{is_number, signed};
 use ioc_values::trim::{skip_front, trim};
 use ioc_values::{IocError, Short};
 
-/// The device link of the text behind `@`, where the field may hold one.
+/// Returns the device link with the text after the `@`, if the field can hold one.
 fn device_of(kind: LinkKind, text: &[u8]) -> Option<Link>
     requires { length text.now ≤ 119 }
     ensures { result ≡ device_of kind text.now }
@@ -23,7 +23,7 @@ fn device_of(kind: LinkKind, text: &[u8]) -> Option<Link>
     }
 }
 
-/// The database link that a target and the words behind it write.
+/// Returns the database link that a target and the words after it spell.
 fn database_of(text: &[u8]) -> Option<Link>
     ensures { result ≡ database_of (words text.now) }
 {
@@ -33,7 +33,7 @@ fn database_of(text: &[u8]) -> Option<Link>
     Some(Link::Database(target, flags))
 }
 
-/// The link of a text that is no number, with no blanks at its ends.
+/// Returns the link of a text that isn't a number and has no blanks at its ends.
 #[tactic(auto, unfolding(crate::specs::Grammar::by_first))]
 fn by_first(kind: LinkKind, text: &[u8]) -> Option<Link>
     requires { length text.now ≤ 120 }
@@ -47,7 +47,7 @@ fn by_first(kind: LinkKind, text: &[u8]) -> Option<Link>
     }
 }
 
-/// The link of a text with no blanks at its ends.
+/// Returns the link of a text without blanks at its ends.
 #[tactic(auto, unfolding(crate::specs::Grammar::solid_link))]
 fn solid_link(kind: LinkKind, text: &[u8]) -> Option<Link>
     requires { length text.now ≤ 120 }
@@ -62,13 +62,14 @@ fn solid_link(kind: LinkKind, text: &[u8]) -> Option<Link>
     by_first(kind, text)
 }
 
-/// The link that a text stands for. Spaces and tabs at both ends don't count.
+/// Returns the link that the text spells. Spaces and tabs at both ends are ignored.
 ///
 /// # Errors
 ///
-/// [`IocError::BadLink`] where it stands for none: more than 120 bytes, a number past 64 bits or with a fraction or an
-/// exponent, a device link where none may stand or with no text, a JSON link (`{` first), a malformed name, or an
-/// unknown word behind the name (among them CA, CP and CPP).
+/// [`IocError::BadLink`] if the text spells no link: it has more than 120 bytes, is a number that
+/// doesn't fit 64 bits or has a fraction or an exponent, is a device link with no text or in a
+/// field that can't hold one, is a JSON link (it begins with `{`), or has an invalid name or an
+/// unknown word after the name (CA, CP and CPP are unknown).
 pub fn parse(kind: LinkKind, text: &[u8]) -> Result<Link, IocError>
     ensures { result ≡ ok_or (link_of kind text.now) IocError.BadLink }
 {

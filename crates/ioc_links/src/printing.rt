@@ -1,4 +1,4 @@
-//! The one spelling of each link.
+//! The canonical spelling of each link.
 
 ghost use Rattle.std.specs.Prelude.{◌≡◌};
 ghost use Rattle.ioc_links.specs.Grammar.{mode_word, printed_database, printed, LinksAgain};
@@ -7,7 +7,7 @@ use crate::link::{Flags, Link, MAX_LINK_BYTES, Mode, Target};
 use ioc_values::Short;
 use itoa::Buffer;
 
-/// The word for a mode.
+/// Returns the word for the mode.
 fn mode_word(mode: Mode) -> &'static [u8]
     ensures { result.now ≡ mode_word mode }
 {
@@ -19,7 +19,7 @@ fn mode_word(mode: Mode) -> &'static [u8]
     }
 }
 
-/// `NAME.FIELD`, then PP or NPP, then the mode, parted by one space.
+/// Returns `NAME.FIELD`, PP or NPP, and the mode, separated by one space each.
 fn print_database(target: &Target, flags: Flags) -> Short<MAX_LINK_BYTES>
     ensures { result ≡ printed_database target.now flags }
 {
@@ -37,7 +37,8 @@ fn print_database(target: &Target, flags: Flags) -> Short<MAX_LINK_BYTES>
     text
 }
 
-/// The one spelling of a link: nothing, a constant in decimal, `@` and the text, or `NAME.FIELD` with both words.
+/// Returns the canonical spelling of the link: nothing, a constant in decimal, `@` and the text, or
+/// `NAME.FIELD` with both words.
 pub fn print(link: &Link) -> Short<MAX_LINK_BYTES>
     ensures { result ≡ printed link.now }
 {
@@ -57,8 +58,8 @@ pub fn print(link: &Link) -> Short<MAX_LINK_BYTES>
     text
 }
 
-/// Each link that [`parse`](crate::parsing::parse) answers is read again from its one spelling, in a field of the
-/// same kind.
+/// Each link that [`parse`](crate::parsing::parse) returns reads back from its canonical spelling
+/// as the same link, in a field of the same kind.
 pub fn printed_is_read()
     ensures { LinksAgain }
 {}

@@ -1,4 +1,4 @@
-//! The words of a link text, which spaces and tabs part.
+//! The words of a link text, which are separated by spaces and tabs.
 
 ghost use Rattle.std.specs.Prelude.{◌≡◌, codes, nat_eq};
 ghost use Rattle.ioc_links.specs.Words.{words, has, IsNextWord};
@@ -8,7 +8,7 @@ use crate::class::{Class, split_at};
 use crate::link::{Flags, Mode};
 use ioc_values::trim::skip_front;
 
-/// The first word, and what stands behind it. `None` where there is no word.
+/// Returns the first word and the text after it, or `None` if there is no word.
 pub fn next_word(text: &[u8]) -> Option<(&[u8], &[u8])>
     ensures { IsNextWord text.now result }
 {
@@ -19,7 +19,7 @@ pub fn next_word(text: &[u8]) -> Option<(&[u8], &[u8])>
     Some(split_at(Class::Blank, text))
 }
 
-/// Whether the word may stand behind a target.
+/// Returns whether the word is valid after a target.
 fn is_word(word: &[u8]) -> bool
     ensures { result ≡ is_word word.now }
 {
@@ -31,7 +31,7 @@ fn is_word(word: &[u8]) -> bool
         || word == b"MSS".as_slice()
 }
 
-/// Whether each word may stand behind a target.
+/// Returns whether each word of the text is valid after a target.
 fn all_words(text: &[u8]) -> bool
     ensures { result ≡ all_words (words text.now) }
 {
@@ -45,7 +45,7 @@ fn all_words(text: &[u8]) -> bool
     true
 }
 
-/// Whether the word is among those of the text.
+/// Returns whether the text contains the word.
 fn has(word: &[u8], text: &[u8]) -> bool
     ensures { result ≡ has word.now (words text.now) }
 {
@@ -59,7 +59,8 @@ fn has(word: &[u8], text: &[u8]) -> bool
     false
 }
 
-/// What the words say of severities: NMS wins over MSI, MSI over MSS, and MSS over MS.
+/// Returns the mode that the words spell. NMS takes precedence over MSI, MSI over MSS, and MSS over
+/// MS.
 #[tactic(auto, unfolding(crate::specs::Grammar::mode_of))]
 fn mode_of(text: &[u8]) -> Mode
     ensures { result ≡ mode_of (words text.now) }
@@ -77,7 +78,7 @@ fn mode_of(text: &[u8]) -> Mode
     }
 }
 
-/// What the words behind a target say. NPP wins over PP.
+/// Returns the flags that the words after a target spell. NPP takes precedence over PP.
 #[tactic(auto, unfolding(crate::specs::Grammar::flags_of))]
 pub fn flags_of(text: &[u8]) -> Option<Flags>
     ensures { result ≡ flags_of (words text.now) }

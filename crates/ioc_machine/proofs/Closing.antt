@@ -29,12 +29,12 @@ quiet_begun : {R : Type 0} (k : RecordRules R) (w : World R) → IsQuiet k w →
 unfolding at begun
 quiet_begun k w is = record { quiet = λ n has. is.quiet n has }
 
--- an event begins with what was left
+-- The world is settled at the beginning of an event if it was so before.
 pub settled_same : {R : Type 0} (k : RecordRules R) (w v : World R) → v ≡ begun w → IsSettled k w → IsSettled k v
 settled_same {R} k w v e is =
     subst (λ (x : World R). IsSettled k x) (sym e) (record { closed = closed_begun k w is.closed; quiet = quiet_begun k w is.quiet })
 
--- and so at whatever moment
+-- The same with any time stamp.
 pub settled_at : {R : Type 0} (k : RecordRules R) (moment : ℕ) (w v : World R) → v ≡ begun_at moment w → IsSettled k w → IsSettled k v
 unfolding at begun begun_at
 settled_at {R} k moment w v e is =
@@ -47,7 +47,7 @@ pub room_at : {R : Type 0} (moment : ℕ) (w v : World R) (room : ℕ) → v ≡
 unfolding begun begun_at
 room_at moment w v room e few = rw e few
 
--- an event begins with as many records
+-- The number of records is unchanged at the beginning of an event.
 pub room_same : {R : Type 0} (w v : World R) (room : ℕ) → v ≡ begun w → len w.records ≤ room → len v.records ≤ room
 unfolding begun
 room_same w v room e few = rw e few
@@ -56,11 +56,11 @@ pub begun-none : {R : Type 0} (w v : World R) → v ≡ begun w → v.calls ≡ 
 unfolding begun
 begun-none w v e = ap (λ (x : World _). x.calls) e
 
--- an event begins with no call
+-- No device was called at the beginning of an event.
 pub none_yet : {R D : Type 0} (map : OneMap R D) (w : World R) → world_of map ≡ begun w → (given_of map).calls ≡ []
 none_yet map w e = begun-none w (world_of map) e
 
--- a map of records for which no event has begun
+-- A map of records before its first event.
 pub first_is : {R D : Type 0} (map : OneMap R D) (records : Vec R) → map.records ≡ records → (world_of map).live ≡ [] → (world_of map).waiting ≡ [] → world_of map ≡ begun_at 0 (world_of map) → world_of map ≡ first_world records.items
 unfolding begun begun_at first_world
 first_is {R} map records is none nobody fresh =
@@ -68,6 +68,6 @@ first_is {R} map records is none nobody fresh =
     ∙ ap (λ (l : List Waiting). record { records = numbered map.records.items; moment = 0; calls = []; outbox = []; dropped = 0; live = []; ended = []; waiting = l }) nobody
     ∙ ap (λ (v : Vec R). record { records = numbered v.items; moment = 0; calls = []; outbox = []; dropped = 0; live = []; ended = []; waiting = [] }) is
 
--- what holds of a result holds of what was made
+-- What is true of a successful result is true of its value.
 pub was_ok : {T E : Type 0} (r : Result T E) (x : T) (P : T → Type 0) → r ≡ Ok x → IfOk r P → P x
 was_ok {E = E} r x P is p = subst (λ (s : Result _ E). IfOk s P) is p

@@ -1,4 +1,4 @@
--- What the code of an event does to the machine of a script.
+-- The effect of an event's code on the machine of a script.
 use Rattle.std.proofs.Common.{◌≡◌, ℕ, false, [], List, refl, sym, ap, subst, ◌∙◌}
 use Rattle.ioc_device.specs.declared.Answer.{Answer}
 use Rattle.ioc_ledger.specs.declared.tally.Tally.{Tally}
@@ -19,13 +19,13 @@ use Rattle.ioc_machine.specs.Machine.{Machine, Queued, TakesAnswer, answers_from
 use Rattle.ioc_machine.specs.Scanner.{Scanner}
 use Rattle.ioc_machine.proofs.Scripting.{left_is, accords}
 
--- the parts of a machine are those of another
+-- Machines with equal parts are equal.
 module _ {R : Type 0} (n : ℕ) (x : List ℕ) where
   pub same_machine : (o o' : Owner) (w w' : World R) (d d' : Queued) (t t' : Tally) (s s' : Scanner) → o ≡ o' → w ≡ w' → d ≡ d' → t ≡ t' → s ≡ s'
       → (let a : Machine R = record { world = w; queued = d; tally = t; scanner = s; owner = o; next = n; ended = x } in let b : Machine R = record { world = w'; queued = d'; tally = t'; scanner = s'; owner = o'; next = n; ended = x } in a ≡ b)
   same_machine o o' w w' d d' t t' s s' u e f g h = λ i. record { world = e i; queued = f i; tally = g i; scanner = h i; owner = u i; next = n; ended = x }
 
--- no request was counted
+-- A tally without counts is the first one.
 pub none_counted : (t : Tally) → t.begun ≡ 0 × (t.processed ≡ 0 × (t.disabled ≡ 0 × (t.active ≡ 0 × (t.reprocess ≡ 0 × (t.started ≡ 0 × t.completed ≡ 0))))) → t ≡ no_counts
 none_counted t e = λ i. record {
   begun = e.0 i;
@@ -37,7 +37,7 @@ none_counted t e = λ i. record {
   completed = e.1.1.1.1.1.1 i;
 }
 
--- the code of an event leaves this, before what it sent is done
+-- The machine after the code of an event, before what the event sent is taken.
 pub record IsDone {R : Type 0} (k : RecordRules R) (m after : Machine R) (reply : Reply) (event : Event) : Type 0 where
   pub machine : after ≡ (stepped_on k m event).machine
   pub reply_is : reply ≡ (stepped_on k m event).reply
@@ -60,13 +60,13 @@ event_is {R} k m event start w before after t reply begins devices none work cal
       settled = λ leaves is. subst (IsSettled k) (sym told.world) (leaves answers (begun m.world) event is);
     }
 
--- an event without requests and calls counts nothing
+-- An event without requests and calls of devices counts nothing.
 counts_nothing : {R : Type 0} (t : Tally) (w after : World R) (event : Event) (reply : Reply) → completes event reply ≡ false → w.calls ≡ [] → after.calls ≡ []
     → tallied t w event (record { world = after; reply = reply; requests = None }) ≡ t
 unfolding tallied
 counts_nothing t w after event reply none before called = rw (none, before, called) refl
 
--- the code of such an event leaves this
+-- The machine after the code of such an event.
 pub event_alone : {R : Type 0} (k : RecordRules R) (m : Machine R) (event : Event) (start w : World R) (before after : Given (List Answer)) (t : Tally) (reply : Reply)
     → start ≡ begun m.world → before.devices ≡ m.queued → before.calls ≡ [] → after ≡ before → after.calls ≡ w.calls → completes event reply ≡ false → t ≡ m.tally
     → ((answers : Answers) → stepped k answers start event ≡ record { world = w; reply = reply; requests = None })

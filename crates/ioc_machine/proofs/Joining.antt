@@ -1,4 +1,4 @@
--- The standing links of a database, and the numbers of its records.
+-- The links of a database, and the numbers of its records.
 use Rattle.std.proofs.Common.{◌≡◌, Ordering, Less, ℕ, zero, suc, ◌-◌, ◌<◌, ◌≤◌, ◌+◌, Bool, true, false, take, drop, get_or, List, [], ◌∷◌, ◌++◌, length, Some, T, refl, sym, ap, ◌∙◌, subst, append_assoc, arith}
 use Rattle.std.specs.Prelude.{All, Contains, slice_get, ◌&&◌}
 use Rattle.std.specs.List.{enumerate_from}
@@ -19,7 +19,7 @@ use Rattle.ioc_store.specs.declared.one_map.OneMap.{OneMap}
 use Rattle.ioc_store.specs.World.{World, IsClosed}
 use Rattle.ioc_machine.specs.Sets.{joined_to, joined_by, parts_of}
 
--- one field names this record, or none
+-- The edges of a record are those of one field, followed by those of the others.
 pub named_more : (n : ℕ) (all : List Edge) (here more : List ℕ) → all ++ joined_to n (here ++ more) ≡ (all ++ joined_to n here) ++ joined_to n more
 named_more n all here more = rw (map-append (λ t. let e : Edge = record { from = n; to = t } in e) here more) (sym (append_assoc all (joined_to n here) (joined_to n more)))
 
@@ -36,7 +36,7 @@ module _ {R : Type 0} where
   sorted_enumerate [] i = tt
   sorted_enumerate (x ∷ xs) i = both_hold _ _ (below_enumerate xs i (i + 1) (omega arith)) (sorted_enumerate xs (i + 1))
 
-  -- the records by their places are the entries
+  -- The entries of a map of numbered records are the records with their places.
   pub entries-numbered : (xs : List R) → entries (numbered xs) ≡ enumerate_from 0 xs
   entries-numbered xs =
       let sorted = sorted_enumerate xs 0 in
@@ -48,7 +48,7 @@ module _ {R : Type 0} where
   pub count-numbered : (xs : List R) → len (numbered xs) ≡ length xs
   count-numbered xs = len-entries (numbered xs) ∙ ap length (entries-numbered xs) ∙ length-enumerate_from 0 xs
 
--- both ends of what is joined are among so many
+-- Holds if both ends of an edge are below `count`.
 abbrev pub Within : ℕ → Edge → Type 0
 Within count e = (e.from < count) × (e.to < count)
 
@@ -76,13 +76,13 @@ module _ {R : Type 0} (k : RecordRules R) where
       All-append (Within count) (joined_to i (targets k x)) (joined_by k (enumerate_from (i + 1) xs)) (to_within count i (targets k x) (omega (arith, here.0)) here.1)
       (by_within count xs (i + 1) (λ j y is. let next = h (suc j) y is in (omega (arith, next.0), next.1)))
 
-  -- no link leaves the database
+  -- No link leaves the database.
   pub links_within : {D : Type 0} (s : OneMap R D) → IsClosed k (world_of s) → All (Within (length s.records.items)) (joined_by k (enumerate_from 0 s.records.items))
   links_within s is =
       by_within (length s.records.items) s.records.items 0
       (λ j x there. (omega (arith, place_within s.records.items j x there), λ t named. has_within s.records.items t (is.closed j t (subst (λ (r : R). Contains (targets k r) t) (at-numbered k s j x there) named))))
 
-  -- the first record of those that are left, and then the others
+  -- The edges of the remaining records are those of the first, followed by those of the others.
   pub joined_more : (edges after : List Edge) (n : ℕ) (x : R) (rest : List R) → 1 ≤ length rest → x ≡ get_or rest 0 x → after ≡ edges ++ joined_to n (targets k x)
       → after ++ joined_by k (enumerate_from (n + 1) (take (length rest - 1) (drop 1 rest))) ≡ edges ++ joined_by k (enumerate_from n rest)
   joined_more edges after n x [] l is e = absurd (omega (arith, l))
@@ -90,7 +90,7 @@ module _ {R : Type 0} (k : RecordRules R) where
       let others : take (length (y ∷ ys) - 1) ys ≡ ys = take_all _ ys (omega arith) in
       rw (e, others, ← is) (append_assoc edges (joined_to n (targets k x)) (joined_by k (enumerate_from (n + 1) ys)))
 
-  -- the parts of a map are those of its list
+  -- The parts of a map are those of its list.
   pub parts_same : (w : World R) (items : List R) (links : List Edge) (count : ℕ) → w.records ≡ numbered items → links ≡ joined_by k (enumerate_from 0 items) → count ≡ length items
       → part_numbers links count ≡ parts_of k w
   unfolding parts_of

@@ -1,4 +1,4 @@
--- Devices whose answers are queued give them one after another.
+-- Devices with queued answers return them one after another.
 use Rattle.std.proofs.Common.{◌≡◌, ℕ, zero, suc, Bool, true, false, cond, eqb, Option, Some, List, [], ◌∷◌, ◌++◌, drop, set, get_or, length, ◌<◌, arith, refl, sym, ap, subst, ◌∙◌}
 use Rattle.std.proofs.Common.{None as Nothing_}
 use Rattle.std.specs.Prelude.{option_map, slice_get}
@@ -17,12 +17,12 @@ drop-drop1 zero [] = refl
 drop-drop1 (suc n) [] = refl
 drop-drop1 n (answer ∷ answers) = refl
 
--- the device that was called has lost the first of its answers
+-- The device that was called has its first answer removed.
 taken_here : (here : Option (List Answer)) (before after : List Answer) (count : ℕ) → here ≡ Some before → after ≡ drop 1 before
     → option_map (drop count) (Some after) ≡ option_map (drop (suc count)) here
 taken_here here before after count is left = rw (is, left) (ap (λ (answers : List Answer). Some answers) (drop-drop1 count before))
 
--- at each record
+-- The same at each record.
 gave-at : (b : Bool) (own : Option (List Answer)) (before after : List Answer) (count : ℕ) → (b ≡ true → own ≡ Some before) → after ≡ drop 1 before
     → option_map (drop count) (cond b (Some after) own) ≡ option_map (drop (cond b (suc count) count)) own
 gave-at true own before after count is left = taken_here own before after count (is refl) left
@@ -35,7 +35,7 @@ kept-at false own count is = refl
 at_target : (ds : Queued) (n target : ℕ) (own : Option (List Answer)) → ds target ≡ own → eqb n target ≡ true → ds n ≡ own
 at_target ds n target own is same = let e : n ≡ target = eqb-true n target same in ap ds e ∙ is
 
--- what is left after a call and then others
+-- The answers that are left after a call and then others.
 gave : {ds : Queued} {moment : ℕ} {call : Call} {es : Queued} → DeviceGives TakesAnswer ds moment call es → (calls : List Call) (n : ℕ) → left_after es calls n ≡ left_after ds (call ∷ calls) n
 unfolding left_after with_device
 gave {ds} {call = call} (its_device {before = before} {after = after} is given) calls n =
@@ -50,17 +50,17 @@ none_given queued n = drop_none (queued n)
     drop_none Nothing_ = refl
     drop_none (Some answers) = refl
 
--- what is left after all calls of an event
+-- The answers that are left after all calls of an event.
 work-left : {ds es : Queued} {moment : ℕ} {calls : List Call} → DevicesWork TakesAnswer ds moment calls es → (n : ℕ) → es n ≡ left_after ds calls n
 work-left {ds} no_call n = sym (none_given ds n)
 work-left (and_then {calls = calls} first more) n = work-left more n ∙ gave first calls n
 
--- the device of a call gave what it gives next
+-- The answer to a call is the next answer of its device.
 answered_now : {ds : Queued} {moment : ℕ} {call : Call} {es : Queued} → DeviceGives TakesAnswer ds moment call es → next_answer (ds call.target) ≡ call.answer
 answered_now (its_device is given) = ap next_answer is ∙ sym given.0
 answered_now (no_device is fault) = ap next_answer is ∙ sym fault
 
--- each call got the answer that is next after the calls before it
+-- The answer to each call is the next one after the calls before it.
 work-accords : {ds es : Queued} {moment : ℕ} {calls : List Call} → DevicesWork TakesAnswer ds moment calls es
     → (before after : List Call) (call : Call) → calls ≡ before ++ call ∷ after → next_answer (left_after ds before call.target) ≡ call.answer
 work-accords no_call [] after call e = absurd cc
@@ -76,17 +76,17 @@ work-accords {ds} (and_then {mid = mid} {call = c} {calls = cs} first more) (b �
     let before : left_after mid bs call.target ≡ left_after ds (b ∷ bs) call.target = rw (← same) (gave first bs call.target) in
     ap next_answer (sym before) ∙ later
 
--- an event began with these answers queued, and with no call
+-- An event that began with these queued answers and without calls.
 module _ (queued : Queued) (before after : Given (List Answer)) (devices : before.devices ≡ queued) (none : before.calls ≡ []) (begins : Begins TakesAnswer before after) where
   these : after.calls ≡ begins.more
   these = begins.calls ∙ ap (λ (l : List Call). l ++ begins.more) none
 
-  -- afterwards these are left
+  -- The answers that are left after the event.
   pub left_is : after.devices ≡ left_after queued after.calls
   left_is =
       (λ i n. work-left begins.work n i) ∙ ap (λ (ds : Queued). left_after ds begins.more) devices ∙ ap (left_after queued) (sym these)
 
-  -- the answers came from the queues
+  -- The answers of the event came from the queues.
   pub accords : Accords after.calls (answers_from queued)
   unfolding answers_from
   accords = record {
@@ -103,7 +103,7 @@ item_there [] n x y within is same = absurd (omega (arith, within))
 item_there (z ∷ zs) zero x y within is same = cc
 item_there (z ∷ zs) (suc n) x y within is same = item_there zs n x y (omega (arith, within)) is same
 
--- an answer is queued for the device at a place, or there is none
+-- An answer is queued for the device at a place, if there is one.
 module _ {R : Type 0} (m : Machine R) (items : List (Option (List Answer))) (n place : ℕ) (answer : Answer) (same : place ≡ n) (queued : m.queued ≡ device_at items) where
   pub queue_there : (before after : List Answer) → place < length items → slice_get items place ≡ Some (Some before) → after ≡ before ++ answer ∷ []
       → (let told : Told R = record { machine = record m { queued = device_at (set items place (Some after)) }; reply = Plain } in told ≡ queued_at m n answer (device_at items n))

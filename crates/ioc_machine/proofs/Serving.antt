@@ -1,4 +1,4 @@
--- Requests that wait are served one after another.
+-- Waiting requests are served one after another.
 use Rattle.std.proofs.Common.{◌≡◌, ℕ, zero, suc, ◌<◌, Option, Some, List, [], ◌∷◌, ◌++◌, length, refl, ap, ◌∙◌, arith}
 use Rattle.std.proofs.Common.{None as Nothing_}
 use Rattle.std.specs.Prelude.{slice_get, option_to_list, IsSome, ◌↔◌}
@@ -8,12 +8,12 @@ use Rattle.ioc_record.specs.RecordRules.{RecordRules}
 use Rattle.ioc_events.specs.declared.event.Event.TheVariants.{Process}
 use Rattle.ioc_machine.specs.Machine.{Machine, with_queues, served_one, serve, done}
 
--- the first of those that wait
+-- The request that was taken is the first that waits.
 pub first_is : (all others : List ℕ) (taken : Option ℕ) (n : ℕ) → taken ≡ Some n → all ≡ option_to_list taken ++ others → slice_get all 0 ≡ Some n
 first_is all others Nothing_ n is e = absurd cc
 first_is all others (Some m) n is e = rw e is
 
--- nothing was taken, so there is nothing
+-- If nothing was taken, nothing waits.
 pub none_counted_by : (count : ℕ) (taken : Option ℕ) → taken ≡ Nothing_ → IsSome taken ↔ (0 < count) → count ≡ 0
 none_counted_by zero taken is some = refl
 none_counted_by (suc n) Nothing_ is some = let there : IsSome {T = ℕ} Nothing_ = some.1 (omega arith) in cc
@@ -24,13 +24,13 @@ none_first [] e = refl
 none_first (x ∷ xs) e = absurd (omega (arith, e))
 
 module _ {R : Type 0} (k : RecordRules R) where
-  -- none waits
+  -- If no request waits, none is served.
   pub serve-none : (turns : ℕ) (m : Machine R) → slice_get (in_turn m.scanner.queues) 0 ≡ Nothing_ → serve k turns m ≡ m
   unfolding serve
   serve-none zero m none = refl
   serve-none (suc turns) m none = ap (λ (o : Option ℕ). serve k turns (served_one k m o)) none ∙ serve-none turns m none
 
-  -- one is served, and then the others
+  -- The first request is served, and then the others.
   pub serve-some : (turns : ℕ) (m : Machine R) (n : ℕ) → slice_get (in_turn m.scanner.queues) 0 ≡ Some n
       → serve k (suc turns) m ≡ serve k turns (done k (with_queues m (served m.scanner.queues)) (Process n)).machine
   unfolding serve
@@ -40,7 +40,7 @@ module _ {R : Type 0} (k : RecordRules R) where
   unfolding serve
   serve-zero m = refl
 
--- queues from which none can be taken stay as they are
+-- Empty queues stay as they are.
 served_parts : (high medium low once : List ℕ) (dropped : ℕ) → length (high ++ medium ++ low ++ once) ≡ 0
     → (let q : Queues ℕ = record { high = high; medium = medium; low = low; once = once; dropped = dropped } in served q ≡ q)
 served_parts [] [] [] [] dropped e = refl

@@ -1,4 +1,4 @@
--- Where no record has PINI, none is processed at the start.
+-- If no record has PINI, none is processed at the start.
 use Rattle.std.proofs.Common.{◌≡◌, ℕ, ◌+◌, zero, suc, Bool, true, false, ◌||◌, List, [], ◌∷◌, length, replicate, Option, Some, refl, sym, ap, ◌∙◌}
 use Rattle.std.proofs.Common.{None as Nothing_}
 use Rattle.std.specs.Prelude.{is_some}
@@ -19,16 +19,16 @@ use Rattle.ioc_record.specs.RecordRules.{RecordRules}
 use Rattle.ioc_machine.specs.declared.first_lists.Occasion.TheVariants.{Starting as When-starting}
 use Rattle.ioc_machine.specs.FirstLists.{added, place_of, with_each, first_lists, is_starter, starters}
 
--- new entries stand on no list
+-- New entries are on no list.
 none_stand : (count n : ℕ) → all_standing n (replicate count new_entry) ≡ []
 none_stand zero n = refl
 none_stand (suc count) n = none_stand count (1 + n)
 
--- an empty map has no entries
+-- An empty map has no entries.
 none_entered : {K X : Type 0} (R : K → K → Ordering) → entries (empty {X = X} {R = R}) ≡ []
 none_entered {X = X} R = nil_from_length _ (sym (len-entries empty) ∙ len-empty R X)
 
--- nobody is walked
+-- The list of new lists is empty.
 none_walked : (count : ℕ) → walked (new_lists count) Start ≡ []
 unfolding walked
 none_walked count =

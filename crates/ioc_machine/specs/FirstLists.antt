@@ -1,4 +1,5 @@
--- The scan lists of a loaded database. Application Developer's Guide, "Scanning Specification": scanInit, and records with PINI.
+-- The scan lists of a loaded database. Application Developer's Guide, "Scanning Specification":
+-- scanInit, and records with PINI.
 use Rattle.std.specs.Prelude.{ℕ, ◌+◌, List, [], ◌∷◌, length, Bool, is_some, Option, Some}
 use Rattle.std.specs.Prelude.{None as Nothing_}
 use Rattle.ioc_menus.specs.declared.pini.Pini.{Pini}
@@ -15,35 +16,35 @@ use Rattle.ioc_machine.specs.declared.first_lists.Occasion.{Occasion}
 use Rattle.ioc_machine.specs.declared.first_lists.Occasion.TheVariants.{Scanning as When-scanned, Starting as When-starting}
 use Rattle.ioc_machine.specs.Scanner.{place_by}
 
--- record n is added to the list of its place, if it has one
+-- The lists with record `n` added in its place, if it has one.
 abbrev pub added : Scanned → ℕ → Option Place → Scanned
 added s n Nothing_ = s
 added s n (Some place) = placed s n (Some place)
 
--- where a record with this PINI stands on the list of those that are processed once at the start
+-- The place of a record with this PINI on the list of those that are processed once at the start.
 abbrev pub start_place : Scanning → Pini → Option Place
 start_place s Yes = Some (record { list = Start; phase = s.phase; priority = s.priority })
 start_place s No = Nothing_
 
 module _ {R : Type 0} (k : RecordRules R) where
-  -- where a record stands
+  -- The place of a record on a list for an occasion.
   abbrev pub place_of : Occasion → R → Option Place
   place_of When-scanned r = place_by (k.common r).scanning (device_of k r)
   place_of When-starting r = start_place (k.common r).scanning (k.common r).scanning.at_start
 
-  -- these records, from number n on, are added one after the other
+  -- The lists with these records, from number `n` on, added one after another.
   abbrev pub with_each : Occasion → Scanned → ℕ → List R → Scanned
   with_each occasion s n [] = s
   with_each occasion s n (r ∷ rs) = with_each occasion (added s n (place_of occasion r)) (1 + n) rs
 
-  -- all records are added, in the order of their numbers
+  -- The lists with all records, added in the order of their numbers.
   unfoldable pub first_lists : Occasion → List R → Scanned
   first_lists occasion records = with_each occasion (new_lists (length records)) 0 records
 
-  -- is a record processed once at the start?
+  -- Whether a record is processed once at the start.
   abbrev pub is_starter : R → Bool
   is_starter r = is_some (place_of When-starting r)
 
-  -- the records that are processed once at the start: by PHAS, then by number
+  -- The records that are processed once at the start, by PHAS, then by number.
   unfoldable pub starters : List R → List Listed
   starters records = walked (first_lists When-starting records) Start

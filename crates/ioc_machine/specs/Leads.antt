@@ -1,5 +1,6 @@
--- Where a link leads that is set while records run: as at the end of a load, but that each device belongs to whom it belonged then.
--- Application Developer's Guide, "Database Links" and "Device Support".
+-- Where a link leads that is changed at run time: as at the end of a load, except that each device
+-- still belongs to its owner of that time. Application Developer's Guide, "Database Links" and
+-- "Device Support".
 use Rattle.std.specs.Prelude.{ℕ, if◌then◌else◌, List, Option, Some, None}
 use Rattle.std.specs.FinMap.{contains_key}
 use Rattle.ioc_names.specs.NameTable.{NameTable, number_of}
@@ -15,17 +16,17 @@ use Rattle.ioc_dbfile.specs.Finished.{Owner, target_in, lead_of}
 use Rattle.ioc_dbfile.specs.Owners.{device_lead}
 
 module _ {R : Type 0} (k : RecordRules R) where
-  -- a field of this name in the record of this number, if a link can lead to it
+  -- The field with this name in the record with this number, if a link can lead to it.
   abbrev pub target_among : World R → List ℕ → Option ℕ → Option FieldAddress
   target_among w name None = None
   target_among w name (Some n) = if contains_key w.records n then target_in n name (Some (k.record_type (at k w n))) else None
 
-  -- where a link of record n leads
+  -- Where a link of record `n` leads.
   abbrev pub leads_among : NameTable → Owner → World R → ℕ → Link → Lead
   leads_among names owner w n (Database target flags) = lead_of (target_among w target.field (number_of names target.record_name))
   leads_among names owner w n (Device text) = device_lead n (owner text)
   leads_among names owner w n _ = Nowhere
 
-  -- the link as it stands in its field
+  -- The value of a link field with this link.
   abbrev pub field_of_link : NameTable → Owner → World R → ℕ → Link → LinkField
   field_of_link names owner w n link = record { link = link; lead = leads_among names owner w n link }

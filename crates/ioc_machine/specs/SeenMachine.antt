@@ -1,4 +1,4 @@
--- The machine of a script as the code has it, seen as that of the definitions.
+-- The machine of the code, as the one of the specifications.
 use Rattle.ioc_types.specs.Record.{Record}
 use Rattle.ioc_store.specs.OneMap.{world_of, device_at}
 use Rattle.ioc_machine.specs.declared.machine.Machine.{Machine as Kept}

@@ -16,16 +16,17 @@ use ioc_types::Record;
 use ioc_values::Short;
 use std::alloc::{AllocError, Global};
 
-/// When records on a list are processed.
+/// The occasion on which the records of a list are processed.
 #[derive(Clone, Copy, PartialEq, Eq)]
 pub enum Occasion {
-    /// As SCAN says.
+    /// By SCAN.
     Scanning,
-    /// Once at the start, where PINI says so.
+    /// Once at the start, by PINI.
     Starting,
 }
 
-/// Where a record with these fields and this text of its device link, empty where it has none, stands.
+/// Returns the place on a scan list of a record with these fields and this text of its device link,
+/// which is empty if it has none.
 pub fn place_by(fields: &ScanFields, device: Short<MAX_DEVICE_BYTES>) -> Option<Place>
     ensures { result ≡ place_by fields.now device }
 {
@@ -42,7 +43,7 @@ pub fn place_by(fields: &ScanFields, device: Short<MAX_DEVICE_BYTES>) -> Option<
     })
 }
 
-// Where a record stands among those that are processed once at the start.
+// Returns the place of a record on the list of those that are processed once at the start.
 fn start_place(fields: &ScanFields) -> Option<Place>
     ensures { result ≡ start_place fields.now fields.now.at_start }
 {
@@ -56,7 +57,7 @@ fn start_place(fields: &ScanFields) -> Option<Place>
     }
 }
 
-// Where a record stands.
+// Returns the place of a record on a list for this occasion.
 fn place_of(item: &Record, occasion: Occasion) -> Option<Place>
     ensures { result ≡ place_of record_rules occasion item.now }
 {
@@ -67,7 +68,7 @@ fn place_of(item: &Record, occasion: Occasion) -> Option<Place>
     }
 }
 
-// May a record stand on a list? Most don't, and a place is large.
+// Returns whether a record may be on a list. Most records aren't, and a place is large.
 fn may_be_listed(item: &Record, occasion: Occasion) -> bool
     ensures { result ≡ false → place_of record_rules occasion item.now ≡ None }
 {
@@ -78,7 +79,7 @@ fn may_be_listed(item: &Record, occasion: Occasion) -> bool
     }
 }
 
-// Adds a record where it stands, if it stands on a list.
+// Adds a record to its list, if it has one.
 #[inline(never)]
 fn add_record(
     lists: &mut ScanLists,
@@ -96,11 +97,11 @@ fn add_record(
     Ok(())
 }
 
-/// The lists with all records, in the order of their numbers.
+/// Returns the lists with all records, added in the order of their numbers.
 ///
 /// # Errors
 ///
-/// [`AllocError`] where memory is wanting.
+/// [`AllocError`] if allocation fails.
 #[tactic(auto, unfolding(crate::specs::FirstLists::first_lists))]
 pub fn first_lists(
     alloc: Global,
@@ -122,7 +123,7 @@ pub fn first_lists(
     Ok(lists)
 }
 
-// Does a record have PINI?
+// Returns whether a record has PINI.
 fn any_starts(records: &[Record]) -> bool
     ensures { result ≡ list_any (is_starter record_rules) records.now }
 {
@@ -136,12 +137,12 @@ fn any_starts(records: &[Record]) -> bool
     false
 }
 
-/// The records that are processed once at the start, in the order of PHAS, then of their numbers. Lists are made for them only where
-/// there is one.
+/// Returns the records that are processed once at the start, in the order of PHAS, then of their
+/// numbers. Lists are created only if there is such a record.
 ///
 /// # Errors
 ///
-/// [`AllocError`] where memory is wanting.
+/// [`AllocError`] if allocation fails.
 #[tactic(auto, using(crate::proofs::Starting::none_starts))]
 pub fn starters(alloc: Global, records: &[Record]) -> Result<Vec<Listed>, AllocError>
     ensures { IfOk result (λ listed. listed.items ≡ starters record_rules records.now) }
@@ -152,7 +153,7 @@ pub fn starters(alloc: Global, records: &[Record]) -> Result<Vec<Listed>, AllocE
     listed_starters(alloc, records)
 }
 
-// The same by the list of those with PINI.
+// Returns the records with PINI from their list.
 #[tactic(auto, unfolding(crate::specs::FirstLists::starters))]
 fn listed_starters(alloc: Global, records: &[Record]) -> Result<Vec<Listed>, AllocError>
     ensures { IfOk result (λ listed. listed.items ≡ starters record_rules records.now) }

@@ -1,4 +1,4 @@
-//! Where a link leads that is set while records run.
+//! Where a link leads that is changed at run time.
 ghost use Rattle.std.specs.Prelude.{◌≡◌};
 ghost use Rattle.ioc_names.specs.NameTable.{number_of};
 ghost use Rattle.ioc_types.specs.Record.{record_rules};
@@ -15,7 +15,8 @@ use ioc_record::RecordKind;
 use ioc_store::{OneMap, Store};
 use ioc_types::Record;
 
-// The field that a database link leads to, if a record and a field of these names are there, and a link can lead to it.
+// Returns the field that a database link leads to, if a record and a field with these names exist
+// and a link can lead to the field.
 fn target_among(
     names: &Names,
     map: &OneMap<Record, Scripted>,
@@ -31,7 +32,8 @@ fn target_among(
     target_field(number, record_type, target.field.as_slice())
 }
 
-/// Where a link of the record of this number leads: to a field of a record that is there, or to the record's own device.
+/// Returns where a link of the record with this number leads: to a field of an existing record, to
+/// the record's own device, or nowhere.
 pub fn lead_among(
     names: &Names,
     map: &OneMap<Record, Scripted>,

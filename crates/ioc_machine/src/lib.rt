@@ -1,4 +1,5 @@
-//! A database on one thread: devices whose answers are queued, scan lists, queues of requests, and what an event does to them.
+//! A database on one thread: devices with queued answers, scan lists, queues of requests, and the
+//! effects of events on them.
 #![tactic(auto)]
 
 pub mod first_lists;

@@ -1,4 +1,4 @@
-//! What a script works on.
+//! The database that a script works on.
 ghost use Rattle.std.specs.Prelude.{◌≡◌, ◌≤◌, [], map, Ok, IfOk, OnOk};
 ghost use Rattle.std.specs.FinMap.{len};
 ghost use Rattle.std.specs.Vec.{vec_capacity};
@@ -31,19 +31,21 @@ use ioc_types::Record;
 use ioc_values::{Finished, Input};
 use std::alloc::{AllocError, Global};
 
-/// A database with devices whose answers are queued, the counts of requests, its scan lists, and the requests that wait. Between events no
-/// link leaves the database, and a record is active exactly where its completion is pending.
+/// A database with devices whose answers are queued, the counts of requests, scan lists, and
+/// waiting requests. Between events no link leaves the database, and a record is active exactly if
+/// its completion is pending.
 #[derive(Drop)]
 pub struct Machine {
     pub(crate) map: OneMap<Record, Scripted>,
-    // Open frames of the event under way, with room for all records from the load on.
+    // Open frames of the current event, with room for all records from the load on.
     pub(crate) frames: Vec<Frame>,
     pub(crate) tally: Tally,
     pub(crate) scanner: Scanner,
     pub(crate) owners: Owners,
     // The number of the next put with notification.
     pub(crate) next: u64,
-    // Those that have ended since this was told last. Room for all that are live at once is taken at the load.
+    // The puts with notification that have ended since this was last cleared. Room for all that can
+    // be live at once is reserved at the load.
     pub(crate) ended: Vec<NotifyId>,
     pub(crate) alloc: Global,
     ghost settled: { IsSettled record_rules (world_of map) },
@@ -51,7 +53,7 @@ pub struct Machine {
     ghost room: { len (world_of map).records ≤ vec_capacity frames },
 }
 
-// A device, with nothing queued, for each record that owns one.
+// Returns a device without queued answers for each record that owns a device.
 fn devices_of(alloc: Global, records: &[Record]) -> Result<Vec<Option<Scripted>>, AllocError>
     ensures { IfOk result (λ v. v.items ≡ map (first_queue record_rules) records.now) }
 {
@@ -69,7 +71,7 @@ fn devices_of(alloc: Global, records: &[Record]) -> Result<Vec<Option<Scripted>>
     Ok(devices)
 }
 
-// The scan lists of these records, with no request waiting.
+// Returns the scan lists of these records, without waiting requests.
 fn scanner_of(alloc: Global, records: &[Record]) -> Result<Scanner, AllocError>
     ensures { IfOk result (λ s. s ≡ record { lists = first_lists record_rules Scanning records.now; queues = no_items }) }
 {
@@ -77,8 +79,8 @@ fn scanner_of(alloc: Global, records: &[Record]) -> Result<Scanner, AllocError>
     Scanner::new(alloc, lists)
 }
 
-// A value beside another one, if that was made. Of whatever type they are: to let go of a machine's parts one by one where the next can't be
-// made takes long to prove.
+// Pairs a value with the value of a result. It is generic because dropping the parts of a machine
+// one by one is slow to prove.
 fn both<T: Drop, U>(first: T, second: Result<U, AllocError>) -> Result<(T, U), AllocError>
     ensures { IfOk result (λ x. (x.0 ≡ first) × (second ≡ Ok x.1)) }
 {
@@ -86,7 +88,8 @@ fn both<T: Drop, U>(first: T, second: Result<U, AllocError>) -> Result<(T, U), A
     Ok((first, second))
 }
 
-// These records before any event with their devices, and open frames, of which there is none, with room for all records.
+// Returns these records before any event, with their devices, and an empty list of frames with room
+// for all records.
 fn map_of(
     alloc: Global,
     records: Vec<Record>,
@@ -112,7 +115,8 @@ impl Machine {
     ghost use Rattle.ioc_machine.specs.Machine.{loaded_machine, first_machine, stepped_on, done, with_ended_kept, with_sent, with_none_ended, notified, given_up};
     ghost use Rattle.ioc_machine.specs.SeenMachine.{machine_of};
 
-    // These records before any event. All room that events want, but for scan lists, is taken here.
+    // Returns these records before any event. All memory that events need, except for scan lists,
+    // is reserved here.
     fn loaded(alloc: Global, records: Vec<Record>) -> Result<Self, AllocError>
         requires { IsSettled record_rules (first_world records.items) }
         ensures { IfOk result (λ m. machine_of m ≡ loaded_machine record_rules records.items) }
@@ -136,11 +140,11 @@ impl Machine {
         })
     }
 
-    /// These records before the first line: those with PINI are processed.
+    /// Creates a machine with these records, and processes those with PINI.
     ///
     /// # Errors
     ///
-    /// [`AllocError`] where memory is wanting.
+    /// [`AllocError`] if allocation fails.
     #[tactic(auto, unfolding(crate::specs::FirstLists::starters))]
     pub fn new(alloc: Global, records: Vec<Record>) -> Result<Self, AllocError>
         requires { IsSettled record_rules (first_world records.items) }
@@ -167,14 +171,14 @@ impl Machine {
         &self.tally
     }
 
-    /// How many items were dropped.
+    /// Returns the number of dropped items.
     pub fn dropped(&self) -> u64
         ensures { result ≡ self.now.scanner.queues.dropped }
     {
         self.scanner.dropped()
     }
 
-    // Requests a record; what that sent is still to be done.
+    // Requests a record, without taking what the event sends.
     fn request(&mut self, number: RecordNo) -> Effect
         ensures machine { machine_of self.new ≡ (stepped_on record_rules (machine_of self.old) (Process number)).machine }
         ensures reply { reply_of result ≡ (stepped_on record_rules (machine_of self.old) (Process number)).reply }
@@ -184,7 +188,7 @@ impl Machine {
         make_request(&mut self.map, &mut self.frames, number, &mut self.tally)
     }
 
-    // Puts what a text spells into a field; what that sent is still to be done.
+    // Puts the value of a text into a field, without taking what the event sends.
     fn store(&mut self, number: RecordNo, field: FieldNo, text: &[u8]) -> Effect
         ensures machine { machine_of self.new ≡ (stepped_on record_rules (machine_of self.old) (Put number field (input_of text.now))).machine }
         ensures reply { reply_of result ≡ (stepped_on record_rules (machine_of self.old) (Put number field (input_of text.now))).reply }
@@ -201,7 +205,8 @@ impl Machine {
         )
     }
 
-    // The device of a record has answered at last; what that sent is still to be done.
+    // Completes a record with the asynchronous answer of its device, without taking what the event
+    // sends.
     fn finish(&mut self, number: RecordNo, wait: u64, finished: Finished) -> Reply
         ensures machine { machine_of self.new ≡ (stepped_on record_rules (machine_of self.old) (Complete number wait finished)).machine }
         ensures reply { result ≡ (stepped_on record_rules (machine_of self.old) (Complete number wait finished)).reply }
@@ -219,7 +224,7 @@ impl Machine {
         .reply()
     }
 
-    // Gives a link field another link; what that sent is still to be done.
+    // Changes a link, without taking what the event sends.
     fn relink(&mut self, number: RecordNo, field: FieldNo, link: KeptLink) -> Reply
         ensures machine { machine_of self.new ≡ (stepped_on record_rules (machine_of self.old) (Link_event number field link)).machine }
         ensures reply { result ≡ (stepped_on record_rules (machine_of self.old) (Link_event number field link)).reply }
@@ -230,7 +235,7 @@ impl Machine {
         run_link(&mut self.map, number, field, link)
     }
 
-    // Puts a value into a field with a notification; what that sent is still to be done.
+    // Puts a value into a field with a notification, without taking what the event sends.
     fn begin_notify(
         &mut self,
         number: RecordNo,
@@ -255,7 +260,7 @@ impl Machine {
         .reply()
     }
 
-    // A put with notification is given up; what that sent is still to be done.
+    // Cancels a put with notification, without taking what the event sends.
     fn give_up(&mut self, notification: NotifyId) -> Reply
         ensures machine { machine_of self.new ≡ (stepped_on record_rules (machine_of self.old) (Cancel notification)).machine }
         ensures reply { result ≡ (stepped_on record_rules (machine_of self.old) (Cancel notification)).reply }
@@ -271,7 +276,8 @@ impl Machine {
         .reply()
     }
 
-    // Keeps which notifications ended in an event. This isn't inlined, since in most events none does.
+    // Keeps the puts with notification that ended in an event. Not inlined, because in most events
+    // none does.
     #[inline(never)]
     fn keep_ended(&mut self) -> Result<(), AllocError>
         ensures { OnOk result (machine_of self.new ≡ with_ended_kept (machine_of self.old)) }
@@ -280,7 +286,7 @@ impl Machine {
             .extend_from_slice(self.map.event.notifications.ended())
     }
 
-    // Does what an event has sent, and keeps which notifications ended in it.
+    // Takes what an event has sent, and keeps the puts with notification that ended in it.
     #[tactic(auto, unfolding(crate::specs::Scanner::with_outbox))]
     fn send(&mut self) -> Result<(), AllocError>
         ensures { OnOk result (machine_of self.new ≡ with_sent (machine_of self.old)) }
@@ -292,11 +298,11 @@ impl Machine {
         self.keep_ended()
     }
 
-    /// Requests a record, and answers what that came to.
+    /// Requests a record, and returns the effect.
     ///
     /// # Errors
     ///
-    /// [`AllocError`] where memory is wanting: what the event sent isn't all done then.
+    /// [`AllocError`] if allocation fails; not all that the event has sent is taken then.
     pub fn process(&mut self, number: RecordNo) -> Result<Effect, AllocError>
         ensures machine { OnOk result (machine_of self.new ≡ (done record_rules (machine_of self.old) (Process number)).machine) }
         ensures reply { IfOk result (λ effect. reply_of effect ≡ (done record_rules (machine_of self.old) (Process number)).reply) }
@@ -306,7 +312,7 @@ impl Machine {
         Ok(effect)
     }
 
-    // Requests a record without telling what that came to.
+    // Requests a record without returning the effect.
     #[inline(never)]
     pub(crate) fn process_untold(&mut self, number: RecordNo) -> Result<(), AllocError>
         ensures { OnOk result (machine_of self.new ≡ (done record_rules (machine_of self.old) (Process number)).machine) }
@@ -315,11 +321,11 @@ impl Machine {
         Ok(())
     }
 
-    /// Puts what a text spells into a field, and answers what that came to.
+    /// Puts the value of a text into a field, and returns the effect.
     ///
     /// # Errors
     ///
-    /// [`AllocError`] where memory is wanting: what the event sent isn't all done then.
+    /// [`AllocError`] if allocation fails; not all that the event has sent is taken then.
     pub fn put(
         &mut self,
         number: RecordNo,
@@ -334,11 +340,11 @@ impl Machine {
         Ok(effect)
     }
 
-    /// The device of a record has answered at last.
+    /// Completes a record with the asynchronous answer of its device.
     ///
     /// # Errors
     ///
-    /// [`AllocError`] where memory is wanting: what the event sent isn't all done then.
+    /// [`AllocError`] if allocation fails; not all that the event has sent is taken then.
     pub fn complete(
         &mut self,
         number: RecordNo,
@@ -353,11 +359,13 @@ impl Machine {
         Ok(reply)
     }
 
-    /// Gives a link field this link, which leads where these names and the owners of devices say.
+    /// Changes a link field to this link, which leads where these names and the owners of devices
+    /// say.
     ///
     /// # Errors
     ///
-    /// [`AllocError`] where memory is wanting: for the link, and nothing is changed then, or for what the event sent.
+    /// [`AllocError`] if allocation fails: for the link, and nothing has changed then, or for what
+    /// the event has sent.
     pub fn link(
         &mut self,
         names: &Names,
@@ -375,11 +383,12 @@ impl Machine {
         Ok(reply)
     }
 
-    /// Puts a value into a field with a notification, under the next number: 1, 2, 3, .. A refused one uses none.
+    /// Puts a value into a field with a notification, under the next number, from 1 on. A refused
+    /// put uses no number.
     ///
     /// # Errors
     ///
-    /// [`AllocError`] where memory is wanting: what the event sent isn't all done then.
+    /// [`AllocError`] if allocation fails; not all that the event has sent is taken then.
     pub fn notify(
         &mut self,
         number: RecordNo,
@@ -397,11 +406,11 @@ impl Machine {
         Ok(reply)
     }
 
-    /// A put with notification is given up: it doesn't end.
+    /// Cancels a put with notification, which then doesn't end.
     ///
     /// # Errors
     ///
-    /// [`AllocError`] where memory is wanting: what the event sent isn't all done then.
+    /// [`AllocError`] if allocation fails; not all that the event has sent is taken then.
     pub fn cancel(&mut self, notification: NotifyId) -> Result<Reply, AllocError>
         ensures machine { OnOk result (machine_of self.new ≡ (given_up record_rules (machine_of self.old) notification).machine) }
         ensures reply { IfOk result (λ reply. reply ≡ (given_up record_rules (machine_of self.old) notification).reply) }
@@ -411,14 +420,14 @@ impl Machine {
         Ok(reply)
     }
 
-    /// The puts with notification that have ended since they were forgotten last, in order.
+    /// Returns the puts with notification that have ended since they were last forgotten, in order.
     pub fn ended(&self) -> &[NotifyId]
         ensures { result.now ≡ (machine_of self.now).ended }
     {
         self.ended.as_slice()
     }
 
-    /// Forgets those that have ended.
+    /// Forgets the puts with notification that have ended.
     pub fn forget_ended(&mut self)
         ensures { machine_of self.new ≡ with_none_ended (machine_of self.old) }
     {

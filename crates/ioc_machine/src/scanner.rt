@@ -20,7 +20,7 @@ use std::marker::Model;
 pub struct Scanner {
     lists: ScanLists,
     queues: Queues<RecordNo>,
-    // Who stands on the list that is walked.
+    // The records of the list that is walked.
     walked: Vec<Listed>,
 }
 
@@ -32,7 +32,7 @@ impl Model for Scanner {
     ghost view = { λ s. record { lists = s.lists; queues = s.queues } };
 }
 
-// Puts each record on the callback queue of its priority, and answers how many found room.
+// Puts each record on the callback queue of its priority, and returns how many found room.
 fn call_each(queues: &mut Queues<RecordNo>, listed: &[Listed]) -> u64
     ensures queues { queues.new ≡ with_each_called queues.old listed.now }
     ensures count { result ≡ count_called queues.old listed.now }
@@ -48,14 +48,14 @@ fn call_each(queues: &mut Queues<RecordNo>, listed: &[Listed]) -> u64
     count
 }
 
-/// The list of those who wait for an event of this name.
+/// Returns the list of the records that wait for an event with this name.
 pub fn event_list(name: Text) -> Option<ListName>
     ensures { result ≡ event_list name }
 {
     Some(ListName::Event(Word::of_event(name)?))
 }
 
-/// The list of those with a device link whose first word is this.
+/// Returns the list of the records with a device link whose first word is this.
 pub fn interrupt_list(word: &[u8]) -> Option<ListName>
     ensures { result ≡ interrupt_list word.now }
 {
@@ -68,11 +68,11 @@ impl Scanner {
     ghost use Rattle.ioc_store.specs.declared.outbox.OutboxItem.TheVariants.{Once};
     ghost use Rattle.ioc_scan.specs.Walked.{walked};
 
-    /// These lists, with no request waiting.
+    /// Creates a scanner with these lists and no waiting requests.
     ///
     /// # Errors
     ///
-    /// [`AllocError`] where memory is wanting.
+    /// [`AllocError`] if allocation fails.
     pub fn new(alloc: Global, lists: ScanLists) -> Result<Self, AllocError>
         ensures { IfOk result (λ s. s ≡ record { lists = lists; queues = no_items }) }
     {
@@ -84,14 +84,14 @@ impl Scanner {
         })
     }
 
-    /// How many items were dropped.
+    /// Returns the number of dropped items.
     pub fn dropped(&self) -> u64
         ensures { result ≡ self.now.queues.dropped }
     {
         self.queues.dropped
     }
 
-    /// Takes the request whose turn it is.
+    /// Takes the next waiting request.
     pub fn next(&mut self) -> Option<RecordNo>
         ensures taken { in_turn self.old.queues ≡ option_to_list result ++ in_turn self.new.queues }
         ensures after { self.new ≡ record self.old { queues = served self.old.queues } }
@@ -100,23 +100,23 @@ impl Scanner {
         self.queues.next()
     }
 
-    /// Writes who stands on a list, in its order, in the place of what stood there.
+    /// Replaces the contents of `into` with the records of a list, in order.
     ///
     /// # Errors
     ///
-    /// [`AllocError`] where memory is wanting.
+    /// [`AllocError`] if allocation fails.
     pub fn walk(&self, list: &ListName, into: &mut Vec<Listed>) -> Result<(), AllocError>
         ensures { OnOk result (into.new.items ≡ walked self.now.lists list.now) }
     {
         self.lists.walk(list, into)
     }
 
-    /// Puts the records on a list on the callback queues of their priorities, if there is a list, and answers how many found room. What
-    /// finds none is counted as dropped.
+    /// Puts the records of a list, if there is one, on the callback queues of their priorities, and
+    /// returns how many found room. The others are counted as dropped.
     ///
     /// # Errors
     ///
-    /// [`AllocError`] where memory is wanting.
+    /// [`AllocError`] if allocation fails.
     pub fn call(&mut self, list: Option<ListName>) -> Result<u64, AllocError>
         ensures scanner { OnOk result (self.new ≡ (called_on self.old list).scanner) }
         ensures count { IfOk result (λ count. count ≡ (called_on self.old list).count) }
@@ -130,15 +130,15 @@ impl Scanner {
         }
     }
 
-    // A request once more waits, or is dropped.
+    // Queues a once request, or drops it.
     fn wait_once(&mut self, number: RecordNo)
         ensures { self.new ≡ with_item self.old (Once number) }
     {
-        // What finds no room is counted by the queues.
+        // The queues count a request that finds no room.
         let _dropped = self.queues.push_once(number);
     }
 
-    // A record goes to another list, or off its list.
+    // Moves a record to another list, or takes it off its list.
     fn change(&mut self, change: &ScanChange) -> Result<(), AllocError>
         ensures { OnOk result (self.new ≡ with_change self.old change.now) }
     {
@@ -153,7 +153,7 @@ impl Scanner {
         self.lists.change(change.target, change.number, place)
     }
 
-    // Does an item that an event has sent.
+    // Takes an item that an event has sent.
     fn do_item(&mut self, item: &OutboxItem) -> Result<(), AllocError>
         ensures { OnOk result (self.new ≡ with_item self.old item.now) }
     {
@@ -167,7 +167,7 @@ impl Scanner {
         Ok(())
     }
 
-    // Does items that an event has sent, in order. This isn't inlined, since most events send none.
+    // Takes the items that an event has sent, in order. Not inlined, because most events send none.
     #[inline(never)]
     fn do_items(&mut self, items: &[OutboxItem]) -> Result<(), AllocError>
         ensures { OnOk result (self.new ≡ with_items self.old items.now) }
@@ -180,11 +180,12 @@ impl Scanner {
         Ok(())
     }
 
-    /// Does what an event has sent, in order, and counts what it found no room for.
+    /// Takes what an event has sent, in order, and counts the items for which the event found no
+    /// room.
     ///
     /// # Errors
     ///
-    /// [`AllocError`] where memory is wanting.
+    /// [`AllocError`] if allocation fails.
     pub fn do_outbox(&mut self, outbox: &Outbox) -> Result<(), AllocError>
         ensures { OnOk result (self.new ≡ with_more_dropped (with_items self.old (items_of outbox.now)) outbox.now.dropped) }
     {

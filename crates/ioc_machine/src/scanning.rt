@@ -1,4 +1,5 @@
-//! What a script asks of a machine besides events: its parts, answers for its devices, the moment, and its scan lists.
+//! Operations of a script other than events: the parts of the database, the answers of devices, the
+//! time, and the scan lists.
 ghost use Rattle.std.specs.Prelude.{◌≡◌, map, IfOk, OnOk};
 ghost use Rattle.std.specs.FinMap.{len};
 ghost use Rattle.ioc_types.specs.Record.{record_rules};
@@ -20,12 +21,12 @@ impl Machine {
     ghost use Rattle.ioc_machine.specs.Sets.{parts_of};
     ghost use Rattle.ioc_machine.specs.SeenMachine.{machine_of};
 
-    /// For each record the number of the part that standing links join it to, which is that of the part's first record. Cost: near the
-    /// number of records and links.
+    /// Returns, for each record, the number of the connected part that it is in, which is the
+    /// number of the part's first record. Takes time close to the number of records and links.
     ///
     /// # Errors
     ///
-    /// [`AllocError`] where memory is wanting.
+    /// [`AllocError`] if allocation fails.
     pub fn parts(&self) -> Result<Vec<usize>, AllocError>
         ensures parts { IfOk result (λ numbers. numbers.items ≡ parts_of record_rules (machine_of self.now).world) }
         ensures firsts { IfOk result (λ numbers. AreFirsts numbers.items) }
@@ -36,11 +37,11 @@ impl Machine {
         parts_of_all(self.alloc, links.as_slice(), records.len())
     }
 
-    /// Queues an answer for the device of a record; a record without one is refused.
+    /// Queues an answer for the device of a record. Refused if the record has no device.
     ///
     /// # Errors
     ///
-    /// [`AllocError`] where memory is wanting.
+    /// [`AllocError`] if allocation fails.
     pub fn queue(&mut self, number: RecordNo, answer: Answer) -> Result<Reply, AllocError>
         ensures { IfOk result (λ reply. record { machine = machine_of self.new; reply = reply } ≡ queued_at (machine_of self.old) number answer ((machine_of self.old).queued number)) }
     {
@@ -57,19 +58,20 @@ impl Machine {
         }
     }
 
-    /// Later events are done at this moment, in nanoseconds since 1970-01-01 00:00 UTC.
+    /// Sets the time stamp of later events, in nanoseconds since 1970-01-01 00:00 UTC.
     pub fn set_moment(&mut self, moment: u64)
         ensures { machine_of self.new ≡ at_moment moment (machine_of self.old) }
     {
         self.map.begin_at(moment);
     }
 
-    /// Puts the records on a list on the callback queues of their priorities, if there is a list, and answers how many found room: at a posted
-    /// event, or an interrupt of a device.
+    /// Puts the records of a list, if there is one, on the callback queues of their priorities, and
+    /// returns how many found room. This is done for a posted event, and for an interrupt of a
+    /// device.
     ///
     /// # Errors
     ///
-    /// [`AllocError`] where memory is wanting.
+    /// [`AllocError`] if allocation fails.
     pub fn call(&mut self, list: Option<ListName>) -> Result<u64, AllocError>
         ensures { IfOk result (λ count. record { machine = machine_of self.new; count = count } ≡ queued_on (machine_of self.old) list) }
     {
@@ -88,11 +90,11 @@ impl Machine {
         Ok(())
     }
 
-    /// Requests the records on a list at once, and answers how many there were when it began.
+    /// Requests the records of a list at once, and returns how many there were at the beginning.
     ///
     /// # Errors
     ///
-    /// [`AllocError`] where memory is wanting.
+    /// [`AllocError`] if allocation fails.
     pub fn scan(&mut self, list: &ListName) -> Result<u64, AllocError>
         ensures { IfOk result (λ count. record { machine = machine_of self.new; count = count } ≡ scanned record_rules (machine_of self.old) list.now) }
     {
@@ -102,11 +104,11 @@ impl Machine {
         Ok(listed.len() as u64)
     }
 
-    /// Serves the requests that wait, until none is left or 1,000 were served.
+    /// Serves waiting requests until none is left or 1,000 were served.
     ///
     /// # Errors
     ///
-    /// [`AllocError`] where memory is wanting.
+    /// [`AllocError`] if allocation fails.
     pub fn serve(&mut self) -> Result<(), AllocError>
         ensures { OnOk result (machine_of self.new ≡ serve record_rules most_served (machine_of self.old)) }
     {

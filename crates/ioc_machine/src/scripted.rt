@@ -1,4 +1,4 @@
-//! The devices that a script stands for.
+//! Devices whose answers come from a script.
 ghost use Rattle.std.specs.Prelude.{◌≡◌, [], ◌∷◌, ◌++◌, drop, OnOk};
 ghost use Rattle.ioc_machine.specs.Machine.{first_answer};
 
@@ -8,7 +8,8 @@ use std::alloc::{AllocError, Global};
 use std::collections::VecDeque;
 use std::marker::Model;
 
-/// A device whose answers a script queues. Contracts see it as these answers, in order; where none is queued the answer comes later.
+/// A device whose answers a script queues. Contracts see these answers, in order. If none is
+/// queued, the answer is asynchronous.
 #[derive(Drop)]
 pub struct Scripted {
     answers: VecDeque<Answer>,
@@ -23,7 +24,7 @@ impl Model for Scripted {
     ghost view = { λ s. s.answers.items };
 }
 
-// Puts an item at the end, where there is room for it.
+// Appends an item, unless allocation fails.
 fn push_last<T>(items: &mut VecDeque<T>, item: T) -> Result<(), AllocError>
 where
     T: Drop,
@@ -35,7 +36,7 @@ where
 }
 
 impl Scripted {
-    /// No answer is queued.
+    /// Creates a device without queued answers.
     pub fn new(alloc: Global) -> Self
         ensures { result ≡ [] }
     {
@@ -44,15 +45,15 @@ impl Scripted {
         }
     }
 
-    /// Queues an answer, behind those that are queued.
+    /// Queues an answer behind those that are queued.
     ///
     /// # Errors
     ///
-    /// [`AllocError`] where memory is wanting.
+    /// [`AllocError`] if allocation fails.
     pub fn queue(&mut self, answer: Answer) -> Result<(), AllocError>
         ensures { OnOk result (self.new ≡ self.old ++ answer ∷ []) }
     {
-        // The value is named here since the prover must know where its type is declared.
+        // Each variant is named, because the prover has to know where its type is declared.
         match answer {
             Answer::Done(value) => push_last(&mut self.answers, Answer::Done(value)),
             Answer::Fault => push_last(&mut self.answers, Answer::Fault),

@@ -1,4 +1,4 @@
-//! The parts of a database that standing links join.
+//! The links between the records of a database.
 ghost use Rattle.std.specs.Prelude.{◌≡◌, ◌++◌, ◌<◌, length, All, IfOk, OnOk};
 ghost use Rattle.std.specs.List.{enumerate_from};
 ghost use Rattle.ioc_common.specs.Links.{named_by_field};
@@ -14,7 +14,7 @@ use ioc_record::RecordKind;
 use ioc_types::Record;
 use std::alloc::{AllocError, Global};
 
-// The record that a link field names, if its link stands.
+// Returns the record that a link field leads to, if there is one.
 fn target_of(record: &Record, field: FieldNo) -> Option<RecordNo>
     ensures { option_to_list result ≡ named_by_field (record_rules.link record.now field) }
 {
@@ -24,7 +24,7 @@ fn target_of(record: &Record, field: FieldNo) -> Option<RecordNo>
     }
 }
 
-// Adds what the standing links of a record join.
+// Adds an edge for each link of a record that leads to a record.
 fn add_links(edges: &mut Vec<Edge>, number: RecordNo, record: &Record) -> Result<(), AllocError>
     ensures { OnOk result (edges.new.items ≡ edges.old.items ++ joined_to number (targets record_rules record.now)) }
 {
@@ -41,11 +41,11 @@ fn add_links(edges: &mut Vec<Edge>, number: RecordNo, record: &Record) -> Result
     Ok(())
 }
 
-/// What the standing links of these records join, numbered from 0 on.
+/// Returns an edge for each link between these records, which are numbered from 0 on.
 ///
 /// # Errors
 ///
-/// [`AllocError`] where memory is wanting.
+/// [`AllocError`] if allocation fails.
 pub fn links_of(alloc: Global, records: &[Record]) -> Result<Vec<Edge>, AllocError>
     ensures { IfOk result (λ edges. edges.items ≡ joined_by record_rules (enumerate_from 0 records.now)) }
 {

@@ -1,4 +1,4 @@
-//! What an event leaves of a database.
+//! What is true of a database after an event.
 ghost use Rattle.ioc_types.specs.Record.{Record, record_rules};
 ghost use Rattle.std.specs.Prelude.{◌≡◌};
 ghost use Rattle.std.specs.FinMap.{len};
@@ -11,8 +11,8 @@ ghost use Rattle.ioc_store.specs.Given.{Answers};
 use ioc_events::event_rules::{events_keep_records, events_leave_settled, rules_are_steps};
 use ioc_types::Record;
 
-/// An event leaves a database of this program so that no link leaves it and a record is active exactly where its completion
-/// is pending, if it was so before.
+/// After an event no link leaves the database, and a record is active exactly if its completion is
+/// pending, if that was so before.
 pub fn event_leaves_settled()
     ensures { (answers : Answers) (w : World Record) (event : Event) → IsSettled record_rules w → IsSettled record_rules (stepped record_rules answers w event).world }
 {
@@ -20,7 +20,7 @@ pub fn event_leaves_settled()
     rules_are_steps::<Record>();
 }
 
-/// An event leaves as many records as there were.
+/// An event leaves the number of records unchanged.
 pub fn event_keeps_count()
     ensures { (answers : Answers) (w : World Record) (event : Event) → IsClosed record_rules w → len (stepped record_rules answers w event).world.records ≡ len w.records }
 {

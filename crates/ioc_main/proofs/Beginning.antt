@@ -50,15 +50,15 @@ keeps_same : (w : Option (List ℕ)) → Keeps w w
 keeps_same None = tt
 keeps_same (Some bytes) = refl
 
--- memory was wanting before the first line
+-- Allocation failed before the first line.
 pub memory_stops : (macros : List Defined) (text : List ℕ) (a w : Option (List ℕ)) → StopsWith Memory macros text a w w
 memory_stops macros text a w = in_the_load (keeps_same w)
 
--- nothing was loaded
+-- Nothing was loaded.
 pub load_stops : (e : IocError) (macros : List Defined) (text : List ℕ) (a w : Option (List ℕ)) → Gives database_of (Err e) (loaded macros text) → StopsWith (fault_of e) macros text a w w
 load_stops (refusal.BadDb fault) macros text a w gives = (gives, keeps_same w)
 load_stops other macros text a w gives = memory_stops macros text a w
 
--- what holds of a fault holds of a run that it ends
+-- What is true of a fault is true of the run that it ends.
 pub err_as : {T : Type 0} {r : Result T RunFault} {fault : RunFault} (P : RunFault → Type 0) → (y : RunFault) × (r ≡ Err y) × (y ≡ fault) → P fault → IfErr r P
 err_as P p q = rw (p.1, p.2) q

@@ -14,13 +14,13 @@ use Rattle.ioc_main.specs.Sets.{name_at, other_names, part_words, first_words, p
 pub place_there : {R D : Type 0} (s : OneMap R D) (n m : ℕ) → m ≡ n → n < length s.records.items → Has (world_of s) m
 place_there s n m e l = subst IsTrue (sym (contains-numbered s.records.items m ∙ lt-ltb m (length s.records.items) (omega (arith, e, l)))) refl
 
--- the next of those that follow
+-- If a record follows, it is within the list.
 pub follow_step : (next : List ℕ) (at : ℕ) (left : List ℕ) → Follow next at left → at < length next
     → (tail : List ℕ) × (left ≡ at ∷ tail) × (at < slice_index next at) × Follow next (slice_index next at) tail
 follow_step next at [] f l = absurd (omega (arith, f, l))
 follow_step next at (n ∷ ns) f l = (ns, ap (λ (m : ℕ). m ∷ ns) (sym f.0), rw f.0 f.1, rw f.0 f.3)
 
--- past the last none follows
+-- No record follows past the end of the list.
 pub follow_end : (next : List ℕ) (at : ℕ) (left : List ℕ) → Follow next at left → length next ≤ at → left ≡ []
 follow_end next at [] f l = refl
 follow_end next at (n ∷ ns) f l = absurd (omega (arith, f.0, f.2, l))

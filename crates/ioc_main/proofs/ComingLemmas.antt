@@ -1,4 +1,4 @@
--- The pieces of a script give its lines.
+-- The pieces of a script make up its lines.
 use Rattle.std.proofs.Common.{◌≡◌, ℕ, ◌≤◌, List, [], ◌∷◌, ◌++◌, length, take, Some, None, refl, sym, ap, ◌∙◌, append-nil, inl, inr, arith}
 use Rattle.std.proofs.lemmas.Bool.{cases_lt}
 use Rattle.std.proofs.lemmas.List.{length-take, take_all, take-append-le, take-take}
@@ -30,7 +30,7 @@ module _ (t : List (List ℕ) → List ℕ) where
   unfolding to_come
   starts bytes = ap t (onto-nil (lines_of bytes))
 
-  -- a line ends in a piece
+  -- A line ends in a piece.
   pub at_end : (line piece after rest : List ℕ) → behind 10 piece ≡ Some after → to_come t line (piece ++ rest) ≡ t ((line ++ before 10 piece) ∷ lines_of (after ++ rest))
   unfolding to_come
   at_end line piece after rest is = ap (λ (ls : List (List ℕ)). t (onto line ls)) (behind-lines piece after rest is)
@@ -44,7 +44,7 @@ module _ (t : List (List ℕ) → List ℕ) where
     onto_cut (c ∷ cs) [] = let k = cut_some c cs in last_some (cut (c ∷ cs)) c k.0 k.1 ∙ cuts (cut (c ∷ cs)) (c ∷ cs) [] (cut-cut (c ∷ cs))
     onto_cut p (l ∷ ls) = cuts (cut p ++ l) (p ++ l) ls (cut_push p l)
 
-    -- no line ends in a piece
+    -- No line ends in a piece.
     pub at_more : (line piece rest kept : List ℕ) → behind 10 piece ≡ None → kept ≡ cut (line ++ piece) → to_come t line (piece ++ rest) ≡ to_come t kept rest
     unfolding to_come
     at_more line piece rest kept is e =

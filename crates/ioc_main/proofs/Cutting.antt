@@ -11,17 +11,17 @@ step_shorter : (c : Bool) (s b : ℕ) (bs after : List ℕ) → cond c (Some bs)
 step_shorter true s b bs after e ih = let same : bs ≡ after = cc in rw same (omega arith)
 step_shorter false s b bs after e ih = omega (arith, ih e)
 
--- what is left is shorter
+-- The rest behind the separator is shorter.
 pub behind-shorter : (s : ℕ) (bs after : List ℕ) → behind s bs ≡ Some after → length after < length bs
 behind-shorter s [] after e = absurd cc
 behind-shorter s (b ∷ bs) after e = step_shorter (eqb b s) s b bs after e (behind-shorter s bs after)
 
--- a list of no items
+-- A list of length 0 is empty.
 pub none-left : (bs : List ℕ) → eqb (length bs) 0 ≡ true → bs ≡ []
 none-left [] e = refl
 none-left (b ∷ bs) e = absurd (omega (arith, eqb-true (length (b ∷ bs)) 0 e))
 
--- a part that isn't there
+-- A missing part is missing in the specification too.
 pub none-there : (o : Option (Bor (List ℕ))) → ((r : Bor (List ℕ)) → o ≡ Some r → ⊥) → option_map (λ r. r.now) o ≡ None
 none-there None other = refl
 none-there (Some r) other = absurd (other r refl)
@@ -30,7 +30,7 @@ step_before : (c : Bool) (s b : ℕ) (bs : List ℕ) → cond c (Some bs) (behin
 step_before true s b bs e ih = absurd cc
 step_before false s b bs e ih = ap (λ (l : List ℕ). b ∷ l) (ih e)
 
--- where nothing is behind, all is before
+-- If nothing is behind the separator, all is before it.
 pub all-before : (s : ℕ) (bs : List ℕ) → behind s bs ≡ None → before s bs ≡ bs
 all-before s [] e = refl
 all-before s (b ∷ bs) e = step_before (eqb b s) s b bs e (all-before s bs)
@@ -41,7 +41,7 @@ step_lines : (c : Bool) (b : ℕ) (bs after rest : List ℕ) → cond c (Some bs
 step_lines true b bs after rest e ih = let same : bs ≡ after = cc in ap (λ (l : List ℕ). [] ∷ lines_of (l ++ rest)) same
 step_lines false b bs after rest e ih = ap (onto_first b) (ih e)
 
--- a line ends in the piece
+-- A line ends in the piece.
 pub behind-lines : (bs after rest : List ℕ) → behind 10 bs ≡ Some after → lines_of (bs ++ rest) ≡ before 10 bs ∷ lines_of (after ++ rest)
 behind-lines [] after rest e = absurd cc
 behind-lines (b ∷ bs) after rest e = step_lines (eqb b 10) b bs after rest e (behind-lines bs after rest)
@@ -60,7 +60,7 @@ pub onto-nil : (ls : List (List ℕ)) → onto [] ls ≡ ls
 onto-nil [] = refl
 onto-nil (l ∷ ls) = refl
 
--- no line ends in the piece
+-- No line ends in the piece.
 pub none-behind : (bs rest : List ℕ) → behind 10 bs ≡ None → lines_of (bs ++ rest) ≡ onto bs (lines_of rest)
 none-behind [] rest e = sym (onto-nil (lines_of rest))
 none-behind (b ∷ bs) rest e = step_none (eqb b 10) b bs rest e (none-behind bs rest)

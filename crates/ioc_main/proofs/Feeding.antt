@@ -9,7 +9,7 @@ use Rattle.ioc_main.specs.declared.fault.LineFault.{LineFault}
 use Rattle.ioc_main.proofs.ComingLemmas.{at_end, at_more, starts, cut-cut, all_read, last_line-of}
 use Rattle.ioc_main.proofs.WrittenLemmas.{writes_same, writes_trans, writes_then_stops, writes_behind, writes_all, part_more}
 
--- a line ends in the piece
+-- A line ends in the piece.
 module _ (t : List (List ℕ) → List ℕ) (w v : Option (List ℕ)) (line piece after last : List ℕ) (is : behind 10 piece ≡ Some after) (same : last ≡ before 10 piece) where
   ends : (rest : List ℕ) → to_come t line (piece ++ rest) ≡ t ((line ++ last) ∷ lines_of (after ++ rest))
   ends rest = at_end t line piece after rest is ∙ ap (λ (l : List ℕ). t ((line ++ l) ∷ lines_of (after ++ rest))) (sym same)
@@ -25,33 +25,33 @@ module _ (t : List (List ℕ) → List ℕ) (w v : Option (List ℕ)) (line piec
       → (rest : List ℕ) → StopsLine fault w (to_come t line (piece ++ rest)) v
   line_fails fault p rest = subst (λ (l : List ℕ). StopsLine fault w l v) (sym (ends rest)) (p (lines_of (after ++ rest)))
 
--- no line ends in the piece
+-- No line ends in the piece.
 pub kept_on : (t : List (List ℕ) → List ℕ) → CutsLines t → (w : Option (List ℕ)) (line piece kept last : List ℕ) → behind 10 piece ≡ None → last ≡ piece → kept ≡ take 1025 (line ++ last)
     → (rest : List ℕ) → Writes w (to_come t line (piece ++ rest)) w (to_come t kept rest)
 unfolding cut
 kept_on t cuts w line piece kept last is same e rest =
     writes_same w (to_come t line (piece ++ rest)) (to_come t kept rest) (at_more t cuts line piece rest kept is (e ∙ ap (λ (l : List ℕ). cut (line ++ l)) same))
 
--- what was written before, and then more
+-- Two writes in succession.
 pub feed_step : (w0 w v : Option (List ℕ)) (all come more : List ℕ) → Writes w come v more → Writes w0 all w come → Writes w0 all v more
 feed_step w0 w v all come more p inv = writes_trans w0 w v all come more inv p
 
 pub feed_fails : (fault : LineFault) (w0 w v : Option (List ℕ)) (all come : List ℕ) → StopsLine fault w come v → Writes w0 all w come → StopsLine fault w0 all v
 feed_fails fault w0 w v all come p inv = writes_then_stops fault w0 w v all come inv p
 
--- a line that came in one piece
+-- A line that was read in one piece.
 pub came_whole : (t u : List (List ℕ) → List ℕ) (w v : Option (List ℕ)) (line last : List ℕ) → line ≡ [] → ((lines : List (List ℕ)) → Writes w (t (last ∷ lines)) v (u lines))
     → (line ≡ []) × ((lines : List (List ℕ)) → Writes w (t ((line ++ last) ∷ lines)) v (u lines))
 came_whole t u w v line last e p = (e, λ lines. subst (λ (l : List ℕ). Writes w (t ((l ++ last) ∷ lines)) v (u lines)) (sym e) (p lines))
 
--- a line of several pieces: what is past its 1,025th byte plays no part
+-- A line of several pieces, of which the bytes past the 1,025th have no effect.
 pub came_in_pieces : (t : List (List ℕ) → List ℕ) → CutsLines t → (line last kept slice : List ℕ) → kept ≡ take 1025 (line ++ last) → slice ≡ kept → (lines : List (List ℕ))
     → t (slice ∷ lines) ≡ t ((line ++ last) ∷ lines)
 unfolding cut
 came_in_pieces t cuts line last kept slice e f lines =
     ap (λ (l : List ℕ). t (l ∷ lines)) (f ∙ e) ∙ cuts (cut (line ++ last)) (line ++ last) lines (cut-cut (line ++ last))
 
--- a last line that no line feed ends
+-- A last line without a line feed.
 module _ (t : List (List ℕ) → List ℕ) where
   empty_line : (line : List ℕ) → length line < 1 → line ≡ []
   empty_line [] h = refl
@@ -65,7 +65,7 @@ module _ (t : List (List ℕ) → List ℕ) where
   last_fails fault w v line slice said e h same p =
       subst (λ (l : List ℕ). StopsLine fault w l v) (ap (λ (l : List ℕ). t (l ∷ [])) same ∙ sym (last_is line slice e h)) p
 
--- what was said before stands before what lines give
+-- The pending replies precede what is printed for further lines.
 module _ (p : List ℕ) (t : List (List ℕ) → List ℕ) where
   pub still_cuts : CutsLines t → CutsLines (still p t)
   still_cuts cuts a b lines e = ap (λ (l : List ℕ). p ++ l) (cuts a b lines e)
@@ -74,7 +74,7 @@ module _ (p : List ℕ) (t : List (List ℕ) → List ℕ) where
   unfolding to_come
   still_read none = ap (λ (l : List ℕ). p ++ l) none ∙ append-nil p
 
-  -- a line was answered, and what was said was written as far as it was
+  -- A line was answered, and the pending replies were written as far as possible.
   pub answered_on : (w v : Option (List ℕ)) (u : List (List ℕ) → List ℕ) (line q more r : List ℕ) → ((lines : List (List ℕ)) → still p t (line ∷ lines) ≡ still (q ++ more) u lines)
       → Writes w (q ++ more) v r → (lines : List (List ℕ)) → Writes w (still p t (line ∷ lines)) v (still r u lines)
   answered_on w v u line q more r e x lines =
@@ -84,7 +84,7 @@ module _ (p : List ℕ) (t : List (List ℕ) → List ℕ) where
       → WritesPart w (q ++ more) v → (lines : List (List ℕ)) → WritesPart w (still p t (line ∷ lines)) v
   answered_fails w v u line q more e x lines = subst (λ (l : List ℕ). WritesPart w l v) (sym (e lines)) (part_more w v (q ++ more) (u lines) x)
 
-  -- a line wasn't answered, and what was said before is written
+  -- A line wasn't answered, and the pending replies before it are written.
   front_of : (q slice : List ℕ) (n : ℕ) → n ≡ length p → Stands p q → slice ≡ take n q → slice ≡ p
   front_of q slice n many stands is = is ∙ ap (λ (m : ℕ). take m q) many ∙ ap (λ (l : List ℕ). take (length p) l) stands.1 ∙ take-append_seam p stands.0
 
@@ -98,7 +98,7 @@ module _ (p : List ℕ) (t : List (List ℕ) → List ℕ) where
   gives_up_midway w v line q slice n many stands is x lines =
       part_more w v p (t (line ∷ lines)) (subst (λ (l : List ℕ). WritesPart w l v) (front_of q slice n many stands is) x)
 
-  -- the script is at its end
+  -- The script is at its end.
   pub rest_empty : (w : Option (List ℕ)) (line slice : List ℕ) → slice ≡ line → length slice < 1 → t [] ≡ [] → Writes w (to_come (still p t) line []) w p
   rest_empty w line slice e h none =
       let is : line ≡ [] = sym e ∙ empty_line (still p t) slice h in

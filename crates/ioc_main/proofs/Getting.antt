@@ -1,4 +1,4 @@
--- A field that a record has is shown.
+-- The text of an existing field is shown.
 use Rattle.std.proofs.Common.{◌≡◌, ℕ, List, [], ◌∷◌, ◌++◌, IsSome, refl, sym, ap, ◌∙◌, append_assoc, append-nil}
 use Rattle.ioc_fields.specs.declared.field_no.FieldNo.{FieldNo}
 use Rattle.ioc_fields.specs.Table.{row_of}
@@ -16,28 +16,28 @@ pub shown_there : {R : Type 0} (k : RecordRules R) (answers : Answers) (w : Worl
 unfolding stepped done_alone done_there
 shown_there k answers w n field has is = rw (has, is) refl
 
--- what is said by a reply alone
+-- A reply without further text.
 pub said_shortly : (reply more said : List ℕ) → reply ≡ said → more ≡ [] → reply ++ more ≡ said
 said_shortly reply more said e none = rw (none, e) (append-nil said)
 
--- what is said of a line stands behind what was said before
+-- The reply to a line follows the pending replies.
 pub said_behind : (old said replies more later last rest : List ℕ) → replies ++ more ≡ old ++ said → last ≡ more ++ later
     → old ++ ((said ++ later) ++ rest) ≡ (replies ++ last) ++ rest
 said_behind old said replies more later last rest e f =
     sym (append_assoc old (said ++ later) rest) ∙ ap (λ l. l ++ rest) (sym (append_assoc old said later) ∙ ap (λ l. l ++ later) (sym e) ∙ append_assoc replies more later ∙ ap (λ l. replies ++ l) (sym f))
 
--- and of a line after which nothing more is said
+-- The same for a line without further text.
 pub said_alone : (old said replies more rest : List ℕ) → replies ++ more ≡ old ++ said → old ++ (said ++ rest) ≡ (replies ++ more) ++ rest
 said_alone old said replies more rest e = sym (append_assoc old said rest) ∙ ap (λ l. l ++ rest) (sym e)
 
--- what was said before stands
+-- The replies that were pending are still the beginning.
 pub stands_before : (before now since : List ℕ) → now ≡ before ++ since → Stands before now
 stands_before before now since e = (since, e)
 
 pub stands_alone : (before now : List ℕ) → now ≡ before → Stands before now
 stands_alone before now e = ([], e ∙ sym (append-nil before))
 
--- a sign, a text and a line feed behind what was said before
+-- A sign, a text and a line feed follow the pending replies.
 pub shown_behind : (old signed more last sign text : List ℕ) → signed ≡ old ++ sign → more ≡ signed ++ text → last ≡ more ++ 10 ∷ [] → last ≡ old ++ (sign ++ text) ++ 10 ∷ []
 shown_behind old signed more last sign text e f g =
     g ∙ ap (λ l. l ++ 10 ∷ []) (f ∙ ap (λ l. l ++ text) e ∙ append_assoc old sign text)

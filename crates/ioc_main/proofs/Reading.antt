@@ -17,7 +17,7 @@ pub starts_so : (t : Transcript) (a w : Option (List ℕ)) (line : List ℕ) →
 starts_so t None w line e = tt
 starts_so t (Some script) w line e = writes_same w (t (lines_of script)) (to_come t line script) (sym (starts t script) ∙ ap (λ (l : List ℕ). to_come t l script) (sym e))
 
--- nothing was said yet
+-- No replies are pending yet.
 pub starts_unsaid : (t : Transcript) (a w : Option (List ℕ)) (said line : List ℕ) → said ≡ [] → line ≡ [] → ReadsSo t a a w (still said t) line w
 starts_unsaid t a w said line none e = subst (λ (p : List ℕ). ReadsSo t a a w (still p t) line w) (sym none) (starts_so t a w line e)
 
@@ -39,7 +39,7 @@ reads_fail fault whole t (Some x) (Some y) None w v u line piece q p inv = absur
 reads_fail fault whole t (Some x) (Some y) (Some z) w v u line piece q p inv =
     writes_then_stops fault w v u (whole (lines_of x)) _ (subst (λ (l : List ℕ). Writes w (whole (lines_of x)) v (to_come t line l)) q inv) (p z)
 
--- the reader is at its end
+-- The reader is at its end.
 at_end : (b d : Option (List ℕ)) (y : List ℕ) → b ≡ Some y → Consumes b d [] → IsAtEnd d → y ≡ []
 at_end None d y e q h = absurd cc
 at_end (Some x) None y e q h = absurd q
@@ -70,7 +70,7 @@ come_behind : (said : List ℕ) (t : Transcript) (line bytes : List ℕ) → to_
 unfolding to_come
 come_behind said t line bytes = refl
 
--- a read failed, and what was said before was written as far as it was
+-- A read failed, and the pending replies were written as far as possible.
 pub reads_stop : (fault : ScriptFault) (whole t : Transcript) (a b w v u : Option (List ℕ)) (said line : List ℕ) → ((text : List ℕ) → StopsScript fault v (said ++ text) u)
     → ReadsSo whole a b w (still said t) line v → IfSome a (λ text. StopsScript fault w (whole (lines_of text)) u)
 reads_stop fault whole t None b w v u said line q inv = tt

@@ -1,4 +1,4 @@
--- A line that puts asks for something.
+-- Something is printed for a line that puts.
 use Rattle.std.proofs.Common.{◌≡◌, ℕ, false, List, Option, Some, None, refl}
 use Rattle.ioc_script.specs.Script.{put_of, put_at, before, behind, is_silent}
 

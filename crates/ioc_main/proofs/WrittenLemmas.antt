@@ -1,4 +1,4 @@
--- One write after the other.
+-- Writes in succession.
 use Rattle.std.proofs.Common.{◌≡◌, ℕ, false, eqb, length, List, [], ◌∷◌, ◌++◌, take, drop, Option, Some, None, refl, sym, ap, subst, ◌∙◌, append_assoc, append-nil, take-append-drop}
 use Rattle.std.specs.Prelude.{IfSome}
 use Rattle.std.specs.Io.KnownBytes.{Appends, Keeps}
@@ -23,7 +23,7 @@ pub writes_trans : (a b c : Option (List ℕ)) (x y z : List ℕ) → Writes a x
 writes_trans a b c x y z p q =
     (p.0 ++ q.0, p.1 ∙ ap (λ l. p.0 ++ l) q.1 ∙ sym (append_assoc p.0 q.0 z), appends_trans a b c p.0 q.0 p.2 q.2)
 
--- a writer took n bytes of the rest
+-- A writer took `n` bytes of the rest.
 pub writes_more : (a b c : Option (List ℕ)) (x y z : List ℕ) (n : ℕ) → Writes a x b y → Appends b c (take n y) → z ≡ drop n y → Writes a x c z
 writes_more a b c x y z n p q e =
     writes_trans a b c x y z p (take n y, sym (take-append-drop n y) ∙ ap (λ l. take n y ++ l) (sym e), q)
@@ -35,7 +35,7 @@ pub writes_then_stops : (fault : LineFault) (a b c : Option (List ℕ)) (x y : L
 writes_then_stops line.Write a b c x y p q = writes_then_part a b c x y p q
 writes_then_stops line.Memory a b c x y p q = (q.0, writes_trans a b c x y q.0 p q.1)
 
--- a line that stopped stops the script
+-- The fault of a line stops the script.
 pub stops_script : (fault : LineFault) (a b : Option (List ℕ)) (x : List ℕ) → StopsLine fault a x b → StopsScript (script_fault_of fault) a x b
 stops_script line.Write a b x p = p
 stops_script line.Memory a b x p = p
@@ -44,11 +44,11 @@ pub script_stops : (fault : LineFault) (script a b : Option (List ℕ)) (t : Lis
 script_stops fault None a b t p = tt
 script_stops fault (Some text) a b t p = stops_script fault a b (t text) p
 
--- nothing was written of it
+-- Nothing was written of the text.
 pub writes_none : (a : Option (List ℕ)) (x : List ℕ) → WritesFront a x a
 writes_none a x = (x, ([], refl, appends_none a))
 
--- a writer that kept what it had took nothing
+-- A writer with unchanged contents took nothing.
 appends_kept : (a b : Option (List ℕ)) → Keeps a b → Appends a b []
 appends_kept None b k = tt
 appends_kept (Some x) None k = absurd k
@@ -60,52 +60,52 @@ writes_kept a b c x y p k = writes_trans a b c x y y p ([], refl, appends_kept b
 pub writes_zero : (a b c : Option (List ℕ)) (x y : List ℕ) (n : ℕ) → n ≡ 0 → Writes a x b y → Appends b c (take n y) → Writes a x c y
 writes_zero a b c x y n e p q = writes_more a b c x y y 0 p (subst (λ (k : ℕ). Appends b c (take k y)) e q) refl
 
--- something is left
+-- If something is left, not all was written.
 pub part_left : (a b : Option (List ℕ)) (x y : List ℕ) → false ≡ eqb (length y) 0 → Writes a x b y → WritesPart a x b
 part_left a b x [] h p = absurd cc
 part_left a b x (c ∷ cs) h p = (c, cs, p)
 
--- all of a text was taken
+-- All of the first text was written.
 pub writes_all : (a b : Option (List ℕ)) (x y : List ℕ) → Appends a b x → Writes a (x ++ y) b y
 writes_all a b x y p = (x, refl, p)
 
 pub appends_all : (a b : Option (List ℕ)) (x : List ℕ) → Writes a x b [] → Appends a b x
 appends_all a b x p = subst (Appends a b) (sym (p.1 ∙ append-nil p.0)) p.2
 
--- a part of a text's front is one of the text
+-- A part of the beginning of a text is a part of the text.
 pub part_more : (a b : Option (List ℕ)) (x y : List ℕ) → WritesPart a x b → WritesPart a (x ++ y) b
 part_more a b x y p = (p.0, p.1 ++ y, (p.2.0, ap (λ l. l ++ y) p.2.1 ∙ append_assoc p.2.0 (p.0 ∷ p.1) y, p.2.2))
 
--- nothing was to be written
+-- There was nothing to write.
 pub writes_same : (a : Option (List ℕ)) (x y : List ℕ) → x ≡ y → Writes a x a y
 writes_same a x y e = ([], e, appends_none a)
 
 pub appends_empty : (a : Option (List ℕ)) (x : List ℕ) → x ≡ [] → Appends a a x
 appends_empty a x e = subst (Appends a a) (sym e) (appends_none a)
 
--- what is written for a line is the front of what the lines give
+-- What is written for a line is the beginning of what is printed for the lines.
 pub said_fails : (a b : Option (List ℕ)) (x slice said more : List ℕ) → slice ≡ said → x ≡ said ++ more → WritesPart a slice b → WritesPart a x b
 said_fails a b x slice said more e f p =
     let q : WritesPart a said b = subst (λ (l : List ℕ). WritesPart a l b) e p in
     subst (λ (l : List ℕ). WritesPart a l b) (sym f) (part_more a b said more q)
 
--- a second text isn't taken whole behind a first one
+-- If a second text isn't written whole after the first one, neither are both together.
 pub all_then_part : (a b c : Option (List ℕ)) (x y : List ℕ) → Appends a b x → WritesPart b y c → WritesPart a (x ++ y) c
 all_then_part a b c x y p q = writes_then_part a b c (x ++ y) y (writes_all a b x y p) q
 
--- what comes behind what is written is still to come
+-- What follows a text is still to be written.
 pub writes_behind : (a b : Option (List ℕ)) (x y z : List ℕ) → Writes a x b y → Writes a (x ++ z) b (y ++ z)
 writes_behind a b x y z p = (p.0, ap (λ l. l ++ z) p.1 ∙ append_assoc p.0 y z, p.2)
 
--- what was kept back isn't written yet
+-- What is pending isn't written yet.
 pub keeps_back : (a : Option (List ℕ)) (said more : List ℕ) → more ≡ [] → Writes a (said ++ more) a said
 keeps_back a said more none = writes_same a (said ++ more) said (ap (λ l. said ++ l) none ∙ append-nil said)
 
--- all that was said is written
+-- All pending replies are written.
 pub writes_said : (a b : Option (List ℕ)) (said left : List ℕ) → Appends a b said → left ≡ [] → Writes a said b left
 writes_said a b said left p none = (said, sym (ap (λ l. said ++ l) none ∙ append-nil said), p)
 
--- all that is left is written
+-- All that is left is written.
 pub writes_rest : (a b c : Option (List ℕ)) (x said more : List ℕ) → more ≡ [] → Writes a x b said → Appends b c (said ++ more) → Appends a c x
 writes_rest a b c x said more none p q =
     let r : Appends b c said = subst (Appends b c) (ap (λ l. said ++ l) none ∙ append-nil said) q in
@@ -114,13 +114,13 @@ writes_rest a b c x said more none p q =
 pub writes_no_rest : (a b c : Option (List ℕ)) (x said more : List ℕ) → more ≡ [] → Writes a x b said → WritesPart b (said ++ more) c → WritesPart a x c
 writes_no_rest a b c x said more none p q = writes_then_part a b c x said p (subst (λ l. WritesPart b l c) (ap (λ l. said ++ l) none ∙ append-nil said) q)
 
--- a script stops behind what was written
+-- A script that stops after a write stops the whole.
 pub writes_then_stops_script : (fault : ScriptFault) (a b c : Option (List ℕ)) (x y : List ℕ) → Writes a x b y → StopsScript fault b y c → StopsScript fault a x c
 writes_then_stops_script script.Read a b c x y p q = (q.0, writes_trans a b c x y q.0 p q.1)
 writes_then_stops_script script.Write a b c x y p q = writes_then_part a b c x y p q
 writes_then_stops_script script.Memory a b c x y p q = (q.0, writes_trans a b c x y q.0 p q.1)
 
--- what was said is written before a script stops
+-- The pending replies are written before a script stops.
 pub stops_behind : (a b : Option (List ℕ)) (said more text : List ℕ) → more ≡ [] → Appends a b (said ++ more) → WritesFront a (said ++ text) b
 stops_behind a b said more text none p =
     (text, writes_all a b said text (subst (Appends a b) (ap (λ l. said ++ l) none ∙ append-nil said) p))

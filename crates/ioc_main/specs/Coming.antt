@@ -3,29 +3,31 @@ use Rattle.std.specs.Prelude.{◌≡◌, ℕ, List, [], ◌∷◌, ◌++◌, ⊤
 use Rattle.ioc_script.specs.Script.{lines_of, cut}
 use Rattle.ioc_main.specs.Written.{Writes}
 
--- the front of a line, and the lines of what follows
+-- The lines of the beginning of a line followed by other lines.
 abbrev pub onto : List ℕ → List (List ℕ) → List (List ℕ)
 onto [] [] = []
 onto (b ∷ bs) [] = (b ∷ bs) ∷ []
 onto front (line ∷ lines) = (front ++ line) ∷ lines
 
--- what is still to be printed: what was said before, and then what is printed for the lines that come
+-- What is still to be printed: the pending replies, followed by what is printed for the remaining
+-- lines.
 abbrev pub still : List ℕ → (List (List ℕ) → List ℕ) → List (List ℕ) → List ℕ
 still said transcript lines = said ++ transcript lines
 
--- what was said before still stands before what was said since
+-- Holds if the replies that were pending are the beginning of those pending now.
 abbrev pub Stands : List ℕ → List ℕ → Type 0
 Stands before now = (since : List ℕ) × (now ≡ before ++ since)
 
--- all that is still to be printed, where this much of a line has come, and these bytes are still to come
+-- All that is still to be printed, if this beginning of a line was read and these bytes are still
+-- to be read.
 unfoldable pub to_come : (List (List ℕ) → List ℕ) → List ℕ → List ℕ → List ℕ
 to_come transcript line bytes = transcript (onto line (lines_of bytes))
 
--- what lines hold past their 1,025th byte plays no part
+-- Holds if the bytes of a line past its 1,025th have no effect.
 abbrev pub CutsLines : (List (List ℕ) → List ℕ) → Type 0
 CutsLines transcript = (a b : List ℕ) (lines : List (List ℕ)) → cut a ≡ cut b → transcript (a ∷ lines) ≡ transcript (b ∷ lines)
 
--- what was written, and what is to come, make the transcript of the whole script
+-- Holds if what was written and what is to be printed make the transcript of the whole script.
 abbrev pub ReadsSo : (List (List ℕ) → List ℕ) → Option (List ℕ) → Option (List ℕ) → Option (List ℕ) → (List (List ℕ) → List ℕ) → List ℕ → Option (List ℕ) → Type 0
 ReadsSo whole None left old transcript line new = ⊤
 ReadsSo whole (Some script) None old transcript line new = ⊥

@@ -16,7 +16,7 @@ use Rattle.ioc_main.specs.declared.ending.Ending.{Ending}
 use Rattle.ioc_main.specs.declared.ending.Stream.{Stream}
 use Rattle.ioc_main.specs.declared.ending.Stream.TheVariants as stream
 
--- the exit status of the program that a fault ends
+-- The exit status of a program that a fault ends.
 unfoldable pub status_of : RunFault → ℕ
 status_of (BadDb fault) = 1
 status_of Usage = 2
@@ -26,7 +26,7 @@ status_of Read = 3
 status_of Write = 3
 status_of Memory = 4
 
--- what a fault is called
+-- The text of a fault.
 unfoldable pub fault_text : RunFault → List ℕ
 fault_text (BadDb fault) = db_fault_text fault
 fault_text Usage = codes "usage: ioc-replay DB SCRIPT [NAME=VALUE].."
@@ -37,53 +37,53 @@ fault_text Read = codes "the input cannot be read"
 fault_text Write = codes "the replies cannot be written"
 fault_text Memory = codes "out of memory"
 
--- why a load stopped, as a fault of the run
+-- The error of a load as a fault of the run.
 abbrev pub fault_of : IocError → RunFault
 fault_of (refusal.BadDb fault) = BadDb fault
 fault_of _ = Memory
 
--- why a line stopped a script
+-- The fault of a line as a fault of the script.
 abbrev pub script_fault_of : LineFault → ScriptFault
 script_fault_of line.Write = script.Write
 script_fault_of line.Memory = script.Memory
 
--- why a script stopped, as a fault of the run
+-- The fault of a script as a fault of the run.
 abbrev pub run_fault_of : ScriptFault → RunFault
 run_fault_of script.Read = Read
 run_fault_of script.Write = Write
 run_fault_of script.Memory = Memory
 
--- a growth was refused
+-- Whether allocation failed.
 abbrev pub is_out_of_memory : ErrorKind → Bool
 is_out_of_memory OutOfMemory = true
 is_out_of_memory _ = false
 
--- why a file could not be read
+-- The fault of a file that can't be read.
 abbrev pub read_fault_of : ErrorKind → RunFault
 read_fault_of kind = if is_out_of_memory kind then Memory else Read
 
--- a run, and then the flush of what it wrote: the fault that came first
+-- The result of a run and then of flushing what it wrote: the first fault.
 abbrev pub whole_run : Result (Unit {0}) RunFault → Result (Unit {0}) Error → Result (Unit {0}) RunFault
 whole_run (Err fault) flushed = Err fault
 whole_run (Ok _) (Err e) = Err Write
 whole_run (Ok _) (Ok _) = Ok tt
 
--- where a run tells why it stopped: on standard output what was asked for, and a fault on standard error
+-- The stream of a fault: standard output for what was asked for, otherwise standard error.
 unfoldable pub stream_of : RunFault → Stream
 stream_of Help = stream.Output
 stream_of Version = stream.Output
 stream_of _ = stream.Error
 
--- how the program ends: each reason has its status and its stream
+-- How the program ends: each fault has its status and its stream.
 unfoldable pub ending_of : Result (Unit {0}) RunFault → Ending
 ending_of (Ok _) = record { status = 0; stream = stream.Error; fault = None }
 ending_of (Err fault) = record { status = status_of fault; stream = stream_of fault; fault = Some fault }
 
--- the line of a fault
+-- The line of a fault.
 abbrev pub fault_line : Option RunFault → List ℕ
 fault_line None = []
 fault_line (Some fault) = fault_text fault ++ 10 ∷ []
 
--- what is told at the end
+-- The text that is printed at the end.
 unfoldable pub ending_text : Ending → List ℕ
 ending_text ending = fault_line ending.fault

@@ -1,5 +1,6 @@
--- A line that changes a link of a record. The text is that of a link in a database text, for the kind of field that it is put in.
--- Application Developer's Guide, "Database Links"; a put to a link field (dbPutField).
+-- The line that changes a link of a record. The text is that of a link in a database text, for the
+-- kind of the field. Application Developer's Guide, "Database Links"; a put to a link field
+-- (dbPutField).
 use Rattle.std.specs.Prelude.{ℕ, if◌then◌else◌, List, Option, Some, Result, Ok, Err, ok_or}
 use Rattle.ioc_values.specs.declared.error.IocError.{IocError}
 use Rattle.ioc_values.specs.declared.error.IocError.TheVariants.{NoField, PutDisabled, BadLink}
@@ -19,18 +20,18 @@ use Rattle.ioc_machine.specs.Machine.{Machine, Told, done, refused}
 use Rattle.ioc_machine.specs.Leads.{field_of_link}
 
 module _ {R : Type 0} (k : RecordRules R) (names : NameTable) where
-  -- the field gets the link that a text stands for, if it stands for one
+  -- The field gets this link, if the text is a valid one.
   abbrev pub linked_to : Machine R → ℕ → FieldNo → Result Link IocError → Told R
   linked_to m n field (Ok link) = done k m (Link-event n field (field_of_link k names m.owner m.world n link))
   linked_to m n field (Err e) = refused m e
 
-  -- a link field, unless DISP forbids it
+  -- A link field is changed, unless DISP forbids it.
   abbrev pub linked_in : Machine R → ℕ → FieldNo → List ℕ → Option FieldKind → Told R
   linked_in m n field text (Some (Link-kind role)) =
       if stops_put (common_at k m.world n) field then refused m PutDisabled else linked_to m n field (ok_or (link_of (link_kind_of role) text) BadLink)
   linked_in m n field text _ = refused m NoField
 
-  -- the field of a record, where both are there
+  -- The field of a record is changed, if both exist.
   abbrev pub were_linked : Machine R → List ℕ → Result (ℕ × FieldNo) IocError → Told R
   were_linked m text (Ok c) = linked_in m c.0 c.1 text (kind_of (k.record_type (at k m.world c.0)) c.1)
   were_linked m text (Err e) = refused m e

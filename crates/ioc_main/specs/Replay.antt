@@ -1,4 +1,4 @@
--- What a script does to a database, line by line, and what is printed for it.
+-- The effects of a script on a database, line by line, and what is printed.
 use Rattle.std.specs.Prelude.{ℕ, List, [], ◌∷◌, ◌++◌, take, codes, decimal, Bool, true, false, if◌then◌else◌, Option, Some, None, Result, Ok, Err}
 use Rattle.std.specs.FinMap.{contains_key}
 use Rattle.ioc_values.specs.declared.value.Value.{Value}
@@ -25,34 +25,34 @@ use Rattle.ioc_machine.specs.Scanner.{event_list, interrupt_list}
 use Rattle.ioc_main.specs.Relink.{were_linked}
 use Rattle.ioc_machine.specs.Machine.{Machine, Told, Counted, answers_from, refused, queued_at, queued_on, at_moment, most_served, done, scanned, serve, with_none_ended, notified, given_up}
 
--- a line for each put with notification that has ended
+-- A line for each put with notification that has ended.
 abbrev pub ended_lines : List ℕ → List ℕ
 ended_lines [] = []
 ended_lines (number ∷ numbers) = (codes "ended " ++ decimal number ++ 10 ∷ []) ++ ended_lines numbers
 
--- what a line leaves, and what is printed for it
+-- The machine after a line, and what is printed for the line.
 pub record Answered (R : Type 0) : Type 0 where
   pub machine : Machine R
   pub said : List ℕ
 
--- the line of a reply
+-- The line of a reply.
 abbrev pub replied : {R : Type 0} → Told R → Answered R
 replied told = record { machine = told.machine; said = reply_words told.reply ++ 10 ∷ [] }
 
--- the line of a number
+-- The line of a count.
 abbrev pub counted : {R : Type 0} → Counted R → Answered R
 counted c = record { machine = c.machine; said = count_words c.count ++ 10 ∷ [] }
 
--- the value that a text gives: its first 39 bytes
+-- The value of a text, which is its first 39 bytes.
 abbrev pub given_value : List ℕ → Value
 given_value text = Text (take 39 text)
 
--- requests that wait are served, and the puts with notification that have ended since are told
+-- Waiting requests are served, and the puts with notification that have ended since are reported.
 unfoldable pub attended : {R : Type 0} → RecordRules R → Machine R → Answered R
 attended k m = let after = serve k most_served m in record { machine = with_none_ended after; said = ended_lines after.ended }
 
 module _ {R : Type 0} (k : RecordRules R) (names : NameTable) where
-  -- the field of this name of the record of this name
+  -- The field with this name of the record with this name.
   abbrev pub field_in : ℕ → Option FieldNo → Result (ℕ × FieldNo) IocError
   field_in number None = Err NoField
   field_in number (Some field) = Ok (number, field)
@@ -69,7 +69,7 @@ module _ {R : Type 0} (k : RecordRules R) (names : NameTable) where
   processed m None = refused m NoRecord
   processed m (Some number) = done k m (Process-event number)
 
-  -- a get changes nothing
+  -- A get, which changes nothing.
   abbrev pub got : Machine R → Result (ℕ × FieldNo) IocError → Told R
   got m (Ok c) = record { machine = m; reply = (stepped k (answers_from m.queued) m.world (Get-event c.0 c.1)).reply }
   got m (Err e) = refused m e
@@ -82,7 +82,7 @@ module _ {R : Type 0} (k : RecordRules R) (names : NameTable) where
   were_notified m text (Ok c) = notified k m c.0 c.1 (input_of text)
   were_notified m text (Err e) = refused m e
 
-  -- an answer is queued for the device of a record
+  -- An answer is queued for the device of a record.
   abbrev pub answers_next : Machine R → Answer → Option ℕ → Told R
   answers_next m answer None = refused m NoRecord
   answers_next m answer (Some number) = queued_at m number answer (m.queued number)
@@ -91,7 +91,7 @@ module _ {R : Type 0} (k : RecordRules R) (names : NameTable) where
   were_completed m wait finished None = refused m NoRecord
   were_completed m wait finished (Some number) = done k m (Complete-event number wait finished)
 
-  -- what a line asks for is done
+  -- The effect of a command.
   unfoldable pub carried_out : Machine R → Command → Answered R
   carried_out m Silent = record { machine = m; said = [] }
   carried_out m Bad = record { machine = m; said = codes "bad\n" }
@@ -113,13 +113,13 @@ module _ {R : Type 0} (k : RecordRules R) (names : NameTable) where
   carried_out m (Cancel number) = replied (given_up k m number)
   carried_out m Sets = record { machine = m; said = sets_line k m.world }
 
-  -- after a line that is answered, what waits is attended to
+  -- The effect of a line: after a command, waiting requests are served.
   unfoldable pub answered : Machine R → Command → Answered R
   answered m command =
       let did = carried_out m command in
       if is_silent command then did else (let later = attended k did.machine in record { machine = later.machine; said = did.said ++ later.said })
 
-  -- what is printed for these lines
+  -- What is printed for these lines.
   abbrev pub transcript : Machine R → List (List ℕ) → List ℕ
   transcript m [] = []
   transcript m (line ∷ lines) = let did = answered m (command_of line) in did.said ++ transcript did.machine lines

@@ -1,4 +1,4 @@
--- The laws of a database to which a script is done.
+-- The laws of a database on which a script works.
 use Rattle.std.proofs.Common.{◌≡◌, ℕ, List, [], ◌∷◌, ◌++◌, length, take, refl, sym, ap, ◌∙◌, inl, inr, arith}
 use Rattle.std.proofs.lemmas.Bool.{cases_lt, lt-ltb}
 use Rattle.std.proofs.lemmas.List.{length-take, take_all}
@@ -8,14 +8,14 @@ use Rattle.ioc_machine.specs.SeenMachine.{machine_of}
 use Rattle.ioc_script.specs.Script.{Command, cut, command_of}
 use Rattle.ioc_main.specs.Replay.{transcript, answered}
 
--- what is printed for these lines
+-- What is printed for these lines.
 abbrev pub printed : Replay → List (List ℕ) → List ℕ
 printed s lines = transcript record_rules s.names (machine_of s.machine) lines
 
 pub no-lines : (s : Replay) → printed s [] ≡ []
 no-lines s = refl
 
--- past 1,025 bytes a line's further bytes don't matter
+-- The bytes of a line past its 1,025th have no effect on its command.
 cut-command : (line : List ℕ) → command_of (cut line) ≡ command_of line
 unfolding command_of cut
 cut-command line =

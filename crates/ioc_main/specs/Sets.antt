@@ -1,4 +1,5 @@
--- The line `sets`: the connected parts of a database by their first records, each with the names of its records in braces.
+-- The line `sets`: the connected parts of a database by their first records, each with the names of
+-- its records in braces.
 use Rattle.std.specs.Prelude.{ℕ, ◌+◌, ◌==◌, if◌then◌else◌, List, [], ◌∷◌, ◌++◌, length, codes, slice_index}
 use Rattle.ioc_graph.specs.Parts.{all_below}
 use Rattle.ioc_graph.specs.Members.{members_from}
@@ -7,20 +8,20 @@ use Rattle.ioc_store.specs.World.{World, common_at}
 use Rattle.ioc_machine.specs.Sets.{parts_of}
 
 module _ {R : Type 0} (k : RecordRules R) (w : World R) where
-  -- the name of a record, as it was loaded
+  -- The name of a record.
   abbrev pub name_at : ℕ → List ℕ
   name_at n = (common_at k w n).name
 
-  -- names behind a first one, and the brace that closes
+  -- The names behind the first one, and the closing brace.
   abbrev pub other_names : List ℕ → List ℕ
   other_names [] = codes "}"
   other_names (n ∷ ns) = codes " " ++ name_at n ++ other_names ns
 
-  -- the names of a part, by its first record
+  -- The names of a part, by its first record.
   unfoldable pub part_words : List ℕ → ℕ → List ℕ
   part_words numbers p = codes " {" ++ name_at p ++ other_names (members_from numbers p (p + 1))
 
-  -- a record that is the first of its part begins it
+  -- The names of the part that begins with this record, if it is the first of its part.
   abbrev pub first_words : List ℕ → ℕ → List ℕ
   first_words numbers n = if slice_index numbers n == n then part_words numbers n else []
 

@@ -14,28 +14,28 @@ use Rattle.ioc_machine.specs.Machine.{first_machine}
 use Rattle.ioc_main.specs.Replay.{transcript}
 use Rattle.ioc_main.specs.Written.{WritesFront, WritesPart}
 
--- the database of a text by these macros, or its first fault
+-- The database of a text with these macros, or its first fault.
 abbrev pub loaded : List Defined → List ℕ → Result (Loading Record) DbFault
 loaded macros text = loaded_by record_rules new_record macros text
 
 abbrev pub transcript_on : Loading Record → List ℕ → List ℕ
 transcript_on database script = transcript record_rules database.names (first_machine record_rules database.records) (lines_of script)
 
--- nothing is printed where the database text is refused
+-- If the database text is refused, nothing is printed.
 abbrev pub transcript_by : Result (Loading Record) DbFault → List ℕ → List ℕ
 transcript_by (Ok database) script = transcript_on database script
 transcript_by (Err fault) script = []
 
--- the transcript of a database text, its macros and a script
+-- The transcript of a database text, its macros and a script.
 unfoldable pub transcript_of : List Defined → List ℕ → List ℕ → List ℕ
 transcript_of macros text script = transcript_by (loaded macros text) script
 
--- the text is that of a database
+-- Holds if the text is that of a database.
 abbrev pub IsDatabase : List Defined → List ℕ → Type 0
 IsDatabase macros text = (database : Loading Record) × (loaded macros text ≡ Ok database)
 
--- memory was wanting where the database was made, and nothing was written; or in a line: then the text is that of a database, and a
--- beginning of the transcript was written
+-- Allocation failed in the load, and nothing was written, or it failed in a line: then the text is
+-- that of a database, and a beginning of the transcript was written.
 pub data RunsOut : List Defined → List ℕ → Option (List ℕ) → Option (List ℕ) → Option (List ℕ) → Type 0 where
   in_the_load : {macros : List Defined} {text : List ℕ} {script old new : Option (List ℕ)}
       → Keeps old new
@@ -45,8 +45,8 @@ pub data RunsOut : List Defined → List ℕ → Option (List ℕ) → Option (L
       → IfSome script (λ given. WritesFront old (transcript_of macros text given) new)
       → RunsOut macros text script old new
 
--- a refused text is told by its first fault, and nothing is written; where the script stopped, a beginning of the transcript was
--- written, and after a failed write not all of it
+-- The first fault of a refused text is reported, and nothing is written. If the script stopped, a
+-- beginning of the transcript was written, and after a failed write not all of it.
 abbrev pub StopsWith : RunFault → List Defined → List ℕ → Option (List ℕ) → Option (List ℕ) → Option (List ℕ) → Type 0
 StopsWith (BadDb fault) macros text script old new = (loaded macros text ≡ Err fault) × Keeps old new
 StopsWith Memory macros text script old new = RunsOut macros text script old new

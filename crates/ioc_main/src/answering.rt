@@ -1,4 +1,4 @@
-//! How a line of a script is answered.
+//! Answers the lines of a script.
 ghost use Rattle.std.specs.Prelude.{◌≡◌, ◌≤◌, ◌+◌, ◌++◌, [], codes, length, IfOk, OnOk, OnErr};
 ghost use Rattle.ioc_types.specs.Record.{record_rules};
 ghost use Rattle.ioc_machine.specs.Machine.{with_none_ended};
@@ -16,7 +16,7 @@ use ioc_script::{Command, ended_line, split_before, words_of_put};
 use ioc_values::Finished;
 use std::alloc::AllocError;
 
-// Says that a line is none of a script.
+// Appends the reply to a line that isn't a valid command.
 fn say_bad(replies: &mut Replies)
     requires { length replies.old + 256 ≤ 4096 }
     ensures { replies.new ≡ replies.old ++ codes "bad\n" }
@@ -25,7 +25,8 @@ fn say_bad(replies: &mut Replies)
 }
 
 impl Replay {
-    // Does what a line asks for, and says it, where that fits among the replies: what is said of the sets is too long.
+    // Carries out a command and appends its reply, if it fits among the replies. The reply to
+    // `sets` is too long.
     #[tactic(auto, unfolding(crate::specs::Replay::carried_out))]
     fn reply_to(&mut self, command: &Command<'_>, replies: &mut Replies) -> Result<(), AllocError>
         requires room { length replies.old + 256 ≤ 4096 }
@@ -69,7 +70,7 @@ impl Replay {
         }
     }
 
-    // Does what a line asks for, and says it.
+    // Carries out a command and appends its reply.
     #[tactic(auto, unfolding(crate::specs::Replay::carried_out), using(crate::proofs::Getting::said_shortly, crate::proofs::Getting::stands_before, crate::proofs::Getting::stands_alone))]
     fn carry_out(&mut self, command: &Command<'_>, said: &mut Said) -> Result<(), AllocError>
         requires room { length said.old.replies + 256 ≤ 4096 }
@@ -85,7 +86,8 @@ impl Replay {
         }
     }
 
-    // Puts what the words behind `put` say: a command is as wide as the widest of all lines, and is made for none of these.
+    // Makes the put of the words behind `put`, without creating a command, which is as large as its
+    // largest variant.
     #[inline(always)]
     #[tactic(auto, unfolding(crate::specs::Replay::carried_out))]
     fn put_words(&mut self, words: &[u8], replies: &mut Replies) -> Result<(), AllocError>
@@ -107,8 +109,8 @@ impl Replay {
         }
     }
 
-    // Does what a line of whatever kind asks for, and answers whether it asks for nothing. This isn't inlined, so that nothing is cleared
-    // for other lines where one puts.
+    // Carries out a line of any kind, and returns whether nothing is printed for it. Not inlined,
+    // so that nothing is cleared for it if the line is a put.
     #[inline(never)]
     fn do_any(&mut self, line: &[u8], said: &mut Said) -> Result<bool, AllocError>
         requires room { length said.old.replies + 256 ≤ 4096 }
@@ -124,7 +126,8 @@ impl Replay {
         Ok(command.is_silent())
     }
 
-    // The same. A line that puts is told by its first bytes, since most lines with a value are these.
+    // Carries out a line, and returns whether nothing is printed for it. A put is recognized by its
+    // first bytes, because most lines with a value are puts.
     #[inline(always)]
     #[tactic(auto, using(crate::proofs::Telling::put_speaks, crate::proofs::Getting::said_shortly, crate::proofs::Getting::stands_before, crate::proofs::Getting::stands_alone))]
     fn do_line(&mut self, line: &[u8], said: &mut Said) -> Result<bool, AllocError>
@@ -145,8 +148,8 @@ impl Replay {
         }
     }
 
-    // Tells which puts with notification have ended, each in a line, and forgets them. This isn't inlined, since after most lines none
-    // has.
+    // Appends a line for each put with notification that has ended, and forgets them. Not inlined,
+    // because after most lines none has.
     #[inline(never)]
     fn tell_each_ended(&mut self, more: &mut Vec<u8>) -> Result<(), AllocError>
         ensures names { self.new.names ≡ self.old.names }
@@ -162,7 +165,7 @@ impl Replay {
         Ok(())
     }
 
-    // The same, where any have.
+    // Appends a line for each put with notification that has ended, if any has.
     fn tell_ended(&mut self, more: &mut Vec<u8>) -> Result<(), AllocError>
         ensures names { self.new.names ≡ self.old.names }
         ensures machine { OnOk result (machine_of self.new.machine ≡ with_none_ended (machine_of self.old.machine)) }
@@ -174,7 +177,8 @@ impl Replay {
         self.tell_each_ended(more)
     }
 
-    // Serves the requests that wait, and tells which puts with notification have ended.
+    // Serves the waiting requests, and appends a line for each put with notification that has
+    // ended.
     #[inline(always)]
     #[tactic(auto, unfolding(crate::specs::Replay::attended))]
     fn attend(&mut self, more: &mut Vec<u8>) -> Result<(), AllocError>
@@ -196,7 +200,8 @@ impl Session for Replay {
 
     ghost long_lines = { long-lines };
 
-    /// Answers a line, then serves the requests that wait, and tells which puts with notification have ended since.
+    /// Answers a line, then serves the waiting requests, and reports the puts with notification
+    /// that have ended since.
     #[tactic(auto, unfolding(crate::specs::Replay::answered))]
     fn answer(&mut self, line: &[u8], said: &mut Said) -> Result<(), AllocError> {
         let silent = self.do_line(line, said)?;

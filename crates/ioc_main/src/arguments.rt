@@ -1,4 +1,4 @@
-//! The words that the program was given.
+//! The arguments of the program.
 ghost use Rattle.std.specs.Prelude.{◌≡◌, []};
 ghost use Rattle.std.specs.Vec.Iter.{into_iter_items};
 ghost use Rattle.ioc_main.specs.Arguments.{asked, macro_of, macros_of, file_of, files_of, arguments_of, Found, MacroDefined, ArgumentsGiven};
@@ -11,7 +11,7 @@ use std::alloc::Global;
 use std::env::Args;
 use std::io;
 
-/// The files that the program works on, by their paths, and the macros that the database text may use.
+/// The paths of the files that the program works on, and the macros that the database text may use.
 #[derive(Drop)]
 pub struct Arguments {
     /// The database text.
@@ -21,7 +21,7 @@ pub struct Arguments {
     pub macros: Macros,
 }
 
-/// What a word asks for in place of a run.
+/// Returns the ending of the program if a word asks for help or for the version in place of a run.
 #[tactic(auto, unfolding(crate::specs::Arguments::asked))]
 fn asked(word: &[u8]) -> Option<RunFault>
     ensures { result ≡ asked word.now }
@@ -35,7 +35,7 @@ fn asked(word: &[u8]) -> Option<RunFault>
     None
 }
 
-/// The first of some words, which is the path of a file.
+/// Takes the first of some words, which is the path of a file.
 fn file(words: &mut Args) -> Result<String, RunFault>
     ensures { Found (λ f. (f, into_iter_items words.new)) result (file_of (into_iter_items words.old)) }
 {
@@ -48,7 +48,7 @@ fn file(words: &mut Args) -> Result<String, RunFault>
     }
 }
 
-/// Defines the macro that a word says.
+/// Defines the macro of a word.
 fn define(alloc: Global, word: &[u8], macros: &mut Macros) -> Result<(), RunFault>
     ensures { MacroDefined macros.old (macro_of word.now (asked word.now)) result macros.new }
 {
@@ -66,7 +66,7 @@ fn define(alloc: Global, word: &[u8], macros: &mut Macros) -> Result<(), RunFaul
     }
 }
 
-/// The macros that these words define.
+/// Returns the macros that these words define.
 fn macros_of(alloc: Global, words: Args) -> Result<Macros, RunFault>
     ensures { Found (λ m. m) result (macros_of [] (into_iter_items words)) }
 {
@@ -79,13 +79,14 @@ fn macros_of(alloc: Global, words: Args) -> Result<Macros, RunFault>
 }
 
 impl Arguments {
-    /// What the words say: the program's name, DB, SCRIPT, and definitions NAME=VALUE of macros, each cut at its first `=`.
+    /// Parses the words: the program's name, DB, SCRIPT, and definitions NAME=VALUE of macros, each
+    /// cut at its first `=`.
     ///
     /// # Errors
     ///
-    /// [`RunFault::Usage`] where these are not the words, or one of them is no UTF-8; [`RunFault::Help`] and
-    /// [`RunFault::Version`] where a word asks for these before another is wrong; and [`RunFault::Memory`] where a growth
-    /// was refused.
+    /// [`RunFault::Usage`] if the words aren't of this form, or one of them isn't UTF-8.
+    /// [`RunFault::Help`] or [`RunFault::Version`] if a word asks for it before another is wrong.
+    /// [`RunFault::Memory`] if allocation fails.
     pub fn from_words(alloc: Global, words: io::Result<Args>) -> Result<Self, RunFault>
         ensures { ArgumentsGiven words result }
     {

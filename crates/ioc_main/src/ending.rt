@@ -1,19 +1,19 @@
-//! How the program ends.
+//! The end of the program.
 ghost use Rattle.std.specs.Prelude.{◌≡◌};
 ghost use Rattle.ioc_main.specs.Faults.{whole_run, stream_of, ending_of, ending_text};
 
 use crate::fault::RunFault;
 use std::{fmt, io};
 
-/// A stream of the program.
+/// An output stream of the program.
 #[derive(Clone, Copy, Debug, PartialEq, Eq)]
 pub enum Stream {
     Output,
     Error,
 }
 
-/// How the program ends: with what exit status, and what it says of it where. Its text is printed as it stands, line feed
-/// included.
+/// How the program ends: its exit status, the stream that it writes to, and the fault that it
+/// reports. Its text is printed as it is, including the line feed.
 #[derive(Clone, Copy, Debug, PartialEq, Eq)]
 pub struct Ending {
     pub status: u8,
@@ -21,7 +21,7 @@ pub struct Ending {
     pub fault: Option<RunFault>,
 }
 
-/// Where a run tells why it stopped.
+/// Returns the stream on which a fault is reported.
 #[tactic(auto, unfolding(crate::specs::Faults::stream_of))]
 fn stream_of(fault: RunFault) -> Stream
     ensures { result ≡ stream_of fault }
@@ -33,7 +33,7 @@ fn stream_of(fault: RunFault) -> Stream
 }
 
 impl Ending {
-    /// How the program ends whose run came to this.
+    /// Returns the ending for the result of a run.
     #[tactic(auto, unfolding(crate::specs::Faults::ending_of))]
     pub fn of(ended: Result<(), RunFault>) -> Self
         ensures { result ≡ ending_of ended }
@@ -64,8 +64,8 @@ impl fmt::Display for Ending {
     }
 }
 
-/// What a run came to whose replies were then flushed: the replies before a fault are written all the same, and the fault
-/// is told that came first.
+/// Returns the result of a run whose replies were then flushed: replies before a fault are written
+/// all the same, and the first fault is reported.
 pub fn whole_run(ran: Result<(), RunFault>, flushed: io::Result<()>) -> Result<(), RunFault>
     ensures { result ≡ whole_run ran flushed }
 {

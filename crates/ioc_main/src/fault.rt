@@ -1,4 +1,4 @@
-//! Why a run stopped.
+//! The faults of a run.
 ghost use Rattle.std.specs.Prelude.{◌≡◌};
 ghost use Rattle.std.specs.IoError.{error_kind};
 ghost use Rattle.ioc_main.specs.Faults.{status_of, is_out_of_memory};
@@ -7,46 +7,46 @@ use ioc_values::{DbFault, IocError};
 use std::alloc::AllocError;
 use std::{fmt, io};
 
-/// Why a run stopped before the end of its script, or never began.
+/// The reason why a run stopped before the end of its script, or didn't begin.
 #[derive(Clone, Copy, Debug, PartialEq, Eq)]
 pub enum RunFault {
     /// The database text was refused.
     BadDb(DbFault),
-    /// The program was not given two files and macros.
+    /// The arguments weren't two files and macros.
     Usage,
-    /// The program was asked what it takes.
+    /// The program was asked for help.
     Help,
     /// The program was asked for its version.
     Version,
-    /// The database or the script could not be read.
+    /// The database or the script couldn't be read.
     Read,
-    /// A reply could not be written.
+    /// A reply couldn't be written.
     Write,
-    /// A growth was refused.
+    /// Allocation failed.
     Memory,
 }
 
-/// Why a script stopped before its end.
+/// The reason why a script stopped before its end.
 #[derive(Clone, Copy, Debug, PartialEq, Eq)]
 pub enum ScriptFault {
-    /// The script could not be read.
+    /// The script couldn't be read.
     Read,
-    /// A reply could not be written.
+    /// A reply couldn't be written.
     Write,
-    /// A growth was refused.
+    /// Allocation failed.
     Memory,
 }
 
-/// Why a line was not answered.
+/// The reason why a line wasn't answered.
 #[derive(Clone, Copy, Debug, PartialEq, Eq)]
 pub enum LineFault {
-    /// Its reply could not be written.
+    /// Its reply couldn't be written.
     Write,
-    /// A growth was refused.
+    /// Allocation failed.
     Memory,
 }
 
-/// The writer took no byte, or answered an error.
+/// The writer took no byte, or returned an error.
 #[derive(Clone, Copy, Debug, PartialEq, Eq)]
 pub struct WriteFault;
 
@@ -107,7 +107,8 @@ impl From<AllocError> for RunFault {
     }
 }
 
-/// What a load answers: a refused text, or else that memory was refused. It has no other answer, and no other is told apart.
+/// Converts the error of a load: a refused text, or that allocation failed. A load returns no other
+/// error, so no others are distinguished.
 impl From<IocError> for RunFault {
     ghost use Rattle.ioc_main.specs.Faults.{fault_of};
 
@@ -132,7 +133,7 @@ impl From<IocError> for RunFault {
     }
 }
 
-/// What opening or reading a file answers.
+/// Converts the error of opening or reading a file.
 impl From<io::Error> for RunFault {
     ghost use Rattle.ioc_main.specs.Faults.{read_fault_of};
 
@@ -147,7 +148,7 @@ impl From<io::Error> for RunFault {
     }
 }
 
-/// Whether a growth was refused: nothing else is told as want of memory.
+/// Returns whether allocation failed. No other error is reported as such.
 pub fn is_out_of_memory(error: &io::Error) -> bool
     ensures { result ≡ is_out_of_memory (error_kind error.now) }
 {
@@ -156,7 +157,8 @@ pub fn is_out_of_memory(error: &io::Error) -> bool
 
 #[tactic(auto, unfolding(crate::specs::Faults::status_of))]
 impl RunFault {
-    /// The exit status of the program, 0 to 4: 0 where it did what it was asked for.
+    /// Returns the exit status of the program, from 0 to 4. It is 0 if the program did what it was
+    /// asked for.
     pub fn status(self) -> u8
         ensures { result ≡ status_of self }
     {
@@ -190,7 +192,7 @@ impl fmt::Display for RunFault {
     }
 }
 
-// What the program takes.
+// The help text.
 const HELP: &str =
     "ioc-replay DB SCRIPT [NAME=VALUE]..\n\nLoads the database text DB, in which the macros NAME stand for VALUE, does the script SCRIPT to it, and prints a line for each reply.\n\n  --help     prints this\n  --version  prints the version";
 

@@ -17,11 +17,12 @@ use ioc_store::Store;
 use ioc_values::IocError;
 use std::alloc::AllocError;
 
-/// The field of this name of the record of this name.
+/// Finds the field with this name of the record with this name.
 ///
 /// # Errors
 ///
-/// [`IocError::NoRecord`] or [`IocError::NoField`] in this order, where there is no such record or field.
+/// [`IocError::NoRecord`] or [`IocError::NoField`], in this order, if there is no such record or
+/// field.
 #[inline(always)]
 #[tactic(auto, unfolding(crate::specs::Replay::channel))]
 pub fn channel(
@@ -47,12 +48,12 @@ pub fn channel(
     }
 }
 
-/// Gives a field of a record the link of this text: the reply is a refusal where the field is none for links, DISP forbids it, or the
-/// text says no link.
+/// Changes a link field of a record to the link of this text. The reply is a refusal if the field
+/// is no link, DISP forbids the change, or the text isn't a valid link.
 ///
 /// # Errors
 ///
-/// [`AllocError`] where memory is wanting.
+/// [`AllocError`] if allocation fails.
 pub fn relink(
     names: &Names,
     machine: &mut Machine,

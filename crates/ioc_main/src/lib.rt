@@ -1,4 +1,4 @@
-//! A run: a database text, and a script of requests that are answered line by line.
+//! Runs of a database text and a script of requests, which are answered line by line.
 #![tactic(auto)]
 
 mod answering;

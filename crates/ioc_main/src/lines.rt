@@ -1,4 +1,4 @@
-//! The lines of a script, from any reader, each answered as it ends.
+//! Reads the lines of a script from any reader, and answers each as it ends.
 ghost use Rattle.std.specs.Prelude.{◌≡◌, ◌≤◌, ◌+◌, ◌∷◌, ◌++◌, [], List, ℕ, length, OnOk, OnErr, IfSome, IfErr};
 ghost use Rattle.std.specs.Io.KnownBytes.{Appends};
 ghost use Rattle.ioc_script.specs.Script.{lines_of, cut};
@@ -13,10 +13,10 @@ use ioc_values::Room;
 use std::alloc::Global;
 use std::io::{Read, Write};
 
-// What came of the line that is under way: enough of it to see that it is too long.
+// The beginning of the current line, long enough to recognize that the line is too long.
 type Line = Room<1025>;
 
-// Writes what was said. This isn't inlined, since after most lines nothing is written.
+// Writes the pending replies. Not inlined, because after most lines nothing is written.
 #[inline(never)]
 fn write_said<W: Write>(said: &mut Said, out: &mut W) -> Result<(), WriteFault>
     ensures ok { OnOk result (Appends (W.contents out.old) (W.contents out.new) (said.old.replies ++ said.old.more.items)) }
@@ -30,7 +30,7 @@ fn write_said<W: Write>(said: &mut Said, out: &mut W) -> Result<(), WriteFault>
     Ok(())
 }
 
-// Writes what was said, where there is no room for the reply of another line.
+// Writes the pending replies if there is no room for the reply to another line.
 fn make_room<W: Write>(said: &mut Said, out: &mut W) -> Result<(), WriteFault>
     ensures ok { OnOk result (Writes (W.contents out.old) (said.old.replies ++ said.old.more.items) (W.contents out.new) said.new.replies) }
     ensures room { OnOk result (length said.new.replies + 256 ≤ 4096) }
@@ -43,7 +43,8 @@ fn make_room<W: Write>(said: &mut Said, out: &mut W) -> Result<(), WriteFault>
     write_said(said, out)
 }
 
-// Answers a line behind what was said before. Where it isn't answered, what was said before is written, and nothing of the line.
+// Answers a line, behind the pending replies. If it can't be answered, the pending replies are
+// written, and nothing of the line.
 fn say<S: Session, W: Write>(
     session: &mut S,
     said: &mut Said,
@@ -70,7 +71,7 @@ fn say<S: Session, W: Write>(
     }
 }
 
-// Answers the line that ends with this, and begins another.
+// Answers the line that ends with `last`, and begins another.
 fn end_line<S: Session, W: Write>(
     session: &mut S,
     line: &mut Line,
@@ -121,7 +122,7 @@ fn feed<S: Session, W: Write>(
     Ok(())
 }
 
-// A last line that no line feed ends counts.
+// Answers a last line without a line feed, if there is one.
 fn answer_rest<S: Session, W: Write>(
     session: &mut S,
     line: &mut Line,
@@ -141,7 +142,7 @@ fn answer_rest<S: Session, W: Write>(
     }
 }
 
-// Answers what is left of a script at its end, and writes all that was said.
+// Answers what is left of a script at its end, and writes the pending replies.
 fn finish<S: Session, W: Write>(
     session: &mut S,
     line: &mut Line,
@@ -158,7 +159,7 @@ fn finish<S: Session, W: Write>(
     Ok(())
 }
 
-// A read failed: what was said before is written.
+// Writes the pending replies after a failed read, and returns the fault.
 fn stop<W: Write>(said: &mut Said, out: &mut W) -> ScriptFault
     requires { said.old.more.items ≡ [] }
     ensures { (text : List ℕ) → StopsScript result (W.contents out.old) (said.old.replies ++ text) (W.contents out.new) }
@@ -173,8 +174,9 @@ fn stop<W: Write>(said: &mut Said, out: &mut W) -> ScriptFault
 ///
 /// # Errors
 ///
-/// [`ScriptFault::Read`] where a read failed, [`ScriptFault::Write`] where a write did, [`ScriptFault::Memory`] where a growth was
-/// refused. Then what was written is a beginning of the transcript (after a failed write not all of it), and nothing more is written.
+/// [`ScriptFault::Read`] if a read fails, [`ScriptFault::Write`] if a write fails, and
+/// [`ScriptFault::Memory`] if allocation fails. Then a beginning of the transcript was written
+/// (after a failed write not all of it), and nothing more is written.
 pub fn run_script<S: Session, R: Read + Drop, W: Write>(
     alloc: Global,
     session: &mut S,

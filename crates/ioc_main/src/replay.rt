@@ -1,4 +1,4 @@
-//! A loaded database, to which a script is done.
+//! A loaded database and the operations of scripts on it.
 ghost use Rattle.std.specs.Prelude.{◌≡◌, ◌≤◌, ◌+◌, ◌∷◌, ◌++◌, [], length, take, codes, IfOk, OnOk, OnErr};
 ghost use Rattle.ioc_names.specs.NameTable.{number_of};
 ghost use Rattle.ioc_types.specs.Record.{record_rules};
@@ -30,7 +30,7 @@ use ioc_types::Record;
 use ioc_values::{Finished, Input, IocError, Text, Value};
 use std::alloc::{AllocError, Global};
 
-/// A loaded database, to which a script is done.
+/// A loaded database on which a script works.
 #[derive(Drop)]
 pub struct Replay {
     pub(crate) names: Names,
@@ -38,14 +38,14 @@ pub struct Replay {
     pub(crate) alloc: Global,
 }
 
-// The value that a text gives: its first 39 bytes.
+// Returns the value of a text, which is its first 39 bytes.
 fn given_value(text: &[u8]) -> Value
     ensures { result ≡ given_value text.now }
 {
     Value::Text(Text::cut(text))
 }
 
-// Says the text of a field in a line behind others.
+// Appends the line with the text of a field.
 fn say_shown(replies: &mut Replies, item: &Record, field: FieldNo)
     requires { length replies.old + 256 ≤ 4096 }
     ensures { replies.new ≡ replies.old ++ (codes "= " ++ text_of record_rules item.now field) ++ 10 ∷ [] }
@@ -56,12 +56,13 @@ fn say_shown(replies: &mut Replies, item: &Record, field: FieldNo)
 }
 
 impl Replay {
-    /// A database of these names and records. All room that events want is taken here: of the lines of a script, those that
-    /// queue an answer, walk a scan list or put a record on another want memory.
+    /// Creates a database of these names and records. All memory that events need is reserved here;
+    /// of the lines of a script, only those that queue an answer, walk a scan list or move a record
+    /// to another allocate.
     ///
     /// # Errors
     ///
-    /// [`AllocError`] where memory is wanting.
+    /// [`AllocError`] if allocation fails.
     pub fn new(alloc: Global, names: Names, records: Vec<Record>) -> Result<Self, AllocError>
         requires { IsSettled record_rules (first_world records.items) }
         ensures names { IfOk result (λ r. r.names ≡ names) }
@@ -75,8 +76,8 @@ impl Replay {
         })
     }
 
-    // What follows says its reply where it is wanted. None of it is inlined, so that what one command has in hand isn't cleared
-    // for the others.
+    // Each of the following functions appends its reply. None is inlined, so that the locals of one
+    // command aren't cleared for the others.
     #[inline(never)]
     pub(crate) fn process(&mut self, name: &[u8], replies: &mut Replies) -> Result<(), AllocError>
         requires { length replies.old + 256 ≤ 4096 }
@@ -93,7 +94,8 @@ impl Replay {
         Ok(())
     }
 
-    // The text of the field is written where the reply is. No event is wanted, since a get changes nothing.
+    // Appends the text of the field directly to the replies. There is no event, because a get
+    // changes nothing.
     #[inline(never)]
     #[tactic(auto, using(crate::proofs::Getting::shown_there))]
     pub(crate) fn get(&self, record_name: &[u8], field_name: &[u8], replies: &mut Replies)
@@ -338,7 +340,7 @@ impl Replay {
         Ok(())
     }
 
-    // The whole of the reply is too long for a line of its own kind.
+    // The reply may be too long for the lines of other replies.
     #[inline(never)]
     pub(crate) fn sets(&self, more: &mut Vec<u8>) -> Result<(), AllocError>
         requires { more.old.items ≡ [] }

@@ -13,8 +13,8 @@ use ioc_dbfile::{Database, Macros, load};
 use std::alloc::Global;
 use std::io::{Read, Write};
 
-// Answers a script until its end, and lets go of who answered it. It is for whatever session: to let go of a database part by part takes
-// long to prove.
+// Answers a script until its end, and drops the session. It is generic because dropping a database
+// part by part is slow to prove.
 fn run_whole<S: Session + Drop, R: Read + Drop, W: Write>(
     alloc: Global,
     mut session: S,
@@ -27,15 +27,16 @@ fn run_whole<S: Session + Drop, R: Read + Drop, W: Write>(
     run_script(alloc, &mut session, script, out)
 }
 
-/// Loads a database text by the macros that it may use, and answers a script until its end: each line is answered as it is read, and no line is kept
-/// past its 1,025th byte.
+/// Loads a database text with the macros that it may use, and answers a script until its end. Each
+/// line is answered as it is read, and no more than 1,025 bytes of a line are kept.
 ///
 /// # Errors
 ///
 /// [`RunFault::BadDb`] with the first fault of the database text; nothing is written then.
-/// [`RunFault::Memory`] where a growth was refused: in the load, and then nothing was written, or in a line of the script.
-/// [`RunFault::Read`] where a read of the script failed and [`RunFault::Write`] where a write did, be it that the writer took no
-/// byte. Where the script stopped, what was written is a beginning of the transcript, and nothing more is written.
+/// [`RunFault::Memory`] if allocation fails: in the load, in which case nothing was written, or in
+/// a line of the script. [`RunFault::Read`] if a read of the script fails. [`RunFault::Write`] if a
+/// write fails, or the writer takes no byte. If the script stopped, a beginning of the transcript
+/// was written, and nothing more is written.
 pub fn run<R: Read + Drop, W: Write>(
     alloc: Global,
     db: &[u8],
@@ -43,7 +44,7 @@ pub fn run<R: Read + Drop, W: Write>(
     script: R,
     out: &mut W,
 ) -> Result<(), RunFault>
-    // What is written is the transcript of the database text with its macros and of what the script held.
+    // The transcript of the database text with its macros and of the script's contents is written.
     ensures ok { OnOk result (IsDatabase macros.now db.now × IfSome (R.remaining script) (λ text. Appends (W.contents out.old) (W.contents out.new) (transcript_of macros.now db.now text))) }
     ensures err { IfErr result (λ fault. StopsWith fault macros.now db.now (R.remaining script) (W.contents out.old) (W.contents out.new)) }
 {

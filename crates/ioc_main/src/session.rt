@@ -1,4 +1,4 @@
-//! Who answers the lines of a script.
+//! Sessions, which answer the lines of a script.
 ghost use Rattle.std.specs.Prelude.{◌≡◌, ◌↔◌, ◌≤◌, ◌+◌, ◌∷◌, ◌++◌, [], IsTrue, List, ℕ, length, OnOk, OnErr};
 ghost use Rattle.ioc_script.specs.Script.{cut};
 ghost use Rattle.ioc_main.specs.Coming.{still, Stands};
@@ -6,10 +6,11 @@ ghost use Rattle.ioc_main.specs.Coming.{still, Stands};
 use ioc_values::Room;
 use std::alloc::{AllocError, Global};
 
-/// The lines of replies, as many as are written at once.
+/// The lines of replies that are written at once.
 pub type Replies = Room<4096>;
 
-/// What was said and isn't written yet: the lines of replies, and what comes behind the last of them.
+/// The pending replies, which aren't written yet: the lines of replies, and what follows the last
+/// of them.
 #[derive(Drop)]
 pub struct Said {
     pub replies: Replies,
@@ -17,7 +18,7 @@ pub struct Said {
 }
 
 impl Said {
-    /// Nothing yet.
+    /// No pending replies.
     pub fn new(alloc: Global) -> Self
         ensures replies { result.replies ≡ [] }
         ensures more { result.more.items ≡ [] }
@@ -28,7 +29,7 @@ impl Said {
         }
     }
 
-    /// What was said before is gone.
+    /// Removes all pending replies.
     pub fn clear(&mut self)
         ensures replies { self.new.replies ≡ [] }
         ensures more { self.new.more.items ≡ [] }
@@ -37,7 +38,8 @@ impl Said {
         self.more.clear();
     }
 
-    /// Is there room for the reply of another line, which comes behind the others? A line of 256 bytes is the longest.
+    /// Returns whether there is room for the reply to another line, behind the others. It has at
+    /// most 256 bytes.
     pub fn has_room(&self) -> bool
         ensures { IsTrue result ↔ ((length self.now.replies + 256 ≤ 4096) × (self.now.more.items ≡ [])) }
     {
@@ -45,16 +47,18 @@ impl Said {
     }
 }
 
-/// Who answers the lines of a script, one after the other.
+/// Answers the lines of a script, one after another.
 pub trait Session {
     /// What is printed for these lines.
     ghost transcript: { Self → List (List ℕ) → List ℕ };
 
-    /// Answers a line, which comes without its line feed, behind what was said before.
+    /// Answers a line, which comes without its line feed. The reply is appended to the pending
+    /// replies.
     ///
     /// # Errors
     ///
-    /// [`AllocError`] where a growth was refused: what was said before is still to be written, and nothing more may be asked.
+    /// [`AllocError`] if allocation fails. The replies that were pending before are still to be
+    /// written, and the session must not be used any more.
     fn answer(&mut self, line: &[u8], said: &mut Said) -> Result<(), AllocError>
         requires room { length said.old.replies + 256 ≤ 4096 }
         requires none { said.old.more.items ≡ [] }
@@ -63,6 +67,6 @@ pub trait Session {
 
     ghost no_lines: { (s : Self) → transcript s [] ≡ [] };
 
-    /// What a line holds past its 1,025th byte plays no part.
+    /// The bytes of a line past its 1,025th have no effect.
     ghost long_lines: { (s : Self) (a b : List ℕ) (lines : List (List ℕ)) → cut a ≡ cut b → transcript s (a ∷ lines) ≡ transcript s (b ∷ lines) };
 }

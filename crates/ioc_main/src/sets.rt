@@ -1,4 +1,4 @@
-//! The line `sets`.
+//! The reply to the line `sets`.
 ghost use Rattle.std.specs.Prelude.{◌≡◌, ◌<◌, ◌+◌, ◌-◌, ◌++◌, ◌∷◌, [], codes, length, slice_index, OnOk};
 ghost use Rattle.ioc_types.specs.Record.{record_rules};
 ghost use Rattle.ioc_store.specs.OneMap.{world_of};
@@ -15,7 +15,7 @@ use ioc_store::{OneMap, Store};
 use ioc_types::Record;
 use std::alloc::{AllocError, Global};
 
-// Adds the name of a record, behind a text.
+// Appends a text and the name of a record.
 fn add_name(
     line: &mut Vec<u8>,
     before: &[u8],
@@ -30,7 +30,7 @@ fn add_name(
     line.extend_from_slice(record.common().name.as_slice())
 }
 
-// Adds the names of a part, by its first record and by the record that follows on each.
+// Appends the names of a part, from its first record on. `next` has the record that follows each.
 fn add_part(
     line: &mut Vec<u8>,
     map: &OneMap<Record, Scripted>,
@@ -54,7 +54,7 @@ fn add_part(
     Ok(())
 }
 
-// Adds the names of the part that begins with a record, if one does.
+// Appends the names of the part that begins with a record, if one does.
 fn add_part_of(
     line: &mut Vec<u8>,
     map: &OneMap<Record, Scripted>,
@@ -73,7 +73,7 @@ fn add_part_of(
     add_part(line, map, numbers, next, number)
 }
 
-// Adds the parts, each by its first record.
+// Appends the parts, in the order of their first records.
 fn add_parts(
     line: &mut Vec<u8>,
     map: &OneMap<Record, Scripted>,
@@ -92,12 +92,12 @@ fn add_parts(
     Ok(())
 }
 
-/// Says the connected parts of a database, line feed included. Cost: near the number of its records and links, and of the bytes that
-/// are said.
+/// Appends the line of the connected parts of a database, including the line feed. Takes time close
+/// to the number of records and links, and of the bytes of the line.
 ///
 /// # Errors
 ///
-/// [`AllocError`] where memory is wanting.
+/// [`AllocError`] if allocation fails.
 #[tactic(auto, unfolding(crate::specs::Sets::sets_line))]
 pub fn say_sets(alloc: Global, machine: &Machine, line: &mut Vec<u8>) -> Result<(), AllocError>
     requires { line.old.items ≡ [] }

@@ -1,4 +1,4 @@
-//! Writing a text whole.
+//! Writes whole texts.
 ghost use Rattle.std.specs.Prelude.{OnOk, OnErr};
 ghost use Rattle.std.specs.Io.KnownBytes.{Appends};
 ghost use Rattle.ioc_main.specs.Written.{WritesPart};
@@ -6,12 +6,12 @@ ghost use Rattle.ioc_main.specs.Written.{WritesPart};
 use crate::fault::WriteFault;
 use std::io::Write;
 
-/// Writes all of a text, however little the writer takes a call. A writer that takes no byte, or answers an error, has
-/// failed.
+/// Writes all of a text, however few bytes the writer takes per call. A writer that takes no byte,
+/// or returns an error, has failed.
 ///
 /// # Errors
 ///
-/// [`WriteFault`] where the writer has failed before it took all.
+/// [`WriteFault`] if the writer fails before it has taken all.
 pub fn write_text<W: Write>(out: &mut W, text: &[u8]) -> Result<(), WriteFault>
     ensures ok { OnOk result (Appends (W.contents out.old) (W.contents out.new) text.now) }
     ensures err { OnErr result (WritesPart (W.contents out.old) text.now (W.contents out.new)) }

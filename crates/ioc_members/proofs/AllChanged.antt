@@ -1,4 +1,4 @@
--- All records of a set changed in their places.
+-- All records of a set are changed in place.
 use Rattle.std.proofs.Common.{◌≡◌, ℕ, zero, suc, ◌+◌, ◌<◌, ◌≤◌, List, [], ◌∷◌, ◌++◌, Option, Some, Bool, true, false, length, map, take, drop, set, get_or, cond, refl, sym, ap, ◌∙◌, append-nil, arith}
 use Rattle.std.specs.Prelude.{◌==◌}
 use Rattle.std.specs.Ordering.{nat_cmp}
@@ -20,7 +20,7 @@ use Rattle.ioc_members.proofs.Seen.{device_in, get_device}
 use Rattle.ioc_members.proofs.Ordered.{entries_are}
 
 module _ {A : Type 0} (f : A → A) where
-  -- one item more is changed in its place
+  -- One more item is changed in place.
   pub map_more : (xs : List A) (i : ℕ) (d : A) → i < length xs → set (map f (take i xs) ++ drop i xs) i (f (get_or xs i d)) ≡ map f (take (i + 1) xs) ++ drop (i + 1) xs
   map_more [] i d lt = absurd (omega arith)
   map_more (x ∷ xs) zero d lt = refl
@@ -29,7 +29,7 @@ module _ {A : Type 0} (f : A → A) where
       let below : i < length xs = omega arith in
       rw e (ap (λ ys. f x ∷ ys) (map_more xs i d below))
 
-  -- the item at the first place that isn't changed yet
+  -- The first item that isn't changed yet is unchanged.
   pub get_more : (xs : List A) (i : ℕ) (d : A) → i < length xs → get_or (map f (take i xs) ++ drop i xs) i d ≡ get_or xs i d
   get_more [] i d lt = absurd (omega arith)
   get_more (x ∷ xs) zero d lt = refl
@@ -38,7 +38,7 @@ module _ {A : Type 0} (f : A → A) where
   pub all_mapped : (xs : List A) (i : ℕ) → length xs ≤ i → map f (take i xs) ++ drop i xs ≡ map f xs
   all_mapped xs i past = rw (take_all i xs past, drop_all i xs past) (append-nil (map f xs))
 
--- a map is that of its own entries
+-- A map is the map of its own entries.
 sorted_again : {R : Type 0} (m : Records R) → m ≡ from_sorted (entries m)
 sorted_again m = same_entries_map m (from_sorted (entries m)) (sym (entries-from_sorted nat_cmp (entries m) (entries_sorted m)))
 
@@ -90,7 +90,7 @@ module _ {R D : Type 0} (f : R → R) where
   none_unmarked [] = refl
   none_unmarked (s ∷ ss) = omega (arith, sum_by-cons one_if_unmarked (slot_changed f s) (changed ss), none_unmarked ss)
 
-  -- all are marked, and all places are listed
+  -- All slots are marked, and all places are listed.
   pub changed_tracked : (ss : List (Slot R D)) → AreTracked (changed ss) (range_with_len 0 (length ss))
   changed_tracked ss =
       let n = length ss in
@@ -103,7 +103,7 @@ module _ {R D : Type 0} (f : R → R) where
         few = omega (arith, none_unmarked ss, places, len);
       }
 
-  -- what the code writes over the whole list
+  -- Writing over the whole list changes all slots.
   pub whole_list : (ss us new : List (Slot R D)) (n : ℕ) → us ≡ ss → new ≡ map (slot_changed f) us → n ≡ length ss → take n (new ++ drop (length new) ss) ≡ changed ss
   whole_list ss us new n same is len =
       let all : length new ≡ length ss = ap length is ∙ length-map us (slot_changed f) ∙ ap length same in
@@ -112,7 +112,7 @@ module _ {R D : Type 0} (f : R → R) where
   abbrev with_fields : Slot R D → R → Slot R D
   with_fields s r = record { number = s.number; fields = r; base = s.base; is_changed = true; device = s.device }
 
-  -- one slot more is changed in its place
+  -- One more slot is changed in place.
   pub one_changed : (all slots : List (Slot R D)) (i : ℕ) (x : Slot R D) (r : R) → i < length all → slots ≡ map (slot_changed f) (take i all) ++ drop i all → x ≡ get_or slots i x → r ≡ f (get_or slots i x).fields
       → set slots i (with_fields (get_or slots i x) r) ≡ map (slot_changed f) (take (i + 1) all) ++ drop (i + 1) all
   one_changed all slots i x r l was at is =

@@ -10,7 +10,7 @@ use Rattle.ioc_members.proofs.Slotted.{number_at, below_at, length-numbers, plac
 use Rattle.ioc_members.proofs.Seen.{record_in, get_record, record_there}
 use Rattle.ioc_members.proofs.Moves.{not_some}
 
--- one place more
+-- A property of the first `n` places and of the next holds of one more place.
 pub one_more : (P : ℕ → Type 0) (n : ℕ) → ((i : ℕ) → i < n → P i) → P n → (i : ℕ) → i < n + 1 → P i
 one_more P n before here i l = ⊎_elim (λ (e : i ≡ n). subst P (sym e) here) (λ a. before i (omega arith)) (cases_eq i n)
 
@@ -27,7 +27,7 @@ module _ {R D : Type 0} where
       let e : length (s ∷ t ∷ ss) - 1 ≡ suc (length (t ∷ ss) - 1) = omega arith in
       subst (λ j. slice_index (numbers_of (t ∷ ss)) i ≤ slice_index (numbers_of (s ∷ t ∷ ss)) j) (sym e) (last_at (t ∷ ss) i up.1 (omega arith))
 
-  -- all records are below a number where the last is
+  -- All records are below a number if the last one is.
   pub all_below : (ss : List (Slot R D)) (s : Slot R D) (n : ℕ) → AreAscending ss → 0 < length ss → s ≡ get_or ss (length ss - 1) s → s.number < n → (q : ℕ) → IsSome (get (records_of ss) q) → q < n
   all_below ss s n up l at low q has =
       ⊎_elim
@@ -46,7 +46,7 @@ module _ {R D : Type 0} where
   none_above [] n e q has = absurd (not_some _ (get_record {R = R} {D = D} [] q) has)
   none_above (s ∷ ss) n e q has = absurd (omega arith)
 
-  -- no record of the one is in the other where no slot of the one is
+  -- No record of one set is in the other if no slot is.
   pub apart_by : (ss ts : List (Slot R D)) → ((i : ℕ) → i < length ss → get (records_of ts) (slice_index (numbers_of ss) i) ≡ None) → (q : ℕ) → IsSome (get (records_of ss) q) → get (records_of ts) q ≡ None
   apart_by ss ts apart q has =
       ⊎_elim
@@ -54,7 +54,7 @@ module _ {R D : Type 0} where
       (λ none. absurd (not_some (get (records_of ss) q) (get_record ss q ∙ ap record_in none) has))
       (place_cases q ss)
 
-  -- a slot of both is a record of both
+  -- A slot of both sets is a record of both.
   pub in_both : (ss ts : List (Slot R D)) (i j : ℕ) (s : Slot R D) → AreAscending ss → AreAscending ts → i < length ss → j < length ts → s ≡ get_or ss i s → slice_index (numbers_of ts) j ≡ s.number
       → ((q : ℕ) → IsSome (get (records_of ss) q) → get (records_of ts) q ≡ None) → ⊥
   in_both ss ts i j s a b li lj at is apart =

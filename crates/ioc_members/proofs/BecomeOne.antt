@@ -6,7 +6,8 @@ use Rattle.ioc_graph.proofs.PathLaws.{stays, steps, follows, back, carries}
 use Rattle.ioc_members.specs.Joined.{Links, Names, Joined, IsClosed, IsOnePart, IsPart, AreShared}
 use Rattle.ioc_members.proofs.Moves.{names_by, names_some, not_some}
 
--- the records of f are those of g and those of h; g has all links of old, and one more, from n to t
+-- The records of `f` are those of `g` and those of `h`; `g` has all links of `old`, and one more,
+-- from `n` to `t`.
 module _ (old f g h : Links) (n t : ℕ) (shared : AreShared f g h) (same_has : (q : ℕ) → IsSome (g q) → IsSome (old q)) (has_same : (q : ℕ) → IsSome (old q) → IsSome (g q))
     (kept : (a b : ℕ) → Names old a b → Names g a b) (from_old : (a b : ℕ) → Names g a b → Names old a b ⊎ (b ≡ t)) (new : Names g n t) (t_in : IsSome (h t)) (n_in : IsSome (old n)) where
   abbrev C : ℕ → ℕ → Type 0

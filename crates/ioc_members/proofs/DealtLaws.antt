@@ -1,4 +1,4 @@
--- Slots dealt out by the numbers of their parts: each goes to one side.
+-- When slots are divided by the numbers of their parts, each goes to one side.
 use Rattle.std.proofs.Common.{◌≡◌, ◌≢◌, ℕ, zero, suc, ◌+◌, ◌<◌, ◌≤◌, List, [], ◌∷◌, ◌++◌, None, Bool, true, false, cond, length, drop, get_or, refl, sym, ap, ◌∙◌, ⊎_elim, append_assoc, arith, drop-cons, add-one}
 use Rattle.std.specs.Prelude.{slice_index, not, filter}
 use Rattle.std.proofs.lemmas.Bool.{cases_eq}
@@ -35,7 +35,7 @@ module _ {R D : Type 0} where
     later_dealt true q s ds apart = slot_later q s ds apart
     later_dealt false q s ds apart = refl
 
-    -- a side has a slot just where the slot's number passes
+    -- A side has a slot if and only if the number of the slot passes.
     pub found_dealt : (ns : List ℕ) (ss : List (Slot R D)) (i : ℕ) → AreAscending ss → length ns ≡ length ss → i < length ss
         → slot_at (dealt p ns ss) (slice_index (numbers_of ss) i) ≡ cond (p (slice_index ns i)) (slot_at ss (slice_index (numbers_of ss) i)) None
     found_dealt ns [] i up e l = absurd (omega arith)
@@ -48,7 +48,7 @@ module _ {R D : Type 0} where
         later_dealt (p n) q s (dealt p ns ss) apart ∙ found_dealt ns ss i up.1 (omega arith) (omega arith)
         ∙ ap (λ o. cond (p (slice_index ns i)) o None) (sym (slot_later q s ss apart))
 
-    -- and none that there was not
+    -- A side has no slot that wasn't there.
     pub none_dealt : (ns : List ℕ) (ss : List (Slot R D)) (q : ℕ) → slot_at ss q ≡ None → slot_at (dealt p ns ss) q ≡ None
     none_dealt [] ss q e = refl
     none_dealt (n ∷ ns) [] q e = refl
@@ -58,7 +58,7 @@ module _ {R D : Type 0} where
         (λ a. later_dealt (p n) q s (dealt p ns ss) a ∙ none_dealt ns ss q (sym (slot_later q s ss a) ∙ e))
         (cases_eq q s.number)
 
-    -- one slot more goes to its side
+    -- One more slot goes to its side.
     dealt_more : (out all : List (Slot R D)) (ns : List ℕ) (i : ℕ) (left after : List (Slot R D)) (s : Slot R D) → i < length ns → left ≡ s ∷ after → out ++ dealt p (drop i ns) left ≡ all
         → out ++ cond (p (get_or ns i 0)) (s ∷ dealt p (drop (i + 1) ns) after) (dealt p (drop (i + 1) ns) after) ≡ all
     dealt_more out all ns i left after s l is was =
@@ -66,21 +66,21 @@ module _ {R D : Type 0} where
         let at : drop i ns ≡ n ∷ drop (i + 1) ns = rw (add-one) (drop-cons ns i 0 l) in
         sym (ap (λ z. out ++ dealt p z (s ∷ after)) at) ∙ sym (ap (λ z. out ++ dealt p (drop i ns) z) is) ∙ was
 
-    -- a slot whose number passes goes to the side's end
+    -- A slot whose number passes goes to the end of the side.
     pub dealt_in : (out all outs : List (Slot R D)) (ns : List ℕ) (i : ℕ) (left after : List (Slot R D)) (s : Slot R D) → i < length ns → left ≡ s ∷ after → out ++ dealt p (drop i ns) left ≡ all
         → p (get_or ns i 0) ≡ true → outs ≡ out ++ s ∷ [] → outs ++ dealt p (drop (i + 1) ns) after ≡ all
     dealt_in out all outs ns i left after s l is was passes out_is =
         let ds = dealt p (drop (i + 1) ns) after in
         ap (λ z. z ++ ds) out_is ∙ append_assoc out (s ∷ []) ds ∙ sym (ap (λ b. out ++ cond b (s ∷ ds) ds) passes) ∙ dealt_more out all ns i left after s l is was
 
-    -- any other slot leaves the side as it is
+    -- Any other slot leaves the side unchanged.
     pub dealt_by : (out all outs : List (Slot R D)) (ns : List ℕ) (i : ℕ) (left after : List (Slot R D)) (s : Slot R D) → i < length ns → left ≡ s ∷ after → out ++ dealt p (drop i ns) left ≡ all
         → p (get_or ns i 0) ≡ false → outs ≡ out → outs ++ dealt p (drop (i + 1) ns) after ≡ all
     dealt_by out all outs ns i left after s l is was fails out_is =
         let ds = dealt p (drop (i + 1) ns) after in
         ap (λ z. z ++ ds) out_is ∙ sym (ap (λ b. out ++ cond b (s ∷ ds) ds) fails) ∙ dealt_more out all ns i left after s l is was
 
--- how many numbers pass
+-- The number of numbers that pass.
 module _ (p : ℕ → Bool) where
   le_more : (b : Bool) (n : ℕ) (ns fs : List ℕ) → length fs ≤ length ns → length (cond b (n ∷ fs) fs) ≤ length (n ∷ ns)
   le_more true n ns fs l = omega arith
@@ -98,12 +98,12 @@ module _ (p : ℕ → Bool) where
   count_both [] = omega arith
   count_both (n ∷ ns) = both_more (p n) n ns (filter p ns) (filter (λ n. not (p n)) ns) (count_both ns)
 
-  -- where all pass, the first does, and so do the others
+  -- If all pass, the first does, and so do the others.
   first_passes : (b : Bool) (n : ℕ) (ns : List ℕ) → length (cond b (n ∷ filter p ns) (filter p ns)) ≡ length (n ∷ ns) → (b ≡ true) × (length (filter p ns) ≡ length ns)
   first_passes true n ns e = (refl, omega arith)
   first_passes false n ns e = absurd (let l = count_le ns in omega arith)
 
-  -- what is left to count, with one more and with one that doesn't pass
+  -- The remaining count with one more that passes, and with one that doesn't.
   pub count_in : (ns : List ℕ) (i : ℕ) → i < length ns → p (get_or ns i 0) ≡ true → length (filter p (drop i ns)) ≡ length (filter p (drop (i + 1) ns)) + 1
   count_in ns i l passes =
       let n = get_or ns i 0 in
@@ -116,7 +116,7 @@ module _ (p : ℕ → Bool) where
       let at : drop i ns ≡ n ∷ drop (i + 1) ns = rw (add-one) (drop-cons ns i 0 l) in
       ap (λ z. length (filter p z)) at ∙ ap (λ b. length (cond b (n ∷ filter p (drop (i + 1) ns)) (filter p (drop (i + 1) ns)))) fails
 
-  -- where all pass, nothing is dealt away
+  -- If all pass, all slots stay.
   module _ {R D : Type 0} where
     pub all_dealt : (ns : List ℕ) (ss : List (Slot R D)) → length ns ≡ length ss → length (filter p ns) ≡ length ns → dealt p ns ss ≡ ss
     all_dealt [] [] len all = refl

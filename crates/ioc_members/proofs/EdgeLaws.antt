@@ -17,7 +17,7 @@ named_push link (x ∷ fs) f = ap (λ z. named_by_field (link x) ++ z) (named_pu
 edges-append : (n : ℕ) (xs ys : List ℕ) → edges_from n (xs ++ ys) ≡ edges_from n xs ++ edges_from n ys
 edges-append n xs ys = map-append (λ (t : ℕ). let e : Edge = record { from = n; to = t } in e) xs ys
 
--- the edge of one link more
+-- The edge of one more link.
 pub edges_more : (before es after : List Edge) (n : ℕ) (link : FieldNo → Option LinkField) (fs : List FieldNo) (i : ℕ) (d : FieldNo) → i < length fs
     → es ≡ before ++ edges_from n (named_by_all link (take i fs)) → after ≡ es ++ edges_from n (named_by_field (link (get_or fs i d)))
     → after ≡ before ++ edges_from n (named_by_all link (take (i + 1) fs))
@@ -36,14 +36,14 @@ module _ {R D : Type 0} (k : RecordRules R) where
       ap (λ z. edges_from t.number (targets k t.fields) ++ z) (edges_push ss s)
       ∙ sym (append_assoc (edges_from t.number (targets k t.fields)) (edges_in k ss) (edges_from s.number (targets k s.fields)))
 
-  -- the edges of one slot more
+  -- The edges of one more slot.
   pub slot_more : (es after : List Edge) (ss : List (Slot R D)) (i : ℕ) (s : Slot R D) → i < length ss → get_or ss i s ≡ s → es ≡ edges_in k (take i ss)
       → after ≡ es ++ edges_from s.number (targets k s.fields) → after ≡ edges_in k (take (i + 1) ss)
   slot_more es after ss i s l at was is =
       is ∙ ap (λ z. z ++ edges_from s.number (targets k s.fields)) was ∙ sym (edges_push (take i ss) s)
       ∙ ap (λ z. edges_in k (take i ss ++ z ∷ [])) (sym at) ∙ ap (edges_in k) (sym (take_more ss i s l))
 
-  -- the slots with one link set, by what the code reads
+  -- The slots with one link set are those that the code writes.
   pub relinked_set : (ss : List (Slot R D)) (i : ℕ) (s : Slot R D) (f : FieldNo) (l : LinkField) → i < length ss → s ≡ get_or ss i s → slots_relinked k ss i f l ≡ set ss i (slot_relinked k s f l)
   relinked_set [] i s f l within at = absurd (omega arith)
   relinked_set (t ∷ ss) zero s f l within at = ap (λ (z : Slot R D). slot_relinked k z f l ∷ ss) (sym at)
@@ -65,7 +65,7 @@ module _ {R D : Type 0} (k : RecordRules R) where
   relinked_there (t ∷ ss) (suc i) zero s f l apart at = at
   relinked_there (t ∷ ss) (suc i) (suc j) s f l apart at = relinked_there ss i j s f l (λ e. apart (ap suc e)) at
 
--- the same by what the code reads: the fields, and the link of one of them
+-- The edge of one more link, given the fields and the link that the code reads.
 pub after_one : (before es after : List Edge) (n : ℕ) (link : FieldNo → Option LinkField) (fs read : List FieldNo) (i : ℕ) (d : FieldNo) (o : Option LinkField) → read ≡ fs → i < length read
     → es ≡ before ++ edges_from n (named_by_all link (take i fs)) → o ≡ link (get_or read i d) → after ≡ es ++ edges_from n (named_by_field o)
     → after ≡ before ++ edges_from n (named_by_all link (take (i + 1) fs))

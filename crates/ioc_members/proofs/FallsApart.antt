@@ -1,4 +1,4 @@
--- A set whose link changes, seen as the map of its records.
+-- A set whose link changes, as the map of its records.
 use Rattle.std.proofs.Common.{◌≡◌, ◌⊎◌, ℕ, ◌<◌, List, None, true, false, length, get_or, refl, sym, ap, ◌∙◌, subst, arith}
 use Rattle.std.specs.Prelude.{slice_index, IsSome, is_some, Contains}
 use Rattle.std.specs.FinMap.{get, insert}
@@ -37,7 +37,7 @@ module _ {R D : Type 0} (k : RecordRules R) (lawful : IsLawful k) (ss us : List 
   pub l : place < length ss
   l = seat_within ss us m up is same n place there
 
-  -- what the code reads at the place
+  -- The slot that the code reads at the place.
   slot : Slot R D
   slot = get_or ss place (record { number = n; fields = x; base = x; is_changed = false; device = None })
 
@@ -51,7 +51,7 @@ module _ {R D : Type 0} (k : RecordRules R) (lawful : IsLawful k) (ss us : List 
   pub zs_up : AreAscending zs
   zs_up = ascending_relinked k ss place field link up
 
-  -- the field that is set is a link field of the record that is read
+  -- The field that is set is a link field of the record that is read.
   pub link_field : (s : Slot R D) → place < length ss → s ≡ get_or ss place s → is_some (k.link s.fields field) ≡ true
   link_field s within read =
       let here = seat_get ss us m up is same n place there s read in
@@ -64,7 +64,7 @@ module _ {R D : Type 0} (k : RecordRules R) (lawful : IsLawful k) (ss us : List 
       ∙ ap (λ (r : Records R). insert r n (k.with_link slot.fields field link)) is
       ∙ ap (λ (y : R). insert m n (k.with_link y field link)) fields_are
 
-  -- a link changes no device
+  -- A link change changes no device.
   pub zs_devices : devices_of zs ≡ devices_of ss
   zs_devices =
       ap devices_of (relinked_set k ss place slot field link l at)

@@ -14,7 +14,7 @@ use Rattle.ioc_members.proofs.Twins.{lone_in}
 tail_in : (p j : ℕ) (left : List ℕ) → j ≢ p → Contains (p ∷ left) j → Contains left j
 tail_in p j left apart c = ⊎_elim (λ d. absurd (apart (lone_in p j d))) (λ d. d) (Contains-append_cases (p ∷ []) left j c)
 
--- each slot is folded, or is as it was and its place is among those that are left
+-- Each slot is folded, or is unchanged and its place is among the remaining ones.
 pub record AreFolding {R D : Type 0} (all slots : List (Slot R D)) (left : List ℕ) : Type 0 where
   pub len : length slots ≡ length all
   pub each : (j : ℕ) (s t : Slot R D) → j < length all → s ≡ get_or all j s → t ≡ get_or slots j t → (t ≡ slot_folded s) ⊎ ((t ≡ s) × Contains left j)
@@ -69,7 +69,7 @@ module _ {R D : Type 0} (all : List (Slot R D)) where
       (λ e. subst (λ (z : Slot R D). AreLike k z.base z.fields) (sym e.0) (likes p s l own))
       (folding.each p s t l own at)
 
--- a place of the list is that of a slot
+-- A place of the list is that of a slot.
 pub placed : {R D : Type 0} (all : List (Slot R D)) (changed read : List ℕ) (i : ℕ) → AreTracked all changed → read ≡ changed → i < length read → get_or read i 0 < length all
 placed all changed read i tracked same l =
     let within : i < length changed = let e = ap length same in omega arith in

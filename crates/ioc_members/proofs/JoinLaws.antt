@@ -72,7 +72,7 @@ module _ {R D : Type 0} where
         (of_edges ss a b x (sym (slot_later a s ss n) ∙ e) c))
         (cases_eq a s.number)
 
-    -- the slot whose links these are
+    -- The slot that has these links.
     linked : (o : Option (Slot R D)) (named : List ℕ) → option_map (targets k) (record_in o) ≡ Some named → (s : Slot R D) × (o ≡ Some s) × (targets k s.fields ≡ named)
     linked None named e = absurd (none_some named e)
     linked (Some s) named e = (s, refl, same_Some (targets k s.fields) named e)
@@ -97,7 +97,7 @@ module _ {R D : Type 0} where
     here_from None e = absurd (let f : false ≡ true = e in cc)
     here_from (Some s) e = (s, refl)
 
-    -- no edge leads out where no link does
+    -- If no link leaves the records, no edge does.
     pub ends_within : (ss : List (Slot R D)) → AreAscending ss → IsClosed (links_of k (records_of ss)) → All (λ (e : Edge). Contains (numbers_of ss) e.from × Contains (numbers_of ss) e.to) (edges_in k ss)
     ends_within ss up closed i d l =
         let e = get_or (edges_in k ss) i d in

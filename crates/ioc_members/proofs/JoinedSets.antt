@@ -1,4 +1,4 @@
--- Two sets that become one, seen as the maps of their records.
+-- Two sets that become one, as the maps of their records.
 use Rattle.std.proofs.Common.{◌≡◌, ℕ, ◌<◌, List, [], ◌∷◌, ◌++◌, Option, Some, None, length, get_or, refl, sym, ap, ◌∙◌, subst, inl, inr, ⊎_elim, arith}
 use Rattle.std.specs.Prelude.{slice_index, IsSome, is_some, Contains}
 use Rattle.std.specs.Option.{option_map}
@@ -26,7 +26,7 @@ links_some : {R : Type 0} (k : RecordRules R) (o : Option R) → IsSome o → Is
 links_some k None s = s
 links_some k (Some x) s = refl
 
--- links are shared as the records are
+-- Links are shared as the records are.
 shared_links : {R : Type 0} (k : RecordRules R) (f g h : ℕ → Option R) → AreShared f g h → AreShared (λ q. option_map (targets k) (f q)) (λ q. option_map (targets k) (g q)) (λ q. option_map (targets k) (h q))
 shared_links k f g h shared q =
     ⊎_elim
@@ -100,7 +100,7 @@ module _ {R D : Type 0} (k : RecordRules R) (lawful : IsLawful k) (ss us : List 
       (names_new k lawful m n free.0 free.1 field link free.2 to.0 (first_in to.0 (named_by (use_of link)) to.1)) (links_some k (get o to.0) to.2) (n_before k lawful m n free.0 free.1 field link free.2)
       one other
 
--- the slots were moved into a room for more, and are the same
+-- The slots that were moved to larger memory are the same.
 pub in_room : {R D : Type 0} (k : RecordRules R) (ss us ts : List (Slot R D)) (place : ℕ) (field : FieldNo) (link : LinkField) (all : List (Slot R D)) → us ≡ ss
     → IsPermutation (slots_relinked k us place field link ++ ts) all → IsPermutation (slots_relinked k ss place field link ++ ts) all
 in_room {R} {D} k ss us ts place field link all same moved = subst (λ (z : List (Slot R D)). IsPermutation (slots_relinked k z place field link ++ ts) all) same moved

@@ -38,7 +38,7 @@ field_there k lawful r f has =
     let at = place f in
     subst (λ (fs : List FieldNo). Contains fs f) (sym (lawful.link_fields_are r)) (in_filter (is_link (k.record_type r)) all_fields at.0 f at.1 (sym (lawful.link_there r f) ∙ has))
 
--- what a link names is named by all of them
+-- The record that a link names is among those that all links name.
 pub named_among : (link : FieldNo → Option LinkField) (fs : List FieldNo) (f : FieldNo) (t : ℕ) → Contains fs f → Contains (named_by_field (link f)) t → Contains (named_by_all link fs) t
 named_among link [] f t c d = absurd (let l = c.1 in omega arith)
 named_among link (g ∷ fs) f t c d =

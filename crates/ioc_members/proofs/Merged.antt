@@ -16,7 +16,7 @@ use Rattle.ioc_members.specs.Joined.{AreShared}
 use Rattle.ioc_members.proofs.Slotted.{same_Some, none_some, slot_at, slot_first, slot_later, length-numbers, found_number, below_found}
 use Rattle.ioc_members.proofs.Seen.{shared_records, shared_devices}
 
--- what was written over a whole list
+-- Writing a list over one of equal length results in that list.
 pub written_over : {X : Type 0} (new items : List X) (n : ℕ) → length new ≡ n → length items ≡ n → take n (new ++ drop (length new) items) ≡ new
 written_over new items n e f =
     ap (λ z. take n (new ++ z)) (drop_all (length new) items (omega arith)) ∙ ap (take n) (append-nil new) ∙ take_all n new (omega arith)
@@ -32,7 +32,7 @@ unfolding IsDistinct
 distinct_none = tt
 
 module _ {R D : Type 0} where
-  -- no slot has this number
+  -- Holds if no slot has this number.
   abbrev IsAbsent : ℕ → List (Slot R D) → Type 0
   IsAbsent n ss = AllByRecursion (λ y. eqb n y ≡ false) (numbers_of ss)
 
@@ -50,7 +50,7 @@ module _ {R D : Type 0} where
       let apart : n ≢ s.number = λ h. none_some s (sym e ∙ ap (slot_at (s ∷ ss)) h ∙ slot_first s ss) in
       (differs n s.number apart, unfound_absent n ss (sym (slot_later n s ss apart) ∙ e))
 
-  -- no number is in both
+  -- Holds if no number is in both.
   abbrev pub AreApart : List (Slot R D) → List (Slot R D) → Type 0
   AreApart ss ts = (q : ℕ) (s : Slot R D) → slot_at ss q ≡ Some s → slot_at ts q ≡ None
 
@@ -76,7 +76,7 @@ module _ {R D : Type 0} where
   head_of [] j l = absurd (omega arith)
   head_of (s ∷ ss) j l = s
 
-  -- slots in order, whose numbers are distinct, ascend
+  -- Slots in order whose numbers are distinct ascend.
   ascending_from : (ss : List (Slot R D)) → IsNonDecreasingBy (λ s. s.number) ss → IsDistinct eqb (numbers_of ss) → AreAscending ss
   ascending_from ss sorted distinct =
       let ns = numbers_of ss in
@@ -89,7 +89,7 @@ module _ {R D : Type 0} where
       let up = sorted_from_strictly_increasing ns (IsStrictlyIncreasing-from_distinct ns order distinct) in
       ascending_all ss (λ i j l lj. below_from_sorted ns i j 0 up l (omega arith))
 
-  -- a slot that is found is there
+  -- A slot that is found is in the list.
   found_in : (q : ℕ) (ss : List (Slot R D)) (s : Slot R D) → slot_at ss q ≡ Some s → Contains ss s
   found_in q [] s e = absurd (none_some s e)
   found_in q (t ∷ ss) s e =

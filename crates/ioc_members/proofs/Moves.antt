@@ -14,11 +14,11 @@ not_some o n s = let f : false ≡ true = ap is_some (sym n) ∙ s in cc
 pub names_some : (f : Links) (a b : ℕ) → Names f a b → IsSome (f a)
 names_some f a b n = ap is_some n.1
 
--- the same names where the links are the same
+-- A record with the same links names the same records.
 pub names_by : (f g : Links) (a b : ℕ) → g a ≡ f a → Names f a b → Names g a b
 names_by f g a b e n = (n.0, e ∙ n.1, n.2)
 
--- some of the records, from which no link leads to another
+-- Some of the records, from which no link leads to the others.
 module _ (f g : Links) (P : ℕ → Type 0) (within : (q : ℕ) → ((g q ≡ f q) × P q) ⊎ ((g q ≡ None) × (P q → ⊥))) (keeps : (a b : ℕ) → Joined f a b → P a → P b) where
   same_in : (q : ℕ) → P q → g q ≡ f q
   same_in q p = ⊎_elim (λ k. k.0) (λ k. absurd (k.1 p)) (within q)
@@ -39,16 +39,16 @@ module _ (f g : Links) (P : ℕ → Type 0) (within : (q : ℕ) → ((g q ≡ f 
         keeps a b j p,
       ))
 
--- the part of r, and what is left
+-- The part of `r`, and the rest.
 module _ (f : Links) (r : ℕ) where
   abbrev C : ℕ → ℕ → Type 0
   C = Connected (Joined f)
 
-  -- a record of r's part
+  -- Holds of a record in the part of `r`.
   abbrev pub OfPart : ℕ → Type 0
   OfPart q = IsSome (f q) × C q r
 
-  -- any other record
+  -- Holds of any other record.
   abbrev pub OfRest : ℕ → Type 0
   OfRest q = IsSome (f q) × (OfPart q → ⊥)
 
@@ -72,7 +72,7 @@ module _ (f : Links) (r : ℕ) where
       pub part_of : IsPart g
       part_of = record { one_part = part_one; closed = part_closed f g OfPart within keeps_part closed }
 
-    -- where each record reaches r or u, what is left is one part
+    -- If each record reaches `r` or `u`, the rest is one part.
     module _ (u : ℕ) (reach : (q : ℕ) → IsSome (f q) → C q r ⊎ C q u) (h : Links) (within : (q : ℕ) → ((h q ≡ f q) × OfRest q) ⊎ ((h q ≡ None) × (OfRest q → ⊥))) where
       to_u : (q : ℕ) → OfRest q → C q u
       to_u q p = ⊎_elim (λ c. absurd (p.1 (p.0, c))) (λ c. c) (reach q p.0)
@@ -86,7 +86,7 @@ module _ (f : Links) (r : ℕ) where
       pub rest_of : IsPart h
       rest_of = record { one_part = rest_one; closed = part_closed f h OfRest within keeps_rest closed }
 
--- without the join of r and u, each record of what was one part reaches r or u
+-- Without the link between `r` and `u`, each record of what was one part reaches `r` or `u`.
 module _ (old f : Links) (r u : ℕ) (goes : (a b : ℕ) → Joined old a b → Joined f a b ⊎ (((a ≡ r) × (b ≡ u)) ⊎ ((a ≡ u) × (b ≡ r)))) where
   pub reaches : IsOnePart old → IsSome (old r) → (q : ℕ) → IsSome (old q) → Connected (Joined f) q r ⊎ Connected (Joined f) q u
   reaches one sr q sq =

@@ -1,4 +1,4 @@
--- The maps that slots stand for, as lists: the records in the order of the slots.
+-- The maps that slots represent, as lists in the order of the slots.
 use Rattle.std.proofs.Common.{◌≡◌, ℕ, zero, suc, ◌<◌, ◌≤◌, List, [], ◌∷◌, Bool, true, false, ◌&&◌, T, length, map, get_or, refl, sym, ap, ◌∙◌, subst, arith}
 use Rattle.std.specs.Prelude.{slice_get, Some, None}
 use Rattle.std.specs.Ordering.{nat_cmp, is_lt}
@@ -42,7 +42,7 @@ module _ {R D : Type 0} where
   pub len_is : (ss : List (Slot R D)) → AreAscending ss → len (records_of ss) ≡ length ss
   len_is ss up = len-entries (records_of ss) ∙ ap length (entries_are ss up) ∙ length-map ss record_entry
 
-  -- the number at a place
+  -- The number at a place.
   pub number_found : (ss : List (Slot R D)) (i : ℕ) (s : Slot R D) → i < length ss → s ≡ get_or ss i s → slice_get (numbers_of ss) i ≡ Some s.number
   number_found [] i s l at = absurd (omega arith)
   number_found (t ∷ ss) zero s l at = ap (λ (u : Slot R D). Some u.number) (sym at)

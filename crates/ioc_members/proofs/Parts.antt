@@ -1,4 +1,4 @@
--- The slots of a set that falls apart, by what the code does.
+-- The slots of a set that is divided, in terms of the code.
 use Rattle.std.proofs.Common.{◌≡◌, ℕ, ◌<◌, ◌≤◌, List, [], ◌∷◌, ◌++◌, Bool, true, false, cond, length, set, get_or, refl, sym, ap, ◌∙◌, subst, arith}
 use Rattle.std.specs.Prelude.{◌==◌, not, filter, slice_index}
 use Rattle.std.proofs.lemmas.List.{get_or_default, get_or_append_left, set-append_left, length-set}
@@ -44,7 +44,7 @@ module _ {R D : Type 0} (k : RecordRules R) (ss : List (Slot R D)) (place : ℕ)
         leaves = leaves ∙ ap (λ (q : List ℕ). dealt (λ m. not (m == n)) q all) read ∙ ap (λ i. dealt (λ m. not (m == i)) numbers all) here ∙ ap (dealt (λ m. not (m == slice_index numbers place)) numbers) there;
       }
 
-  -- where all are of one part, all stay
+  -- If all are of one part, all stay.
   pub whole_by : (all rest zs : List (Slot R D)) (s t : Slot R D) (ns numbers : List ℕ) (n staying : ℕ)
       → place < length ss → s ≡ get_or ss place s → t ≡ slot_relinked k s f l → all ≡ set ss place t
       → zs ≡ ss → ArePartsOf (edges_in k (relinked zs)) (numbers_of zs) numbers → ns ≡ numbers → n ≡ get_or numbers place n
@@ -58,7 +58,7 @@ module _ {R D : Type 0} (k : RecordRules R) (ss : List (Slot R D)) (place : ℕ)
       parted_by all all rest zs s t ns numbers n within at is all_is same parts read number
       (sym (all_dealt (λ m. m == n) ns all len every)) (none ∙ sym (none_dealt_away (λ m. m == n) ns all len every))
 
-  -- two lists of slots one after the other, by what the code writes
+  -- Two concatenated lists of slots, as the code writes them.
   pub joined_by : (ts all : List (Slot R D)) (s t : Slot R D) → place < length ss → all ≡ ss ++ ts → s ≡ get_or all place s → t ≡ slot_relinked k s f l
       → set all place t ≡ relinked ss ++ ts
   joined_by ts all s t within is at written_is =
@@ -66,7 +66,7 @@ module _ {R D : Type 0} (k : RecordRules R) (ss : List (Slot R D)) (place : ℕ)
       ap (λ z. set z place t) is ∙ set-append_left ss ts place t within
       ∙ ap (λ z. z ++ ts) (written (set ss place t) s t within here written_is refl)
 
--- how many slots are dealt out
+-- The number of slots on each side.
 module _ {R D : Type 0} (p : ℕ → Bool) where
   few_chosen : (b : Bool) (s : Slot R D) (ds ss : List (Slot R D)) → length ds ≤ length ss → length (cond b (s ∷ ds) ds) ≤ length (s ∷ ss)
   few_chosen true s ds ss l = omega arith

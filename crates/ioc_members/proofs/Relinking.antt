@@ -1,4 +1,4 @@
--- What a change of one link changes of who names whom.
+-- What a change of one link changes in the names relation.
 use Rattle.std.proofs.Common.{◌≡◌, ◌≢◌, ◌⊎◌, ◌<◌, ℕ, List, [], ◌∷◌, Option, Some, None, true, get_or, refl, sym, ap, ◌∙◌, subst, inl, inr, ⊎_elim, arith}
 use Rattle.std.specs.Prelude.{IsSome, is_some, Contains, slice_get, unwrap_or}
 use Rattle.std.specs.Option.{option_map}
@@ -24,7 +24,7 @@ use Rattle.ioc_members.proofs.Moves.{names_by, reaches}
 same_field : (g h : FieldNo) → Some g ≡ Some h → g ≡ h
 same_field g h e = cc
 
--- two fields are one, or not
+-- Two fields are equal, or not.
 field_cases : (g h : FieldNo) → (g ≡ h) ⊎ (g ≢ h)
 field_cases g h =
     ⊎_elim
@@ -32,7 +32,7 @@ field_cases g h =
     (λ n. inr (λ e. n (ap (λ f. (place f).0) e)))
     (cases_eq (place g).0 (place h).0)
 
--- what these links name is named after a change of one of them, or that one named it
+-- What these links name is named after a change of one of them too, unless that one named it.
 named_cases : (link after : FieldNo → Option LinkField) (field : FieldNo) → ((g : FieldNo) → g ≢ field → after g ≡ link g) → (fs : List FieldNo) (b : ℕ)
     → Contains (named_by_all link fs) b → Contains (named_by_all after fs) b ⊎ Contains (named_by_field (link field)) b
 named_cases link after field others [] b c = inl c
@@ -48,7 +48,7 @@ named_cases link after field others (g ∷ fs) b c =
     (named_cases link after field others fs b there))
     (Contains-append_cases (named_by_field (link g)) (named_by_all link fs) b c)
 
--- the one that is named, if there is one
+-- The record that is named, if there is one.
 abbrev pub only : List ℕ → ℕ → ℕ
 only [] d = d
 only (x ∷ xs) d = x
@@ -117,7 +117,7 @@ module _ {R : Type 0} (k : RecordRules R) (lawful : IsLawful k) (m : Records R) 
       (λ d. inr (subst (λ (o : Option LinkField). Contains (named_by_field o) b) (lawful.set_here x field link has) d))
       (named_cases (k.link changed) (k.link x) field (λ g a. sym (lawful.set_others x field g link a)) (k.link_fields x) b (subst (λ (fs : List FieldNo). Contains (named_by_all (k.link changed) fs) b) fields_same c))
 
-  -- no link leaves, where the new one does not
+  -- No link leaves the records after the change, if the new one doesn't.
   pub closed_after : ((t : ℕ) → Contains (named_by (use_of link)) t → IsSome (get m t)) → IsClosed (links_of k m) → IsClosed (links_of k after)
   closed_after within closed a b c =
       has_after b
@@ -138,7 +138,7 @@ module _ {R : Type 0} (k : RecordRules R) (lawful : IsLawful k) (m : Records R) 
       some_links : (t : ℕ) → IsSome (get m t) → IsSome (links_of k m t)
       some_links t s = some_of (get m t) s
 
-  -- the record that the link named before, if it named one
+  -- The record that the link named before, if it named one.
   abbrev pub former : ℕ
   former = only (named_by_field (k.link x field)) n
 
@@ -160,11 +160,11 @@ module _ {R : Type 0} (k : RecordRules R) (lawful : IsLawful k) (m : Records R) 
       (λ c. ⊎_elim (λ d. inl (inl d)) (λ d. inr (inl d)) (names_after a b c))
       (λ c. ⊎_elim (λ d. inl (inr d)) (λ d. inr (inr (d.1, d.0))) (names_after b a c))
 
-  -- each record reaches the changed one, or the one that its link named before
+  -- Each record reaches the changed one, or the one that its link named before.
   pub reach : IsPart (links_of k m) → (q : ℕ) → IsSome (links_of k after q) → Connected (Joined (links_of k after)) q n ⊎ Connected (Joined (links_of k after)) q former
   reach part q s = reaches (links_of k m) (links_of k after) n former goes part.one_part (ap is_some links_before) q (has_before q s)
 
-  -- where the link named none before, nothing is lost
+  -- If the link named no record before, no name is lost.
   module _ (free : named_by_field (k.link x field) ≡ []) where
     none_lost : (b : ℕ) → Contains (targets k x) b → Contains (targets k changed) b
     none_lost b c =
@@ -182,14 +182,14 @@ module _ {R : Type 0} (k : RecordRules R) (lawful : IsLawful k) (m : Records R) 
         (λ apart. names_by (links_of k m) (links_of k after) a b (links_other a apart) c)
         (cases_eq a n)
 
-  -- the new link names what it names
+  -- The new link names its record.
   pub names_new : (t : ℕ) → Contains (named_by (use_of link)) t → Names (links_of k after) n t
   names_new t c =
       let there = subst (λ (fs : List FieldNo). Contains fs field) (sym fields_same) (field_there k lawful x field has) in
       let own_link : Contains (named_by_field (k.link changed field)) t = subst (λ (o : Option LinkField). Contains (named_by_field o) t) (sym (lawful.set_here x field link has)) c in
       (targets k changed, links_own, named_among (k.link changed) (k.link_fields changed) field t there own_link)
 
-  -- a link of any record is one of before, or the new one
+  -- A link of any record is one of those before, or the new one.
   pub names_before : (a b : ℕ) → Names (links_of k after) a b → Names (links_of k m) a b ⊎ Contains (named_by (use_of link)) b
   names_before a b c =
       ⊎_elim

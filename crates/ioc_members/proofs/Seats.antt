@@ -1,4 +1,4 @@
--- The slot of a record that was looked up, in the slots that stand for a set.
+-- The slot of a record that was found, among the slots that represent a set.
 use Rattle.std.proofs.Common.{◌≡◌, ◌≢◌, ℕ, ◌<◌, List, [], ◌∷◌, Option, Some, None, true, false, length, set, get_or, refl, sym, ap, ◌∙◌, subst, arith}
 use Rattle.std.specs.Prelude.{slice_index, IsTrue, is_some, unwrap_or, IfSome, IfNone}
 use Rattle.std.specs.FinMap.{get, insert, contains_key}
@@ -55,7 +55,7 @@ module _ {R D : Type 0} (ss us : List (Slot R D)) (m : Records R) (up : AreAscen
     pub seat_devices : (s : Slot R D) → s ≡ get_or ss i s → (r : R) → devices_of (set ss i (record s { fields = r })) ≡ devices_of ss
     seat_devices s at r = devices_same ss i (record s { fields = r }) n up seat_within (own_number s at) (own_is s at) (own_device s at)
 
-    -- its device instead
+    -- Setting the device of a slot keeps the order.
     pub refit_ascending : (s : Slot R D) → s ≡ get_or ss i s → (o : Option D) → AreAscending (set ss i (record s { device = o }))
     refit_ascending s at o = ascending_set ss i (record s { device = o }) seat_within (own_number s at) up
 
@@ -72,7 +72,7 @@ module _ {R D : Type 0} (ss us : List (Slot R D)) (m : Records R) (up : AreAscen
     pub seat_device : (s : Slot R D) → s ≡ get_or ss i s → get (devices_of ss) n ≡ s.device
     seat_device s at = sym (own_device s at)
 
-  -- whether the record was found says whether it is there
+  -- The record is found if and only if it is in the set.
   pub has_by : (o : Option ℕ) → IfSome o (λ i. (i < length us) × (slice_index (numbers_of us) i ≡ n)) → IfNone o ((i : ℕ) → i < length us → slice_index (numbers_of us) i ≢ n) → contains_key m n ≡ is_some o
   has_by None found absent = missing absent
   has_by (Some i) found absent = told ss i (seat_within i found) refl
@@ -81,7 +81,7 @@ module _ {R D : Type 0} (ss us : List (Slot R D)) (m : Records R) (up : AreAscen
       told [] j l e = absurd (omega arith)
       told (z ∷ zs) j l e = seat_here i found (get_or ss i z) (get_or_default ss i z (get_or ss i z) (seat_within i found))
 
--- two sets are one whose maps are
+-- Two sets are equal if their maps are.
 pub same_contents : {R D : Type 0} (a b : Contents R D) → a.records ≡ b.records → a.devices ≡ b.devices → a.base ≡ b.base → a ≡ b
 same_contents a b p q r = λ i. record { records = p i; devices = q i; base = r i }
 
@@ -95,13 +95,13 @@ module _ {R D : Type 0} (ss us : List (Slot R D)) (m : Contents R D) (up : AreAs
   bases_are : bases_of ss ≡ m.base
   bases_are = ap (λ (c : Contents R D). c.base) is
 
-  -- another record there
+  -- The contents with another record in the slot.
   pub seat_contents : (s : Slot R D) → s ≡ get_or ss i s → (r : R) → contents_of (set ss i (record s { fields = r })) ≡ record m { records = insert m.records n r }
   seat_contents s at r =
       same_contents _ _ (seat_put ss us m.records up records_are same n i there s at r) (seat_devices ss us m.records up records_are same n i there s at r ∙ devices_are)
       (bases_set ss i (record s { fields = r }) s at refl refl ∙ bases_are)
 
-  -- another device there
+  -- The devices with another device in the slot.
   pub refit : (s : Slot R D) → s ≡ get_or ss i s → (o : Option D) → (o ≡ None → s.device ≡ None) → devices_of (set ss i (record s { device = o })) ≡ with_device m.devices n o
   refit s at (Some d) fits = refit_devices ss us m.records up records_are same n i there s at d ∙ ap (λ (ds : Devices D). insert ds n d) devices_are
   refit s at None fits = refit_none ss us m.records up records_are same n i there s at (fits refl) ∙ devices_are
@@ -109,7 +109,7 @@ module _ {R D : Type 0} (ss us : List (Slot R D)) (m : Contents R D) (up : AreAs
   pub refit_leaves : (s : Slot R D) → s ≡ get_or ss i s → (o : Option D) → records_of (set ss i (record s { device = o })) ≡ m.records
   refit_leaves s at o = refit_records ss us m.records up records_are same n i there s at o
 
-  -- its base
+  -- The base in the slot is the base of the record.
   pub seat_base : (k : RecordRules R) (s : Slot R D) → s ≡ get_or ss i s → s.base ≡ record_at k m.base n
   seat_base k s at =
       sym (ap (λ o. unwrap_or o k.missing) (ap (λ b. get b n) (sym bases_are)
@@ -127,7 +127,7 @@ no_device {R} {D} ss us m up is same n absent =
     ∙ device_absent ss n up (subst (λ (z : List (Slot R D)). (i : ℕ) → i < length z → slice_index (numbers_of z) i ≢ n) same absent)
 
 module _ {D : Type 0} (gives : D → Ask → ℕ → Answer → D → Type 0) where
-  -- no device comes or goes
+  -- No device is added or removed.
   pub fitted : (x o : Option D) (ask : Ask) (moment : ℕ) (answer : Answer) → Gives gives x ask moment answer o → o ≡ None → x ≡ None
   fitted None o ask moment answer g e = refl
   fitted (Some d) o ask moment answer g e = absurd (none_some g.0 (sym e ∙ g.2))

@@ -1,4 +1,4 @@
--- The two maps that slots stand for, by the slot of a number.
+-- The maps that slots represent, by the slot of a number.
 use Rattle.std.proofs.Common.{◌≡◌, ◌≢◌, ℕ, ◌<◌, List, [], ◌∷◌, ◌++◌, Option, Some, None, Bool, true, false, length, map, set, get_or, cond, filter_map, refl, sym, ap, ◌∙◌, inl, inr, ⊎_elim, arith}
 use Rattle.std.specs.Prelude.{slice_index, IsSome, is_some, ◌==◌}
 use Rattle.std.specs.Option.{option_map}
@@ -14,7 +14,7 @@ use Rattle.ioc_members.proofs.MapLaws.{tied, same_number, other_number, get_inse
 use Rattle.ioc_members.proofs.Slotted.{slot_at, slot_first, slot_later, slot_there, none_there, none_below, slot_set, slot_push, ascending_set, ascending_push}
 
 module _ {R D : Type 0} where
-  -- the record in a slot, and its device
+  -- The record in a slot, and its device.
   abbrev pub record_in : Option (Slot R D) → Option R
   record_in None = None
   record_in (Some s) = Some s.fields
@@ -77,7 +77,7 @@ module _ {R D : Type 0} where
   pub owned : (ss : List (Slot R D)) → AreAscending ss → DevicesAreOwned (contents_of ss)
   owned ss up q has = ap is_some (get_record ss q) ∙ owner (slot_at ss q) (ap is_some (sym (get_device ss q up)) ∙ has)
 
-  -- what the maps have at the number of a slot
+  -- The maps at the number of a slot.
   pub record_there : (ss : List (Slot R D)) (i n : ℕ) (s : Slot R D) → AreAscending ss → i < length ss → slice_index (numbers_of ss) i ≡ n → get (records_of ss) n ≡ Some (get_or ss i s).fields
   record_there ss i n s up l e = get_record ss n ∙ ap (λ m. record_in (slot_at ss m)) (sym e) ∙ ap record_in (slot_there ss i s up l)
 
@@ -90,7 +90,7 @@ module _ {R D : Type 0} where
   pub device_absent : (ss : List (Slot R D)) (n : ℕ) → AreAscending ss → ((i : ℕ) → i < length ss → slice_index (numbers_of ss) i ≢ n) → get (devices_of ss) n ≡ None
   device_absent ss n up absent = get_device ss n up ∙ ap device_in (none_there ss n absent)
 
-  -- a slot in the place of one of its number
+  -- Replacing a slot with one of the same number.
   module _ (ss : List (Slot R D)) (i : ℕ) (t : Slot R D) (n : ℕ) (up : AreAscending ss) (l : i < length ss) (e : t.number ≡ slice_index (numbers_of ss) i) (is : n ≡ t.number) where
     set_up : AreAscending (set ss i t)
     set_up = ascending_set ss i t l e up
@@ -122,7 +122,7 @@ module _ {R D : Type 0} where
         (λ a. ap (λ b. cond b (Some t.fields) (get (records_of ss) q)) (other_number q n a))
         (cases_eq q n))
 
-  -- a record of a higher number at the end
+  -- Adding a record with a higher number at the end.
   module _ (ss : List (Slot R D)) (m : Contents R D) (s : Slot R D) (up : AreAscending ss) (is : contents_of ss ≡ m) (above : (q : ℕ) → IsSome (get m.records q) → q < s.number) where
     all_below : (i : ℕ) → i < length ss → slice_index (numbers_of ss) i < s.number
     all_below i l = above (slice_index (numbers_of ss) i) (ap (λ (k : Contents R D). is_some (get k.records (slice_index (numbers_of ss) i))) (sym is) ∙ ap is_some (record_there ss i (slice_index (numbers_of ss) i) s up l refl))
@@ -150,7 +150,7 @@ module _ {R D : Type 0} where
         one_map _ _ (λ q. get_device (ss ++ s ∷ []) q pushed_ascending ∙ ap device_in (slot_push ss s q all_below) ∙ device_chosen (q == s.number) s (slot_at ss q)
         ∙ ap (cond (q == s.number) s.device) (sym (get_device ss q up) ∙ ap (λ (k : Contents R D). get k.devices q) is) ∙ device_more q s.device refl)
 
--- what slots share, both maps share
+-- If slots are shared, so are both maps.
 shared_by : {X Y : Type 0} (part : Option X → Option Y) → part None ≡ None → (f g h : ℕ → Option X) → AreShared f g h → AreShared (λ q. part (f q)) (λ q. part (g q)) (λ q. part (h q))
 shared_by part none f g h shared q =
     ⊎_elim

@@ -1,4 +1,4 @@
--- A set that falls apart: each record goes to one side, and each side is one part.
+-- When a set is divided, each record goes to one side, and each side is one part.
 use Rattle.std.proofs.Common.{◌≡◌, ◌⊎◌, ℕ, ◌<◌, List, Option, Some, None, Bool, cond, length, refl, sym, ap, ◌∙◌, subst, inl, inr, ⊎_elim, arith}
 use Rattle.std.specs.Prelude.{◌==◌, not, slice_index, IsSome, is_some}
 use Rattle.std.specs.Option.{option_map}
@@ -50,7 +50,7 @@ module _ {R D : Type 0} (k : RecordRules R) (all : List (Slot R D)) (up : AreAsc
     pub side_ascending : AreAscending side
     side_ascending = subst (λ (z : List (Slot R D)). AreAscending z) (sym is) (ascending_dealt p numbers all up)
 
-  -- the records of one number are those that a path joins
+  -- The records with the same part number are those that a path joins.
   to_path : (i j : ℕ) → i < length all → j < length all → slice_index numbers i ≡ slice_index numbers j → C (slice_index (numbers_of all) i) (slice_index (numbers_of all) j)
   to_path i j li lj e =
       let len = length-numbers all in
@@ -61,7 +61,7 @@ module _ {R D : Type 0} (k : RecordRules R) (all : List (Slot R D)) (up : AreAsc
       let len = length-numbers all in
       (parted.parts.exact i j (omega arith) (omega arith)).1 (carries (Joined f) (EdgeJoined (edges_in k all)) (joined_by k all) _ _ c)
 
-  -- a record goes to the part of r, or else to the rest
+  -- Holds if a record goes to the part of `r`, or otherwise to the rest.
   abbrev Sides : ℕ → Type 0
   Sides q =
       ((slot_at stay q ≡ slot_at all q) × (slot_at rest q ≡ None) × C q r)
@@ -82,7 +82,7 @@ module _ {R D : Type 0} (k : RecordRules R) (all : List (Slot R D)) (up : AreAsc
       inr (one ∙ ap (λ b. cond b o None) b, two ∙ ap (λ b. cond (not b) o None) b, λ p. n (from_path i place l there p.1)))
       (cases_eq (slice_index numbers i) number)
 
-  -- the links of the record in a slot
+  -- The links of the record in a slot.
   links_at : (ss : List (Slot R D)) (q : ℕ) → links_of k (records_of ss) q ≡ option_map (targets k) (record_in (slot_at ss q))
   links_at ss q = ap (option_map (targets k)) (get_record ss q)
 

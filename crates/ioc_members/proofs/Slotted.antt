@@ -1,4 +1,4 @@
--- Slots by ascending numbers, and the slot of a number.
+-- Slots in ascending order of their numbers, and the slot of a number.
 use Rattle.std.proofs.Common.{◌≡◌, ◌≢◌, ◌⊎◌, ℕ, zero, suc, ◌<◌, ◌≤◌, List, [], ◌∷◌, ◌++◌, Option, Some, None, length, set, get_or, cond, refl, sym, ap, ◌∙◌, subst, inl, inr, ⊎_elim, arith, add-one}
 use Rattle.std.specs.Prelude.{slice_index, ◌==◌, true, false}
 use Rattle.std.specs.List.Sorted.{IsStrictlyIncreasing}
@@ -17,7 +17,7 @@ pub none_some : {X : Type 0} (x : X) → None ≡ Some x → ⊥
 none_some x e = cc
 
 module _ {R D : Type 0} where
-  -- the slot of a number
+  -- The slot with this number.
   abbrev pub slot_at : List (Slot R D) → ℕ → Option (Slot R D)
   slot_at [] q = None
   slot_at (s ∷ ss) q = cond (q == s.number) (Some s) (slot_at ss q)
@@ -31,7 +31,7 @@ module _ {R D : Type 0} where
   pub length-numbers : (ss : List (Slot R D)) → length (numbers_of ss) ≡ length ss
   length-numbers ss = length-map ss (λ s. s.number)
 
-  -- the number of a slot that was read
+  -- The number of a slot that was read.
   pub number_at : (ss : List (Slot R D)) (i : ℕ) (s : Slot R D) → i < length ss → s ≡ get_or ss i s → s.number ≡ slice_index (numbers_of ss) i
   number_at ss i s l at = ap (λ (t : Slot R D). t.number) at ∙ sym (get_or-map (λ (t : Slot R D). t.number) ss i s 0 l)
 
@@ -45,7 +45,7 @@ module _ {R D : Type 0} where
   rising (s ∷ ss) up zero l = below_at s.number ss 0 up.0 (let e = length-numbers ss in omega arith)
   rising (s ∷ ss) up (suc k) l = rw add-one (rw add-one at (rising ss up.1 k (omega arith)))
 
-  -- where a binary search goes on
+  -- The half in which a binary search continues.
   pub later : (ss : List (Slot R D)) (m n k : ℕ) (s : Slot R D) → AreAscending ss → m < length ss → s ≡ get_or ss m s → s.number ≤ n → k < length ss → slice_index (numbers_of ss) k ≡ n → m ≤ k
   later ss m n k s up lm at le lk is =
       let len = length-numbers ss in
@@ -56,12 +56,12 @@ module _ {R D : Type 0} where
       let len = length-numbers ss in
       search_laws.earlier (numbers_of ss) m n s.number k (rising ss up) (number_at ss m s lm at ∙ get_or_default (numbers_of ss) m 0 s.number (omega arith)) (omega arith) lt (omega arith) is
 
-  -- no slot of a lower number
+  -- There is no slot with a number below all.
   pub none_below : (n : ℕ) (ss : List (Slot R D)) → IsBelow n ss → slot_at ss n ≡ None
   none_below n [] b = refl
   none_below n (s ∷ ss) b = slot_later n s ss (λ e. absurd (let l = b.0 in omega arith)) ∙ none_below n ss b.1
 
-  -- the slot at a place
+  -- The slot at a place is the slot of its number.
   pub slot_there : (ss : List (Slot R D)) (i : ℕ) (s : Slot R D) → AreAscending ss → i < length ss → slot_at ss (slice_index (numbers_of ss) i) ≡ Some (get_or ss i s)
   slot_there [] i s up l = absurd (omega arith)
   slot_there (t ∷ ss) zero s up l = slot_first t ss
@@ -73,7 +73,7 @@ module _ {R D : Type 0} where
   none_there [] n absent = refl
   none_there (t ∷ ss) n absent = slot_later n t ss (λ e. absent 0 (omega arith) (sym e)) ∙ none_there ss n (λ i l. absent (suc i) (omega arith))
 
-  -- where the slot of a number stands, if there is one
+  -- The place of the slot with this number, if there is one.
   pub place_cases : (q : ℕ) (ss : List (Slot R D)) → ((i : ℕ) × (i < length ss) × (slice_index (numbers_of ss) i ≡ q)) ⊎ (slot_at ss q ≡ None)
   place_cases q [] = inr refl
   place_cases q (s ∷ ss) =
@@ -82,7 +82,7 @@ module _ {R D : Type 0} where
       (λ a. ⊎_elim (λ p. inl (suc p.0, let l = p.1 in omega arith, p.2)) (λ e. inr (slot_later q s ss a ∙ e)) (place_cases q ss))
       (cases_eq q s.number)
 
-  -- a slot that is found has the number
+  -- A slot that is found has the number.
   pub found_number : (ss : List (Slot R D)) (q : ℕ) (s : Slot R D) → slot_at ss q ≡ Some s → s.number ≡ q
   found_number [] q s e = absurd (none_some s e)
   found_number (t ∷ ss) q s e =
@@ -91,7 +91,7 @@ module _ {R D : Type 0} where
       (λ a. found_number ss q s (sym (slot_later q t ss a) ∙ e))
       (cases_eq q t.number)
 
-  -- a slot that is found below has a higher number
+  -- A slot that is found above a number has a higher number.
   pub below_found : (n : ℕ) (ss : List (Slot R D)) (q : ℕ) (s : Slot R D) → IsBelow n ss → slot_at ss q ≡ Some s → n < q
   below_found n [] q x b e = absurd (none_some x e)
   below_found n (s ∷ ss) q x b e =
@@ -105,7 +105,7 @@ module _ {R D : Type 0} where
   below_set n (s ∷ ss) zero t l e b = (omega arith, b.1)
   below_set n (s ∷ ss) (suc i) t l e b = (b.0, below_set n ss i t (omega arith) e b.1)
 
-  -- a slot keeps its number: the numbers still rise
+  -- Replacing a slot with one of the same number keeps the order.
   pub ascending_set : (ss : List (Slot R D)) (i : ℕ) (t : Slot R D) → i < length ss → t.number ≡ slice_index (numbers_of ss) i → AreAscending ss → AreAscending (set ss i t)
   ascending_set [] i t l e up = absurd (omega arith)
   ascending_set (s ∷ ss) zero t l e up = (subst (λ n. IsBelow n ss) (sym e) up.0, up.1)

@@ -1,4 +1,4 @@
--- The slots with their bases: what they stand for, and what is changed or folded of them.
+-- The slots with their bases: what they represent, and what is changed or folded of them.
 use Rattle.std.proofs.Common.{◌≡◌, ◌≢◌, ℕ, zero, suc, ◌<◌, ◌≤◌, ◌+◌, List, [], ◌∷◌, ◌++◌, Option, Some, None, Bool, true, false, length, map, set, get_or, cond, filter_map, refl, sym, ap, ◌∙◌, subst, ⊎_elim, arith}
 use Rattle.std.specs.Prelude.{Result, Ok, Err, OnErr, slice_index, IsSome, is_some, unwrap_or, ◌==◌, Contains}
 use Rattle.std.specs.List.{sum_by, cons_option, range_with_len}
@@ -32,7 +32,7 @@ at_most false = omega arith
 pub lone_in : (i j : ℕ) → Contains (i ∷ []) j → j ≡ i
 lone_in i j c = sym (sym (ap (λ q. get_or (i ∷ []) q j) (let l = c.1 in let z : c.0 ≡ 0 = omega arith in z)) ∙ c.2)
 
--- what holds, holds where something was refused
+-- A fact holds in particular if an operation fails.
 pub where_refused : {T E P : Type 0} (r : Result T E) → P → OnErr r P
 where_refused (Ok x) p = tt
 where_refused (Err e) p = p
@@ -41,7 +41,7 @@ pub empty_by : {X : Type 0} (xs : List X) → length xs ≡ 0 → xs ≡ []
 empty_by [] e = refl
 empty_by (x ∷ xs) e = absurd (omega arith)
 
--- one number more
+-- A range with one more number.
 pub range_more : (a n : ℕ) → range_with_len a (n + 1) ≡ range_with_len a n ++ (a + n) ∷ []
 range_more a zero = ap (λ x. x ∷ []) (omega arith)
 range_more a (suc n) =
@@ -50,7 +50,7 @@ range_more a (suc n) =
     ap (range_with_len a) e ∙ ap (λ z. a ∷ z) (range_more (a + 1) n) ∙ ap (λ x. a ∷ (range_with_len (a + 1) n ++ x ∷ [])) f
 
 module _ {R D : Type 0} where
-  -- the base in a slot
+  -- The base in a slot.
   abbrev pub base_in : Option (Slot R D) → Option R
   base_in None = None
   base_in (Some s) = Some s.base
@@ -78,7 +78,7 @@ module _ {R D : Type 0} where
   pub bases_there : (ss : List (Slot R D)) → BaseHasTheSame (contents_of ss)
   bases_there ss q = ap is_some (get_base ss q) ∙ both_there (slot_at ss q) ∙ sym (ap is_some (get_record ss q))
 
-  -- a slot in the place of one of its number and base
+  -- Replacing a slot with one of the same number and base keeps the bases.
   pub bases_set : (ss : List (Slot R D)) (i : ℕ) (t s : Slot R D) → s ≡ get_or ss i s → t.number ≡ s.number → t.base ≡ s.base → bases_of (set ss i t) ≡ bases_of ss
   bases_set ss i t s at n b =
       let same : base_entry t ≡ base_entry s = λ j. (n j, b j) in
@@ -92,7 +92,7 @@ module _ {R D : Type 0} where
       one_map _ _ (λ q. get_base (ss ++ s ∷ []) q ∙ ap base_in (slot_push ss s q low) ∙ base_chosen (q == s.number) s (slot_at ss q)
       ∙ ap (cond (q == s.number) (Some s.base)) (sym (get_base ss q) ∙ ap (λ (k : Contents R D). get k.base q) is) ∙ sym (get_inserted m.base s.number s.base q))
 
-  -- two lists of slots that stand for the same
+  -- Two lists of slots that represent the same contents.
   same_contents : (ss ts : List (Slot R D)) → map record_entry ss ≡ map record_entry ts → filter_map device_entry ss ≡ filter_map device_entry ts → map base_entry ss ≡ map base_entry ts
       → contents_of ss ≡ contents_of ts
   same_contents ss ts r d b =
@@ -101,7 +101,7 @@ module _ {R D : Type 0} where
       let bs : bases_of ss ≡ bases_of ts = ap (λ (es : List (ℕ × R)). from_entries {R = nat_cmp} es) b in
       λ j. record { records = rs j; devices = ds j; base = bs j }
 
-  -- slots that are folded
+  -- The slots, folded.
   abbrev folded : List (Slot R D) → List (Slot R D)
   folded ss = map slot_folded ss
 
@@ -160,7 +160,7 @@ module _ {R D : Type 0} where
     few = omega (arith, few_unmarked ss);
   }
 
-  -- folded slots stay so
+  -- Folded slots stay folded when they are concatenated.
   pub append_folded : (ss ts : List (Slot R D)) → AreFolded ss → AreFolded ts → AreFolded (ss ++ ts)
   append_folded [] ts f g = g
   append_folded (s ∷ ss) ts f g = (f.0, f.1, append_folded ss ts f.2 g)
@@ -186,7 +186,7 @@ module _ {R D : Type 0} where
   pub permuted_folded : (ss ts : List (Slot R D)) → IsPermutation ss ts → AreFolded ss → AreFolded ts
   permuted_folded ss ts moved f = all_folded ts (λ s c. let d = Contains-permutation ts ss s (IsPermutation-sym ss ts moved) c in folded_at ss d.0 s f d.1 (sym d.2))
 
-  -- the slots with one more marked
+  -- Marking a slot keeps the number of slots.
   pub length-marked : (ss : List (Slot R D)) (i : ℕ) → length (slots_marked ss i) ≡ length ss
   length-marked [] i = refl
   length-marked (s ∷ ss) zero = refl
@@ -250,7 +250,7 @@ module _ {R D : Type 0} where
   marked_itself : (s : Slot R D) → s.is_changed ≡ true → slot_marked s ≡ s
   marked_itself s e = λ j. record s { is_changed = sym e j }
 
-  -- one that is marked already
+  -- Marking a marked slot changes nothing.
   pub marked_already : (ss : List (Slot R D)) (i : ℕ) (s : Slot R D) → i < length ss → s ≡ get_or ss i s → s.is_changed ≡ true → slots_marked ss i ≡ ss
   marked_already ss i s l at e = marked_set ss i s l at ∙ ap (set ss i) (marked_itself s e ∙ at) ∙ set-get_or ss i s
 
@@ -281,7 +281,7 @@ module _ {R D : Type 0} where
     few = omega (arith, tracked.few, length_push changed i, sum_marked ss i s l at e, length-marked ss i);
   }
 
-  -- another slot in a place, marked as the one before
+  -- Replacing a slot with one that is marked the same keeps the list right.
   pub set_tracked : (ss : List (Slot R D)) (changed : List ℕ) (i : ℕ) (s t : Slot R D) → AreTracked ss changed → i < length ss → s ≡ get_or ss i s → t.is_changed ≡ s.is_changed
       → (t.is_changed ≡ false → t.base ≡ t.fields) → AreTracked (set ss i t) changed
   set_tracked ss changed i s t tracked l at e fits = record {
@@ -305,7 +305,7 @@ module _ {R D : Type 0} where
         omega (arith, tracked.few, sum_by-set one_if_unmarked ss i t s l, same, length-set ss i t);
   }
 
-  -- one slot more at the end, whose base is its record
+  -- Adding a slot whose base equals its record keeps the list right.
   pub pushed_tracked : (ss : List (Slot R D)) (s : Slot R D) (changed : List ℕ) → s.base ≡ s.fields → s.is_changed ≡ false → AreTracked ss changed → AreTracked (ss ++ s ∷ []) changed
   pushed_tracked ss s changed b e tracked =
       let len = length_push ss s in
@@ -327,7 +327,7 @@ module _ {R D : Type 0} where
             omega (arith, tracked.few, sum_by_push one_if_unmarked ss s, one, len);
       }
 
-  -- a slot that was found stands where it stood, once one is marked
+  -- A slot that was found keeps its place when one is marked.
   pub marked_there : (ss us ms : List (Slot R D)) (n i j : ℕ) → us ≡ ss → ms ≡ slots_marked ss j → (i < length us) × (slice_index (numbers_of us) i ≡ n)
       → (i < length ms) × (slice_index (numbers_of ms) i ≡ n)
   marked_there ss us ms n i j same is there =
@@ -335,7 +335,7 @@ module _ {R D : Type 0} where
       let l = there.0 in
       (omega arith, ap (λ (z : List (Slot R D)). slice_index (numbers_of z) i) is ∙ ap (λ (ns : List ℕ). slice_index ns i) (numbers_marked ss j) ∙ ap (λ (z : List (Slot R D)). slice_index (numbers_of z) i) (sym same) ∙ there.1)
 
-  -- slots that are folded stand for the same, where the base was the records
+  -- Folding keeps the order and, if the base equals the records, the contents.
   pub fold_up : (ss fs : List (Slot R D)) → AreAscending ss → fs ≡ map slot_folded ss → AreAscending fs
   fold_up ss fs up is = subst (λ (z : List (Slot R D)). AreAscending z) (sym is) (ascending_folded ss up)
 
@@ -349,11 +349,11 @@ module _ {R D : Type 0} where
   pub fold_len : (ss fs : List (Slot R D)) → fs ≡ map slot_folded ss → length fs ≡ length ss
   fold_len ss fs is = ap length is ∙ length-map ss slot_folded
 
-  -- folded slots are kept with an empty list
+  -- Folded slots with an empty list are a valid set.
   pub folded_kept : (ss : List (Slot R D)) (changed : List ℕ) (capacity : ℕ) → AreAscending ss → AreFolded ss → changed ≡ [] → length ss ≤ capacity → AreKept ss changed capacity
   folded_kept ss changed capacity up f none l = record { ascending = up; tracked = subst (λ (p : List ℕ). AreTracked ss p) (sym none) (folded_tracked ss f); room = l }
 
-  -- where none is listed, none is marked
+  -- If none is listed, none is marked.
   pub none_listed : (ss : List (Slot R D)) (changed : List ℕ) → AreTracked ss changed → changed ≡ [] → AreFolded ss
   none_listed ss changed tracked none =
       all_folded ss (λ s c.
@@ -362,7 +362,7 @@ module _ {R D : Type 0} where
         | false ↦ λ e. (tracked.same c.0 s c.1 (sym c.2) e, refl)
       ] refl)
 
-  -- the record of each slot and its base, where the maps are alike
+  -- Each slot's record is like its base if the maps are alike.
   pub alike_slots : (k : RecordRules R) (ss : List (Slot R D)) (c : Contents R D) → AreAscending ss → contents_of ss ≡ c → RecordsAreLikeTheirBase k c → AllLikeTheirBases k ss
   alike_slots k ss c up is like i s l at =
       let n = slice_index (numbers_of ss) i in

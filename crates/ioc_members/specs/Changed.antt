@@ -5,10 +5,10 @@ use Rattle.ioc_members.specs.declared.slots.Slot.{Slot}
 use Rattle.ioc_members.specs.Contents.{Records}
 
 module _ {R : Type 0} (f : R → R) where
-  -- a slot with its record changed, and marked so
+  -- The slot with its record changed and marked so.
   abbrev pub slot_changed : {D : Type 0} → Slot R D → Slot R D
   slot_changed s = record s { fields = f s.fields; is_changed = true }
 
-  -- each record, changed
+  -- The records, each changed.
   abbrev pub all_changed : Records R → Records R
   all_changed m = from_sorted (map (λ e. (e.0, f e.1)) (entries m))

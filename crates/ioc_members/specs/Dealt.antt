@@ -1,8 +1,8 @@
--- Slots dealt out by the numbers of their parts.
+-- Slots divided by the numbers of their parts.
 use Rattle.std.specs.Prelude.{ℕ, Bool, List, [], ◌∷◌, if◌then◌else◌}
 use Rattle.ioc_members.specs.declared.slots.Slot.{Slot}
 
--- the slots whose number passes
+-- The slots whose number passes.
 abbrev pub dealt : {R D : Type 0} → (ℕ → Bool) → List ℕ → List (Slot R D) → List (Slot R D)
 dealt passes [] ss = []
 dealt passes (n ∷ ns) [] = []

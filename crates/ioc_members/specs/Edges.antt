@@ -6,21 +6,21 @@ use Rattle.ioc_common.specs.declared.link_field.LinkField.{LinkField}
 use Rattle.ioc_record.specs.RecordRules.{RecordRules, targets}
 use Rattle.ioc_members.specs.declared.slots.Slot.{Slot}
 
--- from a record to each that its links name
+-- The edges from a record to each that its links name.
 abbrev pub edges_from : ℕ → List ℕ → List Edge
 edges_from n named = map (λ t. record { from = n; to = t }) named
 
 module _ {R D : Type 0} (k : RecordRules R) where
-  -- the links of all records
+  -- The edges of the links of all records.
   abbrev pub edges_in : List (Slot R D) → List Edge
   edges_in [] = []
   edges_in (s ∷ ss) = edges_from s.number (targets k s.fields) ++ edges_in ss
 
-  -- with one link set, of its base too
+  -- The slot with one link set, in its base too.
   abbrev pub slot_relinked : Slot R D → FieldNo → LinkField → Slot R D
   slot_relinked s field link = record s { fields = k.with_link s.fields field link; base = k.with_link s.base field link }
 
-  -- the slots with one link of the slot at a place set
+  -- The slots with one link of the slot at a place set.
   abbrev pub slots_relinked : List (Slot R D) → ℕ → FieldNo → LinkField → List (Slot R D)
   slots_relinked [] i field link = []
   slots_relinked (s ∷ ss) zero field link = slot_relinked s field link ∷ ss

@@ -1,4 +1,4 @@
--- What the slots of a set stand for.
+-- The maps that the slots of a set represent.
 use Rattle.std.specs.Prelude.{ℕ, List, [], ◌∷◌, ◌<◌, map, filter_map, Option}
 use Rattle.std.specs.Option.{option_map}
 use Rattle.std.specs.FinMap.{from_entries}
@@ -15,15 +15,15 @@ module _ {R D : Type 0} where
   abbrev pub base_entry : Slot R D → ℕ × R
   base_entry s = (s.number, s.base)
 
-  -- the map of the records
+  -- The map of the records.
   abbrev pub records_of : List (Slot R D) → Records R
   records_of slots = from_entries (map record_entry slots)
 
-  -- the map of their devices
+  -- The map of their devices.
   abbrev pub devices_of : List (Slot R D) → Devices D
   devices_of slots = from_entries (filter_map device_entry slots)
 
-  -- and the map of their bases
+  -- The map of their bases.
   abbrev pub bases_of : List (Slot R D) → Records R
   bases_of slots = from_entries (map base_entry slots)
 
@@ -33,12 +33,12 @@ module _ {R D : Type 0} where
   abbrev pub numbers_of : List (Slot R D) → List ℕ
   numbers_of slots = map (λ s. s.number) slots
 
-  -- the number is below that of every slot
+  -- Holds if the number is below that of every slot.
   abbrev pub IsBelow : ℕ → List (Slot R D) → Type 0
   IsBelow n [] = Unit {0}
   IsBelow n (s ∷ ss) = (n < s.number) × IsBelow n ss
 
-  -- the numbers rise from slot to slot
+  -- Holds if the numbers ascend from slot to slot.
   abbrev pub AreAscending : List (Slot R D) → Type 0
   AreAscending [] = Unit {0}
   AreAscending (s ∷ ss) = IsBelow s.number ss × AreAscending ss

@@ -4,16 +4,16 @@ ghost use Rattle.ioc_members.specs.Changed.{slot_changed};
 
 use crate::slots::Slot;
 
-/// A change of a record.
+/// A change that can be applied to a record.
 pub trait Change<K> {
     ghost changed: { Self → K → K };
 
-    /// Makes the change.
+    /// Applies the change to a record.
     fn apply(&self, item: &mut K)
         ensures { item.new ≡ changed self.now item.old };
 }
 
-/// Changes each record, and marks it as changed.
+/// Applies the change to each record, and marks it as changed.
 pub fn change_slots<K, D, C: Change<K>>(slots: &mut [Slot<K, D>], by: &C)
     ensures { slots.new ≡ map (slot_changed (C.changed by.now)) slots.old }
 {

@@ -9,7 +9,7 @@ use ioc_graph::{Edge, parts};
 use ioc_record::RecordKind;
 use std::alloc::{AllocError, Global};
 
-// Do all edges lead to a record of these slots?
+// Returns whether all edges lead to a record of these slots.
 fn lead_within<K, D>(edges: &[Edge], slots: &[Slot<K, D>]) -> bool
     requires { AreAscending slots.now }
     ensures { IsTrue result ↔ All (λ e. Contains (numbers_of slots.now) e.to) edges.now }
@@ -22,18 +22,18 @@ fn lead_within<K, D>(edges: &[Edge], slots: &[Slot<K, D>]) -> bool
     true
 }
 
-// Are all parts the first?
+// Returns whether all are the first part.
 fn are_first(numbers: &[usize]) -> bool
     ensures { IsTrue result ↔ All (λ n. n ≡ 0) numbers.now }
 {
     numbers.iter().all(|number| *number == 0)
 }
 
-/// Are the records one connected part, and does no link leave them?
+/// Returns whether the records are one connected part and no link leaves them.
 ///
 /// # Errors
 ///
-/// [`AllocError`] where memory is wanting.
+/// [`AllocError`] if allocation fails.
 pub fn are_one_part<K: RecordKind, D>(
     alloc: Global,
     slots: &[Slot<K, D>],

@@ -1,17 +1,18 @@
-//! Slots dealt out to two sets.
+//! Division of slots into two sets.
 ghost use Rattle.std.specs.Prelude.{◌≡◌, ◌+◌, ◌≤◌, ◌==◌, [], filter, length, not, vec_len, vec_capacity};
 ghost use Rattle.ioc_members.specs.Dealt.{dealt};
 
 use crate::slots::Slot;
 
-/// How many of these numbers are the one given.
+/// Returns how many of these numbers equal `number`.
 pub fn count_of(numbers: &[usize], number: usize) -> usize
     ensures { result ≡ length (filter (λ n. n == number) numbers.now) }
 {
     numbers.iter().filter(|n| **n == number).count()
 }
 
-/// Each slot goes to those that stay, where its number is the one given, or else to the rest. Both have room.
+/// Moves each slot to `stay` if its number is `number`, and to `rest` otherwise. Both must have
+/// room for their slots.
 pub fn deal<K: Drop, D: Drop>(
     slots: Vec<Slot<K, D>>,
     numbers: &[usize],

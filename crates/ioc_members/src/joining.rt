@@ -1,4 +1,4 @@
-//! Two sets become one.
+//! The union of two sets.
 ghost use Rattle.std.specs.Prelude.{◌≡◌, ◌<◌, ◌≤◌, ◌+◌, ◌++◌, length, IfOk, OnOk, OnErr, [], vec_capacity};
 ghost use Rattle.std.specs.List.Sorted.{IsNonDecreasingBy, IsPermutation};
 ghost use Rattle.ioc_members.specs.Edges.{slots_relinked};
@@ -10,7 +10,7 @@ use ioc_fields::FieldNo;
 use ioc_record::RecordKind;
 use std::alloc::{AllocError, Global};
 
-/// Room for so many records: for those of two sets that become one.
+/// Memory for the records of two sets that become one.
 #[derive(Drop)]
 pub struct Room<K, D> {
     slots: Vec<Slot<K, D>>,
@@ -23,11 +23,11 @@ pub struct Room<K, D> {
 }
 
 impl<K: Drop, D: Drop> Room<K, D> {
-    /// Room for so many.
+    /// Reserves room for `count` records.
     ///
     /// # Errors
     ///
-    /// [`AllocError`] where memory is wanting.
+    /// [`AllocError`] if allocation fails.
     pub fn new(alloc: Global, count: usize) -> Result<Self, AllocError>
         ensures { IfOk result (λ r. r.count ≡ count) }
     {
@@ -50,11 +50,12 @@ fn sort<K, D>(slots: &mut Vec<Slot<K, D>>)
     slots.sort_unstable_by_key(|slot| slot.number.index());
 }
 
-/// Takes over the slots of another set, and sets a link of the record at a place, and of its base: `link` and `twin` are alike.
+/// Moves the slots of another set here, and sets a link of the record at a place, and of its base.
+/// `link` and `twin` must be equal.
 ///
 /// # Errors
 ///
-/// [`AllocError`] where memory is wanting: nothing has changed then.
+/// [`AllocError`] if allocation fails; nothing has changed then.
 pub fn join_slots<K: RecordKind, D>(
     slots: &mut Vec<Slot<K, D>>,
     other: &mut Vec<Slot<K, D>>,
@@ -77,7 +78,8 @@ pub fn join_slots<K: RecordKind, D>(
     Ok(())
 }
 
-/// Moves slots, and the list of those that have changed, into a room for more. None has changed.
+/// Moves slots and the list of changed ones to the larger memory of `room`. No slot may be marked
+/// as changed.
 pub fn move_in<K: Drop, D: Drop>(
     room: Room<K, D>,
     slots: &mut Vec<Slot<K, D>>,
@@ -101,7 +103,7 @@ pub fn move_in<K: Drop, D: Drop>(
     *changed = places;
 }
 
-/// The same as [`join_slots`], where there is room for both.
+/// Joins two sets as [`join_slots`] does, if the memory for both is reserved.
 pub fn join_with_room<K: RecordKind, D>(
     slots: &mut Vec<Slot<K, D>>,
     other: &mut Vec<Slot<K, D>>,

@@ -1,5 +1,8 @@
-//! The records of one lock set, each with its device, and how a link change joins two sets or parts one.
-//! Application Developer's Guide, "Database Locking, Scanning, and Processing": records that links join are in one lock set.
+//! The records of one lock set, each with its device, and how a link change joins two sets or
+//! divides one.
+//!
+//! Application Developer's Guide, "Database Locking, Scanning, and Processing": records that links
+//! join are in one lock set.
 #![tactic(auto)]
 
 pub mod changing;

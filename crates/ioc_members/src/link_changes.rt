@@ -1,4 +1,4 @@
-//! Link changes of the records of lock sets: one that is parted, and two that become one.
+//! Link changes on the records of lock sets: one set that is divided, and two that become one.
 ghost use Rattle.std.specs.Prelude.{◌≡◌, ◌<◌, ◌≤◌, ◌+◌, ℕ, IsSome, IfOk, OnOk, OnErr, Contains, [], ◌∷◌, None, Some};
 ghost use Rattle.std.specs.FinMap as map;
 ghost use Rattle.ioc_common.specs.Links.{use_of, named_by};
@@ -17,13 +17,15 @@ use ioc_record::RecordKind;
 use std::alloc::{AllocError, Global};
 
 impl<K: RecordKind + Drop, D: Drop> Members<K, D> {
-    /// Sets a link of a record: to nowhere, or to a record of this set. The set keeps the record's part, and the records
-    /// that no link joins to it any more come back with their devices: one part too, or none. Each record is its own base, before
-    /// and after; so its base gets the link too, `twin`, which is the same as `link`. Cost: near the number of records and links.
+    /// Sets a link of a record to nowhere, or to a record of this set. The set keeps the part of
+    /// the record. The records that no link joins to it any more are returned with their devices:
+    /// they are one part too, or none. Each record equals its base before and after, so the base
+    /// gets an equal link, `twin`. The cost is nearly proportional to the number of records and
+    /// links.
     ///
     /// # Errors
     ///
-    /// [`AllocError`] where memory is wanting: nothing has changed then.
+    /// [`AllocError`] if allocation fails; nothing has changed then.
     pub fn part(
         &mut self,
         alloc: Global,
@@ -38,7 +40,8 @@ impl<K: RecordKind + Drop, D: Drop> Members<K, D> {
         requires field { HasLink K.rules self.old.records number field }
         requires within { (t : ℕ) → Contains (named_by (use_of link)) t → IsSome (map.get self.old.records t) }
 
-        // Each record is in one of the two, unchanged but for the one link, and so is each device.
+        // Each record is in one of the two, unchanged except for the one link, and so is each
+        // device.
         ensures shared { IfOk result (λ rest. AreShared (map.get (relinked K.rules self.old.records number field link)) (map.get self.new.records) (map.get rest.records)) }
         ensures devices { IfOk result (λ rest. AreShared (map.get self.old.devices) (map.get self.new.devices) (map.get rest.devices)) }
         ensures own { OnOk result (IsSome (map.get self.new.records number)) }
@@ -63,13 +66,14 @@ impl<K: RecordKind + Drop, D: Drop> Members<K, D> {
 }
 
 impl<K: RecordKind, D> Members<K, D> {
-    /// Sets a link of a record, which stood nowhere, to a record of another set, and takes over that set with its devices.
-    /// The other has no records then. Each record is its own base, before and after; so its base gets the link too, `twin`, which
-    /// is the same as `link`. Cost: n log n of the records of both.
+    /// Sets a link of a record, which led nowhere, to a record of another set, and takes over that
+    /// set with its devices; the other set has no records then. Each record equals its base before
+    /// and after, so the base gets an equal link, `twin`. The cost is n log n for n records in
+    /// both.
     ///
     /// # Errors
     ///
-    /// [`AllocError`] where memory is wanting: nothing has changed then.
+    /// [`AllocError`] if allocation fails; nothing has changed then.
     pub fn join(
         &mut self,
         other: &mut Members<K, D>,
@@ -87,7 +91,8 @@ impl<K: RecordKind, D> Members<K, D> {
         requires free { HasFreeLink K.rules self.old.records number field }
         requires to { (t : ℕ) × (named_by (use_of link) ≡ t ∷ []) × IsSome (map.get other.old.records t) }
 
-        // The records are those of both, each once, unchanged but for the one link, and so are the devices.
+        // The records are those of both sets, each once, unchanged except for the one link, and so
+        // are the devices.
         ensures shared { OnOk result (AreShared (map.get self.new.records) (map.get (relinked K.rules self.old.records number field link)) (map.get other.old.records)) }
         ensures devices { OnOk result (AreShared (map.get self.new.devices) (map.get self.old.devices) (map.get other.old.devices)) }
         ensures part { OnOk result (IsPart (links_of K.rules self.new.records)) }
@@ -107,7 +112,8 @@ impl<K: RecordKind, D> Members<K, D> {
 }
 
 impl<K: RecordKind + Drop, D: Drop> Members<K, D> {
-    /// The same as [`Members::join`] in a room that was taken before, so that it can't fail.
+    /// Joins two sets as [`Members::join`] does, in memory that was reserved before, so that it
+    /// can't fail.
     pub fn join_in(
         &mut self,
         room: Room<K, D>,

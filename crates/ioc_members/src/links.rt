@@ -17,7 +17,7 @@ use ioc_names::RecordNo;
 use ioc_record::RecordKind;
 use std::alloc::{AllocError, Global};
 
-// The edge of a link that stands.
+// Appends the edge of a link, if it is standing.
 fn add_link(
     edges: &mut Vec<Edge>,
     number: RecordNo,
@@ -38,11 +38,11 @@ fn add_link(
     Ok(())
 }
 
-/// Adds the edges of a record's links.
+/// Appends the edges of a record's links.
 ///
 /// # Errors
 ///
-/// [`AllocError`] where memory is wanting.
+/// [`AllocError`] if allocation fails.
 pub fn add_links<K: RecordKind>(
     edges: &mut Vec<Edge>,
     number: RecordNo,
@@ -56,14 +56,14 @@ pub fn add_links<K: RecordKind>(
     Ok(())
 }
 
-// Are these one field? Each field has a name of its own.
+// Returns whether these are the same field. Each field has its own name.
 fn is_same(one: FieldNo, other: FieldNo) -> bool
     ensures { IsTrue result ↔ one ≡ other }
 {
     name_of(one) == name_of(other)
 }
 
-// The edges of a record's links once one of them is set.
+// Appends the edges of a record's links after one of them is set.
 fn add_links_with<K: RecordKind>(
     edges: &mut Vec<Edge>,
     number: RecordNo,
@@ -84,7 +84,7 @@ fn add_links_with<K: RecordKind>(
     Ok(())
 }
 
-// The edges of all links once one of them is set.
+// Returns the edges of all links after one of them is set.
 fn edges_with<K: RecordKind, D>(
     alloc: Global,
     slots: &[Slot<K, D>],
@@ -106,11 +106,11 @@ fn edges_with<K: RecordKind, D>(
     Ok(edges)
 }
 
-/// The edges of all links.
+/// Returns the edges of all links.
 ///
 /// # Errors
 ///
-/// [`AllocError`] where memory is wanting.
+/// [`AllocError`] if allocation fails.
 pub fn edges_of<K: RecordKind, D>(
     alloc: Global,
     slots: &[Slot<K, D>],
@@ -124,22 +124,22 @@ pub fn edges_of<K: RecordKind, D>(
     Ok(edges)
 }
 
-/// The numbers of the records.
+/// Returns the numbers of the records.
 ///
 /// # Errors
 ///
-/// [`AllocError`] where memory is wanting.
+/// [`AllocError`] if allocation fails.
 pub fn numbers<K, D>(alloc: Global, slots: &[Slot<K, D>]) -> Result<Vec<RecordNo>, AllocError>
     ensures { IfOk result (λ numbers. numbers.items ≡ numbers_of slots.now) }
 {
     slots.iter().map(|slot| slot.number).collect(alloc)
 }
 
-/// The parts that the records are in once a link is set: for each slot the number of its part.
+/// Returns the parts of the records after a link is set: the number of its part for each slot.
 ///
 /// # Errors
 ///
-/// [`AllocError`] where memory is wanting.
+/// [`AllocError`] if allocation fails.
 pub fn parts_with<K: RecordKind, D>(
     alloc: Global,
     slots: &[Slot<K, D>],

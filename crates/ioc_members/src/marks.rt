@@ -1,4 +1,4 @@
-//! Which records have changed since their bases, and how the bases follow them.
+//! The records that have changed since their bases, and how the bases follow them.
 ghost use Rattle.std.specs.Prelude.{◌≡◌, ◌<◌, ◌≤◌, length, map, [], vec_capacity};
 ghost use Rattle.std.specs.List.{range_with_len};
 ghost use Rattle.ioc_members.specs.Edges.{slot_relinked};
@@ -9,7 +9,8 @@ use ioc_common::KeptLink;
 use ioc_fields::FieldNo;
 use ioc_record::RecordKind;
 
-/// The record at a place may differ from its base from now on. There is room for its place.
+/// Marks the record at a place, which may differ from its base from now on. Its place must fit into
+/// `changed`.
 pub fn mark<K, D>(slots: &mut Vec<Slot<K, D>>, changed: &mut Vec<usize>, place: usize)
     requires there { place < length slots.old.items }
     requires tracked { AreTracked slots.old.items changed.old.items }
@@ -25,7 +26,7 @@ pub fn mark<K, D>(slots: &mut Vec<Slot<K, D>>, changed: &mut Vec<usize>, place: 
     changed.push_reserved(place);
 }
 
-/// The places of all slots, so many, are those that have changed. There is room for them.
+/// Lists the places of all `count` slots as changed. They must fit into `changed`.
 pub fn list_all(changed: &mut Vec<usize>, count: usize)
     requires { count ≤ vec_capacity changed.old }
     ensures places { changed.new.items ≡ range_with_len 0 count }
@@ -37,7 +38,8 @@ pub fn list_all(changed: &mut Vec<usize>, count: usize)
     }
 }
 
-/// The base of each slot becomes its record. Cost: the records that have changed.
+/// Copies each changed record to its base. The cost is proportional to the number of changed
+/// records.
 pub fn fold_slots<K: RecordKind, D>(slots: &mut Vec<Slot<K, D>>, changed: &mut Vec<usize>)
     requires tracked { AreTracked slots.old.items changed.old.items }
     requires like { AllLikeTheirBases K.rules slots.old.items }
@@ -53,7 +55,7 @@ pub fn fold_slots<K: RecordKind, D>(slots: &mut Vec<Slot<K, D>>, changed: &mut V
     changed.clear();
 }
 
-/// Sets a link of a record, and of its base.
+/// Sets a link of a record and of its base.
 pub fn relink<K: RecordKind, D>(
     slot: &mut Slot<K, D>,
     field: FieldNo,

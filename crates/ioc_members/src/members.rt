@@ -21,15 +21,16 @@ use ioc_record::RecordKind;
 use std::alloc::{AllocError, Global};
 use std::marker::Model;
 
-/// The records of a lock set, by ascending numbers, each with its device if it has one, and beside each its base: what it
-/// was before the first of the events that are kept. Contracts see three maps from numbers: to records, to devices, and to
-/// bases.
+/// The records of a lock set in ascending order of their numbers, each with its device, if it has
+/// one, and its base: the record before the first event of the history. Contracts see three maps
+/// from numbers: to records, to devices, and to bases.
 #[derive(Drop)]
 pub struct Members<K, D> {
     pub(crate) slots: Vec<Slot<K, D>>,
-    // The places of the records that may differ from their bases. There is room for all, so that no event wants memory.
+    // The places of the records that may differ from their bases. There is room for all, so that no
+    // event allocates.
     pub(crate) changed: Vec<usize>,
-    // Where the record stood that was lent last to be changed: most looks at records are looks at that one.
+    // The place of the record that was borrowed mutably last; most accesses are to that one.
     pub(crate) latest: usize,
 }
 
@@ -50,7 +51,7 @@ impl<K, D> Model for Members<K, D> {
 }
 
 impl<K, D> Members<K, D> {
-    /// No records.
+    /// Creates a set with no records.
     pub fn new(alloc: Global) -> Self
         ensures { result ≡ nothing }
     {
@@ -61,11 +62,11 @@ impl<K, D> Members<K, D> {
         }
     }
 
-    /// No records, with room for so many.
+    /// Creates a set with no records and room for `count`.
     ///
     /// # Errors
     ///
-    /// [`AllocError`] where memory is wanting.
+    /// [`AllocError`] if allocation fails.
     pub fn with_room(alloc: Global, count: usize) -> Result<Self, AllocError>
         ensures { IfOk result (λ m. m ≡ nothing) }
     {
@@ -78,22 +79,22 @@ impl<K, D> Members<K, D> {
         })
     }
 
-    /// How many records there are.
+    /// Returns the number of records.
     pub fn len(&self) -> usize
         ensures { result ≡ map.len self.now.records }
     {
         self.slots.len()
     }
 
-    /// Is there no record?
+    /// Returns whether there is no record.
     pub fn is_empty(&self) -> bool
         ensures { IsTrue result ↔ self.now ≡ nothing }
     {
         self.slots.is_empty()
     }
 
-    /// Is each record its own base? Where it is, this answers no all the same if a record was lent to be changed since the last
-    /// [`Members::fold`].
+    /// Returns whether each record equals its base. It may return `false` although that holds, if a
+    /// record was borrowed mutably since the last [`Members::fold`].
     pub fn is_folded(&self) -> bool
         ensures folded { IsTrue result → self.now.base ≡ self.now.records }
         ensures empty { self.now ≡ nothing → IsTrue result }
@@ -101,7 +102,7 @@ impl<K, D> Members<K, D> {
         self.changed.is_empty()
     }
 
-    /// Is there a record of this number?
+    /// Returns whether there is a record with this number.
     #[inline(always)]
     pub fn has(&self, number: RecordNo) -> bool
         ensures { result ≡ map.contains_key self.now.records number }
@@ -109,7 +110,8 @@ impl<K, D> Members<K, D> {
         place_of(&self.slots, self.latest, number).is_some()
     }
 
-    /// The number of the record at a place, from 0 on, in the order of their numbers; none past the last.
+    /// Returns the number of the record at a place, from 0 on, in the order of the numbers, or
+    /// `None` past the last.
     pub fn number_at(&self, place: usize) -> Option<RecordNo>
         ensures { result ≡ slice_get (map.keys self.now.records) place }
     {
@@ -117,14 +119,14 @@ impl<K, D> Members<K, D> {
         Some(slot.number)
     }
 
-    /// The lowest number of a record; none where there is no record.
+    /// Returns the lowest number of a record, or `None` if there is no record.
     pub fn lowest(&self) -> Option<RecordNo>
         ensures { result ≡ slice_get (map.keys self.now.records) 0 }
     {
         self.number_at(0)
     }
 
-    /// Are all records below this number?
+    /// Returns whether all records are below this number.
     pub fn is_below(&self, number: RecordNo) -> bool
         ensures { IsTrue result ↔ ((q : ℕ) → IsSome (map.get self.now.records q) → q < number) }
     {
@@ -134,14 +136,14 @@ impl<K, D> Members<K, D> {
         }
     }
 
-    /// Is no record in both?
+    /// Returns whether no record is in both.
     pub fn is_apart(&self, other: &Self) -> bool
         ensures { IsTrue result ↔ ((q : ℕ) → IsSome (map.get self.now.records q) → map.get other.now.records q ≡ None) }
     {
         are_apart(&self.slots, &other.slots)
     }
 
-    /// Does the link name no record but one that is there?
+    /// Returns whether the link names no record outside this set.
     pub fn leads_within(&self, link: &KeptLink) -> bool
         ensures { IsTrue result ↔ ((t : ℕ) → Contains (named_by (use_of link.now)) t → IsSome (map.get self.now.records t)) }
     {
@@ -151,7 +153,7 @@ impl<K, D> Members<K, D> {
         }
     }
 
-    /// Does the link name a record that is there?
+    /// Returns whether the link names a record of this set.
     pub fn leads_into(&self, link: &KeptLink) -> bool
         ensures { IsTrue result ↔ ((t : ℕ) × (named_by (use_of link.now) ≡ t ∷ []) × IsSome (map.get self.now.records t)) }
     {
@@ -161,14 +163,14 @@ impl<K, D> Members<K, D> {
         }
     }
 
-    /// There are fewer than 2^63 records: there is no memory for more.
+    /// There are fewer than 2^63 records, since no more fit into memory.
     pub fn are_few(&self)
         ensures { map.len self.now.records < 2 ^ 63 }
     {
         let _ = &self.slots;
     }
 
-    /// Each device is that of a record that is there, and each record has a base.
+    /// Each device belongs to a record of this set, and each record has a base.
     pub fn devices_are_owned(&self)
         ensures devices { DevicesAreOwned self.now }
         ensures base { BaseHasTheSame self.now }
@@ -178,11 +180,12 @@ impl<K, D> Members<K, D> {
 }
 
 impl<K: Drop, D: Drop> Members<K, D> {
-    /// Adds a record whose number is above those of all others, with its device if it has one. Its base is the same as the record.
+    /// Adds a record whose number is above those of all others, with its device, if it has one. Its
+    /// base must equal the record.
     ///
     /// # Errors
     ///
-    /// [`AllocError`] where memory is wanting: nothing has changed then.
+    /// [`AllocError`] if allocation fails; nothing has changed then.
     pub fn add(
         &mut self,
         number: RecordNo,
@@ -211,7 +214,7 @@ impl<K: Drop, D: Drop> Members<K, D> {
 }
 
 impl<K: RecordKind, D> Members<K, D> {
-    /// Is there a record of this number, and is the field one of its link fields?
+    /// Returns whether there is a record with this number, and the field is one of its link fields.
     pub fn has_link(&self, number: RecordNo, field: FieldNo) -> bool
         ensures { IsTrue result ↔ HasLink K.rules self.now.records number field }
     {
@@ -221,7 +224,8 @@ impl<K: RecordKind, D> Members<K, D> {
         self.record(number).link(field).is_some()
     }
 
-    /// The same, and does the link of the field stand nowhere?
+    /// Returns whether there is a record with this number, the field is one of its link fields, and
+    /// its link leads nowhere.
     pub fn has_free_link(&self, number: RecordNo, field: FieldNo) -> bool
         ensures { IsTrue result ↔ HasFreeLink K.rules self.now.records number field }
     {
@@ -234,11 +238,12 @@ impl<K: RecordKind, D> Members<K, D> {
         }
     }
 
-    /// Are the records one connected part, or none, and does no link leave them? Cost: near the number of records and links.
+    /// Returns whether the records are one connected part or none, and no link leaves them. The
+    /// cost is nearly proportional to the number of records and links.
     ///
     /// # Errors
     ///
-    /// [`AllocError`] where memory is wanting.
+    /// [`AllocError`] if allocation fails.
     pub fn is_part(&self, alloc: Global) -> Result<bool, AllocError>
         ensures { IfOk result (λ is. IsTrue is ↔ IsPart (links_of K.rules self.now.records)) }
     {
@@ -246,7 +251,7 @@ impl<K: RecordKind, D> Members<K, D> {
         Ok(one_part)
     }
 
-    /// A record that is there.
+    /// Returns a record of this set.
     #[inline(always)]
     pub fn record(&self, number: RecordNo) -> &K
         requires { IsTrue (map.contains_key self.now.records number) }
@@ -258,7 +263,7 @@ impl<K: RecordKind, D> Members<K, D> {
         &self.slots[place].fields
     }
 
-    /// The base of a record that is there.
+    /// Returns the base of a record of this set.
     pub fn base(&self, number: RecordNo) -> &K
         requires { IsTrue (map.contains_key self.now.records number) }
         ensures { result.now ≡ record_at K.rules self.now.base number }
@@ -269,7 +274,7 @@ impl<K: RecordKind, D> Members<K, D> {
         &self.slots[place].base
     }
 
-    /// A record that is there, to be changed. Its base stays.
+    /// Returns a record of this set for changes. Its base is unchanged.
     #[inline(always)]
     pub fn record_mut(&mut self, number: RecordNo) -> &mut K
         requires { IsTrue (map.contains_key self.old.records number) }
@@ -282,7 +287,8 @@ impl<K: RecordKind, D> Members<K, D> {
         &mut self.slots[place].fields
     }
 
-    /// Each record is its own base from now on. Cost: the records that were lent to be changed since this was done last.
+    /// Makes each record its own base. The cost is proportional to the number of records that were
+    /// borrowed mutably since the last call.
     pub fn fold(&mut self)
         requires like { RecordsAreLikeTheirBase K.rules self.old }
         ensures { self.new ≡ record self.old { base = self.old.records } }
@@ -292,7 +298,7 @@ impl<K: RecordKind, D> Members<K, D> {
 }
 
 impl<K, D> Members<K, D> {
-    /// Changes each record. The devices and the bases are as they were.
+    /// Applies a change to each record. The devices and the bases are unchanged.
     pub fn change_all<C: Change<K>>(&mut self, by: &C)
         ensures records { self.new.records ≡ all_changed (C.changed by.now) self.old.records }
         ensures devices { self.new.devices ≡ self.old.devices }
@@ -303,7 +309,7 @@ impl<K, D> Members<K, D> {
     }
 }
 
-// What a device answers, if there is one.
+// Returns the answer of a device, or a fault if there is none.
 fn gives<D: Device>(device: &mut Option<D>, ask: &Ask, moment: u64) -> Answer
     ensures { Gives D.gives device.old ask.now moment result device.new }
 {
@@ -314,7 +320,8 @@ fn gives<D: Device>(device: &mut Option<D>, ask: &Ask, moment: u64) -> Answer
 }
 
 impl<K, D: Device> Members<K, D> {
-    /// What the device of a record answers; a fault, where it has none. Every other device keeps its state.
+    /// Returns the answer of a record's device, or a fault if the record has none. Every other
+    /// device keeps its state.
     pub fn device_gives(&mut self, number: RecordNo, ask: &Ask, moment: u64) -> Answer
         ensures gives { GivesAt D.gives self.old.devices number ask.now moment result self.new.devices }
         ensures records { self.new.records ≡ self.old.records }

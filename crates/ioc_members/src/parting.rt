@@ -1,4 +1,4 @@
-//! A set falls apart.
+//! The division of a set.
 ghost use Rattle.std.specs.Prelude.{◌≡◌, ◌<◌, ◌≤◌, [], length, true, is_some, IfOk, OnErr, slice_index_or, vec_capacity};
 ghost use Rattle.ioc_members.specs.declared.slots.Slot.{Slot};
 ghost use Rattle.ioc_members.specs.Edges.{slots_relinked};
@@ -16,12 +16,13 @@ use ioc_record::RecordKind;
 use std::alloc::{AllocError, Global};
 use std::mem;
 
-/// Sets a link of the record at a place, and of its base: `link` and `twin` are alike. The slots of that record's part stay, and
-/// the others come back, with room for the places of all of them. Where all are of that part, none is moved.
+/// Sets a link of the record at a place, and of its base; `link` and `twin` must be equal. The
+/// slots of the part of that record stay, and the others are returned, with room for the places of
+/// all of them. If all are of that part, none is moved.
 ///
 /// # Errors
 ///
-/// [`AllocError`] where memory is wanting: nothing has changed then.
+/// [`AllocError`] if allocation fails; nothing has changed then.
 pub fn part_slots<K: RecordKind + Drop, D: Drop>(
     alloc: Global,
     slots: &mut Vec<Slot<K, D>>,

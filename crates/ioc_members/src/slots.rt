@@ -1,23 +1,23 @@
-//! The places of a set's records, by ascending numbers.
+//! The slots of a set's records, in ascending order of their numbers.
 ghost use Rattle.std.specs.Prelude.{◌≡◌, ◌≢◌, ◌<◌, ◌↔◌, ℕ, None, length, IfSome, IfNone, IsSome, IsTrue, slice_index};
 ghost use Rattle.std.specs.FinMap.{contains_key, get};
 ghost use Rattle.ioc_members.specs.Slots.{AreAscending, numbers_of, records_of};
 
 use ioc_names::RecordNo;
 
-/// A record's place in its set: the record, its base, which is the record as it was before the first of the events that
-/// are kept, and its device if it has one.
+/// The slot of a record in its set: the record, its base, which is the record before the first
+/// event of the history, and its device, if it has one.
 #[derive(Drop)]
 pub struct Slot<K, D> {
     pub number: RecordNo,
     pub fields: K,
     pub base: K,
-    /// May the record differ from its base?
+    /// Whether the record may differ from its base.
     pub is_changed: bool,
     pub device: Option<D>,
 }
 
-// The place of a record, by binary search.
+// Returns the place of a record, by binary search.
 fn searched<K, D>(slots: &[Slot<K, D>], number: RecordNo) -> Option<usize>
     requires { AreAscending slots.now }
     ensures found { IfSome result (λ i. (i < length slots.now) × (slice_index (numbers_of slots.now) i ≡ number)) }
@@ -42,7 +42,7 @@ fn searched<K, D>(slots: &[Slot<K, D>], number: RecordNo) -> Option<usize>
     Some(low)
 }
 
-// Does the record stand at this place?
+// Returns whether the record is at this place.
 fn stands_at<K, D>(slots: &[Slot<K, D>], place: usize, number: RecordNo) -> bool
     ensures { IsTrue result ↔ ((place < length slots.now) × (slice_index (numbers_of slots.now) place ≡ number)) }
 {
@@ -52,8 +52,8 @@ fn stands_at<K, D>(slots: &[Slot<K, D>], place: usize, number: RecordNo) -> bool
     }
 }
 
-// Where a record would stand if the numbers of the set were evenly spread, as those of records that were loaded one after another are. It may be
-// past the last place.
+// Returns the place of a record if the numbers of the set were evenly spaced, as those of records
+// that were loaded together are. It may be past the last place.
 fn on_the_line<K, D>(slots: &[Slot<K, D>], number: RecordNo) -> usize {
     let (Some(first), Some(last)) = (slots.first(), slots.last()) else {
         return 0;
@@ -70,7 +70,7 @@ fn on_the_line<K, D>(slots: &[Slot<K, D>], number: RecordNo) -> usize {
         / span
 }
 
-// The place next to one, on the side on which the record stands.
+// Returns the place next to this one, on the side of the record.
 fn beside<K, D>(slots: &[Slot<K, D>], place: usize, number: RecordNo) -> usize {
     match slots.get(place) {
         Some(slot) if slot.number.index() < number.index() => place.saturating_add(1),
@@ -78,8 +78,8 @@ fn beside<K, D>(slots: &[Slot<K, D>], place: usize, number: RecordNo) -> usize {
     }
 }
 
-// The place of a record: where it would stand on a line, if it stands there, else by binary search. This isn't inlined, since most looks find their
-// record before.
+// Returns the place of a record: the one for evenly spaced numbers if the record is there, and
+// otherwise by binary search. It is not inlined, since most searches find their record before.
 #[inline(never)]
 fn looked_for<K, D>(slots: &[Slot<K, D>], number: RecordNo) -> Option<usize>
     requires { AreAscending slots.now }
@@ -93,8 +93,9 @@ fn looked_for<K, D>(slots: &[Slot<K, D>], number: RecordNo) -> Option<usize>
     searched(slots, number)
 }
 
-/// The place of a record: where it is guessed to stand or next to that, as a record that links lead to mostly does, if it stands there; else where it
-/// would stand on a line, or by binary search.
+/// Returns the place of a record. It tries the guess and the place next to it, which is mostly
+/// right for a record that a link leads to, then the place for evenly spaced numbers, and then a
+/// binary search.
 #[inline(always)]
 pub fn place_of<K, D>(slots: &[Slot<K, D>], guess: usize, number: RecordNo) -> Option<usize>
     requires { AreAscending slots.now }
@@ -111,7 +112,7 @@ pub fn place_of<K, D>(slots: &[Slot<K, D>], guess: usize, number: RecordNo) -> O
     looked_for(slots, number)
 }
 
-// The place of a record that is there, guessed as [`place_of`] guesses it.
+// Returns the place of a record of the set, guessed as [`place_of`] does.
 #[inline(always)]
 fn sought<K, D>(slots: &[Slot<K, D>], guess: usize, number: RecordNo) -> usize
     requires ascending { AreAscending slots.now }
@@ -124,7 +125,8 @@ fn sought<K, D>(slots: &[Slot<K, D>], guess: usize, number: RecordNo) -> usize
     place
 }
 
-/// The place of a record that is there is guessed from now on. Where it was guessed before, as most times, nothing is stored.
+/// Sets the guess to the place of a record of the set. If the guess is right already, which is
+/// mostly so, nothing is stored.
 #[inline(always)]
 pub fn seek<K, D>(slots: &[Slot<K, D>], guess: &mut usize, number: RecordNo)
     requires ascending { AreAscending slots.now }
@@ -136,7 +138,7 @@ pub fn seek<K, D>(slots: &[Slot<K, D>], guess: &mut usize, number: RecordNo)
     }
 }
 
-/// Is no record in both?
+/// Returns whether no record is in both.
 pub fn are_apart<K, D>(slots: &[Slot<K, D>], others: &[Slot<K, D>]) -> bool
     requires ascending { AreAscending slots.now × AreAscending others.now }
     ensures { IsTrue result ↔ ((q : ℕ) → IsSome (get (records_of slots.now) q) → get (records_of others.now) q ≡ None) }

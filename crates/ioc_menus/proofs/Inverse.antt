@@ -1,4 +1,4 @@
--- In a list of distinct texts, a text's position is the one place where it stands.
+-- In a list of distinct texts, the position of a text is the only place where it occurs.
 use Rattle.std.proofs.Common.{◌≡◌, ℕ, zero, suc, ◌+◌, ◌<◌, Bool, true, false, not, cond, ◌&&◌, ◌||◌, Some, List, [], ◌∷◌, length, position, get_or, refl, sym, ap, ◌∙◌, arith, ◌↔◌}
 use Rattle.std.proofs.lemmas.Bool.Decides.{nat_tests}
 use Rattle.std.proofs.lemmas.List.Sums.{passes_at_first}
@@ -7,7 +7,7 @@ use Rattle.std.proofs.lemmas.Slice.Eq.{bytes_eq-Decides}
 use Rattle.std.specs.List.{slice_get, list_any, position_or_len}
 use Rattle.std.specs.Str.{bytes_eq}
 
--- no text stands twice in the list
+-- Holds if no text occurs twice in the list.
 abbrev pub are_distinct : List (List ℕ) → Bool
 are_distinct [] = true
 are_distinct (t ∷ ts) = not (list_any (λ u. bytes_eq t u) ts) && are_distinct ts

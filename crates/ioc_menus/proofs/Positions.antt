@@ -1,4 +1,4 @@
--- Positions in a list of texts lent.
+-- Positions in a list of borrowed texts.
 use Rattle.std.proofs.Common.{◌≡◌, ℕ, ◌+◌, not, cond, List, [], ◌∷◌, map, position, Bor, refl, ap}
 use Rattle.std.proofs.lemmas.List.{length-map}
 use Rattle.std.specs.List.{prefix_len}

@@ -17,19 +17,19 @@ use Rattle.ioc_menus.specs.declared.ivoa.Ivoa.TheVariants as ivoa
 use Rattle.ioc_menus.specs.declared.selm.Selm.{Selm}
 use Rattle.ioc_menus.specs.declared.selm.Selm.TheVariants as selm
 
--- the number of a Severity choice
+-- The number of a `Severity` choice.
 abbrev pub severity_number : Severity → ℕ
 severity_number severity.NoAlarm = 0
 severity_number severity.Minor = 1
 severity_number severity.Major = 2
 severity_number severity.Invalid = 3
 
--- every Severity choice, in the order of the numbers
+-- The `Severity` choices, in the order of their numbers.
 abbrev pub severities : List Severity
 severities =
     severity.NoAlarm ∷ severity.Minor ∷ severity.Major ∷ severity.Invalid ∷ []
 
--- the number of a Status choice
+-- The number of a `Status` choice.
 abbrev pub status_number : Status → ℕ
 status_number status.NoAlarm = 0
 status_number status.Read = 1
@@ -54,12 +54,12 @@ status_number status.Simm = 19
 status_number status.ReadAccess = 20
 status_number status.WriteAccess = 21
 
--- every Status choice, in the order of the numbers
+-- The `Status` choices, in the order of their numbers.
 abbrev pub statuses : List Status
 statuses =
     status.NoAlarm ∷ status.Read ∷ status.Write ∷ status.Hihi ∷ status.High ∷ status.Lolo ∷ status.Low ∷ status.State ∷ status.Cos ∷ status.Comm ∷ status.Timeout ∷ status.HwLimit ∷ status.Calc ∷ status.Scan ∷ status.Link ∷ status.Soft ∷ status.BadSub ∷ status.Udf ∷ status.Disable ∷ status.Simm ∷ status.ReadAccess ∷ status.WriteAccess ∷ []
 
--- the number of a Scan choice
+-- The number of a `Scan` choice.
 abbrev pub scan_number : Scan → ℕ
 scan_number scan.Passive = 0
 scan_number scan.Event = 1
@@ -72,60 +72,60 @@ scan_number scan.HalfSecond = 7
 scan_number scan.FifthSecond = 8
 scan_number scan.TenthSecond = 9
 
--- every Scan choice, in the order of the numbers
+-- The `Scan` choices, in the order of their numbers.
 abbrev pub scans : List Scan
 scans =
     scan.Passive ∷ scan.Event ∷ scan.IoIntr ∷ scan.TenSeconds ∷ scan.FiveSeconds ∷ scan.TwoSeconds ∷ scan.OneSecond ∷ scan.HalfSecond ∷ scan.FifthSecond ∷ scan.TenthSecond ∷ []
 
--- the number of a Priority choice
+-- The number of a `Priority` choice.
 abbrev pub priority_number : Priority → ℕ
 priority_number priority.Low = 0
 priority_number priority.Medium = 1
 priority_number priority.High = 2
 
--- every Priority choice, in the order of the numbers
+-- The `Priority` choices, in the order of their numbers.
 abbrev pub priorities : List Priority
 priorities =
     priority.Low ∷ priority.Medium ∷ priority.High ∷ []
 
--- the number of a Pini choice
+-- The number of a `Pini` choice.
 abbrev pub pini_number : Pini → ℕ
 pini_number pini.No = 0
 pini_number pini.Yes = 1
 
--- every Pini choice, in the order of the numbers
+-- The `Pini` choices, in the order of their numbers.
 abbrev pub pinis : List Pini
 pinis =
     pini.No ∷ pini.Yes ∷ []
 
--- the number of an Omsl choice
+-- The number of a `Omsl` choice.
 abbrev pub omsl_number : Omsl → ℕ
 omsl_number omsl.Supervisory = 0
 omsl_number omsl.ClosedLoop = 1
 
--- every Omsl choice, in the order of the numbers
+-- The `Omsl` choices, in the order of their numbers.
 abbrev pub omsls : List Omsl
 omsls =
     omsl.Supervisory ∷ omsl.ClosedLoop ∷ []
 
--- the number of an Ivoa choice
+-- The number of a `Ivoa` choice.
 abbrev pub ivoa_number : Ivoa → ℕ
 ivoa_number ivoa.ContinueNormally = 0
 ivoa_number ivoa.DontDriveOutputs = 1
 ivoa_number ivoa.SetOutputToIvov = 2
 
--- every Ivoa choice, in the order of the numbers
+-- The `Ivoa` choices, in the order of their numbers.
 abbrev pub ivoas : List Ivoa
 ivoas =
     ivoa.ContinueNormally ∷ ivoa.DontDriveOutputs ∷ ivoa.SetOutputToIvov ∷ []
 
--- the number of a Selm choice
+-- The number of a `Selm` choice.
 abbrev pub selm_number : Selm → ℕ
 selm_number selm.All = 0
 selm_number selm.Specified = 1
 selm_number selm.Mask = 2
 
--- every Selm choice, in the order of the numbers
+-- The `Selm` choices, in the order of their numbers.
 abbrev pub selms : List Selm
 selms =
     selm.All ∷ selm.Specified ∷ selm.Mask ∷ []

@@ -4,47 +4,47 @@ use Rattle.std.specs.Str.{bytes_eq}
 use Rattle.ioc_menus.specs.declared.menu.Menu.{Menu}
 use Rattle.ioc_menus.specs.declared.menu.Menu.TheVariants.{Severity, Status, Scan, Priority, Pini, Omsl, Ivoa, Selm}
 
--- of SEVR, NSEV and every field that holds a severity
+-- The texts of SEVR, NSEV and every other field that holds a severity.
 abbrev pub severity_texts : List (List ℕ)
 severity_texts =
     codes "NO_ALARM" ∷ codes "MINOR" ∷ codes "MAJOR" ∷ codes "INVALID" ∷ []
 
--- of STAT and NSTA
+-- The texts of STAT and NSTA.
 abbrev pub status_texts : List (List ℕ)
 status_texts =
     codes "NO_ALARM" ∷ codes "READ" ∷ codes "WRITE" ∷ codes "HIHI" ∷ codes "HIGH" ∷ codes "LOLO" ∷ codes "LOW" ∷ codes "STATE" ∷ codes "COS" ∷ codes "COMM" ∷ codes "TIMEOUT" ∷ codes "HWLIMIT" ∷ codes "CALC" ∷ codes "SCAN" ∷ codes "LINK" ∷ codes "SOFT" ∷ codes "BAD_SUB" ∷ codes "UDF" ∷ codes "DISABLE" ∷ codes "SIMM" ∷ codes "READ_ACCESS" ∷ codes "WRITE_ACCESS" ∷ []
 
--- of SCAN
+-- The texts of SCAN.
 abbrev pub scan_texts : List (List ℕ)
 scan_texts =
     codes "Passive" ∷ codes "Event" ∷ codes "I/O Intr" ∷ codes "10 second" ∷ codes "5 second" ∷ codes "2 second" ∷ codes "1 second" ∷ codes ".5 second" ∷ codes ".2 second" ∷ codes ".1 second" ∷ []
 
--- of PRIO
+-- The texts of PRIO.
 abbrev pub priority_texts : List (List ℕ)
 priority_texts =
     codes "LOW" ∷ codes "MEDIUM" ∷ codes "HIGH" ∷ []
 
--- of PINI; EPICS has more, which are no choices here
+-- The texts of PINI. The other choices that EPICS has are not supported.
 abbrev pub pini_texts : List (List ℕ)
 pini_texts =
     codes "NO" ∷ codes "YES" ∷ []
 
--- of OMSL
+-- The texts of OMSL.
 abbrev pub omsl_texts : List (List ℕ)
 omsl_texts =
     codes "supervisory" ∷ codes "closed_loop" ∷ []
 
--- of IVOA
+-- The texts of IVOA.
 abbrev pub ivoa_texts : List (List ℕ)
 ivoa_texts =
     codes "Continue normally" ∷ codes "Don't drive outputs" ∷ codes "Set output to IVOV" ∷ []
 
--- of SELM
+-- The texts of SELM.
 abbrev pub selm_texts : List (List ℕ)
 selm_texts =
     codes "All" ∷ codes "Specified" ∷ codes "Mask" ∷ []
 
--- the texts of a menu's choices, in the order of their numbers
+-- The texts of a menu's choices, in the order of their numbers.
 abbrev pub texts_of : Menu → List (List ℕ)
 texts_of Severity = severity_texts
 texts_of Status = status_texts
@@ -55,10 +55,10 @@ texts_of Omsl = omsl_texts
 texts_of Ivoa = ivoa_texts
 texts_of Selm = selm_texts
 
--- the number of the choice with this text
+-- The number of the choice with this text.
 abbrev pub choice_of : Menu → List ℕ → Option ℕ
 choice_of menu text = position (λ t. bytes_eq t text) (texts_of menu)
 
--- the text of the choice of this number
+-- The text of the choice with this number.
 abbrev pub text_of : Menu → ℕ → Option (List ℕ)
 text_of menu number = slice_get (texts_of menu) number

@@ -1,7 +1,7 @@
 //! The choices of IVOA. Record Reference Manual, "Invalid Output Action".
 ghost use Rattle.std.specs.Prelude.{◌≡◌, ◌<◌, ◌↔◌, IsSome, IfSome, slice_get};
 
-/// What an output record does where its alarm is INVALID.
+/// What an output record does if its alarm is INVALID.
 #[derive(Clone, Copy, PartialEq, Eq, Debug)]
 pub enum Ivoa {
     ContinueNormally,
@@ -12,14 +12,14 @@ pub enum Ivoa {
 impl Ivoa {
     ghost use Rattle.ioc_menus.specs.Numbers.{ivoa_number, ivoas};
 
-    /// The number of the choice, from 0 on.
+    /// Returns the number of the choice, counted from 0.
     pub fn number(self) -> u16
         ensures { result ≡ ivoa_number self }
     {
         self as u16
     }
 
-    /// The choice of this number, where there is one.
+    /// Returns the choice with this number, or `None` if there is none.
     pub fn from_number(number: u16) -> Option<Self>
         ensures there { IsSome result ↔ (number < 3) }
         ensures numbered { IfSome result (λ choice. ivoa_number choice ≡ number) }

@@ -71,7 +71,7 @@ static IVOA: [&str; 3] = [
 
 static SELM: [&str; 3] = ["All", "Specified", "Mask"];
 
-/// The texts of a menu's choices, in the order of their numbers.
+/// Returns the texts of the menu's choices, in the order of their numbers.
 pub fn choices(menu: Menu) -> &'static [&'static str]
     ensures texts { map (λ t. t.now) result.now ≡ texts_of menu }
     ensures few { length result.now ≤ 22 }
@@ -88,7 +88,7 @@ pub fn choices(menu: Menu) -> &'static [&'static str]
     }
 }
 
-// The place of the text among the texts.
+// Returns the position of the text among the texts.
 fn position_of(texts: &[&str], text: &[u8]) -> Option<usize>
     ensures value { result ≡ position (λ t. bytes_eq t.now text.now) texts.now }
     ensures within { IfSome result (λ n. n < length texts.now) }
@@ -96,7 +96,7 @@ fn position_of(texts: &[&str], text: &[u8]) -> Option<usize>
     texts.iter().position(|choice| choice.as_bytes() == text)
 }
 
-/// The number of the choice with exactly this text.
+/// Returns the number of the choice with exactly this text.
 pub fn choice(menu: Menu, text: &[u8]) -> Option<u16>
     ensures { result ≡ choice_of menu text.now }
 {
@@ -104,7 +104,7 @@ pub fn choice(menu: Menu, text: &[u8]) -> Option<u16>
     Some(number as u16)
 }
 
-/// The text of the choice of this number.
+/// Returns the text of the choice with this number.
 pub fn text(menu: Menu, number: u16) -> Option<&'static str>
     ensures { option_copied result ≡ text_of menu number }
 {

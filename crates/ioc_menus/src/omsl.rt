@@ -4,7 +4,7 @@ ghost use Rattle.std.specs.Prelude.{◌≡◌, ◌<◌, ◌↔◌, IsSome, IfSom
 /// Where an output record takes its value from.
 #[derive(Clone, Copy, PartialEq, Eq, Debug)]
 pub enum Omsl {
-    /// From puts alone.
+    /// Only from puts.
     Supervisory,
     /// From its DOL link.
     ClosedLoop,
@@ -13,14 +13,14 @@ pub enum Omsl {
 impl Omsl {
     ghost use Rattle.ioc_menus.specs.Numbers.{omsl_number, omsls};
 
-    /// The number of the choice, from 0 on.
+    /// Returns the number of the choice, counted from 0.
     pub fn number(self) -> u16
         ensures { result ≡ omsl_number self }
     {
         self as u16
     }
 
-    /// The choice of this number, where there is one.
+    /// Returns the choice with this number, or `None` if there is none.
     pub fn from_number(number: u16) -> Option<Self>
         ensures there { IsSome result ↔ (number < 2) }
         ensures numbered { IfSome result (λ choice. omsl_number choice ≡ number) }

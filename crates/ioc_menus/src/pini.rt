@@ -1,7 +1,7 @@
 //! The choices of PINI. Record Reference Manual, "Scan Fields".
 ghost use Rattle.std.specs.Prelude.{◌≡◌, ◌<◌, ◌↔◌, IsSome, IfSome, slice_get};
 
-/// Whether a record is processed once at the start.
+/// Whether a record is processed once when the engine starts.
 #[derive(Clone, Copy, PartialEq, Eq, Debug)]
 pub enum Pini {
     No,
@@ -11,14 +11,14 @@ pub enum Pini {
 impl Pini {
     ghost use Rattle.ioc_menus.specs.Numbers.{pini_number, pinis};
 
-    /// The number of the choice, from 0 on.
+    /// Returns the number of the choice, counted from 0.
     pub fn number(self) -> u16
         ensures { result ≡ pini_number self }
     {
         self as u16
     }
 
-    /// The choice of this number, where there is one.
+    /// Returns the choice with this number, or `None` if there is none.
     pub fn from_number(number: u16) -> Option<Self>
         ensures there { IsSome result ↔ (number < 2) }
         ensures numbered { IfSome result (λ choice. pini_number choice ≡ number) }

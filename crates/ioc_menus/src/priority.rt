@@ -1,7 +1,7 @@
 //! The choices of PRIO. Record Reference Manual, "Scan Fields".
 ghost use Rattle.std.specs.Prelude.{◌≡◌, ◌<◌, ◌↔◌, IsSome, IfSome, slice_get};
 
-/// Which callback queue a record's requests take.
+/// The callback queue that a record's requests take.
 #[derive(Clone, Copy, PartialEq, Eq, Debug)]
 pub enum Priority {
     Low,
@@ -12,14 +12,14 @@ pub enum Priority {
 impl Priority {
     ghost use Rattle.ioc_menus.specs.Numbers.{priority_number, priorities};
 
-    /// The number of the choice, from 0 on.
+    /// Returns the number of the choice, counted from 0.
     pub fn number(self) -> u16
         ensures { result ≡ priority_number self }
     {
         self as u16
     }
 
-    /// The choice of this number, where there is one.
+    /// Returns the choice with this number, or `None` if there is none.
     pub fn from_number(number: u16) -> Option<Self>
         ensures there { IsSome result ↔ (number < 3) }
         ensures numbered { IfSome result (λ choice. priority_number choice ≡ number) }

@@ -1,10 +1,10 @@
 //! The choices of SCAN. Record Reference Manual, "Scan Fields".
 ghost use Rattle.std.specs.Prelude.{◌≡◌, ◌<◌, ◌↔◌, IsSome, IfSome, slice_get};
 
-/// When a record is processed of itself.
+/// When a record is processed by scanning.
 #[derive(Clone, Copy, PartialEq, Eq, Debug)]
 pub enum Scan {
-    /// Never: only where a client or another record asks for it.
+    /// Never. It is processed only if a client or another record asks for it.
     Passive,
     /// When its event is posted.
     Event,
@@ -22,14 +22,14 @@ pub enum Scan {
 impl Scan {
     ghost use Rattle.ioc_menus.specs.Numbers.{scan_number, scans};
 
-    /// The number of the choice, from 0 on.
+    /// Returns the number of the choice, counted from 0.
     pub fn number(self) -> u16
         ensures { result ≡ scan_number self }
     {
         self as u16
     }
 
-    /// The choice of this number, where there is one.
+    /// Returns the choice with this number, or `None` if there is none.
     pub fn from_number(number: u16) -> Option<Self>
         ensures there { IsSome result ↔ (number < 10) }
         ensures numbered { IfSome result (λ choice. scan_number choice ≡ number) }

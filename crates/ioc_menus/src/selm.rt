@@ -5,7 +5,7 @@ ghost use Rattle.std.specs.Prelude.{◌≡◌, ◌<◌, ◌↔◌, IsSome, IfSom
 #[derive(Clone, Copy, PartialEq, Eq, Debug)]
 pub enum Selm {
     All,
-    /// The one that SELN and OFFS name.
+    /// The one that SELN and OFFS select.
     Specified,
     /// Those whose bits are set in SELN.
     Mask,
@@ -14,14 +14,14 @@ pub enum Selm {
 impl Selm {
     ghost use Rattle.ioc_menus.specs.Numbers.{selm_number, selms};
 
-    /// The number of the choice, from 0 on.
+    /// Returns the number of the choice, counted from 0.
     pub fn number(self) -> u16
         ensures { result ≡ selm_number self }
     {
         self as u16
     }
 
-    /// The choice of this number, where there is one.
+    /// Returns the choice with this number, or `None` if there is none.
     pub fn from_number(number: u16) -> Option<Self>
         ensures there { IsSome result ↔ (number < 3) }
         ensures numbered { IfSome result (λ choice. selm_number choice ≡ number) }

@@ -1,7 +1,7 @@
 //! Alarm severities. Record Reference Manual, "Alarm Fields".
 ghost use Rattle.std.specs.Prelude.{◌≡◌, ◌<◌, ◌↔◌, IsSome, IfSome, slice_get};
 
-/// How grave an alarm is.
+/// The severity of an alarm.
 #[derive(Clone, Copy, PartialEq, Eq, Debug)]
 pub enum Severity {
     NoAlarm,
@@ -13,14 +13,14 @@ pub enum Severity {
 impl Severity {
     ghost use Rattle.ioc_menus.specs.Numbers.{severity_number, severities};
 
-    /// The number of the choice, from 0 on.
+    /// Returns the number of the choice, counted from 0.
     pub fn number(self) -> u16
         ensures { result ≡ severity_number self }
     {
         self as u16
     }
 
-    /// The choice of this number, where there is one.
+    /// Returns the choice with this number, or `None` if there is none.
     pub fn from_number(number: u16) -> Option<Self>
         ensures there { IsSome result ↔ (number < 4) }
         ensures numbered { IfSome result (λ choice. severity_number choice ≡ number) }

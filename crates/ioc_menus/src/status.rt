@@ -1,7 +1,7 @@
 //! Alarm statuses. Record Reference Manual, "Alarm Fields".
 ghost use Rattle.std.specs.Prelude.{◌≡◌, ◌<◌, ◌↔◌, IsSome, IfSome, slice_get};
 
-/// What raised an alarm.
+/// The cause of an alarm.
 #[derive(Clone, Copy, PartialEq, Eq, Debug)]
 pub enum Status {
     NoAlarm,
@@ -31,14 +31,14 @@ pub enum Status {
 impl Status {
     ghost use Rattle.ioc_menus.specs.Numbers.{status_number, statuses};
 
-    /// The number of the choice, from 0 on.
+    /// Returns the number of the choice, counted from 0.
     pub fn number(self) -> u16
         ensures { result ≡ status_number self }
     {
         self as u16
     }
 
-    /// The choice of this number, where there is one.
+    /// Returns the choice with this number, or `None` if there is none.
     pub fn from_number(number: u16) -> Option<Self>
         ensures there { IsSome result ↔ (number < 22) }
         ensures numbered { IfSome result (λ choice. status_number choice ≡ number) }

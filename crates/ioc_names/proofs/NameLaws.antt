@@ -1,4 +1,4 @@
--- What a map answers once a name is inserted.
+-- Look-ups in a map after a name is inserted.
 use Rattle.std.proofs.Common.{◌≡◌, ◌≢◌, ℕ, cond, nat_eq, true, false, Some, List, refl, sym, ap, ◌∙◌}
 use Rattle.std.proofs.lemmas.Slice.Eq.{bytes_eq-Decides}
 use Rattle.std.specs.Ordering.{nat_cmp, eq_by_cmp}

@@ -1,4 +1,4 @@
--- The entries of the hash table, as a finite map.
+-- The entries of the hash table as a finite map.
 use Rattle.std.proofs.Common.{◌≡◌, ℕ, ◌<◌, ◌≤◌, Bool, true, false, cond, nat_eq, Option, Some, None, IfSome, List, [], ◌∷◌, length, refl, sym, ap, ◌∙◌, arith}
 use Rattle.std.proofs.lemmas.Slice.Eq.{bytes_eq-Decides}
 use Rattle.std.specs.Ordering.{nat_cmp, eq_by_cmp}
@@ -16,11 +16,11 @@ lookup-find q (e ∷ es) =
     ap (λ b. cond b (Some e.1) (lookup (pointwise nat_eq q) es)) (texts_ties q e.0)
     ∙ ap (λ r. cond (eq_by_cmp (slice_cmp nat_cmp) q e.0) (Some e.1) r) (lookup-find q es)
 
--- a look-up in the entries is one in the map
+-- A look-up in the entries is a look-up in the map.
 pub lookup-get : (q : List ℕ) (es : List (List ℕ × ℕ)) → lookup (pointwise nat_eq q) es ≡ get (from_entries {R = slice_cmp nat_cmp} es) q
 lookup-get q es = lookup-find q es ∙ sym (get-from_entries nat_list_cmp_total es q)
 
--- an insertion of a new name into the entries is one into the map
+-- An insertion of a new name into the entries is an insertion into the map.
 pub from_entries-insert_entry : {S : Type 0} (m : IndexMap (List ℕ) ℕ S) (es : List (List ℕ × ℕ)) (name : List ℕ) (v : ℕ) → get (from_entries {R = slice_cmp nat_cmp} m.entries) name ≡ None → es ≡ insert_entry (pointwise nat_eq) m.entries name v → from_entries {R = slice_cmp nat_cmp} es ≡ insert (from_entries m.entries) name v
 from_entries-insert_entry m es name v free e =
     let none : lookup (pointwise nat_eq name) m.entries ≡ None = lookup-get name m.entries ∙ free in
@@ -35,7 +35,7 @@ within : (b : Bool) (v n bigger : ℕ) (o : Option ℕ) → v < bigger → (o �
 within true v n bigger o h k e = let s : v ≡ n = cc in omega arith
 within false v n bigger o h k e = k e
 
--- a name of a record that is there may be inserted
+-- The table stays valid if a name of at most 60 bytes is inserted for an existing record.
 pub IsNameTable-insert : (t : FinMap (slice_cmp nat_cmp) ℕ) (count bigger : ℕ) (name : List ℕ) (v : ℕ) → length name ≤ 60 → v < bigger → count ≤ bigger → IsNameTable t count → IsNameTable (insert t name v) bigger
 IsNameTable-insert t count bigger name v few there grows is = record {
   short = λ q long.

@@ -4,6 +4,6 @@ use Rattle.std.specs.Ordering.{nat_cmp}
 use Rattle.std.specs.Cmp.Lexicographic.{slice_cmp}
 use Rattle.std.specs.FinMap.{FinMap, from_entries}
 
--- the map from names to numbers that the entries are
+-- The map from names to numbers that the entries form.
 abbrev pub number_map : List (List ℕ × ℕ) → FinMap (slice_cmp nat_cmp) ℕ
 number_map = from_entries

@@ -1,11 +1,11 @@
-//! What became of a name that was to be entered.
+//! The result of entering a name.
 use crate::record_no::RecordNo;
 
-/// What became of a name that was to be entered.
+/// The result of entering a name.
 #[derive(Clone, Copy, PartialEq, Eq, Debug)]
 pub enum Entered {
-    /// The record of this number had the name before: nothing has changed.
+    /// The record with this number had the name already; nothing has changed.
     Before(RecordNo),
-    /// A new record has the name, and this number.
+    /// A new record with this number has the name.
     Now(RecordNo),
 }

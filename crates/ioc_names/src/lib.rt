@@ -1,5 +1,5 @@
-//! Record numbers, and the names that stand for them.
-//! Record Reference Manual, "Fields Common to All Record Types", NAME; Application Developer's Guide, "alias".
+//! Record numbers, and the names that refer to them. Record Reference Manual, "Fields Common to All
+//! Record Types", NAME; Application Developer's Guide, "alias".
 #![tactic(auto)]
 
 pub mod entered;

@@ -11,7 +11,7 @@ use ioc_values::Name;
 use std::hash::{Hash, Hasher};
 use std::marker::Model;
 
-/// A name, compared and hashed by its bytes alone.
+/// A name that is compared and hashed by its bytes only.
 #[derive(Clone, Copy)]
 pub struct NameKey {
     name: Name,
@@ -28,7 +28,7 @@ impl Model for NameKey {
 }
 
 impl NameKey {
-    /// The key of a name.
+    /// Creates the key of a name.
     pub fn new(name: Name) -> Self
         ensures value { result ≡ name }
         ensures short { length name ≤ 60 }
@@ -52,7 +52,8 @@ impl Eq for NameKey {
     ghost laws = { nat_list_eq_equiv };
 }
 
-/// The bytes of a name stand for its key, so that a name is looked up where it lies.
+/// A key is equivalent to the bytes of its name, so that a name can be looked up by reference,
+/// without a copy.
 impl Equivalent<NameKey> for &[u8] {
     ghost equivalent = { λ q k. pointwise nat_eq q.now k };
 

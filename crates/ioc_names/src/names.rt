@@ -15,7 +15,7 @@ use std::alloc::{AllocError, Global};
 use std::marker::Model;
 
 /// The names and aliases of records, with the records' numbers. Contracts see it as the map from
-/// names to numbers, and how many records there are.
+/// names to numbers, and the number of records.
 #[derive(Drop)]
 pub struct Names {
     numbers: IndexMap<NameKey, RecordNo>,
@@ -36,7 +36,7 @@ impl Model for Names {
 }
 
 impl Names {
-    /// No records.
+    /// Creates an empty table.
     pub fn new(alloc: Global) -> Self
         ensures { result ≡ no_names }
     {
@@ -46,22 +46,22 @@ impl Names {
         }
     }
 
-    /// How many records there are.
+    /// Returns the number of records.
     pub fn len(&self) -> usize
         ensures { result ≡ self.now.count }
     {
         self.count
     }
 
-    /// Whether there are no records.
+    /// Returns whether there are no records.
     pub fn is_empty(&self) -> bool
         ensures { IsTrue result ↔ (self.now.count ≡ 0) }
     {
         self.count == 0
     }
 
-    /// The number of the record that has this name or alias, by one look-up. No record has a name
-    /// of more than 60 bytes.
+    /// Returns the number of the record that has this name or alias, by one look-up. No record has
+    /// a name of more than 60 bytes.
     pub fn find(&self, name: &[u8]) -> Option<RecordNo>
         ensures value { result ≡ number_of self.now name.now }
         ensures known { IfSome result (λ number. number < self.now.count) }
@@ -70,11 +70,12 @@ impl Names {
         numbers.get(name).copied()
     }
 
-    /// A new record has this name, and the next number, from 0 on. No record has the name yet: see `find`.
+    /// Adds a record with this name and returns its number, which is the next one, counted from 0.
+    /// No record must have the name yet; see `find`.
     ///
     /// # Errors
     ///
-    /// [`AllocError`] where memory is wanting: nothing has changed then.
+    /// [`AllocError`] if allocation fails; nothing has changed then.
     pub fn add(&mut self, name: Name) -> Result<RecordNo, AllocError>
         requires free { number_of self.old name ≡ None }
         requires room { self.old.count < 2 ^ 64 - 1 }
@@ -88,12 +89,12 @@ impl Names {
         Ok(number)
     }
 
-    /// The number of the record that has this name or alias, by one look-up; else a new record has the name, and the
-    /// next number.
+    /// Returns the number of the record that has this name or alias, by one look-up. If there is
+    /// none, adds a record with this name and the next number.
     ///
     /// # Errors
     ///
-    /// [`AllocError`] where memory is wanting: nothing has changed then.
+    /// [`AllocError`] if allocation fails; nothing has changed then.
     pub fn find_or_add(&mut self, name: Name) -> Result<Entered, AllocError>
         requires { self.old.count < 2 ^ 64 - 1 }
         ensures entered { OnOk result (self.new ≡ entered self.old name) }
@@ -108,11 +109,11 @@ impl Names {
         Ok(Entered::Now(next))
     }
 
-    /// The record of this number has this second name. No record has the name yet: see `find`.
+    /// Adds an alias for the record with this number. No record must have the name yet; see `find`.
     ///
     /// # Errors
     ///
-    /// [`AllocError`] where memory is wanting: nothing has changed then.
+    /// [`AllocError`] if allocation fails; nothing has changed then.
     pub fn alias(&mut self, number: RecordNo, alias: Name) -> Result<(), AllocError>
         requires free { number_of self.old alias ≡ None }
         requires known { number < self.old.count }
@@ -124,7 +125,7 @@ impl Names {
     }
 }
 
-// Finds the number that a name was entered with, or enters it with this one.
+// Returns the number that the name was entered with, or enters the name with this number.
 fn find_or_enter(
     numbers: &mut IndexMap<NameKey, RecordNo>,
     name: Name,

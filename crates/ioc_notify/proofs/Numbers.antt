@@ -1,4 +1,4 @@
--- Others in the place of the notification with a number.
+-- Replacing the put with notification with a number.
 use Rattle.std.proofs.Common.{◌≡◌, ◌≢◌, ℕ, zero, suc, ◌+◌, ◌-◌, ◌^◌, ◌<◌, ◌≤◌, Bool, true, false, not, cond, ◌||◌, nat_eq, nat_lt, Some, List, [], ◌∷◌, ◌++◌, length, take, drop, get_or, set, refl, sym, ap, ◌∙◌, arith}
 use Rattle.std.specs.List.{list_any}
 use Rattle.std.proofs.lemmas.Bool.Decides.{nat_tests}
@@ -14,7 +14,7 @@ same_number a b e = grind (arith, nat_tests)
 other_number : (a b : ℕ) → a ≢ b → nat_eq a b ≡ false
 other_number a b e = grind (arith, nat_tests)
 
--- at the first place with the number
+-- The first one with the number is replaced.
 pub others_there : (n : ℕ) (f : Live → List Live) (xs : List Live) (i : ℕ) (d : Live) → i < length xs → ((e : Live) → (get_or xs i e).number ≡ n) → ((k : ℕ) (e : Live) → k < i → (get_or xs k e).number ≢ n)
     → at_number n f xs ≡ take i xs ++ f (get_or xs i d) ++ drop (suc i) xs
 others_there n f [] i d l at before = absurd (omega arith)
@@ -38,7 +38,7 @@ by_test : (b : Bool) (rest : Bool) → (b || rest) ≡ false → (b ≡ false) �
 by_test true rest e = cc
 by_test false rest e = (refl, e)
 
--- where nobody has the number
+-- If none has the number, the list stays the same.
 pub nobody : (n : ℕ) (f : Live → List Live) (xs : List Live) → list_any (λ l. nat_eq l.number n) xs ≡ false → at_number n f xs ≡ xs
 nobody n f [] e = refl
 nobody n f (x ∷ xs) e =

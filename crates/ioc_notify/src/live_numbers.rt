@@ -1,4 +1,4 @@
-//! Notifications that are live, and how many have each.
+//! The live puts with notification, and how many records and waiting lists are part of each.
 ghost use Rattle.std.specs.Prelude.{◌≡◌, ◌↔◌, ◌+◌, ◌-◌, ◌<◌, ◌^◌, ◌==◌, length, IsTrue, IfOk};
 ghost use Rattle.std.specs.List.{list_any};
 ghost use Rattle.std.specs.Vec.{vec_capacity};
@@ -8,15 +8,15 @@ use crate::notify_id::NotifyId;
 use std::alloc::{AllocError, Global};
 use std::marker::Model;
 
-/// A notification that is live, and how many records and waiting lists have it.
+/// A live put with notification, and how many records and waiting lists are part of it.
 #[derive(Clone, Copy, PartialEq, Eq)]
 pub struct Live {
     pub number: NotifyId,
     pub holders: u64,
 }
 
-/// The notifications that are live, at most 256, by the numbers that their callers gave. All room is taken when it is
-/// made. Each call looks through those that are live.
+/// The live puts with notification, at most 256, by the numbers that their callers gave. All memory
+/// is allocated at creation. Each call takes time proportional to the number of live ones.
 #[derive(Drop)]
 pub struct LiveNumbers {
     items: Vec<Live>,
@@ -35,11 +35,11 @@ impl Model for LiveNumbers {
 }
 
 impl LiveNumbers {
-    /// None is live.
+    /// Creates a table without live puts with notification.
     ///
     /// # Errors
     ///
-    /// [`AllocError`] where memory is wanting.
+    /// [`AllocError`] if allocation fails.
     pub fn new(alloc: Global) -> Result<Self, AllocError>
         ensures { IfOk result (λ n. n ≡ none_live) }
     {
@@ -47,21 +47,21 @@ impl LiveNumbers {
         Ok(LiveNumbers { items })
     }
 
-    /// How many are live: 256 at most.
+    /// Returns how many are live, at most 256.
     pub fn len(&self) -> usize
         ensures { result ≡ length self.now.live }
     {
         self.items.len()
     }
 
-    /// Those that are live, in the order in which they began.
+    /// Returns the live ones, in the order in which they began.
     pub fn as_slice(&self) -> &[Live]
         ensures { result.now ≡ self.now.live }
     {
         self.items.as_slice()
     }
 
-    /// The notification of this number begins: one record or waiting list has it.
+    /// Begins the put with notification with this number. One record or waiting list is part of it.
     pub fn begin(&mut self, number: NotifyId)
         requires { length self.old.live < 256 }
         ensures { self.new ≡ record self.old { live = begun number self.old.live } }
@@ -69,22 +69,22 @@ impl LiveNumbers {
         self.items.push_reserved(Live { number, holders: 1 });
     }
 
-    /// Is the notification of this number live?
+    /// Returns whether the put with notification with this number is live.
     pub fn is_live(&self, number: NotifyId) -> bool
         ensures { result ≡ is_live number self.now.live }
     {
         self.items.iter().any(|live| live.number == number)
     }
 
-    /// One more record has the notification of this number, if it is live.
+    /// Adds a record to the put with notification with this number, if it is live.
     pub fn gain(&mut self, number: NotifyId)
         ensures { self.new ≡ record self.old { live = gained number self.old.live } }
     {
         gain(&mut self.items, number);
     }
 
-    /// One record or waiting list has the notification of this number no more. Answers whether that was the last one: it
-    /// has ended then, and isn't live any more.
+    /// Removes a record or waiting list from the put with notification with this number. Returns
+    /// whether that was the last one; it has ended then, and is no longer live.
     pub fn lose(&mut self, number: NotifyId) -> bool
         ensures ended { result ≡ is_at_its_last number self.old.live }
         ensures lost { self.new ≡ record self.old { live = lost number self.old.live } }
@@ -92,7 +92,7 @@ impl LiveNumbers {
         lose(&mut self.items, number)
     }
 
-    /// The notification of this number is cancelled; answers whether it was live.
+    /// Cancels the put with notification with this number. Returns whether it was live.
     pub fn forget(&mut self, number: NotifyId) -> bool
         ensures live { result ≡ is_live number self.old.live }
         ensures forgotten { self.new ≡ record self.old { live = forgotten number self.old.live } }
@@ -101,7 +101,7 @@ impl LiveNumbers {
     }
 }
 
-// One more has the notification of this number.
+// Adds a record to the put with notification with this number.
 fn gain(items: &mut Vec<Live>, number: NotifyId)
     ensures live { items.new.items ≡ gained number items.old.items }
     ensures room { vec_capacity items.new ≡ vec_capacity items.old }
@@ -115,7 +115,7 @@ fn gain(items: &mut Vec<Live>, number: NotifyId)
     }
 }
 
-// One has it no more.
+// Removes a record or waiting list from it. Returns whether that was the last one.
 fn lose(items: &mut Vec<Live>, number: NotifyId) -> bool
     ensures ended { result ≡ is_at_its_last number items.old.items }
     ensures lost { items.new.items ≡ lost number items.old.items }
@@ -136,7 +136,7 @@ fn lose(items: &mut Vec<Live>, number: NotifyId) -> bool
     true
 }
 
-// Nobody has it any more.
+// Removes the put with notification. Returns whether it was live.
 fn forget(items: &mut Vec<Live>, number: NotifyId) -> bool
     ensures live { result ≡ list_any (λ l. l.number == number) items.old.items }
     ensures forgotten { items.new.items ≡ forgotten number items.old.items }
@@ -149,7 +149,7 @@ fn forget(items: &mut Vec<Live>, number: NotifyId) -> bool
     true
 }
 
-// Where the notification of this number stands, if it does.
+// Returns the index of the put with notification with this number, if it is live.
 fn place_of(items: &[Live], number: NotifyId) -> Option<usize>
     ensures { IsPlaceOf number items.now result }
 {

@@ -1,9 +1,9 @@
-//! Numbers of notifications.
+//! Numbers of puts with notification.
 ghost use Rattle.std.specs.Prelude.{◌≡◌};
 
 use std::marker::Model;
 
-/// The number of a put with notification: 1, 2, 3, .. in the order of the calls.
+/// The number of a put with notification: 1, 2, 3 and so on, in the order of the calls.
 #[derive(Clone, Copy, PartialEq, Eq, Debug)]
 pub struct NotifyId {
     number: u64,
@@ -20,14 +20,14 @@ impl Model for NotifyId {
 }
 
 impl NotifyId {
-    /// The number.
+    /// Creates the number.
     pub fn new(number: u64) -> Self
         ensures { result ≡ number }
     {
         NotifyId { number }
     }
 
-    /// As it is printed.
+    /// Returns the number as it is printed.
     pub fn number(self) -> u64
         ensures { result ≡ self }
     {

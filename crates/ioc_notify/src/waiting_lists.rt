@@ -1,4 +1,4 @@
-//! Notifications that wait for their record.
+//! Puts with notification that wait for their record.
 ghost use Rattle.std.specs.Prelude.{◌≡◌, ◌↔◌, ◌+◌, ◌<◌, ◌≤◌, ◌==◌, length, IsTrue, IfOk, OnOk, OnErr, slice_get};
 ghost use Rattle.std.specs.List.{list_any};
 ghost use Rattle.ioc_notify.specs.Waits.{with_room, added, at_record, without, IsLowestFrom, lower};
@@ -16,12 +16,12 @@ pub struct Waiting {
     pub number: NotifyId,
     pub target: RecordNo,
     pub field: FieldNo,
-    /// What is to be put, converted for the field.
+    /// The value to put, converted for the field.
     pub value: Value,
 }
 
-/// The waiting lists of records: first in, first out. Each takes a little of one table, whose room is taken before, so
-/// that nothing allocates when a notification is added.
+/// The waiting lists of records; each is first in, first out. All lists are in one table whose
+/// memory is reserved in advance, so adding never allocates.
 #[derive(Drop)]
 pub struct WaitingLists {
     items: Vec<Waiting>,
@@ -38,11 +38,11 @@ impl Model for WaitingLists {
 }
 
 impl WaitingLists {
-    /// No notification waits, and there is room for so many.
+    /// Creates empty waiting lists with room for `room` puts with notification.
     ///
     /// # Errors
     ///
-    /// [`AllocError`] where memory is wanting.
+    /// [`AllocError`] if allocation fails.
     pub fn with_room(alloc: Global, room: usize) -> Result<Self, AllocError>
         ensures { IfOk result (λ w. w ≡ with_room room) }
     {
@@ -50,11 +50,11 @@ impl WaitingLists {
         Ok(WaitingLists { items })
     }
 
-    /// Takes room for so many more.
+    /// Reserves room for `additional` more.
     ///
     /// # Errors
     ///
-    /// [`AllocError`] where memory is wanting: all is as before then.
+    /// [`AllocError`] if allocation fails; nothing has changed then.
     pub fn reserve(&mut self, additional: usize) -> Result<(), AllocError>
         ensures same { self.new.waiting ≡ self.old.waiting }
         ensures room { OnOk result (length self.old.waiting + additional ≤ self.new.room) }
@@ -64,22 +64,22 @@ impl WaitingLists {
         self.items.reserve(additional)
     }
 
-    /// All that wait, in the order in which they were added.
+    /// Returns all that wait, in the order in which they were added.
     pub fn as_slice(&self) -> &[Waiting]
         ensures { result.now ≡ self.now.waiting }
     {
         self.items.as_slice()
     }
 
-    /// Is there room for one more?
+    /// Returns whether there is room for one more.
     pub fn has_room(&self) -> bool
         ensures { IsTrue result ↔ (length self.now.waiting < self.now.room) }
     {
         self.items.len() < self.items.capacity()
     }
 
-    /// A put with notification waits from now on, behind those that wait for its record: its number, the record, the field,
-    /// and the value, converted for the field.
+    /// Adds a put with notification at the end of its record's list, with its number, the record,
+    /// the field, and the value, converted for the field.
     pub fn add(&mut self, number: NotifyId, target: RecordNo, field: FieldNo, value: Value)
         requires { length self.old.waiting < self.old.room }
         ensures { self.new ≡ added self.old (record { number = number; target = target; field = field; value = value }) }
@@ -92,7 +92,7 @@ impl WaitingLists {
         });
     }
 
-    /// The notification that waits longest for this record.
+    /// Returns the put with notification that has waited longest for this record.
     pub fn first(&self, target: RecordNo) -> Option<Waiting>
         ensures { result ≡ slice_get (at_record target self.now.waiting) 0 }
     {
@@ -104,14 +104,14 @@ impl WaitingLists {
         None
     }
 
-    /// Does the notification of this number wait?
+    /// Returns whether the put with notification with this number waits.
     pub fn has(&self, number: NotifyId) -> bool
         ensures { result ≡ list_any (λ w. w.number == number) self.now.waiting }
     {
         self.items.iter().any(|waiting| waiting.number == number)
     }
 
-    /// The notification of this number waits no more; answers whether it did.
+    /// Removes the put with notification with this number. Returns whether it waited.
     pub fn remove(&mut self, number: NotifyId) -> bool
         ensures waited { result ≡ list_any (λ w. w.number == number) self.old.waiting }
         ensures removed { self.new ≡ record self.old { waiting = without number self.old.waiting } }
@@ -121,7 +121,8 @@ impl WaitingLists {
         waited
     }
 
-    /// The record of the lowest number, from this one on, for which a notification waits.
+    /// Returns the lowest record number, starting at this one, for which a put with notification
+    /// waits.
     pub fn next_target(&self, from: RecordNo) -> Option<RecordNo>
         ensures { IsLowestFrom from self.now.waiting result }
     {
@@ -132,11 +133,11 @@ impl WaitingLists {
         lowest
     }
 
-    /// The same lists, with room for those that wait.
+    /// Copies the lists, with room for those that wait.
     ///
     /// # Errors
     ///
-    /// [`AllocError`] where memory is wanting.
+    /// [`AllocError`] if allocation fails.
     pub fn copy(&self, alloc: Global) -> Result<Self, AllocError>
         ensures { IfOk result (λ copy. copy.waiting ≡ self.now.waiting) }
     {
@@ -145,7 +146,8 @@ impl WaitingLists {
     }
 }
 
-// The lowest from one on, with one more record.
+// Returns the lower of the target and the lowest record number so far. Targets below `from` are
+// ignored.
 fn lower(lowest: Option<RecordNo>, from: RecordNo, target: RecordNo) -> Option<RecordNo>
     ensures { result ≡ lower lowest from target }
 {

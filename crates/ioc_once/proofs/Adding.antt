@@ -1,4 +1,4 @@
--- Tickets that are begun for a list, and handed back.
+-- Tickets that are begun for the queue, and handed back.
 use Rattle.std.proofs.Common.{◌≡◌, ◌⊎◌, ℕ, ◌+◌, ◌-◌, ◌<◌, ◌≤◌, ◌^◌, Bool, true, false, cond, nat_lt, List, [], ◌∷◌, ◌++◌, refl, sym, ap, ◌∙◌, subst, inl, inr, arith}
 use Rattle.std.specs.Prelude.{map}
 use Rattle.std.proofs.lemmas.Bool.{ltb-true, ltb-false}
@@ -7,7 +7,7 @@ use Rattle.ioc_tickets.specs.Counts.{Counts, counts}
 use Rattle.ioc_once.specs.declared.once_list.OnceRequest.{OnceRequest}
 use Rattle.ioc_once.specs.Waiting.{records_of, tickets_in, IsBegun, IsReturned}
 
--- what beginning a ticket says of the counts: it is counted, or no more can be
+-- The counts before and after a ticket is begun. The ticket is counted, unless no more can be.
 pub record Begins (before after : Counts) (ticket : Bool) : Type 0 where
   pub counted : before.begun + 1 < 2 ^ 64 → (ticket ≡ true) × (after ≡ counts (before.begun + 1) before.spent before.back (before.out + 1))
   pub full : before.begun + 1 ≡ 2 ^ 64 → (ticket ≡ false) × (after ≡ before)
@@ -32,21 +32,21 @@ module _ {L : Type 0} where
   records_push [] r = refl
   records_push (x ∷ xs) r = ap (λ (ns : List ℕ). x.record ∷ ns) (records_push xs r)
 
-  -- the tickets out are those of the requests that wait, with one more
+  -- The tickets that are out are those of the waiting requests, with one more.
   pub out_with_one_more : (before after : Counts) (rs : List (OnceRequest L)) (r : OnceRequest L) → Begins before after r.ticket → before.out ≡ tickets_in rs → after.out ≡ tickets_in (rs ++ r ∷ [])
   out_with_one_more before after rs r b out = elim (begun_or_full before after r.ticket b) [
     | inl p ↦ let all = tickets_push rs r in let one = ap (λ (x : Bool). cond {A = ℕ} x 1 0) p.0 in let now = ap (λ (c : Counts). c.out) p.1 in omega (arith, all, one, now, out)
     | inr p ↦ let all = tickets_push rs r in let none = ap (λ (x : Bool). cond {A = ℕ} x 1 0) p.0 in let now = ap (λ (c : Counts). c.out) p.2 in omega (arith, all, none, now, out)
   ]
 
--- it is begun, as far as tickets are counted
+-- The ticket is begun, as far as tickets can be counted.
 pub is_begun : (before after : Counts) (ticket : Bool) → Begins before after ticket → IsBegun before after
 is_begun before after ticket b = elim (begun_or_full before after ticket b) [
   | inl p ↦ inl p.1
   | inr p ↦ inr (p.1, p.2)
 ]
 
--- what handing it back says of the counts
+-- The counts before and after a ticket is handed back.
 pub record Returns (before after : Counts) (ticket : Bool) : Type 0 where
   pub counted : ticket ≡ true → (after.begun ≡ before.begun) × (after.spent ≡ before.spent) × (after.back ≡ before.back + 1) × (after.out + 1 ≡ before.out)
   pub uncounted : ticket ≡ false → after ≡ before
@@ -67,7 +67,7 @@ is_returned before between after ticket b r = elim (begun_or_full before between
   | inr p ↦ inr (p.1, r.uncounted p.0 ∙ p.2)
 ]
 
--- and as many are out as before
+-- After a ticket is begun and handed back, as many are out as before.
 pub out_as_before : (before between after : Counts) (ticket : Bool) → Begins before between ticket → Returns between after ticket → after.out ≡ before.out
 out_as_before before between after ticket b r = elim (begun_or_full before between ticket b) [
   | inl p ↦ let now = r.counted p.0 in let out = now.3 in let is_out = ap (λ (c : Counts). c.out) p.1 in omega (arith, out, is_out)

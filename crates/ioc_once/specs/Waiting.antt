@@ -1,11 +1,12 @@
--- Requests that wait to be made once more.
--- Application Developer's Guide, "Scanning": scanOnce, and the length of its queue. That each has a ticket is this project's own.
+-- Once requests that wait. Application Developer's Guide, "Scanning": scanOnce, and the length of
+-- its queue. That each request has a ticket is this project's own.
 use Rattle.std.specs.Prelude.{◌≡◌, ◌⊎◌, ℕ, ◌+◌, ◌-◌, ◌^◌, min, List, [], ◌∷◌, ◌++◌, if◌then◌else◌, map}
 use Rattle.std.specs.List.{sum_by}
 use Rattle.ioc_tickets.specs.Counts.{Counts, counts}
 use Rattle.ioc_once.specs.declared.once_list.OnceRequest.{OnceRequest}
 
--- the records that wait, in the order of coming; what their ledger of tickets counts; and how many requests found no room
+-- The records that wait, in order of arrival; the counts of their ledger of tickets; and the number
+-- of requests that were dropped.
 pub record OnceView : Type 0 where
   pub waiting : List ℕ
   pub tickets : Counts
@@ -14,29 +15,30 @@ pub record OnceView : Type 0 where
 abbrev pub once_view : List ℕ → Counts → ℕ → OnceView
 once_view waiting tickets dropped = record { waiting = waiting; tickets = tickets; dropped = dropped }
 
--- the records of these requests
+-- The records of these requests.
 abbrev pub records_of : {L : Type 0} → List (OnceRequest L) → List ℕ
 records_of rs = map (λ r. r.record) rs
 
--- how many of these requests have a ticket that is counted
+-- The number of these requests whose ticket is counted.
 abbrev pub tickets_in : {L : Type 0} → List (OnceRequest L) → ℕ
 tickets_in rs = sum_by (λ r. if r.ticket then 1 else 0) rs
 
--- one ticket more was begun, and is out; or no more can be counted
+-- Holds if one more ticket was begun and is out, or if no more can be counted.
 abbrev pub IsBegun : Counts → Counts → Type 0
 IsBegun before after = (after ≡ counts (before.begun + 1) before.spent before.back (before.out + 1)) ⊎ ((before.begun ≡ 2 ^ 64 - 1) × (after ≡ before))
 
--- one ticket more was begun and handed back; or no more can be counted
+-- Holds if one more ticket was begun and handed back, or if no more can be counted.
 abbrev pub IsReturned : Counts → Counts → Type 0
 IsReturned before after = (after ≡ counts (before.begun + 1) before.spent (before.back + 1) before.out) ⊎ ((before.begun ≡ 2 ^ 64 - 1) × (after ≡ before))
 
--- a request of a record was put at the end of a list that has room, with a ticket of its own
+-- Holds if a request of a record was appended to a queue that has room, with a ticket of its own.
 pub record IsKept (record_number : ℕ) (before after : OnceView) : Type 0 where
   pub waiting : after.waiting ≡ before.waiting ++ record_number ∷ []
   pub tickets : IsBegun before.tickets after.tickets
   pub dropped : after.dropped ≡ before.dropped
 
--- it found none: its ticket was handed back, and it was counted as dropped
+-- Holds if a request was dropped from a full queue: its ticket was handed back, and it was counted
+-- as dropped.
 pub record IsDropped (before after : OnceView) : Type 0 where
   pub waiting : after.waiting ≡ before.waiting
   pub tickets : IsReturned before.tickets after.tickets

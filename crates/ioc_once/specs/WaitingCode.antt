@@ -1,4 +1,4 @@
--- What waits, as a tuple of its parts.
+-- The contents of the queue as a tuple.
 use Rattle.std.specs.Prelude.{ℕ, List, refl}
 use Rattle.std.specs.Coded.{Coded, code_by, coded×, coded_list, coded_ℕ}
 use Rattle.ioc_tickets.specs.Counts.{counts}

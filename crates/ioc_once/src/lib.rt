@@ -1,5 +1,5 @@
-//! Records that are to be requested once more, each with a ticket for its request.
-//! Application Developer's Guide, "Scanning": scanOnce.
+//! Once requests that wait, each with a ticket. Application Developer's Guide, "Scanning":
+//! scanOnce.
 #![tactic(auto)]
 
 pub mod once_list;

@@ -1,4 +1,4 @@
-//! The once list.
+//! The queue of once requests.
 ghost use Rattle.std.specs.Prelude.{◌≡◌, ◌<◌, ◌+◌, ◌-◌, ◌^◌, [], length, IfOk};
 ghost use Rattle.ioc_tickets.specs.Counts.{counts, AddUp};
 ghost use Rattle.ioc_once.specs.Waiting.{once_view, tickets_in, IsKept, IsDropped};
@@ -11,14 +11,15 @@ use std::marker::Model;
 use std::sync::ledger;
 use std::sync::ledger::Blank;
 
-/// A record that is to be requested once more, with the ticket of its request.
+/// A record that waits to be requested once, with the ticket of its request.
 #[derive(Drop)]
 pub struct OnceRequest<L: ledger::Ledger> {
     pub record: RecordNo,
     pub ticket: Ticket<L>,
 }
 
-/// Records that are to be requested once more, at most 1,000, in the order of coming. Each has a ticket, which is out while it waits.
+/// The records that wait to be requested once, at most 1,000, in order of arrival. Each has a
+/// ticket, which is out while the record waits.
 #[derive(Drop)]
 pub struct OnceList<L: ledger::Ledger> {
     queue: Queue<OnceRequest<L>, 1000>,
@@ -43,11 +44,12 @@ impl<L: ledger::Ledger> Model for OnceList<L> {
 }
 
 impl<L: ledger::Ledger> OnceList<L> {
-    /// None waits, and no ticket was begun. All room is taken now. The parts of the ledger are [`ioc_tickets::PARTS`].
+    /// Creates an empty queue; no ticket was begun. All memory is allocated now. The parts of the
+    /// ledger are [`ioc_tickets::PARTS`].
     ///
     /// # Errors
     ///
-    /// [`AllocError`] where memory is wanting.
+    /// [`AllocError`] if allocation fails.
     pub fn new(alloc: Global, blank: Blank) -> Result<Self, AllocError>
         requires name { blank.name ≡ L.name }
         requires parts { (blank.parts ≡ L.parts) × (blank.parts ≡ 2 ^ 64 - 1) }
@@ -61,12 +63,13 @@ impl<L: ledger::Ledger> OnceList<L> {
         })
     }
 
-    /// Puts a request of a record at the end, with a ticket of its own. Where 1,000 wait it is dropped and counted, and its ticket handed back.
+    /// Appends a request of a record, with a ticket of its own. If 1,000 wait already, the request
+    /// is counted as dropped and its ticket is handed back.
     pub fn add(&mut self, number: RecordNo)
         ensures kept { length self.old.waiting < 1000 → IsKept number self.old self.new }
         ensures dropped { length self.old.waiting ≡ 1000 → IsDropped self.old self.new }
     {
-        // A count of tickets is a number of 64 bits.
+        // Makes the bound on the count of tickets, 64 bits, known here.
         let _begun = self.ledger.begun();
         let ticket = self.ledger.begin();
         let request = OnceRequest {
@@ -79,7 +82,7 @@ impl<L: ledger::Ledger> OnceList<L> {
         }
     }
 
-    /// No request waits any more: the tickets of those that did are handed back.
+    /// Removes all waiting requests and hands back their tickets.
     pub fn hand_back_all(&mut self)
         ensures waiting { self.new.waiting ≡ [] }
         ensures begun { self.new.tickets.begun ≡ self.old.tickets.begun }
@@ -92,35 +95,35 @@ impl<L: ledger::Ledger> OnceList<L> {
         }
     }
 
-    /// How many wait.
+    /// Returns the number of waiting requests.
     pub fn len(&self) -> usize
         ensures { result ≡ length self.now.waiting }
     {
         self.queue.len()
     }
 
-    /// How many tickets were begun.
+    /// Returns the number of tickets that were begun.
     pub fn begun(&self) -> u64
         ensures { result ≡ self.now.tickets.begun }
     {
         self.ledger.begun()
     }
 
-    /// How many were spent.
+    /// Returns the number of tickets that were spent.
     pub fn spent(&self) -> u64
         ensures { result ≡ self.now.tickets.spent }
     {
         self.ledger.spent()
     }
 
-    /// How many were handed back.
+    /// Returns the number of tickets that were handed back.
     pub fn handed_back(&self) -> u64
         ensures { result ≡ self.now.tickets.back }
     {
         self.ledger.handed_back()
     }
 
-    /// How many are out.
+    /// Returns the number of tickets that are out.
     pub fn out(&self) -> u64
         ensures out { result ≡ self.now.tickets.out }
         ensures all { AddUp self.now.tickets }
@@ -128,7 +131,8 @@ impl<L: ledger::Ledger> OnceList<L> {
         self.ledger.out()
     }
 
-    /// How many requests found no room. A count that reaches 2^64 - 1 is full and stays there.
+    /// Returns the number of requests that were dropped because the queue was full. The count
+    /// saturates at 2^64 - 1.
     pub fn dropped(&self) -> u64
         ensures { result ≡ self.now.dropped }
     {

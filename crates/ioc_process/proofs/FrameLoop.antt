@@ -30,14 +30,14 @@ module _ {R : Type 0} (k : RecordRules R) where
   all-keep w after (frame ∷ frames) keeps stands = (frame-keeps w after frame keeps stands.0, all-keep w after frames keeps stands.1)
 
 module _ {R : Type 0} (k : RecordRules R) (lawful : IsLawful k) (answers : Answers) (before counts : Tally) (done : Ran R) (w after : World R) (frames : List Frame) (turn : Turn) where
-  -- a request began, and its record came to a turn
+  -- A request began, and its record took a turn.
   pub goes-called : Goes before counts done (then_frames k answers (now k answers w frames Requests) frames) →
       called_by k answers w (newest_of frames) ≡ after_turn k answers after turn
       → Goes before counts done (then_frames k answers (now k answers after (opened_first frames turn) (next_of turn)) (opened_first frames turn))
   goes-called so_far is =
       subst (λ d. Goes before counts done d) (turn_now k answers after frames turn) (subst (λ d. Goes before counts done (then_frames k answers d frames)) is so_far)
 
-  -- a frame was taken, the request that it waited for was counted, and its body came to a turn
+  -- A frame was removed, the request that it waited for was counted, and its body took a turn.
   pub goes-went_on : (frame : Frame) (outcome : Outcome) (new_counts : Tally) → new_counts ≡ counted_one counts outcome
       → Goes before counts done (then_frames k answers (now k answers w (frame ∷ frames) (Ends outcome)) (frame ∷ frames)) →
       went_on k answers w frame.source frame.place ≡ after_turn k answers after turn
@@ -51,7 +51,7 @@ pub empty_of_length : (frames : List Frame) → length frames ≡ 0 → frames �
 empty_of_length [] is = refl
 empty_of_length (frame ∷ frames) is = absurd (omega arith)
 
--- no frame is open and nothing is left
+-- No frame is open, and nothing is left to do.
 pub comes-ended : {R : Type 0} (k : RecordRules R) (answers : Answers) (before counts : Tally) (done : Ran R) (w : World R) (outcome : Outcome)
     → Goes before counts done (now k answers w [] (Ends outcome)) → Comes w before counts outcome done
 comes-ended k answers before counts done w outcome goes = record { world = sym goes.world; outcome = sym goes.outcome; tally = sym goes.tally }

@@ -1,4 +1,4 @@
--- What the turns of frames do, by what requests do.
+-- The effect of the turns of frames in terms of the effect of requests.
 use Rattle.std.proofs.Common.{◌≡◌, ℕ, zero, suc, ◌+◌, ◌≤◌, ◌<◌, Bool, true, false, cond, List, [], ◌∷◌, length, Option, Some, None as Nothing_, refl, sym, ap, subst, ◌∙◌, arith}
 use Rattle.std.specs.Prelude.{slice_get, drop}
 use Rattle.ioc_fields.specs.Names.{all_slots}
@@ -77,7 +77,7 @@ unused_is OwnDevice is = absurd cc
 unused_is Absent is = absurd cc
 unused_is (Standing t) is = absurd cc
 
--- a link that names no record names none that is passive
+-- A link that names no record names no passive one.
 pub unnamed_ends : {R : Type 0} (k : RecordRules R) (w : World R) (link : LinkUse) → record_named link ≡ Nothing_ → passive_named k w link ≡ Nothing_
 unnamed_ends k w Unused is = refl
 unnamed_ends k w OwnDevice is = refl
@@ -85,7 +85,7 @@ unnamed_ends k w Absent is = refl
 unnamed_ends k w (Standing t) is = absurd cc
 
 module _ {R : Type 0} (k : RecordRules R) (lawful : IsLawful k) where
-  -- the record shows its alarms
+  -- The record shows its alarms.
   abbrev pub ready : World R → ℕ → World R
   ready w s = changed k w s (shown w.moment)
 
@@ -122,7 +122,7 @@ module _ {R : Type 0} (k : RecordRules R) (lawful : IsLawful k) where
         | false ↦ first
       ]
 
-  -- a request of a record by one that is active, as it is told of the request alone
+  -- A request of a record by an active one is `asked_ran` as one request.
   pub asked-ran : (answers : Answers) (w : World R) (s t : ℕ) → asked k (request k answers) w s t ≡ as_request (asked_ran k answers w s t)
   unfolding asked asked_ran
   asked-ran answers w s t =
@@ -134,7 +134,8 @@ module _ {R : Type 0} (k : RecordRules R) (lawful : IsLawful k) where
         | false ↦ request-rule k lawful answers _ t
       ]
 
-  -- a link that is followed: a record is requested, or none is
+  -- Following a link to a passive record requests it, and following any other link requests
+  -- nothing.
   pub followed-calls : (answers : Answers) (w : World R) (s : ℕ) (link : LinkUse) (target : ℕ) → passive_named k w link ≡ Some target → followed k (request k answers) w s link ≡ caused k (request k answers) w s target
   unfolding followed
   followed-calls answers w s (Standing t) target is =
@@ -159,7 +160,7 @@ module _ {R : Type 0} (k : RecordRules R) (lawful : IsLawful k) where
   followed-none answers w s OwnDevice is = refl
   followed-none answers w s Absent is = refl
 
-  -- what a passive link names is there
+  -- The record that a passive link names exists.
   pub passive_there : (w : World R) (link : LinkUse) (target : ℕ) → IsStanding w link → passive_named k w link ≡ Some target → Has w target
   passive_there w (Standing t) target stands is =
       elim (is_passive (common_at k w t.number)) as (λ b. cond b (Some t.number) Nothing_ ≡ Some target → Has w target) [
@@ -170,7 +171,7 @@ module _ {R : Type 0} (k : RecordRules R) (lawful : IsLawful k) where
   passive_there w OwnDevice target stands is = absurd cc
   passive_there w Absent target stands is = absurd cc
 
-  -- a body that follows its forward link
+  -- A body that follows its forward link requests the record that the link names.
   pub finished-calls : (answers : Answers) (w : World R) (s : ℕ) (target : ℕ) → passive_named k (ready w s) (use_of (common_at k (ready w s) s).forward_link) ≡ Some target →
       processed (finished k (request k answers) w s) ≡ after_turn k answers (changed k (ready w s) s (with_active true)) (Calls (record { source = s; place = Following target }))
   unfolding finished caused after_turn then_frame went_on ran_after
@@ -181,13 +182,13 @@ module _ {R : Type 0} (k : RecordRules R) (lawful : IsLawful k) where
       rw (followed-calls answers (ready w s) s _ target is, active, asked-ran answers mid s target)
       (λ i. record { world = rested k (changed k next.world s (with_active true)) s; requests = sym (followed_by-none next.requests) i; outcome = Processed })
 
-  -- a body that has no link to follow
+  -- A body that has no link to follow is done.
   pub finished-ends : (answers : Answers) (w : World R) (s : ℕ) → passive_named k (ready w s) (use_of (common_at k (ready w s) s).forward_link) ≡ Nothing_ →
       processed (finished k (request k answers) w s) ≡ after_turn k answers (rested k (ready w s) s) (Ended Processed)
   unfolding finished after_turn
   finished-ends answers w s none = ap (λ (d : Done R). record { world = rested k d.world s; requests = d.requests; outcome = Processed }) (followed-none answers (ready w s) s _ none)
 
-  -- a body that finishes with nothing before it
+  -- Finishing after no requests is finishing.
   pub then_finished-none : (answers : Answers) (w : World R) (s : ℕ) → then_finished k answers s (record { world = w; requests = None }) ≡ finished k (request k answers) w s
   unfolding then_finished
   then_finished-none answers w s = refl
@@ -199,14 +200,14 @@ module _ {R : Type 0} (k : RecordRules R) (lawful : IsLawful k) where
       let last = finished k (request k answers) rest.world s in
       ap (λ (r : Requests). record { world = last.world; requests = r }) (followed_by-assoc first rest.requests last.requests)
 
-  -- a body that has taken what came
+  -- A body that has taken its input continues with its output.
   pub completed-taken : (answers : Answers) (w : World R) (s : ℕ) (got : Got) (output : Output) {left : Ran R} → k.output (at k w s) got ≡ output
       → processed (after_output k (request k answers) s (put_out k answers (request k answers) (put w s (k.taken (at k w s) got)) s output)) ≡ left → processed (completed k answers (request k answers) w s got) ≡ left
   unfolding completed
   completed-taken answers w s got output is left =
       ap (λ (o : Output). processed (after_output k (request k answers) s (put_out k answers (request k answers) (put w s (k.taken (at k w s) got)) s o))) is ∙ left
 
-  -- an output after which the body goes on now, and one after which it doesn't
+  -- A body finishes after its output if it continues now, and stops otherwise.
   pub output-on : (answers : Answers) (s : ℕ) (out : PutOut R) → out.goes_on ≡ true → after_output k (request k answers) s out ≡ then_finished k answers s (record { world = out.world; requests = out.requests })
   unfolding after_output then_finished
   output-on answers s out is =
@@ -218,13 +219,13 @@ module _ {R : Type 0} (k : RecordRules R) (lawful : IsLawful k) where
       ap (λ (b : Bool). let rest = finished_if k (request k answers) out.world s b in processed (record { world = rest.world; requests = followed_by out.requests rest.requests })) is
       ∙ ap (λ (r : Requests). processed (record { world = out.world; requests = followed_by r None })) none
 
-  -- a body that has written and requests the record: it finishes afterwards
+  -- A body that has written and requests the record finishes afterwards.
   pub writing-calls : (answers : Answers) (w : World R) (s : ℕ) (target : ℕ) → (common_at k w s).active ≡ false →
       processed (then_finished k answers s (caused k (request k answers) w s target)) ≡ after_turn k answers (changed k w s (with_active true)) (Calls (record { source = s; place = Writing target }))
   unfolding then_finished caused after_turn then_frame went_on ran_after
   writing-calls answers w s target inactive = rw (inactive, asked-ran answers (changed k w s (with_active true)) s target) refl
 
-  -- its links that remain, from a number on
+  -- The remaining links begin with this one if it is chosen, and are those after it otherwise.
   pub remaining-chosen : (links next : ℕ) (slot : Slot) → slice_get all_slots next ≡ Some slot → is_chosen links slot ≡ true → remaining links next ≡ slot ∷ remaining links (next + 1)
   unfolding remaining
   remaining-chosen links next slot is chosen = let e : next + 1 ≡ suc next = omega arith in rw (e, drop-get all_slots next slot is, chosen) refl
@@ -268,20 +269,20 @@ module _ {R : Type 0} (k : RecordRules R) (lawful : IsLawful k) where
         ∙ ap (λ (v : World R). counted (counted_one (counted counts left.requests) left.outcome) (went_on k answers v frame.source frame.place).requests) goes.world;
   }
 
-  -- frames carry on from what the code has done
+  -- The frames continue from what the code has done.
   pub goes-on : (answers : Answers) (before counts : Tally) (frames : List Frame) (ran left : Ran R) → Goes before counts ran left → Goes before counts (then_frames k answers ran frames) (then_frames k answers left frames)
   goes-on answers before counts [] ran left goes = goes
   goes-on answers before counts (frame ∷ frames) ran left goes =
       goes-on answers before counts frames (then_frame k answers (as_request ran) frame) (then_frame k answers (as_request left) frame) (one_frame answers before counts ran left frame goes)
 
-  -- the request that a frame waited for is done, and counted
+  -- The request that a frame waited for is done and counted.
   pub goes-popped : (answers : Answers) (counts new_counts : Tally) (w : World R) (frame : Frame) (outcome : Outcome) → new_counts ≡ counted_one counts outcome
       → Goes counts new_counts (then_frame k answers (as_request (record { world = w; requests = None; outcome = outcome })) frame) (went_on k answers w frame.source frame.place)
   unfolding then_frame ran_after
   goes-popped answers counts new_counts w frame outcome one =
       record { world = refl; outcome = refl; tally = ap (λ (t : Tally). counted t (went_on k answers w frame.source frame.place).requests) (sym one) }
 
-  -- the record of a frame is idle again
+  -- The record of a frame is idle again.
   abbrev pub back : World R → ℕ → World R
   back w s = changed k w s (with_active false)
 
@@ -291,7 +292,7 @@ module _ {R : Type 0} (k : RecordRules R) (lawful : IsLawful k) where
   pub back-idle : (w : World R) (s : ℕ) → idle k (back w s) ≤ idle k w + 1
   back-idle w s = omega (arith, idle-changed k lawful w s (with_active false))
 
-  -- and has read, or not
+  -- Reading a field, successfully or not, leaves no more records idle.
   pub read_at-stays : (kind : R → InputKind) (w : World R) (s : ℕ) (t : StandingLink) → Stays k w s (read_at k kind w s t).world
   unfolding read_at
   read_at-stays kind w s t = value_came-stays k lawful w s t _
@@ -309,13 +310,13 @@ module _ {R : Type 0} (k : RecordRules R) (lawful : IsLawful k) where
         ap {A = Bool} {B = ℕ} (λ b. cond b 0 1) (ap (λ (c : Common). c.active) (common_at-changed k lawful w s (with_active true))),
       )
 
-  -- a body by its input
+  -- A body is determined by its input.
   pub body-input : (answers : Answers) (w : World R) (s : ℕ) (want : Want) → k.begin (at k w s) ≡ want →
       body k answers (request k answers) w s ≡ after_reading k answers s (input k answers (request k answers) w s want)
   unfolding body after_reading
   body-input answers w s want is = ap (λ (it : Want). after_reading k answers s (input k answers (request k answers) w s it)) is
 
-  -- an input that came and caused nothing
+  -- An input that was read without a request leads to the rest of the body.
   pub after_reading-came : (answers : Answers) (s : ℕ) (reading : Reading R) (got : Got) → reading.came ≡ Some got → reading.requests ≡ None →
       after_reading k answers s reading ≡ completed k answers (request k answers) reading.world s got
   unfolding after_reading
@@ -330,7 +331,7 @@ module _ {R : Type 0} (k : RecordRules R) (lawful : IsLawful k) where
       ap (λ (o : Option Got). let rest = completed_if k answers (request k answers) reading.world s o in processed (record { world = rest.world; requests = followed_by reading.requests rest.requests })) came
       ∙ ap (λ r. processed (record { world = reading.world; requests = followed_by r None })) none
 
-  -- a link with PP: the record that it names is requested first
+  -- If the link has PP, the record that it names is requested first.
   pub after_reading-calls : (answers : Answers) (w : World R) (s : ℕ) (t : StandingLink) → requests_first k w t ≡ true → (common_at k w s).active ≡ false →
       processed (after_reading k answers s (as_input (read_record k (request k answers) k.input_kind w s t)))
       ≡ after_turn k answers (changed k w s (with_active true)) (Calls (record { source = s; place = Reading-place t }))
@@ -343,7 +344,7 @@ module _ {R : Type 0} (k : RecordRules R) (lawful : IsLawful k) where
   unfolding after_reading read_record prepared read_at
   after_reading-plain answers w s t passive = rw passive refl
 
-  -- a request that reads SDIS
+  -- A request that reads SDIS through a link with PP requests the record that the link names first.
   pub after_disable-calls : (answers : Answers) (w : World R) (s : ℕ) (t : StandingLink) → requests_first k w t ≡ true → (common_at k w s).active ≡ false →
       after_disable k answers s (read_record k (request k answers) (λ _. disable_kind) w s t)
       ≡ after_turn k answers (changed k w s (with_active true)) (Calls (record { source = s; place = ReadingDisable t }))
@@ -361,7 +362,7 @@ module _ {R : Type 0} (k : RecordRules R) (lawful : IsLawful k) where
   unfolding read_at
   came_read kind w mid s t got to is came = subst (λ (x : InputKind). HasCome mid got (value_came k w s t (read_as k (at k w t.number) t.field x))) is came
 
-  -- what came through a link, as the code has it
+  -- What was read through a link, as the code has it.
   pub came-completed : (answers : Answers) (mid : World R) (s : ℕ) (got : Got) (read : Came R) (left : Ran R) → HasCome mid got read
       → processed (completed k answers (request k answers) mid s got) ≡ left → processed (completed k answers (request k answers) read.world s read.came) ≡ left
   came-completed answers mid s got read left came is =
@@ -372,7 +373,7 @@ module _ {R : Type 0} (k : RecordRules R) (lawful : IsLawful k) where
   came-judged answers mid s got read left came is =
       ap (λ (v : World R). judged k answers (request k answers) (disable_came k v s read.came) s) (sym came.world) ∙ ap (λ (x : Got). judged k answers (request k answers) (disable_came k mid s x) s) (sym came.came) ∙ is
 
-  -- a request of an idle record, by what SDIS comes to
+  -- A request of an idle record continues with what SDIS returns.
   pub begun-reads : (answers : Answers) (w ready : World R) (s : ℕ) (link : LinkUse) → ready ≡ changed k w s unblocked → link ≡ use_of (common_at k ready s).disable_link
       → begun_idle k answers (request k answers) w s ≡ after_disable k answers s (read_link k (request k answers) (λ _. disable_kind) ready s link)
   unfolding begun_idle after_disable
@@ -382,7 +383,7 @@ module _ {R : Type 0} (k : RecordRules R) (lawful : IsLawful k) where
   unfolding after_disable read_link ran_after disable_came
   after_disable-unused answers w s = refl
 
-  -- a request of an idle record whose SDIS is no link
+  -- A request of an idle record whose SDIS is no link continues with the check of DISA.
   pub begun-judged : (answers : Answers) (w ready : World R) (s : ℕ) → ready ≡ changed k w s unblocked → is_unused (use_of (common_at k ready s).disable_link) ≡ true
       → begun_idle k answers (request k answers) w s ≡ judged k answers (request k answers) ready s
   begun-judged answers w ready s r unused =
@@ -412,7 +413,7 @@ module _ {R : Type 0} (k : RecordRules R) (lawful : IsLawful k) where
   unfolding asked_ran
   asked_ran-now answers w s t is = rw is refl
 
-  -- a record whose device answered at last is idle while its body goes on
+  -- A record whose device answered later is idle while its body continues.
   pub resumed-idle : (w : World R) (s : ℕ) (x : Finished) → let back = changed k w s resumed in (common_at k (put back s (k.finished (at k back s) x)) s).active ≡ false
   resumed-idle w s x =
       let back = changed k w s resumed in

@@ -1,4 +1,4 @@
--- The turn that was taken, by the frames that are open and the record that is requested.
+-- The turn that was taken, given the open frames and the record that is requested.
 use Rattle.std.proofs.Common.{◌≡◌, ℕ, zero, suc, subst, sym, ◌+◌, ◌≤◌, List, [], ◌∷◌, ◌++◌, length, reverse, Option, Some, None as Nothing_, refl, ap, ◌∙◌, arith}
 use Rattle.std.proofs.lemmas.List.{reverse-append, reverse-reverse, length_push}
 use Rattle.std.specs.List.{last_or}
@@ -14,7 +14,7 @@ use Rattle.ioc_ledger.specs.declared.outcome.Outcome.{Outcome}
 use Rattle.ioc_process.specs.Frames.{Turn, Ended, Calls, newest_of, waits_with, turn_of, next_of, opened, Opens, calls, called_by, after_turn, then_frames, FrameStands, AllStand, TurnStands}
 use Rattle.ioc_store.specs.Given.{Answers}
 
--- the open frames after a turn, the newest first
+-- The open frames after a turn, the newest first.
 abbrev pub opened_first : List Frame → Turn → List Frame
 opened_first frames (Ended outcome) = frames
 opened_first frames (Calls frame) = frame ∷ frames
@@ -37,19 +37,19 @@ last_push : (frames : List Frame) (frame : Frame) (other : Option Frame) → las
 last_push [] frame other = refl
 last_push (first ∷ frames) frame other = last_push frames frame (Some first)
 
--- the newest frame waits for the record that is requested
+-- The newest frame waits for the record that is requested.
 pub turn_pushed : (frames : List Frame) (frame : Frame) → turn_of (frames ++ frame ∷ []) Requests ≡ Calls frame
 turn_pushed frames frame = ap (λ (newest : Option Frame). waits_with newest) (last_push frames frame Nothing_)
 
--- a frame was opened
+-- A frame was opened.
 pub opens_pushed : (frames after : List Frame) (frame : Frame) → after ≡ frames ++ frame ∷ [] → Opens frames after Requests
 opens_pushed frames after frame is = rw is (record { frames = rw (turn_pushed frames frame) refl; next = rw (turn_pushed frames frame) refl })
 
--- none was
+-- No frame was opened.
 pub opens_none : (frames after : List Frame) (outcome : Outcome) → after ≡ frames → Opens frames after (Ends outcome)
 opens_none frames after outcome is = record { frames = is; next = refl }
 
--- a frame is open where a record is requested
+-- A frame is open if a record is requested.
 abbrev pub NextOpens : List Frame → Next → Type 0
 NextOpens frames (Ends outcome) = Unit {0}
 NextOpens frames Requests = 1 ≤ length frames
@@ -63,7 +63,7 @@ all_stand w frames (Ended outcome) stands all = all
 all_stand w frames (Calls frame) stands all = (stands, all)
 
 module _ {R : Type 0} (k : RecordRules R) (answers : Answers) where
-  -- what comes next leads to
+  -- What the next step leads to.
   abbrev pub now : World R → List Frame → Next → Ran R
   now w frames (Ends outcome) = record { world = w; requests = None; outcome = outcome }
   now w frames Requests = called_by k answers w (newest_of frames)
@@ -75,7 +75,7 @@ module _ {R : Type 0} (k : RecordRules R) (answers : Answers) where
   turn_now w frames (Calls frame) = refl
 
 module _ {R : Type 0} (k : RecordRules R) (answers : Answers) where
-  -- a turn that was taken where no frame was open
+  -- A turn that was taken while no frame was open leads to its own result.
   pub begun_now : (w : World R) (frames : List Frame) (first : Next) → Opens [] frames first
       → after_turn k answers w (turn_of frames first) ≡ then_frames k answers (now k answers w (reverse frames) first) (reverse frames)
   begun_now w frames first opens =
@@ -84,7 +84,7 @@ module _ {R : Type 0} (k : RecordRules R) (answers : Answers) where
       ∙ ap (λ (next : Next). then_frames k answers (now k answers w (opened_first [] turn) next) (opened_first [] turn)) opens.next
       ∙ ap (λ (fs : List Frame). then_frames k answers (now k answers w fs first) fs) (sym (all_opened [] frames turn opens.frames))
 
--- the newest frame, in either order
+-- Reversing the frames puts the newest one last.
 reverse-cons : (frame : Frame) (frames : List Frame) → reverse (frame ∷ frames) ≡ reverse frames ++ frame ∷ []
 reverse-cons frame frames = reverse-append (frame ∷ []) frames
 
@@ -104,20 +104,20 @@ last_from : (frames : List Frame) (first : Frame) (other : Option Frame) (frame 
 last_from [] first other frame is = is
 last_from (next ∷ frames) first other frame is = last_from frames next (Some first) frame is
 
--- the last frame is the newest
+-- The last frame is the newest.
 pub last_is : (frames : List Frame) (frame : Frame) → slice_get frames (length frames - 1) ≡ Some frame → last_or Nothing_ frames ≡ Some frame
 last_is [] frame is = cc
 last_is (first ∷ frames) frame is =
     let e : length (first ∷ frames) - 1 ≡ length frames = omega arith in
     last_from frames first Nothing_ frame (sym (ap (slice_get (first ∷ frames)) e) ∙ is)
 
--- each frame stands
+-- The records of each frame exist.
 pub one_stands : {R : Type 0} (w : World R) (frames : List Frame) (n : ℕ) (frame : Frame) → AllStand w frames → slice_get frames n ≡ Some frame → FrameStands w frame
 one_stands w [] n frame all is = cc
 one_stands w (first ∷ frames) zero frame all is = let e : first ≡ frame = cc in subst (FrameStands w) e all.0
 one_stands w (first ∷ frames) (suc n) frame all is = one_stands w frames n frame all.1 is
 
--- frames stand in either order
+-- The records of all frames still exist after one more frame, in either order.
 all_on : {R : Type 0} (w : World R) (frames : List Frame) (frame : Frame) → AllStand w frames → FrameStands w frame → AllStand w (frames ++ frame ∷ [])
 all_on w [] frame all stands = (stands, tt)
 all_on w (first ∷ frames) frame all stands = (all.0, all_on w frames frame all.1 stands)

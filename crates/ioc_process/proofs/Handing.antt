@@ -1,4 +1,4 @@
--- What a record that is requested takes over from the one that requests it.
+-- What a requested record takes over from the one that requests it.
 use Rattle.std.proofs.Common.{◌≡◌, ap, ◌∙◌, sym, arith, refl, ℕ, Bool, true, false, ◌≤◌, Some}
 use Rattle.ioc_common.specs.declared.common.Common.{Common}
 use Rattle.ioc_common.specs.Steps.{with_put_mark, with_notification}
@@ -18,7 +18,8 @@ use Rattle.ioc_store.specs.Notifying.{passed_on}
 use Rattle.ioc_record.specs.RecordRules.{RecordRules}
 use Rattle.ioc_record.specs.Laws.{IsLawful}
 
--- a record that is requested takes over the mark and the notification of its source
+-- A requested record that takes over PUTF and the put with notification of its source keeps its
+-- links.
 pub handed : {R : Type 0} (k : RecordRules R) → IsLawful k → (w : World R) (s t : ℕ) (by_put : Bool) → Has w t → Keeps k w (passed_on k (changed k w t (put_mark_passed by_put)) s t)
 handed k lawful w s t by_put there =
     let first = keeps-changed k lawful w t there (put_mark_passed by_put) (passed-links by_put) in
@@ -32,7 +33,7 @@ taken_on-common : {R : Type 0} (k : RecordRules R) (number : ℕ) (w : World R) 
 unfolding at taken_on
 taken_on-common k number w m = refl
 
--- it stays as active as it was
+-- A requested record stays as active as it was.
 handed-active : {R : Type 0} (k : RecordRules R) → IsLawful k → (w : World R) (s t : ℕ) (by_put : Bool) → (common_at k (passed_on k (changed k w t (put_mark_passed by_put)) s t) t).active ≡ (common_at k w t).active
 handed-active k lawful w s t by_put =
     let v = changed k w t (put_mark_passed by_put) in
@@ -40,17 +41,17 @@ handed-active k lawful w s t by_put =
     (λ n. ap (λ (c : Common). c.active) (taken_on-common k n _ t ∙ common_at-changed k lawful v t (with_notification (Some n))))
     ∙ ap (λ (c : Common). c.active) (common_at-changed k lawful w t (put_mark_passed by_put)) ∙ passed-active by_put _
 
--- an idle record takes the mark
+-- An idle record takes over PUTF.
 marked : {R : Type 0} (k : RecordRules R) (w : World R) (t : ℕ) (by_put : Bool) → (common_at k w t).active ≡ false → changed k w t (with_put_mark by_put) ≡ changed k w t (put_mark_passed by_put)
 unfolding changed put_mark_passed
 marked k w t by_put inactive = rw inactive refl
 
--- and isn't put down for another processing
+-- An idle record isn't marked for reprocessing.
 not_put_down : (by_put : Bool) (c : Common) → c.active ≡ false → is_put_down by_put c ≡ false
 not_put_down true c inactive = rw inactive refl
 not_put_down false c inactive = refl
 
--- what an idle record has once it is requested: it has taken over the mark and the notification
+-- An idle record that is requested: it has taken over PUTF and the put with notification.
 abbrev pub handed_to : {R : Type 0} → RecordRules R → World R → ℕ → ℕ → World R
 handed_to k w s t = passed_on k (changed k w t (with_put_mark (common_at k w s).by_put)) s t
 

@@ -1,4 +1,5 @@
--- What a body needs first, what it puts out, and the record that a link names, as the code asks for them.
+-- What a body needs first, its output, and the record that a link names, as the code determines
+-- them.
 use Rattle.std.proofs.Common.{◌≡◌, ℕ, true, false, Some, refl, ap, subst, ◌∙◌}
 use Rattle.ioc_ledger.specs.Requests.{None}
 use Rattle.ioc_common.specs.declared.link_field.LinkUse.{LinkUse}
@@ -36,7 +37,7 @@ needs-device NoInput is = absurd cc
 needs-device (ReadLink link) is = no_device link is
 needs-device ReadDevice is = refl
 
--- the record that a standing link names is there
+-- The record that a standing link names exists.
 pub named_there : {R : Type 0} (w : World R) (link : LinkUse) → IsStanding w link → (n : ℕ) → record_named link ≡ Some n → Has w n
 named_there w (Standing t) stands n is = let e : t.number ≡ n = cc in subst (Has w) e (stands t refl)
 named_there w Unused stands n is = absurd cc
@@ -54,7 +55,7 @@ module _ {R : Type 0} (k : RecordRules R) (lawful : IsLawful k) where
   input-nothing answers w s (ReadLink (Standing t)) is = absurd cc
   input-nothing answers w s ReadDevice is = absurd cc
 
-  -- a body that needs nothing first takes nothing
+  -- A body that needs no input continues with an empty one.
   pub body-nothing : (answers : Answers) (w : World R) (s : ℕ) → need_of (k.begin (at k w s)) ≡ need.Nothing →
       body k answers (request k answers) w s ≡ completed k answers (request k answers) w s got.Nothing
   body-nothing answers w s is =
@@ -62,7 +63,7 @@ module _ {R : Type 0} (k : RecordRules R) (lawful : IsLawful k) where
       ∙ ap (λ (reading : Reading R). after_reading k answers s reading) (input-nothing answers w s (k.begin (at k w s)) is)
       ∙ after_reading-came k lawful answers s (record { world = w; requests = None; came = Some got.Nothing }) got.Nothing refl refl
 
-  -- a body that puts nothing out finishes at once
+  -- A body without an output finishes immediately.
   pub completed-nothing : (answers : Answers) (w : World R) (s : ℕ) (came : Got) {left : Ran R} → puts_out (k.output (at k w s) came) ≡ false
       → processed (finished k (request k answers) (put w s (k.taken (at k w s) came)) s) ≡ left → processed (completed k answers (request k answers) w s came) ≡ left
   unfolding put_out

@@ -1,4 +1,4 @@
--- Turns by what comes before them.
+-- Turns, given what comes before them.
 use Rattle.std.proofs.Common.{◌≡◌, ℕ, ◌+◌, ◌≤◌, Bool, true, false, cond, refl, ap, arith}
 use Rattle.ioc_menus.specs.declared.severity.Severity.TheVariants.{Invalid}
 use Rattle.ioc_menus.specs.declared.status.Status.TheVariants.{Link as LinkAlarm}
@@ -18,7 +18,7 @@ module _ {R : Type 0} (k : RecordRules R) where
   unfolding faulted
   faulted_is w s = refl
 
-  -- a turn after a step
+  -- A turn after a step is a turn from the start of the step.
   pub turns_on : {w mid after : World R} {more more' most most' : ℕ} {turn : Turn} → Keeps k w mid → idle k mid + more ≤ idle k w + more' → most ≤ most'
       → Turns k mid after more most turn → Turns k w after more' most' turn
   turns_on keeps fewer left turns = record {
@@ -35,6 +35,6 @@ module _ {R : Type 0} (k : RecordRules R) where
       → FrameStands after frame → calls_left frame.place + 1 ≤ most → Turns k w after more most (Calls frame)
   turns_calls frame keeps fewer stands left = record { keeps = keeps; fewer = omega (arith, fewer); stands = stands; left = omega (arith, left) }
 
-  -- an idle record is one of those that are idle
+  -- An idle record is counted among the idle ones.
   pub some_idle : IsLawful k → (w : World R) (s : ℕ) → (common_at k w s).active ≡ false → 1 ≤ idle k w
   some_idle lawful w s is = omega (arith, idle-changed k lawful w s (with_active true), ap {A = Bool} {B = ℕ} (λ b. cond b 0 1) is)

@@ -1,4 +1,4 @@
--- What follows a write, by what became of the value.
+-- What follows a write, given its result.
 use Rattle.std.proofs.Common.{◌≡◌, ℕ, Bool, true, false, cond, refl}
 use Rattle.ioc_ledger.specs.Requests.{None}
 use Rattle.ioc_common.specs.declared.link_field.StandingLink.{StandingLink}
@@ -11,7 +11,7 @@ use Rattle.ioc_process.specs.Processing.{Done, Written, caused, faulted, after_w
 use Rattle.ioc_process.specs.Runs.{how_written}
 
 module _ {R : Type 0} (k : RecordRules R) (ask : World R → ℕ → Done R) (done : Written R) (s : ℕ) (t : StandingLink) where
-  -- by whether the value was stored, and whether the record is requested
+  -- The result of a write, given whether the value was stored and whether the record is requested.
   abbrev result_by : Bool → Bool → Written-result
   result_by stored requests = cond stored (cond requests AndRequests Alone) InVain
 

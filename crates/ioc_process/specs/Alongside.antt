@@ -1,4 +1,4 @@
--- Two worlds side by side, in which the same requests are made: what holds of both goes on to hold.
+-- Two worlds in which the same requests are made: a relation between them is kept.
 use Rattle.std.proofs.Common.{◌≡◌, ℕ, zero, suc, ◌+◌, Bool, true, false, cond, eqb, List, [], ◌∷◌, length, Option, Some, None as Nothing_, refl, ap, subst, ◌∙◌, arith}
 use Rattle.std.specs.Prelude.{Result, Ok, Err, Contains, nat_lt, ◌&&◌, ◌||◌, ◌-◌, ◌^◌, nat_eq}
 use Rattle.ioc_common.specs.declared.common.Common.{Common}
@@ -52,11 +52,11 @@ use Rattle.ioc_store.specs.Notifying.{taken_over, holding, passed_on, notified_a
 both_followed : {a b c d : Requests} → a ≡ b → c ≡ d → followed_by a c ≡ followed_by b d
 both_followed {a} {b} {c} {d} one two = ap (λ (x : Requests). followed_by x c) one ∙ ap (followed_by b) two
 
--- the links and the notification as they were
+-- Holds if the links and the put with notification are unchanged.
 abbrev pub OwnAlone : Common → Common → Type 0
 OwnAlone before after = (after.disable_link ≡ before.disable_link) × (after.forward_link ≡ before.forward_link) × (after.notification ≡ before.notification)
 
--- marks leave the links and the notification alone
+-- Passing PUTF keeps the links and the put with notification.
 passed-alone : (by_put : Bool) (c : Common) → OwnAlone c (put_mark_passed by_put c)
 unfolding put_mark_passed
 passed-alone by_put c = elim c.active as (λ b. OwnAlone c (cond b c (with_put_mark by_put c))) [
@@ -80,9 +80,11 @@ blocked-alone c = let f = blocked-frame c in (f.links.0, f.links.1, f.notificati
 put_down-alone : (c : Common) → OwnAlone c (put_down c)
 put_down-alone c = let f = blocked-frame (with_reprocess_mark true c) in (f.links.0, f.links.1, f.notification)
 
--- What is asked of an invariant of two worlds: these records are the same and good in both, a good record's links name some of them,
--- a good record stays good, and the invariant outlasts each step by which a world changes: a record is put with the notification that it
--- had, and takes one on or lets it go in one step with the count of those that have it
+-- The conditions on a relation between two worlds: the records that may be used are the same and
+-- good in both; the links of a good record name such records; a good record stays good; and the
+-- relation is kept by each step that changes a world, such as putting a record with its put with
+-- notification unchanged, or joining or leaving a put with notification together with the count of
+-- its records.
 pub record Guards {R : Type 0} (k : RecordRules R) (May : ℕ → Type 0) (Good : ℕ → R → Type 0) (Inv : World R → World R → Type 0) : Type 0 where
   pub same : {w v : World R} → Inv w v → (n : ℕ) → May n → at k w n ≡ at k v n
   pub good : {w v : World R} → Inv w v → (n : ℕ) → May n → Good n (at k w n)
@@ -100,7 +102,8 @@ pub record Guards {R : Type 0} (k : RecordRules R) (May : ℕ → Type 0) (Good 
   pub pass : {w v : World R} → Inv w v → (s : ℕ) → May s → (t : ℕ) → May t → Inv (passed_on k w s t) (passed_on k v s t)
   pub tell : {w v : World R} → Inv w v → (s : ℕ) → May s → Inv (notified k w s) (notified k v s)
 
--- asked of an invariant that looks at no notification: it outlasts each change of one, and of the count of those that have it
+-- The conditions on a relation that doesn't depend on puts with notification: it is kept by each
+-- change of one, and of the count of its records.
 pub record HolderGuards {R : Type 0} (k : RecordRules R) (May : ℕ → Type 0) (Inv : World R → World R → Type 0) : Type 0 where
   pub same : {w v : World R} → Inv w v → (n : ℕ) → May n → at k w n ≡ at k v n
   pub hold : {w v : World R} → Inv w v → (n : ℕ) → May n → (held : Option ℕ) → Inv (changed k w n (with_notification held)) (changed k v n (with_notification held))
@@ -113,7 +116,7 @@ module _ {R : Type 0} (k : RecordRules R) (May : ℕ → Type 0) (Inv : World R 
   holding-goes inv t may Nothing_ = inv
   holding-goes inv t may (Some number) = g.take_on (g.hold inv t may (Some number)) number
 
-  -- a notification goes from record to record, and is told
+  -- Passing a put with notification from record to record, and ending it, keep the relation.
   pub pass-goes : {w v : World R} → Inv w v → (s : ℕ) → May s → (t : ℕ) → May t → Inv (passed_on k w s t) (passed_on k v s t)
   unfolding passed_on
   pass-goes {w} {v} inv s may t there =
@@ -247,7 +250,7 @@ module _ {R : Type 0} (k : RecordRules R) (lawful : IsLawful k) (May : ℕ → T
       subst (λ (r : R). Inv (handed_on k w s t) (changed k v t.number (inherited t.mode (k.common r).condition.alarms.new_status (k.common r).condition.alarms.new_severity)))
       (g.same inv s may) (changed-goes inv t.number there _ (λ c. (refl, refl, refl)))
 
-  -- a record goes on another scan list
+  -- Moving a record to another scan list keeps the relation.
   pub moved-goes : {w v : World R} → Inv w v → (n : ℕ) → May n → Inv (moved k w n) (moved k v n)
   unfolding moved
   moved-goes {w} {v} inv n may =
@@ -324,14 +327,14 @@ module _ {R : Type 0} (k : RecordRules R) (lawful : IsLawful k) (May : ℕ → T
         | false ↦ acknowledged-goes inv s may Fault-answer
       ]))
 
-  -- what SDIS gave
+  -- Storing the value of SDIS keeps the relation.
   pub disable_came-goes : {w v : World R} → Inv w v → (s : ℕ) → May s → (got : Got) → Inv (disable_came k w s got) (disable_came k v s got)
   unfolding disable_came with_disable_input
   disable_came-goes inv s may (Got-value x) = changed-goes inv s may _ (λ c. (refl, refl, refl))
   disable_came-goes inv s may Got-nothing = inv
   disable_came-goes inv s may Got-fault = inv
 
-  -- a record comes to rest
+  -- Ending the processing of a record keeps the relation.
   pub rested-goes : {w v : World R} → Inv w v → (s : ℕ) → May s → Inv (rested k w s) (rested k v s)
   unfolding rested
   rested-goes {w} {v} inv s may =
@@ -512,7 +515,7 @@ module _ {R : Type 0} (k : RecordRules R) (lawful : IsLawful k) (May : ℕ → T
       completed_if-goes inv s may Nothing_ = record { inv = inv; requests = refl }
       completed_if-goes inv s may (Some got) = completed-goes inv s may got
 
-      -- what is done with what came, after a reading
+      -- The rest of a body after a reading keeps the relation.
       rest-goes : (reading reading' : Reading R) → GoesRead Inv reading reading' → (s : ℕ) → May s →
           Goes {R = R} Inv
           (record { world = (completed_if k answers ask reading.world s reading.came).world; requests = followed_by reading.requests (completed_if k answers ask reading.world s reading.came).requests })
@@ -588,7 +591,7 @@ module _ {R : Type 0} (k : RecordRules R) (lawful : IsLawful k) (May : ℕ → T
     nested-goes zero inv s may = record { inv = inv; requests = refl }
     nested-goes (suc depth) inv s may = as_request-goes _ _ (requested-goes _ _ (λ w v. nested-goes depth) answers inv s may)
 
-    -- two worlds need not have as many idle records
+    -- A request keeps the relation. The two worlds need not have equally many idle records.
     pub request-goes : {w v : World R} → Inv w v → (s : ℕ) → May s → Goes Inv (request k answers w s) (request k answers v s)
     request-goes {w} {v} inv s may =
         let depth = suc (idle k w + idle k v) in
@@ -598,7 +601,7 @@ module _ {R : Type 0} (k : RecordRules R) (lawful : IsLawful k) (May : ℕ → T
     unfolding ran
     ran-goes inv s may = requested-goes _ _ (λ w v. request-goes) answers inv s may
 
-    -- a record whose device answered at last
+    -- Resuming a record whose device answered later keeps the relation.
     pub at_last-goes : {w v : World R} → Inv w v → (s : ℕ) → May s → (x : Finished) → Goes Inv (went_on_at_last k answers w s x) (went_on_at_last k answers v s x)
     unfolding went_on_at_last
     at_last-goes {w} {v} inv s may x =

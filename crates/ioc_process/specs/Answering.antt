@@ -1,4 +1,4 @@
--- The answers of an event as they are given, and what reading a device does.
+-- The answers of an event in the order in which they are made, and the effect of reading a device.
 use Rattle.std.proofs.Common.{◌≡◌, ℕ, suc, ◌-◌, ◌^◌, ◌<◌, Bool, true, false, cond, List, [], ◌∷◌, ◌++◌, length, Option, Some, None as Nothing_, IsSome, IsTrue, refl, sym, ap, subst, ◌∙◌, arith, append_assoc}
 use Rattle.std.specs.Prelude.{slice_get, unwrap_or, Result, Ok, Err}
 use Rattle.ioc_values.specs.declared.value.Value.{Value}
@@ -30,7 +30,7 @@ answers-length : (calls : List Call) → length (answers_of calls) ≡ length ca
 answers-length [] = refl
 answers-length (x ∷ calls) = ap (λ n. suc n) (answers-length calls)
 
--- the answers of some calls, one after another, are those that they got
+-- The listed answers of some calls are those that the calls got.
 pub listed-accords : (calls : List Call) → Accords calls (listed (answers_of calls))
 unfolding listed
 listed-accords calls = record {
@@ -41,7 +41,7 @@ listed-accords calls = record {
       ∙ slice_get-after (answers_of before) (answers_of after) call.answer);
 }
 
--- what accords with the later calls accords with the earlier ones
+-- Answers that accord with the later calls accord with the earlier ones.
 pub accords_before : {D : Type 0} {gives : D → Ask → ℕ → Answer → D → Type 0} {before after : Given D} {answers : Answers}
     → Begins gives before after → Accords after.calls answers → Accords before.calls answers
 accords_before {before = before} one two = record {
@@ -64,12 +64,12 @@ begins_on {gives = gives} {one} {two} {three} first second = record {
   work = devices-on first.work (subst (λ m. DevicesWork gives two.devices m second.more three.devices) first.moment second.work);
 }
 
--- one call
+-- One more call is a step of the devices.
 pub begins_call : {D : Type 0} {gives : D → Ask → ℕ → Answer → D → Type 0} {before after : Given D} (call : Call) → after.calls ≡ before.calls ++ call ∷ [] → after.moment ≡ before.moment
     → DeviceGives gives before.devices before.moment call after.devices → Begins gives before after
 begins_call call calls moment given = record { more = call ∷ []; calls = calls; moment = moment; work = and_then given no_call }
 
--- the answer that was given next
+-- The answer that accords with one more call is the answer of that call.
 pub answer-given : (before after : List Call) (answers : Answers) (call : Call) → after ≡ before ++ call ∷ [] → Accords after answers → answers before call.target call.ask ≡ call.answer
 answer-given before after answers call at_end accords = accords.accords before [] call at_end
 
@@ -103,12 +103,12 @@ module _ {R : Type 0} (k : RecordRules R) where
         | false ↦ received-requests w s _
       ]
 
-  -- what holds of the world by the requests holds of the world that the code leaves
+  -- A property of the world after the requests holds of the world that the code leaves.
   pub by_world : (calls : List Call) (after : World R) (world : Answers → World R) (P : World R → Type 0) →
       ((answers : Answers) → Accords calls answers → after ≡ world answers) → ((answers : Answers) → P (world answers)) → P after
   by_world calls after world P is h = subst P (sym (is (listed (answers_of calls)) (listed-accords calls))) (h (listed (answers_of calls)))
 
-  -- a device is asked only while there is a number for its answer
+  -- A device is asked only if the record has a number left for its answer.
   pub can_ask-more : (call : Call) (w : World R) (s : ℕ) → can_ask k w s ≡ true → (common_at k (called call w) s).last_pending < 2 ^ 64 - 1
   unfolding at called
   can_ask-more call w s can = grind (arith, common_steps)
@@ -117,7 +117,7 @@ module _ {R : Type 0} (k : RecordRules R) where
   got_some Nothing_ is = cc
   got_some (Some got) is = (got, refl)
 
-  -- the record of a reading that gave something is as active as it was
+  -- A record whose reading returned something is as active as it was.
   pub stays_if_read : (calls : List Call) (w after : World R) (s : ℕ) (result : Option Got) (reading : Answers → Reading R) →
       ((answers : Answers) → Accords calls answers → HasRead after result (reading answers)) → ((answers : Answers) → Reads k w s (reading answers)) →
       IsSome result → Stays k w s after
@@ -151,7 +151,7 @@ module _ {R : Type 0} (k : RecordRules R) where
         | false ↦ acknowledged-requests w s _
       ]
 
-  -- the record of an output after which its body goes on is as active as it was
+  -- A record whose body continues after an output is as active as it was.
   pub stays_if_out : (calls : List Call) (w after : World R) (s : ℕ) (result : Bool) (out : Answers → PutOut R) →
       ((answers : Answers) → Accords calls answers → HasPutOut after result (out answers)) → ((answers : Answers) → Outs k w s (out answers)) →
       IsTrue result → Stays k w s after

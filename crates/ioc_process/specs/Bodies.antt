@@ -1,4 +1,4 @@
--- The cases of a request and of a body, as the code meets them.
+-- The cases of a request and of a body, in the order of the code.
 use Rattle.std.proofs.Common.{◌≡◌, ℕ, true, false, refl, ap, ◌∙◌}
 use Rattle.ioc_ledger.specs.declared.tally.Tally.{Tally}
 use Rattle.ioc_common.specs.declared.body.Got.{Got}

@@ -1,4 +1,5 @@
--- Requests nest no deeper than there are idle records, so `request` is the one function that its own rule makes.
+-- Requests nest no deeper than the number of idle records, so `request` is the only function that
+-- satisfies its own recursion.
 use Rattle.std.proofs.Common.{◌≡◌, ◌≢◌, ℕ, zero, suc, ◌+◌, ◌<◌, ◌≤◌, Bool, true, false, cond, eqb, List, [], ◌∷◌, length, Option, Some, None as Nothing_, refl, sym, ap, ◌∙◌, arith}
 use Rattle.ioc_common.specs.declared.common.Common.{Common}
 use Rattle.ioc_common.specs.declared.link_field.LinkUse.{LinkUse}
@@ -45,7 +46,7 @@ use Rattle.ioc_store.specs.ScanLaws.{moved-either, rescanned-either}
 use Rattle.ioc_store.specs.Notifying.{passed_on, notified}
 use Rattle.ioc_store.specs.NotifyLaws.{passed-either, notified-either}
 
--- marks leave a record as active as it was
+-- Passing PUTF keeps a record as active as it was.
 pub passed-active : (by_put : Bool) (c : Common) → (put_mark_passed by_put c).active ≡ c.active
 unfolding put_mark_passed
 passed-active by_put c = elim c.active as (λ b. (cond b c (with_put_mark by_put c)).active ≡ c.active) [
@@ -64,21 +65,24 @@ abbrev one_if_not : Bool → ℕ
 one_if_not b = cond b 0 1
 
 module _ {R : Type 0} (k : RecordRules R) where
-  -- two ways to request do the same where few enough records are idle, and leave no more idle
+  -- Two ways to request have the same result if few enough records are idle, and leave no more
+  -- idle.
   pub record Asks (bound : ℕ) (ask other : World R → ℕ → Done R) : Type 0 where
     pub same : (w : World R) (s : ℕ) → idle k w < bound → ask w s ≡ other w s
     pub fewer : (w : World R) (s : ℕ) → idle k w < bound → idle k (ask w s).world ≤ idle k w
 
-  -- s being active, few enough records are idle
+  -- Few enough records are idle, counting record `s` as active.
   abbrev pub Room : ℕ → World R → ℕ → Type 0
   Room bound w s = idle k w < bound + one_if_not (common_at k w s).active
 
-  -- no more records are idle after an input, and its record is as active as it was, unless its device answers later
+  -- No more records are idle after an input, and its record is as active as it was, unless its
+  -- device answers later.
   pub record Reads (w : World R) (s : ℕ) (reading : Reading R) : Type 0 where
     pub fewer : idle k reading.world ≤ idle k w
     pub active : (got : Got) → reading.came ≡ Some got → (common_at k reading.world s).active ≡ (common_at k w s).active
 
-  -- the same after an output, unless its device answers later
+  -- No more records are idle after an output, and its record is as active as it was, unless its
+  -- device answers later.
   pub record Outs (w : World R) (s : ℕ) (out : PutOut R) : Type 0 where
     pub fewer : idle k out.world ≤ idle k w
     pub active : out.goes_on ≡ true → (common_at k out.world s).active ≡ (common_at k w s).active
@@ -119,7 +123,7 @@ module _ {R : Type 0} (k : RecordRules R) (lawful : IsLawful k) where
   value_came-stays w s t (Ok v) = inherits-stays w s t
   value_came-stays w s t (Err e) = faulted-stays w s
 
-  -- a record that is put, as active as it was
+  -- Putting a record that is as active as it was keeps the number of idle records.
   pub stays-put : (w : World R) (s n : ℕ) (r : R) → (k.common r).active ≡ (common_at k w n).active → Stays k w s (put w n r)
   stays-put w s n r same = record {
     fewer = omega (arith, idle-put k lawful w n r, ap one_if_not same);
@@ -177,7 +181,7 @@ module _ {R : Type 0} (k : RecordRules R) (lawful : IsLawful k) where
   pub rescanned-has : (w : World R) (n : ℕ) (field : FieldNo) (m : ℕ) → Has w m → Has (rescanned k w n field) m
   rescanned-has w n field m has = rescanned-either k (λ v. Has v m) w n field has (moved-has w n m has)
 
-  -- a value that is stored, or not, takes no record away
+  -- Storing a value, successfully or not, removes no record.
   pub written_has : (w : World R) (t : StandingLink) (result : Result R IocError) (n : ℕ) → Has w n → Has (stored_at k w t result).world n
   unfolding stored_at
   written_has w t (Ok r) n has = rescanned-has (put w t.number r) t.number t.field n (has-put k w t.number n r has)
@@ -208,7 +212,7 @@ module _ {R : Type 0} (k : RecordRules R) (lawful : IsLawful k) where
   pub shown-active : (w : World R) (s : ℕ) → (common_at k (changed k w s (shown w.moment)) s).active ≡ true
   shown-active w s = ap (λ (c : Common). c.active) (common_at-changed k lawful w s (shown w.moment))
 
-  -- what is sent plays no part in how many records are idle
+  -- Sending an item keeps the number of idle records.
   pub sent-idle : (item : OutboxItem) (w : World R) → idle k (sent item w) ≡ idle k w
   unfolding idle sent
   sent-idle item w =
@@ -217,7 +221,7 @@ module _ {R : Type 0} (k : RecordRules R) (lawful : IsLawful k) where
         | false ↦ refl
       ]
 
-  -- a notification plays no part in how many records are idle
+  -- Joining a put with notification keeps the number of idle records.
   taken_on-idle : (number : ℕ) (w : World R) → idle k (taken_on number w) ≡ idle k w
   unfolding idle taken_on
   taken_on-idle number w = refl
@@ -247,7 +251,7 @@ module _ {R : Type 0} (k : RecordRules R) (lawful : IsLawful k) where
   pub notified-stays : (w : World R) (s : ℕ) → Stays k w s (notified k w s)
   notified-stays w s = record { fewer = omega (arith, notified-idle w s); active = notified-active w s }
 
-  -- a record that comes to rest is one more that is idle, unless it was
+  -- Ending the processing of a record makes one more record idle, unless it was idle.
   notified-rest : (w : World R) (s : ℕ) → idle k (changed k (notified k w s) s at_rest) + one_if_not (common_at k w s).active ≡ idle k w + 1
   notified-rest w s = omega (arith, idle-changed k lawful (notified k w s) s at_rest, notified-idle w s, ap one_if_not (notified-active w s))
 
@@ -419,7 +423,7 @@ module _ {R : Type 0} (k : RecordRules R) (lawful : IsLawful k) where
       unfolding finished ready_world
       finished-same = rw (followed-same ready_world s _ ready_room) refl
 
-    -- the rest of a body after its output
+    -- The rest of a body after its output leaves no more records idle.
     pub after_output-fewer : (w : World R) (s : ℕ) (out : PutOut R) → (common_at k w s).active ≡ false → idle k w ≤ bound → Outs k w s out → idle k (after_output k ask s out).world ≤ idle k w
     unfolding after_output
     after_output-fewer w s out inactive small o =
@@ -551,7 +555,7 @@ module _ {R : Type 0} (k : RecordRules R) (lawful : IsLawful k) where
       completed_if-same Nothing_ = refl
       completed_if-same (Some got) = completed-same w s got inactive room
 
-    -- the rest of a body after its input
+    -- The rest of a body after its input leaves no more records idle.
     after_reading : (w : World R) (s : ℕ) (reading : Reading R) → (common_at k w s).active ≡ false → idle k w ≤ bound → Reads k w s reading →
         (idle k (completed_if k answers ask reading.world s reading.came).world ≤ idle k w)
         × (completed_if k answers ask reading.world s reading.came ≡ completed_if k answers other reading.world s reading.came)
@@ -588,7 +592,7 @@ module _ {R : Type 0} (k : RecordRules R) (lawful : IsLawful k) where
     unfolding judged
     judged-same w s inactive room = rw (body-same w s inactive room) refl
 
-    -- a request of an idle record: what SDIS gives leaves it idle
+    -- A request of an idle record: storing the value of SDIS keeps it idle.
     module _ (w : World R) (s : ℕ) (inactive : (common_at k w s).active ≡ false) (small : idle k w ≤ bound) where
       begun_world : World R
       begun_world = changed k w s unblocked
@@ -657,7 +661,7 @@ module _ {R : Type 0} (k : RecordRules R) (lawful : IsLawful k) where
     unfolding request
     request-fewer w s = (nested-asks (suc (idle k w)) (suc (idle k w)) (suc (idle k w)) (omega arith) (omega arith)).fewer w s (omega arith)
 
-    -- the rule of a request, where those inside it are requests
+    -- `request` satisfies its own rule, with `request` for the inner requests.
     pub request-rule : (w : World R) (s : ℕ) → request k answers w s ≡ as_request (ran k answers w s)
     unfolding request nested ran
     request-rule w s =
@@ -667,7 +671,7 @@ module _ {R : Type 0} (k : RecordRules R) (lawful : IsLawful k) where
         } in
         ap (λ (r : Ran R). as_request r) (requested-same answers (idle k w) _ _ within w s (omega arith))
 
-    -- requests as the way to request
+    -- `request` is a way to request for every bound.
     pub request-asks : (bound : ℕ) → Asks k bound (request k answers) (request k answers)
     request-asks bound = record { same = λ w s _. refl; fewer = λ w s _. request-fewer w s }
 

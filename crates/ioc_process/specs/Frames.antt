@@ -1,4 +1,5 @@
--- What is left to do of a request, by the frames that are open. How requests are made is this project's own.
+-- What is left to do of a request, given the open frames. How requests are made is this project's
+-- own design.
 use Rattle.std.specs.Prelude.{◌≡◌, ℕ, ◌+◌, ◌-◌, ◌≤◌, filter, drop, true, false, if◌then◌else◌, List, [], ◌∷◌, ◌++◌, Option, Some}
 use Rattle.std.specs.Prelude.{None as Nothing_}
 use Rattle.std.specs.List.{last_or}
@@ -24,19 +25,20 @@ use Rattle.ioc_store.specs.Notifying.{passed_on}
 use Rattle.ioc_store.specs.Places.{requested_at}
 use Rattle.ioc_store.specs.Rests.{rested, disable_came}
 
--- what a record came to when it began or went on
+-- What a record does when it has begun or resumed.
 pub data Turn : Type 0 where
-  -- its request is done, or its device answers later
+  -- Its request is done, or its device answers later.
   Ended : Outcome → Turn
-  -- it requests the record that the frame names, and goes on at the frame afterwards
+  -- It requests the record that the frame names, and resumes at the frame afterwards.
   Calls : Frame → Turn
 
--- the newest of the frames that are open, where they stand in order from it on
+-- The newest of the open frames, in a list that begins with it.
 abbrev pub newest_of : List Frame → Option Frame
 newest_of [] = Nothing_
 newest_of (frame ∷ frames) = Some frame
 
--- the turn that was taken, by the frames that are open and what the code does next: the newest frame waits for a request
+-- The turn that was taken, given the open frames and what the code does next: the newest frame
+-- waits for a request.
 abbrev pub waits_with : Option Frame → Turn
 waits_with Nothing_ = Ended Active
 waits_with (Some frame) = Calls frame
@@ -45,27 +47,28 @@ abbrev pub turn_of : List Frame → Next → Turn
 turn_of frames (Ends outcome) = Ended outcome
 turn_of frames Requests-next = waits_with (last_or Nothing_ frames)
 
--- what the code does after a turn
+-- What the code does after a turn.
 abbrev pub next_of : Turn → Next
 next_of (Ended outcome) = Ends outcome
 next_of (Calls frame) = Requests-next
 
--- the frames that are open after a turn, the newest last
+-- The open frames after a turn, the newest last.
 abbrev pub opened : List Frame → Turn → List Frame
 opened frames (Ended outcome) = frames
 opened frames (Calls frame) = frames ++ frame ∷ []
 
--- a turn opened a frame where it requests a record, and none else
+-- Holds if a turn opened one frame when it requests a record, and none otherwise.
 pub record Opens (before after : List Frame) (result : Next) : Type 0 where
   pub frames : after ≡ opened before (turn_of after result)
   pub next : next_of (turn_of after result) ≡ result
 
--- how many requests a turn makes at once
+-- The number of requests that a turn makes immediately.
 abbrev pub calls : Turn → ℕ
 calls (Ended outcome) = 0
 calls (Calls frame) = 1
 
--- how many requests a body may still cause once it goes on at this place: sixteen links and the forward link at most
+-- The largest number of requests that a body still makes when it resumes at this point: sixteen
+-- links and the forward link at most.
 abbrev pub calls_left : Place → ℕ
 calls_left (ReadingDisable t) = 18
 calls_left (Reading-place t) = 17
@@ -73,25 +76,28 @@ calls_left (Writing target) = 1
 calls_left (FollowingEach links target next) = (16 - next) + 1
 calls_left (Following target) = 0
 
--- how many it may still cause after a turn, with the one that the turn makes
+-- The largest number of requests that are still made after a turn, including the one that the turn
+-- makes.
 abbrev pub turn_left : Turn → ℕ
 turn_left (Ended outcome) = 0
 turn_left (Calls frame) = 1 + calls_left frame.place
 
--- a body causes so many requests at most: of the record that it reads, of sixteen links, and of its forward link's
+-- The largest number of requests that a body makes: of the record that it reads, of sixteen links,
+-- and of its forward link.
 abbrev pub most_calls : ℕ
 most_calls = 18
 
--- and a request one more: of the record that SDIS names
+-- The largest number of requests that a request makes: those of the body, and that of the record
+-- that SDIS names.
 abbrev pub most_of_request : ℕ
 most_of_request = 19
 
--- the records of a frame are there
+-- Holds if the records of a frame exist.
 pub record FrameStands {R : Type 0} (w : World R) (frame : Frame) : Type 0 where
   pub source_there : Has w frame.source
   pub requested_there : Has w (requested_at frame.place)
 
--- the records of all frames are there
+-- Holds if the records of all frames exist.
 abbrev pub AllStand : {R : Type 0} → World R → List Frame → Type 0
 AllStand w [] = Unit {0}
 AllStand w (frame ∷ frames) = FrameStands w frame × AllStand w frames
@@ -100,26 +106,27 @@ abbrev pub TurnStands : {R : Type 0} → World R → Turn → Type 0
 TurnStands w (Ended outcome) = Unit {0}
 TurnStands w (Calls frame) = FrameStands w frame
 
--- a turn keeps all records and their links. Each request that it makes at once has one idle record less before it; `more` may be
--- idle that were not. Its body causes `most` requests more at most
+-- A turn keeps all records and their links. Before each request that it makes immediately, one
+-- record less is idle; up to `more` records may have become idle. Its body makes at most `most`
+-- more requests.
 pub record Turns {R : Type 0} (k : RecordRules R) (w after : World R) (more most : ℕ) (turn : Turn) : Type 0 where
   pub keeps : Keeps k w after
   pub fewer : idle k after + calls turn ≤ idle k w + more
   pub stands : TurnStands after turn
   pub left : turn_left turn ≤ most
 
--- the numbers of links that are chosen, from this one on
+-- The numbers of the chosen links from this number on.
 unfoldable pub remaining : ℕ → ℕ → List Slot
 remaining links next = filter (is_chosen links) (drop next all_slots)
 
 module _ {R : Type 0} (k : RecordRules R) (answers : Answers) where
-  -- record s finishes after this
+  -- Record `s` finishes after this.
   unfoldable pub then_finished : ℕ → Done R → Done R
   then_finished s done =
       let rest = finished k (request k answers) done.world s in
       record { world = rest.world; requests = followed_by done.requests rest.requests }
 
-  -- record s goes on at this place
+  -- Record `s` resumes at this point.
   unfoldable pub went_on : World R → ℕ → Place → Ran R
   went_on w s (ReadingDisable t) =
       let read = read_at k (λ _. disable_kind) (changed k w s (with_active false)) s t in
@@ -132,17 +139,17 @@ module _ {R : Type 0} (k : RecordRules R) (answers : Answers) where
       processed (then_finished s (followed_each k (request k answers) (changed k w s (with_active false)) s (remaining links next)))
   went_on w s (Following target) = processed (record { world = rested k (changed k w s (with_active true)) s; requests = None })
 
-  -- what a body does after its input
+  -- The part of a body after its input.
   unfoldable pub after_reading : ℕ → Reading R → Done R
   after_reading s reading =
       let rest = completed_if k answers (request k answers) reading.world s reading.came in
       record { world = rest.world; requests = followed_by reading.requests rest.requests }
 
-  -- these requests, and then what the frame goes on with
+  -- These requests, followed by what resumes at the frame.
   unfoldable pub then_frame : Done R → Frame → Ran R
   then_frame done frame = ran_after done.requests (went_on done.world frame.source frame.place)
 
-  -- the request of record t by record s, which is active
+  -- The request of record `t` by record `s`, which is active.
   unfoldable pub asked_ran : World R → ℕ → ℕ → Ran R
   asked_ran w s t =
       let by_put = (common_at k w s).by_put in
@@ -150,26 +157,27 @@ module _ {R : Type 0} (k : RecordRules R) (answers : Answers) where
       then record { world = changed k w t put_down; requests = None; outcome = Reprocess }
       else ran k answers (passed_on k (changed k w t (put_mark_passed by_put)) s t) t
 
-  -- the request that the frame waits for
+  -- The request that the frame waits for.
   abbrev pub called_by : World R → Option Frame → Ran R
   called_by w Nothing_ = record { world = w; requests = None; outcome = Active }
   called_by w (Some frame) = asked_ran w frame.source (requested_at frame.place)
 
-  -- a request that has read SDIS
+  -- The part of a request after reading SDIS.
   unfoldable pub after_disable : ℕ → Read R → Ran R
   after_disable s read = ran_after read.requests (judged k answers (request k answers) (disable_came k read.world s read.came) s)
 
-  -- all that a turn leads to
+  -- Everything that follows from a turn.
   unfoldable pub after_turn : World R → Turn → Ran R
   after_turn w (Ended outcome) = record { world = w; requests = None; outcome = outcome }
   after_turn w (Calls frame) = then_frame (as_request (asked_ran w frame.source (requested_at frame.place))) frame
 
-  -- and then all frames, the newest first
+  -- All open frames are resumed after this, the newest first.
   abbrev pub then_frames : Ran R → List Frame → Ran R
   then_frames ran [] = ran
   then_frames ran (frame ∷ frames) = then_frames (then_frame (as_request ran) frame) frames
 
--- the code has come from the tally `before` and these requests to `counts` and what is left
+-- The code has come from the tally `before` to `counts`, and what is left leads to the same result
+-- as `ran`.
 pub record Goes {R : Type 0} (before counts : Tally) (ran left : Ran R) : Type 0 where
   pub world : ran.world ≡ left.world
   pub outcome : ran.outcome ≡ left.outcome

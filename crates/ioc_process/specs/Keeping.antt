@@ -1,4 +1,4 @@
--- What requests leave alone: which records there are, and what their links name.
+-- What requests leave unchanged: the set of records, and what their links name.
 use Rattle.std.proofs.Common.{◌≡◌, ◌≢◌, ℕ, Bool, true, false, cond, eqb, List, [], ◌∷◌, length, refl, ap, subst, ◌∙◌, arith, Some, None as Nothing_}
 use Rattle.std.proofs.lemmas.Grind.{common_steps}
 use Rattle.std.specs.Prelude.{Result, Ok, Err, Contains, nat_lt, ◌++◌}
@@ -34,7 +34,7 @@ use Rattle.ioc_fields.specs.declared.field_no.FieldNo.{FieldNo}
 use Rattle.ioc_store.specs.Notifying.{passed_on, notified}
 use Rattle.ioc_store.specs.NotifyLaws.{passed-either, notified-either}
 
--- the same record has the same links, and so has one after another
+-- A record has the same links as itself, and the relation is transitive.
 pub same_links : {R : Type 0} (k : RecordRules R) (r : R) → SameLinks k r r
 same_links k r = record { record_type = refl; fields = refl; links = refl }
 
@@ -48,7 +48,7 @@ module _ {R : Type 0} (k : RecordRules R) where
   pub keeps_on : {w mid after : World R} → Keeps k w mid → Keeps k mid after → Keeps k w after
   keeps_on one two = record { has = λ n h. two.has n (one.has n h); only = λ n h. one.only n (two.only n h); count = two.count ∙ one.count; links = λ n. links_on k (one.links n) (two.links n) }
 
-  -- a record with the links that it had at the start
+  -- Putting a record with the links that it had at the start keeps the records and links.
   pub put_kept : (w0 w : World R) (n : ℕ) → Has w0 n → (r : R) → Keeps k w0 w → SameLinks k (at k w0 n) r → Keeps k w0 (put w n r)
   put_kept w0 w n may r keeps good = record {
     has = λ m h. has-put k w n m r (keeps.has m h);
@@ -161,12 +161,12 @@ module _ {R : Type 0} (k : RecordRules R) (lawful : IsLawful k) where
         | false ↦ received-keeps w s there Fault-answer
       ]
 
-  -- a write takes no record away
+  -- A write removes no record.
   pub wrote-has : (w : World R) (s : ℕ) (t : StandingLink) (v : Value) (n : ℕ) → Has w n → Has (wrote k w s t v).world n
   unfolding wrote handed_on changed
   wrote-has w s t v n has = has-put k _ t.number n _ (written_has k lawful w t _ n has)
 
-  -- from a world that no link leaves
+  -- A world that no link leaves, as the start.
   module _ (w0 : World R) (closed : IsClosed k w0) where
     abbrev pub KeptFrom : World R → World R → Type 0
     KeptFrom w v = (w ≡ v) × Keeps k w0 w

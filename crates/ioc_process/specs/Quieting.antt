@@ -1,4 +1,4 @@
--- A request leaves a quiet database quiet.
+-- A request keeps a quiet database quiet.
 use Rattle.std.proofs.Common.{◌≡◌, ℕ, IsSome, IsTrue, unwrap_or, sym, subst}
 use Rattle.std.specs.Prelude.{◌↔◌, Contains}
 use Rattle.std.specs.Ordering.{nat_cmp}
@@ -25,7 +25,7 @@ module _ {R : Type 0} (k : RecordRules R) (lawful : IsLawful k) where
         (quiet.quiet n ((request-keeps k lawful w closed answers s there).only n has));
   }
 
--- what holds between events is said of the records
+-- A database is settled by its records alone.
 pub settled_by : {R : Type 0} (k : RecordRules R) (w v : World R) → w.records ≡ v.records → IsSettled k w → IsSettled k v
 unfolding at
 settled_by {R} k w v e is = record {

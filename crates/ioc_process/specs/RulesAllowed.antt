@@ -123,7 +123,7 @@ module _ {R : Type 0} (k : RecordRules R) (lawful : IsLawful k) (answers : Answe
   abbrev ask : World R → ℕ → Done R
   ask = request k answers
 
-  -- the device of s answers, and this comes
+  -- The device of `s` answers a read, with this result.
   abbrev Answers-so : World R → ℕ → Reading R → Type 0
   Answers-so w s reading = Gets k answers w s ReadDevice reading.world reading.came reading.requests
 
@@ -146,7 +146,7 @@ module _ {R : Type 0} (k : RecordRules R) (lawful : IsLawful k) (answers : Answe
         | false ↦ λ is. answered-so w w s _ (not_asked w s Read-ask is)
       ] refl
 
-  -- the device of s is written, and this comes
+  -- The device of `s` answers a write, with this result.
   abbrev Written-so : World R → ℕ → Value → PutOut R → Type 0
   Written-so w s v out = PutsOut k answers w s (WriteDevice v) out.world out.goes_on out.requests
 
@@ -162,7 +162,7 @@ module _ {R : Type 0} (k : RecordRules R) (lawful : IsLawful k) (answers : Answe
         | false ↦ λ is. written-so w w s v _ (not_asked w s (Write-ask v) is)
       ] refl
 
-  -- s and all idle records are so many at most
+  -- Record `s` and all idle records together are at most this many.
   abbrev Space : ℕ → World R → ℕ → Type 0
   Space bound w s = idle k w + cond (common_at k w s).active 1 0 ≤ bound
 
@@ -304,7 +304,7 @@ module _ {R : Type 0} (k : RecordRules R) (lawful : IsLawful k) (answers : Answe
               Runs.to_end (gets-as (Some got) is) (completed-allowed reading.world s got (omega (arith, leaves.fewer, small, ap {A = Bool} {B = ℕ} (λ b. cond b 1 0) still)))
         ] refl
 
-    -- a request of an idle record
+    -- The rules allow the result of a request of an idle record.
     begun-allowed : (w : World R) (s : ℕ) → (common_at k w s).active ≡ false → idle k w ≤ bound → let done = as_request (begun_idle k answers ask w s) in Requested k answers w s done.world done.requests
     unfolding begun_idle judged ran_after
     begun-allowed w s inactive small =
@@ -338,7 +338,7 @@ module _ {R : Type 0} (k : RecordRules R) (lawful : IsLawful k) (answers : Answe
   pub request-allowed : (w : World R) (s : ℕ) → Requested k answers w s (ask w s).world (ask w s).requests
   request-allowed w s = allowed-below (suc (idle k w)) w s (omega arith)
 
-  -- the parts of a request, whose own requests are requests
+  -- The rules allow the results of the parts of a request whose inner requests are requests.
   asks-allowed : (bound : ℕ) (w : World R) (s : ℕ) → idle k w < bound → Requested k answers w s (ask w s).world (ask w s).requests
   asks-allowed bound w s few = request-allowed w s
 
@@ -366,7 +366,7 @@ module _ {R : Type 0} (k : RecordRules R) (lawful : IsLawful k) (answers : Answe
     | false ↦ omega arith
   ]
 
-  -- the request by its outcome
+  -- The rules allow a request with its outcome.
   pub ran-allowed : (w : World R) (s : ℕ) → let r = ran k answers w s in Requested k answers w s r.world (Request r.outcome r.requests None)
   ran-allowed w s = subst (λ (d : Done R). Requested k answers w s d.world d.requests) (request-rule k lawful answers w s) (request-allowed w s)
 
@@ -379,7 +379,8 @@ module _ {R : Type 0} (k : RecordRules R) (lawful : IsLawful k) (answers : Answe
   pub run-allowed : (w : World R) (s : ℕ) → (common_at k w s).active ≡ false → Runs k answers w s (body k answers ask w s).world (body k answers ask w s).requests
   run-allowed w s inactive = body-allowed (idle k w + 2) (asks-allowed _) w s inactive (omega arith)
 
-  -- a record whose device answered at last: it asks none again, so its body goes on now
+  -- The body of a record whose device answered later continues now, since it doesn't ask the device
+  -- again.
   goes-on : (w : World R) (s : ℕ) (output : Output) → ((v : Value) → output ≢ WriteDevice v) → (put_out k answers ask w s output).goes_on ≡ true
   unfolding put_out
   goes-on w s NoOutput none = refl

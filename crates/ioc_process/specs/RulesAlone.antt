@@ -187,7 +187,7 @@ module _ {R : Type 0} (k : RecordRules R) (lawful : IsLawful k) (answers : Answe
   unfolding followed_each
   each-step w s slot slots first rest is more = rw (is, more) refl
 
-  -- what follows a write
+  -- A write that isn't stored raises an alarm and requests nothing.
   vain-step : (w : World R) (s : ℕ) (t : StandingLink) → after_writing k ask (record { world = w; stored = false }) s t ≡ record { world = faulted k w s; requests = None }
   unfolding after_writing
   vain-step w s t = refl
@@ -309,7 +309,7 @@ module _ {R : Type 0} (k : RecordRules R) (lawful : IsLawful k) (answers : Answe
     body-is (Runs.to_end {w} {w'} {w''} {s} {got} {first} g f) = body-end w w' s got first _ (input-is g) (completed-is f)
     body-is (Runs.waits {w} {w'} {s} {requests} g) = body-waits w w' s requests (input-is g)
 
-  -- a record whose device answered at last
+  -- The rules allow no other result for a record whose device answered later.
   pub at_last-is : {w : World R} {s : ℕ} {x : Finished} {w' : World R} {requests : Requests} → Resumes k answers w s x w' requests → went_on_at_last k answers w s x ≡ record { world = w'; requests = requests }
   unfolding went_on_at_last
   at_last-is (at_last {w} {back} {w'} {w''} {s} {x} {first} {rest} b p f) =

@@ -1,4 +1,5 @@
--- A law of requests, by induction on the rules: what they leave of active marks and pending numbers.
+-- A law of requests, by induction on the rules: what they leave of active marks and pending
+-- numbers.
 use Rattle.std.proofs.Common.{◌≡◌, ◌≢◌, ℕ, Bool, true, false, cond, eqb, nat_lt, ◌++◌, List, [], ◌∷◌, length, Option, Some, None as Nothing_, IsSome, refl, sym, ap, subst, ◌∙◌, arith}
 use Rattle.std.proofs.lemmas.Grind.{common_steps}
 use Rattle.ioc_device.specs.declared.Answer.{Answer}
@@ -37,7 +38,7 @@ use Rattle.ioc_store.specs.NotifyLaws.{passed-either, notified-either}
 true-not-false : true ≡ false → ⊥
 true-not-false is = cc
 
--- active mark and pending number as they were
+-- Holds if the active mark and the pending number are unchanged.
 pub record Same (before after : Common) : Type 0 where
   pub active : after.active ≡ before.active
   pub pending : after.pending ≡ before.pending
@@ -57,7 +58,7 @@ left_on (as_it_was active pending) (now_waits idle waits some) = now_waits (sym 
 left_on (now_waits idle waits some) (as_it_was active' pending') = now_waits idle (active' ∙ waits) (subst (λ (o : Option ℕ). IsSome o) (sym pending') some)
 left_on (now_waits idle waits some) (now_waits idle' waits' some') = absurd (true-not-false (sym waits ∙ idle'))
 
--- an active record is left as it was
+-- An active record is left as it was.
 left_active : {a b : Common} → Left a b → a.active ≡ true → Same a b
 left_active (as_it_was active pending) is = record { active = active; pending = pending }
 left_active (now_waits idle waits some) is = absurd (true-not-false (sym is ∙ idle))
@@ -69,7 +70,7 @@ module _ {R : Type 0} (k : RecordRules R) (lawful : IsLawful k) where
   Own : ℕ → World R → World R → Type 0
   Own s w w' = Same (common_at k w s) (common_at k w' s)
 
-  -- all but s, and s
+  -- All records are left so if `s` and every other record are.
   all_of : (w w' : World R) (s : ℕ) → ((n : ℕ) → n ≢ s → Left (common_at k w n) (common_at k w' n)) → Left (common_at k w s) (common_at k w' s) → LeavesAll k w w'
   all_of w w' s others own n =
       elim (eqb n s) as (λ b. eqb n s ≡ b → Left (common_at k w n) (common_at k w' n)) [
@@ -96,7 +97,7 @@ module _ {R : Type 0} (k : RecordRules R) (lawful : IsLawful k) where
   unfolding Own
   changed-all w s f same = all_of w _ s (λ n apart. left_same (changed-but w s f n apart)) (left_same (changed-own w s f same))
 
-  -- what happens to s, and to all others
+  -- What is left of `s`, and of all other records.
   record Both (s : ℕ) (w w' : World R) : Type 0 where
     others : (n : ℕ) → n ≢ s → Left (common_at k w n) (common_at k w' n)
     own : Own s w w'
@@ -112,7 +113,7 @@ module _ {R : Type 0} (k : RecordRules R) (lawful : IsLawful k) where
   both-changed : (w : World R) (s : ℕ) (f : Common → Common) → Same (common_at k w s) (f (common_at k w s)) → Both s w (changed k w s f)
   both-changed w s f same = record { others = λ n apart. left_same (changed-but w s f n apart); own = changed-own w s f same }
 
-  -- a record is put, whichever it is, with the marks that it had
+  -- Putting a record with its marks unchanged keeps the marks of all records.
   both-put : (w : World R) (s n : ℕ) (r : R) → Same (common_at k w n) (k.common r) → Both s w (put w n r)
   unfolding Own
   both-put w s n r same =
@@ -150,7 +151,7 @@ module _ {R : Type 0} (k : RecordRules R) (lawful : IsLawful k) where
   unfolding at lost Own
   lost-both w s = record { others = λ n _. as_it_was refl refl; own = same_here _ }
 
-  -- a record goes on another scan list
+  -- Moving a record to another scan list keeps the marks.
   moved-both : (w : World R) (s n : ℕ) → Both s w (moved k w n)
   moved-both w s n =
       let numbered = subst (λ (v : World R). Both s w v) (changed-is w n) (both-put w s n _ (record { active = ap (λ (c : Common). c.active) (lawful.common_set _ _); pending = ap (λ (c : Common). c.pending) (lawful.common_set _ _) })) in
@@ -172,7 +173,7 @@ module _ {R : Type 0} (k : RecordRules R) (lawful : IsLawful k) where
   set_notification-both w s n number =
       subst (λ (v : World R). Both s w v) (set_as w n number) (both-put w s n _ (record { active = ap (λ (c : Common). c.active) (lawful.common_set _ _); pending = ap (λ (c : Common). c.pending) (lawful.common_set _ _) }))
 
-  -- a notification goes from record to record, and is told
+  -- Passing a put with notification from record to record, and ending it, keep the marks.
   passed_on-both : (w : World R) (s source t : ℕ) → Both s w (passed_on k w source t)
   passed_on-both w s source t = passed-either k (Both s w) w source t (both_here w s) (λ n. both_on (set_notification-both w s t (Some n)) (taken_on-both n _ s))
 
@@ -205,7 +206,7 @@ module _ {R : Type 0} (k : RecordRules R) (lawful : IsLawful k) where
   disables-both (not_given {w} {s}) = both_here w s
   disables-both (not_read {w} {s}) = both_here w s
 
-  -- s as it was where something came, and waiting where nothing came
+  -- `s` is as it was if something was read, and waits otherwise.
   OwnIf : ℕ → World R → World R → Option Got → Type 0
   OwnIf s w w' Nothing_ = ((common_at k w' s).active ≡ true) × IsSome (common_at k w' s).pending
   OwnIf s w w' (Some got) = Own s w w'
@@ -230,7 +231,7 @@ module _ {R : Type 0} (k : RecordRules R) (lawful : IsLawful k) where
         own = (ap (λ (c : Common). c.active) is, subst (λ (o : Option ℕ). IsSome o) (sym (ap (λ (c : Common). c.pending) is)) refl);
       }
 
-  -- s as it was where the body goes on, and waiting where not
+  -- `s` is as it was if the body continues, and waits otherwise.
   OwnAs : ℕ → World R → World R → Bool → Type 0
   OwnAs s w w' false = ((common_at k w' s).active ≡ true) × IsSome (common_at k w' s).pending
   OwnAs s w w' true = Own s w w'
@@ -254,7 +255,7 @@ module _ {R : Type 0} (k : RecordRules R) (lawful : IsLawful k) where
         own = (ap (λ (c : Common). c.active) is, subst (λ (o : Option ℕ). IsSome o) (sym (ap (λ (c : Common). c.pending) is)) refl);
       }
 
-  -- after a step that leaves s as it was
+  -- The same holds after a step that leaves `s` as it was.
   as_on : {w w' w'' : World R} {s : ℕ} {goes_on : Bool} → Both s w w' → BothAs s w' w'' goes_on → BothAs s w w'' goes_on
   unfolding OwnAs Own
   as_on {goes_on = true} one two = record { others = λ n apart. left_on (one.others n apart) (two.others n apart); own = same_on one.own two.own }
@@ -276,7 +277,7 @@ module _ {R : Type 0} (k : RecordRules R) (lawful : IsLawful k) where
     after_giving {came = Nothing_} one two = record { others = λ n apart. left_on (one.others n apart) (two.others n apart); own = two.own }
     after_giving {came = Some got} one two = record { others = λ n apart. left_on (one.others n apart) (two.others n apart); own = same_on one.own two.own }
 
-    -- s is idle in the end, with the pending number that it had
+    -- `s` is idle in the end, with the pending number that it had.
     record Ended (s : ℕ) (w w' : World R) : Type 0 where
       others : (n : ℕ) → n ≢ s → Left (common_at k w n) (common_at k w' n)
       active : (common_at k w' s).active ≡ false
@@ -295,7 +296,7 @@ module _ {R : Type 0} (k : RecordRules R) (lawful : IsLawful k) where
           pending = sends.own.pending ∙ ap (λ (c : Common). c.pending) is ∙ told.own.pending;
         }
 
-    -- s comes to rest
+    -- Ending its processing leaves `s` idle.
     rests-ended : {w : World R} {s : ℕ} {w' : World R} → Rests k w s w' → Ended s w w'
     unfolding Own
     rests-ended (for_good {w} {s} _) =
@@ -309,7 +310,7 @@ module _ {R : Type 0} (k : RecordRules R) (lawful : IsLawful k) where
         }
     rests-ended (once_more {w} {s} _) = once_more-ended w s
 
-    -- marks leave what is active and pending
+    -- Marking for reprocessing keeps the active mark and the pending number.
     put_down-same : (c : Common) → Same c (put_down c)
     put_down-same c = let f = blocked-frame (with_reprocess_mark true c) in record { active = f.active; pending = f.pending }
 
@@ -324,7 +325,7 @@ module _ {R : Type 0} (k : RecordRules R) (lawful : IsLawful k) where
     unfolding disabled
     disabled-same c = record { active = refl; pending = refl }
 
-    -- what a request does before it reads SDIS
+    -- The part of a request before SDIS is read keeps the marks.
     readied-both : (w ready : World R) (s : ℕ) → ready ≡ changed k w s unblocked → Both s w ready
     readied-both w ready s is = subst (Both s w) (sym is) (both-changed w s unblocked (record { active = refl; pending = refl }))
 
@@ -416,7 +417,7 @@ module _ {R : Type 0} (k : RecordRules R) (lawful : IsLawful k) where
             pending = last.pending ∙ inside.own.pending ∙ ready_pending;
           }
 
-      -- s idle in the end, or waiting: of a record that was idle
+      -- A body of a record that was idle leaves it idle or waiting.
       proceeds-leave : {w : World R} {s : ℕ} {got : Got} {w' : World R} {requests : Requests} → Proceeds k answers w s got w' requests → (common_at k w s).active ≡ false → LeavesAll k w w'
       proceeds-leave (at_once {w} {taken} {w'} {w''} {s} {got} t p f) idle =
           let first = taken-both w taken s got t in
@@ -438,7 +439,7 @@ module _ {R : Type 0} (k : RecordRules R) (lawful : IsLawful k) where
           let first = gets-both g in
           all_of w w' s first.others (now_waits idle first.own.0 first.own.1)
 
-    -- a record whose device answered at last is idle in the end, and waits no more
+    -- A record whose device answered later is idle in the end and no longer waits.
     pub resumes-others : {w : World R} {s : ℕ} {x : Finished} {w' : World R} {requests : Requests} → Resumes k answers w s x w' requests
         → (n : ℕ) → n ≢ s → Left (common_at k w n) (common_at k w' n)
     resumes-others (at_last {w} {back} {w'} {w''} {s} {x} b p f) n apart =

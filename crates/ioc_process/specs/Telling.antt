@@ -1,4 +1,5 @@
--- A law of requests, by induction on the rules: in the end a record that is idle has no notification.
+-- A law of requests, by induction on the rules: in the end, an idle record is part of no put with
+-- notification.
 use Rattle.std.proofs.Common.{◌≡◌, ◌≢◌, ℕ, Bool, true, false, cond, eqb, nat_lt, ◌++◌, List, [], ◌∷◌, length, Option, Some, None as Nothing_, refl, sym, ap, subst, ◌∙◌}
 use Rattle.std.proofs.lemmas.Bool.{eqb-true, eqb-false}
 use Rattle.ioc_device.specs.declared.Answer.{Answer}
@@ -39,15 +40,15 @@ not-both : true ≡ false → ⊥
 not-both is = cc
 
 module _ {R : Type 0} (k : RecordRules R) (lawful : IsLawful k) (n : ℕ) where
-  -- record n has no notification, if it is idle
+  -- Record `n` is part of no put with notification, if it is idle.
   abbrev pub Told : World R → Type 0
   Told w = IdleIsFree (common_at k w n)
 
-  -- so of record n, if it isn't s
+  -- `Told` holds of record `n`, if it isn't `s`.
   abbrev pub But : ℕ → World R → Type 0
   But s w = n ≢ s → Told w
 
-  -- whether n is s or not
+  -- A case distinction on whether `n` is `s`.
   pub either_way : (s : ℕ) (P : Type 0) → (n ≡ s → P) → (n ≢ s → P) → P
   either_way s P here there = elim (eqb n s) as (λ b. eqb n s ≡ b → P) [
     | true ↦ λ e. here (eqb-true n s e)
@@ -63,7 +64,7 @@ module _ {R : Type 0} (k : RecordRules R) (lawful : IsLawful k) (n : ℕ) where
   free-same : (c d : Common) → d.active ≡ c.active → d.notification ≡ c.notification → IdleIsFree c → IdleIsFree d
   free-same c d active notification free idle = notification ∙ free (sym active ∙ idle)
 
-  -- a record is put with the mark and the notification that it had
+  -- Putting a record with its active mark and its put with notification unchanged keeps `Told`.
   pub told-put : (w : World R) (s : ℕ) (r : R) → (k.common r).active ≡ (common_at k w s).active → (k.common r).notification ≡ (common_at k w s).notification → Told w → Told (put w s r)
   told-put w s r active notification told =
       either_way s (Told (put w s r))
@@ -84,7 +85,7 @@ module _ {R : Type 0} (k : RecordRules R) (lawful : IsLawful k) (n : ℕ) where
       told-put w s _ (ap (λ (c : Common). c.active) (lawful.common_set (at k w s) (f (common_at k w s))) ∙ active _)
       (ap (λ (c : Common). c.notification) (lawful.common_set (at k w s) (f (common_at k w s))) ∙ notification _) told
 
-  -- a record that becomes active may have one
+  -- A record that becomes active may be part of one.
   pub active-told : (w : World R) (s : ℕ) (f : Common → Common) → ((c : Common) → (f c).active ≡ true) → But s w → Told (changed k w s f)
   active-told w s f active but = either_way s (Told (changed k w s f)) (λ is. changed-own w s f is (λ idle. absurd (not-both (sym (active _) ∙ idle)))) (λ apart. changed-other w s f apart (but apart))
 
@@ -125,7 +126,7 @@ module _ {R : Type 0} (k : RecordRules R) (lawful : IsLawful k) (n : ℕ) where
   unfolding handed_on
   handed-told w s t told = told-changed w t.number _ (λ c. refl) (λ c. refl) told
 
-  -- a notification is passed on to another record, or told
+  -- Passing a put with notification to another record keeps `Told`.
   passed-told : (w : World R) (s t : ℕ) → n ≢ t → Told w → Told (passed_on k w s t)
   passed-told w s t apart told = passed-either k Told w s t told (λ m. taken_on-told m _ (changed-other w t (with_notification (Some m)) apart told))
 
@@ -143,7 +144,7 @@ module _ {R : Type 0} (k : RecordRules R) (lawful : IsLawful k) (n : ℕ) where
   unfolding notified
   notified-own w s is = notified_as-own w s is _ refl
 
-  -- s is told, and a mark of it is changed
+  -- `Told` holds after `s` leaves its put with notification and a mark of it is changed.
   pub told-notified : (w : World R) (s : ℕ) (f : Common → Common) → ((c : Common) → (f c).notification ≡ c.notification) → But s w → Told (changed k (notified k w s) s f)
   told-notified w s f same but =
       either_way s (Told (changed k (notified k w s) s f)) (λ is. changed-own _ s f is (λ _. same _ ∙ notified-own w s is)) (λ apart. changed-other _ s f apart (notified-other w s apart (but apart)))
@@ -152,7 +153,7 @@ module _ {R : Type 0} (k : RecordRules R) (lawful : IsLawful k) (n : ℕ) where
   notified-told w s but =
       either_way s (Told (notified k w s)) (λ is _. subst (λ (q : ℕ). (common_at k (notified k w s) q).notification ≡ Nothing_) (sym is) (notified-own w s is)) (λ apart. notified-other w s apart (but apart))
 
-  -- ---- rules in which nothing is requested
+  -- Rules in which nothing is requested.
 
   puts-told : {w : World R} {t : StandingLink} {v : Value} {w' : World R} {stored : Bool} → Puts k w t v w' stored → Told w → Told w'
   unfolding put_untested
@@ -177,7 +178,7 @@ module _ {R : Type 0} (k : RecordRules R) (lawful : IsLawful k) (n : ℕ) where
   disables-told not_given told = told
   disables-told not_read told = told
 
-  -- where nothing came, s waits for its device
+  -- If nothing was read, `s` waits for its device.
   After : ℕ → World R → Option Got → Type 0
   After s w Nothing_ = Told w
   After s w (Some got) = But s w
@@ -227,7 +228,7 @@ module _ {R : Type 0} (k : RecordRules R) (lawful : IsLawful k) (n : ℕ) where
   unfolding disabled
   disabled-notification c = refl
 
-  -- an active record may have one
+  -- An active record may be part of one.
   held-active : (w : World R) (s : ℕ) → (common_at k w s).active ≡ true → But s w → Told w
   held-active w s active but = either_way s (Told w) (λ is idle. absurd (not-both (sym active ∙ ap (λ (q : ℕ). (common_at k w q).active) (sym is) ∙ idle))) but
 
@@ -306,7 +307,7 @@ module _ {R : Type 0} (k : RecordRules R) (lawful : IsLawful k) (n : ℕ) where
       runs-told (Runs.to_end g f) but = proceeds-told f (gets-told g but)
       runs-told (Runs.waits g) but = gets-told g but
 
-    -- a record whose device answered at last, too
+    -- `Told` holds after a record whose device answered later has resumed.
     pub resumes-told : {w : World R} {s : ℕ} {x : Finished} {w' : World R} {requests : Requests} → Resumes k answers w s x w' requests → But s w → Told w'
     unfolding AfterOutput
     resumes-told (at_last {w} {back} {w'} {w''} {s} {x} b p f) but =

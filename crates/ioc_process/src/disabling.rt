@@ -1,4 +1,4 @@
-//! SDIS: a request reads it before anything else, and leaves a record alone that is disabled.
+//! SDIS: a request reads it before anything else and doesn't process a record that is disabled.
 ghost use Rattle.std.specs.Prelude.{◌≡◌, ◌<◌, ℕ, List, [], true, false, vec_len};
 ghost use Rattle.std.specs.Vec.{vec_capacity};
 ghost use Rattle.ioc_common.specs.Steps.{disable_kind};
@@ -23,7 +23,7 @@ use ioc_steps::steps::{common, disable, is_disabled, passes_on, set_active, take
 use ioc_store::frames::{Frame, Next, Place};
 use ioc_store::store::Store;
 
-/// A request begins with reading SDIS. This isn't inlined, since few records have one.
+/// Begins a request by reading SDIS. It is not inlined, since few records use SDIS.
 #[inline(never)]
 pub fn begin_with_disable<S: Store>(
     store: &mut S,
@@ -46,7 +46,7 @@ pub fn begin_with_disable<S: Store>(
     read_disable(store, frames, number, link)
 }
 
-/// A record that is disabled is left alone.
+/// Ends a request of a record that is disabled.
 pub fn leave_alone<S: Store>(store: &mut S, number: RecordNo) -> Next
     requires there { Has (S.world store.old) number }
     requires off { is_disabled (common_at S.Record.rules (S.world store.old) number) ≡ true }
@@ -60,7 +60,7 @@ pub fn leave_alone<S: Store>(store: &mut S, number: RecordNo) -> Next
     Next::Ends(Outcome::Disabled)
 }
 
-/// A request reads SDIS.
+/// Reads SDIS of a record.
 #[tactic(auto, unfolding(crate::specs::Processing::read_link, crate::specs::Processing::ran_after, ioc_store::specs::Rests::disable_came, crate::specs::Frames::after_disable))]
 #[inline(always)]
 pub fn read_disable<S: Store>(
@@ -89,7 +89,7 @@ pub fn read_disable<S: Store>(
     }
 }
 
-// A request has read SDIS by a link that gave a fault.
+// Continues a request whose SDIS link returned a fault.
 fn judge_faulted<S: Store>(store: &mut S, frames: &mut Vec<Frame>, number: RecordNo) -> Next
     requires there { Has (S.world store.old) number }
     requires closed { IsClosed S.Record.rules (S.world store.old) }
@@ -106,7 +106,7 @@ fn judge_faulted<S: Store>(store: &mut S, frames: &mut Vec<Frame>, number: Recor
     judge(store, frames, number)
 }
 
-/// A request reads SDIS from a record; before it reads a link with PP, it requests the record that the link names.
+/// Reads SDIS from a record. If the link has PP and that record is passive, it is requested first.
 fn begin_disable<S: Store>(
     store: &mut S,
     frames: &mut Vec<Frame>,
@@ -138,7 +138,7 @@ fn begin_disable<S: Store>(
     }
 }
 
-/// The request of a record has read SDIS, and goes on.
+/// Continues a request whose SDIS is read from another record.
 pub fn take_disable<S: Store>(
     store: &mut S,
     frames: &mut Vec<Frame>,
@@ -162,7 +162,8 @@ pub fn take_disable<S: Store>(
     judge(store, frames, number)
 }
 
-/// A request has read SDIS: a record that is disabled is left alone, and else its body begins.
+/// Continues a request that has read SDIS: ends it if the record is disabled, and otherwise begins
+/// the body.
 #[inline(always)]
 fn judge<S: Store>(store: &mut S, frames: &mut Vec<Frame>, number: RecordNo) -> Next
     requires there { Has (S.world store.old) number }

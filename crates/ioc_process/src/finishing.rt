@@ -1,4 +1,4 @@
-//! What a body does once it has its input: it takes it, puts out what it has to, and finishes.
+//! The part of a body after its input: the record takes it, writes its output, and finishes.
 ghost use Rattle.std.specs.Prelude.{◌≡◌, ◌≤◌, ◌<◌, ◌+◌, ◌-◌, ℕ, List, [], Some, false, vec_len};
 ghost use Rattle.std.specs.FinMap.{len};
 ghost use Rattle.std.specs.Vec.{vec_capacity};
@@ -27,7 +27,7 @@ use ioc_store::outbox::OutboxItem;
 use ioc_store::store::Store;
 use ioc_values::Value;
 
-/// A record shows its alarms, and goes on to its forward link: the answer is what comes next.
+/// Shows the alarms of a record, follows its forward link, and returns what to do next.
 #[inline(always)]
 pub fn finish<S: Store>(store: &mut S, frames: &mut Vec<Frame>, number: RecordNo) -> Next
     requires there { Has (S.world store.old) number }
@@ -60,7 +60,7 @@ pub fn finish<S: Store>(store: &mut S, frames: &mut Vec<Frame>, number: RecordNo
     }
 }
 
-/// A record raises an alarm for its output link, and finishes.
+/// Raises an alarm for the output link of a record, and finishes.
 pub fn finish_with_fault<S: Store>(store: &mut S, frames: &mut Vec<Frame>, number: RecordNo) -> Next
     requires there { Has (S.world store.old) number }
     requires closed { IsClosed S.Record.rules (S.world store.old) }
@@ -77,7 +77,7 @@ pub fn finish_with_fault<S: Store>(store: &mut S, frames: &mut Vec<Frame>, numbe
     finish(store, frames, number)
 }
 
-/// A record writes another, which may be requested, and finishes.
+/// Writes a value to another record, which may be requested, and finishes.
 pub fn write_record<S: Store>(
     store: &mut S,
     frames: &mut Vec<Frame>,
@@ -112,7 +112,7 @@ pub fn write_record<S: Store>(
     }
 }
 
-/// A record writes a value through a link, and finishes.
+/// Writes a value through a link, and finishes.
 #[tactic(auto, unfolding(crate::specs::Processing::write_link, crate::specs::Frames::then_finished))]
 pub fn write_link<S: Store>(
     store: &mut S,
@@ -140,7 +140,7 @@ pub fn write_link<S: Store>(
     }
 }
 
-/// A record follows its links whose bits are set, from a number on, and finishes.
+/// Follows the links of a record whose bits are set, from `first` on, and finishes.
 pub fn follow_each<S: Store>(
     store: &mut S,
     frames: &mut Vec<Frame>,
@@ -177,7 +177,8 @@ pub fn follow_each<S: Store>(
     finish(store, frames, number)
 }
 
-/// A record puts out what it has to, and finishes; its device may keep it waiting.
+/// Writes the output of a record, and finishes. If its device answers later, the record waits
+/// instead.
 #[inline(never)]
 pub fn put_out<S: Store>(
     store: &mut S,
@@ -216,7 +217,7 @@ pub fn put_out<S: Store>(
     }
 }
 
-/// A record takes what came, puts out what it has to, and finishes.
+/// Lets a record take its input, write its output, and finish.
 #[inline(always)]
 pub fn finish_body<S: Store>(
     store: &mut S,
@@ -244,7 +245,7 @@ pub fn finish_body<S: Store>(
     }
 }
 
-/// A body goes on whose link gave a fault.
+/// Continues a body whose link returned a fault.
 pub fn take_fault<S: Store>(store: &mut S, frames: &mut Vec<Frame>, number: RecordNo) -> Next
     requires there { Has (S.world store.old) number }
     requires closed { IsClosed S.Record.rules (S.world store.old) }

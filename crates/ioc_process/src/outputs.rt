@@ -1,4 +1,4 @@
-//! What a body puts out: a value through a link or to a device, and the links that it follows.
+//! The output of a body: a value to a link or to a device, and the links that it follows.
 ghost use Rattle.std.specs.Prelude.{◌≡◌, ◌<◌, ◌-◌, ◌^◌, ℕ, List, Some, IsTrue, OnOk, OnErr, IfErr, Ok, Err};
 ghost use Rattle.ioc_record.specs.Values.{put_untested};
 ghost use Rattle.ioc_values.specs.declared.input.Input.TheVariants.{Value as InputValue};
@@ -21,7 +21,7 @@ use ioc_steps::steps::{hand_on, passes_on, passive, raise, wait};
 use ioc_store::store::Store;
 use ioc_values::{Input, IocError, Value};
 
-/// Is the field PROC? A put to it processes the record.
+/// Returns whether the field is PROC. A put to it processes the record.
 pub fn is_proc(field: FieldNo) -> bool
     ensures { result ≡ is_proc field }
 {
@@ -31,14 +31,14 @@ pub fn is_proc(field: FieldNo) -> bool
     }
 }
 
-/// Is the link of this number chosen?
+/// Returns whether the link with this number is chosen.
 pub fn is_chosen(links: u16, slot: Slot) -> bool
     ensures { result ≡ is_chosen links slot }
 {
     links >> slot.index() & 1 == 1
 }
 
-/// What the link of this number comes to.
+/// Returns how a record uses its link with this number.
 pub fn link_at<S: Store>(store: &S, number: RecordNo, slot: Slot) -> LinkUse
     requires { Has (S.world store.now) number }
     ensures { result ≡ link_at S.Record.rules (S.world store.now) number slot }
@@ -49,7 +49,7 @@ pub fn link_at<S: Store>(store: &S, number: RecordNo, slot: Slot) -> LinkUse
     }
 }
 
-/// A record, where it is passive.
+/// Returns the record, if there is one and it is passive.
 #[inline(always)]
 pub fn passive_record<S: Store>(store: &S, named: Option<RecordNo>) -> Option<RecordNo>
     requires { (n : ℕ) → named ≡ Some n → Has (S.world store.now) n }
@@ -63,7 +63,7 @@ pub fn passive_record<S: Store>(store: &S, named: Option<RecordNo>) -> Option<Re
     None
 }
 
-/// The record that a link names, where that is passive.
+/// Returns the record that a link names, if it is passive.
 pub fn passive_target<S: Store>(store: &S, link: LinkUse) -> Option<RecordNo>
     requires { IsStanding (S.world store.now) link }
     ensures { result ≡ passive_named S.Record.rules (S.world store.now) link }
@@ -76,7 +76,7 @@ pub fn passive_target<S: Store>(store: &S, link: LinkUse) -> Option<RecordNo>
     None
 }
 
-// Puts a value into a field of a record that is there, without a look at DISP.
+// Puts a value into a field of a record that exists, without a check of DISP.
 fn put_through<S: Store>(
     store: &mut S,
     number: RecordNo,
@@ -94,7 +94,7 @@ fn put_through<S: Store>(
     put_untested(record, field, given)
 }
 
-// Puts a value into the field that a link names; no, where it doesn't fit.
+// Puts a value into the field that a link names, and returns whether it fits.
 #[tactic(auto, unfolding(crate::specs::Processing::stored_at))]
 fn place_value<S: Store>(store: &mut S, target: StandingLink, value: Value) -> bool
     requires { Has (S.world store.old) target.number }
@@ -112,7 +112,8 @@ fn place_value<S: Store>(store: &mut S, target: StandingLink, value: Value) -> b
     }
 }
 
-// Puts a value into a field, and hands on the alarm that another record raises; no, where the value doesn't fit.
+// Puts a value into the field that a link names, hands on the alarm that the writing record raises,
+// and returns whether the value fits.
 #[tactic(auto, unfolding(crate::specs::Processing::wrote, ioc_store::specs::Links::handed_on))]
 fn store_value<S: Store>(
     store: &mut S,
@@ -132,17 +133,17 @@ fn store_value<S: Store>(
     stored
 }
 
-/// What became of a value that was written.
+/// The result of writing a value through a link.
 #[derive(Clone, Copy, PartialEq, Eq, Debug)]
 pub enum Written {
-    /// It didn't fit.
+    /// The value doesn't fit.
     InVain,
     Alone,
-    /// The record that was written is to be requested.
+    /// The value is stored, and the record that was written is to be requested.
     AndRequests,
 }
 
-/// A record writes a value through a link, and hands on the alarm that it raises.
+/// Writes a value through a link, and hands on the alarm that the writing record raises.
 #[tactic(auto, unfolding(crate::specs::Runs::how_written))]
 pub fn write_value<S: Store>(
     store: &mut S,
@@ -169,7 +170,7 @@ pub fn write_value<S: Store>(
     }
 }
 
-// What a device answered that was written: does the body go on now?
+// Takes the answer of a device that was written, and returns whether the body continues now.
 #[tactic(auto, unfolding(crate::specs::Processing::acknowledged))]
 fn acknowledge<S: Store>(store: &mut S, number: RecordNo, answer: Answer) -> bool
     requires there { Has (S.world store.old) number }
@@ -190,7 +191,8 @@ fn acknowledge<S: Store>(store: &mut S, number: RecordNo, answer: Answer) -> boo
     }
 }
 
-/// A record writes its device; no, where that answers later.
+/// Writes the device of a record, and returns whether the body continues now; it doesn't if the
+/// device answers later.
 pub fn write_device<S: Store>(store: &mut S, number: RecordNo, value: Value) -> bool
     requires { Has (S.world store.old) number }
     ensures out { ForAnswers (S.given store.new) (λ answers.

@@ -18,7 +18,7 @@ use ioc_steps::steps::{need, passes_on, set_active, wanted_link};
 use ioc_store::frames::{Frame, Next, Place};
 use ioc_store::store::Store;
 
-/// The body of a record begins.
+/// Begins the body of a record.
 #[inline(always)]
 pub fn begin_body<S: Store>(store: &mut S, frames: &mut Vec<Frame>, number: RecordNo) -> Next
     requires there { Has (S.world store.old) number }
@@ -39,7 +39,7 @@ pub fn begin_body<S: Store>(store: &mut S, frames: &mut Vec<Frame>, number: Reco
     }
 }
 
-/// A body begins that wants to read a link.
+/// Begins a body that reads a link first.
 #[inline(never)]
 pub fn begin_wanted<S: Store>(store: &mut S, frames: &mut Vec<Frame>, number: RecordNo) -> Next
     requires there { Has (S.world store.old) number }
@@ -58,7 +58,7 @@ pub fn begin_wanted<S: Store>(store: &mut S, frames: &mut Vec<Frame>, number: Re
     begin_reading(store, frames, number, link)
 }
 
-/// A body begins that wants to read its device.
+/// Begins a body that reads its device first.
 #[inline(never)]
 pub fn begin_asking<S: Store>(store: &mut S, frames: &mut Vec<Frame>, number: RecordNo) -> Next
     requires there { Has (S.world store.old) number }
@@ -79,7 +79,7 @@ pub fn begin_asking<S: Store>(store: &mut S, frames: &mut Vec<Frame>, number: Re
     }
 }
 
-/// A body begins with reading a link.
+/// Begins a body by reading a link.
 #[tactic(auto, unfolding(crate::specs::Processing::read_link, crate::specs::Frames::after_reading))]
 fn begin_reading<S: Store>(
     store: &mut S,
@@ -107,7 +107,8 @@ fn begin_reading<S: Store>(
     }
 }
 
-/// A body begins with reading a record; before it reads a link with PP, it requests the record that the link names.
+/// Begins a body by reading a record. If the link has PP and that record is passive, it is
+/// requested first.
 #[inline(always)]
 fn begin_target<S: Store>(
     store: &mut S,
@@ -140,7 +141,7 @@ fn begin_target<S: Store>(
     }
 }
 
-/// The body of a record has read another through a link, and goes on.
+/// Continues the body of a record that reads another one through a link.
 #[inline(always)]
 pub fn take_value<S: Store>(
     store: &mut S,

@@ -1,4 +1,4 @@
--- A table has no more lines than other lines that have all its numbers.
+-- A table has no more lines than other lines that contain all its numbers.
 use Rattle.std.proofs.Common.{◌≡◌, ◌≢◌, ℕ, ◌+◌, ◌<◌, ◌≤◌, Bool, true, false, not, cond, nat_eq, List, [], ◌∷◌, length, refl, ap, subst, arith}
 use Rattle.std.specs.List.{filter}
 use Rattle.std.proofs.lemmas.Bool.{eq-eqb, eqb-true}
@@ -10,7 +10,7 @@ use Rattle.ioc_put_table.specs.Counts.{holders_in, lines_of, IsTable}
 abbrev one_if : ℕ → Live → ℕ
 one_if n l = cond (nat_eq l.number n) 1 0
 
--- the lines of other numbers
+-- The lines of other numbers.
 abbrev others : ℕ → List Live → List Live
 others n ls = filter (λ l. not (nat_eq l.number n)) ls
 
@@ -36,7 +36,7 @@ length_others n (x ∷ xs) =
     by true is rest all = let here : one_if n x ≡ 1 = ap (λ (c : Bool). cond c 1 0) is in omega (arith, rest, all, here)
     by false is rest all = let here : one_if n x ≡ 0 = ap (λ (c : Bool). cond c 1 0) is in omega (arith, rest, all, here)
 
--- the lines of another number are all among the others
+-- The lines of another number are all among the others.
 others_keep : (n m : ℕ) (ls : List Live) → n ≢ m → lines_of m (others n ls) ≡ lines_of m ls
 others_keep n m [] apart = refl
 others_keep n m (x ∷ xs) apart =
@@ -65,7 +65,7 @@ none_left n (x ∷ xs) =
     by true is rest with_it = rest
     by false is rest with_it = let here : one_if n x ≡ 0 = ap (λ (c : Bool). cond c 1 0) is in omega (arith, rest, with_it, here)
 
--- a number that isn't the first one's is that of one of the rest
+-- A number with a count, other than that of the first line, has one in the rest.
 of_rest : (y : Live) (ys : List Live) (n : ℕ) → y.number ≢ n → 0 < holders_of n (y ∷ ys) → 0 < holders_of n ys
 of_rest y ys n apart some = by (nat_eq y.number n) refl some
   where
@@ -73,7 +73,8 @@ of_rest y ys n apart some = by (nat_eq y.number n) refl some
     by true is some' = absurd (apart (eqb-true y.number n is))
     by false is some' = some'
 
--- lines, no two of one number, are no more than others in which each of their numbers has some
+-- Lines with different numbers are no more than other lines in which each of their numbers has a
+-- count.
 short : (ls ms : List Live) → ((n : ℕ) → lines_of n ls ≤ 1) → ((n : ℕ) → 0 < lines_of n ls → 0 < holders_of n ms) → length ls ≤ length ms
 short [] [] once has = omega arith
 short (x ∷ xs) [] once has =

@@ -1,4 +1,4 @@
--- A table with another line in a place, without it, and with one more.
+-- A table with one line replaced, removed or added.
 use Rattle.std.proofs.Common.{◌≡◌, ℕ, zero, suc, ◌+◌, ◌-◌, ◌<◌, ◌≤◌, Bool, true, false, not, cond, nat_eq, nat_lt, Some, None, List, [], ◌∷◌, ◌++◌, length, take, drop, get_or, set, position, refl, sym, ap, subst, ◌∙◌, arith}
 use Rattle.std.specs.List.{remove, sum_by, position_or_len}
 use Rattle.std.proofs.lemmas.Bool.{ltb-false}
@@ -11,7 +11,7 @@ use Rattle.ioc_put_table.specs.Counts.{has_by, holders_in, lines_of, IsTable}
 abbrev one_if : ℕ → Live → ℕ
 one_if n l = cond (nat_eq l.number n) 1 0
 
--- ---- sums over a list with a place
+-- ---- Sums over a list split at an index
 
 pub parted : (xs : List Live) (i : ℕ) (d : Live) → i < length xs → xs ≡ take i xs ++ get_or xs i d ∷ drop (suc i) xs
 parted [] i d l = absurd (omega (arith, l))
@@ -26,7 +26,7 @@ set_parted (x ∷ xs) (suc i) v l = ap (λ (ys : List Live). x ∷ ys) (set_part
 sum_with : (f : Live → ℕ) (xs : List Live) (x : Live) (ys : List Live) → sum_by f (xs ++ x ∷ ys) ≡ sum_by f xs + (f x + sum_by f ys)
 sum_with f xs x ys = sum_by-append f xs (x ∷ ys) ∙ ap (λ (s : ℕ). sum_by f xs + s) (sum_by-cons f x ys)
 
--- a list without a line for a number has none that has it
+-- A list without a line for a number has the count 0 for it.
 none_by : (n : ℕ) (b : Bool) (x : Live) → nat_eq x.number n ≡ b → one_if n x ≡ 0 → has_by n x ≡ 0
 none_by n true x is zero_lines = let one : one_if n x ≡ 1 = ap (λ (c : Bool). cond c 1 0) is in absurd (omega (arith, zero_lines, one))
 none_by n false x is zero_lines = ap (λ (c : Bool). cond c x.holders 0) is
@@ -42,7 +42,7 @@ none_has n (x ∷ xs) none =
     let others = none_has n xs rest in
     omega (arith, all, first, others)
 
--- a number for which no line is found has none
+-- A number for which no line is found has none.
 no_place : (p : Live → Bool) (xs : List Live) → position p xs ≡ None → length xs ≤ position_or_len p xs
 no_place p xs none = ltb-false (position_or_len p xs) (length xs) (is_none (nat_lt (position_or_len p xs) (length xs)) none)
   where
@@ -84,7 +84,7 @@ same a b e = grind (arith, nat_tests)
 is_same : (a b : ℕ) → nat_eq a b ≡ true → a ≡ b
 is_same a b e = grind (arith, nat_tests)
 
--- ---- the line of a number that was found
+-- ---- The line of a number that was found
 
 module _ (number : ℕ) (xs : List Live) (i : ℕ) (found : position (λ l. nat_eq l.number number) xs ≡ Some i) (x : Live) (is : x ≡ get_or xs i x) (table : IsTable xs) where
   there : i < length xs
@@ -111,7 +111,7 @@ module _ (number : ℕ) (xs : List Live) (i : ℕ) (found : position (λ l. nat_
   at_x : (n : ℕ) (b : Bool) → nat_eq number n ≡ b → (one_if n x ≡ cond b 1 0) × (has_by n x ≡ cond b x.holders 0)
   at_x n b e = by_number n x b (ap (λ (m : ℕ). nat_eq m n) named ∙ e)
 
-  -- no other line is for the number
+  -- No other line is for the number.
   alone : (n : ℕ) → nat_eq number n ≡ true → (lines_of n front ≡ 0) × (lines_of n back ≡ 0)
   alone n e =
       let once = table.once n in
@@ -189,7 +189,7 @@ module _ (number : ℕ) (xs : List Live) (i : ℕ) (found : position (λ l. nat_
     held = λ n. held_removed n (nat_eq number n) refl;
   }
 
-  -- with so many less, and with so many more
+  -- The counts after subtracting from a line, and after adding to it.
   less_by : (h n : ℕ) (b : Bool) → h < x.holders → nat_eq number n ≡ b → holders_in n (set xs i (line number (x.holders - h))) + has_by n (line number h) ≡ holders_in n xs
   less_by h n true fewer e =
       let all = whole (has_by n) in
@@ -245,7 +245,7 @@ module _ (number : ℕ) (xs : List Live) (i : ℕ) (found : position (λ l. nat_
   pub more : (h n : ℕ) → holders_in n (set xs i (line number (x.holders + h))) ≡ holders_in n xs + has_by n (line number h)
   more h n = more_by h n (nat_eq number n) refl
 
--- ---- a number without a line
+-- ---- A number without a line
 
 no_holders : (number n : ℕ) (b : Bool) → nat_eq number n ≡ b → has_by n (line number 0) ≡ 0
 no_holders number n true e = (by_number n (line number 0) true e).1

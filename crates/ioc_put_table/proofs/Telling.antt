@@ -1,4 +1,4 @@
--- What the lines of a table tell.
+-- The meaning of a table's lines.
 use Rattle.std.proofs.Common.{◌≡◌, ◌↔◌, ℕ, zero, suc, ◌<◌, ◌≤◌, Bool, true, false, cond, ◌||◌, nat_eq, List, [], ◌∷◌, refl, ap, arith}
 use Rattle.std.specs.Prelude.{IsTrue}
 use Rattle.std.proofs.lemmas.List.Sums.{sum_by-cons}
@@ -10,7 +10,7 @@ use Rattle.ioc_put_table.proofs.Tables.{none_has}
 abbrev one_if : ℕ → Live → ℕ
 one_if n l = cond (nat_eq l.number n) 1 0
 
--- where a number has one line at most, this line tells how many have it
+-- If a number has at most one line, that line has its count.
 holders_by : (n : ℕ) (x : Live) (xs : List Live) (b : Bool) → nat_eq x.number n ≡ b → lines_of n (x ∷ xs) ≤ 1 → (lines_of n xs ≤ 1 → holders_of n xs ≡ holders_in n xs) → cond b x.holders (holders_of n xs) ≡ holders_in n (x ∷ xs)
 holders_by n x xs true is once others =
     let lines = sum_by-cons (one_if n) x xs in
@@ -31,7 +31,7 @@ pub told : (ls : List Live) (n : ℕ) → lines_of n ls ≤ 1 → holders_of n l
 told [] n once = refl
 told (x ∷ xs) n once = holders_by n x xs (nat_eq x.number n) refl once (told xs n)
 
--- one is live exactly where it has a line
+-- A number is live if and only if it has a line.
 live_by : (n : ℕ) (x : Live) (xs : List Live) (b : Bool) → nat_eq x.number n ≡ b → (IsTrue (is_live n xs) ↔ (0 < lines_of n xs)) → IsTrue (b || is_live n xs) ↔ (0 < lines_of n (x ∷ xs))
 live_by n x xs true is others =
     let lines = sum_by-cons (one_if n) x xs in

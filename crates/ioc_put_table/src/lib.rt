@@ -1,4 +1,4 @@
-//! The puts with notification of many lock sets, in one table.
+//! The puts with notification of all lock sets, in one table.
 #![tactic(auto)]
 
 pub mod laws;

@@ -1,4 +1,4 @@
-//! How many have each put with notification, over all lock sets.
+//! The counts of puts with notification over all lock sets.
 ghost use Rattle.std.specs.Prelude.{◌≡◌, ℕ, ◌+◌, ◌<◌, ◌≤◌, ◌^◌, ◌==◌, ◌&&◌, not, nat_lt, [], length, IfOk, OnOk, OnErr};
 ghost use Rattle.std.specs.Vec.{vec_capacity};
 ghost use Rattle.std.specs.List.{position};
@@ -9,8 +9,9 @@ use ioc_notify::{Live, NotifyId};
 use std::alloc::{AllocError, Global};
 use std::marker::Model;
 
-/// The puts with notification that are live, each with how many records and waiting lists have it, over all lock sets. It is kept by the
-/// changes of each set's own counts: what a set had is taken off, and what it has then is added.
+/// The live puts with notification, each with the number of records and waiting lists that are part
+/// of it, over all lock sets. It is updated with the changes of each set's own counts: the set's
+/// old counts are subtracted, and its new ones are added.
 #[derive(Drop)]
 pub struct PutTable {
     items: Vec<Live>,
@@ -28,7 +29,7 @@ impl Model for PutTable {
 }
 
 impl PutTable {
-    /// None is live.
+    /// Creates an empty table.
     pub fn new(alloc: Global) -> Self
         ensures { result.live ≡ [] }
     {
@@ -37,11 +38,11 @@ impl PutTable {
         }
     }
 
-    /// Takes room for so many more.
+    /// Reserves room for `additional` more.
     ///
     /// # Errors
     ///
-    /// [`AllocError`] where memory is wanting: all is as before then.
+    /// [`AllocError`] if allocation fails; nothing has changed then.
     pub fn reserve(&mut self, additional: usize) -> Result<(), AllocError>
         ensures same { self.new.live ≡ self.old.live }
         ensures room { OnOk result (length self.old.live + additional ≤ self.new.room) }
@@ -50,35 +51,38 @@ impl PutTable {
         self.items.reserve(additional)
     }
 
-    /// What is always true of it: each is live once, and somebody has it.
+    /// States the invariant of a table: each live put with notification has one line, and its count
+    /// isn't 0.
     pub fn is_table(&self)
         ensures { IsTable self.now.live }
     {
         let _ = &self.items;
     }
 
-    /// May one more begin, under this number? At most 256 are live, over all sets.
+    /// Returns whether a put with notification with this number can begin: fewer than 256 are live
+    /// over all sets, and this one isn't.
     pub fn has_place(&self, number: NotifyId) -> bool
         ensures { result ≡ (nat_lt (length self.now.live) 256 && not (is_live number self.now.live)) }
     {
         self.items.len() < 256 && !self.is_live(number)
     }
 
-    /// Is the one of this number live?
+    /// Returns whether the put with notification with this number is live.
     pub fn is_live(&self, number: NotifyId) -> bool
         ensures { result ≡ is_live number self.now.live }
     {
         self.items.iter().any(|live| live.number == number)
     }
 
-    /// How many have the one of this number; 0 where it isn't live.
+    /// Returns how many records and waiting lists are part of the put with notification with this
+    /// number; 0 if it isn't live.
     pub fn holders(&self, number: NotifyId) -> u64
         ensures { result ≡ holders_of number self.now.live }
     {
         holders_by(self.items.as_slice(), number)
     }
 
-    /// A set's puts are taken off: what each had by them it has no more.
+    /// Subtracts the counts of a set's puts with notification.
     pub fn take_off(&mut self, puts: &[Live])
         requires there { (n : ℕ) → holders_in n puts.now ≤ holders_in n self.old.live }
         ensures counts { (n : ℕ) → holders_in n self.new.live + holders_in n puts.now ≡ holders_in n self.old.live }
@@ -90,7 +94,7 @@ impl PutTable {
         }
     }
 
-    /// A set's puts are added: what each has by them it has besides.
+    /// Adds the counts of a set's puts with notification.
     pub fn add_on(&mut self, puts: &[Live])
         requires room { length self.old.live + length puts.now ≤ self.old.room }
         requires fits { (n : ℕ) → holders_in n self.old.live + holders_in n puts.now < 2 ^ 64 }
@@ -104,7 +108,7 @@ impl PutTable {
     }
 }
 
-// So many have the one of this number no more.
+// Subtracts from the count of this number, and removes its line if nothing is left.
 fn take_off_one(items: &mut Vec<Live>, number: NotifyId, holders: u64)
     requires table { IsTable items.old.items }
     requires there { holders ≤ holders_in number items.old.items }
@@ -127,7 +131,7 @@ fn take_off_one(items: &mut Vec<Live>, number: NotifyId, holders: u64)
     let _live = items.remove(place);
 }
 
-// So many more have the one of this number.
+// Adds to the count of this number.
 fn add_on_one(items: &mut Vec<Live>, number: NotifyId, holders: u64)
     requires table { IsTable items.old.items }
     requires room { length items.old.items < vec_capacity items.old }
@@ -152,7 +156,8 @@ fn add_on_one(items: &mut Vec<Live>, number: NotifyId, holders: u64)
     }
 }
 
-/// How many have the put with notification of this number by its first line; 0 where there is no line of it.
+/// Returns the count of the put with notification with this number by its first line; 0 if there is
+/// none.
 pub fn holders_by(items: &[Live], number: NotifyId) -> u64
     ensures { result ≡ holders_of number items.now }
 {
@@ -164,7 +169,7 @@ pub fn holders_by(items: &[Live], number: NotifyId) -> u64
     0
 }
 
-// Where the line of this number stands, if there is one.
+// Returns the index of the line for this number, if there is one.
 fn place_of(items: &[Live], number: NotifyId) -> Option<usize>
     ensures { result ≡ position (λ l. l.number == number) items.now }
 {

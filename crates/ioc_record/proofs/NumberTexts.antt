@@ -1,4 +1,4 @@
--- A number is shown alike in every field.
+-- A number is shown in the same way in every field.
 use Rattle.std.proofs.Common.{◌≡◌, ℤ, Option, Some, None}
 use Rattle.std.specs.Fmt.{signed_decimal}
 use Rattle.ioc_values.specs.declared.value.Value.{Value}

@@ -1,4 +1,4 @@
--- What is no choice and no state is shown alike in every field.
+-- A value that is neither a choice nor a state is shown in the same way in every field.
 use Rattle.std.proofs.Common.{◌≡◌, ℕ, refl}
 use Rattle.ioc_values.specs.declared.value.Value.{Value}
 use Rattle.ioc_values.specs.declared.value.Value.TheVariants as value

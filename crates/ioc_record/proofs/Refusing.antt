@@ -1,4 +1,4 @@
--- A text that doesn't convert is refused as a bad value.
+-- A text that doesn't convert fails with BadValue.
 use Rattle.std.proofs.Common.{◌≡◌, List, ℕ, Bool, true, false, cond, Option, Some, None, Result, Ok, Err, refl, sym, ap, ◌∙◌}
 use Rattle.std.specs.Option.{ok_or}
 use Rattle.ioc_values.specs.declared.error.IocError.{IocError}
@@ -13,7 +13,7 @@ use Rattle.ioc_fields.specs.declared.field_kind.FieldKind.{FieldKind}
 use Rattle.ioc_record.specs.RecordRules.{RecordRules}
 use Rattle.ioc_record.specs.Values.{field_sort, stored_if, put_as}
 
--- the refusal of a value that isn't there
+-- The error of a missing value is BadValue.
 bad_or : (o : Option Value) (e : IocError) → ok_or o BadValue ≡ Err e → e ≡ BadValue
 bad_or None e is = cc
 bad_or (Some v) e is = absurd cc
@@ -37,7 +37,7 @@ unfolding converted_input
 bad_input (InputValue v) sort e is = bad_value v sort e is
 bad_input (LongText text) sort e is = bad_if (is_text sort) text sort e is
 
--- a text that doesn't convert isn't put
+-- A text that doesn't convert isn't put.
 pub not_put : {R : Type 0} (k : RecordRules R) (r : R) (field : FieldNo) (kind : FieldKind) (text : List ℕ) (e : IocError)
     → converted_text text (field_sort (k.states r) kind) ≡ Err e → put_as k r field (input_of text) (Ok kind) ≡ Err BadValue
 unfolding converted_text

@@ -1,4 +1,5 @@
--- The laws of the fields that every record has: what a put stores, reads back and leaves alone, and their defaults.
+-- The laws of the common fields: what a put stores, reads back and leaves unchanged, and their
+-- defaults.
 use Rattle.std.proofs.Common.{◌≡◌, ℕ, true, List, [], ◌∷◌, Option, Some, refl, ap, arith}
 use Rattle.std.specs.Prelude.{◌≢◌, take, codes, decimal}
 use Rattle.std.specs.Str.Parse.{AllDigits, digits_value}
@@ -25,7 +26,7 @@ use Rattle.ioc_record.specs.RecordRules.{RecordRules}
 use Rattle.ioc_record.specs.Values.{sort_at, field_sort}
 use Rattle.ioc_record.specs.Laws.{PutsAlone}
 
--- a value that is stored in one changes those that can be put alone
+-- Storing a value in a common field changes only those that can be put.
 pub stored-alone : (c : Common) (f : CommonField) (v : Value) → PutsAlone c (common_stored c f v)
 unfolding common_stored
 stored-alone c Desc v = refl
@@ -48,7 +49,7 @@ stored-alone c _ v = refl
 abbrev choice : ℕ → Option Value
 choice n = Some (value.Enum n)
 
--- the table's flag and sort, of a field that every record has
+-- A value that is put into a common field reads back.
 pub common_back : {R : Type 0} (k : RecordRules R) (r : R) (c : Common) (f : CommonField) (v : Value) → can_put (k.record_type r) (Common-field f) ≡ true
     → IsValueOf (sort_at k r (Common-field f)) v → common_get (common_stored c f v) f ≡ Some v
 unfolding row_of common_row common_get common_stored field_sort condition_get condition_stored scanning_get scanning_stored disabling_get disabling_stored
@@ -81,7 +82,7 @@ common_back k r c Putf v can is = cc
 common_back k r c Rpro v can is = cc
 common_back k r c Time v can is = cc
 
--- the number 0 in decimal
+-- The number 0 in decimal is the text `0`.
 zero_shown : decimal 0 ≡ codes "0"
 zero_shown =
     let model : IsNumeralModel (AllDigits 10) (digits_value 10) = record { to = λ ds is. is; from = λ ds is. is; same = λ ds is. refl } in
@@ -118,7 +119,7 @@ common_default type name Putf other = refl
 common_default type name Rpro other = refl
 common_default type name Time other = ap (λ (text : List ℕ). Some (value.Text (take 39 text))) zero_shown
 
--- a link that is set changes no value
+-- Setting a link changes no value.
 pub common_kept : (c : Common) (disable forward : LinkField) (g : CommonField) → common_get (record c { disable_link = disable; forward_link = forward }) g ≡ common_get c g
 unfolding common_get shown_name
 common_kept c disable forward Name = refl

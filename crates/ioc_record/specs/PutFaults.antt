@@ -1,10 +1,10 @@
--- Why a put of a text is refused.
+-- Why a put of a text fails.
 use Rattle.ioc_values.specs.declared.error.IocError.{IocError}
 use Rattle.ioc_values.specs.declared.error.IocError.TheVariants as refusal
 use Rattle.ioc_record.specs.declared.put_fault.PutFault.{PutFault}
 use Rattle.ioc_record.specs.declared.put_fault.PutFault.TheVariants.{NoRecord, NoField, NoMod, PutDisabled, BadValue}
 
--- the refusal that a caller is told
+-- The error that is reported to the caller.
 abbrev pub error_of : PutFault → IocError
 error_of NoRecord = refusal.NoRecord
 error_of NoField = refusal.NoField

@@ -1,4 +1,4 @@
--- What has the same link in each link field has the same links: a record, a source, a drive.
+-- A record, a source or a drive with the same link in each link field has the same links.
 use Rattle.std.proofs.Common.{◌≡◌, Option, ap}
 use Rattle.std.specs.Prelude.{unwrap_or}
 use Rattle.ioc_fields.specs.declared.field_no.FieldNo.{FieldNo}

@@ -3,7 +3,8 @@ use Rattle.std.specs.Prelude.{ℤ, pos, Option, Some, None}
 use Rattle.ioc_values.specs.declared.value.Value.{Value}
 use Rattle.ioc_values.specs.declared.value.Value.TheVariants as value
 
--- the number as which a value is shown in a field of whatever sort; a choice and a state have texts, and a text is none
+-- The number that a value shows in a field of any sort. A choice and a state have texts, and a text
+-- has none.
 abbrev pub number_shown : Option Value → Option ℤ
 number_shown None = None
 number_shown (Some (value.Long z)) = Some z

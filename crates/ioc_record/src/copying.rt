@@ -1,14 +1,15 @@
-//! Copies of the fields that every record has, and how one record's become the same as another's with the same links without taking room.
+//! Copies of the common fields, and how they are copied between records with the same links without
+//! allocating.
 ghost use Rattle.std.specs.Prelude.{◌≡◌, IfOk};
 
 use ioc_common::Common;
 use std::alloc::{AllocError, Global};
 
-/// The same fields.
+/// Copies the fields.
 ///
 /// # Errors
 ///
-/// [`AllocError`] where memory is wanting.
+/// [`AllocError`] if allocation fails.
 pub fn copy_common(alloc: Global, common: &Common) -> Result<Common, AllocError>
     ensures { IfOk result (λ copy. copy ≡ common.now) }
 {
@@ -36,7 +37,7 @@ pub fn copy_common(alloc: Global, common: &Common) -> Result<Common, AllocError>
     })
 }
 
-/// The fields that every record has become the same as those of another with the same links.
+/// Copies the common fields of another record with the same links. It never allocates.
 pub fn match_common(common: &mut Common, other: &Common)
     requires disable_link { common.old.disable_link ≡ other.now.disable_link }
     requires forward_link { common.old.forward_link ≡ other.now.forward_link }

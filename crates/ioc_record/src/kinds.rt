@@ -1,4 +1,4 @@
-//! What fields and inputs hold, as conversions take it.
+//! The kinds to which the values of fields and inputs are converted.
 ghost use Rattle.std.specs.Prelude.{◌≡◌};
 ghost use Rattle.ioc_values.specs.Conversion.{sort_of};
 ghost use Rattle.ioc_record.specs.Values.{field_sort, input_sort};
@@ -8,7 +8,8 @@ use ioc_fields::FieldKind;
 use ioc_menus::choices;
 use ioc_values::{Kind, Text};
 
-/// What a field of the kind holds, with the texts of the record's states. A link is no value; its text is a text.
+/// Returns what a field of the kind holds, with the texts of the record's states. A link has no
+/// value; its text is a text.
 #[tactic(auto, unfolding(crate::specs::Values::field_sort, ioc_values::specs::Conversion::sort_of))]
 pub fn held_by(kind: FieldKind, states: &[Text]) -> Kind<'_>
     ensures { sort_of result ≡ field_sort states.now kind }
@@ -21,7 +22,7 @@ pub fn held_by(kind: FieldKind, states: &[Text]) -> Kind<'_>
     }
 }
 
-/// What an input holds.
+/// Returns what an input of the kind holds.
 #[tactic(auto, unfolding(ioc_values::specs::Conversion::sort_of))]
 pub fn taken_by(kind: InputKind) -> Kind<'static>
     ensures { sort_of result ≡ input_sort kind }

@@ -1,10 +1,11 @@
-//! Why a put of a text is refused.
+//! Why a put of a text fails.
 ghost use Rattle.std.specs.Prelude.{◌≡◌};
 ghost use Rattle.ioc_record.specs.PutFaults.{error_of};
 
 use ioc_values::IocError;
 
-/// Why a put of a text, or a request, is refused: one byte, where an [`IocError`] has room for the fault of a database text.
+/// Why a put of a text, or a request, fails. It takes one byte, while an [`IocError`] has room for
+/// the fault of a database text.
 #[derive(Clone, Copy, PartialEq, Eq, Debug)]
 pub enum PutFault {
     /// There is no such record.
@@ -20,7 +21,7 @@ pub enum PutFault {
 }
 
 impl PutFault {
-    /// The refusal that a caller is told.
+    /// Returns the error that is reported to the caller.
     pub fn error(self) -> IocError
         ensures { result ≡ error_of self }
     {

@@ -1,10 +1,11 @@
-//! Values as the numbers as which they are shown.
+//! Values shown as numbers.
 ghost use Rattle.std.specs.Prelude.{◌≡◌};
 ghost use Rattle.ioc_record.specs.Shown.{number_shown};
 
 use ioc_values::Value;
 
-/// The number as which a value is shown in a field of whatever kind; none where it is a choice, a state or a text.
+/// Returns the number that a value shows in a field of any kind, or `None` if it is a choice, a
+/// state or a text.
 pub fn number_in(value: Option<Value>) -> Option<i64>
     ensures { result ≡ number_shown value }
 {

@@ -1,4 +1,5 @@
-//! `ioc-replay DB SCRIPT [NAME=VALUE]..`: loads a database text with these macros, does a script to it, and prints a line for each reply.
+//! `ioc-replay DB SCRIPT [NAME=VALUE]..`: loads a database text with these macros, runs a script on
+//! it, and prints a line for each reply.
 #![tactic(auto)]
 
 use ioc_main::{Arguments, Ending, RunFault, Stream, run, whole_run};
@@ -18,7 +19,7 @@ fn replay(rt: &HostRuntime) -> Result<(), RunFault> {
 
 fn main(rt: HostRuntime) -> ExitCode {
     let ending = Ending::of(replay(&rt));
-    // A text that can't be written changes no status.
+    // A text that can't be written doesn't change the status.
     let _written = match ending.stream {
         Stream::Output => print!(rt; "{ending}"),
         Stream::Error => eprint!(rt; "{ending}"),

@@ -1,4 +1,4 @@
--- The tree of those who stand on lists agrees with the records' entries, and does so after a change.
+-- The tree of list members agrees with the records' entries, before and after a change.
 use Rattle.std.proofs.Common.{◌≡◌, ◌≢◌, ℕ, ◌+◌, ◌<◌, ◌≤◌, ◌^◌, ℤ, IfSome, ⊎_elim, Bool, true, false, cond, Option, Some, None, List, length, set, get_or, refl, sym, ap, ◌∙◌, subst, arith, get_or-set_other, get_or-set_same}
 use Rattle.std.proofs.lemmas.Bool.{cases_eq}
 use Rattle.std.proofs.lemmas.List.{get_or_default}
@@ -29,7 +29,7 @@ same_listed x n p e f = ap (λ (m : ℕ). one_listed m x.priority) e ∙ ap (λ 
 abbrev pub one_place : ListName → ℤ → Priority → Place
 one_place list phase priority = record { list = list; phase = phase; priority = priority }
 
--- the place of who stands at a position
+-- The place of the record at a position.
 pub so_placed : (p : Place) (order : ℕ) (k : Position) (priority : Priority) → k ≡ position p order → p.priority ≡ priority → p ≡ record { list = k.list; phase = k.phase; priority = priority }
 so_placed p order k priority is e =
     ap (λ (v : Position). one_place v.list v.phase p.priority) (sym is) ∙ ap (λ (q : Priority). one_place k.list k.phase q) e
@@ -44,7 +44,7 @@ module _ (f f' : ℕ → Entry) (g : Position → Option Listed) (r last : ℕ) 
   abbrev after : Position → Option Listed
   after k = cond (old k) None (cond (new k) (listed_at r (f' r).place) (g k))
 
-  -- r's own position before
+  -- The old position of record `r`.
   mine : (k : Position) (x : Listed) → x.number ≡ r → StandsAt f k x → old k ≡ true
   mine k x own st =
       let p : Place = record { list = k.list; phase = k.phase; priority = x.priority } in
@@ -52,7 +52,7 @@ module _ (f f' : ℕ → Entry) (g : Position → Option Listed) (r last : ℕ) 
       let due : (f r).order ≡ k.order = ap (λ n. (f n).order) (sym own) ∙ st.1 in
       subst (λ (v : Position). is_at_place (f r).place (f r).order v ≡ true) (ap (position p) due) (here (f r).place (f r).order p at)
 
-  -- and afterwards
+  -- The new position of record `r`.
   arrived : (k : Position) (x : Listed) → x.number ≡ r → StandsAt f' k x → new k ≡ true
   arrived k x own st =
       let p : Place = record { list = k.list; phase = k.phase; priority = x.priority } in
@@ -60,11 +60,11 @@ module _ (f f' : ℕ → Entry) (g : Position → Option Listed) (r last : ℕ) 
       let due : last + 1 ≡ k.order = sym order ∙ ap (λ n. (f' n).order) (sym own) ∙ st.1 in
       subst (λ (v : Position). is_at_place (f' r).place (last + 1) v ≡ true) (ap (position p) due) (here (f' r).place (last + 1) p at)
 
-  -- another record stands where it stood
+  -- Every other record keeps its position.
   before : (k : Position) (x : Listed) → x.number ≢ r → StandsAt f' k x → StandsAt f k x
   before k x other st = (ap (λ (v : Entry). v.place) (sym (there x.number other)) ∙ st.0, ap (λ (v : Entry). v.order) (sym (there x.number other)) ∙ st.1)
 
-  -- who stands where r stood is r
+  -- The record at the old position of `r` is `r`.
   theirs : (k : Position) (x : Listed) (p : Place) → (f r).place ≡ Some p → k ≡ position p (f r).order → StandsAt f k x → x ≡ listed r p
   theirs k x p at is st =
       let so : p ≡ record { list = k.list; phase = k.phase; priority = p.priority } = so_placed p (f r).order k p.priority is refl in
@@ -73,7 +73,7 @@ module _ (f f' : ℕ → Entry) (g : Position → Option Listed) (r last : ℕ) 
       let two : g k ≡ Some (listed r p) = (agree.stands k (listed r p)).1 mine_there in
       cc
 
-  -- who stands at a position afterwards stands there by the entries
+  -- A record at a position in the new tree is there by the new entries.
   came : (k : Position) (x : Listed) (b c : Bool) → old k ≡ b → new k ≡ c → cond b None (cond c (listed_at r (f' r).place) (g k)) ≡ Some x → StandsAt f' k x
   came k x true c eb ec e = cc
   came k x false true eb ec e =
@@ -92,7 +92,7 @@ module _ (f f' : ℕ → Entry) (g : Position → Option Listed) (r last : ℕ) 
       (λ other. (ap (λ (v : Entry). v.place) (there x.number other) ∙ st.0, ap (λ (v : Entry). v.order) (there x.number other) ∙ st.1))
       (cases_eq x.number r)
 
-  -- who stands there by the entries came there now, or stood there before
+  -- A record that is there by the new entries is either `r` or was there before.
   goes : (k : Position) (x : Listed) (b c : Bool) → old k ≡ b → new k ≡ c → StandsAt f' k x → cond b None (cond c (listed_at r (f' r).place) (g k)) ≡ Some x
   goes k x true c eb ec st =
       let p = some_place (f r).place (f r).order k eb in
@@ -142,7 +142,7 @@ phase_of : (o : Option Place) → IfSome o (λ p. IsPhase p.phase) → (p : Plac
 phase_of None h p e = cc
 phase_of (Some q) h p e = subst (λ (v : Place). IsPhase v.phase) (let s : q ≡ p = cc in s) h
 
--- the lists after a change of one record
+-- The tree and the entries agree after a change of one record.
 pub changed_agrees : (es : List Entry) (last : ℕ) (g h : Position → Option Listed) (r : ℕ) (e before : Entry)
     → r < length es → last + 1 < 2 ^ 64 → before ≡ entry_of es r → e.order ≡ last + 1 → IfSome e.place (λ p. IsPhase p.phase) → Agrees (entry_of es) last g
     → ((k : Position) → h k ≡ cond (is_at_place before.place before.order k) None (cond (is_at_place e.place (last + 1) k) (listed_at r e.place) (g k)))
@@ -157,6 +157,6 @@ changed_agrees es last g h r e before l few was order phases agree is =
     ∙ ap (λ (v : Entry). cond (is_at_place (entry_of es r).place (entry_of es r).order k) None (cond (is_at_place v.place (last + 1) k) (listed_at r v.place) (g k))) (sym now))
     (λ p at. phase_of e.place phases p (ap (λ (v : Entry). v.place) (sym now) ∙ at))
 
--- what is read of a list is an entry
+-- An element read from the list is the entry of that record.
 pub read_entry : (es : List Entry) (e : Entry) (i r : ℕ) → i ≡ r → r < length es → e ≡ get_or es i e → e ≡ entry_of es r
 read_entry es e i r same l is = is ∙ ap (λ n. get_or es n e) same ∙ get_or_default es r e new_entry l

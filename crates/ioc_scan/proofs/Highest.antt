@@ -1,4 +1,4 @@
--- The change with the highest number decides where a record stands.
+-- The change with the highest number decides where a record is.
 use Rattle.std.proofs.Common.{◌≡◌, ℕ, ◌+◌, ◌<◌, ◌≤◌, ⊎_elim, Bool, true, false, cond, nat_lt, Option, List, [], ◌∷◌, length, set, refl, sym, ap, ◌∙◌, subst, arith, get_or-set_other, get_or-set_same}
 use Rattle.std.specs.Prelude.{All}
 use Rattle.std.proofs.lemmas.Bool.{cases_eq, ltb-true, ltb-false}
@@ -16,7 +16,8 @@ entry s r = entry_of s.entries r
 abbrev done : Scanned → ℕ → ℕ → Option Place → Scanned
 done s r n p = record { entries = set s.entries r (record { number = n; place = p; order = s.last + 1 }); last = s.last + 1 }
 
--- a property of the lists after a change: that of the lists before, or of those where the record stands there
+-- After a change the lists are either unchanged or have the record placed there, so a property of
+-- both holds.
 by_number : (P : Scanned → Type 0) (s : Scanned) (r n : ℕ) (p : Option Place) (b : Bool) → nat_lt n (entry s r).number ≡ b
     → (n < (entry s r).number → P s) → ((entry s r).number ≤ n → P (done s r n p)) → P (cond b s (done s r n p))
 by_number P s r n p true e f g = f (ltb-true n (entry s r).number e)
@@ -26,11 +27,12 @@ by_change : (P : Scanned → Type 0) (s : Scanned) (r n : ℕ) (p : Option Place
     → (n < (entry s r).number → P s) → ((entry s r).number ≤ n → P (done s r n p)) → P (changed s r n p)
 by_change P s r n p f g = by_number P s r n p (nat_lt n (entry s r).number) refl f g
 
--- the lists have as many records
+-- A change keeps the number of records.
 as_many : (s : Scanned) (r n : ℕ) (p : Option Place) → length (changed s r n p).entries ≡ length s.entries
 as_many s r n p = by_change (λ t. length t.entries ≡ length s.entries) s r n p (λ l. refl) (λ l. length-set s.entries r _)
 
--- a change of another record leaves the entry, and one of the record leaves it or is in it
+-- After a change the number of the record's entry is still not above the bound, if the number of
+-- the change isn't.
 still_low : (s : Scanned) (c : ℕ) (m : ℕ) (e : Change) → c < length s.entries → (entry s c).number ≤ m → (e.member ≡ c → e.number ≤ m) → (entry (changed s e.member e.number e.place) c).number ≤ m
 still_low s c m e l low h =
     by_change (λ t. (entry t c).number ≤ m) s e.member e.number e.place

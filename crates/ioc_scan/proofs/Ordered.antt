@@ -1,4 +1,5 @@
--- The order of positions: positions that compare as equal are the same, and those of one list lie between its bounds.
+-- The order of positions: those that compare equal are the same, and those of one list are between
+-- its bounds.
 use Rattle.std.proofs.Common.{◌≡◌, ℕ, ◌<◌, ◌≤◌, ℤ, pos, negsuc, ◌<ℤ◌, ◌≤ℤ◌, ◌⊎◌, inl, inr, true, false, not, ◌&&◌, refl, sym, ap, ◌∙◌, subst, arith}
 use Rattle.std.proofs.lemmas.Int.{ints}
 use Rattle.std.specs.declared.cmp.Ordering.{Ordering}
@@ -104,7 +105,8 @@ first_less Equal Greater s p q a b u v e f = cc
 first_less Less r s p q a b u v e f = cc
 first_less Greater r s p q a b u v e f = cc
 
--- of two positions of one list, the lesser one comes first by PHAS, then by the number of adding
+-- Of two positions on one list, the lesser one comes first, by PHAS and then by the order of
+-- adding.
 pub precedes : (a b : Position) (list : ListName) → a.list ≡ list → b.list ≡ list → order_of.ghosts.cmp a b ≡ Less → (a.phase <ℤ b.phase) ⊎ ((a.phase ≡ b.phase) × (a.order < b.order))
 precedes a b list e f less =
     first_less (list_cmp a.list b.list) (int_cmp a.phase b.phase) (nat_cmp a.order b.order) a.phase b.phase a.order b.order
@@ -119,7 +121,7 @@ first_decides Less n e = refl
 first_decides Equal n e = refl
 first_decides Greater n e = cc
 
--- the bounds of a list are in order
+-- The bounds of a list are in order.
 pub forward : (list : ListName) (a b : Position) → a ≡ low list → b ≡ high list → is_gt (order_of.ghosts.cmp a b) ≡ false
 forward list a b e f =
     let ends : is_gt (order_of.ghosts.cmp (low list) (high list)) ≡ false = first_decides (list_cmp list list) (nat_cmp 0 18446744073709551615) (list_itself list) in

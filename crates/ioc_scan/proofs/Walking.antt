@@ -1,4 +1,4 @@
--- The tree of those who stand on lists is the map of all who do, by their positions.
+-- The tree of list members is the map of all records on lists, by their positions.
 use Rattle.std.proofs.Common.{◌≡◌, ◌≢◌, ℕ, zero, suc, ◌+◌, ◌⊎◌, inl, inr, ⊎_elim, Bool, true, false, cond, T, Ok, Err, Option, Some, None, List, [], ◌∷◌, ◌++◌, refl, sym, ap, ◌∙◌, subst, arith}
 use Rattle.std.specs.Prelude.{◌&&◌, All, Result, OnOk}
 use Rattle.std.proofs.lemmas.List.Elements.{All-head, All-tail, All-from_recursion}
@@ -37,7 +37,7 @@ below : (k : Position) (es : List (Position × Listed)) → All (λ y. cmp k y �
 below k [] h = tt
 below k (e ∷ es) h = both (is_lt (cmp k e.0)) (below_all cmp k es) (subst (λ o. T (is_lt o)) (sym (All-head (λ y. cmp k y ≡ Less) e.0 (keys_of es) h)) tt) (below k es (All-tail (λ y. cmp k y ≡ Less) e.0 (keys_of es) h))
 
--- keys that rise, told by a test
+-- Strictly sorted keys pass the test for sortedness.
 rising : (es : List (Position × Listed)) → IsStrictlySortedBy cmp (keys_of es) → T (is_sorted cmp es)
 rising [] s = tt
 rising (e ∷ es) s = both (below_all cmp e.0 es) (is_sorted cmp es) (below e.0 es (All-from_recursion (λ y. cmp e.0 y ≡ Less) (keys_of es) (sorted_head cmp e.0 (keys_of es) s))) (rising es (sorted_tail cmp e.0 (keys_of es) s))
@@ -46,7 +46,8 @@ found_by : (q : Position) (es : List (Position × Listed)) → find cmp q es ≡
 found_by q [] = refl
 found_by q (e ∷ es) = ap (cond (eq_by_cmp cmp q e.0) (Some e.1)) (found_by q es)
 
--- a record of these entries stands at a position, the first of them being record n
+-- Holds if one of these entries' records is at the position. The first of them is that of record
+-- `n`.
 abbrev Stands : ℕ → List Entry → Position → Listed → Type 0
 Stands n es k x = (i : ℕ) × (n + i ≡ x.number) × ((entry_of es i).place ≡ Some (record { list = k.list; phase = k.phase; priority = x.priority })) × ((entry_of es i).order ≡ k.order)
 
@@ -135,7 +136,7 @@ module _ (es : List Entry) (last : ℕ) (m : BTreeMap Position Listed) (list : L
       same_entries cmp total exact tree m.entries (entries_sorted (from_entries {R = cmp} all)) (rising m.entries ordered)
       (λ q. sym (get-entries (from_entries {R = cmp} all) q) ∙ get-from_entries total all q ∙ same_found q ∙ sym (found_by q m.entries))
 
-  -- the walk of the tree is that of the entries
+  -- The walk of the tree is the walk of the entries.
   pub same_walk : standing list m.entries ≡ walked (record { entries = es; last = last }) list
   unfolding walked
   same_walk = ap (standing list) (sym same_tree)
@@ -143,7 +144,7 @@ module _ (es : List Entry) (last : ℕ) (m : BTreeMap Position Listed) (list : L
 on_ok : {T E : Type 0} (r : Result T E) (P Q : Type 0) → OnOk r P → (P → Q) → OnOk r Q
 on_ok r P Q p f = elim r as (λ v. OnOk v P → OnOk v Q) [ Ok x ↦ f | Err e ↦ λ q. tt ] p
 
--- what was written of a list is its walk, where nothing stood there before
+-- What is written of a list into an empty buffer is its walk.
 pub written_walk : {X E : Type 0} (r : Result X E) (v : Scanned) (es : List Entry) (last : ℕ) (m : BTreeMap Position Listed) (list : ListName) (before after : List Listed)
     → Agree es last m → IsOrdered order_of.ghosts.cmp m → record { entries = es; last = last } ≡ v → before ≡ [] → OnOk r (after ≡ before ++ standing list m.entries) → OnOk r (after ≡ walked v list)
 written_walk r v es last m list before after agree ordered is none ok =

@@ -1,4 +1,4 @@
--- Who stands between the bounds of a list is on it, in phase order.
+-- The records between the bounds of a list are on it, in phase order.
 use Rattle.std.proofs.Common.{◌≡◌, ℕ, ◌^◌, ◌<◌, ◌≤◌, Bool, true, false, cond, Option, Some, None, List, [], ◌∷◌, ◌++◌, get_or, refl, sym, ap, ◌∙◌, subst, arith}
 use Rattle.std.specs.Prelude.{Result, Ok, Err, OnOk, option_map, Contains, slice_get}
 use Rattle.std.specs.declared.ops.Bound.TheVariants.{Included}
@@ -67,7 +67,7 @@ module _ (es : List Entry) (last : ℕ) (m : BTreeMap Position Listed) (list : L
   if_within true o x e = (refl, e)
   if_within false o x e = cc
 
-  -- who is listed stands at a position of the list
+  -- Each record in the result is at a position of the list.
   at_position : (i : ℕ) (x : Listed) → slice_get xs i ≡ Some x → (k : Position) × (slice_get part i ≡ Some (k, x)) × (k.list ≡ list) × StandsAt (entry_of es) k x
   at_position i x e =
       let p = of_some (slice_get part i) x (sym (slice_get-map (λ (v : Position × Listed). v.1) part i) ∙ e) in
@@ -122,7 +122,7 @@ on_ok : {T E : Type 0} (r : Result T E) (P Q : Type 0) → OnOk r P → (P → Q
 on_ok (Ok x) P Q p f = f p
 on_ok (Err e) P Q p f = tt
 
--- what was written of a list is the list, where nothing stood there before
+-- What is written of a list into an empty buffer is the list, in phase order.
 pub written : {T E : Type 0} (r : Result T E) (v : Scanned) (es : List Entry) (last : ℕ) (m : BTreeMap Position Listed) (list : ListName) (before after : List Listed)
     → Agree es last m → IsOrdered order_of.ghosts.cmp m → record { entries = es; last = last } ≡ v → before ≡ [] → OnOk r (after ≡ before ++ standing list m.entries) → OnOk r (InPhaseOrder v list after)
 written r v es last m list before after agree ordered is none ok =

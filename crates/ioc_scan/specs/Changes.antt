@@ -1,28 +1,28 @@
--- Changes of records' places, in the order in which they come.
+-- Changes of records' places, in the order of arrival.
 use Rattle.std.specs.Prelude.{◌≡◌, ℕ, ◌<◌, ◌≤◌, Option, List, [], ◌∷◌, length, All}
 use Rattle.ioc_scan.specs.declared.list_name.Place.{Place}
 use Rattle.ioc_scan.specs.Positions.{entry_of}
 use Rattle.ioc_scan.specs.Scanned.{Scanned, changed, place_of}
 
--- a change of one record, with its number among those of this record
+-- A change of one record, with its number among the changes of that record.
 pub record Change : Type 0 where
   pub member : ℕ
   pub number : ℕ
   pub place : Option Place
 
--- after these, in the order in which they come
+-- The lists after these changes, in the order of arrival.
 abbrev pub after_changes : Scanned → List Change → Scanned
 after_changes s [] = s
 after_changes s (c ∷ cs) = after_changes (changed s c.member c.number c.place) cs
 
--- of the changes of its record that came before it and of those that come behind it none has a higher number, and of the latter none has the same
+-- Holds if no change of the same record has a higher number, and no later one has the same number.
 abbrev pub IsHighest : Scanned → List Change → Change → List Change → Type 0
 IsHighest s earlier c later =
     ((entry_of s.entries c.member).number ≤ c.number)
     × All (λ e. e.member ≡ c.member → e.number ≤ c.number) earlier
     × All (λ e. e.member ≡ c.member → e.number < c.number) later
 
--- a record stands where the change with its highest number says
+-- Holds if the record is where the change with its highest number puts it.
 abbrev pub StandsAsTheHighestSays : Scanned → List Change → Change → List Change → Type 0
 StandsAsTheHighestSays s earlier c later =
     c.member < length s.entries → IsHighest s earlier c later → place_of (after_changes (changed (after_changes s earlier) c.member c.number c.place) later) c.member ≡ c.place

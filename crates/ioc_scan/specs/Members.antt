@@ -1,4 +1,4 @@
--- The tree of those who stand on lists, and what it has to do with the records' entries.
+-- The tree of list members, and how it corresponds to the records' entries.
 use Rattle.std.specs.Prelude.{◌≡◌, ◌↔◌, ℕ, ◌<◌, ◌≤◌, ◌^◌, ℤ, pos, negsuc, ◌≤ℤ◌, Bool, false, Option, Some, None, option_map, List}
 use Rattle.std.specs.Ordering.{eq_by_cmp}
 use Rattle.std.specs.BTreeMap.{BTreeMap, get}
@@ -9,24 +9,25 @@ use Rattle.ioc_scan.specs.declared.position.Listed.{Listed}
 use Rattle.ioc_scan.specs.declared.position.Entry.{Entry}
 use Rattle.ioc_scan.specs.Positions.{position, listed, entry_of}
 
--- is this the position of a record with this place?
+-- Whether this is the position of a record with this place.
 abbrev pub is_at_place : Option Place → ℕ → Position → Bool
 is_at_place None order k = false
 is_at_place (Some p) order k = eq_by_cmp order_of.ghosts.cmp (position p order) k
 
--- a record as its place says
+-- The list member for a record at this place.
 abbrev pub listed_at : ℕ → Option Place → Option Listed
 listed_at number place = option_map (λ p. listed number p) place
 
--- a number that PHAS can be
+-- Holds if the number is a possible PHAS.
 abbrev pub IsPhase : ℤ → Type 0
 IsPhase phase = (negsuc 32767 ≤ℤ phase) × (phase ≤ℤ pos 32767)
 
--- by its entry a record stands at this position
+-- Holds if the record is at this position by its entry.
 abbrev pub StandsAt : (ℕ → Entry) → Position → Listed → Type 0
 StandsAt entry k x = ((entry x.number).place ≡ Some (record { list = k.list; phase = k.phase; priority = x.priority })) × ((entry x.number).order ≡ k.order)
 
--- at each position is who stands there by the entries, and no one else; the numbers of adding are those that were given
+-- Holds if each position has exactly the record that is there by the entries, and no order number
+-- is above the last one assigned.
 pub record Agrees (entry : ℕ → Entry) (last : ℕ) (at : Position → Option Listed) : Type 0 where
   pub stands : (k : Position) (x : Listed) → (at k ≡ Some x) ↔ StandsAt entry k x
   pub given : (n : ℕ) → (entry n).order ≤ last

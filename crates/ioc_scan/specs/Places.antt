@@ -1,5 +1,5 @@
--- Which scan list a record is on. Record Reference Manual, "Scan Fields"; Application Developer's Guide, "Scanning
--- Specification".
+-- The scan list that a record is on. Record Reference Manual, "Scan Fields"; Application
+-- Developer's Guide, "Scanning Specification".
 use Rattle.std.specs.Prelude.{ℕ, false, true, List, [], ◌∷◌, Option, Some, None, length, ◌==◌, ◌||◌, nat_eq, nat_lt, if◌then◌else◌}
 use Rattle.std.specs.Cmp.Lexicographic.{pointwise}
 use Rattle.ioc_values.specs.Trim.{is_blank, trimmed}
@@ -8,7 +8,7 @@ use Rattle.ioc_menus.specs.declared.scan.Scan.TheVariants as scan
 use Rattle.ioc_scan.specs.declared.period.Period.{Period}
 use Rattle.ioc_scan.specs.declared.period.Period.TheVariants.{TenSeconds, FiveSeconds, TwoSeconds, OneSecond, HalfSecond, FifthSecond, TenthSecond}
 
--- the period that a choice of SCAN is
+-- The period of a choice of SCAN.
 abbrev pub period_of : Scan → Option Period
 period_of scan.Passive = None
 period_of scan.Event = None
@@ -21,17 +21,17 @@ period_of scan.HalfSecond = Some HalfSecond
 period_of scan.FifthSecond = Some FifthSecond
 period_of scan.TenthSecond = Some TenthSecond
 
--- the name of an event, without the spaces at its ends; an empty name and 0 name none
+-- The name of an event, without the spaces at its ends; an empty name and 0 name no event.
 abbrev pub event_word : List ℕ → Option (List ℕ)
 event_word name =
     let word = trimmed (is_blank false) name in
     if (length word == 0) || pointwise nat_eq word (48 ∷ []) then None else Some word
 
--- a word that is given, unless it is longer than any word of a device link
+-- The word of these bytes, unless there are more than a device link's word can have.
 abbrev pub given_word : List ℕ → Option (List ℕ)
 given_word word = if nat_lt 119 (length word) then None else Some word
 
--- the bytes before the first space or tab
+-- The bytes before the first space or tab.
 abbrev pub first_word : List ℕ → List ℕ
 first_word [] = []
 first_word (b ∷ bs) = if is_blank true b then [] else b ∷ first_word bs

@@ -1,22 +1,22 @@
--- Where a record stands on its scan list.
+-- The position of a record on its scan list.
 use Rattle.std.specs.Prelude.{ℕ, List, None, slice_index_or}
 use Rattle.ioc_scan.specs.declared.list_name.Place.{Place}
 use Rattle.ioc_scan.specs.declared.position.Position.{Position}
 use Rattle.ioc_scan.specs.declared.position.Listed.{Listed}
 use Rattle.ioc_scan.specs.declared.position.Entry.{Entry}
 
--- where it stands, put there with this number of adding
+-- The position of a record at this place, added with this order number.
 abbrev pub position : Place → ℕ → Position
 position p order = record { list = p.list; phase = p.phase; order = order }
 
--- as it stands there
+-- The list member for a record at this place.
 abbrev pub listed : ℕ → Place → Listed
 listed number p = record { number = number; priority = p.priority }
 
--- of a record before its first change
+-- The entry of a record before its first change.
 abbrev pub new_entry : Entry
 new_entry = record { number = 0; place = None; order = 0 }
 
--- of each record, by its number
+-- The entry of a record, by its number.
 abbrev pub entry_of : List Entry → ℕ → Entry
 entry_of entries number = slice_index_or entries number new_entry

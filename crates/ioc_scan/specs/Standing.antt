@@ -1,4 +1,4 @@
--- Who stands on one list: the part of the tree between the list's bounds.
+-- The members of one list: the part of the tree between the bounds of the list.
 use Rattle.std.specs.Prelude.{Bool, List, pos, negsuc}
 use Rattle.std.specs.declared.ops.Bound.TheVariants.{Included}
 use Rattle.std.specs.Map.{values_of}
@@ -8,18 +8,18 @@ use Rattle.ioc_scan.specs.declared.list_name.ListName.{ListName}
 use Rattle.ioc_scan.specs.declared.position.Position.{Position}
 use Rattle.ioc_scan.specs.declared.position.Listed.{Listed}
 
--- nobody on the list stands before this position
+-- The lower bound of the positions on the list.
 abbrev pub low : ListName → Position
 low list = record { list = list; phase = negsuc 32767; order = 0 }
 
--- nor behind this one
+-- The upper bound of the positions on the list.
 abbrev pub high : ListName → Position
 high list = record { list = list; phase = pos 32767; order = 18446744073709551615 }
 
--- is the position between them?
+-- Whether the position is between the bounds.
 abbrev pub within : ListName → Position → Bool
 within list k = range_contains order_of.ghosts.cmp (Included (low list)) (Included (high list)) k
 
--- those between them, in order
+-- The records between the bounds, in order.
 abbrev pub standing : ListName → List (Position × Listed) → List Listed
 standing list es = values_of (entries_between order_of.ghosts.cmp (Included (low list)) (Included (high list)) es)

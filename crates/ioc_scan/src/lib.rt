@@ -1,5 +1,5 @@
-//! Scan lists: which records are processed together, in the order of PHAS.
-//! Record Reference Manual, "Scan Fields"; Application Developer's Guide, "Scanning Specification".
+//! Scan lists: the records that are processed together, in the order of PHAS. Record Reference
+//! Manual, "Scan Fields"; Application Developer's Guide, "Scanning Specification".
 #![tactic(auto)]
 
 pub mod laws;

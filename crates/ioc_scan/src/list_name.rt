@@ -1,4 +1,4 @@
-//! Which scan list a record is on.
+//! The scan list that a record is on.
 ghost use Rattle.std.specs.Prelude.{◌≡◌};
 
 use crate::period::{Period, period_of};
@@ -10,21 +10,22 @@ use ioc_values::{Short, Text};
 /// A scan list.
 #[derive(Clone, Copy, PartialEq, Eq, PartialOrd, Ord)]
 pub enum ListName {
-    /// Of the records that are processed every so often.
+    /// The records that are processed with this period.
     Period(Period),
-    /// Of those that are processed when this event is posted.
+    /// The records that are processed when this event is posted.
     Event(Word),
-    /// Of those that are processed at an interrupt of the devices whose links begin with this word.
+    /// The records that are processed at an interrupt of the devices whose links begin with this
+    /// word.
     Interrupt(Word),
-    /// Of those that are processed once at the start: PINI.
+    /// The records that are processed once when the engine starts: PINI.
     Start,
 }
 
-/// Where a record stands: on which list, PHAS, and PRIO.
+/// The place of a record: its list, PHAS, and PRIO.
 #[derive(Clone, Copy, PartialEq, Eq)]
 pub struct Place {
     pub list: ListName,
-    /// PHAS: lower ones come first.
+    /// PHAS. Lower ones are processed first.
     pub phase: i16,
     pub priority: Priority,
 }
@@ -32,8 +33,9 @@ pub struct Place {
 impl ListName {
     ghost use Rattle.ioc_scan.specs.Lists.{list_of};
 
-    /// The list of a record with this SCAN and EVNT, and this text of its device link; none where it is on no list: its
-    /// SCAN is Passive, or Event and EVNT names none, or I/O Intr and it has no device link.
+    /// Returns the list of a record with this SCAN and EVNT, and this text of its device link.
+    /// Returns `None` if it is on no list: SCAN is Passive, or it is Event and EVNT names no event,
+    /// or it is I/O Intr and the record has no device link.
     pub fn of(scan: Scan, event: Text, device: Option<Short<MAX_DEVICE_BYTES>>) -> Option<Self>
         ensures { result ≡ list_of scan event device }
     {

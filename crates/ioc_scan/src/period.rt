@@ -1,10 +1,10 @@
-//! The periods of scanning.
+//! The scan periods.
 ghost use Rattle.std.specs.Prelude.{◌≡◌};
 ghost use Rattle.ioc_scan.specs.Places.{period_of};
 
 use ioc_menus::Scan;
 
-/// A period of scanning, as a choice of SCAN.
+/// A scan period, as a choice of SCAN.
 #[derive(Clone, Copy, PartialEq, Eq, PartialOrd, Ord, Debug)]
 pub enum Period {
     TenSeconds,
@@ -16,7 +16,7 @@ pub enum Period {
     TenthSecond,
 }
 
-/// The period that a choice of SCAN is; none for Passive, Event and I/O Intr.
+/// Returns the period of a choice of SCAN, or `None` for Passive, Event and I/O Intr.
 pub fn period_of(scan: Scan) -> Option<Period>
     ensures { result ≡ period_of scan }
 {

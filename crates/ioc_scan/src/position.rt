@@ -1,11 +1,12 @@
-//! Where records stand on their lists.
+//! The positions of records on their lists.
 ghost use Rattle.std.specs.Prelude.{◌≡◌};
 
 use crate::list_name::{ListName, Place};
 use ioc_menus::Priority;
 use ioc_names::RecordNo;
 
-/// Where a record stands among all: on which list, by PHAS, then by the number of adding.
+/// The position of a record among all records on lists, ordered by list, then by PHAS, then by the
+/// order of adding.
 #[derive(Clone, Copy, PartialEq, Eq, PartialOrd, Ord)]
 pub struct Position {
     pub list: ListName,
@@ -16,7 +17,7 @@ pub struct Position {
 impl Position {
     ghost use Rattle.ioc_scan.specs.Positions.{position};
 
-    /// That of a place, with a number of adding.
+    /// Returns the position of a place, added with this order number.
     pub fn of(place: &Place, order: u64) -> Self
         ensures { result ≡ position place.now order }
     {
@@ -38,7 +39,7 @@ pub struct Listed {
 impl Listed {
     ghost use Rattle.ioc_scan.specs.Positions.{listed};
 
-    /// A record as its place says.
+    /// Creates the list member for a record at this place.
     pub fn of(number: RecordNo, place: &Place) -> Self
         ensures { result ≡ listed number place.now }
     {
@@ -49,21 +50,21 @@ impl Listed {
     }
 }
 
-/// What the scan lists say of a record.
+/// The entry of a record in the scan lists.
 #[derive(Clone, Copy, PartialEq, Eq)]
 pub struct Entry {
-    /// The highest number of its changes that were done; 0 before the first.
+    /// The highest number of the changes that were applied, or 0 before the first one.
     pub number: u64,
-    /// Where the record stands.
+    /// The record's place, if it is on a list.
     pub place: Option<Place>,
-    /// The number of adding with which it was put there.
+    /// The order number with which it was added there.
     pub order: u64,
 }
 
 impl Entry {
     ghost use Rattle.ioc_scan.specs.Positions.{new_entry};
 
-    /// That of a record before its first change: it stands on no list.
+    /// Creates the entry of a record before its first change. It is on no list.
     pub fn new() -> Self
         ensures { result ≡ new_entry }
     {

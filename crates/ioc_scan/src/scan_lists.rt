@@ -16,8 +16,8 @@ use std::alloc::{AllocError, Global};
 use std::collections::BTreeMap;
 use std::marker::Model;
 
-/// The scan lists: where each record stands, and who stands on each list, in the order of PHAS, with equal PHAS in the
-/// order of adding.
+/// The scan lists: the place of each record, and the members of each list, in the order of PHAS.
+/// Records with equal PHAS are in the order of adding.
 #[derive(Drop)]
 pub struct ScanLists {
     entries: Vec<Entry>,
@@ -37,11 +37,11 @@ impl Model for ScanLists {
 }
 
 impl ScanLists {
-    /// The lists of so many records, of which none stands on any.
+    /// Creates the lists for `count` records, none of which is on a list.
     ///
     /// # Errors
     ///
-    /// [`AllocError`] where memory is wanting.
+    /// [`AllocError`] if allocation fails.
     pub fn new(alloc: Global, count: usize) -> Result<Self, AllocError>
         ensures { IfOk result (λ s. s ≡ new_lists count) }
     {
@@ -54,27 +54,28 @@ impl ScanLists {
         })
     }
 
-    /// How many records there are.
+    /// Returns the number of records.
     pub fn len(&self) -> usize
         ensures { result ≡ length self.now.entries }
     {
         self.entries.len()
     }
 
-    /// Is there a number of adding left for a change?
+    /// Returns whether an order number is left for a change.
     pub fn can_change(&self) -> bool
         ensures { IsTrue result ↔ (self.now.last < 2 ^ 64 - 1) }
     {
         self.last < u64::MAX
     }
 
-    /// A change of a record: it leaves its list, and goes on the one of this place behind those with its PHAS. Changes of
-    /// a record are numbered, and one with a lower number than one that was done is ignored. At the start the number is
-    /// 0.
+    /// Changes the place of a record: removes it from its list, and adds it to the list of the new
+    /// place after the records with the same PHAS. Changes of a record are numbered, and one with a
+    /// lower number than one that was applied already is ignored. When the engine starts the number
+    /// is 0.
     ///
     /// # Errors
     ///
-    /// [`AllocError`] where memory is wanting: nothing has changed then.
+    /// [`AllocError`] if allocation fails; nothing has changed then.
     pub fn change(
         &mut self,
         member: RecordNo,
@@ -103,12 +104,13 @@ impl ScanLists {
         Ok(())
     }
 
-    /// Puts a record on the list of this place, behind those with its PHAS, and off the list where it stands. It isn't a
-    /// numbered change: which changes are ignored from then on stays the same.
+    /// Adds a record to the list of this place, after the records with the same PHAS, and removes
+    /// it from the list that it is on. This isn't a numbered change: it doesn't affect which later
+    /// changes are ignored.
     ///
     /// # Errors
     ///
-    /// [`AllocError`] where memory is wanting: nothing has changed then.
+    /// [`AllocError`] if allocation fails; nothing has changed then.
     pub fn add(&mut self, member: RecordNo, place: Place) -> Result<(), AllocError>
         requires known { member < length self.old.entries }
         requires room { self.old.last < 2 ^ 64 - 1 }
@@ -119,7 +121,8 @@ impl ScanLists {
         self.change(member, number, Some(place))
     }
 
-    /// Takes a record off its list, if it stands on one. It isn't a numbered change either, and takes no memory.
+    /// Removes a record from its list, if it is on one. This isn't a numbered change either, and it
+    /// never allocates.
     pub fn remove(&mut self, member: RecordNo)
         requires known { member < length self.old.entries }
         requires room { self.old.last < 2 ^ 64 - 1 }
@@ -129,12 +132,13 @@ impl ScanLists {
         let _removed = self.change(member, number, None);
     }
 
-    /// Writes who stands on a list, in the order of PHAS, and with equal PHAS in the order of adding, in the place of what
-    /// stood there. It takes memory only where the room there doesn't do.
+    /// Replaces the contents of `into` with the members of the list, in the order of PHAS; those
+    /// with equal PHAS are in the order of adding. It only allocates if the capacity isn't
+    /// sufficient.
     ///
     /// # Errors
     ///
-    /// [`AllocError`] where memory is wanting: what is written then is of no use.
+    /// [`AllocError`] if allocation fails; the contents of `into` are meaningless then.
     pub fn walk(&self, list: &ListName, into: &mut Vec<Listed>) -> Result<(), AllocError>
         ensures order { OnOk result (InPhaseOrder self.now list.now into.new.items) }
         ensures walked { OnOk result (into.new.items ≡ walked self.now list.now) }
@@ -144,7 +148,7 @@ impl ScanLists {
     }
 }
 
-// Adds those who stand on a list, in order.
+// Appends the members of the list, in order.
 fn copy_list(
     members: &BTreeMap<Position, Listed>,
     list: &ListName,
@@ -169,7 +173,7 @@ fn copy_list(
     Ok(())
 }
 
-// Puts a record on the list of its place, where it has one. Nobody stood there.
+// Adds a record to the list of its place, if it has one. The position is free.
 fn put_on(
     members: &mut BTreeMap<Position, Listed>,
     member: RecordNo,
@@ -193,7 +197,7 @@ fn put_on(
     Ok(())
 }
 
-// Takes the record that stands at a place, if it is one, off its list.
+// Removes the record at the place, if there is one, from its list.
 fn take_off(members: &mut BTreeMap<Position, Listed>, place: &Option<Place>, order: u64)
     ensures { (k : Position) → get order_of.ghosts.cmp members.new k ≡ cond (is_at_place place.now order k) None (get order_of.ghosts.cmp members.old k) }
 {
@@ -202,7 +206,7 @@ fn take_off(members: &mut BTreeMap<Position, Listed>, place: &Option<Place>, ord
     }
 }
 
-// Puts a record at a position.
+// Inserts a record at a position.
 fn insert(
     members: &mut BTreeMap<Position, Listed>,
     list: ListName,

@@ -1,4 +1,4 @@
-//! Names of events, and first words of device links.
+//! Event names, and first words of device links.
 ghost use Rattle.std.specs.Prelude.{◌≡◌, ◌≤◌, length, nat_eq, Some};
 ghost use Rattle.std.specs.Ordering.{nat_cmp, as_partial_cmp};
 ghost use Rattle.std.specs.Cmp.Lexicographic.{pointwise, slice_cmp, nat_list_eq_equiv, nat_list_cmp_total};
@@ -13,7 +13,7 @@ use ioc_values::{Short, Text};
 use std::cmp::Ordering;
 use std::marker::Model;
 
-/// The name of an event, or the first word of a device link: at most 119 bytes.
+/// The name of an event, or the first word of a device link, of at most 119 bytes.
 #[derive(Clone, Copy)]
 pub struct Word {
     bytes: Short<MAX_DEVICE_BYTES>,
@@ -30,7 +30,7 @@ impl Model for Word {
 }
 
 impl Word {
-    // A word of these bytes.
+    // Creates a word of these bytes.
     fn of(bytes: &[u8]) -> Self
         requires { length bytes.now ≤ 119 }
         ensures { result ≡ bytes.now }
@@ -40,7 +40,8 @@ impl Word {
         }
     }
 
-    /// The word of an event's name: the name without the spaces at its ends. An empty name and `0` name no event.
+    /// Returns the word of an event name, which is the name without the spaces at its ends. Returns
+    /// `None` if the name is empty or `0`; these name no event.
     pub fn of_event(name: Text) -> Option<Self>
         ensures { result ≡ event_word name }
     {
@@ -51,7 +52,7 @@ impl Word {
         Some(Word::of(bytes))
     }
 
-    /// A word that is given; none where it is longer than any word of a device link.
+    /// Returns the word of these bytes, or `None` if there are more than 119.
     pub fn given(bytes: &[u8]) -> Option<Self>
         ensures { result ≡ given_word bytes.now }
     {
@@ -61,7 +62,7 @@ impl Word {
         Some(Word::of(bytes))
     }
 
-    /// The first word of a device link's text: up to the first space or tab.
+    /// Returns the first word of a device link's text, up to the first space or tab.
     pub fn first_of(text: Short<MAX_DEVICE_BYTES>) -> Self
         ensures { result ≡ first_word text }
     {
@@ -69,7 +70,7 @@ impl Word {
     }
 }
 
-// The bytes before the first space or tab.
+// Returns the bytes before the first space or tab.
 fn first_word(text: &[u8]) -> &[u8]
     ensures value { result.now ≡ first_word text.now }
     ensures shorter { length result.now ≤ length text.now }

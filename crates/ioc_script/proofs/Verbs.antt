@@ -1,4 +1,4 @@
--- Lines that are told by their first bytes.
+-- Lines that are recognized by their first bytes.
 use Rattle.std.proofs.Common.{◌≡◌, ℕ, List, ◌++◌, refl}
 use Rattle.std.specs.Prelude.{codes}
 use Rattle.ioc_script.specs.Script.{worded, get_of, put_of, process_of, before, behind}

@@ -1,4 +1,4 @@
--- Words are short.
+-- The words for replies have at most 20 bytes.
 use Rattle.std.proofs.Common.{◌≤◌, Bool, true, false, length, lit≤}
 use Rattle.ioc_values.specs.declared.error.IocError.{IocError}
 use Rattle.ioc_values.specs.declared.error.IocError.TheVariants as refusal

@@ -1,5 +1,6 @@
--- The lines that tell replies and counts, without their line feeds. This project's own, after what the commands dbpf and dbgf of an
--- IOC's shell print: Application Developer's Guide, "IOC Test Facilities".
+-- The lines of replies and counts, without their line feeds. This project's own, after what the
+-- commands dbpf and dbgf of an IOC's shell print: Application Developer's Guide, "IOC Test
+-- Facilities".
 use Rattle.std.specs.Prelude.{ℕ, List, ◌++◌, codes, decimal, Bool, true, false}
 use Rattle.ioc_values.specs.Words.{refusal_words}
 use Rattle.ioc_ledger.specs.declared.outcome.Outcome.{Outcome}
@@ -8,19 +9,19 @@ use Rattle.ioc_ledger.specs.declared.tally.Tally.{Tally}
 use Rattle.ioc_events.specs.declared.reply.Reply.{Reply}
 use Rattle.ioc_events.specs.declared.reply.Reply.TheVariants.{Plain, Outcome as Outcome-reply, Shown, Notify as Notify-reply, Live as Live-reply, Refused}
 
--- what the outcome of a request is called
+-- The words for the outcome of a request.
 unfoldable pub outcome_words : Outcome → List ℕ
 outcome_words Processed = codes "ok processed"
 outcome_words Disabled = codes "ok disabled"
 outcome_words Active = codes "ok active"
 outcome_words Reprocess = codes "ok reprocess"
 
--- is a put with notification live?
+-- The words for whether a put with notification is live.
 unfoldable pub live_words : Bool → List ℕ
 live_words true = codes "ok live"
 live_words false = codes "ok not live"
 
--- a reply, without its line feed
+-- The line of a reply, without its line feed.
 abbrev pub reply_words : Reply → List ℕ
 reply_words Plain = codes "ok"
 reply_words (Outcome-reply outcome) = outcome_words outcome
@@ -29,11 +30,11 @@ reply_words (Notify-reply number) = codes "ok notify " ++ decimal number
 reply_words (Live-reply live) = live_words live
 reply_words (Refused e) = refusal_words e
 
--- a number, without the line feed
+-- The line of a count, without its line feed.
 unfoldable pub count_words : ℕ → List ℕ
 count_words count = codes "ok " ++ decimal count
 
--- the counts of requests, without the line feed
+-- The line of the counts of requests, without its line feed.
 unfoldable pub tally_words : Tally → ℕ → List ℕ
 tally_words t dropped =
     codes "tally begun=" ++ decimal t.begun ++ codes " processed=" ++ decimal t.processed ++ codes " disabled=" ++ decimal t.disabled ++ codes " active=" ++ decimal t.active

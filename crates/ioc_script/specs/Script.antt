@@ -1,7 +1,8 @@
--- The lines of a script, and what each asks for: `process REC`, `put REC.F TEXT`, `get REC.F`, `at N`, `next REC done TEXT`,
--- `next REC fault`, `next REC later`, `done REC N TEXT`, `fault REC N`, `event NAME`, `io WORD`, `scan CHOICE`, `link REC.F TEXT`,
--- `tally`, `notify REC.F TEXT`, `cancel N`, `sets`. This project's own, after the commands dbtr, dbpf and
--- dbgf of an IOC's shell: Application Developer's Guide, "IOC Test Facilities".
+-- The lines of a script and their commands: `process REC`, `put REC.F TEXT`, `get REC.F`, `at N`,
+-- `next REC done TEXT`, `next REC fault`, `next REC later`, `done REC N TEXT`, `fault REC N`,
+-- `event NAME`, `io WORD`, `scan CHOICE`, `link REC.F TEXT`, `tally`, `notify REC.F TEXT`, `cancel
+-- N`, `sets`. This project's own, after the commands dbtr, dbpf and dbgf of an IOC's shell:
+-- Application Developer's Guide, "IOC Test Facilities".
 use Rattle.std.specs.Prelude.{ℕ, ◌^◌, List, [], ◌∷◌, take, length, codes, nat_lt, nat_eq, ◌==◌, if◌then◌else◌, unwrap_or, slice_get, Bool, true, false, Option, Some, None}
 use Rattle.std.specs.List.{onto_first}
 use Rattle.std.specs.Cmp.Lexicographic.{pointwise}
@@ -13,70 +14,71 @@ use Rattle.ioc_menus.specs.Numbers.{scans}
 use Rattle.ioc_scan.specs.declared.period.Period.{Period}
 use Rattle.ioc_scan.specs.Places.{period_of}
 
--- the lines, without the line feeds that end them
+-- The lines, without the line feeds that end them.
 abbrev pub lines_of : List ℕ → List (List ℕ)
 lines_of [] = []
 lines_of (b ∷ bs) = if b == 10 then [] ∷ lines_of bs else onto_first b (lines_of bs)
 
--- enough of a line to see that it is too long
+-- The beginning of a line, long enough to recognize that the line is too long.
 unfoldable pub cut : List ℕ → List ℕ
 cut line = take 1025 line
 
--- what stands before the first such byte
+-- The bytes before the first `separator`.
 abbrev pub before : ℕ → List ℕ → List ℕ
 before separator [] = []
 before separator (b ∷ bs) = if b == separator then [] else b ∷ before separator bs
 
--- what stands behind the first such byte, where there is one
+-- The bytes behind the first `separator`, if there is one.
 abbrev pub behind : ℕ → List ℕ → Option (List ℕ)
 behind separator [] = None
 behind separator (b ∷ bs) = if b == separator then Some bs else behind separator bs
 
--- what stands behind the first byte, where there is one
+-- The bytes behind the first byte, if there is one.
 abbrev pub behind_first : List ℕ → Option (List ℕ)
 behind_first [] = None
 behind_first (b ∷ bs) = Some bs
 
--- what a line asks for, its records and fields by their names
+-- The command of a line, with its records and fields by their names.
 pub data Command : Type 0 where
   Silent : Command
   Bad : Command
   Process : (name : List ℕ) → Command
   Put : (name : List ℕ) → (field : List ℕ) → (text : List ℕ) → Command
   Get : (name : List ℕ) → (field : List ℕ) → Command
-  -- the lines that follow are done at this moment
+  -- The time stamp of the following lines.
   At : (moment : ℕ) → Command
-  -- the device of a record will answer so, after the answers that it has
+  -- Queues an answer of the device of a record, behind the answers that it has.
   Next-done : (name : List ℕ) → (text : List ℕ) → Command
   Next-fault : (name : List ℕ) → Command
   Next-later : (name : List ℕ) → Command
-  -- the device of a record has answered at last, to the wait of this number
+  -- Completes a record with the asynchronous answer of its device. `wait` is the number of the
+  -- completion that the record awaits.
   Done : (name : List ℕ) → (wait : ℕ) → (text : List ℕ) → Command
   Fault : (name : List ℕ) → (wait : ℕ) → Command
-  -- the event of this name is posted
+  -- Posts the event with this name.
   Event : (name : List ℕ) → Command
-  -- an interrupt of the devices whose links begin with this word
+  -- An interrupt of the devices whose links begin with this word.
   Interrupt : (word : List ℕ) → Command
-  -- the list of a period is scanned
+  -- Scans the list of a period.
   Scan : (period : Period) → Command
-  -- a link field gets the link of this text
+  -- Changes a link field to the link of this text.
   Link : (name : List ℕ) → (field : List ℕ) → (text : List ℕ) → Command
-  -- the counts of requests
+  -- Prints the counts of requests.
   Tally : Command
-  -- a text is put into a field, with a notification
+  -- Puts a text into a field, with a notification.
   Notify : (name : List ℕ) → (field : List ℕ) → (text : List ℕ) → Command
-  -- the put with notification of this number is given up
+  -- Cancels the put with notification with this number.
   Cancel : (number : ℕ) → Command
-  -- the connected parts
+  -- Prints the connected parts.
   Sets : Command
 
--- one word, and nothing behind it
+-- One word with nothing behind it.
 abbrev pub process_of : List ℕ → Option (List ℕ) → Command
 process_of [] more = Bad
 process_of (b ∷ bs) (Some words) = Bad
 process_of (b ∷ bs) None = Process (b ∷ bs)
 
--- the text may be missing
+-- The text may be missing.
 abbrev pub put_at : List ℕ → Option (List ℕ) → Option (List ℕ) → Command
 put_at name None text = Bad
 put_at name (Some field) (Some text) = Put name field text
@@ -87,14 +89,14 @@ get_at name None more = Bad
 get_at name (Some field) (Some words) = Bad
 get_at name (Some field) None = Get name field
 
--- the word is cut at its first dot
+-- The word is cut at its first dot.
 abbrev pub put_of : List ℕ → Option (List ℕ) → Command
 put_of word text = put_at (before 46 word) (behind 46 word) text
 
 abbrev pub get_of : List ℕ → Option (List ℕ) → Command
 get_of word more = get_at (before 46 word) (behind 46 word) more
 
--- one number of decimal digits alone, below 2^64
+-- One number of decimal digits, below 2^64.
 abbrev pub at_moment : Option ℕ → Command
 at_moment None = Bad
 at_moment (Some moment) = At moment
@@ -103,12 +105,12 @@ abbrev pub at_of : List ℕ → Option (List ℕ) → Command
 at_of word (Some words) = Bad
 at_of word None = at_moment (below (2 ^ 64) (numeral 10 word))
 
--- this, if nothing stands behind
+-- This command, if nothing is behind it.
 abbrev pub alone : Option (List ℕ) → Command → Command
 alone None command = command
 alone (Some words) command = Bad
 
--- an answer by its word
+-- Queues an answer of this kind.
 abbrev pub next_by : List ℕ → List ℕ → Option (List ℕ) → Command
 next_by name word text =
     if pointwise nat_eq word (codes "done") then Next-done name (unwrap_or text [])
@@ -120,7 +122,7 @@ next_of [] words = Bad
 next_of (b ∷ bs) None = Bad
 next_of (b ∷ bs) (Some words) = next_by (b ∷ bs) (before 32 words) (behind 32 words)
 
--- a number, and then a text
+-- A number and then a text.
 abbrev pub done_at : List ℕ → Option ℕ → Option (List ℕ) → Command
 done_at name None text = Bad
 done_at name (Some wait) text = Done name wait (unwrap_or text [])
@@ -130,7 +132,7 @@ done_of [] words = Bad
 done_of (b ∷ bs) None = Bad
 done_of (b ∷ bs) (Some words) = done_at (b ∷ bs) (below (2 ^ 64) (numeral 10 (before 32 words))) (behind 32 words)
 
--- a number alone
+-- One number.
 abbrev pub fault_at : List ℕ → Option ℕ → Command
 fault_at name None = Bad
 fault_at name (Some wait) = Fault name wait
@@ -140,7 +142,7 @@ fault_of [] words = Bad
 fault_of (b ∷ bs) None = Bad
 fault_of (b ∷ bs) (Some word) = fault_at (b ∷ bs) (below (2 ^ 64) (numeral 10 word))
 
--- one word, and nothing behind it
+-- One word with nothing behind it.
 abbrev pub interrupt_of : List ℕ → Option (List ℕ) → Command
 interrupt_of [] more = Bad
 interrupt_of (b ∷ bs) (Some words) = Bad
@@ -154,7 +156,7 @@ abbrev pub period_numbered : Option ℕ → Option Period
 period_numbered None = None
 period_numbered (Some number) = period_at (slice_get scans number)
 
--- the period of this name
+-- The period with this name.
 abbrev pub period_named : List ℕ → Option Period
 period_named text = period_numbered (choice_of Scan-menu text)
 
@@ -162,11 +164,11 @@ abbrev pub scan_at : Option Period → Command
 scan_at None = Bad
 scan_at (Some period) = Scan period
 
--- a period, by its choice of SCAN
+-- A period, by its choice of SCAN.
 abbrev pub scan_of : List ℕ → Command
 scan_of text = scan_at (period_named text)
 
--- the text may be missing
+-- The text may be missing.
 abbrev pub link_at : List ℕ → Option (List ℕ) → Option (List ℕ) → Command
 link_at name None text = Bad
 link_at name (Some field) text = Link name field (unwrap_or text [])
@@ -174,16 +176,16 @@ link_at name (Some field) text = Link name field (unwrap_or text [])
 abbrev pub link_of : List ℕ → Option (List ℕ) → Command
 link_of word text = link_at (before 46 word) (behind 46 word) text
 
--- what changes how records are joined
+-- The command that changes a link.
 abbrev pub by_link_verb : List ℕ → List ℕ → Command
 by_link_verb verb words = if pointwise nat_eq verb (codes "link") then link_of (before 32 words) (behind 32 words) else Bad
 
--- the text may be missing
+-- The text may be missing.
 abbrev pub notify_at : List ℕ → Option (List ℕ) → Option (List ℕ) → Command
 notify_at name None text = Bad
 notify_at name (Some field) text = Notify name field (unwrap_or text [])
 
--- the word is cut at its first dot
+-- The word is cut at its first dot.
 abbrev pub notify_of : List ℕ → Option (List ℕ) → Command
 notify_of word text = notify_at (before 46 word) (behind 46 word) text
 
@@ -191,25 +193,25 @@ abbrev pub cancel_at : Option ℕ → Command
 cancel_at None = Bad
 cancel_at (Some number) = Cancel number
 
--- one number alone
+-- One number with nothing behind it.
 abbrev pub cancel_of : List ℕ → Option (List ℕ) → Command
 cancel_of word (Some words) = Bad
 cancel_of word None = cancel_at (below (2 ^ 64) (numeral 10 word))
 
--- puts with notification
+-- The commands for puts with notification, and the following ones.
 abbrev pub by_notify_verb : List ℕ → List ℕ → Command
 by_notify_verb verb words =
     if pointwise nat_eq verb (codes "notify") then notify_of (before 32 words) (behind 32 words)
     else (if pointwise nat_eq verb (codes "cancel") then cancel_of (before 32 words) (behind 32 words) else by_link_verb verb words)
 
--- what has records on scan lists processed
+-- The commands that process the records of scan lists, and the following ones.
 abbrev pub by_scan_verb : List ℕ → List ℕ → Command
 by_scan_verb verb words =
     if pointwise nat_eq verb (codes "event") then Event words
     else (if pointwise nat_eq verb (codes "io") then interrupt_of (before 32 words) (behind 32 words)
     else (if pointwise nat_eq verb (codes "scan") then scan_of words else by_notify_verb verb words))
 
--- what a script does as a record's device
+-- The commands that act as the device of a record, and the following ones.
 abbrev pub by_device_verb : List ℕ → List ℕ → Command
 by_device_verb verb words =
     if pointwise nat_eq verb (codes "next") then next_of (before 32 words) (behind 32 words)
@@ -217,7 +219,7 @@ by_device_verb verb words =
     else (if pointwise nat_eq verb (codes "fault") then fault_of (before 32 words) (behind 32 words)
     else by_scan_verb verb words))
 
--- a first word, and the words behind it
+-- The command of a first word and the words behind it.
 abbrev pub by_verb : List ℕ → List ℕ → Command
 by_verb verb words =
     if pointwise nat_eq verb (codes "process") then process_of (before 32 words) (behind 32 words)
@@ -230,20 +232,20 @@ abbrev pub with_words : List ℕ → Option (List ℕ) → Command
 with_words verb None = if pointwise nat_eq verb (codes "tally") then Tally else (if pointwise nat_eq verb (codes "event") then Event [] else (if pointwise nat_eq verb (codes "sets") then Sets else Bad))
 with_words verb (Some words) = by_verb verb words
 
--- words are parted by one space
+-- Words are separated by one space.
 abbrev pub worded : List ℕ → Command
 worded line = with_words (before 32 line) (behind 32 line)
 
--- empty lines, and those that begin with `#`, ask for nothing
+-- For empty lines, and those that begin with `#`, nothing is printed.
 abbrev pub short_command : List ℕ → Command
 short_command [] = Silent
 short_command (b ∷ bs) = if b == 35 then Silent else worded (b ∷ bs)
 
--- past 1,024 bytes a line is bad, whatever it holds
+-- A line of more than 1,024 bytes is bad, whatever it contains.
 unfoldable pub command_of : List ℕ → Command
 command_of line = if nat_lt 1024 (length line) then Bad else short_command line
 
--- does a line ask for nothing?
+-- Whether nothing is printed for a line.
 abbrev pub is_silent : Command → Bool
 is_silent Silent = true
 is_silent _ = false

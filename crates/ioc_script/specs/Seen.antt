@@ -1,4 +1,4 @@
--- Commands as the code has them, seen as those of the definitions.
+-- The commands of the code, as those of the specifications.
 use Rattle.std.specs.Prelude.{ℕ, List}
 use Rattle.std.specs.Borrow.{Bor}
 use Rattle.ioc_script.specs.Script.{Command as Asked, Silent as asks-nothing, Bad as asks-badly, Process as asks-process, Put as asks-put, Get as asks-get, At as asks-at, Next-done as asks-next-done, Next-fault as asks-next-fault, Next-later as asks-next-later, Done as asks-done, Fault as asks-fault, Event as asks-event, Interrupt as asks-interrupt, Scan as asks-scan, Link as asks-link, Tally as asks-tally, Notify as asks-notify, Cancel as asks-cancel, Sets as asks-sets}

@@ -1,4 +1,4 @@
-//! What a line of a script asks for.
+//! Commands of a script.
 ghost use Rattle.std.specs.Prelude.{◌≡◌, option_map};
 ghost use Rattle.std.specs.Option.{IfSome};
 ghost use Rattle.ioc_script.specs.Script.{before, behind, command_of, worded, by_verb, process_of, put_of, get_of, at_of, next_by, next_of, done_of, fault_of, by_device_verb, by_scan_verb, by_link_verb, link_of, interrupt_of, period_named, scan_of, by_notify_verb, notify_of, cancel_of, is_silent};
@@ -10,51 +10,52 @@ use ioc_scan::Period;
 use ioc_scan::period::period_of;
 use ioc_values::number::decimal;
 
-/// What a line of a script asks for.
+/// The command of a line of a script.
 #[derive(Clone, Copy)]
 pub enum Command<'a> {
-    /// An empty line, or a comment: nothing is printed.
+    /// An empty line or a comment, for which nothing is printed.
     Silent,
-    /// No line of a script.
+    /// A line that isn't a valid command.
     Bad,
     Process(&'a [u8]),
     /// A record, a field of it, and the text to put.
     Put(&'a [u8], &'a [u8], &'a [u8]),
     /// A record, and a field of it.
     Get(&'a [u8], &'a [u8]),
-    /// The lines that follow are done at this moment, in nanoseconds since 1970-01-01 00:00 UTC.
+    /// The time stamp of the following lines, in nanoseconds since 1970-01-01 00:00 UTC.
     At(u64),
-    /// The device of a record will answer with this text, after the answers that it has.
+    /// Queues this text as an answer of the device of a record, behind the answers that it has.
     NextDone(&'a [u8], &'a [u8]),
-    /// It will answer with a fault.
+    /// Queues a fault as an answer of the device.
     NextFault(&'a [u8]),
-    /// It will answer later.
+    /// Queues an asynchronous answer of the device.
     NextLater(&'a [u8]),
-    /// The device of a record has answered with this text at last, to the wait of this number.
+    /// Completes a record with this text as the asynchronous answer of its device. The number is
+    /// that of the completion that the record awaits.
     Done(&'a [u8], u64, &'a [u8]),
-    /// It has answered with a fault.
+    /// Completes a record with a fault as the asynchronous answer of its device.
     Fault(&'a [u8], u64),
-    /// The event of this name is posted.
+    /// Posts the event with this name.
     Event(&'a [u8]),
     /// An interrupt of the devices whose links begin with this word.
     Interrupt(&'a [u8]),
-    /// The list of a period is scanned.
+    /// Scans the list of a period.
     Scan(Period),
     /// A record, a link field of it, and the text of its new link.
     Link(&'a [u8], &'a [u8], &'a [u8]),
-    /// The counts of requests.
+    /// Prints the counts of requests.
     Tally,
     /// A record, a field of it, and the text to put there with a notification.
     Notify(&'a [u8], &'a [u8], &'a [u8]),
-    /// The put with notification of this number is given up.
+    /// Cancels the put with notification with this number.
     Cancel(u64),
-    /// The connected parts.
+    /// Prints the connected parts.
     Sets,
 }
 
 #[tactic(auto, unfolding(crate::specs::Script::command_of))]
 impl<'a> Command<'a> {
-    /// What a line asks for. It comes without its line feed.
+    /// Returns the command of a line, which comes without its line feed.
     pub fn from_line(line: &'a [u8]) -> Self
         ensures { seen result ≡ command_of line.now }
     {
@@ -68,7 +69,7 @@ impl<'a> Command<'a> {
         }
     }
 
-    /// Does the line ask for nothing?
+    /// Returns whether nothing is printed for the line.
     pub fn is_silent(&self) -> bool
         ensures { result ≡ is_silent (seen self.now) }
     {
@@ -76,7 +77,8 @@ impl<'a> Command<'a> {
     }
 }
 
-// A line of words that one space parts. Gets, puts and requests are told by their first bytes, since most lines are these.
+// Returns the command of a line of words that are separated by one space. Gets, puts and requests
+// are recognized by their first bytes, because most lines are these.
 #[tactic(auto, using(crate::proofs::Verbs::get_line, crate::proofs::Verbs::put_line, crate::proofs::Verbs::process_line))]
 fn worded(line: &[u8]) -> Command<'_>
     ensures { seen result ≡ worded line.now }
@@ -98,8 +100,8 @@ fn worded(line: &[u8]) -> Command<'_>
     }
 }
 
-/// The words behind `put`, where a line is one that puts. It is told by its first bytes, and no command is made for it: a command is as wide
-/// as the widest of all lines.
+/// Returns the words behind `put` if the line is a put. It is recognized by its first bytes and
+/// without creating a command, which is as large as its largest variant.
 #[inline(always)]
 #[tactic(auto, unfolding(crate::specs::Script::command_of), using(crate::proofs::Verbs::put_line))]
 pub fn words_of_put(line: &[u8]) -> Option<&[u8]>
@@ -114,7 +116,7 @@ pub fn words_of_put(line: &[u8]) -> Option<&[u8]>
     }
 }
 
-// The same by the first word.
+// Returns the command of a line by its first word.
 #[inline(never)]
 fn by_first_word(line: &[u8]) -> Command<'_>
     ensures { seen result ≡ worded line.now }
@@ -146,7 +148,7 @@ fn by_verb<'a>(verb: &'a [u8], words: &'a [u8]) -> Command<'a>
     }
 }
 
-// What a script does as a record's device.
+// The commands that act as the device of a record, and the following ones.
 fn by_device_verb<'a>(verb: &'a [u8], words: &'a [u8]) -> Command<'a>
     ensures { seen result ≡ by_device_verb verb.now words.now }
 {
@@ -162,7 +164,7 @@ fn by_device_verb<'a>(verb: &'a [u8], words: &'a [u8]) -> Command<'a>
     }
 }
 
-// What has records on scan lists processed.
+// The commands that process the records of scan lists, and the following ones.
 fn by_scan_verb<'a>(verb: &'a [u8], words: &'a [u8]) -> Command<'a>
     ensures { seen result ≡ by_scan_verb verb.now words.now }
 {
@@ -178,7 +180,7 @@ fn by_scan_verb<'a>(verb: &'a [u8], words: &'a [u8]) -> Command<'a>
     }
 }
 
-// Puts with notification.
+// The commands for puts with notification, and the following ones.
 fn by_notify_verb<'a>(verb: &'a [u8], words: &'a [u8]) -> Command<'a>
     ensures { seen result ≡ by_notify_verb verb.now words.now }
 {
@@ -192,7 +194,7 @@ fn by_notify_verb<'a>(verb: &'a [u8], words: &'a [u8]) -> Command<'a>
     }
 }
 
-// What changes how records are joined.
+// The command that changes a link.
 fn by_link_verb<'a>(verb: &'a [u8], words: &'a [u8]) -> Command<'a>
     ensures { seen result ≡ by_link_verb verb.now words.now }
 {
@@ -242,7 +244,7 @@ fn interrupt<'a>(word: &'a [u8], more: Option<&'a [u8]>) -> Command<'a>
     }
 }
 
-// The period of a choice of SCAN.
+// Returns the period of a choice of SCAN.
 fn period(text: &[u8]) -> Option<Period>
     ensures { result ≡ period_named text.now }
 {
@@ -297,7 +299,7 @@ fn at<'a>(word: &'a [u8], more: Option<&'a [u8]>) -> Command<'a>
     }
 }
 
-// An answer by its word.
+// Queues an answer of this kind.
 fn next_by<'a>(name: &'a [u8], word: &'a [u8], text: Option<&'a [u8]>) -> Command<'a>
     ensures { seen result ≡ next_by name.now word.now (option_map bytes text.entry) }
 {

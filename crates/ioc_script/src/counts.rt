@@ -1,4 +1,4 @@
-//! Lines that tell numbers: the counts of requests, a count, and the number of a put with notification.
+//! Lines with numbers: the counts of requests, a count, and the number of a put with notification.
 ghost use Rattle.std.specs.Prelude.{◌≡◌, ◌+◌, ◌≤◌, ◌++◌, ◌∷◌, [], length, codes, decimal};
 ghost use Rattle.ioc_script.specs.Replies.{count_words, tally_words};
 
@@ -7,7 +7,7 @@ use ioc_ledger::Tally;
 use ioc_notify::NotifyId;
 use itoa::Buffer;
 
-// A count behind its word. A count has 20 digits at most.
+// Appends a word and a count, which has at most 20 digits.
 fn add_count(line: &mut LineReply, word: &[u8], count: u64)
     requires { length line.old + length word.now + 20 ≤ 256 }
     ensures added { line.new ≡ line.old ++ word.now ++ decimal count }
@@ -17,7 +17,7 @@ fn add_count(line: &mut LineReply, word: &[u8], count: u64)
     line.extend(Buffer::new().format(count).as_bytes());
 }
 
-/// The line that tells a number, with the line feed.
+/// Returns the line of a count, with its line feed.
 #[tactic(auto, unfolding(crate::specs::Replies::count_words))]
 pub fn count_line(count: u64) -> LineReply
     ensures { result ≡ count_words count ++ 10 ∷ [] }
@@ -28,7 +28,7 @@ pub fn count_line(count: u64) -> LineReply
     line
 }
 
-/// The number of a put with notification, with the line feed.
+/// Returns the line with the number of a put with notification, with its line feed.
 pub fn notify_line(number: NotifyId) -> LineReply
     ensures { result ≡ (codes "ok notify " ++ decimal number) ++ 10 ∷ [] }
 {
@@ -38,7 +38,7 @@ pub fn notify_line(number: NotifyId) -> LineReply
     line
 }
 
-/// Tells that a put with notification has ended, with the line feed.
+/// Returns the line of a put with notification that has ended, with its line feed.
 #[inline(never)]
 pub fn ended_line(number: NotifyId) -> LineReply
     ensures { result ≡ codes "ended " ++ decimal number ++ 10 ∷ [] }
@@ -49,7 +49,7 @@ pub fn ended_line(number: NotifyId) -> LineReply
     line
 }
 
-/// The counts, and how many items were dropped, with the line feed.
+/// Returns the line of the counts of requests and of dropped items, with its line feed.
 #[tactic(auto, unfolding(crate::specs::Replies::tally_words))]
 pub fn tally_line(tally: &Tally, dropped: u64) -> LineReply
     ensures { result ≡ tally_words tally.now dropped ++ 10 ∷ [] }

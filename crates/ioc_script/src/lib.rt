@@ -1,4 +1,4 @@
-//! The words of a script: what each of its lines asks for, and the lines that tell replies.
+//! The language of scripts: the command of each line, and the lines of replies.
 #![tactic(auto)]
 
 mod command;

@@ -3,7 +3,7 @@ ghost use Rattle.std.specs.Prelude.{◌≡◌};
 ghost use Rattle.std.specs.Prelude.{option_map};
 ghost use Rattle.ioc_script.specs.Script.{before, behind, behind_first};
 
-/// What stands before the first such byte, and what stands from it on.
+/// Splits bytes before the first `separator`. The second part is empty if there is none.
 #[inline(always)]
 pub fn split_before(bytes: &[u8], separator: u8) -> (&[u8], &[u8])
     ensures front { result.0.now ≡ before separator bytes.now }
@@ -21,7 +21,8 @@ pub fn split_before(bytes: &[u8], separator: u8) -> (&[u8], &[u8])
     (bytes, &[])
 }
 
-/// What stands before the first such byte, and what stands behind it, where there is one.
+/// Splits bytes at the first `separator`, which is in neither part. The second part is `None` if
+/// there is none.
 pub fn cut_at(bytes: &[u8], separator: u8) -> (&[u8], Option<&[u8]>)
     ensures front { result.0.now ≡ before separator bytes.now }
     ensures back { option_map (λ r. r.now) result.1 ≡ behind separator bytes.now }

@@ -1,4 +1,4 @@
-//! The line that tells a reply.
+//! The lines of replies.
 ghost use Rattle.std.specs.Prelude.{◌≡◌, ◌+◌, ◌<◌, ◌≤◌, ◌++◌, ◌∷◌, [], length};
 ghost use Rattle.ioc_values.specs.Words.{refusal_words};
 ghost use Rattle.ioc_events.specs.Events.{reply_of};
@@ -9,10 +9,11 @@ use ioc_events::{Effect, Reply};
 use ioc_ledger::Outcome;
 use ioc_values::{IocError, Room};
 
-/// A line that tells numbers, its line feed included: the counts of requests, of at most 20 digits each, are the longest.
+/// A line with numbers, with its line feed. The longest is that of the counts of requests, of at
+/// most 20 digits each.
 pub type LineReply = Room<256>;
 
-/// What the outcome of a request is called.
+/// Returns the words for the outcome of a request.
 #[tactic(auto, unfolding(crate::specs::Replies::outcome_words))]
 pub fn outcome_words(outcome: Outcome) -> &'static str
     ensures { result.now ≡ outcome_words outcome }
@@ -25,7 +26,7 @@ pub fn outcome_words(outcome: Outcome) -> &'static str
     }
 }
 
-// What tells whether a put with notification is live.
+// Returns the words for whether a put with notification is live.
 #[tactic(auto, unfolding(crate::specs::Replies::live_words))]
 fn live_words(live: bool) -> &'static str
     ensures { result.now ≡ live_words live }
@@ -33,7 +34,7 @@ fn live_words(live: bool) -> &'static str
     if live { "ok live" } else { "ok not live" }
 }
 
-// A line of words.
+// Appends a line of words.
 fn say_words<const CAP: usize>(out: &mut Room<CAP>, words: &[u8])
     requires { length out.old + length words.now < CAP }
     ensures { out.new ≡ out.old ++ words.now ++ 10 ∷ [] }
@@ -42,7 +43,7 @@ fn say_words<const CAP: usize>(out: &mut Room<CAP>, words: &[u8])
     out.push(b'\n');
 }
 
-/// Says a reply in a line behind others, its line feed included. There must be room for 256 bytes.
+/// Appends the line of a reply, with its line feed. There must be room for 256 bytes.
 #[tactic(auto, using(crate::proofs::Words::outcome_short, crate::proofs::Words::live_short, crate::proofs::Words::refusal_short))]
 pub fn say_reply<const CAP: usize>(out: &mut Room<CAP>, reply: &Reply)
     requires { length out.old + 256 ≤ CAP }
@@ -61,7 +62,7 @@ pub fn say_reply<const CAP: usize>(out: &mut Room<CAP>, reply: &Reply)
     }
 }
 
-// Says the outcome of a request in a line, each of a length that is known where it is copied.
+// Appends the line of an outcome. Each outcome has its own copy, of a length that is known.
 #[tactic(auto, unfolding(crate::specs::Replies::outcome_words))]
 fn say_outcome<const CAP: usize>(out: &mut Room<CAP>, outcome: Outcome)
     requires { length out.old + 256 ≤ CAP }
@@ -75,7 +76,8 @@ fn say_outcome<const CAP: usize>(out: &mut Room<CAP>, outcome: Outcome)
     }
 }
 
-/// Says what a request or a put came to in a line behind others, its line feed included. There must be room for 256 bytes.
+/// Appends the line of the effect of a request or a put, with its line feed. There must be room for
+/// 256 bytes.
 #[tactic(auto, using(crate::proofs::Words::outcome_short))]
 pub fn say_effect<const CAP: usize>(out: &mut Room<CAP>, effect: &Effect)
     requires { length out.old + 256 ≤ CAP }
@@ -88,7 +90,7 @@ pub fn say_effect<const CAP: usize>(out: &mut Room<CAP>, effect: &Effect)
     }
 }
 
-/// Says a refusal in a line behind others, its line feed included. There must be room for 256 bytes.
+/// Appends the line of a refusal, with its line feed. There must be room for 256 bytes.
 #[inline(never)]
 #[tactic(auto, using(crate::proofs::Words::refusal_short))]
 pub fn say_refusal<const CAP: usize>(out: &mut Room<CAP>, refused: IocError)

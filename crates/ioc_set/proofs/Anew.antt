@@ -1,4 +1,4 @@
--- A set that begins anew: its history is forgotten.
+-- A set whose history is cleared.
 use Rattle.std.proofs.Common.{◌≡◌, List, [], refl, sym, ap, subst, ◌∙◌}
 use Rattle.ioc_ledger.specs.declared.tally.Tally.{Tally}
 use Rattle.ioc_record.specs.RecordRules.{RecordRules}
@@ -9,11 +9,11 @@ use Rattle.ioc_set.specs.Held.{folded}
 use Rattle.ioc_set.specs.Doing.{held_by}
 use Rattle.ioc_set.specs.Linking.{anew}
 
--- none is live or waits, and none was or did before the history
+-- No put with notification is live or waits, and none was or did before the history.
 abbrev pub WereNone : Puts → Type 0
 WereNone p = AreNone p × ((p.base_live ≡ []) × (p.base_waiting ≡ []))
 
--- a history has begun
+-- A history has begun.
 pub begun_now : (p q : Puts) → q ≡ begun_with p → HasBegun q
 begun_now p q is = (
   ap (λ (x : Puts). x.base_live) is ∙ sym (ap (λ (x : Puts). x.live) is),
@@ -27,7 +27,7 @@ were_none p is = (
 )
 
 module _ {R D : Type 0} where
-  -- a set on which none is live
+  -- A set on which none is live and whose history is cleared.
   pub none_anew : (c : Contents R D) (p : Puts) (b t : Tally) (entries : List Entry) → WereNone p → c.base ≡ c.records → b ≡ t → entries ≡ [] → held_by c p b t entries ≡ anew c.records c.devices [] [] t
   none_anew c p b t entries none base same forgotten = λ i. record {
     records = c.records;
@@ -62,6 +62,6 @@ module _ {R D : Type 0} where
     history = forgotten i;
   }
 
-  -- a record that is its own base is like it
+  -- A record that equals its base is like it.
   pub own_base : (k : RecordRules R) (c : Contents R D) → c.base ≡ c.records → RecordsAreLikeTheirBase k c
   own_base k c base q there = subst (λ (m : Records R). AreLike k (record_at k m q) (record_at k c.records q)) (sym base) (record { same_type = refl; same_links = refl })

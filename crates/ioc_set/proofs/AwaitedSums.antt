@@ -1,4 +1,4 @@
--- How many records await a completion, as records are dealt to two sets, or set anew.
+-- The number of records that await a completion, as records are divided into two sets or replaced.
 use Rattle.std.proofs.Common.{◌≡◌, ◌≢◌, ◌⊎◌, ℕ, zero, suc, ◌+◌, ◌<◌, ◌≤◌, Bool, true, false, cond, T, List, [], ◌∷◌, Option, Some, None, is_some, unwrap_or, refl, sym, ap, subst, ◌∙◌, ⊎_elim, arith}
 use Rattle.std.specs.Prelude.{IsSome}
 use Rattle.std.specs.Ordering.{nat_cmp, is_eq, eq_by_cmp}
@@ -25,7 +25,7 @@ use Rattle.ioc_workplace.specs.Resting.{resting}
 use Rattle.ioc_set.specs.Linking.{NoneAwaits}
 use Rattle.ioc_set.proofs.Linked.{has_begun}
 
--- ---- sums
+-- Lemmas about sums.
 
 abbrev sum-below : (ℕ → ℕ) → ℕ → ℕ
 sum-below f zero = 0
@@ -43,7 +43,7 @@ sum-none : (f : ℕ → ℕ) (n : ℕ) → ((q : ℕ) → f q ≡ 0) → sum-bel
 sum-none f zero none = refl
 sum-none f (suc n) none = let here = none n in let rest = sum-none f n none in omega arith
 
--- a number alone counts
+-- A single number counts alone.
 module _ (is : ℕ → Bool) (a x : ℕ) (only : (q : ℕ) → is q ≡ true → q ≡ a) (self : is a ≡ true) where
   at-one : (n : ℕ) (b : Bool) → is n ≡ b → (b ≡ true → n ≡ a) → n ≢ a → cond b x 0 ≡ 0
   at-one n true e same apart = absurd (apart (same refl))
@@ -73,7 +73,7 @@ module _ (is : ℕ → Bool) (a x : ℕ) (only : (q : ℕ) → is q ≡ true →
       differ : true ≡ false → ⊥
       differ e = cc
 
--- a number that no key reaches
+-- A number above all keys.
 abbrev top : {X : Type 0} → List (ℕ × X) → ℕ
 top [] = 0
 top (e ∷ es) = e.0 + 1 + top es
@@ -83,7 +83,7 @@ find-none q [] below = refl
 find-none q (e ∷ es) below = ap (λ (r : Ordering). cond (is_eq r) (Some e.1) (find nat_cmp q es)) (less _ (first _ _ below)) ∙ find-none q es (second _ _ below)
 
 module _ {X : Type 0} (weight : X → ℕ) where
-  -- what stands at a number, by what stands there in the rest
+  -- The weight at a number is the sum of the weights there in two maps that share it.
   split-one : (b : Bool) (x : X) (o : Option X) → (b ≡ true → o ≡ None) → weight_of weight (cond b (Some x) o) ≡ cond b (weight x) 0 + weight_of weight o
   split-one true x o none = let is : weight_of weight o ≡ 0 = ap (weight_of weight) (none refl) in omega arith
   split-one false x o none = omega arith
@@ -112,7 +112,7 @@ module _ {X : Type 0} (weight : X → ℕ) where
       (λ s. let here = ap (weight_of weight) s.1 in let gone : weight_of weight p ≡ 0 = ap (weight_of weight) s.0 in omega arith)
       shared
 
-  -- what two share is the sum of what each has
+  -- The sum over a map is the sum over the two maps that share it.
   shared-total : (all one other : FinMap nat_cmp X) → AreShared (get all) (get one) (get other) → total weight (entries all) ≡ total weight (entries one) + total weight (entries other)
   shared-total all one other shared =
       let n = top (entries all) + top (entries one) + top (entries other) in
@@ -135,7 +135,7 @@ module _ {R : Type 0} (k : RecordRules R) where
   unfolding awaited
   awaited-shared all one other shared = shared-total (one_if_awaits k) all one other shared
 
-  -- no more than there are
+  -- At most all records await a completion.
   pub awaited-few : (rs : Records R) → awaited k rs ≤ len rs
   unfolding awaited
   awaited-few rs = omega (arith, len-entries rs, ones_few (one_if_awaits k) (λ r. few-one (is_some (k.common r).pending)) (entries rs))
@@ -152,7 +152,7 @@ module _ {R : Type 0} (k : RecordRules R) where
   weight-at None there = cc
   weight-at (Some r) there = refl
 
-  -- a record that is set anew, with the pending number that it had
+  -- Replacing a record with one that has the same pending number keeps the count.
   pub awaited-set : (rs : Records R) (s : ℕ) (x : R) → IsSome (get rs s) → (k.common x).pending ≡ (k.common (record_at k rs s)).pending → awaited k (insert rs s x) ≡ awaited k rs
   unfolding awaited
   awaited-set rs s x there same =
@@ -162,7 +162,7 @@ module _ {R : Type 0} (k : RecordRules R) where
       omega (arith, all, was, is)
 
   module _ (lawful : IsLawful k) where
-    -- another link in a field
+    -- Setting a link keeps the count.
     pub awaited-relinked : (rs : Records R) (s : ℕ) (field : FieldNo) (link : LinkField) → IsSome (get rs s) → awaited k (relinked k rs s field link) ≡ awaited k rs
     awaited-relinked rs s field link there = awaited-set rs s (k.with_link (record_at k rs s) field link) there (lawful.link_set_pending (record_at k rs s) field link)
 
@@ -172,7 +172,7 @@ module _ {R : Type 0} (k : RecordRules R) where
         let r = record_at k w.records s in
         awaited-set w.records s (k.with_common r (change_numbered (k.common r))) there (ap (λ (c : Common). c.pending) (lawful.common_set r (change_numbered (k.common r))))
 
-    -- a change of a scan list
+    -- A change of a scan list keeps the count.
     awaited-rewired : (before : List ℕ) (w : World R) (s : ℕ) → Has w s → awaited k (rewired k before w s).records ≡ awaited k w.records
     unfolding lost
     awaited-rewired before w s there =
@@ -188,12 +188,12 @@ module _ {R : Type 0} (k : RecordRules R) where
     awaited-rescanned rs after before moment s there is =
         ap (awaited k) is ∙ awaited-rewired before (begun_at moment (resting rs [] [])) s (has_begun rs [] [] moment s there) ∙ ap (awaited k) (begun-records moment rs)
 
-    -- a set falls apart
+    -- If a set is divided, its count is the sum of both.
     pub awaited-parted : (rs stay rest : Records R) (s : ℕ) (field : FieldNo) (link : LinkField) → IsSome (get rs s) → AreShared (get (relinked k rs s field link)) (get stay) (get rest)
         → awaited k rs ≡ awaited k stay + awaited k rest
     awaited-parted rs stay rest s field link there shared = sym (awaited-relinked rs s field link there) ∙ awaited-shared (relinked k rs s field link) stay rest shared
 
-    -- two become one
+    -- If two sets become one, its count is the sum of both.
     pub awaited-joined : (rs others both : Records R) (s : ℕ) (field : FieldNo) (link : LinkField) → IsSome (get rs s) → AreShared (get both) (get (relinked k rs s field link)) (get others)
         → awaited k both ≡ awaited k rs + awaited k others
     awaited-joined rs others both s field link there shared =

@@ -1,4 +1,5 @@
--- Steps that leave every active mark and every pending number as they were: as many records await a completion.
+-- Steps that keep every active mark and every pending number keep the number of records that await
+-- a completion.
 use Rattle.std.proofs.Common.{◌≡◌, ◌≢◌, ℕ, ◌+◌, Bool, true, false, cond, eqb, nat_lt, List, [], ◌∷◌, ◌++◌, map, length, Option, Some, None as Nothing_, is_some, IsTrue, unwrap_or, refl, sym, ap, subst, ◌∙◌, arith}
 use Rattle.std.proofs.lemmas.Grind.{common_steps}
 use Rattle.std.specs.Ordering.{nat_cmp}
@@ -37,7 +38,7 @@ weight-there weight missing Nothing_ is = cc
 weight-there weight missing (Some r) is = refl
 
 module _ {R : Type 0} (k : RecordRules R) where
-  -- the count, as one record is put
+  -- The count after one record is put.
   pub awaited-put : (w : World R) (s : ℕ) (r : R) → Has w s → awaited k (put w s r).records + one_if_awaits k (at k w s) ≡ awaited k w.records + one_if_awaits k r
   unfolding awaited put at
   awaited-put w s r there =
@@ -49,14 +50,15 @@ module _ {R : Type 0} (k : RecordRules R) where
   unfolding put
   put-calls w s r = refl
 
-  -- what holds of the record that is put, and of every other as it was, holds of each
+  -- A property of the record that is put and of every other as it was holds of each record.
   pub each-put : (w : World R) (s : ℕ) (r : R) (P : ℕ → R → Type 0) → P s r → ((n : ℕ) → n ≢ s → P n (at k w n)) → (n : ℕ) → P n (at k (put w s r) n)
   each-put w s r P own others n = elim (eqb n s) as (λ b. eqb n s ≡ b → P n (at k (put w s r) n)) [
     | true ↦ λ is. let e : n ≡ s = grind (arith, common_steps) in subst (λ (q : ℕ). P q (at k (put w s r) q)) (sym e) (subst (P s) (sym (at-put_same k w s r)) own)
     | false ↦ λ is. let apart : n ≢ s = grind (arith, common_steps) in subst (P n) (sym (at-put_other k w s n r apart)) (others n apart)
   ] refl
 
-  -- the records that are there, their links, their active marks and pending numbers, how many await a completion, and the calls of devices
+  -- The records, their links, their active marks and pending numbers, the number of those that
+  -- await a completion, and the device calls are unchanged.
   pub record Alike (w v : World R) : Type 0 where
     pub keeps : Keeps k w v
     pub active : (n : ℕ) → (common_at k v n).active ≡ (common_at k w n).active
@@ -76,7 +78,7 @@ module _ {R : Type 0} (k : RecordRules R) where
     calls = two.calls ∙ one.calls;
   }
 
-  -- ---- a world with the same records
+  -- Lemmas about a world with the same records.
 
   at-same : (w v : World R) → v.records ≡ w.records → (n : ℕ) → at k v n ≡ at k w n
   unfolding at
@@ -131,7 +133,7 @@ module _ {R : Type 0} (k : RecordRules R) where
   alike-unqueued number w = alike-same w _ refl refl
 
 module _ {R : Type 0} (k : RecordRules R) (lawful : IsLawful k) where
-  -- ---- one record is put, with the marks that it had
+  -- Lemmas about putting a record with unchanged marks.
 
   same-weight : (a b : R) → (k.common b).pending ≡ (k.common a).pending → one_if_awaits k b ≡ one_if_awaits k a
   same-weight a b same = ap (λ (o : Option ℕ). cond {A = ℕ} (is_some o) 1 0) same
@@ -182,7 +184,7 @@ module _ {R : Type 0} (k : RecordRules R) (lawful : IsLawful k) where
   unfolding handed_on
   alike-handed_on w s t there = alike-changed w t.number _ there (λ c. (refl, refl)) (λ c. refl) (λ c. refl)
 
-  -- the mark of a put, as it is handed on
+  -- Passing PUTF keeps the links.
   pub mark-links : (by_put : Bool) (c : Common) → OwnLinks c (put_mark_passed by_put c)
   unfolding put_mark_passed
   mark-links by_put c = elim c.active as (λ b. OwnLinks c (cond b c (with_put_mark by_put c))) [
@@ -208,7 +210,7 @@ module _ {R : Type 0} (k : RecordRules R) (lawful : IsLawful k) where
   unfolding disabled
   alike-disabled w s there = alike-changed w s disabled there (λ c. (refl, refl)) (λ c. refl) (λ c. refl)
 
-  -- ---- rules in which nothing is requested
+  -- Lemmas about rules in which nothing is requested.
 
   pub puts-alike : {w : World R} {t : StandingLink} {v : Value} {w' : World R} {stored : Bool} → Puts k w t v w' stored → Has w t.number → Alike k w w'
   unfolding put_untested
@@ -232,7 +234,7 @@ module _ {R : Type 0} (k : RecordRules R) (lawful : IsLawful k) where
   disables-alike (not_given {w}) there = alike-itself k w
   disables-alike (not_read {w}) there = alike-itself k w
 
-  -- ---- a put with notification is given up
+  -- Lemmas about a cancelled put with notification.
 
   freed-same : (m : ℕ) (r : R) → one_if_awaits k (freed k m r) ≡ one_if_awaits k r
   freed-same m r = elim (is_notification m (k.common r).notification) as (λ b. one_if_awaits k (cond b (k.with_common r (with_notification Nothing_ (k.common r))) r) ≡ one_if_awaits k r) [

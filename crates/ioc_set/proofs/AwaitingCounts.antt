@@ -1,4 +1,5 @@
--- How many records await a completion, as an event goes on from a world that it has begun in.
+-- The number of records that await a completion, in the course of an event from the world in which
+-- it began.
 use Rattle.std.proofs.Common.{◌≡◌, ℕ, ◌+◌, Bool, true, false, cond, List, [], ◌∷◌, ◌++◌, length, filter, Option, Some, None as Nothing_, is_some, IsSome, refl, sym, ap, subst, ◌∙◌, append_assoc, arith, length-append}
 use Rattle.std.specs.Prelude.{Contains}
 use Rattle.std.proofs.lemmas.List.Elements.{filter-append}
@@ -22,7 +23,7 @@ use Rattle.ioc_process.specs.Rules.{Gives, next, asked_too_often, no_more_number
 use Rattle.ioc_set.specs.Awaiting.{awaited}
 use Rattle.ioc_set.proofs.AwaitingAlike.{Alike, alike-notified, alike-sent, awaited-put, each-put, keeps-same, put-calls}
 
--- one answer is to come later, or none
+-- One if the answer comes later, and zero otherwise.
 abbrev pub one_if_later : Answer → ℕ
 one_if_later answer = cond (comes_later answer) 1 0
 
@@ -50,8 +51,9 @@ later-more calls call =
     ∙ ap (λ (n : ℕ). later_among calls + n) (later-one call)
 
 module _ {R : Type 0} (k : RecordRules R) (lawful : IsLawful k) (w0 : World R) (closed : IsClosed k w0) where
-  -- in the course of an event that began in w0: as many records await a completion as before, and one more for each answer that is to come
-  -- later, but so many fewer as are due; and no idle record awaits one
+  -- In the course of an event that began in `w0`, as many records await a completion as before,
+  -- plus one for each call that is answered later, minus those that are due; and no idle record
+  -- awaits one.
   pub record Fine (due : ℕ) (w : World R) : Type 0 where
     pub keeps : Keeps k w0 w
     pub made : List Call
@@ -59,7 +61,7 @@ module _ {R : Type 0} (k : RecordRules R) (lawful : IsLawful k) (w0 : World R) (
     pub count : awaited k w.records + due ≡ awaited k w0.records + later_among made
     pub idle : (n : ℕ) → Has w0 n → (common_at k w n).active ≡ false → (common_at k w n).pending ≡ Nothing_
 
-  -- the same, while the body of s is under way, which awaits no completion then
+  -- `Fine` holds while the body of `s` runs, which awaits no completion then.
   pub record Under (due s : ℕ) (w : World R) : Type 0 where
     pub fine : Fine due w
     pub there : Has w0 s
@@ -86,7 +88,7 @@ module _ {R : Type 0} (k : RecordRules R) (lawful : IsLawful k) (w0 : World R) (
   pub begins : {due : ℕ} (s : ℕ) (w : World R) → Has w0 s → (common_at k w s).active ≡ false → Fine due w → Under due s w
   begins s w there idle fine = record { fine = fine; there = there; none = fine.idle s there idle }
 
-  -- the record at work is put, with whatever active mark, and awaits no completion
+  -- Putting the record at work keeps `Under`, with any active mark, if it awaits no completion.
   pub under-put : {due : ℕ} (w : World R) (s : ℕ) (r : R) → SameLinks k (at k w s) r → (k.common r).pending ≡ Nothing_ → Under due s w → Under due s (put w s r)
   under-put w s r links none under =
       let here = under-has under in
@@ -107,7 +109,7 @@ module _ {R : Type 0} (k : RecordRules R) (lawful : IsLawful k) (w0 : World R) (
   under-changed w s f links pending under =
       under-put w s _ (links-set k lawful (at k w s) _ (links _)) (ap (λ (c : Common). c.pending) (lawful.common_set _ _) ∙ pending _ ∙ under.none) under
 
-  -- it waits for its device: one more awaits a completion
+  -- When it waits for its device, one more record awaits a completion.
   pub waits-fine : {due : ℕ} (w : World R) (s : ℕ) → Under (due + 1) s w → Fine due (changed k w s waiting)
   unfolding changed
   waits-fine {due} w s under =
@@ -124,7 +126,7 @@ module _ {R : Type 0} (k : RecordRules R) (lawful : IsLawful k) (w0 : World R) (
             (λ _ idle. absurd (not-both (sym (ap (λ (c : Common). c.active) set) ∙ idle))) (λ n _. under.fine.idle n);
       }
 
-  -- its device has answered at last: one fewer awaits a completion
+  -- When its device has answered later, one record less awaits a completion.
   pub resumes-under : {due : ℕ} (w : World R) (s : ℕ) → Has w0 s → IsSome (common_at k w s).pending → Fine due w → Under (due + 1) s (changed k w s resumed)
   unfolding changed
   resumes-under {due} w s there awaits fine =
@@ -144,7 +146,7 @@ module _ {R : Type 0} (k : RecordRules R) (lawful : IsLawful k) (w0 : World R) (
         none = ap (λ (x : R). (k.common x).pending) (at-put_same k w s r) ∙ none;
       }
 
-  -- ---- a device is called, and what came of its answer
+  -- Lemmas about a device call and its answer.
 
   called-at : (call : Call) (w : World R) (n : ℕ) → common_at k (called call w) n ≡ common_at k w n
   unfolding at called
@@ -180,7 +182,7 @@ module _ {R : Type 0} (k : RecordRules R) (lawful : IsLawful k) (w0 : World R) (
   gives-under answers (asked_too_often _) under = none_due under
   gives-under answers (no_more_numbers _) under = none_due under
 
-  -- s waits for its device, or something came
+  -- Record `s` waits for its device, or it has its input.
   pub data After : ℕ → ℕ → World R → Option Got → Type 0 where
     still_waits : {due s : ℕ} {w : World R} → Fine due w → After due s w Nothing_
     has_come : {due s : ℕ} {w : World R} {got : Got} → Under due s w → After due s w (Some got)
@@ -200,7 +202,7 @@ module _ {R : Type 0} (k : RecordRules R) (lawful : IsLawful k) (w0 : World R) (
   receives-after (a_fault {w}) under = has_come (raised-under w _ (λ c. (refl, refl)) (λ c. refl) under)
   receives-after (not_yet {w} {s}) under = still_waits (waits-fine w s under)
 
-  -- the body goes on, or s waits for its device
+  -- The body continues, or `s` waits for its device.
   pub data AfterOutput : ℕ → ℕ → World R → Bool → Type 0 where
     waits_on : {due s : ℕ} {w : World R} → Fine due w → AfterOutput due s w false
     goes_on : {due s : ℕ} {w : World R} → Under due s w → AfterOutput due s w true
@@ -217,7 +219,7 @@ module _ {R : Type 0} (k : RecordRules R) (lawful : IsLawful k) (w0 : World R) (
   acknowledges-after (written_badly {w}) under = goes_on (raised-under w _ (λ c. (refl, refl)) (λ c. refl) under)
   acknowledges-after (not_written_yet {w} {s}) under = waits_on (waits-fine w s under)
 
-  -- ---- the end of a body
+  -- Lemmas about the end of a body.
 
   rested : {due : ℕ} (w : World R) (s : ℕ) → Under due s w → Fine due (changed k (notified k w s) s at_rest)
   rested w s under =

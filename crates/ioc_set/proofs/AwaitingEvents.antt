@@ -1,4 +1,5 @@
--- Events leave as many records awaiting a completion as before, and one more for each answer that is to come later.
+-- After an event, as many records await a completion as before, plus one for each call that is
+-- answered later.
 use Rattle.std.proofs.Common.{◌≡◌, ℕ, ◌+◌, Bool, true, false, List, [], ◌++◌, length, drop, Option, Some, None as Nothing_, Ok, Err, IsSome, IsTrue, inl, inr, refl, sym, ap, subst, ◌∙◌, append-nil, arith}
 use Rattle.std.specs.Prelude.{◌⊎◌, ◌↔◌, ◌&&◌, Result}
 use Rattle.std.proofs.Math.Seq.{drop-append_seam}
@@ -32,23 +33,23 @@ use Rattle.ioc_set.proofs.AwaitingAlike.{Alike, alike-on, alike-admitted, alike-
 use Rattle.ioc_set.proofs.AwaitingCounts.{Fine, fine-alike}
 use Rattle.ioc_set.proofs.AwaitingRequests.{requested-fine, resumes-fine}
 
--- a refusal completes nothing
+-- A refusal completes nothing.
 refused-none : (event : Event) (e : IocError) → one_if_completes event (Refused e) ≡ 0
 refused-none (Complete s number x) e = refl
 refused-none event e = refl
 
--- after a link change none starts
+-- Nothing starts after a link change.
 link-alone : (event : Event) (reply : Reply) → is_link_change event ≡ true → lets_start event reply ≡ true → ⊥
 link-alone (Link s field link) reply is starts = cc
 link-alone event reply is starts = cc
 
--- an idle record awaits nothing, where one that awaits is active
+-- An idle record awaits nothing, if one that awaits a completion is active.
 none-awaited : (b : Bool) (o : Option ℕ) → (IsTrue b ↔ IsSome o) → b ≡ false → o ≡ Nothing_
 none-awaited b Nothing_ quiet idle = refl
 none-awaited true (Some n) quiet idle = cc
 none-awaited false (Some n) quiet idle = absurd (let is : false ≡ true = quiet.1 refl in cc)
 
--- one that awaits this number awaits a completion
+-- A record that awaits this number awaits a completion.
 is-awaited : (o : Option ℕ) (number : ℕ) → is_pending o number ≡ true → IsSome o
 is-awaited Nothing_ number is = cc
 is-awaited (Some n) number is = refl
@@ -58,7 +59,7 @@ both_left true b is = refl
 both_left false b is = is
 
 module _ {R : Type 0} (k : RecordRules R) (lawful : IsLawful k) (answers : Answers) where
-  -- a put that isn't refused stores a value
+  -- A put that isn't refused stores a value.
   tested-stored : (r r' : R) (field : FieldNo) (given : Input) (tested : Result Unit IocError) → put_once_tested k r field given tested ≡ Ok r' → (v : Value) × (k.stored r field v ≡ r')
   unfolding put_untested
   tested-stored r r' field given (Ok _) is = stored_with k r r' field (converted_for k r field given) is
@@ -88,13 +89,14 @@ module _ {R : Type 0} (k : RecordRules R) (lawful : IsLawful k) (answers : Answe
   unfolding is_ready
   ready-has w x is = both_left _ _ is
 
-  -- what an event leaves: as many as before, one more for each answer that is to come later, one fewer if it completes one
+  -- What an event leaves: as many as before, plus one for each call that is answered later, minus
+  -- one if it completes one.
   record Counts (completed : ℕ) (w v : World R) : Type 0 where
     made : List Call
     calls : v.calls ≡ w.calls ++ made
     count : awaited k v.records + completed ≡ awaited k w.records + later_among made
 
-  -- a link is set, and nothing is requested
+  -- Setting a link requests nothing and keeps the count.
   link-counts : (w v : World R) (s : ℕ) (r : R) → Has w s → (k.common r).pending ≡ (common_at k w s).pending → Alike k (put w s r) v → Counts 0 w v
   link-counts w v s r there pending alike = record {
     made = [];
@@ -121,7 +123,7 @@ module _ {R : Type 0} (k : RecordRules R) (lawful : IsLawful k) (answers : Answe
     on : {due : ℕ} {w v : World R} → Alike k w v → Fine_ due w → Fine_ due v
     on alike fine = fine-alike k lawful w0 settled.closed alike fine
 
-    -- ---- puts with notification that start
+    -- Lemmas about puts with notification that start.
 
     starts-fine : {due : ℕ} {w : World R} {x : Waiting} {w' : World R} {requests : Requests} → Starts k answers w x w' requests → Has w0 x.target → Fine_ due w → Fine_ due w'
     starts-fine (to_be_processed {w} {stored} {w'} {x} is _ r) there fine =
@@ -136,9 +138,9 @@ module _ {R : Type 0} (k : RecordRules R) (lawful : IsLawful k) (answers : Answe
     starts_all-fine (next_starts {w} {w'} {w''} {x} next one others) fine =
         starts_all-fine others (starts-fine one (fine.keeps.only x.target (ready-has w x next.ready)) (on (alike-unqueued k x.number w) fine))
 
-    -- ---- an event by itself
+    -- Lemmas about an event by itself.
 
-    -- it leaves a world in which an event may go on, or it is a link change
+    -- The event leaves a world in which it may continue, or it is a link change.
     abbrev Leaves : Event → Reply → World R → Type 0
     Leaves event reply v = Fine_ (one_if_completes event reply) v ⊎ ((is_link_change event ≡ true) × Counts (one_if_completes event reply) w0 v)
 

@@ -1,4 +1,5 @@
--- Requests leave as many records awaiting a completion as before, and one more for each answer that is to come later: by induction on the rules.
+-- After a request, as many records await a completion as before, plus one for each call that is
+-- answered later: by induction on the rules.
 use Rattle.std.proofs.Common.{◌≡◌, ℕ, ◌+◌, Bool, true, false, List, Option, IsSome, refl, sym, ap, subst, ◌∙◌}
 use Rattle.ioc_values.specs.declared.value.Value.{Value}
 use Rattle.ioc_values.specs.declared.value.Finished.{Finished}
@@ -37,7 +38,7 @@ use Rattle.ioc_set.proofs.AwaitingCounts.{Fine, Under, target-has, fine-alike, u
 not-both : true ≡ false → ⊥
 not-both is = cc
 
--- an active record awaits what it awaited
+-- An active record awaits what it awaited.
 left-pending : {a b : Common} → Left a b → a.active ≡ true → b.pending ≡ a.pending
 left-pending (as_it_was active pending) is = pending
 left-pending (now_waits idle waits some) is = absurd (not-both (sym is ∙ idle))
@@ -53,13 +54,13 @@ module _ {R : Type 0} (k : RecordRules R) (lawful : IsLawful k) (answers : Answe
   unblocked-alike : (w ready : World R) (s : ℕ) → Has w s → ready ≡ changed k w s unblocked → Alike k w ready
   unblocked-alike w ready s there is = subst (Alike k w) (sym is) (alike-changed k lawful w s unblocked there (λ c. (refl, refl)) (λ c. refl) (λ c. refl))
 
-  -- what goes on with the one that is requested, before it is
+  -- What the requested record takes over before its request keeps the marks.
   asked-alike : (w : World R) (s t : ℕ) (by_put : Bool) → Has w t → Alike k w (passed_on k (changed k w t (put_mark_passed by_put)) s t)
   asked-alike w s t by_put there =
       let first = alike-changed k lawful w t (put_mark_passed by_put) there (mark-links k lawful by_put) (mark-active k lawful by_put) (mark-pending k lawful by_put) in
       alike-on k first (alike-passed_on k lawful _ s t (first.keeps.has t there))
 
-  -- a record that is active while others are asked awaits what it awaited
+  -- A record that is active while others are requested awaits what it awaited.
   asks-pending : {w : World R} {s t : ℕ} {w' : World R} {requests : Requests} → Asks k answers w s t w' requests → Has w t → (n : ℕ) → (common_at k w n).active ≡ true
       → (common_at k w' n).pending ≡ (common_at k w n).pending
   asks-pending (for_later {w} {s} {t} _) there n is = (put_down-alike w t there).pending n
@@ -79,19 +80,19 @@ module _ {R : Type 0} (k : RecordRules R) (lawful : IsLawful k) (answers : Answe
   abbrev AfterOutput_ : ℕ → ℕ → World R → Bool → Type 0
   AfterOutput_ = AfterOutput k lawful w0 closed
 
-  -- s raises an alarm
+  -- Raising an alarm of `s` keeps the invariant.
   alarmed : {due : ℕ} (w : World R) (s : ℕ) (f : Common → Common) → ((c : Common) → ((f c).disable_link ≡ c.disable_link) × ((f c).forward_link ≡ c.forward_link)) → ((c : Common) → (f c).pending ≡ c.pending)
       → Under_ due s w → Under_ due s (changed k w s f)
   alarmed w s f links pending under = under-changed k lawful w0 closed w s f links pending under
 
-  -- a record that a link names is there
+  -- A record that a link names exists.
   abbrev Leads : LinkUse → Type 0
   Leads link = (t : StandingLink) → link ≡ Standing t → Has w0 t.number
 
   there-now : {due s : ℕ} {w : World R} → Under_ due s w → (t : ℕ) → Has w0 t → Has w t
   there-now under t there = under.fine.keeps.has t there
 
-  -- s is idle, and SDIS is read
+  -- Record `s` is idle, and SDIS is read.
   readied : {due : ℕ} (w ready : World R) (s : ℕ) → ready ≡ changed k w s unblocked → Has w0 s → (common_at k w s).active ≡ false → Fine_ due w → Under_ due s ready
   readied w ready s r there idle fine =
       under-alike k lawful w0 closed (unblocked-alike w ready s (fine.keeps.has s there) r) (begins k lawful w0 closed s w there idle fine)
@@ -99,7 +100,7 @@ module _ {R : Type 0} (k : RecordRules R) (lawful : IsLawful k) (answers : Answe
   disable-leads : {due : ℕ} {ready : World R} {s : ℕ} → Under_ due s ready → Leads (use_of (common_at k ready s).disable_link)
   disable-leads {ready = ready} {s = s} under t is = target-has k lawful w0 closed under.fine s t.number (lawful.disable_named (at k ready s) t is)
 
-  -- s takes what came
+  -- Record `s` takes its input.
   taken-under : {due : ℕ} (w taken : World R) (s : ℕ) (got : Got) → taken ≡ put w s (k.taken (at k w s) got) → Under_ due s w → Under_ due s taken
   taken-under {due} w taken s got t under = subst (Under_ due s) (sym t) (under-put k lawful w0 closed w s _ (links-taken k lawful _ got) (lawful.taken_pending _ got ∙ under.none) under)
 
@@ -196,7 +197,7 @@ module _ {R : Type 0} (k : RecordRules R) (lawful : IsLawful k) (answers : Answe
     runs-fine (Runs.waits {w} {w'} {s} g) under =
         waiting-fine k lawful w0 closed (gets-after g under (λ t is. target-has k lawful w0 closed under.fine s t.number (lawful.begin_named (at k w s) t is)))
 
-  -- a record whose device answered at last awaits no completion any more
+  -- A record whose device answered later no longer awaits a completion.
   pub resumes-fine : {due : ℕ} {w : World R} {s : ℕ} {x : Finished} {w' : World R} {requests : Requests} → Resumes k answers w s x w' requests → Has w0 s → IsSome (common_at k w s).pending
       → Fine_ due w → Fine_ (due + 1) w'
   resumes-fine (at_last {w} {back} {w'} {w''} {s} {x} b p f) there awaits fine =

@@ -1,4 +1,4 @@
--- How many records await a completion, one record after another.
+-- The number of records that await a completion, one record after another.
 use Rattle.std.proofs.Common.{◌≡◌, ℕ, ◌+◌, ◌≤◌, cond, drop, Option, Some, is_some, ap, ◌∙◌, subst}
 use Rattle.std.specs.Prelude.{slice_get}
 use Rattle.std.specs.FinMap.{len, len-entries, entries, keys}
@@ -10,7 +10,7 @@ use Rattle.ioc_set.specs.Awaiting.{one_if_awaits}
 use Rattle.ioc_workplace.proofs.Entries.{entry-next}
 
 module _ {R : Type 0} (k : RecordRules R) (m : Records R) where
-  -- how many await a completion from a place on
+  -- The number of records from a place on that await a completion.
   pub awaits-at : (i q : ℕ) → slice_get (keys m) i ≡ Some q → (o : Option ℕ) → (k.common (record_at k m q)).pending ≡ o
       → total (one_if_awaits k) (drop i (entries m)) ≡ cond (is_some o) 1 0 + total (one_if_awaits k) (drop (i + 1) (entries m))
   awaits-at i q is o has =

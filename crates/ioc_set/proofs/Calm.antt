@@ -1,4 +1,5 @@
--- Calm records: where no put with notification is live, each record of a sound set is calm, and calm records make a sound set that begins anew.
+-- Calm records: if no put with notification is live, each record of a sound set is calm, and calm
+-- records make a sound set with an empty history.
 use Rattle.std.proofs.Common.{◌≡◌, ◌≢◌, ℕ, ◌<◌, ◌^◌, true, false, cond, eqb, List, [], Option, Some, None, refl, sym, ap, subst, ◌∙◌, arith}
 use Rattle.std.specs.Prelude.{◌↔◌, IsSome, is_some, unwrap_or, Contains}
 use Rattle.std.specs.Option.{option_map}
@@ -25,7 +26,7 @@ pub none_in : {A : Type 0} (x : A) → Contains [] x → ⊥
 none_in x c = let l = c.1 in omega arith
 
 module _ {R : Type 0} (k : RecordRules R) where
-  -- ---- records of a sound set
+  -- Lemmas about the records of a sound set.
 
   module _ (live : (w : World R) (n : ℕ) → IsCounted k w → (is_live n w.live ≡ true) ↔ IsHeld k w n) {D : Type 0} (h : Held R D) (sound : IsSound k h) (none : h.live ≡ []) where
     none_has : (n : ℕ) → Has (now_of h) n → (o : Option ℕ) → (common_at k (now_of h) n).notification ≡ o → o ≡ None
@@ -38,7 +39,7 @@ module _ {R : Type 0} (k : RecordRules R) where
     unfolding at
     sound_calm n there = record { quiet = sound.settled.quiet.quiet n there; free = let is = none_has n there (common_at k (now_of h) n).notification refl in is }
 
-  -- ---- a set of calm records
+  -- Lemmas about a set of calm records.
 
   module _ (missing : targets k k.missing ≡ []) (rs : Records R) (part : IsPart (links_of k rs)) where
     leads : (n target : ℕ) (o : Option R) → get rs n ≡ o → Contains (targets k (unwrap_or o k.missing)) target → IsSome (links_of k rs target)
@@ -68,7 +69,7 @@ module _ {R : Type 0} (k : RecordRules R) where
       short = omega arith;
     }
 
-  -- ---- one record set
+  -- Lemmas about replacing one record.
 
   pub get-insert : (rs : Records R) (s : ℕ) (r : R) (q : ℕ) → get (insert rs s r) q ≡ cond (eqb q s) (Some r) (get rs q)
   get-insert rs s r q = elim (eqb q s) as (λ b. eqb q s ≡ b → get (insert rs s r) q ≡ cond b (Some r) (get rs q)) [

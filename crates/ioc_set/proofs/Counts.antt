@@ -1,4 +1,5 @@
--- Counts that add up: none yet, those of two sets together, and those of two that a set falls apart into.
+-- Counts that add up: the empty ones, those of two sets together, and those of the two parts of a
+-- set that is divided.
 use Rattle.std.proofs.Common.{◌≡◌, ℕ, zero, suc, ◌+◌, ◌-◌, ◌^◌, ◌<◌, ◌≤◌, ◌⊎◌, Bool, true, false, cond, eqb, inl, inr, refl, sym, subst, ◌∙◌, ⊎_elim, arith}
 use Rattle.std.proofs.lemmas.Bool.{eqb-true, eqb-false, cases_lt}
 use Rattle.ioc_ledger.specs.declared.tally.Tally.{Tally}
@@ -15,9 +16,9 @@ none_add_up t none still is = record {
   answers_add_up = inr (omega (arith, none.1.1.1.1.1.0, none.1.1.1.1.1.1, is));
 }
 
--- ---- answers that were to come later, those completed, and those still awaited
+-- Lemmas about calls that are answered later, those completed, and those still awaited.
 
--- two sets have become one
+-- The counts add up after two sets have become one.
 both_full : (s u : ℕ) → s ≡ 2 ^ 64 - 1 → filled s u ≡ 2 ^ 64 - 1
 both_full s u is = omega (arith, is)
 
@@ -43,7 +44,7 @@ both_add_up t u still more_still all one other is = record {
       (both_answers t.started t.completed still u.started u.completed more_still one.answers_add_up other.answers_add_up);
 }
 
--- a set falls apart: the rest
+-- The counts of the rest add up after a set is divided.
 pub rest_adds_up : (count : ℕ) → count < 2 ^ 63 → CountsAddUp (awaited_alone count) count
 rest_adds_up count few = record {
   fits = (omega arith, omega arith, omega arith, omega arith, omega arith);
@@ -52,7 +53,7 @@ rest_adds_up count few = record {
   answers_add_up = inr (omega arith);
 }
 
--- and what stays
+-- The counts of what stays fit after a set is divided.
 left_fits : (s count : ℕ) (b : Bool) → s < 2 ^ 64 → cond b s (s - count) < 2 ^ 64
 left_fits s count true fits = fits
 left_fits s count false fits = omega (arith, fits)
@@ -70,7 +71,7 @@ stay_adds_up t still stays count one is = record {
   answers_add_up = left_answers t.started t.completed still stays count (eqb t.started (2 ^ 64 - 1)) refl one.answers_add_up is;
 }
 
--- both together have the counts that were
+-- Both parts together have the former counts.
 alone_filled : (n : ℕ) → n < 2 ^ 64 → filled n 0 ≡ n
 alone_filled n fits = omega (arith, fits)
 
@@ -90,12 +91,12 @@ parts_add_up t still stays count one is = λ i. record {
   completed = alone_filled t.completed one.answers_fit.1 i;
 }
 
--- an event: so many answers more are to come later, and one is completed or none
+-- After an event, this many more calls are answered later, and one or none is completed.
 more_is_filled : (s later : ℕ) → s < 2 ^ 64 → more_by s later ≡ filled s later
 more_is_filled s zero fits = omega (arith, fits)
 more_is_filled s (suc later) fits = refl
 
--- with one completed, or none
+-- The count with one or none completed.
 abbrev one_completed : Bool → ℕ → ℕ
 one_completed true c = more c
 one_completed false c = c
@@ -113,7 +114,7 @@ then_answers s c still later after b (inl is) law = inl (omega (arith, is))
 then_answers s c still later after b (inr one) law =
     ⊎_elim (λ few. inr (exact s c still later after b one law few)) (λ many. inl (omega (arith, many))) (cases_lt (s + later) (2 ^ 64 - 1))
 
--- the counts that stand beside those of the requests
+-- The counts beside those of the requests.
 pub record AnswersAddUp (t : Tally) (still : ℕ) : Type 0 where
   pub fit : (t.started < 2 ^ 64) × (t.completed < 2 ^ 64)
   pub add_up : (t.started ≡ 2 ^ 64 - 1) ⊎ (t.started ≡ t.completed + still)

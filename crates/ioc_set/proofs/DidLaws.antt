@@ -1,4 +1,4 @@
--- An event on the records of a set, by what its code says of the store with which it was done.
+-- An event on the records of a set, in terms of its code and the store on which it was done.
 use Rattle.std.proofs.Common.{◌≡◌, ◌≢◌, ℕ, true, false, List, [], ◌∷◌, ◌++◌, refl, sym, ap, ◌∙◌, subst}
 use Rattle.ioc_device.specs.declared.Ask.{Ask}
 use Rattle.ioc_device.specs.declared.Answer.{Answer}
@@ -30,7 +30,7 @@ use Rattle.ioc_workplace.specs.Resting.{resting}
 use Rattle.ioc_set.specs.Doing.{with_kept, Did}
 use Rattle.ioc_workplace.proofs.AttachedLaws.{base_kept, worked}
 
--- an event begins on a store that has these records and these puts with notification
+-- An event begins on a store that has these records and these puts with notification.
 pub starts : {R D : Type 0} (s : SetStore R D) (rs : Records R) (live : List Live) (waiting : List Waiting) (moment : ℕ) → s.members.records ≡ rs → (world_of s).live ≡ live → (world_of s).waiting ≡ waiting
     → begun_at moment (world_of s) ≡ begun_at moment (resting rs live waiting)
 unfolding begun_at begun
@@ -83,7 +83,7 @@ module _ {R D : Type 0} (k : RecordRules R) (gives : D → Ask → ℕ → Answe
       stays w done.world entry (and_then step used at_the_end) counted nobody
       (λ n is. other (begin (listed answers) w0 done.world event reply done.requests n step is))
 
-  -- where no room was taken for puts with notification, none is live after it
+  -- If no room was reserved for puts with notification, none is live afterwards.
   pub none_here : (is_put_with_notification event ≡ true → was.has_room ≡ true) → (was.has_room ≡ false → AreNone was) → IsCounted k w → was.has_room ≡ false → ((world_of s').live ≡ []) × ((world_of s').waiting ≡ [])
   none_here room roomless counted without =
       let n = none (λ put. let z : false ≡ true = sym without ∙ room put in cc) counted (roomless without).0 in
@@ -104,7 +104,7 @@ module _ {R D : Type 0} (k : RecordRules R) (gives : D → Ask → ℕ → Answe
         (subst (λ (m : ℕ). DevicesWork (AttachedGives {R = R} gives) (attached_in s.members) m done.world.calls (attached_in s'.members)) at
         (subst (λ (l : List Call). DevicesWork (AttachedGives {R = R} gives) (attached_in s.members) (given_of s).moment l (attached_in s'.members)) calls begins.work)))
 
-    -- what the event has come to, with what the set has taken back
+    -- The state of the event, with what the set has taken back.
     same_world : with_kept after.records is.live is.waiting (world_of (record { members = left; event = record s'.event { notifications = back } })) ≡ world_of s'
     same_world = λ i. record {
       records = (now i).records;

@@ -1,4 +1,4 @@
--- What a lock set holds once an event was done on its records.
+-- The state of a lock set after an event was done on its records.
 use Rattle.std.proofs.Common.{◌≡◌, ◌≤◌, ◌<◌, ℕ, Bool, true, false, cond, List, [], ◌∷◌, ◌++◌, length, refl, sym, ap, ◌∙◌, subst, arith}
 use Rattle.std.specs.Prelude.{◌==◌}
 use Rattle.std.proofs.lemmas.Bool.Decides.{nat_tests}
@@ -62,11 +62,11 @@ module _ {R D : Type 0} where
   placed_short true h is short = omega arith
   placed_short false h is short = below_full (length h.history) is short
 
-  -- a place for one event more changes nothing of what is there now
+  -- Making a place for one more event keeps the current state.
   pub now_kept : (h h' : Held R D) → h' ≡ with_place h → now_of h' ≡ now_of h
   now_kept h h' is = ap (λ (z : Held R D). now_of z) is ∙ placed_now (length h.history == 64) h
 
-  -- what a set holds speaks of no room
+  -- The state of a set doesn't depend on the reserved room.
   pub same_held : (c : Contents R D) (p q : Puts) (b t : Tally) (entries : List Entry) → q.live ≡ p.live → q.waiting ≡ p.waiting → q.base_live ≡ p.base_live → q.base_waiting ≡ p.base_waiting
       → held_by c q b t entries ≡ held_by c p b t entries
   same_held c p q b t entries live waiting base_live base_waiting = λ i. record {

@@ -1,4 +1,5 @@
--- Records that are held with puts with notification: those of a sound set, and of sound sets that begin anew.
+-- Records that are held with puts with notification: those of a sound set, and those of sound sets
+-- with empty histories.
 use Rattle.std.proofs.Common.{◌≡◌, ℕ, zero, suc, ◌+◌, ◌<◌, ◌≤◌, ◌^◌, Bool, true, false, cond, eqb, nat_eq, not, nat_lt, List, [], ◌∷◌, length, Option, Some, None, refl, sym, ap, subst, ◌∙◌, ⊎_elim, arith}
 use Rattle.std.specs.Prelude.{◌↔◌, ◌&&◌, IsSome, IsTrue, is_some, unwrap_or, Contains}
 use Rattle.std.specs.FinMap.{get, insert, contains_key, entries, len}
@@ -45,7 +46,7 @@ never_ready false active noted is = refl
 never_ready true active noted is = ap (λ (a : Bool). not a && not noted) (is refl)
 
 module _ {R : Type 0} (k : RecordRules R) where
-  -- ---- records of a sound set
+  -- Lemmas about the records of a sound set.
 
   module _ {D : Type 0} (h : Held R D) (sound : IsSound k h) where
     pub sound_held : AreHeld k h.records h.live h.waiting
@@ -67,7 +68,7 @@ module _ {R : Type 0} (k : RecordRules R) where
     sound_fewer = fewer (λ (x : Waiting). x.number) (λ (l : Live). l.number) h.waiting h.live
         (λ n. no_more (total (one_if_has k n) (entries h.records)) (how_many (λ (x : Waiting). x.number) n h.waiting) (lives n h.live) (sound.counted.counted.waits_once n) (sound.counted.counted.live n))
 
-  -- ---- a set of records that are held
+  -- Lemmas about a set of records that are held.
 
   pub held_sound : targets k k.missing ≡ [] → (rs : Records R) → IsPart (links_of k rs) → (live : List Live) (waiting : List Waiting) → AreHeld k rs live waiting → len rs < 2 ^ 63
       → {D : Type 0} (ds : Devices D) (counts : Tally) → CountsAddUp counts (awaited k rs) → IsSound k (anew rs ds live waiting counts)
@@ -87,7 +88,7 @@ module _ {R : Type 0} (k : RecordRules R) where
     short = omega arith;
   }
 
-  -- ---- records as they were, for all that notifications see
+  -- Lemmas about records that are equal as far as notifications depend on them.
 
   pub record AreSame (r s : R) : Type 0 where
     pub active : (k.common s).active ≡ (k.common r).active
@@ -97,7 +98,7 @@ module _ {R : Type 0} (k : RecordRules R) where
   pub same_itself : (r : R) → AreSame r r
   same_itself r = record { active = refl; pending = refl; notification = refl }
 
-  -- these are some of those
+  -- These records are some of those.
   pub record Within (all some : Records R) : Type 0 where
     pub there : (n : ℕ) → IsSome (get some n) → IsSome (get all n)
     pub same : (n : ℕ) → IsSome (get some n) → AreSame (record_at k all n) (record_at k some n)
@@ -130,7 +131,7 @@ module _ {R : Type 0} (k : RecordRules R) where
     same = λ n is. ⊎_elim (λ p. absurd (none_some (get other n) p.1 is)) (λ p. one_same all other n p.1) (shared n);
   }
 
-  -- with one record set anew
+  -- Replacing one record adds none.
   set_there : (b : Bool) (x : R) (o : Option R) → (b ≡ true → IsSome o) → IsSome (cond b (Some x) o) → IsSome o
   set_there true x o here is = here refl
   set_there false x o here is = is
@@ -147,14 +148,14 @@ module _ {R : Type 0} (k : RecordRules R) where
   }
 
   module _ (lawful : IsLawful k) where
-    -- another link in a field
+    -- Setting a link keeps the relation.
     pub within_relinked : (rs : Records R) (s : ℕ) (field : FieldNo) (link : LinkField) → IsSome (get rs s) → Within rs (relinked k rs s field link)
     within_relinked rs s field link there =
         let same = lawful.link_set_common (record_at k rs s) field link in
         within_set rs s (k.with_link (record_at k rs s) field link) there
         (record { active = ap (λ (c : Common). c.active) same; pending = ap (λ (c : Common). c.pending) same; notification = ap (λ (c : Common). c.notification) same })
 
-  -- ---- some of the records that are held
+  -- Lemmas about some of the records that are held.
 
   pub part_live : (all some : Records R) (waiting : List Waiting) (live : List Live) → Within all some → AreLive k all waiting live → AreLive k some waiting live
   part_live all some waiting live within are = record {
@@ -177,10 +178,10 @@ module _ {R : Type 0} (k : RecordRules R) where
     counted = counted;
   }
 
-  -- ---- a change of a scan list
+  -- Lemmas about a change of a scan list.
 
   module _ (lawful : IsLawful k) (live : List Live) (waiting : List Waiting) where
-    -- as it was, and as many have each
+    -- The records are held as before, with the same parts of each put with notification.
     pub record StaysHeld (before after : Records R) : Type 0 where
       pub within : Within before after
       pub counted : HoldersCounted k (resting after live waiting)
@@ -225,7 +226,7 @@ module _ {R : Type 0} (k : RecordRules R) where
         (moved-either k (λ (x : World R). StaysHeld w.records x.records) w s
         (λ item. subst (λ (x : World R). StaysHeld w.records x.records) (sent_by item (changed k w s change_numbered)) (numbered-stays w s there counted)) (itself-stays w counted))
 
--- where none is live on either, two sets may become one
+-- Two sets on which none is live may become one.
 pub none_may : {R D : Type 0} (h other : Held R D) → NoneIsLive h → NoneIsLive other → MayBeOne h other
 none_may h other none other_none =
     let no : ℕ = length (together [] []) in
@@ -240,7 +241,7 @@ none_may h other none other_none =
       waiting_fits = omega (arith, waits, other_waits);
     }
 
--- ---- those that wait go along
+-- Lemmas about waiting puts that stay with their records.
 
 own-one : (n t : ℕ) (here : Bool) → (eqb t n ≡ true → here ≡ true) → here ≡ false → eqb t n ≡ false
 own-one n t here has is = elim (eqb t n) as (λ b. (b ≡ true → here ≡ true) → b ≡ false) [

@@ -28,7 +28,7 @@ use Rattle.ioc_workplace.proofs.Fewer.{fewer}
 use Rattle.ioc_workplace.proofs.Gathered.{passes-there, together-count, dead}
 use Rattle.ioc_set.proofs.HeldRecords.{AreSame, Within, within_relinked, same_itself}
 
--- ---- live on one of two
+-- Lemmas about those that are live on one of two sets.
 
 pub together-first : (n : ℕ) (one other : List Live) → is_live n one ≡ true → is_live n (together one other) ≡ true
 together-first n one other is = some-live n (together one other) (omega (arith, together-count n one other true is, live-some n one is))
@@ -40,7 +40,7 @@ second-case n one other is false here = some-live n (together one other) (omega 
 pub together-second : (n : ℕ) (one other : List Live) → is_live n other ≡ true → is_live n (together one other) ≡ true
 together-second n one other is = second-case n one other is (is_live n one) refl
 
--- ---- how often one is there
+-- Lemmas about how often one is there.
 
 later : {X : Type 0} (y : X) (xs : List X) (x : X) → Contains xs x → Contains (y ∷ xs) x
 later y xs x (i, lt, is) = (suc i, omega (arith, lt), is)
@@ -80,7 +80,7 @@ joined_once ws xs apart one other n =
     omega (arith, how_many-append f n ws xs, once-case n ws xs apart (how_many f n ws) refl (how_many f n xs) refl (one n) (other n))
 
 module _ {R : Type 0} (k : RecordRules R) where
-  -- ---- the records of two that have become one
+  -- Lemmas about the records of two sets that have become one.
 
   module _ (lawful : IsLawful k) (rs others both : Records R) (s : ℕ) (field : FieldNo) (link : LinkField) (there : IsSome (get rs s)) (shared : AreShared (get both) (get (relinked k rs s field link)) (get others)) where
     abbrev linked : Records R
@@ -158,7 +158,7 @@ module _ {R : Type 0} (k : RecordRules R) where
       counted = counted;
     }
 
--- ---- what stays of a set may become one with another, if the set may
+-- If a set may become one with another, so may what stays of it.
 
 there-passes : {X : Type 0} (p : X → Bool) (xs : List X) (x : X) → Contains xs x → p x ≡ true → Contains (filter p xs) x
 there-passes p [] x h is = absurd (omega (arith, h.1))

@@ -1,4 +1,4 @@
--- A link that is led from one set into another: what its steps come to.
+-- The result of the steps by which a link leads from one set into another.
 use Rattle.std.proofs.Common.{◌≡◌, ◌≤◌, ℕ, nat_lt, Bool, true, false, cond, eqb, List, [], Option, Some, None, refl, sym, ap, subst, ◌∙◌, ⊎_elim, arith}
 use Rattle.std.specs.Prelude.{IsSome, is_some, unwrap_or, Contains}
 use Rattle.std.specs.FinMap.{get, insert}
@@ -26,7 +26,7 @@ use Rattle.ioc_workplace.proofs.Counting.{few-one}
 use Rattle.ioc_set.proofs.Calm.{get-insert, none_in}
 use Rattle.ioc_workplace.proofs.Entries.{none_some}
 
--- an empty link leads nowhere
+-- An empty link leads nowhere.
 nowhere : named_by (use_of no_link) ≡ []
 unfolding use_of
 nowhere = refl
@@ -42,7 +42,7 @@ module _ {R : Type 0} (k : RecordRules R) where
   some-before true x o here some = here refl
   some-before false x o here some = some
 
-  -- no record comes by a link that is set
+  -- Setting a link adds no record.
   set-before : (rs : Records R) (s q : ℕ) (x : R) → IsSome (get rs s) → IsSome (get (insert rs s x) q) → IsSome (get rs q)
   set-before rs s q x there some =
       some-before (eqb q s) x (get rs q)
@@ -52,7 +52,7 @@ module _ {R : Type 0} (k : RecordRules R) where
   set-here : (rs : Records R) (s : ℕ) (x : R) → get (insert rs s x) s ≡ Some x
   set-here rs s x = let e : eqb s s ≡ true = grind (arith, common_steps) in get-insert k rs s x s ∙ ap (λ (b : Bool). cond b (Some x) (get rs s)) e
 
-  -- what one of two has is in all, as it is there
+  -- What one of two sets has is in all, as it is there.
   one-is : (all one other : Records R) → AreShared (get all) (get one) (get other) → (q : ℕ) → IsSome (get one q) → get one q ≡ get all q
   one-is all one other shared q there = ⊎_elim (λ p. p.0) (λ p. absurd (none_some (get one q) p.0 there)) (shared q)
 
@@ -61,7 +61,7 @@ module _ {R : Type 0} (k : RecordRules R) where
     stays-apart others there apart q some =
         apart q (set-before rs s q (k.with_link (record_at k rs s) field link) there (subst (λ (o : Option R). IsSome o) (one-is (relinked k rs s field link) stay rest shared q some) some))
 
-    -- the link is free then
+    -- The link leads nowhere then.
     pub is-free : IsLawful k → HasLink k rs s field → IsSome (get stay s) → link ≡ no_link → HasFreeLink k stay s field
     is-free lawful has own is =
         let r = record_at k rs s in
@@ -74,7 +74,7 @@ module _ {R : Type 0} (k : RecordRules R) where
           ap (λ (o : Option LinkField). named_by_field o) set ∙ leads_nowhere link is,
         )
 
-  -- who had the record before two became one has it then
+  -- The set that had the record before two became one has it afterwards.
   pub both-have : (both stay others : Records R) (s : ℕ) (field : FieldNo) (link : LinkField) → AreShared (get both) (get (relinked k stay s field link)) (get others) → IsSome (get both s)
   both-have both stay others s field link shared =
       let here = set-here stay s (k.with_link (record_at k stay s) field link) in
@@ -105,7 +105,7 @@ module _ {R D : Type 0} (k : RecordRules R) (h other begun stay both rest after 
     then_anew = held;
   }
 
-  -- what stays may become one with the other, if the set may
+  -- If the set may become one with the other, so may what stays of it.
   module _ (falls : FallsApart begun (relinked k begun.records s field none) s stay rest) where
     pub none_stays : NoneIsLive begun → NoneIsLive stay
     none_stays dead = (falls.none_live dead).0

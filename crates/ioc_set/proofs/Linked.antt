@@ -1,4 +1,4 @@
--- What holds of lock sets after a link change.
+-- The invariant of lock sets after a link change.
 use Rattle.std.proofs.Common.{◌≡◌, ℕ, ◌<◌, ◌^◌, List, [], ◌++◌, refl, sym, ap, subst, ◌∙◌}
 use Rattle.std.specs.Prelude.{IsSome}
 use Rattle.std.specs.FinMap.{get, len}
@@ -49,7 +49,7 @@ unfolding begun_at begun
 stays_begun k lawful rs after moment live waiting stays = stays
 
 module _ {R : Type 0} (k : RecordRules R) where
-  -- ---- a change of a scan list
+  -- Lemmas about a change of a scan list.
 
   module _ (lawful : IsLawful k) (rs after : Records R) (before : List ℕ) (moment s : ℕ) (there : IsSome (get rs s))
       (is : after ≡ (rewired k before (begun_at moment (resting rs [] [])) s).records) where
@@ -67,9 +67,9 @@ module _ {R : Type 0} (k : RecordRules R) where
         (part_held k rs (rewired k before (begun_at moment (resting rs [] [])) s).records live live waiting waiting stays.within held (λ x c. c) stays.counted)
 
 module _ {R : Type 0} (k : RecordRules R) where
-  -- ---- a set that falls apart
+  -- Lemmas about a set that is divided.
 
-  -- those that are kept when a history begins
+  -- The puts with notification when a history begins are live with their records.
   pub begun_live : (was now : Records R) (p q : Puts) → now ≡ was → q ≡ begun_with p → AreLive k was p.waiting p.live → AreLive k now q.waiting q.live
   begun_live was now p q same is live = subst (λ (x : Puts). AreLive k now x.waiting x.live) (sym is) (subst (λ (rs : Records R). AreLive k rs p.waiting p.live) (sym same) live)
 
@@ -84,7 +84,7 @@ module _ {R : Type 0} (k : RecordRules R) where
     rest_within = within_on k rs (relinked k rs s field link) rest (within_relinked k lawful rs s field link there) (within_second k (relinked k rs s field link) stay rest shared)
 
 module _ {R D : Type 0} (k : RecordRules R) where
-  -- what holds of a set whose history is forgotten
+  -- The invariant of a set whose history is cleared.
   pub folded_holds : (before after : Contents R D) (p q : Puts) (b b' t : Tally) (entries entries' : List Entry) → after ≡ record before { base = before.records } → q ≡ begun_with p → b' ≡ t → entries' ≡ []
       → IsSound k (held_by before p b t entries) → IsSound k (held_by after q b' t entries') × RecordsAreLikeTheirBase k after
   folded_holds before after p q b b' t entries entries' is puts same none sound = (
@@ -92,7 +92,7 @@ module _ {R D : Type 0} (k : RecordRules R) where
     own_base k after (ap (λ (c : Contents R D). c.base) is ∙ sym (ap (λ (c : Contents R D). c.records) is)),
   )
 
-  -- and of one that begins anew
+  -- The invariant of a set with an empty history.
   module _ (sound : (rs : Records R) (ds : Devices D) (live : List Live) (waiting : List Waiting) (counts : Tally) → IsPart (links_of k rs) → AreHeld k rs live waiting → len rs < 2 ^ 63 → CountsAddUp counts (awaited k rs)
       → IsSound k (anew rs ds live waiting counts)) where
     pub anew_holds : (c : Contents R D) (p : Puts) (b t : Tally) (entries : List Entry) → HasBegun p → c.base ≡ c.records → b ≡ t → entries ≡ [] → IsPart (links_of k c.records) → AreHeld k c.records p.live p.waiting
@@ -110,7 +110,7 @@ module _ {R D : Type 0} (k : RecordRules R) where
     own_base k c base,
   )
 
-  -- ---- a set falls apart, or two become one
+  -- Lemmas about a set that is divided, and about two that become one.
 
   pub fell_apart : (s : ℕ) (field : FieldNo) (link : LinkField) (h : Held R D) (was stay rest : Contents R D) (whole p q : Puts) (count : ℕ) (b t u v : Tally) (entries rest_entries : List Entry)
       → was.records ≡ h.records → was.devices ≡ h.devices → t ≡ less_awaited h.tally count → whole.live ≡ h.live → whole.waiting ≡ h.waiting

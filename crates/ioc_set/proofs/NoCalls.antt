@@ -1,4 +1,4 @@
--- What is no call would be refused for that, and change nothing.
+-- A get or a put that is no call would be refused with its error, and change nothing.
 use Rattle.std.proofs.Common.{◌≡◌, ℕ, zero, true, false, if◌then◌else◌, List, [], ◌∷◌, Option, Some, None, Result, Ok, Err, refl, sym, ap, arith}
 use Rattle.std.specs.Prelude.{Contains, is_some, unwrap_or}
 use Rattle.std.specs.Option.{IfSome}

@@ -1,4 +1,5 @@
--- Where no put with notification is live, none waits, and none begins by an event that doesn't say so.
+-- If no put with notification is live, none waits, and none begins by an event whose reply doesn't
+-- report it.
 use Rattle.std.proofs.Common.{◌≡◌, ◌≢◌, ℕ, true, false, List, [], ◌∷◌, get_or, refl, sym, ap, ◌∙◌, subst, arith}
 use Rattle.std.specs.Prelude.{◌↔◌, Contains, ◌==◌, ◌||◌}
 use Rattle.std.specs.List.{list_any}

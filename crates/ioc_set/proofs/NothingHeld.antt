@@ -76,12 +76,12 @@ module _ {R : Type 0} (k : RecordRules R) (missing : targets k k.missing ≡ [])
     closed = λ a b n. absurd (none_some n.0 (sym (ap (λ (o : Option R). option_map (targets k) o) (none_at a)) ∙ n.1));
   }
 
--- no record awaits a completion
+-- No record awaits a completion.
 none_awaited : {R : Type 0} (k : RecordRules R) → awaited k (empty {K = ℕ} {X = R} {R = nat_cmp}) ≡ 0
 unfolding awaited
 none_awaited k = ap (total (one_if_awaits k)) no_entries
 
--- a set of nothing
+-- An empty set has nothing.
 pub none_held : {R D : Type 0} (c : Contents R D) (p : Puts) (b t : Tally) (entries : List Entry) → c ≡ nothing → WereNone p → b ≡ no_counts → t ≡ no_counts → entries ≡ [] → held_by c p b t entries ≡ nothing_held
 none_held c p b t entries none puts before counts forgotten = λ i. record {
   records = (none i).records;

@@ -1,4 +1,4 @@
--- A link change after which a set falls apart: what its steps come to.
+-- The result of the steps of a link change that divides a set.
 use Rattle.std.proofs.Common.{◌≡◌, ℕ, List, refl, sym, ap, subst, ◌∙◌}
 use Rattle.std.specs.Prelude.{IsSome, Contains}
 use Rattle.std.specs.FinMap.{get}
@@ -24,7 +24,7 @@ has_records : {R : Type 0} (w : World R) (n : ℕ) → Has w n → IsSome (get w
 has_records w n there = there
 
 module _ {R D : Type 0} (k : RecordRules R) (h : Held R D) (moment s : ℕ) (field : FieldNo) (link : LinkField) where
-  -- the records with the link set, and its device link before
+  -- The records with the link set, and the device link before.
   abbrev linked : Records R
   linked = relinked k h.records s field link
 

@@ -1,4 +1,4 @@
--- A change of a scan list, sent by a set: what it leaves of the records and what stands beside them.
+-- A change of a scan list, sent by a set: what it leaves of the records and of the rest.
 use Rattle.std.proofs.Common.{◌≡◌, ◌⊎◌, ℕ, ◌+◌, ◌-◌, ◌^◌, Bool, true, false, cond, eqb, List, [], ◌∷◌, Option, Some, None, nat_lt, nat_eq, refl, sym, ap, subst, ◌∙◌, inl, inr, arith}
 use Rattle.std.specs.Prelude.{IsSome, unwrap_or}
 use Rattle.std.specs.FinMap.{get, insert}
@@ -25,7 +25,7 @@ use Rattle.ioc_set.specs.Doing.{with_records, with_kept}
 use Rattle.ioc_set.proofs.Calm.{get-insert}
 use Rattle.ioc_workplace.proofs.Entries.{none_some}
 
--- what an event has come to in a store whose records were exchanged for those of a set
+-- The state of an event in a store whose records were swapped with those of a set.
 pub came_to : {R D : Type 0} (s' s'' : SetStore R D) (after : Contents R D) (w : World R) → after ≡ s'.members → s''.event ≡ s'.event → world_of s' ≡ w
     → with_records after.records (world_of s'') ≡ w
 came_to s' s'' after w now same told = (λ i. with_records (now i).records (world_of (record { members = s''.members; event = same i }))) ∙ told
@@ -39,7 +39,7 @@ unfolding begun_at begun
 waiting_begun moment rs = refl
 
 module _ {R : Type 0} (k : RecordRules R) where
-  -- no put with notification becomes live or waits by it
+  -- It makes no put with notification live or waiting.
   moved-live : (w : World R) (s : ℕ) → (moved k w s).live ≡ w.live
   unfolding changed put lost
   moved-live w s = moved-either k (λ (x : World R). x.live ≡ w.live) w s (λ item. ap (λ (x : World R). x.live) (sym (sent_by item _))) refl
@@ -58,11 +58,12 @@ module _ {R : Type 0} (k : RecordRules R) where
   rewired-keeps lawful before w s there = rewired-either k (Keeps k w) before w s (keeps_all k w) (moved-keeps k lawful w s there)
 
   module _ (moment s : ℕ) (before : List ℕ) where
-    -- an event begins on these records, with these puts with notification
+    -- An event begins on these records, with these puts with notification.
     abbrev begins : List Live → List Waiting → Records R → World R
     begins live waiting rs = begun_at moment (resting rs live waiting)
 
-    -- the record stands for the same device, or not; and there is a number for a change of its scan list, or not
+    -- The record with the next number for a change of its scan list. In `rescans`, `same` holds if
+    -- the device link is the same, and `room` if a number is left.
     abbrev numbered : R → R
     numbered r = k.with_common r (change_numbered (k.common r))
 
@@ -86,7 +87,8 @@ module _ {R : Type 0} (k : RecordRules R) where
     goes_on : (live : List Live) (waiting : List Waiting) (rs : Records R) (r : R) → record_at k rs s ≡ r → rewired k before (begins live waiting rs) s ≡ rescans live waiting (is_same r) (has_room r) rs r
     goes_on live waiting rs r is = goes live waiting rs ∙ ap (λ (x : R). rescans live waiting (is_same x) (has_room x) rs x) is
 
-    -- beside the records and the puts with notification it comes to the same on others, if that record is the same there
+    -- Apart from the records and the puts with notification, the result is the same on other
+    -- records, if that record is the same there.
     alike : (live others_live : List Live) (waiting others_waiting : List Waiting) (same room : Bool) (r : R) (some others : Records R)
         → with_kept (rescans live waiting same room some r).records live waiting (rescans others_live others_waiting same room others r) ≡ rescans live waiting same room some r
     unfolding begun_at begun
@@ -103,7 +105,7 @@ module _ {R : Type 0} (k : RecordRules R) where
         ∙ alike live others_live waiting others_waiting (is_same r) (has_room r) r some others
         ∙ sym (goes live waiting some)
 
-    -- the records come to the same whatever is live and waits
+    -- The records in the result don't depend on what is live or waits.
     alike_records : (live others_live : List Live) (waiting others_waiting : List Waiting) (same room : Bool) (r : R) (rs : Records R) → (rescans live waiting same room rs r).records ≡ (rescans others_live others_waiting same room rs r).records
     unfolding begun_at begun
     alike_records live others_live waiting others_waiting true room r rs = refl
@@ -115,7 +117,7 @@ module _ {R : Type 0} (k : RecordRules R) where
         let r = record_at k rs s in
         ap (λ (w : World R). w.records) (goes live waiting rs) ∙ alike_records live others_live waiting others_waiting (is_same r) (has_room r) r rs ∙ sym (ap (λ (w : World R). w.records) (goes others_live others_waiting rs))
 
-    -- done with no puts with notification, it is the same with those that the set keeps
+    -- The result without puts with notification is the same as with those of the set.
     pub rewired_beside : (live : List Live) (waiting : List Waiting) (rs after : Records R) (come_to : World R) → with_records after come_to ≡ rewired k before (begins [] [] rs) s
         → with_kept after live waiting come_to ≡ rewired k before (begins live waiting rs) s
     rewired_beside live waiting rs after come_to left =
@@ -123,9 +125,10 @@ module _ {R : Type 0} (k : RecordRules R) where
         ∙ ap (λ (x : Records R). with_kept x live waiting (rewired k before (begins [] [] rs) s)) (rewired_records [] live [] waiting rs)
         ∙ rescanned_left live [] waiting [] rs rs refl
 
-    -- ---- records that are shared stay so
+    -- Lemmas that shared records stay shared.
 
-    -- what stands at one number, which is that of the record or not
+    -- A value at one number is shared after the change, whether it is the number of the record or
+    -- not.
     shared_one : (b : Bool) (x : R) (whole part rest : Option R) → (b ≡ true → IsSome part) → ((part ≡ whole) × (rest ≡ None)) ⊎ ((part ≡ None) × (rest ≡ whole))
         → ((cond b (Some x) part ≡ cond b (Some x) whole) × (rest ≡ None)) ⊎ ((cond b (Some x) part ≡ None) × (rest ≡ cond b (Some x) whole))
     shared_one true x whole part rest has (inl p) = inl (refl, p.1)
@@ -152,7 +155,7 @@ module _ {R : Type 0} (k : RecordRules R) where
     shared_rescanned live stay_live waiting stay_waiting false true r all one rest shared there = shared_set (numbered r) all one rest shared there
     shared_rescanned live stay_live waiting stay_waiting false false r all one rest shared there = shared
 
-    -- who has the record in one has it in all
+    -- The record in one of two sets is the record in all.
     pub own_record : (all one rest : Records R) → AreShared (get all) (get one) (get rest) → IsSome (get one s) → record_at k one s ≡ record_at k all s
     own_record all one rest shared there = elim (shared s) [
       | inl p ↦ ap (λ (o : Option R). unwrap_or o k.missing) p.0

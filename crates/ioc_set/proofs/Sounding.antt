@@ -1,4 +1,4 @@
--- What holds of a lock set whenever it is free, after an event.
+-- The invariant of a lock set, after an event.
 use Rattle.std.proofs.Common.{◌≡◌, ℕ, ◌<◌, ◌+◌, Option, Some, None, false, true, List, [], ◌∷◌, ◌++◌, length, refl, sym, ap, ◌∙◌, subst, arith}
 use Rattle.std.specs.Prelude.{IsSome, Bool, if◌then◌else◌, unwrap_or}
 use Rattle.std.specs.Option.{option_map}
@@ -28,7 +28,7 @@ use Rattle.ioc_workplace.specs.Resting.{resting}
 use Rattle.ioc_set.specs.Sound.{IsSound, TellsOf}
 use Rattle.ioc_set.proofs.Counts.{AnswersAddUp, answers_same, answers_then}
 
--- later answers and completions are counted beside the requests
+-- Calls that are answered later and completions are counted beside the requests.
 fits_beside : (completes : Bool) (t : Tally) (later : ℕ) → Fits t → Fits (if completes then counted_completion (counted_started t later) else counted_started t later)
 fits_beside true t later f = f
 fits_beside false t later f = f
@@ -41,7 +41,7 @@ fits_each : {t u : Tally} {requests : Requests} → CountsEach t u requests → 
 fits_each e = (omega (arith, e.begun), omega (arith, e.processed), omega (arith, e.disabled), omega (arith, e.active), omega (arith, e.reprocess))
 
 module _ {R : Type 0} (k : RecordRules R) where
-  -- what is said of the records and the puts with notification holds at rest as in an event
+  -- Properties of the records and the puts with notification hold between events as in an event.
   settled_rest : (w : World R) → IsSettled k w → IsSettled k (resting w.records w.live w.waiting)
   unfolding at
   settled_rest w s = record { closed = record { closed = s.closed.closed }; quiet = record { quiet = s.quiet.quiet } }
@@ -82,13 +82,13 @@ module _ {R : Type 0} (k : RecordRules R) where
   unfolding at begun_at begun
   awaits_begun rs live waiting moment a = record { records = a.records; waiting = a.waiting }
 
-  -- an event begins alike on all that has the same records and puts with notification
+  -- An event begins equally on all worlds with the same records and puts with notification.
   begins_alike : (v : World R) (rs : Records R) (live : List Live) (waiting : List Waiting) (moment : ℕ) → v.records ≡ rs → v.live ≡ live → v.waiting ≡ waiting
       → begun_at moment v ≡ begun_at moment (resting rs live waiting)
   unfolding begun_at begun
   begins_alike v rs live waiting moment r l w = λ i. record { records = r i; moment = moment; calls = []; outbox = []; dropped = 0; live = l i; ended = []; waiting = w i }
 
-  -- the links of records that are kept
+  -- The links of records are kept.
   targets_kept : (r s : R) → SameLinks k r s → targets k s ≡ targets k r
   targets_kept r s same = ap (λ link. named_by_all link (k.link_fields s)) same.links ∙ ap (named_by_all (k.link r)) same.fields
 
@@ -107,14 +107,14 @@ module _ {R : Type 0} (k : RecordRules R) where
       let all : links_of k after.records ≡ links_of k rs = λ i q. links_kept rs live waiting moment after keeps q i in
       subst (λ (f : Links). IsPart f) (sym all) part
 
-  -- one event more
+  -- The history with one more event.
   replay_more : {w v w' : World R} {requests : Requests} (entries : List Entry) (entry : Entry) → Replay k w entries v
       → Step k (listed entry.answers) (begun_at entry.moment v) entry.event w' entry.reply requests → answers_of w'.calls ≡ entry.answers → Replay k w (entries ++ entry ∷ []) w'
   replay_more [] entry at_the_end step same = and_then step same at_the_end
   replay_more {w = w} {v = v} {w' = w'} {requests = requests} (x ∷ entries) entry (and_then {w' = w''} {requests = first_requests} first used rest) step same =
       and_then first used (replay_more {w = w''} entries entry rest step same)
 
-  -- the counts after an event
+  -- The counts after an event.
   module _ (each : (t : Tally) (requests : Requests) → Fits t → CountsEach t (counted t requests) requests)
       (up : (t : Tally) (requests : Requests) → Fits t → AddsUp t → AddsUp (counted t requests)) where
     fits_after : (t : Tally) (w : World R) (event : Event) (done : Stepped R) → Fits t → Fits (tallied t w event done)
@@ -197,7 +197,7 @@ module _ {R : Type 0} (k : RecordRules R) where
             short = omega (arith, room, length_push h.history entry);
           }
 
-  -- once the history is forgotten
+  -- The invariant after the history is cleared.
   pub sound_folded : {D : Type 0} (h : Held R D) → IsSound k h → IsSound k (folded h)
   sound_folded h sound = record {
     part = sound.part;

@@ -1,4 +1,4 @@
--- Where no put with notification is live on a set, none is after a request, a put or a completion.
+-- If no put with notification is live on a set, none is after a request, a put or a completion.
 use Rattle.std.proofs.Common.{◌≡◌, ◌≢◌, ℕ, true, false, [], ◌∷◌, refl, ap, ◌∙◌, subst}
 use Rattle.ioc_device.specs.declared.Ask.{Ask}
 use Rattle.ioc_device.specs.declared.Answer.{Answer}

@@ -1,4 +1,4 @@
--- Counts of two tallies together.
+-- The counts of two tallies together.
 use Rattle.std.proofs.Common.{◌≡◌, ℕ, ◌+◌, ◌-◌, ◌^◌, ◌<◌, ◌≤◌, ◌⊎◌, inl, inr, arith}
 use Rattle.std.proofs.lemmas.Bool.{cases_lt}
 use Rattle.ioc_ledger.specs.declared.tally.Tally.{Tally}

@@ -1,5 +1,7 @@
--- One event on a lock set, as its caller finds it.
--- Application Developer's Guide, "Runtime Database Access": dbGetField, dbPutField, dbProcess, dbPutNotify, dbNotifyCancel.
+-- One event on a lock set, as seen by its caller.
+--
+-- Application Developer's Guide, "Runtime Database Access": dbGetField, dbPutField, dbProcess,
+-- dbPutNotify, dbNotifyCancel.
 use Rattle.std.specs.Prelude.{◌≡◌, ◌==◌, ℕ, Bool, true, false, if◌then◌else◌, List, length}
 use Rattle.std.specs.FinMap.{get}
 use Rattle.ioc_device.specs.declared.Ask.{Ask}
@@ -23,14 +25,14 @@ use Rattle.ioc_set.specs.Held.{Held, now_of, folded, done_by, held_after}
 use Rattle.ioc_workplace.specs.Resting.{resting}
 use Rattle.ioc_set.specs.Sound.{TellsOf}
 
--- a request, a put or a completion
+-- Holds of a request, a put and a completion.
 abbrev pub is_ordinary : Event → Bool
 is_ordinary (Process s) = true
 is_ordinary (Put s field given) = true
 is_ordinary (Complete s number finished) = true
 is_ordinary _ = false
 
--- an event that is done on a set: one of these, a put with notification or a cancel
+-- Holds of an event on a set: one of these, a put with notification or a cancel.
 abbrev pub is_done_on_sets : Event → Bool
 is_done_on_sets (Process s) = true
 is_done_on_sets (Put s field given) = true
@@ -39,7 +41,7 @@ is_done_on_sets (Notify s number field given) = true
 is_done_on_sets (Cancel number) = true
 is_done_on_sets _ = false
 
--- what a set with these records, these puts with notification, these counts and this history holds
+-- The state of a set with these records, puts with notification, counts and history.
 abbrev pub held_by : {R D : Type 0} → Contents R D → Puts → Tally → Tally → List Entry → Held R D
 held_by c puts before counts entries = record {
   records = c.records;
@@ -51,21 +53,24 @@ held_by c puts before counts entries = record {
   history = entries;
 }
 
--- a set with a place for one event more in its history: where 64 stand, they are forgotten first
+-- The set with a place for one more event in its history, which is cleared first if it has 64
+-- entries.
 abbrev pub with_place : {R D : Type 0} → Held R D → Held R D
 with_place h = if length h.history == 64 then folded h else h
 
--- what an event has come to, with these records
+-- The state of an event with these records.
 abbrev pub with_records : {R : Type 0} → Records R → World R → World R
 with_records rs w = record w { records = rs }
 
--- and with these puts with notification, which a set takes back after the event
+-- The state of an event with these records and puts with notification, which a set takes back after
+-- the event.
 abbrev pub with_kept : {R : Type 0} → Records R → List Live → List Waiting → World R → World R
 with_kept rs live waiting w = record w { records = rs; live = live; waiting = waiting }
 
 module _ {R D : Type 0} (k : RecordRules R) (gives : D → Ask → ℕ → Answer → D → Type 0) where
-  -- an event at a moment is done on what a set holds, and told behind its history: what it holds then, the reply, and what the event has come to beside what the set keeps.
-  -- Each device that was called, in the order of the calls, gave its answer by its own relation
+  -- An event with this time stamp is done on a set and appended to its history: the set afterwards,
+  -- the reply, and the state of the event beside what the set keeps. Each device that was called
+  -- gave its answer by its own relation, in the order of the calls.
   pub record Does (held : Held R D) (at_moment : ℕ) (done : Event) (reply : Reply) (held_then : Held R D) (come_to : World R) : Type 0 where
     pub entry : Entry
     pub moment : entry.moment ≡ at_moment
@@ -76,7 +81,8 @@ module _ {R D : Type 0} (k : RecordRules R) (gives : D → Ask → ℕ → Answe
     pub work : DevicesWork gives (get held.devices) at_moment (done_by k (now_of held) entry).world.calls (get held_then.devices)
     pub left : with_kept held_then.records held_then.live held_then.waiting come_to ≡ (done_by k (now_of held) entry).world
 
-  -- an event on the records of a set with these puts with notification: what is there then, the counts, and the store with which it was done
+  -- An event on the records of a set with these puts with notification: the records, puts and
+  -- counts afterwards, and the store on which it was done.
   pub record Did (before : Contents R D) (was : Puts) (counts : Tally) (entry : Entry) (after : Contents R D) (is : Puts) (counts_then : Tally) (store : SetStore R D) : Type 0 where
     pub reply : (done_by k (resting before.records was.live was.waiting) entry).reply ≡ entry.reply
     pub answers : answers_of (done_by k (resting before.records was.live was.waiting) entry).world.calls ≡ entry.answers

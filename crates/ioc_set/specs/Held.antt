@@ -1,5 +1,7 @@
--- What a lock set holds between events, and what an event leaves of it.
--- Application Developer's Guide, "Database Locking, Scanning, and Processing". The kept history is this project's own.
+-- The state of a lock set between events, and what an event leaves of it.
+--
+-- Application Developer's Guide, "Database Locking, Scanning, and Processing". The history is this
+-- project's own design.
 use Rattle.std.specs.Prelude.{◌≡◌, List, [], ◌∷◌, ◌++◌}
 use Rattle.std.specs.FinMap.{empty}
 use Rattle.ioc_ledger.specs.Requests.{no_counts}
@@ -14,15 +16,15 @@ use Rattle.ioc_events.specs.declared.event.Entry.{Entry}
 use Rattle.ioc_events.specs.Step.{Stepped, stepped, tallied}
 use Rattle.ioc_workplace.specs.Resting.{resting}
 
--- what a set held before the first event of its history
+-- The state of a set before the first event of its history.
 pub record Base (R : Type 0) : Type 0 where
   pub records : Records R
   pub live : List Live
   pub waiting : List Waiting
   pub tally : Tally
 
--- the records of a set with their devices, the puts with notification that are live and those of them that wait, the counts of
--- requests, and the history: the last events, and what was before them
+-- The records of a set with their devices, the live puts with notification and those of them that
+-- wait, the counts of requests, and the history: the last events, and the state before them.
 pub record Held (R D : Type 0) : Type 0 where
   pub records : Records R
   pub devices : Devices D
@@ -32,11 +34,11 @@ pub record Held (R D : Type 0) : Type 0 where
   pub base : Base R
   pub history : List Entry
 
--- no records, no counts, and no history
+-- No records, no counts and no history.
 abbrev pub nothing_held : {R D : Type 0} → Held R D
 nothing_held = record { records = empty; devices = empty; live = []; waiting = []; tally = no_counts; base = record { records = empty; live = []; waiting = []; tally = no_counts }; history = [] }
 
--- no put with notification is live on a set, and so none waits
+-- No put with notification is live on a set, and so none waits.
 abbrev pub NoneIsLive : {R D : Type 0} → Held R D → Type 0
 NoneIsLive h = (h.live ≡ []) × (h.waiting ≡ [])
 
@@ -46,21 +48,21 @@ now_of h = resting h.records h.live h.waiting
 abbrev pub before_of : {R : Type 0} → Base R → World R
 before_of b = resting b.records b.live b.waiting
 
--- what a set holds once its history is forgotten: it begins anew
+-- The set with its history cleared.
 abbrev pub folded : {R D : Type 0} → Held R D → Held R D
 folded h = record h { base = record { records = h.records; live = h.live; waiting = h.waiting; tally = h.tally }; history = [] }
 
 module _ {R : Type 0} (k : RecordRules R) where
-  -- an event as it was done on this database
+  -- An event of a history, done on this database.
   abbrev pub done_by : World R → Entry → Stepped R
   done_by w entry = stepped k (listed entry.answers) (begun_at entry.moment w) entry.event
 
-  -- the counts after these events
+  -- The counts after these events.
   abbrev pub counted_on : Tally → World R → List Entry → Tally
   counted_on t w [] = t
   counted_on t w (entry ∷ entries) = let done = done_by w entry in counted_on (tallied t (begun_at entry.moment w) entry.event done) done.world entries
 
-  -- what a set holds after an event, with its devices as they are then
+  -- The set after an event, with its devices afterwards.
   abbrev pub held_after : {D : Type 0} → Held R D → Entry → Devices D → Held R D
   held_after h entry devices =
       let done = done_by (now_of h) entry in

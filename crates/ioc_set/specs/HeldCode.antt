@@ -1,4 +1,4 @@
--- What a lock set holds, as a tuple of its parts.
+-- The state of a lock set as a tuple.
 use Rattle.std.specs.Prelude.{List, refl}
 use Rattle.std.specs.FinMap as map
 use Rattle.std.specs.Coded.{Coded, code_by, coded×, coded_list, coded_ℕ}

@@ -1,4 +1,4 @@
--- What is kept of an event in the history of a lock set, as the entry of the event.
+-- The history entry of an event on a lock set, as the entry of the event.
 use Rattle.ioc_events.specs.declared.event.Entry.{Entry}
 use Rattle.ioc_events.specs.Told.{event_by, told_by}
 use Rattle.ioc_set.specs.declared.kept.Kept.TheInside.{Inside}

@@ -1,5 +1,8 @@
--- A link change on lock sets: one falls apart, or two become one, and a change of a scan list is sent.
--- Application Developer's Guide, "Database Locking, Scanning, and Processing": a changed link parts lock sets or joins them.
+-- A link change on lock sets: one is divided or two become one, and a change of a scan list is
+-- sent.
+--
+-- Application Developer's Guide, "Database Locking, Scanning, and Processing": a changed link
+-- divides lock sets or joins them.
 use Rattle.std.specs.Prelude.{◌≡◌, ◌≢◌, ◌↔◌, ℕ, ◌+◌, ◌-◌, ◌^◌, ◌<◌, ◌≤◌, ◌==◌, if◌then◌else◌, List, [], ◌++◌, length, Contains, IsSome, IsTrue, None}
 use Rattle.std.specs.FinMap.{get}
 use Rattle.ioc_fields.specs.declared.field_no.FieldNo.{FieldNo}
@@ -21,7 +24,8 @@ use Rattle.ioc_set.specs.Doing.{with_kept}
 use Rattle.ioc_workplace.specs.Recounting.{WaitsGoAlong, together}
 use Rattle.ioc_set.specs.Sound.{IsSound}
 
--- a set that begins anew with these records, devices, puts with notification and counts: it has no history
+-- The set with these records, devices, puts with notification and counts, and with an empty
+-- history.
 abbrev pub anew : {R D : Type 0} → Records R → Devices D → List Live → List Waiting → Tally → Held R D
 anew rs ds live waiting counts = record {
   records = rs;
@@ -33,7 +37,7 @@ anew rs ds live waiting counts = record {
   history = [];
 }
 
--- the counts of two together, each up to the last number
+-- The sum of two tallies, each count up to the largest number.
 abbrev pub added : Tally → Tally → Tally
 added t u = record {
   begun = filled t.begun u.begun;
@@ -45,16 +49,18 @@ added t u = record {
   completed = filled t.completed u.completed;
 }
 
--- counts with so many fewer answers that were to come later: another set counts these. A full count stays full
+-- The tally with this many fewer calls that are answered later, which another set counts. A full
+-- count stays full.
 abbrev pub less_awaited : Tally → ℕ → Tally
 less_awaited t count = record t { started = if t.started == 2 ^ 64 - 1 then t.started else t.started - count }
 
--- no counts but of so many answers that are to come later
+-- The tally with this many calls that are answered later, and nothing else.
 abbrev pub awaited_alone : ℕ → Tally
 awaited_alone count = record no_counts { started = count }
 
 module _ {R : Type 0} (k : RecordRules R) where
-  -- a record between events that no put with notification has: it is active exactly where a completion of it is pending
+  -- A record between events that is part of no put with notification: it is active if and only if a
+  -- completion of it is pending.
   pub record IsCalm (r : R) : Type 0 where
     pub quiet : IsTrue (k.common r).active ↔ IsSome (k.common r).pending
     pub free : (k.common r).notification ≡ None
@@ -62,25 +68,28 @@ module _ {R : Type 0} (k : RecordRules R) where
   abbrev pub AreCalm : Records R → Type 0
   AreCalm rs = (n : ℕ) → IsSome (get rs n) → IsCalm (record_at k rs n)
 
-  -- none of these records awaits a completion
+  -- None of these records awaits a completion.
   abbrev pub NoneAwaits : Records R → Type 0
   NoneAwaits rs = (n : ℕ) → IsSome (get rs n) → (k.common (record_at k rs n)).pending ≡ None
 
-  -- records between events, with these puts with notification: each is active exactly where a completion of it is pending; one that has a
-  -- notification, or for which one waits, awaits a completion; and the holders of each are counted
+  -- Records between events, with these puts with notification: each record is active if and only if
+  -- a completion of it is pending; one that is part of a put with notification, or that one waits
+  -- for, awaits a completion; and the parts of each are counted.
   pub record AreHeld (rs : Records R) (live : List Live) (waiting : List Waiting) : Type 0 where
     pub quiet : (n : ℕ) → IsSome (get rs n) → IsTrue (k.common (record_at k rs n)).active ↔ IsSome (k.common (record_at k rs n)).pending
     pub holders_await : HoldersAwait k (resting rs live waiting)
     pub counted : HoldersCounted k (resting rs live waiting)
 
-  -- what a link change at a moment comes to, of what a set holds
+  -- The effect of a link change with this time stamp on the state of a set.
   abbrev pub link_change_of : {D : Type 0} → Held R D → ℕ → ℕ → FieldNo → LinkField → World R
   link_change_of h moment s field link = with_link_changed k (begun_at moment (now_of h)) s field link
 
 module _ {R D : Type 0} where
-  -- a set falls apart: each of these records, which are its own with a link changed, and each device is in exactly one of two that begin anew.
-  -- A put that waits goes with the record that it waits for. The one with the record of this number keeps the counts, but for the answers that
-  -- the records of the rest still await: these the rest counts, and nothing else. Both together have the counts that were
+  -- A set is divided: each of these records, which are its own with a link changed, and each device
+  -- is in exactly one of two sets with empty histories. A waiting put stays with the record that it
+  -- waits for. The set with the record of this number keeps the counts, except for the answers that
+  -- the records of the rest still await: the rest counts these, and nothing else. Both together
+  -- have the former counts.
   pub record FallsApart (before : Held R D) (changed : Records R) (number : ℕ) (stay rest : Held R D) : Type 0 where
     pub shared : AreShared (get changed) (get stay.records) (get rest.records)
     pub devices : AreShared (get before.devices) (get stay.devices) (get rest.devices)
@@ -93,8 +102,8 @@ module _ {R D : Type 0} where
     pub few : rest.tally.started < 2 ^ 63
     pub together : added stay.tally rest.tally ≡ before.tally
 
-  -- two sets may become one: each put that waits does so for a record of its set, none waits in both, and what is live on either, and what
-  -- waits, has room in one
+  -- Two sets may become one: each waiting put waits for a record of its set, none waits in both,
+  -- and the live and the waiting ones of both fit into one set.
   pub record MayBeOne (before other : Held R D) : Type 0 where
     pub own : (x : Waiting) → Contains before.waiting x → IsSome (get before.records x.target)
     pub others_own : (x : Waiting) → Contains other.waiting x → IsSome (get other.records x.target)
@@ -102,8 +111,9 @@ module _ {R D : Type 0} where
     pub live_fits : length (together before.live other.live) ≤ 256
     pub waiting_fits : length before.waiting + length other.waiting ≤ 256
 
-  -- two sets become one, which begins anew: it has these records, which are those of the one with a link changed, those of the other, the
-  -- devices of both, the puts that wait in the one and then those in the other, and the counts of both. The other has nothing then
+  -- Two sets become one with an empty history: it has these records, which are those of the first
+  -- set with a link changed and those of the other, the devices of both, the puts that wait in the
+  -- first followed by those in the other, and the counts of both. The other set is empty then.
   pub record BecomeOne (before other : Held R D) (changed : Records R) (both other_then : Held R D) : Type 0 where
     pub shared : AreShared (get both.records) (get changed) (get other.records)
     pub devices : AreShared (get both.devices) (get before.devices) (get other.devices)
@@ -112,9 +122,10 @@ module _ {R D : Type 0} where
     pub all : both ≡ anew both.records both.devices both.live both.waiting (added before.tally other.tally)
     pub emptied : other_then ≡ nothing_held
 
-  -- a link of a record is led from one set into another. With an empty link in its place the one falls apart into what stays with the
-  -- record, and the rest; what stays, with the new link, and the other become one; and then a change of the record's scan list is sent
-  -- where it has another device link
+  -- A link of a record is changed to lead from one set into another. With an empty link in its
+  -- place, the first set is divided into what stays with the record and the rest; what stays, with
+  -- the new link, and the other set become one; and then a change of the record's scan list is sent
+  -- if its device link differs.
   pub record LeadsInto (k : RecordRules R) (before other : Held R D) (moment number : ℕ) (field : FieldNo) (link : LinkField) (after other_then rest : Held R D) (come_to : World R) : Type 0 where
     pub stay : Held R D
     pub both : Held R D

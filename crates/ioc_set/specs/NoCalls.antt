@@ -1,5 +1,8 @@
--- Questions and puts, also those with notification, that are no calls: the type of their record has no such field, or the field can't be put.
--- Application Developer's Guide, "Runtime Database Access": dbNameToAddr, dbPutField. That no history keeps them is this project's own.
+-- Gets and puts, with and without notification, that are no calls: the type of their record has no
+-- such field, or the field can't be put.
+--
+-- Application Developer's Guide, "Runtime Database Access": dbNameToAddr, dbPutField. Leaving them
+-- out of the history is this project's own design.
 use Rattle.std.specs.Prelude.{Option, Some, None, Result, Ok, Err}
 use Rattle.ioc_values.specs.declared.error.IocError.{IocError}
 use Rattle.ioc_values.specs.declared.error.IocError.TheVariants.{NoField}
@@ -12,18 +15,18 @@ use Rattle.ioc_store.specs.World.{World, at}
 use Rattle.ioc_events.specs.declared.event.Event.{Event}
 use Rattle.ioc_events.specs.declared.event.Event.TheVariants.{Get, Put, Notify}
 
--- why a field isn't shown, by its row
+-- Why a field can't be read, given its row.
 abbrev pub why_not_shown : Option Row → Option IocError
 why_not_shown None = Some NoField
 why_not_shown (Some row) = None
 
--- why a field isn't put, by its kind
+-- Why a field can't be put, given its kind.
 abbrev pub why_not_put : Result FieldKind IocError → Option IocError
 why_not_put (Ok kind) = None
 why_not_put (Err e) = Some e
 
 module _ {R : Type 0} (k : RecordRules R) where
-  -- why a question or a put is no call, if it is none
+  -- Why a get or a put is no call, if it is none.
   unfoldable pub no_call : World R → Event → Option IocError
   no_call w (Get s field) = why_not_shown (row_of (k.record_type (at k w s)) field)
   no_call w (Put s field given) = why_not_put (kind_to_put (k.record_type (at k w s)) field)

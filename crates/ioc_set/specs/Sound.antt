@@ -1,5 +1,7 @@
--- What holds of a lock set whenever it is free.
--- Application Developer's Guide, "Database Locking, Scanning, and Processing": records that links join are in one lock set.
+-- The invariant of a lock set that is not in use.
+--
+-- Application Developer's Guide, "Database Locking, Scanning, and Processing": records that links
+-- join are in one lock set.
 use Rattle.std.specs.Prelude.{◌≡◌, ◌⊎◌, ℕ, ◌+◌, ◌-◌, ◌^◌, ◌<◌, ◌≤◌, false, length}
 use Rattle.ioc_ledger.specs.declared.tally.Tally.{Tally}
 use Rattle.ioc_ledger.specs.Requests.{Fits, AddsUp}
@@ -16,8 +18,9 @@ use Rattle.ioc_events.specs.Holding.{IsCounted, HoldersAwait}
 use Rattle.ioc_set.specs.Awaiting.{awaited}
 use Rattle.ioc_set.specs.Held.{Held, now_of, before_of, done_by, counted_on}
 
--- the requests begun are those processed, disabled, active or put down for reprocessing; and the answers that were to come later are those
--- completed and those still awaited, which are so many. Each count is a number of 64 bits, and one that is full says no more
+-- The begun requests are those processed, disabled, active or marked for reprocessing, and the
+-- calls that are answered later are those completed and those still awaited, which are this many.
+-- Each count is a number of 64 bits, and a full one means nothing.
 pub record CountsAddUp (t : Tally) (still_awaited : ℕ) : Type 0 where
   pub fits : Fits t
   pub adds_up : AddsUp t
@@ -25,7 +28,8 @@ pub record CountsAddUp (t : Tally) (still_awaited : ℕ) : Type 0 where
   pub answers_add_up : (t.started ≡ 2 ^ 64 - 1) ⊎ (t.started ≡ t.completed + still_awaited)
 
 module _ {R D : Type 0} (k : RecordRules R) where
-  -- the events of the history, one after another, lead from what was before them to what is there
+  -- The events of the history, one after another, lead from the state before them to the current
+  -- one.
   pub record LeadsHere (h : Held R D) : Type 0 where
     pub after : World R
     pub replay : Replay k (before_of h.base) h.history after
@@ -33,10 +37,12 @@ module _ {R D : Type 0} (k : RecordRules R) where
     pub live : after.live ≡ h.live
     pub waiting : after.waiting ≡ h.waiting
 
-  -- the records are one connected part or none, and no link leaves them; a record is active exactly where a completion is pending; none that
-  -- waits may start; the holders of each put with notification are counted, and await a completion; the history leads here, the counts too; and
-  -- the requests begun are those processed, disabled, active or put down for reprocessing; and the answers that were to come later those completed
-  -- and those that its records still await
+  -- The records are one connected part or none, and no link leaves them; a record is active if and
+  -- only if a completion is pending; none that waits may start; the parts of each put with
+  -- notification are counted and await a completion; the history leads to the current state and
+  -- counts; the begun requests are those processed, disabled, active or marked for reprocessing;
+  -- and the calls that are answered later are those completed and those that the records still
+  -- await.
   pub record IsSound (h : Held R D) : Type 0 where
     pub part : IsPart (links_of k h.records)
     pub settled : IsSettled k (now_of h)
@@ -48,7 +54,8 @@ module _ {R D : Type 0} (k : RecordRules R) where
     pub counts : CountsAddUp h.tally (awaited k h.records)
     pub short : length h.history ≤ 64
 
-  -- an entry tells what its event did on what the set holds: all its answers were used, and its reply was given
+  -- An entry describes what its event did on the set: all its answers were used, and its reply was
+  -- given.
   pub record TellsOf (h : Held R D) (entry : Entry) : Type 0 where
     pub no_link_change : is_link_change entry.event ≡ false
     pub reply : (done_by k (now_of h) entry).reply ≡ entry.reply

@@ -7,7 +7,7 @@ use ioc_ledger::Tally;
 use ioc_members::Members;
 use ioc_record::RecordKind;
 
-/// How many of these records await a completion.
+/// Returns the number of these records that await a completion.
 pub fn count_awaited<K: RecordKind, D>(members: &Members<K, D>) -> u64
     ensures { result ≡ awaited K.rules members.now.records }
 {
@@ -23,8 +23,8 @@ pub fn count_awaited<K: RecordKind, D>(members: &Members<K, D>) -> u64
     count
 }
 
-/// What the rest of a set counts that falls apart: the answers that its own records still await. What stays counts them no more; a full count
-/// stays full.
+/// Returns the tally of the rest of a set that is divided: the answers that its own records still
+/// await. They are subtracted from `tally`, except that a full count stays full.
 pub fn take_awaited<K: RecordKind, D>(tally: &mut Tally, rest: &Members<K, D>) -> Tally
     ensures stays { tally.new ≡ less_awaited tally.old (awaited K.rules rest.now.records) }
     ensures leaves { result ≡ awaited_alone (awaited K.rules rest.now.records) }

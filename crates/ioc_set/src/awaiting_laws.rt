@@ -1,4 +1,5 @@
-//! Laws of the records that await a completion. Each function's contract is a law; its body is empty.
+//! Laws of the records that await a completion. The contract of each function is a law; its body is
+//! empty.
 ghost use Rattle.std.specs.Prelude.{◌≡◌, ◌+◌};
 ghost use Rattle.ioc_ledger.specs.Requests.{Requests};
 ghost use Rattle.ioc_store.specs.World.{World};
@@ -12,9 +13,9 @@ ghost use Rattle.ioc_set.specs.Awaiting.{awaited, one_if_completes};
 
 use ioc_record::RecordKind;
 
-/// After an event as many records await a completion as before it, and one more for each answer of a device that is to come later, but one
-/// fewer where the event is a completion that isn't refused. So the answers that are to come later are those completed and those still
-/// awaited, and none is lost.
+/// After an event, as many records await a completion as before, plus one for each call that is
+/// answered later, minus one if the event is a completion that isn't refused. So the calls that are
+/// answered later are those completed and those still awaited, and none is lost.
 pub fn events_count_awaited<K: RecordKind>()
     ensures { (answers : Answers) (w after : World K) (event : Event) (reply : Reply) (requests : Requests) →
         Step K.rules answers w event after reply requests → IsSettled K.rules w →

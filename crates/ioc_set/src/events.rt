@@ -1,4 +1,4 @@
-//! What is done on a lock set, but for link changes.
+//! Events on a lock set, except link changes.
 ghost use Rattle.std.specs.Prelude.{◌≡◌, ◌<◌, ◌≤◌, ◌+◌, length, IfOk, OnOk, OnErr, vec_len, vec_capacity};
 ghost use Rattle.ioc_events.specs.declared.event.Event.TheVariants.{Process, Put, Complete, Notify, Cancel};
 ghost use Rattle.ioc_members.specs.Contents.{RecordsAreLikeTheirBase};
@@ -23,7 +23,7 @@ use ioc_values::{Finished, Input};
 use ioc_workplace::{LivePuts, Workplace};
 use std::alloc::{AllocError, Global};
 
-// Makes a place in the history for one event more: a full history is forgotten.
+// Makes a place for one more event in the history, which is cleared first if it is full.
 #[inline(always)]
 fn make_place<K: RecordKind, D>(
     members: &mut Members<K, D>,
@@ -48,8 +48,8 @@ fn make_place<K: RecordKind, D>(
 }
 
 impl<K: RecordKind + Drop, D: Device> LockSet<K, D> {
-    // Does an event, and keeps it behind the history; where 64 stand there, these are forgotten first. This is inlined, so that each call knows
-    // which kind of event it does.
+    // Does an event, and appends it to the history; if that has 64 entries, it is cleared first.
+    // This is inlined, so that each caller knows the kind of its event.
     #[inline(always)]
     fn do_event(
         &mut self,
@@ -91,8 +91,8 @@ impl<K: RecordKind + Drop, D: Device> LockSet<K, D> {
     ///
     /// # Errors
     ///
-    /// [`AllocError`] where memory is wanting: nothing has changed then. What it came to is a refusal, [`IocError::NoRecord`], where there is no such
-    /// record.
+    /// [`AllocError`] if allocation fails; nothing has changed then. The reply is a refusal,
+    /// [`IocError::NoRecord`], if there is no such record.
     pub fn request(
         &mut self,
         place: &mut Workplace<K, D>,
@@ -106,14 +106,16 @@ impl<K: RecordKind + Drop, D: Device> LockSet<K, D> {
         self.do_event(place, alloc, &SetEvent::Process(number), moment)
     }
 
-    /// Puts a value into a field, and processes the record where the field is PROC, or is process-passive and the record passive. A record that
-    /// is active is put down for another processing.
+    /// Puts a value into a field. The record is processed if the field is PROC, or if the field is
+    /// process-passive and the record is passive; an active record is marked for reprocessing
+    /// instead.
     ///
     /// # Errors
     ///
-    /// [`AllocError`] where memory is wanting: nothing has changed then. What it came to is a refusal, [`IocError::NoRecord`], [`IocError::NoField`],
-    /// [`IocError::NoMod`], [`IocError::PutDisabled`] or [`IocError::BadValue`] in this order, where there is no such record or field, the field
-    /// can't be put, DISP forbids it, or the value doesn't convert.
+    /// [`AllocError`] if allocation fails; nothing has changed then. The reply is a refusal,
+    /// [`IocError::NoRecord`], [`IocError::NoField`], [`IocError::NoMod`],
+    /// [`IocError::PutDisabled`] or [`IocError::BadValue`] in this order, if there is no such
+    /// record or field, the field can't be put, DISP forbids it, or the value doesn't convert.
     pub fn put(
         &mut self,
         place: &mut Workplace<K, D>,
@@ -129,12 +131,14 @@ impl<K: RecordKind + Drop, D: Device> LockSet<K, D> {
         self.do_event(place, alloc, &SetEvent::Put(number, field, given), moment)
     }
 
-    /// The device of a record has answered at last, to the wait of this number: the record goes on with what it gave.
+    /// Completes the wait with this number of a record whose device has answered later: the record
+    /// resumes with what the device returned.
     ///
     /// # Errors
     ///
-    /// [`AllocError`] where memory is wanting: nothing has changed then. What it came to is a refusal, [`IocError::NoRecord`] or [`IocError::Stale`] in
-    /// this order, where there is no such record, or it doesn't await the completion of this number.
+    /// [`AllocError`] if allocation fails; nothing has changed then. The reply is a refusal,
+    /// [`IocError::NoRecord`] or [`IocError::Stale`] in this order, if there is no such record, or
+    /// if it doesn't await the completion with this number.
     pub fn complete(
         &mut self,
         place: &mut Workplace<K, D>,
@@ -155,14 +159,17 @@ impl<K: RecordKind + Drop, D: Device> LockSet<K, D> {
         )
     }
 
-    /// Puts a value into a field as [`LockSet::put`] does, with a notification: it passes to the records that are processed for it, and ends
-    /// with the last of them. Where the record is active, has a notification or has one waiting, the put waits; it is tested and its value
-    /// converted at once. The caller gives each number to one put. Those that end by an event are told by [`Workplace::ended`].
+    /// Puts a value into a field as [`LockSet::put`] does, with a notification: it passes to the
+    /// records that are processed for the put, and ends with the last of them. If the record is
+    /// active, is part of a put with notification or has one waiting, the put waits; it is tested
+    /// and its value converted immediately. The caller assigns each number to one put.
+    /// [`Workplace::ended`] returns those that end by an event.
     ///
     /// # Errors
     ///
-    /// [`AllocError`] where memory is wanting: nothing has changed then. What it came to is a refusal, those of [`LockSet::put`] and then
-    /// [`IocError::QueueFull`], where 256 are live on the set, or the number is that of one that is live.
+    /// [`AllocError`] if allocation fails; nothing has changed then. The reply is a refusal: those
+    /// of [`LockSet::put`], and then [`IocError::QueueFull`], if 256 are live on the set or one
+    /// with this number is live.
     pub fn put_notify(
         &mut self,
         place: &mut Workplace<K, D>,
@@ -180,12 +187,13 @@ impl<K: RecordKind + Drop, D: Device> LockSet<K, D> {
         self.do_event(place, alloc, &event, moment)
     }
 
-    /// A put with notification is given up: no record of the set has it any more, it waits nowhere, and it doesn't end.
+    /// Cancels a put with notification: no record of the set is part of it any more, it no longer
+    /// waits, and it doesn't end.
     ///
     /// # Errors
     ///
-    /// [`AllocError`] where memory is wanting: nothing has changed then. What it came to is a refusal, [`IocError::Stale`], where it isn't live on
-    /// the set.
+    /// [`AllocError`] if allocation fails; nothing has changed then. The reply is a refusal,
+    /// [`IocError::Stale`], if it isn't live on the set.
     pub fn cancel(
         &mut self,
         place: &mut Workplace<K, D>,

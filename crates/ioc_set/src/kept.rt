@@ -1,11 +1,12 @@
-//! What is kept of an event in the history of a lock set.
+//! The history entry of an event on a lock set.
 ghost use Rattle.std.specs.Prelude.{◌≡◌};
 ghost use Rattle.ioc_events.specs.Told.{event_by, told_by};
 
 use ioc_events::{KeptAnswers, SetEvent, Told};
 use std::marker::Model;
 
-/// An event that was done on a lock set, in little room. Contracts see it as the [`ioc_events::Entry`] of the event.
+/// The history entry of an event on a lock set, in compact form. Contracts see it as the
+/// [`ioc_events::Entry`] of the event.
 #[derive(Drop)]
 pub struct Kept {
     moment: u64,
@@ -24,7 +25,8 @@ impl Model for Kept {
     ghost view = { entry_by };
 }
 
-// The same event. A request is made anew, so that it isn't copied from where it lies with the room of the widest event.
+// Returns a copy of the event. A request is constructed again, so that the size of the largest
+// event isn't copied.
 #[inline(always)]
 fn again(event: &SetEvent) -> SetEvent
     ensures { event_by result ≡ event_by event.now }
@@ -36,7 +38,8 @@ fn again(event: &SetEvent) -> SetEvent
 }
 
 impl Kept {
-    /// An event at a moment, what devices answered in it, and what it came to.
+    /// Creates the entry of an event with this time stamp, the answers of devices in it, and its
+    /// reply.
     #[inline(always)]
     pub fn new(moment: u64, event: &SetEvent, answers: KeptAnswers, told: Told) -> Self
         ensures { result ≡ record { moment = moment; event = event_by event.now; answers = answers; reply = told_by told } }
@@ -49,7 +52,7 @@ impl Kept {
         }
     }
 
-    /// What the event came to.
+    /// Returns the reply of the event.
     pub fn told(&self) -> Told
         ensures { told_by result ≡ self.now.reply }
     {

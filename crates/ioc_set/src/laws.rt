@@ -1,4 +1,4 @@
-//! What events leave of a lock set. Each function's contract is a law; its body is empty.
+//! What events leave of a lock set. The contract of each function is a law; its body is empty.
 ghost use Rattle.std.specs.Prelude.{◌≡◌, ◌≢◌, ◌<◌, ◌≤◌, ◌^◌, ℕ, true, false, List, [], ◌∷◌, length};
 ghost use Rattle.std.specs.FinMap.{len};
 ghost use Rattle.ioc_fields.specs.declared.field_no.FieldNo.{FieldNo};
@@ -41,8 +41,8 @@ use ioc_events::notification_rules::{
 use ioc_ledger::laws::{tallies_add_up, tallies_count_each_request};
 use ioc_record::RecordKind;
 
-/// Whatever event but a link change is done on a lock set, and kept behind its history, what holds of the set whenever it is free
-/// holds after it; so it does once the history is forgotten, which then begins anew.
+/// After any event except a link change is done on a sound lock set and appended to its history,
+/// the set is sound. It also is after its history is cleared.
 pub fn events_leave_sound<K: RecordKind, D>()
     ensures event { (h : Held K D) (entry : Entry) (devices : Devices D) → IsSound K.rules h → length h.history < 64 → TellsOf K.rules h entry →
         IsSound K.rules (held_after K.rules h entry devices) }
@@ -59,8 +59,9 @@ pub fn events_leave_sound<K: RecordKind, D>()
     events_count_awaited::<K>();
 }
 
-/// Where no put with notification is live, none is live or waits after an event, unless it is answered that one has begun. So a set
-/// needs room for them only from its first put with notification on.
+/// If no put with notification is live, none is live or waits after an event, unless the reply
+/// reports that one has begun. So a set needs room for them only from its first put with
+/// notification on.
 pub fn none_live_stays_so<K: RecordKind>()
     ensures { (w after : World K) (entry : Entry) → Replay K.rules w (entry ∷ []) after → IsCounted K.rules w → w.live ≡ [] →
         ((n : ℕ) → entry.reply ≢ Notify n) → (after.live ≡ []) × (after.waiting ≡ []) }
@@ -69,7 +70,7 @@ pub fn none_live_stays_so<K: RecordKind>()
     those_over_never_end::<K>();
 }
 
-/// Where no put with notification is live on a set, none is after a request, a put or a completion.
+/// If no put with notification is live on a set, none is after a request, a put or a completion.
 pub fn sets_stay_without_puts<K: RecordKind, D: Device>()
     ensures { (h after : Held K D) (moment : ℕ) (event : Event) (reply : Reply) (come_to : World K) → Does K.rules D.gives h moment event reply after come_to →
         is_ordinary event ≡ true → IsSound K.rules h → NoneIsLive h → NoneIsLive after }
@@ -85,8 +86,8 @@ pub fn notifications_begin_by_notify<K: RecordKind>()
         Step K.rules answers w event after reply requests → reply ≡ Notify n → is_put_with_notification event ≡ true }
 {}
 
-/// Where no put with notification is live, each record of a sound set is calm; and calm records, one part and fewer than 2^63, make a sound
-/// set that begins anew.
+/// If no put with notification is live, each record of a sound set is calm. Calm records that are
+/// one part and fewer than 2^63 make a sound set with an empty history.
 pub fn calm_records_are_sound<K: RecordKind, D>()
     ensures calm { (h : Held K D) → IsSound K.rules h → h.live ≡ [] → AreCalm K.rules h.records }
     ensures sound { (rs : Records K) (ds : Devices D) (counts : Tally) → IsPart (links_of K.rules rs) → AreCalm K.rules rs → len rs < 2 ^ 63 →
@@ -95,9 +96,10 @@ pub fn calm_records_are_sound<K: RecordKind, D>()
     events_count_holders::<K>();
 }
 
-/// The records of a sound set are held with its puts with notification: those are live that one of them has or that wait, and no more wait
-/// than are live. Records that are held with such puts, one part and fewer than 2^63, make a sound set that begins anew. And two sets
-/// on which none is live may become one.
+/// The records of a sound set are held with its puts with notification: a put with notification is
+/// live if one of the records is part of it or it waits, and no more wait than are live. Records
+/// that are held with such puts, are one part and fewer than 2^63 make a sound set with an empty
+/// history. Two sets on which none is live may become one.
 pub fn held_records_are_sound<K: RecordKind, D>()
     ensures held { (h : Held K D) → IsSound K.rules h → AreHeld K.rules h.records h.live h.waiting }
     ensures live { (h : Held K D) → IsSound K.rules h → AreLive K.rules h.records h.waiting h.live }
@@ -110,8 +112,8 @@ pub fn held_records_are_sound<K: RecordKind, D>()
     events_count_holders::<K>();
 }
 
-/// A link change that isn't refused is this event: with its link changed, and a change of the record's scan list sent where it has another
-/// device link. Its reply is plain.
+/// A link change that isn't refused is this event: the link is changed, and a change of the
+/// record's scan list is sent if its device link differs. The reply is plain.
 pub fn link_changes_are_events<K: RecordKind>()
     ensures { (answers : Answers) (w : World K) (s : ℕ) (field : FieldNo) (link : LinkField) →
         HasLink K.rules w.records s field → stops_put (common_at K.rules w s) field ≡ false → all_there w (named_by (use_of link)) ≡ true →

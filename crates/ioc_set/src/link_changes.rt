@@ -1,4 +1,4 @@
-//! Link changes of lock sets: one set that is parted, and two that become one.
+//! Link changes of lock sets: one set that is divided, and two that become one.
 ghost use Rattle.std.specs.Prelude.{◌≡◌, ◌<◌, ◌≤◌, ◌+◌, ℕ, [], ◌∷◌, None, IsSome, Contains, IfOk, OnOk, OnErr};
 ghost use Rattle.std.specs.FinMap as map;
 ghost use Rattle.ioc_common.specs.Links.{use_of, named_by};
@@ -28,15 +28,17 @@ use ioc_workplace::{LivePuts, Workplace};
 use std::alloc::{AllocError, Global};
 
 impl<K: RecordKind + Drop, D: Drop> LockSet<K, D> {
-    /// Sets a link of a record: to nowhere, or to a record of this set. The set keeps the record's part and the counts, and the records
-    /// that no link joins to it any more come back as a set of their own, which may be empty, and which counts the answers that they still
-    /// await. Each record keeps the notification that it has,
-    /// each put that waits goes with its record, and the holders of each are counted anew in both. Nothing is sent yet: see
-    /// [`LockSet::rescan`]. `link` and `twin` are alike.
+    /// Sets a link of a record to nowhere, or to a record of this set. The set keeps the part of
+    /// the record and the counts. The records that no link joins to it any more are returned as a
+    /// set of their own, which may be empty and which counts the answers that they still await.
+    /// Each record stays part of its put with notification, each waiting put stays with its record,
+    /// and the parts of each are recounted in both sets. Nothing is sent yet: see
+    /// [`LockSet::rescan`]. `link` and `twin` must be equal.
     ///
     /// # Errors
     ///
-    /// [`AllocError`] where memory is wanting: nothing has changed then, but that the history is forgotten.
+    /// [`AllocError`] if allocation fails; nothing has changed then, except that the history is
+    /// cleared.
     pub fn split(
         &mut self,
         alloc: Global,
@@ -82,11 +84,13 @@ impl<K: RecordKind + Drop, D: Drop> LockSet<K, D> {
 }
 
 impl<K: RecordKind + Drop, D: Drop> LockSet<K, D> {
-    /// Sets a link of a record, which stood nowhere, to a record of another set, and takes over that set with its devices and its
-    /// counts, in a room that was taken before. The other has nothing then. Each record keeps the notification that it has, the puts that
-    /// wait in the other come behind those that wait here, and the holders of each are counted anew: for that, too, room was taken before, if
-    /// any is live. No put waits in both, and those that are live have room in one. Nothing is sent yet: see [`LockSet::rescan`]. `link` and
-    /// `twin` are alike.
+    /// Sets a link of a record, which led nowhere, to a record of another set, and takes over that
+    /// set with its devices and its counts, in memory that was reserved before; the other set is
+    /// empty then. Each record stays part of its put with notification, the puts that wait in the
+    /// other set come behind those that wait here, and the parts of each are recounted, for which
+    /// memory was reserved before too, if any is live. No put may wait in both, and the live ones
+    /// must fit into one set. Nothing is sent yet: see [`LockSet::rescan`]. `link` and `twin` must
+    /// be equal.
     pub fn unite(
         &mut self,
         alloc: Global,
@@ -138,8 +142,8 @@ impl<K: RecordKind + Drop, D: Drop> LockSet<K, D> {
 }
 
 impl<K: RecordKind + Drop, D: Device> LockSet<K, D> {
-    /// A link of a record that is there was set, whose device link had this text before: where it has another now, a change of its
-    /// scan list is sent. The set begins anew.
+    /// Sends a change of the scan list of a record whose link was set, if the text of its device
+    /// link is no longer `before`. The history is cleared.
     pub fn rescan(
         &mut self,
         place: &mut Workplace<K, D>,
@@ -164,13 +168,15 @@ impl<K: RecordKind + Drop, D: Device> LockSet<K, D> {
         self.members.are_few();
     }
 
-    /// Changes a link of a record: it leads nowhere then, or to a record of this set. The set keeps the record's part and the counts,
-    /// and the records that no link joins to it any more come back as a set of their own, which may be empty. Puts with notification that are
-    /// live go with their records, as [`LockSet::split`] says. `link` and `twin` are alike.
+    /// Changes a link of a record, which leads nowhere then, or to a record of this set. The set
+    /// keeps the part of the record and the counts. The records that no link joins to it any more
+    /// are returned as a set of their own, which may be empty. Live puts with notification stay
+    /// with their records, as described at [`LockSet::split`]. `link` and `twin` must be equal.
     ///
     /// # Errors
     ///
-    /// [`AllocError`] where memory is wanting: nothing has changed then, but that the history is forgotten.
+    /// [`AllocError`] if allocation fails; nothing has changed then, except that the history is
+    /// cleared.
     pub fn part(
         &mut self,
         place: &mut Workplace<K, D>,
@@ -194,14 +200,18 @@ impl<K: RecordKind + Drop, D: Device> LockSet<K, D> {
         Ok(rest)
     }
 
-    /// Leads a link of a record of this set to a record of another, which it takes over with its devices and its counts. The records of this
-    /// set that the link alone had joined to that record come back as a set of their own, which may be empty; the other has nothing then.
-    /// Puts with notification that are live go with their records, as [`LockSet::split`] and [`LockSet::unite`] say; no put waits in both sets,
-    /// and those that are live have room in one. All memory is taken before anything changes. `link` and `twin` are alike.
+    /// Changes a link of a record of this set to lead to a record of another set, which this set
+    /// takes over with its devices and its counts; the other set is empty then. The records of this
+    /// set that only this link had joined to that record are returned as a set of their own, which
+    /// may be empty. Live puts with notification stay with their records, as described at
+    /// [`LockSet::split`] and [`LockSet::unite`]; no put may wait in both sets, and the live ones
+    /// must fit into one. All memory is allocated before anything changes. `link` and `twin` must
+    /// be equal.
     ///
     /// # Errors
     ///
-    /// [`AllocError`] where memory is wanting: nothing has changed then, but that the history of this set is forgotten.
+    /// [`AllocError`] if allocation fails; nothing has changed then, except that the history of
+    /// this set is cleared.
     pub fn lead_into(
         &mut self,
         other: &mut LockSet<K, D>,

@@ -22,8 +22,8 @@ use ioc_values::Short;
 use ioc_workplace::{LivePuts, Workplace};
 use std::mem;
 
-/// A set begins anew: its history is forgotten, so that each record is its own base, and the puts with notification are those before it. This isn't
-/// inlined, since it is done after 64 events.
+/// Clears the history of a set, so that each record equals its base and the puts with notification
+/// are those before the history. It is not inlined, since it is done once in 64 events.
 #[inline(never)]
 pub fn begin_anew<K: RecordKind, D>(
     members: &mut Members<K, D>,
@@ -59,7 +59,8 @@ pub fn add_counts(tally: &mut Tally, other: &Tally)
     tally.completed = tally.completed.saturating_add(other.completed);
 }
 
-/// Sends a change of the scan list of a record that is there, whose device link had this text before, where it has another now.
+/// Sends a change of the scan list of a record, if the text of its device link is no longer
+/// `before`.
 pub fn rescan_on<K: RecordKind + Drop, D: Device>(
     place: &mut Workplace<K, D>,
     members: &mut Members<K, D>,

@@ -41,8 +41,8 @@ use ioc_workplace::live_puts::PutsRoom;
 use std::alloc::{AllocError, Global};
 use std::marker::Model;
 
-/// Records that links join, with their devices, the puts with notification that are live on them, the counts of their requests, and a history:
-/// the last events, at most 64, which lead from what was before them to what is there.
+/// Records that links join, with their devices, the live puts with notification, the counts of
+/// their requests, and a history: the last events, at most 64, and the state before them.
 #[derive(Drop)]
 pub struct LockSet<K: RecordKind, D> {
     pub(crate) members: Members<K, D>,
@@ -70,7 +70,7 @@ impl<K: RecordKind, D> Model for LockSet<K, D> {
     ghost invariant = { λ s. IsSound K.rules (held_by s.members s.puts s.base_tally s.tally s.history.items) × RecordsAreLikeTheirBase K.rules s.members };
 }
 
-// The text of a field of a record of these.
+// Returns the text of a field of one of these records.
 #[tactic(auto, unfolding(ioc_events::specs::Step::stepped, ioc_events::specs::Step::done_alone, ioc_events::specs::Step::done_there, ioc_store::specs::World::at))]
 fn text_in<K: RecordKind, D>(members: &Members<K, D>, number: RecordNo, field: FieldNo) -> Reply
     ensures { (answers : Answers) (live : List Live) (waiting : List Waiting) → result ≡ (stepped K.rules answers (resting members.now.records live waiting) (Get number field)).reply }
@@ -86,7 +86,7 @@ fn text_in<K: RecordKind, D>(members: &Members<K, D>, number: RecordNo, field: F
 }
 
 impl<K: RecordKind, D> LockSet<K, D> {
-    /// A set with no records.
+    /// Creates a set with no records.
     pub fn empty(alloc: Global) -> Self
         ensures { result ≡ nothing_held }
     {
@@ -100,62 +100,66 @@ impl<K: RecordKind, D> LockSet<K, D> {
         }
     }
 
-    /// What holds of each set whenever it is free.
+    /// A set is sound whenever it is not in use.
     pub fn is_sound(&self)
         ensures { IsSound K.rules self.now }
     {
         let _ = &self.members;
     }
 
-    /// Each device is that of a record of the set.
+    /// Each device belongs to a record of the set.
     pub fn devices_are_owned(&self)
         ensures { (q : ℕ) → IsSome (map.get self.now.devices q) → IsSome (map.get self.now.records q) }
     {
         self.members.devices_are_owned();
     }
 
-    /// How many records there are.
+    /// Returns the number of records.
     pub fn len(&self) -> usize
         ensures { result ≡ map.len self.now.records }
     {
         self.members.len()
     }
 
-    /// Is there a record of this number?
+    /// Returns whether there is a record with this number.
     pub fn has(&self, number: RecordNo) -> bool
         ensures { result ≡ map.contains_key self.now.records number }
     {
         self.members.has(number)
     }
 
-    /// The number of the record at a place, from 0 on, in the order of their numbers; none past the last.
+    /// Returns the number of the record at a place, from 0 on, in the order of the numbers, or
+    /// `None` past the last.
     pub fn number_at(&self, place: usize) -> Option<RecordNo>
         ensures { result ≡ slice_get (map.keys self.now.records) place }
     {
         self.members.number_at(place)
     }
 
-    /// The counts of requests, and of answers that come later. Where a set falls apart they stay with one part, but for the answers that the other
-    /// still awaits; where two become one they are added.
+    /// Returns the counts of requests, and of calls that are answered later. If a set is divided,
+    /// they stay with one part, except for the answers that the other still awaits; if two become
+    /// one, they are added.
     pub fn tally(&self) -> Tally
         ensures { result ≡ self.now.tally }
     {
         self.tally
     }
 
-    /// The text of a field.
+    /// Returns the text of a field.
     ///
     /// # Errors
     ///
-    /// The reply is a refusal, [`IocError::NoRecord`] or [`IocError::NoField`] in this order, where there is no such record or field.
+    /// The reply is a refusal, [`IocError::NoRecord`] or [`IocError::NoField`] in this order, if
+    /// there is no such record or field.
     pub fn get(&self, number: RecordNo, field: FieldNo) -> Reply
         ensures { (answers : Answers) → result ≡ (stepped K.rules answers (now_of self.now) (Get number field)).reply }
     {
         text_in(&self.members, number, field)
     }
 
-    /// Why a question or a put on records that are there is no call: the record's type has no such field, or the field can't be put. It would
-    /// be refused for that, and change nothing.
+    /// Returns the error of a get or a put on a record of this set that is no call: the record's
+    /// type has no such field, or the field can't be put. It would be refused with this error and
+    /// change nothing.
     #[tactic(auto, unfolding(crate::specs::NoCalls::no_call, ioc_store::specs::World::at), using(crate::proofs::NoCalls::no_call_is_refused))]
     pub fn no_call(&self, event: &Event) -> Option<IocError>
         requires there { (n : ℕ) → Contains (names event.now) n → Has (now_of self.now) n }
@@ -179,7 +183,7 @@ impl<K: RecordKind, D> LockSet<K, D> {
         }
     }
 
-    /// Whether a put with notification is live.
+    /// Returns whether a put with notification is live.
     #[tactic(auto, unfolding(ioc_events::specs::Step::stepped, ioc_events::specs::Step::done_alone, ioc_events::specs::Step::done_there))]
     pub fn live(&self, number: NotifyId) -> Reply
         ensures { (answers : Answers) → result ≡ (stepped K.rules answers (now_of self.now) (IsLive number)).reply }
@@ -187,21 +191,22 @@ impl<K: RecordKind, D> LockSet<K, D> {
         Reply::Live(self.puts.is_live(number))
     }
 
-    /// The puts with notification that are live on the set, with how many of its records and waiting lists have each.
+    /// Returns the live puts with notification of the set, with the number of its records and
+    /// waiting lists that are part of each.
     pub fn live_puts(&self) -> &[Live]
         ensures { result.now ≡ self.now.live }
     {
         self.puts.live()
     }
 
-    /// No more than 256 are live on the set: there is no room for more.
+    /// At most 256 are live on the set, since there is no room for more.
     pub fn puts_are_few(&self)
         ensures { length self.now.live ≤ 256 }
     {
         self.puts.are_few();
     }
 
-    /// Is no put with notification live on the set? Then none waits either.
+    /// Returns whether no put with notification is live on the set. If so, none waits either.
     pub fn none_is_live(&self) -> bool
         ensures { IsTrue result ↔ NoneIsLive self.now }
     {
@@ -210,7 +215,8 @@ impl<K: RecordKind, D> LockSet<K, D> {
 }
 
 impl<K: RecordKind, D> LockSet<K, D> {
-    /// A set of these members, with no counts and no history yet: none of them awaits a completion.
+    /// Creates a set of these members, with no counts and no history. None of them may await a
+    /// completion.
     pub fn of(alloc: Global, members: Members<K, D>) -> Self
         requires base { members.base ≡ members.records }
         requires part { IsPart (links_of K.rules members.records) }
@@ -230,14 +236,14 @@ impl<K: RecordKind, D> LockSet<K, D> {
         }
     }
 
-    /// Is there a record of this number, and is the field one of its link fields?
+    /// Returns whether there is a record with this number, and the field is one of its link fields.
     pub fn has_link(&self, number: RecordNo, field: FieldNo) -> bool
         ensures { IsTrue result ↔ HasLink K.rules self.now.records number field }
     {
         self.members.has_link(number, field)
     }
 
-    /// Does DISP of a record that is there forbid a change of this field?
+    /// Returns whether DISP of a record of this set forbids a change of this field.
     pub fn forbids(&self, number: RecordNo, field: FieldNo) -> bool
         requires { Has (now_of self.now) number }
         ensures { result ≡ stops_put (common_at K.rules (now_of self.now) number) field }
@@ -245,35 +251,36 @@ impl<K: RecordKind, D> LockSet<K, D> {
         stops_put(self.members.record(number).common(), field)
     }
 
-    /// Does the link name no record but one that is there?
+    /// Returns whether the link names no record outside this set.
     pub fn leads_within(&self, link: &KeptLink) -> bool
         ensures { IsTrue result ↔ ((t : ℕ) → Contains (named_by (use_of link.now)) t → IsSome (map.get self.now.records t)) }
     {
         self.members.leads_within(link)
     }
 
-    /// Does the link name a record that is there?
+    /// Returns whether the link names a record of this set.
     pub fn leads_into(&self, link: &KeptLink) -> bool
         ensures { IsTrue result ↔ ((t : ℕ) × (named_by (use_of link.now) ≡ t ∷ []) × IsSome (map.get self.now.records t)) }
     {
         self.members.leads_into(link)
     }
 
-    /// Is no record in both?
+    /// Returns whether no record is in both.
     pub fn is_apart(&self, other: &LockSet<K, D>) -> bool
         ensures { IsTrue result ↔ ((q : ℕ) → IsSome (map.get self.now.records q) → map.get other.now.records q ≡ None) }
     {
         self.members.is_apart(&other.members)
     }
 
-    /// Fewer than 2^63 records are there: there is no memory for more.
+    /// There are fewer than 2^63 records, since no more fit into memory.
     pub fn are_few(&self)
         ensures { map.len self.now.records < 2 ^ 63 }
     {
         self.members.are_few();
     }
 
-    // Room for the puts with notification of both in one, where any is live; no room where none is.
+    // Reserves room for the puts with notification of both sets in one, if any is live; otherwise
+    // returns `None`.
     pub(crate) fn puts_room_with(
         &self,
         other: &LockSet<K, D>,
@@ -284,7 +291,7 @@ impl<K: RecordKind, D> LockSet<K, D> {
         self.puts.room_with(&other.puts, alloc)
     }
 
-    /// Forgets the history.
+    /// Clears the history.
     pub fn fold(&mut self)
         ensures { self.new ≡ folded self.old }
     {
@@ -299,7 +306,8 @@ impl<K: RecordKind, D> LockSet<K, D> {
         );
     }
 
-    /// The text of the device link of a record that is there, in INP or OUT; empty where it has none.
+    /// Returns the text of the device link of a record of this set, in INP or OUT; empty if it has
+    /// none.
     pub fn device_text(&self, number: RecordNo) -> Short<MAX_DEVICE_BYTES>
         requires { Has (now_of self.now) number }
         ensures { result ≡ device_of K.rules (at K.rules (now_of self.now) number) }

@@ -1,4 +1,4 @@
-//! Questions and puts that are no calls.
+//! Gets and puts that are no calls.
 ghost use Rattle.std.specs.Prelude.{◌≡◌};
 ghost use Rattle.ioc_fields.specs.Table.{row_of};
 ghost use Rattle.ioc_record.specs.Values.{kind_to_put};
@@ -7,7 +7,7 @@ ghost use Rattle.ioc_set.specs.NoCalls.{why_not_shown, why_not_put};
 use ioc_fields::{FieldNo, RecordType, row_of};
 use ioc_values::IocError;
 
-/// Why a field isn't shown: the type has no such field.
+/// Returns why a field can't be read: the type has no such field.
 pub fn why_not_shown(record_type: RecordType, field: FieldNo) -> Option<IocError>
     ensures { result ≡ why_not_shown (row_of record_type field) }
 {
@@ -17,7 +17,7 @@ pub fn why_not_shown(record_type: RecordType, field: FieldNo) -> Option<IocError
     }
 }
 
-/// Why a field isn't put: the type has no such field, or it can't be put.
+/// Returns why a field can't be put: the type has no such field, or it can't be put.
 #[tactic(auto, unfolding(ioc_record::specs::Values::kind_to_put))]
 pub fn why_not_put(record_type: RecordType, field: FieldNo) -> Option<IocError>
     ensures { result ≡ why_not_put (kind_to_put record_type field) }

@@ -26,7 +26,8 @@ use ioc_workplace::{LivePuts, Workplace};
 use std::alloc::Global;
 use std::mem;
 
-/// A request, a put, a completion, a put with notification or a cancel. It is inlined: who calls it mostly knows which of them it is.
+/// Runs a request, a put, a completion, a put with notification or a cancel. It is inlined, since
+/// most callers know which of them it is.
 #[inline(always)]
 pub fn run_event<S: Store>(
     store: &mut S,
@@ -58,8 +59,9 @@ pub fn run_event<S: Store>(
     }
 }
 
-/// Does an event on the members of a set and its puts with notification, and tells it. There is room for the frames and the answers, and for a
-/// put with notification, if it is one.
+/// Does an event on the members of a set and its puts with notification, and returns its history
+/// entry. There must be room for the frames and the answers, and for a put with notification, if it
+/// is one.
 #[inline(always)]
 pub fn run_on<K: RecordKind + Drop, D: Device>(
     place: &mut Workplace<K, D>,

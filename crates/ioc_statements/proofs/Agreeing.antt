@@ -1,17 +1,17 @@
--- A reading of tokens and the same with more tokens behind.
+-- A reading of tokens, compared with one of the same tokens followed by more.
 use Rattle.std.proofs.Common.{◌≡◌, Bool, true, false, cond, List, [], Result, Ok, Err, ◌∙◌}
 use Rattle.ioc_values.specs.declared.error.BadDbKind.TheVariants as kinds
 use Rattle.ioc_values.specs.declared.error.DbFault.{DbFault}
 use Rattle.ioc_dbtext.specs.Lexing.{Lexeme}
 use Rattle.ioc_statements.specs.Statements.{◌>>=◌}
 
--- they give the same, or the first was at the end of its tokens
+-- The results are equal, or the first reading was at the end of its tokens.
 pub data Agrees {A : Type 0} (onto : A → A) : Result A DbFault → Result A DbFault → Type 0 where
   both : (x : A) → Agrees onto (Ok x) (Ok (onto x))
   refused : (e : DbFault) → Agrees onto (Err e) (Err e)
   short : (e : DbFault) (after : Result A DbFault) → e.kind ≡ kinds.OpenBody → Agrees onto (Err e) after
 
--- the first is refused and so is the second, or the first was at the end of its tokens
+-- If the first reading is refused, so is the second, or the first was at the end of its tokens.
 pub data Refused {A : Type 0} : Result A DbFault → Result A DbFault → Type 0 where
   taken : (x : A) (after : Result A DbFault) → Refused (Ok x) after
   same : (e : DbFault) → Refused (Err e) (Err e)
@@ -37,17 +37,17 @@ refused_by e (taken x after) i inside = cc
 refused_by e (same d) i inside = i
 refused_by e (ended d after o) i inside = absurd (inside (let j : d ≡ e = cc in rw (← j) o))
 
--- a fault that is not the end stays the fault
+-- A fault other than the end stays the fault.
 pub fault_stays : {A : Type 0} (r after : Result A DbFault) (e : DbFault) → Refused r after → r ≡ Err e → (e.kind ≡ kinds.OpenBody → ⊥) → after ≡ Err e
 fault_stays r after e h i inside = refused_by e h i inside
 
--- by the same test
+-- The readings agree if they branch by the same test.
 pub agrees_cond : {A : Type 0} {f : A → A} (t : Bool) (r after q later : Result A DbFault) → Agrees f r after → Agrees f q later → Agrees f (cond t r q) (cond t after later)
 agrees_cond true r after q later h k = h
 agrees_cond false r after q later h k = k
 
--- the reading of a statement, which may end with the tokens: they give the same, or the first was at the end of its tokens,
--- and refused or done
+-- The reading of a statement, which may end with the tokens: the results are equal, or the first
+-- reading was at the end of its tokens and is refused or done.
 pub data Goes {A : Type 0} (onto : A → A) (rest : A → List Lexeme) : Result A DbFault → Result A DbFault → Type 0 where
   agreed : (r after : Result A DbFault) → Agrees onto r after → Goes onto rest r after
   at_end : (x : A) (after : Result A DbFault) → rest x ≡ [] → Goes onto rest (Ok x) after

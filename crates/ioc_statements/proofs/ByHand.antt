@@ -9,7 +9,7 @@ use Rattle.ioc_statements.specs.Rules.{Rules}
 use Rattle.ioc_statements.specs.Loading.{filled_by_texts, filled_by}
 use Rattle.ioc_statements.specs.Laws.{SameTexts}
 
--- the bytes of lines
+-- The number of bytes of lines.
 abbrev total : List (List ℕ) → ℕ
 total [] = 0
 total (l ∷ ls) = length l + total ls
@@ -24,7 +24,7 @@ lines_total (b ∷ bs) =
     let behind : total (lines_of bs) ≡ length bs = lines_total bs in
     elim (cases_Bool (eqb b 10)) [ inl is ↦ rw is (omega arith) | inr is ↦ rw is (omega (arith, onto_total b (lines_of bs))) ]
 
--- the texts of lines that all may be read
+-- Lines that may all be read have equal texts.
 same_texts : (macros : List Defined) (room more : ℕ) (ls hs : List (List ℕ)) → total ls ≤ room → total hs ≤ more → SameTexts macros ls hs → expansion macros room ls ≡ expansion [] more hs
 same_texts macros room more [] [] a b h = refl
 same_texts macros room more [] (x ∷ xs) a b h = absurd h
@@ -35,7 +35,7 @@ same_texts macros room more (l ∷ ls) (x ∷ xs) a b h =
     let behind = same_texts macros (room - length l) (more - length x) ls xs (omega arith) (omega arith) h.1 in
     rw (first, other, h.0) (ap (onto_texts (line_text [] x)) behind)
 
--- a text whose macros are replaced by hand makes the same
+-- A text whose macros are replaced by hand has the same result.
 pub macros_by_hand : {S : Type 0} (rules : Rules S) (s : S) (macros : List Defined) (text hand : List ℕ) → length text ≤ most_bytes → length hand ≤ most_bytes → SameTexts macros (lines_of text) (lines_of hand) → filled_by rules s macros text ≡ filled_by rules s [] hand
 unfolding filled_by
 macros_by_hand rules s macros text hand a b h =

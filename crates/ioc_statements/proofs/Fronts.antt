@@ -31,7 +31,7 @@ lines_append (x ∷ y ∷ ys) b h =
       | inr is ↦ rw is (ap (onto_first x) (lines_append (y ∷ ys) b h) ∙ onto_append x (lines_of b) (lines_of (y ∷ ys)) (first_line (y ∷ ys)) (lines_of (behind_line (y ∷ ys))) (splits_off y ys))
     ]
 
--- more lines behind, or the first stopped
+-- More lines follow, or the first expansion stopped.
 data Extends : Expansion → Expansion → Type 0 where
   extended : (texts others : List (List ℕ)) (end : End) → Extends (record { texts = texts; end = Whole }) (record { texts = texts ++ others; end = end })
   stopped : (e : Expansion) → Extends e e
@@ -52,7 +52,7 @@ expansion_extends : (macros : List Defined) (room : ℕ) (ls ms : List (List ℕ
 expansion_extends macros room [] ms = extended [] (expansion macros room ms).texts (expansion macros room ms).end
 expansion_extends macros room (l ∷ ls) ms = line_extends (nat_lt room (length l)) room (line_text macros l) _ _ (expansion_extends macros (room - length l) ls ms)
 
--- tokens that begin with these
+-- Tokens that begin with these.
 abbrev IsFront : List Lexeme → List Lexeme → Type 0
 IsFront front whole = (more : List Lexeme) × (whole ≡ front ++ more)
 
@@ -85,7 +85,7 @@ front_of_texts : (e f : Expansion) → Extends e f → IsFront (tokens_of e.end 
 front_of_texts e f (extended texts others end) = tokens_front 1 texts others end
 front_of_texts e f (stopped x) = ([], append_nil (tokens_of x.end 1 x.texts))
 
--- a fault in some lines is the fault of each text that begins with them
+-- A fault in some lines is the fault of each text that begins with them.
 pub fault_of_lines : {S : Type 0} (rules : Rules S) (s : S) (macros : List Defined) (lines more : List ℕ) (e : DbFault) → ends_line lines ≡ true → filled_by rules s macros lines ≡ Err e → (e.kind ≡ kinds.OpenBody → ⊥) → filled_by rules s macros (lines ++ more) ≡ Err e
 unfolding filled_by
 fault_of_lines rules s macros lines more e ends i inside =

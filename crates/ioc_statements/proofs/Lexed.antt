@@ -1,4 +1,4 @@
--- Pieces with blanks, as lines and tokens see them.
+-- Pieces with blanks, in terms of lines and tokens.
 use Rattle.std.proofs.Common.{◌≡◌, ℕ, ◌+◌, Bool, true, false, cond, not, ◌&&◌, ◌||◌, eqb, List, [], ◌∷◌, ◌++◌, Option, Some, None, refl, sym, ap, append_assoc, ◌∙◌, inl, inr}
 use Rattle.std.specs.List.{onto_first}
 use Rattle.std.proofs.lemmas.Bool.{cases_Bool, eqb-true}
@@ -9,7 +9,7 @@ use Rattle.ioc_dbtext.specs.Lexing.{is_sign}
 use Rattle.ioc_dbtext.specs.Macros.{Defined, onto_text, replaced}
 use Rattle.ioc_statements.specs.Spelling.{Each, is_space, is_plain, is_inner, escaped_of, Piece, Call, Mark, Text, with_gaps, comment_text, IsComment}
 
--- a byte of a class is none that isn't in it
+-- A byte of a class differs from every byte outside.
 pub other_byte : (p : ℕ → Bool) (b c : ℕ) → p b ≡ true → p c ≡ false → eqb b c ≡ false
 other_byte p b c is_in nope =
     elim (cases_Bool (eqb b c)) [
@@ -17,7 +17,7 @@ other_byte p b c is_in nope =
       | inr other ↦ other
     ]
 
--- a piece that can be spelled
+-- A piece that can be spelled.
 abbrev pub Fine : List Piece → Type 0
 Fine [] = Unit {0}
 Fine (Call word ∷ ps) = (word ≡ [] → ⊥) × Each is_word_byte word × Fine ps
@@ -40,7 +40,7 @@ pub or_right : (s t : Bool) → (s || t) ≡ false → t ≡ false
 or_right true t h = absurd (let clash : true ≡ false = h in cc)
 or_right false t h = h
 
--- ---- the line of pieces is plain
+-- Lemmas that a line of pieces is plain.
 
 space_plain : (b : ℕ) → is_space b ≡ true → is_plain b ≡ true
 space_plain b h = rw (other_byte is_space b 10 h refl, other_byte is_space b 36 h refl) refl
@@ -74,7 +74,7 @@ module _ (gaps : ℕ → List ℕ) (spaces : (i : ℕ) → Each is_space (gaps i
   all_plain i (Text text ∷ ps) h =
       each_append is_plain (gaps i) _ (gap_plain i) (refl, each_append is_plain (escaped_of text) _ (escaped_plain text h.0) (refl, all_plain (i + 1) ps h.1))
 
--- what stands behind the pieces stands behind their line
+-- What follows the pieces follows their line.
 after : (xs y z behind : List ℕ) → y ≡ z ++ behind → xs ++ y ≡ (xs ++ z) ++ behind
 after xs y z behind e = ap (λ (l : List ℕ). xs ++ l) e ∙ sym (append_assoc xs z behind)
 
@@ -89,7 +89,7 @@ gaps_append gaps i (Mark b ∷ ps) behind = after (gaps i) _ _ behind (later b _
 gaps_append gaps i (Text text ∷ ps) behind =
     after (gaps i) _ _ behind (later 34 _ _ behind (after (escaped_of text) _ _ behind (later 34 _ _ behind (gaps_append gaps (i + 1) ps behind))))
 
--- ---- a line without line feeds
+-- Lemmas about a line without line feeds.
 
 abbrev pub is_unfed : ℕ → Bool
 is_unfed b = not (eqb b 10)
@@ -131,13 +131,13 @@ no_end : (line : List ℕ) → Each is_unfed line → without_end line ≡ line
 no_end [] h = refl
 no_end (b ∷ bs) h = rw (not_feed b h.0, no_feed_next bs h.1, never (eqb b 13)) (ap (λ (l : List ℕ). b ∷ l) (no_end bs h.1))
 
--- ---- no macro in plain bytes
+-- Plain bytes have no macro.
 
 pub no_macro : (macros : List Defined) (line : List ℕ) → Each is_plain line → replaced macros line ≡ Some line
 no_macro macros [] h = refl
 no_macro macros (b ∷ bs) h = rw (not_dollar b h.0) (ap (onto_text (b ∷ [])) (no_macro macros bs h.1))
 
--- ---- no comment in pieces
+-- Lemmas that pieces have no comment.
 
 abbrev is_neutral : ℕ → Bool
 is_neutral b = not ((eqb b 34) || (eqb b 35))
@@ -202,13 +202,13 @@ module _ (gaps : ℕ → List ℕ) (spaces : (i : ℕ) → Each is_space (gaps i
   comment_goes None = refl
   comment_goes (Some c) = refl
 
-  -- what stands in the line of some pieces, whatever ends it
+  -- The text of a line of pieces, however the line ends.
   pub line_text_is : (macros : List Defined) (line : List ℕ) (ps : List Piece) (c : Option (List ℕ)) → Fine ps → without_end line ≡ with_gaps gaps 0 ps (comment_text c) → line_text macros line ≡ Some (with_gaps gaps 0 ps [])
   unfolding line_text
   line_text_is macros line ps c h e =
       let whole : uncommented Outside (without_end line) ≡ with_gaps gaps 0 ps [] = ap (uncommented Outside) e ∙ no_comment 0 ps (comment_text c) h ∙ ap (with_gaps gaps 0 ps) (comment_goes c) in
       ap (replaced macros) whole ∙ no_macro macros (with_gaps gaps 0 ps []) (all_plain gaps spaces 0 ps h)
 
-  -- what stands in the line of some pieces is the line
+  -- The text of a line of pieces is the line.
   pub line_text_same : (macros : List Defined) (ps : List Piece) → Fine ps → line_text macros (with_gaps gaps 0 ps []) ≡ Some (with_gaps gaps 0 ps [])
   line_text_same macros ps h = line_text_is macros (with_gaps gaps 0 ps []) ps None h (no_end (with_gaps gaps 0 ps []) (all_unfed gaps spaces ps h None tt))

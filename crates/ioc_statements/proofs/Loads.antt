@@ -1,4 +1,4 @@
--- From the texts of lines to what they make of a database.
+-- From the texts of lines to the database that they make.
 use Rattle.std.proofs.Common.{◌≡◌, ℕ, List, [], ◌∷◌, length, drop, refl, sym, ap, ◌∙◌, arith}
 use Rattle.ioc_dbtext.specs.declared.texts.Texts.{Texts}
 use Rattle.ioc_dbtext.specs.Lines.{lines_of}
@@ -11,12 +11,12 @@ use Rattle.ioc_statements.specs.Rules.{Rules}
 use Rattle.ioc_statements.specs.Statements.{filled}
 use Rattle.ioc_statements.specs.Loading.{filled_by_texts, filled_by}
 
--- as many parts as lengths
+-- There are as many parts as lengths.
 length-parts_of : (ns bytes : List ℕ) → length (parts_of ns bytes) ≡ length ns
 length-parts_of [] bytes = refl
 length-parts_of (n ∷ ns) bytes = omega (arith, length-parts_of ns (drop n bytes))
 
--- the tokens of the expanded text fill the database as the text does
+-- The tokens of the expanded text fill the database as the text does.
 pub filled_so : {S : Type 0} (rules : Rules S) (s : S) (macros : List Defined) (t : Texts) (text : List ℕ) (last : ℕ) (tokens : List Lexeme) → expansion_of t ≡ expansion macros most_bytes (lines_of text) → last ≡ length t.lengths.items
     → tokens ≡ tokens_of t.end 1 (expansion_of t).texts → filled rules last s tokens ≡ filled_by rules s macros text
 unfolding filled_by

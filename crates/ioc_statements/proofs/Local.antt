@@ -1,4 +1,4 @@
--- Readers of tokens look at no token behind the one that they refuse.
+-- Readers of tokens don't depend on the tokens after a refused one.
 use Rattle.std.proofs.Common.{◌≡◌, ℕ, zero, suc, Bool, true, false, cond, List, [], ◌∷◌, ◌++◌, Option, Some, None, Result, Ok, Err, length, ◌+◌, ◌<◌, arith, length-append, sym, ◌∙◌, refl, codes}
 use Rattle.ioc_values.specs.declared.error.BadDbKind.{BadDbKind}
 use Rattle.ioc_values.specs.declared.error.BadDbKind.TheVariants as kinds
@@ -196,7 +196,7 @@ module _ (last last' : ℕ) (more : List Lexeme) where
     unfolding statement_at
     statement_local turns s t ts = goes_bind onto₃ third _ _ (next_local (t ∷ ts)) (λ token. statement_by_local turns s token)
 
-    -- at the end of the tokens nothing is read
+    -- At the end of the tokens nothing is read.
     others_end : (all turns : ℕ) (r : Bool × S × List Lexeme) (later : Result (S × List Lexeme) DbFault) → r.2 ≡ [] → Refused (and_others (repeated (statement_at rules all last) (at last kinds.OpenBody) turns) r) later
     unfolding repeated statement_at
     others_end all turns (false, s, rest) later e = taken (s, rest) later
@@ -215,7 +215,7 @@ module _ (last last' : ℕ) (more : List Lexeme) where
     repeated_refused all (suc turns) s (t ∷ ts) =
         refused_goes _ _ (statement_local all s t ts) (λ r. others_refused r (repeated (statement_at rules all last) (at last kinds.OpenBody) turns) (repeated (statement_at rules all last') (at last' kinds.OpenBody) turns) (repeated_refused all turns)) (others_end all turns)
 
-    -- a fault that some tokens give is that of all tokens that begin so
+    -- The fault of some tokens is that of all tokens that begin with them.
     pub filled_local : (s : S) (ts : List Lexeme) (e : DbFault) → filled rules last s ts ≡ Err e → (e.kind ≡ kinds.OpenBody → ⊥) → filled rules last' s (ts ++ more) ≡ Err e
     filled_local s ts e i inside =
         let all = length (ts ++ more) + 1 in

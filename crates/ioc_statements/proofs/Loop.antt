@@ -1,4 +1,4 @@
--- Steps one after the other, as a loop makes them.
+-- Steps in the order of a loop.
 use Rattle.std.proofs.Common.{◌≡◌, ℕ, suc, ◌-◌, ◌+◌, ◌≤◌, ◌<◌, Bool, true, false, List, Result, Ok, Err, refl, sym, ◌∙◌, arith}
 use Rattle.ioc_values.specs.declared.error.DbFault.{DbFault}
 use Rattle.ioc_values.specs.declared.error.IocError.{IocError}
@@ -35,7 +35,7 @@ module _ {S : Type 0} (step : S → List Lexeme → Result (Bool × S × List Le
       let one : repeated step out (turns - i) s tokens ≡ Err out = rw k refl in
       sym so_far ∙ one
 
--- what was given, and what is made of it
+-- The result of a step followed by a function of it.
 pub gives_then : {X Y Z : Type 0} (view : X → Y) (k : Y → Z) (r : Result X IocError) (wanted : Result Y DbFault) → Gives view r wanted → Gives (λ x. k (view x)) r (wanted >>= λ y. Ok (k y))
 gives_then view k (Ok x) wanted h = rw h refl
 gives_then view k (Err (errors.BadDb f)) wanted h = rw h refl

@@ -17,7 +17,7 @@ use Rattle.ioc_statements.proofs.Spelled.{lexemes, pieces_tokens}
 use Rattle.ioc_statements.proofs.Reading.{statements_count, statements_fine}
 use Rattle.ioc_statements.proofs.Saying.{Says, says_append, says_self, tokens_said}
 
--- ---- a plain line with its line feed
+-- Lemmas about a plain line with its line feed.
 
 abbrev feed : List ℕ
 feed = 10 ∷ []
@@ -26,7 +26,7 @@ line_first : (line rest : List ℕ) → Each is_unfed line → lines_of (line ++
 line_first [] rest h = refl
 line_first (b ∷ bs) rest h = rw (not_feed b h.0) (ap (onto_first b) (line_first bs rest h.1))
 
--- the last byte is no carriage return
+-- The last byte is no carriage return.
 abbrev Ends : List ℕ → Type 0
 Ends [] = Unit {0}
 Ends (b ∷ []) = eqb b 13 ≡ false
@@ -93,19 +93,19 @@ no_end_feed (b ∷ c ∷ cs) h e =
     let apart : ((eqb b 13) && begins_with 10 (c ∷ cs ++ feed)) ≡ false = rw (not_feed c h.1.0) (never (eqb b 13)) in
     no_end_step b (c ∷ cs ++ feed) (c ∷ cs) h.0 apart (no_end_feed (c ∷ cs) h.1 e)
 
--- what stands in the line of some pieces is the line without its comment and its line feed
+-- The text of a line of pieces is the line without its comment and its line feed.
 text_same : (macros : List Defined) (gaps : ℕ → List ℕ) (ps : List Piece) (c : Option (List ℕ)) → ((i : ℕ) → Each is_space (gaps i)) → Fine ps → IsComment c → line_text macros (with_gaps gaps 0 ps (comment_text c) ++ feed) ≡ Some (with_gaps gaps 0 ps [])
 text_same macros gaps ps c spaces h k =
     line_text_is gaps spaces macros _ ps c h (no_end_feed (with_gaps gaps 0 ps (comment_text c)) (all_unfed gaps spaces ps h c k) (ends_line gaps 0 ps (comment_text c) spaces h (ends_comment c k)))
 
--- ---- all lines
+-- Lemmas about all lines.
 
--- the texts of lines
+-- The texts of lines.
 abbrev texts_on : List PieceLine → List (List ℕ)
 texts_on [] = []
 texts_on (l ∷ ls) = with_gaps l.gaps 0 l.pieces [] ∷ texts_on ls
 
--- the pieces of each line can be spelled
+-- The pieces of each line can be spelled.
 abbrev FineLines : List PieceLine → Type 0
 FineLines [] = Unit {0}
 FineLines (l ∷ ls) = Fine l.pieces × FineLines ls
@@ -144,7 +144,7 @@ unfolding lexemes_on
 says_on n [] = refl
 says_on n (l ∷ ls) = says_append n l.pieces (pieces_on ls) (lexemes_on (n + 1) ls) (says_on (n + 1) ls)
 
--- the form of statements that is spelled on lines reads as these statements
+-- Statements that are spelled on lines read as these statements.
 pub spelled_on_lines : {S : Type 0} (rules : Rules S) (statements : List Statement) (lines : List PieceLine) (macros : List Defined) (old new : S) → pieces_on lines ≡ pieces_of statements → Spaced lines → PlainStatements statements → length (on_lines lines) ≤ most_bytes → Makes rules statements old new
     → filled_by rules old macros (on_lines lines) ≡ Ok new
 unfolding filled_by most_bytes
@@ -154,7 +154,7 @@ spelled_on_lines rules xs ls macros old new same spaced plain short makes =
     let said : Says (pieces_of xs) (lexemes_on 1 ls) = rw (← same) (says_on 1 ls) in
     ap (λ (x : Expansion). filled rules (length x.texts) old (tokens_of x.end 1 x.texts)) all ∙ ap (filled rules (length (texts_on ls)) old) (tokens_on 1 ls spaced fine) ∙ tokens_said rules (length (texts_on ls)) xs old new (lexemes_on 1 ls) (statements_count xs) makes said
 
--- ---- one line without a line feed
+-- Lemmas about one line without a line feed.
 
 abbrev tokens_of_expansion : Expansion → List Lexeme
 tokens_of_expansion e = tokens_of e.end 1 e.texts
@@ -169,7 +169,7 @@ lexemes_nil : (ts : List Lexeme) → ts ++ [] ≡ ts
 lexemes_nil [] = refl
 lexemes_nil (t ∷ ts) = ap (λ us. t ∷ us) (lexemes_nil ts)
 
--- the spelled form of statements, with any blanks, reads as these statements
+-- The spelled form of statements, with any blanks, reads as these statements.
 pub spelled_is_read : {S : Type 0} (rules : Rules S) (statements : List Statement) (gaps : ℕ → List ℕ) (macros : List Defined) (old new : S) → ((i : ℕ) → Each is_space (gaps i)) → PlainStatements statements → length (spelled gaps statements) ≤ most_bytes → Makes rules statements old new
     → filled_by rules old macros (spelled gaps statements) ≡ Ok new
 unfolding filled_by most_bytes

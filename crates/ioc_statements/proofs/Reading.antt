@@ -1,4 +1,4 @@
--- What spelled texts say, and the pieces that spell statements.
+-- The texts of spelled words, and the pieces that spell statements.
 use Rattle.std.proofs.Common.{◌≡◌, ℕ, ◌+◌, ◌≤◌, Bool, true, false, cond, ◌||◌, eqb, List, [], ◌∷◌, length, refl, ap, arith, codes}
 use Rattle.ioc_dbtext.specs.Bytes.{escapes, is_word_byte}
 use Rattle.ioc_dbtext.specs.Lexing.{is_sign}
@@ -6,7 +6,7 @@ use Rattle.ioc_dbtokens.specs.Escapes.{escaped_byte, piece_of, unescaped_from}
 use Rattle.ioc_statements.specs.Spelling.{Each, escaped_of, Entry, Field, Info, Second, Opening, Record, Grecord, Statement, Full, Bare, Alias, Piece, Mark, entries_pieces, opening_word, pieces_of, PlainEntries, PlainStatements}
 use Rattle.ioc_statements.proofs.Lexed.{Fine}
 
--- ---- what a spelled text says
+-- Lemmas about the text of a spelled word.
 
 again_step : (t u in_value : Bool) (b : ℕ) (text rest : List ℕ) → eqb b 34 ≡ t → eqb b 92 ≡ u → unescaped_from in_value false text ≡ rest
     → unescaped_from in_value false (cond (t || u) (92 ∷ b ∷ text) (b ∷ text)) ≡ b ∷ rest
@@ -19,7 +19,7 @@ pub again : (in_value : Bool) (text : List ℕ) → unescaped_from in_value fals
 again in_value [] = refl
 again in_value (b ∷ bs) = again_step (eqb b 34) (eqb b 92) in_value b (escaped_of bs) bs refl refl (again in_value bs)
 
--- ---- the pieces of statements
+-- Lemmas about the pieces of statements.
 
 pub entries_count : (es : List Entry) (behind : List Piece) → length es + length behind ≤ length (entries_pieces es behind)
 entries_count [] behind = omega arith
@@ -33,7 +33,7 @@ statements_count (Full word type name es ∷ xs) = omega (arith, statements_coun
 statements_count (Bare word type name ∷ xs) = omega (arith, statements_count xs)
 statements_count (Alias name second ∷ xs) = omega (arith, statements_count xs)
 
--- a word that is written can be spelled
+-- Holds of a word that can be spelled.
 abbrev Spells : List ℕ → Type 0
 Spells word = (word ≡ [] → ⊥) × Each is_word_byte word
 

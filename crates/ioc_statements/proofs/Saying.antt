@@ -1,4 +1,4 @@
--- Tokens of pieces, on whatever lines, read as statements.
+-- Tokens of pieces, on any lines, read as statements.
 use Rattle.std.proofs.Common.{◌≡◌, ℕ, zero, suc, ◌+◌, ◌≤◌, ◌<◌, true, false, List, [], ◌∷◌, ◌++◌, length, Result, Ok, refl, sym, ap, ◌∙◌, arith, codes}
 use Rattle.ioc_values.specs.declared.error.BadDbKind.TheVariants as kinds
 use Rattle.ioc_fields.specs.declared.field_no.FieldNo.{FieldNo}
@@ -12,14 +12,14 @@ use Rattle.ioc_statements.proofs.Shrinking.{turns_suffice}
 use Rattle.ioc_statements.proofs.Spelled.{lexeme, lexemes}
 use Rattle.ioc_statements.proofs.Reading.{again, entries_count}
 
--- tokens that say these pieces, on any lines
+-- Holds of tokens that have the content of these pieces, on any lines.
 abbrev pub Says : List Piece → List Lexeme → Type 0
 Says [] ts = ts ≡ []
 Says (Call word ∷ ps) ts = (l : ℕ) × (m : ℕ) × (rest : List Lexeme) × (ts ≡ lexeme l Word word ∷ lexeme m (Sign 40) [] ∷ rest) × Says ps rest
 Says (Mark b ∷ ps) ts = (l : ℕ) × (rest : List Lexeme) × (ts ≡ lexeme l (Sign b) [] ∷ rest) × Says ps rest
 Says (Text text ∷ ps) ts = (l : ℕ) × (rest : List Lexeme) × (ts ≡ lexeme l Quoted (escaped_of text) ∷ rest) × Says ps rest
 
--- the pieces of one line before others
+-- The pieces of one line, followed by others.
 pub says_append : (line : ℕ) (ps qs : List Piece) (us : List Lexeme) → Says qs us → Says (ps ++ qs) (lexemes line ps ++ us)
 says_append line [] qs us h = h
 says_append line (Call word ∷ ps) qs us h = (line, line, lexemes line ps ++ us, refl, says_append line ps qs us h)
@@ -90,7 +90,7 @@ module _ {S : Type 0} (rules : Rules S) (last : ℕ) where
       let one : entry_at rules last number s ts ≡ Ok (true, next, r3) = rw (i1, i2, i3) (alias_entry l number s next _ r3 (alias_in_said a b e number s name next r3 j)) in
       (others.0, rw one others.1, others.2)
 
-  -- a record up to its braces
+  -- A record up to its braces.
   record_said : (a b c d e : ℕ) (turns begun : ℕ) (s added : S) (type name : List ℕ) (number : ℕ) (rest : List Lexeme) → Opens rules type name number s added
       → record_at rules turns last begun s (lexeme a (Sign 40) [] ∷ lexeme b Quoted (escaped_of type) ∷ lexeme c (Sign 44) [] ∷ lexeme d Quoted (escaped_of name) ∷ lexeme e (Sign 41) [] ∷ rest) ≡ braces_at rules turns last number added rest
   unfolding record_at expect next_at value_at type_at name_at
@@ -100,7 +100,7 @@ module _ {S : Type 0} (rules : Rules S) (last : ℕ) where
   unfolding braces_at
   braces_said f turns number s rest = refl
 
-  -- behind a record without braces stands no brace
+  -- No brace follows a record without braces.
   no_braces : (turns number : ℕ) (s : S) (xs : List Statement) (ts : List Lexeme) → Says (pieces_of xs) ts → braces_at rules turns last number s ts ≡ Ok (s, ts)
   unfolding braces_at
   no_braces turns number s [] ts k = rw k refl

@@ -11,7 +11,7 @@ use Rattle.ioc_dbtext.specs.Lexing.{Lexeme}
 use Rattle.ioc_statements.specs.Rules.{Rules}
 use Rattle.ioc_statements.specs.Statements.{◌>>=◌, at, on_line, or_fault, sound, next_at, is_sign_of, expect, is_value, value_at, is_word, text_of, field_at, set_at, setting_at, info_at, second_at, alias_in, with_more, entry_of, entry_at, repeated, and_others, body_at, braces_at, named_type, type_at, opened, named, name_line, name_at, record_at, found_at, alias_at, begins_record, refused_word, statement_of, statement_at, statements_at, filled}
 
--- a fault, or fewer tokens are left than this
+-- A fault, or fewer tokens are left than this.
 data Shrinks {A : Type 0} (n : ℕ) (rest : A → List Lexeme) : Result A DbFault → Type 0 where
   shorter : (x : A) → length (rest x) < n → Shrinks n rest (Ok x)
   fault : (e : DbFault) → Shrinks n rest (Err e)
@@ -57,7 +57,7 @@ module _ (last n : ℕ) where
   unfolding value_at
   value_shrinks ts le = then second _ (next_shrinks ts le) (λ token lt. test_shrinks (is_value token.0.kind) second token (at token.0.line kinds.Syntax) lt)
 
-  -- what a step gives, with the tokens that are left
+  -- The result of a step, with the tokens that are left.
   given : {A B : Type 0} (r : Result A DbFault) (k : A → B) (rest : B → List Lexeme) → ((x : A) → length (rest (k x)) < n) → Shrinks n rest (r >>= λ x. Ok (k x))
   given (Ok x) k rest lt = shorter (k x) (lt x)
   given (Err e) k rest lt = fault e
@@ -135,7 +135,7 @@ module _ (last n : ℕ) where
     body_shrinks zero number s ts le = fault (at last kinds.OpenBody)
     body_shrinks (suc turns) number s ts le = then second _ (entry_shrinks number s ts le) (λ r lt. others_shrink r (body_at rules turns last number) lt (body_shrinks turns number))
 
-    -- the body may be missing, and then no token is taken
+    -- The body may be missing, and then no token is taken.
     braces_shrinks : (turns number : ℕ) (s : S) (ts : List Lexeme) → length ts < n → Shrinks n second (braces_at rules turns last number s ts)
     unfolding braces_at
     braces_shrinks turns number s [] lt = shorter (s, []) lt
@@ -191,7 +191,7 @@ module _ (last n : ℕ) where
     unfolding statement_at
     statement_shrinks turns s t ts le = then third _ (next_shrinks (t ∷ ts) le) (λ token lt. more_shrinks _ (statement_of_shrinks turns s token lt))
 
--- ---- turns beyond the number of tokens change nothing
+-- Turns beyond the number of tokens change nothing.
 
 module _ {S : Type 0} (rules : Rules S) (last : ℕ) where
   others_same : (r : Bool × S × List Lexeme) (f g : S → List Lexeme → Result (S × List Lexeme) DbFault) → ((s : S) → f s r.2 ≡ g s r.2) → and_others f r ≡ and_others g r
@@ -243,7 +243,7 @@ module _ {S : Type 0} (rules : Rules S) (last : ℕ) where
       ap (λ (r : Result (Bool × S × List Lexeme) DbFault). r >>= and_others (repeated (statement_at rules p last) (at last kinds.OpenBody) k)) (statement_same p q s t ts a b)
       ∙ then_same _ _ (statement_shrinks last (length (t ∷ ts)) rules q s t ts (omega arith)) others
 
-  -- any turns past the number of tokens make the same of them
+  -- Any number of turns above the number of tokens has the same result.
   pub turns_suffice : (s : S) (tokens : List Lexeme) (turns : ℕ) → length tokens < turns → (statements_at rules turns last s tokens >>= λ read. Ok read.0) ≡ filled rules last s tokens
   unfolding filled
   turns_suffice s tokens turns a =

@@ -10,18 +10,18 @@ use Rattle.ioc_statements.specs.Spelling.{Each, is_space, escaped_of, Piece, Cal
 use Rattle.ioc_dbtokens.proofs.Turns.{one_left, none_left}
 use Rattle.ioc_statements.proofs.Lexed.{Fine, other_byte}
 
--- a token on a line
+-- A token on a line.
 abbrev pub lexeme : ℕ → TokenKind → List ℕ → Lexeme
 lexeme line kind text = record { line = line; kind = kind; text = text }
 
--- the tokens of pieces on a line
+-- The tokens of pieces on a line.
 abbrev pub lexemes : ℕ → List Piece → List Lexeme
 lexemes line [] = []
 lexemes line (Call word ∷ ps) = lexeme line Word word ∷ lexeme line (Sign 40) [] ∷ lexemes line ps
 lexemes line (Mark b ∷ ps) = lexeme line (Sign b) [] ∷ lexemes line ps
 lexemes line (Text text ∷ ps) = lexeme line Quoted (escaped_of text) ∷ lexemes line ps
 
--- ---- blanks
+-- Lemmas about blanks.
 
 gap_run : (gap rest : List ℕ) → Each is_space gap → behind_gap (gap ++ rest) ≡ behind_gap rest
 gap_run [] rest h = refl
@@ -34,12 +34,12 @@ gap_all (b ∷ bs) h = rw h.0 (gap_all bs h.1)
 solid_at : (b : ℕ) (bs : List ℕ) → is_space b ≡ false → behind_gap (b ∷ bs) ≡ b ∷ bs
 solid_at b bs h = rw h refl
 
--- a class of bytes without blanks
+-- A class of bytes that has no blanks.
 not_space : (p : ℕ → Bool) (b : ℕ) → p b ≡ true → p 32 ≡ false → p 9 ≡ false → is_space b ≡ false
 not_space p b h blank tab = rw (other_byte p b 32 h blank, other_byte p b 9 h tab) refl
 
 module _ (line : ℕ) (gap : List ℕ) (spaces : Each is_space gap) (more : List Lexeme) where
-  -- the first token behind a gap
+  -- The first token after a gap.
   first_token : (b : ℕ) (bs : List ℕ) (cut : Cut) → is_space b ≡ false → token_at line (b ∷ bs) ≡ Some cut → tokens_before line (gap ++ (b ∷ bs)) more ≡ cut.token ∷ cond (is_fault cut.token.kind) [] (tokens_before line cut.rest more)
   first_token b bs cut h e = one_left line (gap ++ (b ∷ bs)) more cut (ap (token_at line) (gap_run gap (b ∷ bs) spaces ∙ solid_at b bs h) ∙ e)
 
@@ -47,7 +47,7 @@ module _ (line : ℕ) (gap : List ℕ) (spaces : Each is_space gap) (more : List
   unfolding token_at
   no_token = none_left line gap more (ap (token_at line) (gap_all gap spaces))
 
--- ---- one token
+-- Lemmas about one token.
 
 sign_at : (line b : ℕ) (bs : List ℕ) → is_sign b ≡ true → token_at line (b ∷ bs) ≡ Some (record { token = lexeme line (Sign b) []; rest = bs })
 unfolding token_at
@@ -91,7 +91,7 @@ text_at : (line : ℕ) (text rest : List ℕ) → token_at line (34 ∷ escaped_
 unfolding token_at is_sign
 text_at line text rest = rw (quoted_text text rest, behind_text text rest) refl
 
--- ---- a word, behind which blanks and a bracket stand
+-- Lemmas about a word that is followed by blanks and a bracket.
 
 word_no_sign : (b : ℕ) → is_word_byte b ≡ true → is_sign b ≡ false
 unfolding is_word_byte is_sign
@@ -114,7 +114,7 @@ space_no_word b h =
       | inr other ↦ rw (eqb-true b 9 (rw other at h)) refl
     ]
 
--- no word goes on in blanks and a bracket
+-- No word continues in blanks and a bracket.
 no_word : (gap rest : List ℕ) → Each is_space gap → word_of (gap ++ (40 ∷ rest)) ≡ []
 unfolding is_word_byte
 no_word [] rest h = refl
@@ -143,7 +143,7 @@ unfolding token_at
 word_at line b bs rest h k m =
     rw (word_no_sign b h.0, word_no_quote b h.0, h.0, word_run bs rest h.1 k, behind_run bs rest h.1 m) refl
 
--- ---- all tokens
+-- Lemmas about all tokens.
 
 module _ (gaps : ℕ → List ℕ) (spaces : (i : ℕ) → Each is_space (gaps i)) (line : ℕ) (more : List Lexeme) where
   call_tokens : (i : ℕ) (word rest : List ℕ) → (word ≡ [] → ⊥) → Each is_word_byte word

@@ -1,4 +1,4 @@
--- A sign that is taken, or that another token stands in place of.
+-- A sign that is taken, or another token in its place.
 use Rattle.std.proofs.Common.{◌≡◌, ℕ, Bool, true, false, cond, List, [], ◌∷◌, Result, Ok, Err, refl, sym, ap}
 use Rattle.ioc_values.specs.declared.error.DbFault.{DbFault}
 use Rattle.ioc_dbtext.specs.declared.token.TokenKind.{TokenKind}
@@ -22,7 +22,7 @@ sound_sign b token Word rest e = refl
 sound_sign b token Quoted rest e = refl
 sound_sign b token (Fault kind) rest e = (let no : false ≡ true = e in absurd cc)
 
--- a sign that is taken is the one that is expected
+-- A sign that is taken is the expected one.
 pub expected : (b last : ℕ) (old new : List Lexeme) → (true, new) ≡ takes_sign b old → expect b last old ≡ Ok new
 unfolding expect next_at
 expected b last [] new e = (let no : true ≡ false = ap (λ (p : Bool × List Lexeme). p.0) e in absurd cc)
@@ -30,13 +30,13 @@ expected b last (token ∷ rest) new e =
     let k = taken (is_sign_of b token.kind) rest (token ∷ rest) new e in
     rw (sound_sign b token token.kind rest k.0) (rw (k.0) (ap Ok (sym k.1)))
 
--- a sign that is not taken leaves the tokens
+-- If a sign isn't taken, the tokens are unchanged.
 pub stayed : (b : ℕ) (old new : List Lexeme) → (false, new) ≡ takes_sign b old → new ≡ old
 stayed b [] new e = ap (λ (p : Bool × List Lexeme). p.1) e
 stayed b (token ∷ rest) new e = (left (is_sign_of b token.kind) rest (token ∷ rest) new e).1
 
 module _ {S : Type 0} (rules : Rules S) where
-  -- braces that are there
+  -- Braces that are present.
   pub braces_there : (turns last number : ℕ) (s : S) (old new : List Lexeme) → (true, new) ≡ takes_sign 123 old → braces_at rules turns last number s old ≡ body_at rules turns last number s new
   unfolding braces_at
   braces_there turns last number s [] new e = (let no : true ≡ false = ap (λ (p : Bool × List Lexeme). p.0) e in absurd cc)
@@ -44,7 +44,7 @@ module _ {S : Type 0} (rules : Rules S) where
       let k = taken (is_sign_of 123 token.kind) rest (token ∷ rest) new e in
       rw (k.0, k.1) refl
 
-  -- braces that are missing
+  -- Braces that are missing.
   pub braces_missing : (turns last number : ℕ) (s : S) (old new : List Lexeme) → (false, new) ≡ takes_sign 123 old → braces_at rules turns last number s old ≡ Ok (s, new)
   unfolding braces_at
   braces_missing turns last number s [] new e = ap (λ (ts : List Lexeme). Ok (s, ts)) (sym (ap (λ (p : Bool × List Lexeme). p.1) e))
@@ -52,7 +52,7 @@ module _ {S : Type 0} (rules : Rules S) where
       let k = left (is_sign_of 123 token.kind) rest (token ∷ rest) new e in
       rw (k.0, k.1) refl
 
-  -- the first of all statements
+  -- The first of all statements.
   pub first_statement : (turns last : ℕ) (s : S) (token : Lexeme) (old rest : List Lexeme) → old ≡ token ∷ rest → statement_at rules turns last s old ≡ (sound token token.kind rest >>= statement_by rules turns last s)
   unfolding statement_at next_at
   first_statement turns last s token old rest e = rw e refl

@@ -1,4 +1,4 @@
--- What a database text makes of a database.
+-- The database that a database text makes.
 use Rattle.std.specs.Prelude.{ℕ, List, length, Result}
 use Rattle.ioc_values.specs.declared.error.DbFault.{DbFault}
 use Rattle.ioc_dbtext.specs.Lines.{lines_of}
@@ -8,10 +8,10 @@ use Rattle.ioc_dbtokens.specs.Tokens.{tokens_of}
 use Rattle.ioc_statements.specs.Rules.{Rules}
 use Rattle.ioc_statements.specs.Statements.{filled}
 
--- what the texts of lines make of a database
+-- The database that the texts of lines make of a database.
 abbrev pub filled_by_texts : {S : Type 0} → Rules S → S → Expansion → Result S DbFault
 filled_by_texts rules s e = filled rules (length e.texts) s (tokens_of e.end 1 e.texts)
 
--- what a text makes of a database by these macros, or its first fault
+-- The database that a text with these macros makes of a database, or its first fault.
 unfoldable pub filled_by : {S : Type 0} → Rules S → S → List Defined → List ℕ → Result S DbFault
 filled_by rules s macros text = filled_by_texts rules s (expansion macros most_bytes (lines_of text))

@@ -1,4 +1,5 @@
 -- The database that statements make, or the first fault.
+--
 -- EPICS Application Developer's Guide, "Database Definition", "Record Instance Definition".
 use Rattle.std.specs.Prelude.{◌≡◌, ℕ, zero, suc, ◌+◌, length, Bool, true, false, List, [], ◌∷◌, codes, Option, Some, None, option_map, Result, Ok, Err, nat_eq, ◌==◌, ◌&&◌, ◌||◌, if◌then◌else◌}
 use Rattle.std.specs.Cmp.Lexicographic.{pointwise}
@@ -16,131 +17,132 @@ use Rattle.ioc_dbtokens.specs.Escapes.{unescaped_from}
 pub use Rattle.ioc_dbtokens.specs.Signs.{is_sign_of}
 use Rattle.ioc_statements.specs.Rules.{Rules}
 
--- a step, then what is made of what it gave
+-- A step, followed by another that takes its result.
 infixl 10 ◌>>=◌
 abbrev pub ◌>>=◌ : {A B : Type 0} → Result A DbFault → (A → Result B DbFault) → Result B DbFault
 (Ok x) >>= f = f x
 (Err e) >>= f = Err e
 
--- an error is the fault that is wanted, or want of memory, and nothing else
+-- Holds if an error is the wanted fault, or a failed allocation, and nothing else.
 abbrev pub Fails : {Y : Type 0} → IocError → Result Y DbFault → Type 0
 Fails (errors.BadDb fault) wanted = wanted ≡ Err fault
 Fails errors.NoMemory wanted = Unit {0}
 Fails _ wanted = ⊥
 
--- what a function returned, seen by view, is what is wanted, unless memory ran out
+-- Holds if the result of a function, mapped by `view`, is the wanted one, unless allocation fails.
 abbrev pub Gives : {X Y : Type 0} → (X → Y) → Result X IocError → Result Y DbFault → Type 0
 Gives view (Ok x) wanted = wanted ≡ Ok (view x)
 Gives view (Err e) wanted = Fails e wanted
 
--- what was read, seen by view, or the fault, is what is wanted
+-- Holds if what was read, mapped by `view`, or the fault, is the wanted one.
 abbrev pub Reads : {X Y : Type 0} → (X → Y) → Result X DbFault → Result Y DbFault → Type 0
 Reads view (Ok x) wanted = wanted ≡ Ok (view x)
 Reads view (Err f) wanted = wanted ≡ Err f
 
--- a fault of this kind on this line
+-- A fault of this kind on this line.
 abbrev pub at : ℕ → BadDbKind → DbFault
 at line kind = record { line = line; kind = kind }
 
--- what is refused is refused on this line
+-- The result, with a refusal on this line.
 abbrev pub on_line : {A : Type 0} → ℕ → Result A BadDbKind → Result A DbFault
 on_line line (Ok x) = Ok x
 on_line line (Err kind) = Err (at line kind)
 
--- what isn't there is a fault
+-- The value, or this fault if there is none.
 abbrev pub or_fault : {A : Type 0} → DbFault → Option A → Result A DbFault
 or_fault fault (Some x) = Ok x
 or_fault fault None = Err fault
 
--- ---- tokens
+-- Single tokens.
 
--- a token that is there, or its fault
+-- The token, or its fault.
 abbrev pub sound : Lexeme → TokenKind → List Lexeme → Result (Lexeme × List Lexeme) DbFault
 sound token (Fault kind) rest = Err (at token.line kind)
 sound token _ rest = Ok (token, rest)
 
--- the next token of a statement, of a text whose last line is given
+-- The next token of a statement, in a text with this last line.
 unfoldable pub next_at : ℕ → List Lexeme → Result (Lexeme × List Lexeme) DbFault
 next_at last [] = Err (at last kinds.OpenBody)
 next_at last (token ∷ rest) = sound token token.kind rest
 
--- the rest behind this sign
+-- The tokens after this sign.
 unfoldable pub expect : ℕ → ℕ → List Lexeme → Result (List Lexeme) DbFault
 expect b last tokens = do
   token ← next_at last tokens
   if is_sign_of b token.0.kind then Ok token.1 else Err (at token.0.line kinds.Syntax)
 
--- a bareword or a quoted text
+-- Holds of a bareword and a quoted text.
 abbrev pub is_value : TokenKind → Bool
 is_value Word = true
 is_value Quoted = true
 is_value _ = false
 
--- the next token, which is a bareword or a quoted text
+-- The next token, which is a bareword or a quoted text.
 unfoldable pub value_at : ℕ → List Lexeme → Result (Lexeme × List Lexeme) DbFault
 value_at last tokens = do
   token ← next_at last tokens
   if is_value token.0.kind then Ok token else Err (at token.0.line kinds.Syntax)
 
--- a bareword
+-- Holds of a bareword.
 abbrev pub is_bareword : TokenKind → Bool
 is_bareword Word = true
 is_bareword _ = false
 
--- this bareword
+-- Holds of this bareword.
 abbrev pub is_word : List ℕ → Lexeme → Bool
 is_word word token = is_bareword token.kind && pointwise nat_eq token.text word
 
--- what a token says, in a name or in a field's value
+-- The text of a token, in a name or in the value of a field.
 abbrev pub text_of : Bool → Lexeme → List ℕ
 text_of in_value token = unescaped_from in_value false token.text
 
--- where a name is refused: too many records on the line of the word `record`
+-- The line on which a name is refused: too many records are refused on the line of the word
+-- `record`.
 abbrev pub name_line : ℕ → ℕ → BadDbKind → ℕ
 name_line begun line kinds.TooMany = begun
 name_line begun line _ = line
 
--- a word of a database definition, whose statements are left out
+-- Holds of a word of a database definition, whose statements this grammar leaves out.
 unfoldable pub is_left_out : Lexeme → Bool
 is_left_out token =
     is_word (codes "menu") token || (is_word (codes "recordtype") token || (is_word (codes "device") token || (is_word (codes "driver") token || (is_word (codes "include") token || (is_word (codes "path") token || (is_word (codes "addpath") token || (is_word (codes "breaktable") token || (is_word (codes "registrar") token || (is_word (codes "function") token || (is_word (codes "variable") token || is_word (codes "link") token))))))))))
 
--- a word that begins a record
+-- Holds of a word that begins a record.
 unfoldable pub begins_record : Lexeme → Bool
 begins_record token = is_word (codes "record") token || is_word (codes "grecord") token
 
--- what begins no statement
+-- Why no statement begins with this token.
 abbrev pub refused_word : Lexeme → BadDbKind
 refused_word token = if is_left_out token then kinds.LeftOut else kinds.Syntax
 
--- ---- steps over the databases of some rules
+-- Steps over the databases of some rules.
 
--- as long as a step says that there may be more; at most that many turns
+-- The other steps, as long as one reports that there may be more.
 abbrev pub and_others : {S : Type 0} → (S → List Lexeme → Result (S × List Lexeme) DbFault) → Bool × S × List Lexeme → Result (S × List Lexeme) DbFault
 and_others more (false, s, rest) = Ok (s, rest)
 and_others more (true, s, rest) = more s rest
 
--- a step again and again
+-- The step, repeated as long as it reports that there may be more, in at most this many turns.
 unfoldable pub repeated : {S : Type 0} → (S → List Lexeme → Result (Bool × S × List Lexeme) DbFault) → DbFault → ℕ → S → List Lexeme → Result (S × List Lexeme) DbFault
 repeated step out zero s tokens = Err out
 repeated step out (suc turns) s tokens = step s tokens >>= and_others (repeated step out turns)
 
 module _ {S : Type 0} (rules : Rules S) where
-  -- F of field(F, V)
+  -- F of `field(F, V)`.
   unfoldable pub field_at : ℕ → ℕ → S → List Lexeme → Result (FieldNo × List Lexeme) DbFault
   field_at last number s tokens = do
     token ← value_at last tokens
     field ← on_line token.0.line (rules.field_of number (text_of false token.0) s)
     Ok (field, token.1)
 
-  -- V of field(F, V)
+  -- V of `field(F, V)`.
   unfoldable pub set_at : ℕ → ℕ → FieldNo → S → List Lexeme → Result (S × List Lexeme) DbFault
   set_at last number field s tokens = do
     token ← value_at last tokens
     changed ← on_line token.0.line (rules.set number field (text_of true token.0) s)
     Ok (changed, token.1)
 
-  -- (F, V)
+  -- `(F, V)`.
   unfoldable pub setting_at : ℕ → ℕ → S → List Lexeme → Result (S × List Lexeme) DbFault
   setting_at last number s tokens = do
     opened ← expect 40 last tokens
@@ -150,7 +152,7 @@ module _ {S : Type 0} (rules : Rules S) where
     closed ← expect 41 last changed.1
     Ok (changed.0, closed)
 
-  -- (K, V) of info(K, V), which plays no part
+  -- `(K, V)` of `info(K, V)`, which has no effect.
   unfoldable pub info_at : ℕ → S → List Lexeme → Result (S × List Lexeme) DbFault
   info_at last s tokens = do
     opened ← expect 40 last tokens
@@ -160,14 +162,14 @@ module _ {S : Type 0} (rules : Rules S) where
     closed ← expect 41 last value.1
     Ok (s, closed)
 
-  -- A, a second name of the record of this number
+  -- A, a second name of the record with this number.
   unfoldable pub second_at : ℕ → ℕ → S → List Lexeme → Result (S × List Lexeme) DbFault
   second_at last number s tokens = do
     token ← value_at last tokens
     changed ← on_line token.0.line (rules.alias number (text_of false token.0) s)
     Ok (changed, token.1)
 
-  -- (A) of alias(A)
+  -- `(A)` of `alias(A)`.
   unfoldable pub alias_in : ℕ → ℕ → S → List Lexeme → Result (S × List Lexeme) DbFault
   alias_in last number s tokens = do
     opened ← expect 40 last tokens
@@ -175,39 +177,39 @@ module _ {S : Type 0} (rules : Rules S) where
     closed ← expect 41 last changed.1
     Ok (changed.0, closed)
 
-  -- there may be more behind it
+  -- The result, after which there may be more.
   abbrev pub with_more : S × List Lexeme → Result (Bool × S × List Lexeme) DbFault
   with_more r = Ok (true, r.0, r.1)
 
-  -- `field`, `info` or `alias` with what follows it
+  -- `field`, `info` or `alias` with what follows it.
   unfoldable pub entry_of : ℕ → ℕ → S → Lexeme × List Lexeme → Result (S × List Lexeme) DbFault
   entry_of last number s token =
       if is_word (codes "field") token.0 then setting_at last number s token.1
       else (if is_word (codes "info") token.0 then info_at last s token.1
       else (if is_word (codes "alias") token.0 then alias_in last number s token.1 else Err (at token.0.line kinds.Syntax)))
 
-  -- `}`, or an entry
+  -- `}`, or an entry.
   abbrev pub entry_by : ℕ → ℕ → S → Lexeme × List Lexeme → Result (Bool × S × List Lexeme) DbFault
   entry_by last number s token = if is_sign_of 125 token.0.kind then Ok (false, s, token.1) else (entry_of last number s token >>= with_more)
 
-  -- one entry of a body
+  -- One entry of a body.
   unfoldable pub entry_at : ℕ → ℕ → S → List Lexeme → Result (Bool × S × List Lexeme) DbFault
   entry_at last number s tokens = next_at last tokens >>= entry_by last number s
 
-  -- field(F, V) info(K, V) alias(A) .. }
+  -- `field(F, V) info(K, V) alias(A) .. }`.
   abbrev pub body_at : ℕ → ℕ → ℕ → S → List Lexeme → Result (S × List Lexeme) DbFault
   body_at turns last number s tokens = repeated (entry_at last number) (at last kinds.OpenBody) turns s tokens
 
-  -- { .. }, which may be missing
+  -- `{ .. }`, which may be missing.
   unfoldable pub braces_at : ℕ → ℕ → ℕ → S → List Lexeme → Result (S × List Lexeme) DbFault
   braces_at turns last number s [] = Ok (s, [])
   braces_at turns last number s (token ∷ rest) = if is_sign_of 123 token.kind then body_at turns last number s rest else Ok (s, token ∷ rest)
 
-  -- the type that a text names: none for *, which stands for whatever type the record has
+  -- The type that a text names: `Some None` for `*`, which means any type that the record has.
   unfoldable pub named_type : List ℕ → Option (Option RecordType)
   named_type text = if pointwise nat_eq text (codes "*") then Some None else option_map Some (rules.type_of text)
 
-  -- TYPE
+  -- TYPE.
   abbrev pub type_by : Lexeme × List Lexeme → Result (Option RecordType × List Lexeme) DbFault
   type_by token =
       if is_sign_of 42 token.0.kind then Ok (None, token.1)
@@ -216,28 +218,28 @@ module _ {S : Type 0} (rules : Rules S) where
   unfoldable pub type_at : ℕ → List Lexeme → Result (Option RecordType × List Lexeme) DbFault
   type_at last tokens = next_at last tokens >>= type_by
 
-  -- a record that is there, in a database that stays
+  -- A record that exists, in an unchanged database.
   abbrev pub in_place : S → Result ℕ BadDbKind → Result (ℕ × S) BadDbKind
   in_place s (Ok number) = Ok (number, s)
   in_place s (Err kind) = Err kind
 
-  -- the record of this type and name; one of whatever type must be there
+  -- The record with this type and name. With any type, the record must exist.
   abbrev pub opened : Option RecordType → List ℕ → S → Result (ℕ × S) BadDbKind
   opened None name s = in_place s (rules.find name s)
   opened (Some kind) name s = rules.add kind name s
 
-  -- a record that was found or added, or why it could not be
+  -- A record that was found or added, or why it could not be.
   abbrev pub named : ℕ → Lexeme × List Lexeme → Result (ℕ × S) BadDbKind → Result (ℕ × S × List Lexeme) DbFault
   named begun token (Ok added) = Ok (added.0, added.1, token.1)
   named begun token (Err kind) = Err (at (name_line begun token.0.line kind) kind)
 
-  -- NAME
+  -- NAME.
   unfoldable pub name_at : ℕ → ℕ → Option RecordType → S → List Lexeme → Result (ℕ × S × List Lexeme) DbFault
   name_at last begun kind s tokens = do
     token ← value_at last tokens
     named begun token (opened kind (text_of false token.0) s)
 
-  -- (TYPE, NAME) { .. }
+  -- `(TYPE, NAME) { .. }`.
   unfoldable pub record_at : ℕ → ℕ → ℕ → S → List Lexeme → Result (S × List Lexeme) DbFault
   record_at turns last begun s tokens = do
     opened ← expect 40 last tokens
@@ -247,14 +249,14 @@ module _ {S : Type 0} (rules : Rules S) where
     closed ← expect 41 last name.2
     braces_at turns last name.0 name.1 closed
 
-  -- NAME of alias(NAME, A)
+  -- NAME of `alias(NAME, A)`.
   unfoldable pub found_at : ℕ → S → List Lexeme → Result (ℕ × List Lexeme) DbFault
   found_at last s tokens = do
     token ← value_at last tokens
     number ← on_line token.0.line (rules.find (text_of false token.0) s)
     Ok (number, token.1)
 
-  -- (NAME, A)
+  -- `(NAME, A)`.
   unfoldable pub alias_at : ℕ → S → List Lexeme → Result (S × List Lexeme) DbFault
   alias_at last s tokens = do
     opened ← expect 40 last tokens
@@ -264,7 +266,7 @@ module _ {S : Type 0} (rules : Rules S) where
     closed ← expect 41 last changed.1
     Ok (changed.0, closed)
 
-  -- `record`, `grecord` or `alias` with what follows it
+  -- `record`, `grecord` or `alias` with what follows it.
   unfoldable pub statement_of : ℕ → ℕ → S → Lexeme × List Lexeme → Result (S × List Lexeme) DbFault
   statement_of turns last s token =
       if begins_record token.0 then record_at turns last token.0.line s token.1
@@ -273,15 +275,16 @@ module _ {S : Type 0} (rules : Rules S) where
   abbrev pub statement_by : ℕ → ℕ → S → Lexeme × List Lexeme → Result (Bool × S × List Lexeme) DbFault
   statement_by turns last s token = statement_of turns last s token >>= with_more
 
-  -- one statement: none at the text's end
+  -- One statement, or none at the end of the text.
   unfoldable pub statement_at : ℕ → ℕ → S → List Lexeme → Result (Bool × S × List Lexeme) DbFault
   statement_at turns last s [] = Ok (false, s, [])
   statement_at turns last s (token ∷ rest) = next_at last (token ∷ rest) >>= statement_by turns last s
 
-  -- all statements
+  -- All statements.
   abbrev pub statements_at : ℕ → ℕ → S → List Lexeme → Result (S × List Lexeme) DbFault
   statements_at turns last s tokens = repeated (statement_at turns last) (at last kinds.OpenBody) turns s tokens
 
-  -- what these tokens make of a database, of a text whose last line is given: each turn but the last takes a token at least
+  -- The database that these tokens make of a database, in a text with this last line. Each turn
+  -- except the last takes at least one token.
   unfoldable pub filled : ℕ → S → List Lexeme → Result S DbFault
   filled last s tokens = statements_at (length tokens + 1) last s tokens >>= λ read. Ok read.0

@@ -1,4 +1,4 @@
-//! What fills a database, statement by statement.
+//! Databases that are built statement by statement.
 ghost use Rattle.std.specs.Prelude.{◌≡◌};
 ghost use Rattle.ioc_statements.specs.Rules.{Rules, Builds, Allows};
 ghost use Rattle.ioc_statements.specs.declared.builder.BuildError.TheVariants.{Memory};
@@ -8,12 +8,12 @@ use ioc_names::RecordNo;
 use ioc_values::BadDbKind;
 use std::alloc::{AllocError, AllocFailed};
 
-/// Why a database did not take what was given to it.
+/// The error of a database that can't take a statement.
 #[derive(Clone, Copy, Debug, PartialEq, Eq)]
 pub enum BuildError {
-    /// A growth was refused.
+    /// Allocation failed.
     Memory,
-    /// What was given is refused.
+    /// The statement is refused.
     Refused(BadDbKind),
 }
 
@@ -33,40 +33,42 @@ impl<T: Drop> From<AllocFailed<T>> for BuildError {
     }
 }
 
-/// A database that statements fill. After an error nobody goes on with it.
+/// A database that statements fill. It must not be used after an error.
 pub trait Builder {
     ghost rules: { Rules Self };
 
-    /// The record type of this name.
+    /// Returns the record type with this name.
     fn type_of(&self, name: &[u8]) -> Option<RecordType>
         ensures { result ≡ rules.type_of name.now };
 
-    /// The number of the record that has this name or alias.
+    /// Returns the number of the record with this name or alias.
     ///
     /// # Errors
     ///
-    /// What is wrong with the name: it is none, or no record has it.
+    /// What is wrong with the name: it isn't valid, or no record has it.
     fn find(&self, name: &[u8]) -> Result<RecordNo, BadDbKind>
         ensures { Allows (λ n. n) result (rules.find name.now self.now) };
 
-    /// The number of the record of this type that has this name or alias. Where no record has it, one is added with no
-    /// field set.
+    /// Returns the number of the record of this type with this name or alias. If no record has it,
+    /// one is added with no field set.
     ///
     /// # Errors
     ///
-    /// [`BuildError::Refused`] where the rules refuse the name, and [`BuildError::Memory`] where a growth was refused.
+    /// [`BuildError::Refused`] if the rules refuse the name, and [`BuildError::Memory`] if
+    /// allocation fails.
     fn add(&mut self, record_type: RecordType, name: &[u8]) -> Result<RecordNo, BuildError>
         ensures { Builds (λ n. (n, self.new)) result (rules.add record_type name.now self.old) };
 
-    /// The record of this number gets a second name.
+    /// Adds a second name to the record with this number.
     ///
     /// # Errors
     ///
-    /// [`BuildError::Refused`] where the rules refuse the name, and [`BuildError::Memory`] where a growth was refused.
+    /// [`BuildError::Refused`] if the rules refuse the name, and [`BuildError::Memory`] if
+    /// allocation fails.
     fn alias(&mut self, number: RecordNo, name: &[u8]) -> Result<(), BuildError>
         ensures { Builds (λ _. self.new) result (rules.alias number name.now self.old) };
 
-    /// The field of this name, where the record has it and it may be set.
+    /// Returns the field with this name, if the record has it and it may be set.
     ///
     /// # Errors
     ///
@@ -74,11 +76,12 @@ pub trait Builder {
     fn field_of(&self, number: RecordNo, name: &[u8]) -> Result<FieldNo, BadDbKind>
         ensures { Allows (λ f. f) result (rules.field_of number name.now self.now) };
 
-    /// Sets a field of a record to what a text says.
+    /// Sets a field of a record to the value of a text.
     ///
     /// # Errors
     ///
-    /// [`BuildError::Refused`] with what is wrong with the text, and [`BuildError::Memory`] where a growth was refused.
+    /// [`BuildError::Refused`] with what is wrong with the text, and [`BuildError::Memory`] if
+    /// allocation fails.
     fn set(&mut self, number: RecordNo, field: FieldNo, value: &[u8]) -> Result<(), BuildError>
         ensures { Builds (λ _. self.new) result (rules.set number field value.now self.old) };
 }

@@ -1,4 +1,4 @@
-//! What stands between the braces of a record.
+//! The entries between the braces of a record.
 ghost use Rattle.std.specs.Prelude.{◌≡◌};
 ghost use Rattle.ioc_statements.specs.Statements.{Gives, Fails, field_at, set_at, setting_at, info_at, second_at, alias_in, entry_of, entry_at, body_at, braces_at};
 ghost use Rattle.ioc_dbtext.specs.SeenToken.{seen};
@@ -12,7 +12,7 @@ use ioc_names::RecordNo;
 use ioc_values::{BadDbKind, IocError};
 use std::alloc::Global;
 
-/// F of `field(F, V)`.
+/// Reads F of `field(F, V)`.
 #[tactic(auto, unfolding(crate::specs::Statements::field_at))]
 fn field_at<B: Builder>(
     alloc: Global,
@@ -31,7 +31,7 @@ fn field_at<B: Builder>(
     }
 }
 
-/// V of `field(F, V)`.
+/// Reads V of `field(F, V)`.
 #[tactic(auto, unfolding(crate::specs::Statements::set_at))]
 fn set_at<B: Builder>(
     alloc: Global,
@@ -52,7 +52,7 @@ fn set_at<B: Builder>(
     }
 }
 
-/// `(F, V)`.
+/// Reads `(F, V)`.
 #[tactic(auto, unfolding(crate::specs::Statements::setting_at))]
 fn setting_at<B: Builder>(
     alloc: Global,
@@ -71,7 +71,7 @@ fn setting_at<B: Builder>(
     Ok(())
 }
 
-/// `(K, V)` of `info(K, V)`, which plays no part.
+/// Reads `(K, V)` of `info(K, V)`, which has no effect.
 #[tactic(auto, unfolding(crate::specs::Statements::info_at))]
 fn info_at<B: Builder>(last: u64, _builder: &B, tokens: &mut Tokens<'_>) -> Result<(), IocError>
     ensures { Gives (λ _. (_builder.now, tokens.new)) result (info_at B.rules last _builder.now tokens.old) }
@@ -84,7 +84,7 @@ fn info_at<B: Builder>(last: u64, _builder: &B, tokens: &mut Tokens<'_>) -> Resu
     Ok(())
 }
 
-/// A, a second name of a record.
+/// Reads A, a second name of a record.
 #[tactic(auto, unfolding(crate::specs::Statements::second_at))]
 pub fn second_at<B: Builder>(
     alloc: Global,
@@ -104,7 +104,7 @@ pub fn second_at<B: Builder>(
     }
 }
 
-/// `(A)` of `alias(A)`.
+/// Reads `(A)` of `alias(A)`.
 #[tactic(auto, unfolding(crate::specs::Statements::alias_in))]
 fn alias_in<B: Builder>(
     alloc: Global,
@@ -121,7 +121,7 @@ fn alias_in<B: Builder>(
     Ok(())
 }
 
-/// What follows the first word of an entry.
+/// Reads the rest of an entry after its first word.
 #[tactic(auto, unfolding(crate::specs::Statements::entry_of))]
 fn entry_of<B: Builder>(
     alloc: Global,
@@ -145,7 +145,7 @@ fn entry_of<B: Builder>(
     Err(fault(token.line, BadDbKind::Syntax))
 }
 
-/// An entry: whether there may be more, which is not so behind the closing brace.
+/// Reads an entry or the closing brace, and returns whether there may be more.
 #[tactic(auto, unfolding(crate::specs::Statements::entry_at))]
 fn entry_at<B: Builder>(
     alloc: Global,
@@ -164,7 +164,7 @@ fn entry_at<B: Builder>(
     Ok(true)
 }
 
-/// What stands between the braces: at most that many entries.
+/// Reads the entries between the braces, at most as many as the bound.
 fn body_at<B: Builder>(
     alloc: Global,
     turns: u64,
@@ -183,7 +183,7 @@ fn body_at<B: Builder>(
     Err(fault(last, BadDbKind::OpenBody))
 }
 
-/// What stands between braces, where they are not missing.
+/// Reads the entries between braces, which may be missing.
 #[tactic(auto, unfolding(crate::specs::Statements::braces_at))]
 pub fn braces_at<B: Builder>(
     alloc: Global,

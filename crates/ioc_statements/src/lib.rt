@@ -1,7 +1,7 @@
-//! The statements of a database text, which fill whatever is built of them, or the first fault.
+//! The statements of a database text, which fill a database, or the first fault.
 //!
-//! A text is cut into lines, comments go and macros are replaced, tokens are read, and statements are given to a builder. EPICS Application
-//! Developer's Guide, "Database Definition".
+//! A text is divided into lines, comments are removed and macros are replaced, tokens are read, and
+//! statements are passed to a builder. EPICS Application Developer's Guide, "Database Definition".
 #![tactic(auto)]
 
 pub mod builder;

@@ -1,4 +1,4 @@
-//! From a database text to what it fills.
+//! Fills a database from a text.
 ghost use Rattle.ioc_statements.specs.Loading.{filled_by};
 ghost use Rattle.ioc_statements.specs.Statements.{Gives};
 
@@ -9,12 +9,13 @@ use ioc_dbtokens::Tokens;
 use ioc_values::IocError;
 use std::alloc::Global;
 
-/// Fills a database by a text and the macros that it may use. One of more than [`MAX_BYTES`](crate::MAX_BYTES) bytes is refused at that limit.
+/// Fills a database from a text and the macros that it may use. A text of more than
+/// [`MAX_BYTES`](crate::MAX_BYTES) bytes is refused at that limit.
 ///
 /// # Errors
 ///
 /// [`IocError::BadDb`] with the line and the kind of the first fault in the text, and
-/// [`IocError::NoMemory`] where a growth was refused; the database is of no use then.
+/// [`IocError::NoMemory`] if allocation fails. The database must not be used then.
 pub fn fill_by_text<B: Builder>(
     alloc: Global,
     text: &[u8],

@@ -1,4 +1,4 @@
-//! The statements that tokens make.
+//! The statements that tokens form.
 ghost use Rattle.std.specs.Prelude.{◌≡◌, ◌<◌, length};
 ghost use Rattle.ioc_statements.specs.Statements.{Gives, Fails, named_type, type_at, opened, name_at, record_at, found_at, alias_at, statement_of, statement_at, statements_at, filled};
 ghost use Rattle.ioc_statements.specs.Rules.{Builds};
@@ -17,7 +17,8 @@ use ioc_names::RecordNo;
 use ioc_values::{BadDbKind, IocError};
 use std::alloc::Global;
 
-/// The type that a text names: none for `*`, which stands for whatever type the record has.
+/// Returns the type that a text names: `Some(None)` for `*`, which means any type that the record
+/// has, and `None` if there is no such type.
 #[tactic(auto, unfolding(crate::specs::Statements::named_type))]
 fn named_type<B: Builder>(builder: &B, text: &[u8]) -> Option<Option<RecordType>>
     ensures { result ≡ named_type B.rules text.now }
@@ -31,7 +32,7 @@ fn named_type<B: Builder>(builder: &B, text: &[u8]) -> Option<Option<RecordType>
     }
 }
 
-/// TYPE: none for `*`.
+/// Reads TYPE; the result is `None` for `*`.
 #[tactic(auto, unfolding(crate::specs::Statements::type_at))]
 fn type_at<B: Builder>(
     alloc: Global,
@@ -55,7 +56,7 @@ fn type_at<B: Builder>(
     }
 }
 
-/// The record of this type and name; one of whatever type must be there.
+/// Returns the record with this type and name. With any type, the record must exist.
 fn opened<B: Builder>(
     record_type: Option<RecordType>,
     name: &[u8],
@@ -72,7 +73,7 @@ fn opened<B: Builder>(
     }
 }
 
-/// NAME: finds or adds the record, and gives its number.
+/// Reads NAME, finds or adds the record, and returns its number.
 #[tactic(auto, unfolding(crate::specs::Statements::name_at))]
 fn name_at<B: Builder>(
     alloc: Global,
@@ -93,7 +94,7 @@ fn name_at<B: Builder>(
     }
 }
 
-/// `(TYPE, NAME) { .. }`, behind the first word of the statement on this line.
+/// Reads `(TYPE, NAME) { .. }` after the first word of the statement on this line.
 #[tactic(auto, unfolding(crate::specs::Statements::record_at))]
 fn record_at<B: Builder>(
     alloc: Global,
@@ -113,7 +114,7 @@ fn record_at<B: Builder>(
     braces_at(alloc, turns, last, number, builder, tokens)
 }
 
-/// NAME of `alias(NAME, A)`.
+/// Reads NAME of `alias(NAME, A)`.
 #[tactic(auto, unfolding(crate::specs::Statements::found_at))]
 fn found_at<B: Builder>(
     alloc: Global,
@@ -131,7 +132,7 @@ fn found_at<B: Builder>(
     }
 }
 
-/// `(NAME, A)`, behind the word `alias`.
+/// Reads `(NAME, A)` after the word `alias`.
 #[tactic(auto, unfolding(crate::specs::Statements::alias_at))]
 fn alias_at<B: Builder>(
     alloc: Global,
@@ -149,7 +150,7 @@ fn alias_at<B: Builder>(
     Ok(())
 }
 
-/// What follows the first word of a statement.
+/// Reads the rest of a statement after its first word.
 #[tactic(auto, unfolding(crate::specs::Statements::statement_of))]
 fn statement_of<B: Builder>(
     alloc: Global,
@@ -170,7 +171,7 @@ fn statement_of<B: Builder>(
     Err(fault(token.line, refused_word(token)))
 }
 
-/// One statement: whether there may be more, which is not so at the end.
+/// Reads one statement, and returns whether there may be more, which is not so at the end.
 #[tactic(auto, unfolding(crate::specs::Statements::statement_at))]
 fn statement_at<B: Builder>(
     alloc: Global,
@@ -189,7 +190,7 @@ fn statement_at<B: Builder>(
     Ok(true)
 }
 
-/// All statements, at most that many.
+/// Reads all statements, at most as many as the bound.
 fn statements_at<B: Builder>(
     alloc: Global,
     turns: u64,
@@ -207,8 +208,8 @@ fn statements_at<B: Builder>(
     Err(fault(last, BadDbKind::OpenBody))
 }
 
-/// Fills a database by the statements that tokens make, of a text with this last line, in more turns than
-/// there are tokens.
+/// Fills a database with the statements that tokens form, in a text with this last line. The bound
+/// on the turns must be above the number of tokens.
 pub fn fill<B: Builder>(
     alloc: Global,
     turns: u64,

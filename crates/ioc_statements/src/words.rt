@@ -11,14 +11,14 @@ use ioc_dbtokens::{Said, Tokens, read_escapes};
 use ioc_values::{BadDbKind, DbFault, IocError};
 use std::alloc::{AllocError, Global};
 
-/// A fault of this kind on this line.
+/// Returns a fault of this kind on this line.
 pub fn fault(line: u64, kind: BadDbKind) -> IocError
     ensures { result ≡ IocError.BadDb (at line kind) }
 {
     IocError::BadDb(DbFault { line, kind })
 }
 
-/// The token, where it is no fault.
+/// Returns the token if it is no fault.
 pub fn sound<'a>(token: Token<'a>) -> Result<Token<'a>, DbFault>
     ensures { (rest : List Lexeme) → Reads (λ t. (seen t, rest)) result (sound (seen token.entry) token.entry.kind rest) }
 {
@@ -31,7 +31,7 @@ pub fn sound<'a>(token: Token<'a>) -> Result<Token<'a>, DbFault>
     }
 }
 
-/// The next token of a statement, of a text with this last line.
+/// Returns the next token of a statement, in a text with this last line.
 #[tactic(auto, unfolding(crate::specs::Statements::next_at))]
 pub fn next_at<'a>(last: u64, tokens: &mut Tokens<'a>) -> Result<Token<'a>, DbFault>
     ensures { Reads (λ t. (seen t, tokens.new)) result (next_at last tokens.old) }
@@ -43,7 +43,7 @@ pub fn next_at<'a>(last: u64, tokens: &mut Tokens<'a>) -> Result<Token<'a>, DbFa
     sound(token)
 }
 
-/// A token that does not fit.
+/// Returns the fault of a token that doesn't fit.
 pub fn misfit(token: &Token<'_>) -> DbFault
     ensures { result ≡ at token.now.line kinds.Syntax }
 {
@@ -53,7 +53,7 @@ pub fn misfit(token: &Token<'_>) -> DbFault
     }
 }
 
-/// Whether it is this sign.
+/// Returns whether it is this sign.
 pub fn is_sign_of(b: u8, kind: TokenKind) -> bool
     ensures { result ≡ is_sign_of b kind }
 {
@@ -63,7 +63,7 @@ pub fn is_sign_of(b: u8, kind: TokenKind) -> bool
     }
 }
 
-/// The next token, which must be this sign.
+/// Reads the next token, which must be this sign.
 #[tactic(auto, unfolding(crate::specs::Statements::expect))]
 fn sign_at(b: u8, last: u64, tokens: &mut Tokens<'_>) -> Result<(), DbFault>
     ensures { Reads (λ _. tokens.new) result (expect b last tokens.old) }
@@ -75,25 +75,25 @@ fn sign_at(b: u8, last: u64, tokens: &mut Tokens<'_>) -> Result<(), DbFault>
     Ok(())
 }
 
-/// Takes this sign.
+/// Reads this sign.
 pub fn expect(b: u8, last: u64, tokens: &mut Tokens<'_>) -> Result<(), DbFault>
     ensures { Reads (λ _. tokens.new) result (expect b last tokens.old) }
 {
-    // Mostly it stands there, and then no token need be made of it.
+    // Mostly the sign is there, and then no token need be created.
     if tokens.take_sign(b) {
         return Ok(());
     }
     sign_at(b, last, tokens)
 }
 
-/// Whether it is a bareword or a quoted text.
+/// Returns whether it is a bareword or a quoted text.
 pub fn is_value(kind: TokenKind) -> bool
     ensures { result ≡ is_value kind }
 {
     matches!(kind, TokenKind::Word | TokenKind::Quoted)
 }
 
-/// Takes a bareword or a quoted text.
+/// Reads a bareword or a quoted text.
 #[tactic(auto, unfolding(crate::specs::Statements::value_at))]
 pub fn value_at<'a>(last: u64, tokens: &mut Tokens<'a>) -> Result<Token<'a>, DbFault>
     ensures { Reads (λ t. (seen t, tokens.new)) result (value_at last tokens.old) }
@@ -105,14 +105,14 @@ pub fn value_at<'a>(last: u64, tokens: &mut Tokens<'a>) -> Result<Token<'a>, DbF
     Ok(token)
 }
 
-/// Whether it is a bareword.
+/// Returns whether it is a bareword.
 fn is_bareword(kind: TokenKind) -> bool
     ensures { result ≡ is_bareword kind }
 {
     matches!(kind, TokenKind::Word)
 }
 
-/// Whether it is this bareword.
+/// Returns whether the token is this bareword.
 pub fn is_word(word: &[u8], token: &Token<'_>) -> bool
     ensures { result ≡ is_word word.now (seen token.now) }
 {
@@ -120,14 +120,14 @@ pub fn is_word(word: &[u8], token: &Token<'_>) -> bool
     is_bareword(token.kind) && token.text == word
 }
 
-/// What a token says: in a field's value, or in a name.
+/// Returns the text of a token, in the value of a field or in a name.
 pub fn text_of<'a>(alloc: Global, in_value: bool, token: &Token<'a>) -> Result<Said<'a>, AllocError>
     ensures { IfOk result (λ s. said_bytes s ≡ text_of in_value (seen token.now)) }
 {
     read_escapes(alloc, in_value, token.text)
 }
 
-/// Whether it is a word of a database definition, whose statements are left out.
+/// Returns whether it is a word of a database definition, whose statements this grammar leaves out.
 #[tactic(auto, unfolding(crate::specs::Statements::is_left_out))]
 fn is_left_out(token: &Token<'_>) -> bool
     ensures { result ≡ is_left_out (seen token.now) }
@@ -146,7 +146,7 @@ fn is_left_out(token: &Token<'_>) -> bool
         || is_word(b"link", token)
 }
 
-/// Whether a record begins with this token.
+/// Returns whether a record begins with this token.
 #[tactic(auto, unfolding(crate::specs::Statements::begins_record))]
 pub fn begins_record(token: &Token<'_>) -> bool
     ensures { result ≡ begins_record (seen token.now) }
@@ -154,7 +154,7 @@ pub fn begins_record(token: &Token<'_>) -> bool
     is_word(b"record", token) || is_word(b"grecord", token)
 }
 
-/// Why no statement begins with this token.
+/// Returns why no statement begins with this token.
 pub fn refused_word(token: &Token<'_>) -> BadDbKind
     ensures { result ≡ refused_word (seen token.now) }
 {
@@ -165,7 +165,8 @@ pub fn refused_word(token: &Token<'_>) -> BadDbKind
     }
 }
 
-/// Where a name is refused: too many records on the line of the word `record`.
+/// Returns the line on which a name is refused: too many records are refused on the line of the
+/// word `record`.
 pub fn name_line(begun: u64, line: u64, kind: BadDbKind) -> u64
     ensures { result ≡ name_line begun line kind }
 {

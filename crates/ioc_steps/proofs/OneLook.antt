@@ -1,4 +1,4 @@
--- A record that was put is put once more.
+-- A record that was put is put again.
 use Rattle.std.proofs.Common.{◌≡◌, ◌≢◌, ℕ, Bool, true, false, cond, Option, Some, None, refl, sym, ap, ◌∙◌, arith}
 use Rattle.std.specs.Ordering.{nat_cmp, eq_by_cmp}
 use Rattle.std.specs.Cmp.{nat_cmp_total}
@@ -33,17 +33,17 @@ unfolding put
 put_twice w n r q = ap (λ rs. record w { records = rs }) (insert_twice w.records n r q)
 
 module _ {R : Type 0} (k : RecordRules R) where
-  -- what a change makes of its record
+  -- A change puts the record with its common fields changed.
   pub changed_at : (w : World R) (n : ℕ) (f : Common → Common) → at k (changed k w n f) n ≡ k.with_common (at k w n) (f (common_at k w n))
   unfolding changed
   changed_at w n f = at-put_same k w n _
 
-  -- and after it
+  -- A put of the same record replaces the result of a change.
   pub changed_on : (w : World R) (n : ℕ) (f : Common → Common) (r : R) → put (changed k w n f) n r ≡ put w n r
   unfolding changed
   changed_on w n f r = put_twice w n _ r
 
-  -- and where it is put back as it is
+  -- Putting the changed record back unchanged is the change itself.
   pub changed_still : (w : World R) (n : ℕ) (f : Common → Common) (r : R) → r ≡ at k (changed k w n f) n → put w n r ≡ changed k w n f
   unfolding changed
   changed_still w n f r is = ap (put w n) (is ∙ changed_at w n f)
@@ -57,7 +57,8 @@ module _ {R : Type 0} (k : RecordRules R) where
   opened w n Took written r after is there = (there ∙ sym (changed_on w n unblocked r) ∙ ap (put (changed k w n unblocked) n) is.0, is.1, is.2)
   opened w n PutsOut written r after is there = (there ∙ sym (changed_on w n unblocked r) ∙ ap (put (changed k w n unblocked) n) is.0, is.1, is.2)
 
-  -- a record that has no notification, and isn't put down, comes to rest by its marks alone
+  -- A record that is part of no put with notification and isn't marked for reprocessing ends by
+  -- clearing its marks alone.
   pub rested_quietly : (w : World R) (n : ℕ) → (common_at k w n).notification ≡ None → (common_at k w n).reprocess ≡ false → put w n (k.with_common (at k w n) (at_rest (common_at k w n))) ≡ rested k w n
   unfolding rested notified notified_as changed
   rested_quietly w n none quiet =

@@ -1,4 +1,5 @@
--- Steps that are made at one look at their record, by the steps of the rules. That they are made at one look is this project's own.
+-- Steps that access their record once, in terms of the steps of the rules. The single access is
+-- this project's own design.
 use Rattle.std.specs.Prelude.{◌≡◌, ℕ, true, false, Option, Some}
 use Rattle.std.specs.Prelude.{None as Nothing_}
 use Rattle.ioc_common.specs.declared.body.Got.TheVariants as got
@@ -18,13 +19,13 @@ use Rattle.ioc_steps.specs.declared.looks.Shown.TheVariants.{Named, Done, Rests}
 use Rattle.ioc_steps.specs.declared.looks.Opening.TheVariants.{ReadsDisable, Disabled, ReadsLink, ReadsDevice, Took, PutsOut}
 
 module _ {R : Type 0} (k : RecordRules R) where
-  -- SDIS is no link, the record isn't disabled, and its body needs this first
+  -- Holds if SDIS is no link, the record isn't disabled, and its body needs this first.
   pub record Begins (r : R) (need : Need) : Type 0 where
     pub unused : is_unused (use_of (k.common r).disable_link) ≡ true
     pub on : is_disabled (k.common r) ≡ false
     pub needs : need_of (k.begin r) ≡ need
 
-  -- a record that was found idle, by how it stands: what it is afterwards, and what it has to put out
+  -- A record that was found idle, by its state: what it is afterwards, and its output.
   abbrev pub Opens : R → Opening → Output → R → Type 0
   Opens r ReadsDisable written after = (after ≡ r) × (is_unused (use_of (k.common r).disable_link) ≡ false)
   Opens r Disabled written after = (after ≡ r) × (is_unused (use_of (k.common r).disable_link) ≡ true) × (is_disabled (k.common r) ≡ true)
@@ -33,7 +34,7 @@ module _ {R : Type 0} (k : RecordRules R) where
   Opens r Took written after = (after ≡ k.taken r got.Nothing) × Begins r need.Nothing × (puts_out (k.output r got.Nothing) ≡ false)
   Opens r PutsOut written after = (after ≡ k.taken r got.Nothing) × Begins r need.Nothing × (written ≡ k.output r got.Nothing)
 
-  -- the same of record s
+  -- Record `s` that was found idle, by its state: the world afterwards, and the output.
   abbrev pub Opened : World R → ℕ → Opening → Output → World R → Type 0
   Opened w s ReadsDisable written after = (after ≡ w) × (is_unused (use_of (common_at k w s).disable_link) ≡ false)
   Opened w s Disabled written after = (after ≡ w) × (is_unused (use_of (common_at k w s).disable_link) ≡ true) × (is_disabled (common_at k w s) ≡ true)
@@ -42,14 +43,15 @@ module _ {R : Type 0} (k : RecordRules R) where
   Opened w s Took written after = (after ≡ put w s (k.taken (at k w s) got.Nothing)) × Begins (at k w s) need.Nothing × (puts_out (k.output (at k w s) got.Nothing) ≡ false)
   Opened w s PutsOut written after = (after ≡ put w s (k.taken (at k w s) got.Nothing)) × Begins (at k w s) need.Nothing × (written ≡ k.output (at k w s) got.Nothing)
 
-  -- a record that has shown its alarms, by its forward link and what is left to do, and what it is afterwards
+  -- A record that has shown its alarms, by its forward link and what is left to do: what it is
+  -- afterwards.
   abbrev pub Shows : R → Shown → R → Type 0
   Shows r (Named target) after = (after ≡ r) × (record_named (use_of (k.common r).forward_link) ≡ Some target)
   Shows r Rests after = (after ≡ r) × (record_named (use_of (k.common r).forward_link) ≡ Nothing_)
   Shows r Done after = (after ≡ k.with_common r (at_rest (k.common r))) × (record_named (use_of (k.common r).forward_link) ≡ Nothing_)
       × ((k.common r).notification ≡ Nothing_) × ((k.common r).reprocess ≡ false)
 
-  -- record s shows its alarms, and is done where its forward link names no record
+  -- Record `s` shows its alarms, and is done if its forward link names no record.
   abbrev pub shown_on : World R → ℕ → Option ℕ → World R
   shown_on w s (Some target) = changed k w s (shown w.moment)
   shown_on w s Nothing_ = rested k (changed k w s (shown w.moment)) s

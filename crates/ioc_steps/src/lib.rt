@@ -1,4 +1,4 @@
-//! The changes of one record that the rules are made of, in any keeper of records.
+//! The changes of one record that the processing rules are made of, in any store of records.
 #![tactic(auto)]
 
 pub mod looks;

@@ -1,4 +1,4 @@
-//! Steps that are made at one look at their record.
+//! Steps that access their record once.
 ghost use Rattle.std.specs.Prelude.{◌≡◌};
 ghost use Rattle.ioc_common.specs.Links.{record_named, use_of};
 ghost use Rattle.ioc_common.specs.Steps.{shown, unblocked};
@@ -11,34 +11,35 @@ use ioc_names::RecordNo;
 use ioc_record::RecordKind;
 use ioc_store::Store;
 
-/// How a record stands that a request found idle.
+/// The state of a record that a request found idle.
 #[derive(Clone, Copy)]
 pub enum Opening {
     /// SDIS is a link, which is read first.
     ReadsDisable,
-    /// It is disabled.
+    /// The record is disabled.
     Disabled,
-    /// Its body reads a link first.
+    /// The body reads a link first.
     ReadsLink,
-    /// Its body reads its device first.
+    /// The body reads its device first.
     ReadsDevice,
-    /// Its body needs nothing, and has taken nothing: it has nothing to put out.
+    /// The body needs no input; the record has taken an empty one and has no output.
     Took,
-    /// Its body needs nothing, and has taken nothing: it has something to put out.
+    /// The body needs no input; the record has taken an empty one and has an output.
     PutsOut,
 }
 
-// How a record stands that has shown its alarms.
+// The state of a record that has shown its alarms.
 enum Shown {
-    // Its forward link names this record.
+    // The forward link names this record.
     Named(RecordNo),
-    // It names none, and the record is done.
+    // The forward link names no record, and the record is done.
     Done,
-    // It names none, and there is more to do than to clear the record's marks.
+    // The forward link names no record, and there is more to do than to clear the marks of the
+    // record.
     Rests,
 }
 
-// The body of a record takes nothing.
+// Lets a record whose body needs no input take an empty one.
 #[inline(always)]
 fn take_nothing<K: RecordKind>(this: &mut K, output: &mut Output) -> Opening
     requires { Begins K.rules this.old Need.Nothing }
@@ -51,7 +52,8 @@ fn take_nothing<K: RecordKind>(this: &mut K, output: &mut Output) -> Opening
     }
 }
 
-// A request found a record idle: where nothing stands before its body, and that needs nothing, it takes nothing.
+// Begins a request that found the record idle. If SDIS is no link, the record isn't disabled and
+// the body needs no input, the record takes an empty one.
 #[inline(always)]
 fn open_record<K: RecordKind>(this: &mut K, output: &mut Output) -> Opening
     ensures { Opens K.rules (K.rules.with_common this.old (unblocked (K.rules.common this.old))) result output.new this.new }
@@ -70,8 +72,9 @@ fn open_record<K: RecordKind>(this: &mut K, output: &mut Output) -> Opening
     }
 }
 
-/// A request found a record idle: where nothing stands before its body, and that needs nothing, it takes nothing. What it has to put out then is
-/// written into `output`.
+/// Begins a request that found the record idle. If SDIS is no link, the record isn't disabled and
+/// the body needs no input, the record takes an empty one, and its output, if it has any, is
+/// written to `output`.
 #[inline(always)]
 pub fn open<S: Store>(store: &mut S, number: RecordNo, output: &mut Output) -> Opening
     requires { Has (S.world store.old) number }
@@ -81,7 +84,7 @@ pub fn open<S: Store>(store: &mut S, number: RecordNo, output: &mut Output) -> O
     open_record(store.record_mut(number), output)
 }
 
-// A record shows its alarms, and is done if that is all there is to do.
+// Shows the alarms of a record, which is done then if nothing else is left.
 #[inline(always)]
 fn show_record<K: RecordKind>(this: &mut K, moment: u64) -> Shown
     ensures { Shows K.rules (K.rules.with_common this.old (shown moment (K.rules.common this.old))) result this.new }
@@ -98,8 +101,9 @@ fn show_record<K: RecordKind>(this: &mut K, moment: u64) -> Shown
     Shown::Done
 }
 
-/// A record shows its alarms, with the moment of the event, and is active; the answer is the record that its forward link names. Where that names none,
-/// the record is done.
+/// Shows the alarms of a record, with the time stamp of the event, and returns the record that its
+/// forward link names. The record is active then; if the link names none, the record is done
+/// instead.
 #[inline(always)]
 pub fn show_on<S: Store>(store: &mut S, number: RecordNo) -> Option<RecordNo>
     requires { Has (S.world store.old) number }

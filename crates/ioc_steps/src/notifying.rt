@@ -1,4 +1,4 @@
-//! Puts with notification, as they go from record to record and are told.
+//! Puts with notification, as they pass from record to record and end.
 ghost use Rattle.std.specs.Prelude.{◌≡◌, Some};
 ghost use Rattle.ioc_store.specs.Notifying.{taken_over, holding, passed_on, notified_as, notified};
 ghost use Rattle.ioc_store.specs.World.{Has};
@@ -9,7 +9,7 @@ use ioc_names::RecordNo;
 use ioc_notify::NotifyId;
 use ioc_store::Store;
 
-// What a record takes over from the one that requests it.
+// Returns the put with notification that a record takes over from the one that requests it.
 fn taken_over(source: &Common, target: &Common) -> Option<NotifyId>
     ensures { result ≡ taken_over source.now target.now }
 {
@@ -19,7 +19,7 @@ fn taken_over(source: &Common, target: &Common) -> Option<NotifyId>
     source.notification
 }
 
-// A record has this notification from now on, if there is one.
+// Makes a record part of this put with notification, if there is one.
 #[tactic(auto, unfolding(ioc_store::specs::Notifying::holding))]
 fn hold<S: Store>(store: &mut S, number: RecordNo, notification: Option<NotifyId>)
     requires { Has (S.world store.old) number }
@@ -32,7 +32,8 @@ fn hold<S: Store>(store: &mut S, number: RecordNo, notification: Option<NotifyId
     }
 }
 
-// A record that is requested takes over the notification of the one that requests it, where it is idle and has none.
+// Passes the put with notification of the requesting record to the requested one, if that is idle
+// and part of none.
 #[tactic(auto, unfolding(ioc_store::specs::Notifying::passed_on))]
 #[inline(never)]
 fn take_over<S: Store>(store: &mut S, source: RecordNo, target: RecordNo)
@@ -45,7 +46,8 @@ fn take_over<S: Store>(store: &mut S, source: RecordNo, target: RecordNo)
     hold(store, target, notification);
 }
 
-/// A record that is requested takes over the notification of the one that requests it, if that has one, where it is idle and has none.
+/// Passes the put with notification of the requesting record, if it has one, to the requested one,
+/// if that is idle and part of none.
 #[tactic(auto, unfolding(ioc_store::specs::Notifying::passed_on, ioc_store::specs::Notifying::holding))]
 #[inline(always)]
 pub fn pass_notification<S: Store>(store: &mut S, source: RecordNo, target: RecordNo)
@@ -59,7 +61,7 @@ pub fn pass_notification<S: Store>(store: &mut S, source: RecordNo, target: Reco
     }
 }
 
-// This notification of a record is told: the record has it no more.
+// Removes a record from this put with notification.
 #[tactic(auto, unfolding(ioc_store::specs::Notifying::notified_as))]
 #[inline(never)]
 fn tell_of<S: Store>(store: &mut S, number: RecordNo, notification: NotifyId)
@@ -71,7 +73,7 @@ fn tell_of<S: Store>(store: &mut S, number: RecordNo, notification: NotifyId)
     store.let_go(notification);
 }
 
-/// The notification of a record is told, if it has one: the record has it no more.
+/// Removes a record from its put with notification, if it has one.
 #[tactic(auto, unfolding(ioc_store::specs::Notifying::notified, ioc_store::specs::Notifying::notified_as))]
 #[inline(always)]
 pub fn tell<S: Store>(store: &mut S, number: RecordNo)

@@ -1,4 +1,4 @@
-//! Where a record stands on its scan list, and what changes that.
+//! The place of a record on the scan lists, and what changes it.
 ghost use Rattle.std.specs.Prelude.{◌≡◌, ◌<◌, ◌-◌};
 ghost use Rattle.std.specs.Option.{option_copied};
 ghost use Rattle.ioc_store.specs.Scanning.{places_record, text_in, device_of, moved, rescanned, rewired};
@@ -13,7 +13,7 @@ use ioc_record::RecordKind;
 use ioc_store::{OutboxItem, ScanChange, Store};
 use ioc_values::Short;
 
-// Does a put to the field take the record off its scan list, and add it anew?
+// Returns whether a put to the field removes the record from its scan list and adds it again.
 fn places_record(field: FieldNo) -> bool
     ensures { result ≡ places_record field }
 {
@@ -25,7 +25,7 @@ fn places_record(field: FieldNo) -> bool
     )
 }
 
-// The text of the device link in a field; empty where there is none.
+// Returns the text of the device link in a field; empty if there is none.
 fn text_in(link: Option<&KeptLink>) -> Short<MAX_DEVICE_BYTES>
     ensures { result ≡ text_in (option_copied link.entry) }
 {
@@ -35,7 +35,7 @@ fn text_in(link: Option<&KeptLink>) -> Short<MAX_DEVICE_BYTES>
     }
 }
 
-/// The text of a record's device link, in INP or OUT; empty where it has none.
+/// Returns the text of a record's device link, in INP or OUT; empty if it has none.
 #[tactic(auto, unfolding(ioc_store::specs::Scanning::device_of))]
 pub fn device_of<K: RecordKind>(record: &K) -> Short<MAX_DEVICE_BYTES>
     ensures { result ≡ device_of K.rules record.now }
@@ -48,7 +48,8 @@ pub fn device_of<K: RecordKind>(record: &K) -> Short<MAX_DEVICE_BYTES>
     }
 }
 
-// A record goes off its scan list, and on that where it stands now: a change is sent, with the next number of this record.
+// Moves a record to the scan list that its fields name now: sends a change with the next number of
+// this record.
 #[tactic(auto, unfolding(ioc_store::specs::Scanning::moved))]
 fn move_record<S: Store>(store: &mut S, number: RecordNo)
     requires { Has (S.world store.old) number }
@@ -71,7 +72,7 @@ fn move_record<S: Store>(store: &mut S, number: RecordNo)
     }));
 }
 
-/// A field of a record was put to: one that says where the record stands on its scan list sends a change.
+/// Sends a change of the scan list if the field, which was put to, is one that determines it.
 #[tactic(auto, unfolding(ioc_store::specs::Scanning::rescanned))]
 pub fn rescan<S: Store>(store: &mut S, number: RecordNo, field: FieldNo)
     requires { Has (S.world store.old) number }
@@ -83,7 +84,7 @@ pub fn rescan<S: Store>(store: &mut S, number: RecordNo, field: FieldNo)
     }
 }
 
-/// A link of a record was changed, whose device link had this text before: another text sends a change.
+/// Sends a change of the scan list if the text of the record's device link is no longer `before`.
 #[tactic(auto, unfolding(ioc_store::specs::Scanning::rewired))]
 pub fn rewire<S: Store>(store: &mut S, number: RecordNo, before: Short<MAX_DEVICE_BYTES>)
     requires { Has (S.world store.old) number }

@@ -34,8 +34,8 @@ fn common_mut<S: Store>(store: &mut S, number: RecordNo) -> &mut Common
     this.common_mut()
 }
 
-/// What records of all types share, of this one. It is inlined, as is lending it to be changed: a look is short where the record is the one
-/// that was lent last.
+/// Returns the common fields of a record. It is inlined, as is the access to change them: access is
+/// short if the record is the one borrowed last.
 #[inline(always)]
 pub fn common<S: Store>(store: &S, number: RecordNo) -> &Common
     requires { Has (S.world store.now) number }
@@ -53,7 +53,7 @@ pub fn set_active<S: Store>(store: &mut S, number: RecordNo, active: bool)
     common_mut(store, number).active = active;
 }
 
-/// A record raises an alarm.
+/// Raises an alarm of a record.
 pub fn raise<S: Store>(store: &mut S, number: RecordNo, status: Status, severity: Severity)
     requires { Has (S.world store.old) number }
     ensures world { S.world store.new ≡ changed S.Record.rules (S.world store.old) number (raised status severity) }
@@ -62,7 +62,7 @@ pub fn raise<S: Store>(store: &mut S, number: RecordNo, status: Status, severity
     common_mut(store, number).raise(status, severity);
 }
 
-/// A record takes over an alarm.
+/// Lets a record take over an alarm.
 pub fn inherit<S: Store>(
     store: &mut S,
     number: RecordNo,
@@ -77,7 +77,8 @@ pub fn inherit<S: Store>(
     common_mut(store, number).inherit(mode, status, severity);
 }
 
-/// A record that is written takes over the alarm that its writer raises, by the mode of their link.
+/// Lets a record that is written take over the alarm that its writer raises, as the mode of their
+/// link says.
 pub fn hand_on<S: Store>(store: &mut S, number: RecordNo, written: RecordNo, mode: Mode)
     requires there { Has (S.world store.old) number }
     requires standing { Has (S.world store.old) written }
@@ -89,7 +90,7 @@ pub fn hand_on<S: Store>(store: &mut S, number: RecordNo, written: RecordNo, mod
     inherit(store, written, mode, from.new_status, from.new_severity);
 }
 
-/// A request found a record active.
+/// Notes that a request found the record active.
 pub fn block<S: Store>(store: &mut S, number: RecordNo)
     requires { Has (S.world store.old) number }
     ensures world { S.world store.new ≡ changed S.Record.rules (S.world store.old) number blocked }
@@ -98,7 +99,7 @@ pub fn block<S: Store>(store: &mut S, number: RecordNo)
     common_mut(store, number).block();
 }
 
-/// A record's device answers later.
+/// Notes that the record's device answers later.
 pub fn wait<S: Store>(store: &mut S, number: RecordNo)
     requires there { Has (S.world store.old) number }
     requires more { (common_at S.Record.rules (S.world store.old) number).last_pending < 2 ^ 64 - 1 }
@@ -108,7 +109,7 @@ pub fn wait<S: Store>(store: &mut S, number: RecordNo)
     common_mut(store, number).wait();
 }
 
-/// A record's device has answered at last: its body goes on.
+/// Resumes a record whose device has answered later.
 pub fn resume<S: Store>(store: &mut S, number: RecordNo)
     requires { Has (S.world store.old) number }
     ensures world { S.world store.new ≡ changed S.Record.rules (S.world store.old) number resumed }
@@ -119,7 +120,7 @@ pub fn resume<S: Store>(store: &mut S, number: RecordNo)
     common.end_wait();
 }
 
-/// A record has this put with notification from now on, or none.
+/// Sets the put with notification that a record is part of, or none.
 pub fn set_notification<S: Store>(store: &mut S, number: RecordNo, notification: Option<NotifyId>)
     requires { Has (S.world store.old) number }
     ensures world { S.world store.new ≡ changed S.Record.rules (S.world store.old) number (with_notification notification) }
@@ -128,7 +129,7 @@ pub fn set_notification<S: Store>(store: &mut S, number: RecordNo, notification:
     common_mut(store, number).notification = notification;
 }
 
-/// Where a record stands on its scan list changes once more.
+/// Numbers one more change of the record's place on the scan lists.
 pub fn renumber_change<S: Store>(store: &mut S, number: RecordNo)
     requires there { Has (S.world store.old) number }
     requires more { (common_at S.Record.rules (S.world store.old) number).last_change < 2 ^ 64 - 1 }
@@ -138,7 +139,7 @@ pub fn renumber_change<S: Store>(store: &mut S, number: RecordNo)
     common_mut(store, number).last_change += 1;
 }
 
-/// A record is processed for a client's put.
+/// Marks a record as processed for a client's put.
 pub fn mark_put<S: Store>(store: &mut S, number: RecordNo)
     requires { Has (S.world store.old) number }
     ensures world { S.world store.new ≡ changed S.Record.rules (S.world store.old) number (with_put_mark true) }
@@ -147,7 +148,7 @@ pub fn mark_put<S: Store>(store: &mut S, number: RecordNo)
     common_mut(store, number).mark_put(true);
 }
 
-/// A record is put down for another processing.
+/// Marks a record for reprocessing.
 pub fn mark_reprocess<S: Store>(store: &mut S, number: RecordNo)
     requires { Has (S.world store.old) number }
     ensures world { S.world store.new ≡ changed S.Record.rules (S.world store.old) number (with_reprocess_mark true) }
@@ -156,7 +157,8 @@ pub fn mark_reprocess<S: Store>(store: &mut S, number: RecordNo)
     common_mut(store, number).mark_reprocess(true);
 }
 
-/// Is a record put down for another processing, where one that is processed for a put or not requests it?
+/// Returns whether a request marks the record for reprocessing: the record awaits its completion,
+/// and the requesting one is processed for a put.
 pub fn is_put_down<S: Store>(store: &S, number: RecordNo, by_put: bool) -> bool
     requires { Has (S.world store.now) number }
     ensures { result ≡ is_put_down by_put (common_at S.Record.rules (S.world store.now) number) }
@@ -164,14 +166,14 @@ pub fn is_put_down<S: Store>(store: &S, number: RecordNo, by_put: bool) -> bool
     by_put && awaits_answer(common(store, number))
 }
 
-// Is the record active, and awaits a completion?
+// Returns whether the record is active and awaits a completion.
 fn awaits_answer(common: &Common) -> bool
     ensures { result ≡ common.now.active && is_some common.now.pending }
 {
     common.active && common.pending.is_some()
 }
 
-/// A request found the record awaiting its completion: it is put down for another processing.
+/// Marks a record for reprocessing that a request found awaiting its completion.
 pub fn put_down<S: Store>(store: &mut S, number: RecordNo)
     requires { Has (S.world store.old) number }
     ensures world { S.world store.new ≡ changed S.Record.rules (S.world store.old) number put_down }
@@ -182,7 +184,7 @@ pub fn put_down<S: Store>(store: &mut S, number: RecordNo)
     common.block();
 }
 
-/// A record is processed for a client's put, or not.
+/// Sets whether a record is processed for a client's put.
 #[inline(always)]
 pub fn set_put_mark<S: Store>(store: &mut S, number: RecordNo, by_put: bool)
     requires { Has (S.world store.old) number }
@@ -192,7 +194,7 @@ pub fn set_put_mark<S: Store>(store: &mut S, number: RecordNo, by_put: bool)
     common_mut(store, number).by_put = by_put;
 }
 
-/// A record that is requested takes the PUTF of the one that requests it, where it is idle.
+/// Passes the PUTF of the requesting record to the requested one, if that is idle.
 #[tactic(auto, unfolding(ioc_store::specs::Marks::put_mark_passed))]
 pub fn pass_put_mark<S: Store>(store: &mut S, number: RecordNo, by_put: bool)
     requires { Has (S.world store.old) number }
@@ -205,7 +207,7 @@ pub fn pass_put_mark<S: Store>(store: &mut S, number: RecordNo, by_put: bool)
     }
 }
 
-/// A request found the record disabled.
+/// Notes that a request found the record disabled.
 pub fn disable<S: Store>(store: &mut S, number: RecordNo)
     requires { Has (S.world store.old) number }
     ensures world { S.world store.new ≡ changed S.Record.rules (S.world store.old) number disabled }
@@ -214,14 +216,14 @@ pub fn disable<S: Store>(store: &mut S, number: RecordNo)
     common_mut(store, number).disable();
 }
 
-// Is DISA what DISV says?
+// Returns whether DISA equals DISV.
 pub(crate) fn is_off(common: &Common) -> bool
     ensures { result ≡ is_disabled common.now }
 {
     common.disabling.input == common.disabling.value
 }
 
-/// The same of a record of a store.
+/// Returns whether a record of a store is disabled.
 pub fn is_disabled<S: Store>(store: &S, number: RecordNo) -> bool
     requires { Has (S.world store.now) number }
     ensures { result ≡ is_disabled (common_at S.Record.rules (S.world store.now) number) }
@@ -229,7 +231,7 @@ pub fn is_disabled<S: Store>(store: &S, number: RecordNo) -> bool
     is_off(common(store, number))
 }
 
-// What SDIS gave goes into DISA.
+// Stores the value of SDIS in DISA.
 #[tactic(auto, unfolding(ioc_store::specs::Marks::with_disable_input))]
 fn set_disable_input<S: Store>(store: &mut S, number: RecordNo, value: Value)
     requires { Has (S.world store.old) number }
@@ -241,7 +243,7 @@ fn set_disable_input<S: Store>(store: &mut S, number: RecordNo, value: Value)
         .store(CommonField::Disa, value);
 }
 
-/// What SDIS gave, if it gave anything, goes into DISA.
+/// Stores the value of SDIS in DISA, if there is one.
 #[tactic(auto, unfolding(ioc_store::specs::Rests::disable_came))]
 pub fn take_disable_input<S: Store>(store: &mut S, number: RecordNo, got: Got)
     requires { Has (S.world store.old) number }
@@ -254,7 +256,7 @@ pub fn take_disable_input<S: Store>(store: &mut S, number: RecordNo, got: Got)
     }
 }
 
-// A record is idle, and no put is under way any more.
+// Makes a record idle and clears PUTF and RPRO.
 pub(crate) fn clear_marks(common: &mut Common)
     ensures { common.new ≡ at_rest common.old }
 {
@@ -263,7 +265,7 @@ pub(crate) fn clear_marks(common: &mut Common)
     common.reprocess = false;
 }
 
-// The same of a record of a store.
+// Makes a record of a store idle and clears PUTF and RPRO.
 #[inline(always)]
 fn come_to_rest<S: Store>(store: &mut S, number: RecordNo)
     requires { Has (S.world store.old) number }
@@ -273,7 +275,7 @@ fn come_to_rest<S: Store>(store: &mut S, number: RecordNo)
     clear_marks(common_mut(store, number));
 }
 
-// A record is to be requested once more. This isn't inlined, since few are: what is sent takes much room.
+// Sends one more request of a record. It is not inlined, since it is rare and an item is large.
 #[inline(never)]
 fn send_once<S: Store>(store: &mut S, number: RecordNo)
     ensures world { S.world store.new ≡ sent (Once number) (S.world store.old) }
@@ -282,7 +284,8 @@ fn send_once<S: Store>(store: &mut S, number: RecordNo)
     store.send(OutboxItem::Once(number));
 }
 
-/// A record is done; one that was put down for another processing is sent to be requested once more.
+/// Ends the processing of a record. If it was marked for reprocessing, one more request of it is
+/// sent.
 #[inline(always)]
 #[tactic(auto, unfolding(ioc_store::specs::Rests::rested))]
 pub fn rest<S: Store>(store: &mut S, number: RecordNo)
@@ -298,7 +301,7 @@ pub fn rest<S: Store>(store: &mut S, number: RecordNo)
     }
 }
 
-/// A record takes what its device gave at last, and says what it has to put out.
+/// Lets a record take what its device returned later, and writes its output to `output`.
 pub fn take_at_last<S: Store>(
     store: &mut S,
     number: RecordNo,
@@ -314,7 +317,7 @@ pub fn take_at_last<S: Store>(
     store.record_mut(number).finish(finished, output);
 }
 
-/// What the body of a record needs first.
+/// Returns what the body of a record needs first.
 #[inline(always)]
 pub fn need<S: Store>(store: &S, number: RecordNo) -> Need
     requires { Has (S.world store.now) number }
@@ -323,7 +326,7 @@ pub fn need<S: Store>(store: &S, number: RecordNo) -> Need
     store.record(number).begin()
 }
 
-/// The link that the body of a record reads first, if it reads one.
+/// Returns the link that the body of a record reads first, if it reads one.
 pub fn wanted_link<S: Store>(store: &S, number: RecordNo) -> LinkUse
     requires { Has (S.world store.now) number }
     ensures { result ≡ link_wanted (S.Record.rules.begin (at S.Record.rules (S.world store.now) number)) }
@@ -331,7 +334,8 @@ pub fn wanted_link<S: Store>(store: &S, number: RecordNo) -> LinkUse
     store.record(number).wanted_link()
 }
 
-/// A record takes what came for it, and says whether it has to put anything out: what that is is written into `output`.
+/// Lets a record take its input, and returns whether it has an output, which is written to `output`
+/// then.
 #[inline(always)]
 pub fn take<S: Store>(store: &mut S, number: RecordNo, got: &Got, output: &mut Output) -> bool
     requires { Has (S.world store.old) number }
@@ -344,7 +348,7 @@ pub fn take<S: Store>(store: &mut S, number: RecordNo, got: &Got, output: &mut O
     store.record_mut(number).take(got, output)
 }
 
-/// Does a link with PP, if it is one, request this record?
+/// Returns whether a link requests this record: the link has PP, and the record is passive.
 pub fn passes_on<S: Store>(store: &S, process_passive: bool, number: RecordNo) -> bool
     requires { Has (S.world store.now) number }
     ensures { result ≡ process_passive && is_passive (common_at S.Record.rules (S.world store.now) number) }
@@ -352,7 +356,7 @@ pub fn passes_on<S: Store>(store: &S, process_passive: bool, number: RecordNo) -
     process_passive && passive(store, number)
 }
 
-/// Is a record processed only where a client or another record asks for it?
+/// Returns whether a record is processed only if a client or another record requests it.
 pub fn passive<S: Store>(store: &S, number: RecordNo) -> bool
     requires { Has (S.world store.now) number }
     ensures { result ≡ is_passive (common_at S.Record.rules (S.world store.now) number) }

@@ -1,4 +1,4 @@
--- How many notifications are live, as records take them on and let them go.
+-- The number of live puts with notification as records join and leave them.
 use Rattle.std.proofs.lemmas.List.{length_push}
 use Rattle.std.proofs.Common.{◌≡◌, ℕ, suc, ◌+◌, ◌≤◌, Bool, true, false, List, [], ◌∷◌, ◌++◌, length, ◌==◌, ◌&&◌, ◌||◌, not, refl, ap, subst, arith}
 use Rattle.std.specs.Prelude.{nat_lt, if◌then◌else◌, ◌-◌}
@@ -14,7 +14,7 @@ length-gained number (l ∷ ls) =
       | false ↦ ap suc (length-gained number ls)
     ]
 
--- one that ends is one less
+-- A put with notification that ends is one live one less.
 pub length-lost : (number : ℕ) (ls : List Live) → length (lost number ls) + (if is_at_its_last number ls then 1 else 0) ≡ length ls
 length-lost number [] = refl
 length-lost number (l ∷ ls) =
@@ -27,7 +27,7 @@ length-lost number (l ∷ ls) =
       | false ↦ omega (arith, length-lost number ls)
     ]
 
--- those that are live and those that have ended in the event are no more than before
+-- The live puts with notification and those that have ended in the event are no more than before.
 pub few-ended : (number : ℕ) (ls after : List Live) (es ended : List ℕ) → after ≡ lost number ls → is_at_its_last number ls ≡ true → ended ≡ es ++ number ∷ []
     → length ls + length es ≤ 256 → length after + length ended ≤ 256
 few-ended number ls after es ended is last pushed few =

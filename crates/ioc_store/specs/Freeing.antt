@@ -1,4 +1,4 @@
--- A notification that is taken from all records.
+-- A put with notification is removed from all records.
 use Rattle.std.proofs.Common.{◌≡◌, ℕ, zero, suc, ◌+◌, ◌<◌, ◌≤◌, Bool, true, false, cond, List, [], ◌∷◌, ◌++◌, map, length, take, drop, set, get_or, Option, Some, None, unwrap_or, is_some, IsTrue, T, refl, sym, ap, subst, ◌∙◌, append-nil, arith}
 use Rattle.std.specs.Prelude.{slice_get, ◌&&◌}
 use Rattle.std.proofs.lemmas.List.{take_all, drop_all, length-map}
@@ -13,7 +13,7 @@ use Rattle.ioc_store.specs.OneMapLaws.{get-numbered}
 use Rattle.ioc_store.specs.World.{World, Has, at, freed, cancelled, is_notification}
 
 module _ {A : Type 0} (f : A → A) where
-  -- one more item is mapped in its place
+  -- One more item is mapped at its index.
   pub map_more : (xs : List A) (i : ℕ) (d : A) → i < length xs → set (map f (take i xs) ++ drop i xs) i (f (get_or xs i d)) ≡ map f (take (i + 1) xs) ++ drop (i + 1) xs
   map_more [] i d lt = absurd (omega arith)
   map_more (x ∷ xs) zero d lt = refl
@@ -22,17 +22,17 @@ module _ {A : Type 0} (f : A → A) where
       let below : i < length xs = omega arith in
       rw e (ap (λ ys. f x ∷ ys) (map_more xs i d below))
 
-  -- the item at the first place that is not mapped
+  -- The first item that is not mapped yet is unchanged.
   pub get_more : (xs : List A) (i : ℕ) (d : A) → i < length xs → get_or (map f (take i xs) ++ drop i xs) i d ≡ get_or xs i d
   get_more [] i d lt = absurd (omega arith)
   get_more (x ∷ xs) zero d lt = refl
   get_more (x ∷ xs) (suc i) d lt = let below : i < length xs = omega arith in get_more xs i d below
 
-  -- all items are mapped
+  -- All items are mapped.
   pub all_mapped : (xs : List A) (i : ℕ) → length xs ≤ i → map f (take i xs) ++ drop i xs ≡ map f xs
   all_mapped xs i past = rw (take_all i xs past, drop_all i xs past) (append-nil (map f xs))
 
--- an option mapped
+-- The option with its value mapped.
 abbrev option_mapped : {A B : Type 0} → (A → B) → Option A → Option B
 option_mapped f None = None
 option_mapped f (Some x) = Some (f x)
@@ -49,7 +49,7 @@ module _ {R : Type 0} (f : R → R) where
   sorted-mapped [] = refl
   sorted-mapped (e ∷ es) = ap (λ (b : Bool). b && is_sorted nat_cmp (map on_value es)) (below-mapped e.0 es) ∙ ap (λ (b : Bool). below_all nat_cmp e.0 es && b) (sorted-mapped es)
 
-  -- the entries, each with its value mapped
+  -- The entries are those of `m`, each with its value mapped.
   pub entries-mapped : (m : FinMap nat_cmp R) → entries (from_sorted {R = nat_cmp} (map on_value (entries m))) ≡ map on_value (entries m)
   entries-mapped m = entries-from_sorted nat_cmp _ (subst T (sym (sorted-mapped (entries m))) (entries_sorted m))
 
@@ -69,7 +69,7 @@ module _ {R : Type 0} (f : R → R) where
   slice_get-mapped (x ∷ xs) zero = refl
   slice_get-mapped (x ∷ xs) (suc q) = slice_get-mapped xs q
 
-  -- records by their places, each mapped
+  -- The numbered records of a mapped list are those of the list, each mapped.
   pub numbered-mapped : (xs : List R) → numbered (map f xs) ≡ from_sorted (map on_value (entries (numbered xs)))
   numbered-mapped xs = same_map nat_cmp_total nat_cmp-IsAntisymmetric _ _ (λ q. get-numbered (map f xs) q ∙ slice_get-mapped xs q ∙ ap (option_mapped f) (sym (get-numbered xs q)) ∙ sym (get-mapped (numbered xs) q))
 
@@ -82,7 +82,7 @@ module _ {R : Type 0} (k : RecordRules R) (number : ℕ) where
   unfolding cancelled
   get-cancelled w n = get-mapped (freed k number) w.records n
 
-  -- the same records are there
+  -- A cancelled put with notification adds and removes no record.
   pub has-cancelled : (w : World R) (n : ℕ) → contains_key (cancelled k number w).records n ≡ contains_key w.records n
   has-cancelled w n = ap is_some (get-cancelled w n) ∙ is_some-mapped (freed k number) (get w.records n)
 
@@ -94,7 +94,7 @@ module _ {R : Type 0} (k : RecordRules R) (number : ℕ) where
   at_mapped-either P same new None = same _
   at_mapped-either P same new (Some r) = new r
 
-  -- each record is as it was, or freed
+  -- Each record is as it was, or no longer part of the put with notification.
   pub at_cancelled-either : (P : R → R → Type 0) → ((r : R) → P r r) → ((r : R) → P r (k.with_common r (with_notification None (k.common r)))) → (w : World R) (n : ℕ) → P (at k w n) (at k (cancelled k number w) n)
   unfolding at
   at_cancelled-either P same new w n =
@@ -104,7 +104,7 @@ module _ {R : Type 0} (k : RecordRules R) (number : ℕ) where
       ] in
       subst (λ (o : Option R). P (unwrap_or (get w.records n) k.missing) (unwrap_or o k.missing)) (sym (get-cancelled w n)) (at_mapped-either P same either (get w.records n))
 
-  -- what holds of every freed record holds of those that are there
+  -- A property of every freed record holds of those that are there.
   free_at : (P : R → Type 0) → ((r : R) → P (freed k number r)) → (o : Option R) → IsTrue (is_some (option_mapped (freed k number) o)) → P (unwrap_or (option_mapped (freed k number) o) k.missing)
   free_at P free None has = cc
   free_at P free (Some r) has = free r
@@ -114,7 +114,7 @@ module _ {R : Type 0} (k : RecordRules R) (number : ℕ) where
   cancelled-free_at w P free n has =
       subst (λ (o : Option R). P (unwrap_or o k.missing)) (sym (get-cancelled w n)) (free_at P free (get w.records n) (subst (λ (o : Option R). IsTrue (is_some o)) (get-cancelled w n) has))
 
-  -- the record at a place: freed, where there is one
+  -- The record at a number is freed, if there is one.
   mapped_at : (o : Option R) (b : Bool) → is_some o ≡ b → unwrap_or (option_mapped (freed k number) o) k.missing ≡ cond b (freed k number (unwrap_or o k.missing)) k.missing
   mapped_at None true is = cc
   mapped_at None false is = refl

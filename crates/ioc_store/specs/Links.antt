@@ -1,4 +1,5 @@
--- What a body looks at before it uses a link. Record Reference Manual, "Database Links"; Application Developer's Guide, "Database Links".
+-- What a body examines before it uses a link. Record Reference Manual, "Database Links";
+-- Application Developer's Guide, "Database Links".
 use Rattle.std.specs.Prelude.{ℕ, ◌/◌, ◌%◌, ◌^◌, ◌==◌, ◌&&◌, ◌||◌, if◌then◌else◌, Bool, true, false, List, filter, Option, Some}
 use Rattle.std.specs.Prelude.{None as Nothing_}
 use Rattle.ioc_fields.specs.Names.{all_slots}
@@ -17,44 +18,46 @@ use Rattle.ioc_common.specs.Steps.{inherited, is_passive}
 use Rattle.ioc_record.specs.RecordRules.{RecordRules}
 use Rattle.ioc_store.specs.World.{World, at, common_at, changed}
 
--- a put to PROC processes the record
+-- Holds of PROC: a put to it processes the record.
 abbrev pub is_proc : FieldNo → Bool
 is_proc (Common-field Proc) = true
 is_proc _ = false
 
--- the bit of this number is set
+-- Holds if the bit of this link number is set.
 abbrev pub is_chosen : ℕ → Slot → Bool
 is_chosen links slot = (links / 2 ^ slot_number slot) % 2 == 1
 
--- the numbers whose bits are set, from the lowest on
+-- The link numbers whose bits are set, from the lowest on.
 unfoldable pub chosen_links : ℕ → List Slot
 chosen_links links = filter (is_chosen links) all_slots
 
--- what a link field comes to in use
+-- How a body uses a link field.
 abbrev pub use_of_field : Option LinkField → LinkUse
 use_of_field Nothing_ = Unused
 use_of_field (Some field) = use_of field
 
 module _ {R : Type 0} (k : RecordRules R) where
-  -- the link of this number
+  -- The link with this number.
   abbrev pub link_at : World R → ℕ → Slot → LinkUse
   link_at w s slot = use_of_field (k.link (at k w s) (Own (Lnk slot)))
 
-  -- before it is read, a passive record is requested by a link with PP
+  -- Holds if the record that a link names is requested before it is read: the link has PP, and the
+  -- record is passive.
   abbrev pub requests_first : World R → StandingLink → Bool
   requests_first w t = t.process_passive && is_passive (common_at k w t.number)
 
-  -- after it is written, a record is requested by a link to PROC, and a passive one by a link with PP
+  -- Holds if the record that a link names is requested after it is written: the link leads to PROC,
+  -- or it has PP and the record is passive.
   abbrev pub requests_after : World R → StandingLink → Bool
   requests_after w t = is_proc t.field || requests_first w t
 
-  -- the record that is written takes over the alarm that its source raises
+  -- The record that is written takes over the alarm that its source raises.
   unfoldable pub handed_on : World R → ℕ → StandingLink → World R
   handed_on w s t =
       let from = (common_at k w s).condition.alarms in
       changed k w t.number (inherited t.mode from.new_status from.new_severity)
 
-  -- the record that a link names, where that is passive: it is requested when the link is followed
+  -- The record that a link names, if it is passive: it is requested when the link is followed.
   abbrev pub passive_record : World R → Option ℕ → Option ℕ
   passive_record w (Some n) = if is_passive (common_at k w n) then Some n else Nothing_
   passive_record w Nothing_ = Nothing_

@@ -1,4 +1,4 @@
--- What a notification that is taken on or told leaves alone.
+-- What stays unchanged when a record joins or leaves a put with notification.
 use Rattle.std.proofs.Common.{ℕ, Option, Some, None as Nothing_}
 use Rattle.ioc_common.specs.Steps.{with_notification}
 use Rattle.ioc_record.specs.RecordRules.{RecordRules}

@@ -1,4 +1,4 @@
--- All records on one map.
+-- All records in one map.
 use Rattle.std.specs.Prelude.{ℕ, List, Option, unwrap_or, slice_get}
 use Rattle.std.specs.Prelude.{None as Nothing_}
 use Rattle.std.specs.List.{enumerate_from}
@@ -10,11 +10,11 @@ use Rattle.ioc_store.specs.Given.{Given, calls_of}
 use Rattle.ioc_store.specs.Outbox.{items_of}
 use Rattle.ioc_store.specs.World.{World}
 
--- records by their places
+-- The records by their indices.
 abbrev pub numbered : {R : Type 0} → List R → FinMap nat_cmp R
 numbered items = from_entries (enumerate_from 0 items)
 
--- the device at the place of a record
+-- The device at the index of a record.
 abbrev pub device_at : {D : Type 0} → List (Option D) → ℕ → Option D
 device_at items n = unwrap_or (slice_get items n) Nothing_
 

@@ -1,4 +1,4 @@
--- The laws of the one map as a store.
+-- The laws of `OneMap` as a store.
 use Rattle.std.proofs.Common.{◌≡◌, ℕ, zero, suc, ◌+◌, ◌<◌, ◌≤◌, Bool, true, false, cond, eqb, List, [], ◌∷◌, length, set, IsTrue, is_some, Some, refl, sym, ap, ◌∙◌, arith}
 use Rattle.std.specs.Prelude.{slice_get, nat_lt, unwrap_or, Option}
 use Rattle.std.specs.Prelude.{None as Nothing_}
@@ -19,7 +19,7 @@ use Rattle.ioc_record.specs.RecordRules.{RecordRules}
 use Rattle.ioc_store.specs.OneMap.{numbered, world_of, given_of, with_record, device_at}
 
 module _ {R : Type 0} where
-  -- what stands q places on from the start of the numbering
+  -- The entry with the number `i + q` is the item at index `q`.
   find-enumerate : (items : List R) (i q : ℕ) → find nat_cmp (i + q) (enumerate_from i items) ≡ slice_get items q
   find-enumerate [] i q = refl
   find-enumerate (x ∷ items) i zero = rw (unsigned_tied (i + 0) i) (grind (arith, common_steps))
@@ -55,7 +55,7 @@ module _ {R : Type 0} where
   pub contains-numbered : (xs : List R) (n : ℕ) → contains_key (numbered xs) n ≡ nat_lt n (length xs)
   contains-numbered xs n = rw get-numbered (some-within xs n)
 
-  -- there are no more of them than places
+  -- A map has at most as many entries as the list that it is built from.
   len-from_entries : (es : List (ℕ × R)) → len (from_entries {R = nat_cmp} es) ≤ length es
   len-from_entries [] = rw len-empty (omega arith)
   len-from_entries (e ∷ es) =
@@ -81,11 +81,11 @@ module _ {R D : Type 0} where
       ∙ ap (λ b. cond b (Some r) (slice_get s.records.items q)) (sym (unsigned_tied q n))
       ∙ ap (cond (eq_by_cmp nat_cmp q n) (Some r)) (sym (get-numbered s.records.items q)) ∙ sym (get-insert nat_cmp_total (numbered s.records.items) n r q)))
 
-  -- a record set at the same place
+  -- Setting a record at an index sets it at the equal number.
   pub set-there : (s : OneMap R D) (n m : ℕ) (r : R) → n ≡ m → record s { records = with_item s.records n r } ≡ with_record s m r
   set-there s n m r same = ap (λ i. with_record s i r) same
 
-  -- the record at a place, by what the code reads there
+  -- The record that the code reads at an index is the record with this number.
   pub at-numbered : (k : RecordRules R) (s : OneMap R D) (n : ℕ) (r : R) → slice_get s.records.items n ≡ Some r → r ≡ at k (world_of s) n
   unfolding at
   at-numbered k s n r is = rw (get-numbered, is) refl
@@ -103,7 +103,7 @@ device-if : {D : Type 0} (there : Option (Option D)) (b : Bool) (d : D) → unwr
 device-if there true d = refl
 device-if there false d = refl
 
--- with the device at a place set, each device is the one there, or the one that was
+-- If a device is set at `n`, that device is at `n`, and every other device is as it was.
 pub device-set : {D : Type 0} (items : List (Option D)) (n : ℕ) (d : D) → n < length items → device_at (set items n (Some d)) ≡ with_device (device_at items) n d
 unfolding with_device
 device-set items n d within = λ i q. (ap (λ o. unwrap_or o Nothing_) (slice_get-set items n q (Some d) within) ∙ device-if (slice_get items q) (eqb q n) d) i
@@ -123,7 +123,7 @@ none_past [] n past = refl
 none_past (y ∷ ys) zero past = absurd (omega (arith, past))
 none_past (y ∷ ys) (suc n) past = none_past ys n (omega (arith, past))
 
--- what one call does to the devices
+-- The effect of one call on the devices.
 module _ {D : Type 0} (gives : D → Ask → ℕ → Answer → D → Type 0) (items : List (Option D)) (moment n : ℕ) (ask : Ask) where
   pub gives-there : (answer : Answer) (before after : D) → slice_get items n ≡ Some (Some before) → gives before ask moment answer after
       → DeviceGives gives (device_at items) moment (record { target = n; ask = ask; answer = answer }) (device_at (set items n (Some after)))

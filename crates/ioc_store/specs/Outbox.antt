@@ -1,4 +1,4 @@
--- What an event has sent.
+-- The items that an event has sent.
 use Rattle.std.specs.Prelude.{List}
 use Rattle.ioc_store.specs.declared.outbox.Outbox.{Outbox}
 use Rattle.ioc_store.specs.declared.outbox.OutboxItem.{OutboxItem}

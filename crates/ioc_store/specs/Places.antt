@@ -1,9 +1,10 @@
--- Where bodies wait for the requests that they cause. How requests are made is this project's own.
+-- The points at which bodies wait for the requests that they make. How requests are made is this
+-- project's own design.
 use Rattle.std.specs.Prelude.{ℕ}
 use Rattle.ioc_store.specs.declared.frames.Place.{Place}
 use Rattle.ioc_store.specs.declared.frames.Place.TheVariants.{ReadingDisable, Reading as Reading-place, Writing, FollowingEach, Following}
 
--- the record that is requested where a body waits at a place
+-- The record that is requested while a body waits at this point.
 abbrev pub requested_at : Place → ℕ
 requested_at (ReadingDisable t) = t.number
 requested_at (Reading-place t) = t.number

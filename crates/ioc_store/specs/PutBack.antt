@@ -1,4 +1,4 @@
--- A record that is put back as it was changes nothing.
+-- A record that is put back unchanged changes nothing.
 use Rattle.std.proofs.Common.{◌≡◌, ℕ, true, false, cond, eqb, Option, Some, None as Nothing_, IsTrue, is_some, unwrap_or, refl, ap, ◌∙◌, arith}
 use Rattle.std.specs.Prelude.{Result, Ok, Err, OnOk, OnErr}
 use Rattle.std.specs.Ordering.{nat_cmp, eq_by_cmp}
@@ -20,7 +20,7 @@ module _ {R : Type 0} (k : RecordRules R) where
         | false ↦ λ _. refl
       ] refl)
 
-  -- a record that is put back as it was changes nothing
+  -- A record that is put back unchanged changes nothing.
   pub put-at : (w : World R) (n : ℕ) → Has w n → put w n (at k w n) ≡ w
   unfolding put at
   put-at w n has = ap (λ (m : FinMap nat_cmp R). record w { records = m })

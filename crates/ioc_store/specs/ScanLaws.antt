@@ -1,4 +1,5 @@
--- What a change of a record's place on its scan list leaves alone: it sends an item, and gives it a number.
+-- A change of a record's place on the scan lists sends an item and numbers it; everything else
+-- stays unchanged.
 use Rattle.std.proofs.Common.{ℕ, ◌+◌, ◌-◌, ◌^◌, true, false, cond, List}
 use Rattle.std.specs.Prelude.{nat_lt, nat_eq}
 use Rattle.std.specs.Cmp.Lexicographic.{pointwise}
@@ -10,7 +11,7 @@ use Rattle.ioc_store.specs.declared.outbox.OutboxItem.TheVariants.{Change}
 use Rattle.ioc_store.specs.World.{World, at, common_at, changed, sent, lost}
 use Rattle.ioc_store.specs.Scanning.{places_record, device_of, moved, rescanned, rewired}
 
--- whatever holds of a world and of that with a place moved holds of both ways in which a put may go
+-- A property of a world and of the world with record `n` moved holds after a put to any field.
 pub rescanned-either : {R : Type 0} (k : RecordRules R) (P : World R → Type 0) (w : World R) (n : ℕ) (field : FieldNo) → P w → P (moved k w n) → P (rescanned k w n field)
 unfolding rescanned
 rescanned-either k P w n field here there = elim (places_record field) as (λ b. P (cond b (moved k w n) w)) [
@@ -25,7 +26,7 @@ rewired-either k P before w n here there = elim (pointwise nat_eq before (device
   | false ↦ there
 ]
 
--- and of both ways in which a change may go
+-- A property holds after a move if it holds in both cases: the item is sent, or it is dropped.
 pub moved-either : {R : Type 0} (k : RecordRules R) (P : World R → Type 0) (w : World R) (n : ℕ)
     → ((item : OutboxItem) → P (sent item (changed k w n change_numbered))) → P (lost w) → P (moved k w n)
 unfolding moved

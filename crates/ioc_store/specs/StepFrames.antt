@@ -1,4 +1,4 @@
--- Steps on common fields leave a record as active as it was, and its links alone.
+-- Steps on common fields keep a record as active as it was and leave its links unchanged.
 use Rattle.std.proofs.Common.{◌≡◌, Bool, true, false, cond, ◌||◌, refl, ap, ◌∙◌}
 use Rattle.std.specs.Prelude.{nat_lt, Option, Result, Ok, Err}
 use Rattle.ioc_values.specs.declared.error.IocError.{IocError}
@@ -19,11 +19,11 @@ use Rattle.ioc_record.specs.RecordRules.{RecordRules, targets}
 use Rattle.ioc_record.specs.Laws.{IsLawful}
 use Rattle.ioc_store.specs.World.{SameLinks}
 
--- the links among the fields that every record has
+-- Holds if the links among the common fields are equal.
 abbrev pub OwnLinks : Common → Common → Type 0
 OwnLinks before after = (after.disable_link ≡ before.disable_link) × (after.forward_link ≡ before.forward_link)
 
--- the fields that these steps leave alone
+-- The fields that these steps leave unchanged.
 pub record SameFrame (before after : Common) : Type 0 where
   pub active : after.active ≡ before.active
   pub links : OwnLinks before after
@@ -50,13 +50,13 @@ blocked-frame c =
     (same_if (nat_lt c.lock_count 10 || is_invalid c.condition.alarms.severity) c _ _ (record { active = refl; links = (refl, refl); pending = refl; notification = refl })
     (record { active = refl; links = (refl, refl); pending = refl; notification = refl }))
 
--- a put leaves them alone
+-- A successful put stores some value.
 pub stored_with : {R : Type 0} (k : RecordRules R) (r r' : R) (f : FieldNo) (value : Result Value IocError) → stored_if k r f value ≡ Ok r' → (v : Value) × (k.stored r f v ≡ r')
 stored_with k r r' f (Ok v) is = (v, cc)
 stored_with k r r' f (Err e) is = cc
 
 module _ {R : Type 0} (k : RecordRules R) (lawful : IsLawful k) where
-  -- the same links name the same records
+  -- Equal links name the same records.
   pub targets_same : {r r' : R} → SameLinks k r r' → targets k r' ≡ targets k r
   targets_same {r} {r'} same = ap (λ (l : FieldNo → Option LinkField). named_by_all l (k.link_fields r')) same.links ∙ ap (named_by_all (k.link r)) same.fields
 

@@ -1,4 +1,4 @@
--- A sum over the values of a finite map, as one of them changes.
+-- A sum over the values of a finite map when one of them changes.
 use Rattle.std.proofs.Common.{◌≡◌, ℕ, ◌+◌, Bool, true, false, cond, ◌&&◌, T, List, [], ◌∷◌, Option, Some, None, refl, sym, ap, subst, ◌∙◌, arith}
 use Rattle.ioc_store.specs.World.{total}
 use Rattle.std.specs.declared.cmp.Ordering.{Ordering}

@@ -1,4 +1,4 @@
--- What a change of one record does to a world.
+-- The effect of a change of one record on a world.
 use Rattle.std.proofs.Common.{◌≡◌, ◌≢◌, ◌≤◌, ℕ, ◌+◌, List, [], ◌∷◌, ◌++◌, length, nat_lt, Bool, true, false, cond, eqb, Option, Some, None, unwrap_or, refl, sym, ap, subst, ◌∙◌, arith}
 use Rattle.std.specs.FinMap.{gets, entries, len, len-entries, len-insert}
 use Rattle.std.specs.Cmp.{nat_cmp_total}
@@ -45,17 +45,17 @@ module _ {R : Type 0} (k : RecordRules R) where
         | false ↦ λ e. let apart : m ≢ n = grind (arith, common_steps) in grind (gets, arith, common_steps)
       ] refl
 
-  -- there are as many records after a put of one that is there
+  -- Putting a record that exists keeps the number of records.
   pub len-put : (w : World R) (n : ℕ) (r : R) → Has w n → len (put w n r).records ≡ len w.records
   unfolding put
   len-put w n r there = len-insert nat_cmp_total w.records n r ∙ ap (λ b. cond b (len w.records) (len w.records + 1)) there
 
-  -- no more are idle than there are
+  -- There are at most as many idle records as records.
   pub idle_few : (w : World R) → idle k w ≤ len w.records
   unfolding idle
   idle_few w = rw (len-entries w.records) (ones_few (one_if_idle k) (λ r. most_one (k.common r).active) (entries w.records))
 
-  -- the idle records, and one more where this one is active
+  -- The number of idle records, plus one if this one is active.
   abbrev pub room : World R → ℕ → ℕ
   room w n = idle k w + cond (common_at k w n).active 1 0
 
@@ -80,14 +80,14 @@ module _ {R : Type 0} (k : RecordRules R) (lawful : IsLawful k) where
   unfolding changed
   idle-changed w n f = idle-put w n _ ∙ ap (λ (c : Common). idle k w + cond c.active 0 1) (lawful.common_set _ _)
 
-  -- a change that leaves a record as active as it was
+  -- A change that leaves a record as active as it was keeps the number of idle records.
   pub idle-kept : (w : World R) (n : ℕ) (f : Common → Common) → (f (common_at k w n)).active ≡ (common_at k w n).active → idle k (changed k w n f) ≡ idle k w
   idle-kept w n f same = omega (arith, idle-changed w n f, ap {A = Bool} {B = ℕ} (λ b. cond b 0 1) same)
 
   pub room-active : (w : World R) (n : ℕ) → idle k (changed k w n (with_active true)) + 1 ≡ room k w n
   room-active w n = omega (arith, idle-changed w n (with_active true), one_of_two (common_at k w n).active)
 
--- what an item sent changes: the outbox, or the count of what was dropped
+-- Sending an item changes the outbox or the number of dropped items.
 pub sent_by : {R : Type 0} (item : OutboxItem) (w : World R)
     → record w { outbox = cond (nat_lt (length w.outbox) 256) (w.outbox ++ item ∷ []) w.outbox; dropped = cond (nat_lt (length w.outbox) 256) w.dropped (more w.dropped) } ≡ sent item w
 unfolding sent
@@ -98,7 +98,7 @@ sent_by item w =
       | false ↦ refl
     ]
 
--- an item dropped changes the count of these
+-- Dropping an item changes the number of dropped items.
 pub lost_by : {R : Type 0} (w : World R) → record w { dropped = more w.dropped } ≡ lost w
 unfolding lost
 lost_by w = refl

@@ -1,11 +1,11 @@
-//! Calls of devices.
+//! Device calls.
 ghost use Rattle.std.specs.Prelude.{◌≡◌};
 ghost use Rattle.ioc_store.specs.Given.{comes_later};
 
 use ioc_device::{Answer, Ask};
 use ioc_names::RecordNo;
 
-/// One call of a record's device.
+/// A call of a record's device.
 #[derive(Clone, Copy, PartialEq, Eq)]
 pub struct Call {
     /// The record whose device was called.
@@ -25,7 +25,7 @@ impl Call {
         }
     }
 
-    /// Is the answer to come later?
+    /// Returns whether the device answers later.
     pub fn is_later(&self) -> bool
         ensures { result ≡ comes_later self.now.answer }
     {

@@ -1,4 +1,4 @@
-//! The calls of devices in an event.
+//! The device calls of an event.
 ghost use Rattle.std.specs.Prelude.{◌≡◌, ◌+◌, ◌<◌, ◌≤◌, ◌++◌, [], ◌∷◌, length, drop, vec_len, vec_capacity, IfOk};
 
 use crate::call::Call;
@@ -7,7 +7,7 @@ use ioc_names::RecordNo;
 use ioc_values::Value;
 use std::alloc::{AllocError, Global};
 
-/// At most 256 calls, with room for all from the start.
+/// A list of at most 256 device calls, allocated in full when it is created.
 #[derive(Drop)]
 pub struct Calls {
     calls: Vec<Call>,
@@ -19,11 +19,11 @@ pub struct Calls {
 impl Calls {
     ghost use Rattle.ioc_store.specs.Given.{calls_of, answers_of, later_among};
 
-    /// No call yet.
+    /// Creates an empty list.
     ///
     /// # Errors
     ///
-    /// [`AllocError`] where memory is wanting.
+    /// [`AllocError`] if allocation fails.
     pub fn new(alloc: Global) -> Result<Self, AllocError>
         ensures { IfOk result (λ s. calls_of s ≡ []) }
     {
@@ -37,14 +37,14 @@ impl Calls {
         Ok(Calls { calls, count: 0 })
     }
 
-    /// Forgets all calls.
+    /// Removes all calls.
     pub fn clear(&mut self)
         ensures { calls_of self.new ≡ [] }
     {
         self.count = 0;
     }
 
-    /// Adds a call.
+    /// Appends a call.
     pub fn push(&mut self, call: &Call)
         requires { length (calls_of self.old) < 256 }
         ensures { calls_of self.new ≡ calls_of self.old ++ call.now ∷ [] }
@@ -53,14 +53,14 @@ impl Calls {
         self.count += 1;
     }
 
-    /// How many there are.
+    /// Returns the number of calls.
     pub fn len(&self) -> usize
         ensures { result ≡ length (calls_of self.now) }
     {
         self.count
     }
 
-    /// How many of them, from this one on, are to be answered later.
+    /// Returns how many of the calls from `start` on are answered later.
     pub fn later_from(&self, start: usize) -> usize
         ensures { result ≡ later_among (drop start (calls_of self.now)) }
     {
@@ -71,7 +71,7 @@ impl Calls {
             .count()
     }
 
-    /// Adds the answers of all calls, in order, to a list that has room for them.
+    /// Appends the answers of all calls, in order, to `to`, which must have room for them.
     pub fn copy_answers(&self, to: &mut Vec<Answer>)
         requires { vec_len to.old + length (calls_of self.now) ≤ vec_capacity to.old }
         ensures { to.new.items ≡ to.old.items ++ answers_of (calls_of self.now) }

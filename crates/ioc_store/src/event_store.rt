@@ -1,4 +1,4 @@
-//! What an event has come to, beside the records.
+//! The state of an event beside the records.
 ghost use Rattle.std.specs.Prelude.{◌≡◌, [], IfOk};
 ghost use Rattle.ioc_store.specs.Given.{calls_of};
 ghost use Rattle.ioc_store.specs.Outbox.{items_of};
@@ -8,11 +8,11 @@ use crate::notifications::Notifications;
 use crate::outbox::Outbox;
 use std::alloc::{AllocError, Global};
 
-/// The keeper of an event: its moment, the calls of devices in it, and what it sends. One of it serves any
+/// The state of an event: its time stamp, its device calls, and what it sends. One value serves any
 /// number of events, one after another.
 #[derive(Drop)]
 pub struct EventStore {
-    /// Nanoseconds since 1970-01-01 00:00 UTC.
+    /// The time stamp of the event, in nanoseconds since 1970-01-01 00:00 UTC.
     pub moment: u64,
     pub calls: Calls,
     pub outbox: Outbox,
@@ -20,11 +20,11 @@ pub struct EventStore {
 }
 
 impl EventStore {
-    /// Nothing has come yet, at the moment 0.
+    /// Creates an empty state with the time stamp 0.
     ///
     /// # Errors
     ///
-    /// [`AllocError`] where memory is wanting.
+    /// [`AllocError`] if allocation fails.
     pub fn new(alloc: Global) -> Result<Self, AllocError>
         ensures moment { IfOk result (λ e. e.moment ≡ 0) }
         ensures calls { IfOk result (λ e. calls_of e.calls ≡ []) }
@@ -45,7 +45,7 @@ impl EventStore {
         })
     }
 
-    /// Begins an event.
+    /// Begins an event with this time stamp.
     pub fn begin(&mut self, moment: u64)
         ensures moment { self.new.moment ≡ moment }
         ensures calls { calls_of self.new.calls ≡ [] }

@@ -1,4 +1,4 @@
-//! Open frames: records whose bodies wait until a request that they caused is done.
+//! Open frames: the records whose bodies wait until a request that they made is done.
 ghost use Rattle.std.specs.Prelude.{◌≡◌};
 ghost use Rattle.ioc_store.specs.Places.{requested_at};
 
@@ -6,24 +6,25 @@ use ioc_common::StandingLink;
 use ioc_ledger::Outcome;
 use ioc_names::RecordNo;
 
-/// Where the body of a record goes on, once the request that it caused is done: one case for each way in which a body
-/// waits, with the record that is requested.
+/// The point at which the body of a record resumes once the request that it made is done. There is
+/// one case for each way in which a body waits, with the requested record.
 #[derive(Clone, Copy, PartialEq, Eq, Debug)]
 pub enum Place {
-    /// Its request reads SDIS, by this link.
+    /// The request of the record reads SDIS through this link.
     ReadingDisable(StandingLink),
-    /// It reads the link.
+    /// The body reads this link.
     Reading(StandingLink),
-    /// It has written the record that its output link names.
+    /// The body has written the record that its output link names.
     Writing(RecordNo),
-    /// It follows its links LNK0 to LNKF whose bits are set: this record, and then those from this number on.
+    /// The body follows its links LNK0 to LNKF whose bits are set: this record now, then the links
+    /// from this number on.
     FollowingEach(u16, RecordNo, usize),
-    /// It has followed its forward link.
+    /// The body has followed its forward link.
     Following(RecordNo),
 }
 
 impl Place {
-    /// The record that is requested.
+    /// Returns the requested record.
     #[inline(always)]
     pub fn requested(&self) -> RecordNo
         ensures { result ≡ requested_at self.now }
@@ -37,17 +38,17 @@ impl Place {
     }
 }
 
-/// A record whose body waits until the request that it caused is done.
+/// A record whose body waits until the request that it made is done.
 #[derive(Clone, Copy, PartialEq, Eq, Debug)]
 pub struct Frame {
     pub source: RecordNo,
     pub place: Place,
 }
 
-/// What comes next, when a record has begun or gone on.
+/// What to do next after a record has begun or resumed.
 #[derive(Clone, Copy, PartialEq, Eq, Debug)]
 pub enum Next {
-    /// The record is requested that the newest frame waits for.
+    /// Request the record that the newest frame waits for.
     Requests,
     /// The request is done, with this outcome.
     Ends(Outcome),

@@ -1,4 +1,4 @@
-//! Keepers of records and of an event, and what the rules of a change of one record say.
+//! The stores of records, the state of an event, and the rules for a change of one record.
 #![tactic(auto)]
 
 pub mod call;

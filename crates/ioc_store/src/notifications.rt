@@ -1,4 +1,4 @@
-//! Puts with notification: those that are live, those that wait, and those that have ended in an event.
+//! Puts with notification: the live ones, the waiting ones, and those that have ended in an event.
 ghost use Rattle.std.specs.Prelude.{◌≡◌, ◌≤◌, ◌<◌, ◌+◌, ◌&&◌, not, nat_lt, [], ◌∷◌, ◌++◌, length, if◌then◌else◌, IfOk};
 ghost use Rattle.std.specs.Vec.{vec_capacity};
 ghost use Rattle.ioc_notify.specs.Living.{begun, gained, lost, forgotten, is_at_its_last, is_live};
@@ -8,8 +8,9 @@ use ioc_notify::{Live, LiveNumbers, NotifyId, Waiting, WaitingLists};
 use std::alloc::{AllocError, Global};
 use std::mem;
 
-/// The puts with notification that are live, at most 256, with how many have each, those of them that wait for their record, and those
-/// that have ended in the event, in order.
+/// The live puts with notification, at most 256, with the number of records and waiting lists that
+/// are part of each; those of them that wait for their record; and those that have ended in the
+/// event, in order.
 #[derive(Drop)]
 pub struct Notifications {
     live: LiveNumbers,
@@ -21,11 +22,11 @@ pub struct Notifications {
 }
 
 impl Notifications {
-    /// None is live, none waits, and none has ended.
+    /// Creates an empty value: no put with notification is live, waits or has ended.
     ///
     /// # Errors
     ///
-    /// [`AllocError`] where memory is wanting.
+    /// [`AllocError`] if allocation fails.
     pub fn new(alloc: Global) -> Result<Self, AllocError>
         ensures live { IfOk result (λ n. n.live.live ≡ []) }
         ensures ended { IfOk result (λ n. n.ended.items ≡ []) }
@@ -41,21 +42,22 @@ impl Notifications {
         })
     }
 
-    /// Those that have ended in the event, in order.
+    /// Returns those that have ended in the event, in order.
     pub fn ended(&self) -> &[NotifyId]
         ensures { result.now ≡ self.now.ended.items }
     {
         self.ended.as_slice()
     }
 
-    /// Those that are live, in the order in which they began.
+    /// Returns the live ones, in the order in which they began.
     pub fn live(&self) -> &[Live]
         ensures { result.now ≡ self.now.live.live }
     {
         self.live.as_slice()
     }
 
-    /// Another, in which none is live, tells in its place which have ended.
+    /// Moves those that have ended to `other`, in which none is live; what had ended in `other` is
+    /// dropped.
     pub fn tell_ended(&mut self, other: &mut Notifications)
         requires none { other.old.live.live ≡ [] }
         ensures live { self.new.live ≡ self.old.live }
@@ -69,7 +71,7 @@ impl Notifications {
         mem::swap(&mut self.ended, &mut other.ended);
     }
 
-    /// Forgets those that have ended.
+    /// Removes those that have ended.
     pub fn clear_ended(&mut self)
         ensures live { self.new.live.live ≡ self.old.live.live }
         ensures ended { self.new.ended.items ≡ [] }
@@ -78,7 +80,7 @@ impl Notifications {
         self.ended.clear();
     }
 
-    /// May one more begin, under this number?
+    /// Returns whether one more may begin with this number.
     pub fn has_place(&self, number: NotifyId) -> bool
         ensures { result ≡ (nat_lt (length self.now.live.live + length self.now.ended.items) 256
             && (nat_lt (length self.now.waiting.waiting) 256 && not (is_live number self.now.live.live))) }
@@ -87,14 +89,14 @@ impl Notifications {
             && (self.waiting.as_slice().len() < 256 && !self.live.is_live(number))
     }
 
-    /// Is the one of this number live?
+    /// Returns whether the one with this number is live.
     pub fn is_live(&self, number: NotifyId) -> bool
         ensures { result ≡ is_live number self.now.live.live }
     {
         self.live.is_live(number)
     }
 
-    /// The one of this number begins: a record or a waiting list has it.
+    /// Begins the one with this number, with one record or waiting list that is part of it.
     pub fn admit(&mut self, number: NotifyId)
         requires { length self.old.live.live + length self.old.ended.items < 256 }
         ensures live { self.new.live.live ≡ begun number self.old.live.live }
@@ -104,14 +106,14 @@ impl Notifications {
         self.live.begin(number);
     }
 
-    /// Those that wait for their record, in the order in which they came.
+    /// Returns those that wait for their record, in the order in which they came.
     pub fn waiting(&self) -> &[Waiting]
         ensures { result.now ≡ self.now.waiting.waiting }
     {
         self.waiting.as_slice()
     }
 
-    /// One waits for its record, behind all that wait.
+    /// Appends one to those that wait for their record.
     pub fn queue(&mut self, item: &Waiting)
         requires { length self.old.waiting.waiting < 256 }
         ensures live { self.new.live ≡ self.old.live }
@@ -122,7 +124,7 @@ impl Notifications {
             .add(item.number, item.target, item.field, item.value);
     }
 
-    /// The one of this number waits no more.
+    /// Removes the one with this number from those that wait.
     pub fn unqueue(&mut self, number: NotifyId)
         ensures live { self.new.live ≡ self.old.live }
         ensures ended { self.new.ended.items ≡ self.old.ended.items }
@@ -131,7 +133,8 @@ impl Notifications {
         let _waited = self.waiting.remove(number);
     }
 
-    /// The one of this number is given up: it isn't live any more and waits no more, and hasn't ended.
+    /// Cancels the one with this number: it is no longer live and no longer waits, and does not
+    /// count as ended.
     pub fn forget(&mut self, number: NotifyId)
         ensures live { self.new.live.live ≡ forgotten number self.old.live.live }
         ensures ended { self.new.ended.items ≡ self.old.ended.items }
@@ -141,7 +144,7 @@ impl Notifications {
         let _waited = self.waiting.remove(number);
     }
 
-    /// One record more has this notification.
+    /// Counts one more record that is part of this put with notification.
     pub fn take_on(&mut self, number: NotifyId)
         ensures live { self.new.live.live ≡ gained number self.old.live.live }
         ensures ended { self.new.ended.items ≡ self.old.ended.items }
@@ -150,7 +153,8 @@ impl Notifications {
         self.live.gain(number);
     }
 
-    /// One record has this notification no more: with the last one it ends.
+    /// Counts one record less that is part of this put with notification, which ends with the last
+    /// one.
     pub fn let_go(&mut self, number: NotifyId)
         ensures live { self.new.live.live ≡ lost number self.old.live.live }
         ensures ended { self.new.ended.items ≡ if is_at_its_last number self.old.live.live then self.old.ended.items ++ number ∷ [] else self.old.ended.items }

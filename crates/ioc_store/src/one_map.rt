@@ -1,4 +1,4 @@
-//! All records on one map, by their numbers from 0 on.
+//! All records in one map, by their numbers from 0 on.
 ghost use Rattle.std.specs.Prelude.{◌≡◌, ◌≤◌, [], List, map, true, IfOk};
 ghost use Rattle.ioc_store.specs.World.{freed};
 ghost use Rattle.std.specs.FinMap.{len};
@@ -15,11 +15,11 @@ use ioc_notify::{NotifyId, Waiting};
 use ioc_record::RecordKind;
 use std::alloc::{AllocError, Global};
 
-/// The records, each at its number, the devices of those that have one, and what the event has come to.
+/// The records, each at its number, the devices of those that have one, and the state of the event.
 #[derive(Drop)]
 pub struct OneMap<K, D> {
     pub records: Vec<K>,
-    /// Each at the number of its record. A record past the end has none.
+    /// The devices, each at the number of its record. A record past the end has none.
     pub devices: Vec<Option<D>>,
     pub event: EventStore,
 }
@@ -29,7 +29,7 @@ impl<K: RecordKind, D: Device> OneMap<K, D> {
     ghost use Rattle.ioc_store.specs.World.{begun, begun_at};
     ghost use Rattle.ioc_store.specs.Given.{DeviceGives};
 
-    /// These records, numbered from 0 on, with these devices, and a keeper of events; no event has begun.
+    /// Creates a map of these records, numbered from 0 on, with these devices. No event has begun.
     pub fn new(records: Vec<K>, devices: Vec<Option<D>>, event: EventStore) -> Self
         ensures records { result.records ≡ records }
         ensures devices { result.devices ≡ devices }
@@ -46,7 +46,8 @@ impl<K: RecordKind, D: Device> OneMap<K, D> {
         map
     }
 
-    /// No open frame, with room for all records: what the requests of an event are made with, and of every event after it.
+    /// Returns an empty list of open frames with room for all records. It serves the requests of
+    /// any number of events, one after another.
     pub fn frames(&self, alloc: Global) -> Result<Vec<Frame>, AllocError>
         ensures empty { IfOk result (λ f. f.items ≡ []) }
         ensures room { IfOk result (λ f. len (world_of self.now).records ≤ vec_capacity f) }
@@ -55,7 +56,7 @@ impl<K: RecordKind, D: Device> OneMap<K, D> {
         Ok(frames)
     }
 
-    // What the device of a record answers; a fault, where it has none.
+    // Returns the answer of a record's device, or a fault if the record has none.
     fn device_gives(&mut self, number: RecordNo, ask: &Ask) -> Answer
         ensures gives { DeviceGives D.gives (given_of self.old).devices (given_of self.old).moment
             (record { target = number; ask = ask.now; answer = result }) (given_of self.new).devices }
@@ -73,7 +74,8 @@ impl<K: RecordKind, D: Device> OneMap<K, D> {
         }
     }
 
-    /// Begins an event at the moment of the last one: no device was called in it yet, and nothing was sent.
+    /// Begins an event with the time stamp of the last one: no device call is made yet, and nothing
+    /// is sent.
     pub fn begin(&mut self)
         ensures world { world_of self.new ≡ begun (world_of self.old) }
         ensures devices { self.new.devices ≡ self.old.devices }
@@ -82,7 +84,7 @@ impl<K: RecordKind, D: Device> OneMap<K, D> {
         self.event.begin(moment);
     }
 
-    /// Begins an event at a moment, in nanoseconds since 1970-01-01 00:00 UTC.
+    /// Begins an event with this time stamp, in nanoseconds since 1970-01-01 00:00 UTC.
     pub fn begin_at(&mut self, moment: u64)
         ensures world { world_of self.new ≡ begun_at moment (world_of self.old) }
         ensures devices { self.new.devices ≡ self.old.devices }
@@ -91,7 +93,7 @@ impl<K: RecordKind, D: Device> OneMap<K, D> {
     }
 }
 
-// A record has this notification no more, if it had it.
+// Removes the record from this put with notification, if it is part of it.
 fn free<K: RecordKind>(record: &mut K, notification: NotifyId)
     ensures { record.new ≡ freed K.rules notification record.old }
 {
@@ -100,7 +102,7 @@ fn free<K: RecordKind>(record: &mut K, notification: NotifyId)
     }
 }
 
-// This notification is taken from all records.
+// Removes all records from this put with notification.
 fn free_all<K: RecordKind>(records: &mut Vec<K>, notification: NotifyId)
     ensures { records.new.items ≡ map (freed K.rules notification) records.old.items }
 {

@@ -8,22 +8,23 @@ use ioc_names::RecordNo;
 use ioc_values::Text;
 use std::alloc::{AllocError, Global};
 
-/// What an event sends, to be done after it.
+/// An item that an event sends, to be carried out after the event.
 #[derive(Clone, Copy, PartialEq, Eq)]
 pub enum OutboxItem {
-    /// A request of a record that was put down for another processing.
+    /// The request of a record that was marked for reprocessing.
     Once(RecordNo),
     /// The event of this name is posted.
     Post(Text),
-    /// A record goes off its scan list, and on that where it stands now.
+    /// The record leaves its scan list and joins the one that its fields name now.
     Change(ScanChange),
 }
 
-/// At most 256 items, with room for all from the start, and how many found no room.
+/// At most 256 items, allocated in full when the outbox is created, and the number of items that
+/// were dropped.
 #[derive(Drop)]
 pub struct Outbox {
     items: Vec<OutboxItem>,
-    /// How many items were dropped, up to the last number.
+    /// The number of items that were dropped, up to the largest `u64`.
     pub dropped: u64,
     ghost room: { vec_capacity items ≡ 256 },
 }
@@ -31,11 +32,11 @@ pub struct Outbox {
 impl Outbox {
     ghost use Rattle.ioc_store.specs.Outbox.{items_of};
 
-    /// Nothing sent, and nothing dropped.
+    /// Creates an empty outbox.
     ///
     /// # Errors
     ///
-    /// [`AllocError`] where memory is wanting.
+    /// [`AllocError`] if allocation fails.
     pub fn new(alloc: Global) -> Result<Self, AllocError>
         ensures items { IfOk result (λ s. items_of s ≡ []) }
         ensures dropped { IfOk result (λ s. s.dropped ≡ 0) }
@@ -44,14 +45,14 @@ impl Outbox {
         Ok(Outbox { items, dropped: 0 })
     }
 
-    /// What was sent, in order.
+    /// Returns the items, in the order in which they were sent.
     pub fn items(&self) -> &[OutboxItem]
         ensures { result.now ≡ items_of self.now }
     {
         self.items.as_slice()
     }
 
-    /// Forgets what was sent and dropped.
+    /// Removes all items and resets the number of dropped ones.
     pub fn clear(&mut self)
         ensures items { items_of self.new ≡ [] }
         ensures dropped { self.new.dropped ≡ 0 }
@@ -60,7 +61,7 @@ impl Outbox {
         self.dropped = 0;
     }
 
-    /// Sends an item, or counts it as dropped where 256 were sent.
+    /// Sends an item, or counts it as dropped if 256 were sent already.
     pub fn send(&mut self, item: OutboxItem)
         ensures items { items_of self.new ≡ if nat_lt (length (items_of self.old)) 256 then items_of self.old ++ item ∷ [] else items_of self.old }
         ensures dropped { self.new.dropped ≡ if nat_lt (length (items_of self.old)) 256 then self.old.dropped else more self.old.dropped }

@@ -1,4 +1,4 @@
-//! Who keeps the records.
+//! Stores of records.
 ghost use Rattle.std.specs.Prelude.{◌≡◌, ◌<◌, ◌+◌, ℕ, List, [], ◌∷◌, ◌++◌, length, drop};
 ghost use Rattle.std.specs.Borrow.{Lends, sem};
 ghost use Rattle.std.specs.FinMap.{contains_key};
@@ -12,7 +12,7 @@ use ioc_names::RecordNo;
 use ioc_notify::{NotifyId, Waiting};
 use ioc_record::RecordKind;
 
-/// A keeper of records by their numbers, each beside its device.
+/// A store of records by their numbers, each with its device.
 pub trait Store {
     type Record: RecordKind;
 
@@ -20,13 +20,13 @@ pub trait Store {
 
     ghost world: { Self → World Self.Record };
 
-    /// What devices have done in this event.
+    /// What the devices have done in this event.
     ghost given: { Self → Given Self.Device };
 
-    /// The store with one record set.
+    /// The store with this record set.
     ghost with_record: { Self → ℕ → Self.Record → Self };
 
-    /// Is there a record of this number?
+    /// Returns whether there is a record with this number.
     fn has(&self, number: RecordNo) -> bool
         ensures { result ≡ contains_key (world self.now).records number };
 
@@ -39,7 +39,8 @@ pub trait Store {
         ensures* lends { sem 𝓛 (Lends Self.row Self.Record.row self.entry result (with_record self.old number)) }
         ensures value { result.now ≡ at Self.Record.rules (world self.old) number };
 
-    /// Asks the record's device, and answers what it gives; a record that has none gets a fault. Every other device keeps its state.
+    /// Asks the record's device and returns its answer, or a fault if the record has none. Every
+    /// other device keeps its state.
     fn ask(&mut self, number: RecordNo, ask: Ask) -> Answer
         requires there { Has (world self.old) number }
         requires room { length (world self.old).calls < 256 }
@@ -49,11 +50,11 @@ pub trait Store {
         ensures gives { DeviceGives Self.Device.gives (given self.old).devices (given self.old).moment
             (record { target = number; ask = ask; answer = result }) (given self.new).devices };
 
-    /// The moment of the event, in nanoseconds since 1970-01-01 00:00 UTC.
+    /// Returns the time stamp of the event, in nanoseconds since 1970-01-01 00:00 UTC.
     fn moment(&self) -> u64
         ensures { result ≡ (world self.now).moment };
 
-    /// Sends an item, or counts it as dropped where 256 were sent.
+    /// Sends an item, or counts it as dropped if 256 were sent already.
     fn send(&mut self, item: OutboxItem)
         ensures world { world self.new ≡ sent item (world self.old) }
         ensures given { given self.new ≡ given self.old };
@@ -63,55 +64,59 @@ pub trait Store {
         ensures world { world self.new ≡ lost (world self.old) }
         ensures given { given self.new ≡ given self.old };
 
-    /// One record more has this put with notification.
+    /// Counts one more record that is part of this put with notification.
     fn take_on(&mut self, notification: NotifyId)
         ensures world { world self.new ≡ taken_on notification (world self.old) }
         ensures given { given self.new ≡ given self.old };
 
-    /// One record has this put with notification no more: with the last one it ends.
+    /// Counts one record less that is part of this put with notification, which ends with the last
+    /// one.
     fn let_go(&mut self, notification: NotifyId)
         ensures world { world self.new ≡ let_go notification (world self.old) }
         ensures given { given self.new ≡ given self.old };
 
-    /// May one more put with notification begin, under this number? At most 256 are live, and the number is free.
+    /// Returns whether one more put with notification may begin with this number: at most 256 are
+    /// live, and the number must be free.
     fn has_place(&self, notification: NotifyId) -> bool
         ensures { result ≡ has_place (world self.now) notification };
 
-    /// Is this put with notification live?
+    /// Returns whether this put with notification is live.
     fn is_live(&self, notification: NotifyId) -> bool
         ensures { result ≡ is_live notification (world self.now).live };
 
-    /// A put with notification begins: a record or a waiting list has it.
+    /// Begins a put with notification, with one record or waiting list that is part of it.
     fn admit(&mut self, notification: NotifyId)
         requires { length (world self.old).live + length (world self.old).ended < 256 }
         ensures world { world self.new ≡ admitted notification (world self.old) }
         ensures given { given self.new ≡ given self.old };
 
-    /// The puts with notification that wait for their record, in the order in which they came.
+    /// Returns the puts with notification that wait for their record, in the order in which they
+    /// came.
     fn waiting(&self) -> &[Waiting]
         ensures { result.now ≡ (world self.now).waiting };
 
-    /// A put with notification waits for its record, behind all that wait.
+    /// Appends a put with notification to those that wait for their record.
     fn queue(&mut self, item: &Waiting)
         requires { length (world self.old).waiting < 256 }
         ensures world { world self.new ≡ queued item.now (world self.old) }
         ensures given { given self.new ≡ given self.old };
 
-    /// The put with notification of this number waits no more.
+    /// Removes this put with notification from those that wait.
     fn unqueue(&mut self, notification: NotifyId)
         ensures world { world self.new ≡ unqueued notification (world self.old) }
         ensures given { given self.new ≡ given self.old };
 
-    /// This put with notification is taken from all records and from the waiting list: it isn't live any more, and hasn't ended.
+    /// Cancels this put with notification: it is removed from all records and from the waiting
+    /// list, is no longer live, and does not count as ended.
     fn cancel(&mut self, notification: NotifyId)
         ensures world { world self.new ≡ cancelled Self.Record.rules notification (world self.old) }
         ensures given { given self.new ≡ given self.old };
 
-    /// How many calls of devices were made in this event.
+    /// Returns the number of device calls made in this event.
     fn asked(&self) -> usize
         ensures { result ≡ length (world self.now).calls };
 
-    /// How many of them, from this one on, are to be answered later.
+    /// Returns how many of the calls from `start` on are answered later.
     fn later_from(&self, start: usize) -> usize
         ensures { result ≡ later_among (drop start (world self.now).calls) };
 

@@ -1,11 +1,11 @@
-//! What stands for the device of a record that has none.
+//! The device of a record that has none.
 ghost use Rattle.std.specs.Prelude.{◌≡◌};
 ghost use Rattle.ioc_device.specs.declared.Answer.TheVariants.{Fault};
 
 use ioc_device::{Answer, Device};
 use ioc_values::Value;
 
-/// No device is wired: whatever is asked is answered with a fault.
+/// A device that is not connected: it answers everything with a fault.
 #[derive(Drop)]
 pub struct Unwired {}
 

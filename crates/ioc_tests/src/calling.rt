@@ -1,4 +1,5 @@
-//! Calls of a desk, each by itself, so that what one promises isn't carried along to the next. A test has its calls as data.
+//! Calls of a desk, each in a function of its own, so that the contract of one isn't carried along
+//! to the next. The calls of a test are data.
 use crate::opened::link_to;
 use ioc_device::Device;
 use ioc_engine::Engine;
@@ -23,25 +24,27 @@ pub const PACT: FieldNo = FieldNo::Common(CommonField::Pact);
 
 pub const FLNK: FieldNo = FieldNo::Common(CommonField::Flnk);
 
-/// A call, of a record by its number.
+/// A call on a record by its number.
 #[derive(Clone, Copy)]
 pub enum Call {
     Put(usize, FieldNo, &'static [u8]),
     Get(usize, FieldNo),
     Process(usize),
-    /// FLNK leads to VAL of a record, or nowhere, from now on.
+    /// Changes FLNK to VAL of a record, or to no link.
     SetLink(usize, Option<usize>),
     /// A put to VAL with notification.
     PutNotify(usize, &'static [u8]),
-    /// The put with notification of this number is given up.
+    /// Cancels the put with notification with this number.
     Cancel(u64),
-    /// Is the put with notification of this number live?
+    /// Asks whether the put with notification with this number is live.
     Live(u64),
-    /// The device of a record has answered a number to the wait of that number.
+    /// Completes a record with a number from its device. The second value is the number of the
+    /// completion that the record awaits.
     Complete(usize, u64, i32),
 }
 
-/// What a call was answered, its place in the journal, and how many records it moved to other sets.
+/// The reply to a call, its place in the journal, and the number of records that it moved to other
+/// sets.
 #[derive(Clone, Copy)]
 pub struct Told {
     pub reply: Reply,
@@ -49,7 +52,7 @@ pub struct Told {
     pub moved: usize,
 }
 
-/// A desk and a workplace, with an engine.
+/// Opens a desk of an engine, and creates buffers for its events.
 pub fn seat<K: RecordKind + Drop, B: Base<K>, D: Device, R: Wait>(
     rt: &R,
     alloc: Global,
@@ -64,7 +67,7 @@ pub fn seat<K: RecordKind + Drop, B: Base<K>, D: Device, R: Wait>(
     Some((desk, place))
 }
 
-// What a call was answered that moves no records.
+// Returns the outcome of a call that moves no records.
 fn told_by<K: RecordKind, B: Base<K>>(reply: Reply, receipt: &Receipt<K, B>) -> Told {
     Told {
         reply,
@@ -73,7 +76,7 @@ fn told_by<K: RecordKind, B: Base<K>>(reply: Reply, receipt: &Receipt<K, B>) -> 
     }
 }
 
-// A put of a text.
+// Puts a text into a field.
 fn put<K: RecordKind + Drop, B: Base<K>, D: Device, R: Wait>(
     rt: &R,
     alloc: Global,
@@ -98,7 +101,7 @@ fn put<K: RecordKind + Drop, B: Base<K>, D: Device, R: Wait>(
     Ok(told_by(reply, &receipt))
 }
 
-// A question.
+// Gets a field.
 fn get<K: RecordKind + Drop, B: Base<K>, D: Device, R: Wait>(
     rt: &R,
     alloc: Global,
@@ -111,7 +114,7 @@ fn get<K: RecordKind + Drop, B: Base<K>, D: Device, R: Wait>(
     Ok(told_by(reply, &receipt))
 }
 
-// A request.
+// Requests a record.
 fn process<K: RecordKind + Drop, B: Base<K>, D: Device, R: Wait>(
     rt: &R,
     alloc: Global,
@@ -124,7 +127,7 @@ fn process<K: RecordKind + Drop, B: Base<K>, D: Device, R: Wait>(
     Ok(told_by(reply, &receipt))
 }
 
-// A link change of FLNK.
+// Changes FLNK of a record.
 fn set_link<K: RecordKind + Drop, B: Base<K>, D: Device, R: Wait>(
     rt: &R,
     alloc: Global,
@@ -154,7 +157,7 @@ fn set_link<K: RecordKind + Drop, B: Base<K>, D: Device, R: Wait>(
     })
 }
 
-// A put of a text with notification.
+// Puts a text into VAL, with notification.
 fn put_notify<K: RecordKind + Drop, B: Base<K>, D: Device, R: Wait>(
     rt: &R,
     alloc: Global,
@@ -178,7 +181,7 @@ fn put_notify<K: RecordKind + Drop, B: Base<K>, D: Device, R: Wait>(
     Ok(told_by(reply, &receipt))
 }
 
-// A put with notification is given up.
+// Cancels a put with notification.
 fn cancel<K: RecordKind + Drop, B: Base<K>, D: Device, R: Wait>(
     rt: &R,
     alloc: Global,
@@ -192,7 +195,7 @@ fn cancel<K: RecordKind + Drop, B: Base<K>, D: Device, R: Wait>(
     Ok(told_by(reply, &receipt))
 }
 
-// The question whether a put with notification is live.
+// Asks whether a put with notification is live.
 fn live<K: RecordKind + Drop, B: Base<K>, D: Device, R: Wait>(
     rt: &R,
     alloc: Global,
@@ -204,7 +207,7 @@ fn live<K: RecordKind + Drop, B: Base<K>, D: Device, R: Wait>(
     Ok(told_by(reply, &receipt))
 }
 
-// A completion.
+// Completes a record.
 fn complete<K: RecordKind + Drop, B: Base<K>, D: Device, R: Wait>(
     rt: &R,
     alloc: Global,

@@ -1,4 +1,4 @@
-//! Scripts with devices, counts and requests once more.
+//! Scripts with devices, counts and once requests.
 use crate::programs::Program;
 
 pub static PROGRAMS: [Program; 10] = [

@@ -14,10 +14,10 @@ use std::test::Fail;
 use std::thread;
 use std::thread::Threads;
 
-// How often a thread looks at a flag before it gives up.
+// The number of times that a thread looks at a flag before it stops waiting.
 const TURNS: u64 = 1_000_000;
 
-// Whether the flag was raised within the turns.
+// Returns whether the flag was raised in time.
 fn seen(flag: &AtomicU64) -> bool {
     for _ in 0..TURNS {
         if flag.load(Ordering::SeqCst) != 0 {
@@ -28,13 +28,14 @@ fn seen(flag: &AtomicU64) -> bool {
     false
 }
 
-// Says that the call is inside, and stays there until the other was answered: whether it was.
+// Reports that the call is in progress, and keeps it so until the other call is answered. Returns
+// whether that was in time.
 fn held_until(inside: &AtomicU64, answered: &AtomicU64) -> bool {
     inside.store(1, Ordering::SeqCst);
     seen(answered)
 }
 
-// Each of the first records, in a set of its own.
+// Returns a directory with each of the first records in a set of its own.
 fn singles(alloc: Global, count: usize) -> Result<Directory<Numbers>, AllocError> {
     let mut sets = Directory::new(alloc, count)?;
     for number in 0..count {
@@ -62,7 +63,7 @@ fn join_sets(
     Ok(joined??)
 }
 
-// All records of the second set go to the first.
+// Moves all records of the second set to the first.
 fn join_lent(lent: &mut Lent<Numbers, ()>) -> Result<(), AllocError> {
     lent.first.list.append(&mut lent.second.list)
 }
@@ -85,14 +86,14 @@ fn part_set(
     Ok(parted??)
 }
 
-// A record goes from the first set to the spare one.
+// Moves a record from the first set to the spare one.
 fn part_lent(lent: &mut Lent<Numbers, ()>, one: usize) -> Result<(), AllocError> {
     lent.spare.list.push(one)?;
     lent.first.list.retain(|number| *number != one);
     Ok(())
 }
 
-// How many records the set of a record has: that of some set which has the record.
+// Returns the number of records of the set of a record, which is that of some set with the record.
 fn size_of_set(rt: &impl Wait, sets: &Directory<Numbers>, number: usize) -> Result<usize, IocError>
     ensures { IfOk result (λ n. (s : Numbers) × Contains s.list.items number × (n ≡ vec_len s.list)) }
 {
@@ -106,18 +107,18 @@ fn size_of_set(rt: &impl Wait, sets: &Directory<Numbers>, number: usize) -> Resu
     Ok(size)
 }
 
-/// A call or a link change, with what it must answer.
+/// A call or a link change, with its expected result.
 #[derive(Clone, Copy)]
 enum Step {
-    /// The sets of two records are joined.
+    /// Joins the sets of two records.
     Join(usize, usize, Result<(), IocError>),
-    /// A record is parted from its set.
+    /// Parts a record from its set.
     Part(usize),
-    /// How many records the set of a record has.
+    /// Counts the records of the set of a record.
     Size(usize, Result<usize, IocError>),
 }
 
-// Does what the step says, and tells whether that came of it which must.
+// Carries out a step, and returns whether it has the expected result.
 fn holds(rt: &impl Wait, alloc: Global, sets: &Directory<Numbers>, step: Step) -> bool {
     match step {
         Step::Join(one, two, wanted) => join_sets(rt, alloc, sets, one, two) == wanted,
@@ -126,7 +127,7 @@ fn holds(rt: &impl Wait, alloc: Global, sets: &Directory<Numbers>, step: Step) -
     }
 }
 
-// The first step that doesn't hold, by its place in the list.
+// Returns the place of the first step with another result.
 fn first_wrong(
     rt: &impl Wait,
     alloc: Global,
@@ -141,7 +142,8 @@ fn first_wrong(
     None
 }
 
-// A call is held until the steps are done: is it inside before they are, is it done once they are, and which of them doesn't hold?
+// Keeps a call in progress until the steps are done. Returns whether it was in progress before the
+// steps, whether it ended after them, and the first step with another result.
 fn beside<R: Threads + Wait + Sync>(
     rt: &R,
     alloc: Global,
@@ -219,7 +221,8 @@ static PAIR: [Step; 1] = [Step::Join(3, 0, Ok(()))];
 
 static PUT_BACK: [Step; 2] = [Step::Size(0, Ok(2)), Step::Size(2, Ok(1))];
 
-// The sets of two records, and then all others, are taken and put back: how many they are, and whether record 3 is in the first of the former.
+// Takes the sets of two records, then all others, and puts them back. Returns the number of the
+// former, whether record 3 is in the first of them, and the number of the others.
 fn taken(
     rt: &impl Wait,
     alloc: Global,
@@ -258,7 +261,7 @@ static CHANGED: [Step; 3] = [
 
 static GONE: [Step; 1] = [Step::Size(0, Err(IocError::NoRecord))];
 
-// Which sizes the sets have, as bits; three and more are one.
+// Returns the sizes of the sets as bits. Sizes from three on share a bit.
 fn sizes(sets: &[Numbers]) -> u32 {
     let mut sizes = 0;
     for set in sets {
@@ -267,7 +270,7 @@ fn sizes(sets: &[Numbers]) -> u32 {
     sizes
 }
 
-// How many sets are gathered, and their sizes.
+// Gathers the sets, and returns their number and their sizes.
 fn gathered(
     rt: &impl Wait,
     alloc: Global,

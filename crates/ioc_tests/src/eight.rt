@@ -10,24 +10,24 @@ use std::sync::Wait;
 use std::thread;
 use std::thread::Threads;
 
-/// How many records there are.
+/// The number of records.
 pub const RECORDS: usize = 64;
 
-/// How many calls each thread makes.
+/// The number of calls of each thread.
 pub const CALLS: usize = 1000;
 
-// The next of a run of numbers that looks like chance.
+// Returns the next of a sequence of pseudorandom numbers.
 fn next_of(seed: u64) -> u64 {
     seed.wrapping_mul(6364136223846793005)
         .wrapping_add(1442695040888963407)
 }
 
-// A number below the count of records, of the upper bits.
+// Returns the number of a record from the upper bits.
 fn record_of(seed: u64) -> usize {
     (seed >> 33) as usize % RECORDS
 }
 
-// A put, a request, a get or a link change.
+// Returns a put, a request, a get or a link change.
 fn call_of(seed: u64) -> Call {
     let number = record_of(seed);
     match (seed >> 60) % 4 {
@@ -39,7 +39,7 @@ fn call_of(seed: u64) -> Call {
     }
 }
 
-// The calls of one thread: how many were answered.
+// Makes the calls of one thread, and returns how many were answered.
 fn calls<K: RecordKind + Drop, B: Base<K>, D: Device, R: Wait>(
     rt: &R,
     alloc: Global,
@@ -60,7 +60,7 @@ fn calls<K: RecordKind + Drop, B: Base<K>, D: Device, R: Wait>(
     answered
 }
 
-/// How many calls of eight threads were answered.
+/// Makes the calls of eight threads, and returns how many were answered.
 pub fn eight<
     K: RecordKind + Drop + Send + Sync,
     B: Base<K> + Send + Sync,
@@ -78,7 +78,7 @@ pub fn eight<
     answered
 }
 
-/// So many records without links.
+/// Returns a database text with this many records without links.
 pub fn text(alloc: Global) -> Result<String, AllocError> {
     let mut text = String::new(alloc);
     for number in 0..RECORDS {

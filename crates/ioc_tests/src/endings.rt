@@ -1,11 +1,11 @@
-//! What the program takes from its arguments, and how it ends.
+//! The arguments of the program, and how it ends.
 use ioc_main::{Arguments, Ending, RunFault, Stream, whole_run};
 use ioc_values::{BadDbKind, DbFault};
 use std::alloc::{AllocError, Global};
 use std::io;
 use std::test::Fail;
 
-// Words that are taken, the files that they name, and what a macro A stands for then.
+// Valid words, the files that they name, and the value of the macro A.
 static WORDS: [(&[&str], &str, &str, Option<&str>); 5] = [
     (
         &["ioc-replay", "a.db", "b.script"],
@@ -24,7 +24,7 @@ static WORDS: [(&[&str], &str, &str, Option<&str>); 5] = [
     (&["ioc-replay", "a", "b", "B_2=--help"], "a", "b", None),
 ];
 
-// Words that are not taken, and why.
+// Words that are refused, and the fault.
 static REFUSED: [(&[&str], RunFault); 11] = [
     (&[], RunFault::Usage),
     (&["ioc-replay"], RunFault::Usage),
@@ -39,7 +39,7 @@ static REFUSED: [(&[&str], RunFault); 11] = [
     (&["ioc-replay", "a", "b", "A=1", "--help"], RunFault::Help),
 ];
 
-// Are the words taken, and is this what they say, or are they refused for this?
+// Returns whether the words are parsed as expected, or refused with the expected fault.
 fn is_said(
     taken: Result<Arguments, RunFault>,
     wanted: Result<(&str, &str, Option<&str>), RunFault>,
@@ -102,14 +102,14 @@ fn words_that_could_not_be_had(rt: HostRuntime) {
     assert!(rt; is_full && is_refused(rt.alloc(), io::ErrorKind::InvalidData, RunFault::Usage));
 }
 
-/// How much of a text is told.
+/// How much of a text is compared.
 #[derive(Clone, Copy, PartialEq, Eq)]
 enum Extent {
     Whole,
     Front,
 }
 
-// What a run came to, with the exit status and what is told, and where.
+// The result of a run, with the exit status, the stream and the text that is printed.
 static ENDINGS: [(Result<(), RunFault>, u8, Stream, Extent, &str); 8] = [
     (Ok(()), 0, Stream::Error, Extent::Whole, ""),
     (
@@ -150,7 +150,7 @@ static ENDINGS: [(Result<(), RunFault>, u8, Stream, Extent, &str); 8] = [
         Extent::Whole,
         "out of memory\n",
     ),
-    // What is asked for.
+    // What the program was asked for.
     (
         Err(RunFault::Help),
         0,
@@ -194,7 +194,7 @@ fn endings(rt: HostRuntime) {
     }
 }
 
-// A run and its flush, which fails where that is said, and what they come to.
+// The result of a run, whether the flush fails, and the result of both.
 static FLUSHES: [(Result<(), RunFault>, bool, Result<(), RunFault>); 3] = [
     (Ok(()), false, Ok(())),
     (Ok(()), true, Err(RunFault::Write)),

@@ -1,4 +1,4 @@
-//! What a database text makes: a database with these facts, or a fault.
+//! Loads a database text, which makes a database with given facts, or has a fault.
 use Fact::{Counts, Leads, LeadsHome, LeadsNowhere, Named, Shows, Unnamed};
 use ioc_common::{FieldAddress, Lead};
 use ioc_dbfile::{Database, Macros, load};
@@ -10,21 +10,21 @@ use std::alloc::Global;
 
 /// A fact of a loaded database.
 pub enum Fact {
-    /// There are so many records.
+    /// The number of records.
     Counts(usize),
-    /// The record of this name has that number.
+    /// The record with this name has this number.
     Named(&'static [u8], usize),
     Unnamed(&'static [u8]),
-    /// The text of the field of the record of a number.
+    /// The text of a field of the record with a number.
     Shows(usize, &'static str, &'static [u8]),
-    /// The link of the field of a record leads to that field of a record.
+    /// The link in the field of a record leads to this field of a record.
     Leads(usize, FieldNo, usize, FieldNo),
     LeadsNowhere(usize, FieldNo),
     /// The link leads to the device of its own record.
     LeadsHome(usize, FieldNo),
 }
 
-// Is this the text of the field of the record of a number?
+// Returns whether this is the text of the field of the record with a number.
 fn shows(database: &Database, number: usize, name: &str, wanted: &[u8]) -> bool {
     let Some(item) = database.records.get(number) else {
         return false;
@@ -35,7 +35,7 @@ fn shows(database: &Database, number: usize, name: &str, wanted: &[u8]) -> bool 
     }
 }
 
-// Where a link of a record leads.
+// Returns where a link of a record leads.
 fn lead_of(database: &Database, number: usize, field: FieldNo) -> Option<Lead> {
     let link = database.records.get(number)?.link(field)?;
     Some(link.get().lead)
@@ -59,7 +59,7 @@ fn holds(database: &Database, fact: &Fact) -> bool {
     }
 }
 
-// Do all the facts hold?
+// Returns whether all the facts hold.
 fn all_hold(database: &Database, facts: &[Fact]) -> bool {
     for fact in facts {
         if !holds(database, fact) {
@@ -69,10 +69,10 @@ fn all_hold(database: &Database, facts: &[Fact]) -> bool {
     true
 }
 
-/// A macro's name and value.
+/// The name and the value of a macro.
 pub type Definition<'a> = (&'a [u8], &'a [u8]);
 
-/// Macros of these names, with these values.
+/// Returns macros with these names and values.
 pub fn defined(alloc: Global, definitions: &[Definition<'_>]) -> Result<Macros, IocError> {
     let mut macros = Macros::new(alloc);
     for (name, value) in definitions {
@@ -90,16 +90,16 @@ fn loaded(
     load(alloc, text, &macros)
 }
 
-/// What a text makes.
+/// The expected result of a load.
 #[derive(Clone, Copy)]
 pub enum Made {
-    /// A database of which all of this holds.
+    /// A database with these facts.
     Facts(&'static [Fact]),
-    /// A fault of this line and kind.
+    /// A fault in this line and of this kind.
     Fault(u64, BadDbKind),
 }
 
-/// Does a text make this, with these macros?
+/// Returns whether the load of a text with these macros has the expected result.
 pub fn makes(alloc: Global, definitions: &[Definition<'_>], text: &[u8], wanted: Made) -> bool {
     match (loaded(alloc, definitions, text), wanted) {
         (Ok(database), Made::Facts(facts)) => all_hold(&database, facts),

@@ -1,4 +1,4 @@
-//! Texts as large as they may be, and larger ones.
+//! Texts of the maximal size, and larger ones.
 use crate::facts::Fact::{self, Counts, Named, Shows};
 use crate::facts::{Made, makes};
 use crate::parts::Piece::{self, Here, Words};
@@ -7,7 +7,7 @@ use ioc_values::BadDbKind;
 use std::alloc::{AllocError, Global};
 use std::test::Fail;
 
-/// What the macro A stands for, if there is one, a text, and what it makes.
+/// The value of the macro A, if there is one, a text, and the expected result of its load.
 struct Large {
     name: &'static str,
     value: Option<&'static [Part]>,
@@ -24,7 +24,7 @@ const MEBIBYTE: usize = 1_048_576;
 
 const BLANK: &[Piece] = &[Words(" ")];
 
-// As many records as there may be, one a line, each with an alias.
+// The maximal number of records, one per line, each with an alias.
 const ALL_RECORDS: Part = (
     0,
     MOST_RECORDS,
@@ -139,7 +139,7 @@ fn large_texts(rt: HostRuntime) -> Result<(), Fail> {
 
 static TEXT: [u8; 42] = *b"record(longin, \"a\") {\n  field(VAL, \"1\")\n}\n";
 
-// So many of its first bytes, and what holds of the database that they make.
+// A number of first bytes of the text, and the facts of the database that they make.
 static CUTS: [(usize, &[Fact]); 5] = [
     (0, &[Counts(0)]),
     (19, &[Counts(1), Named(b"a", 0), Shows(0, "VAL", b"0")]),

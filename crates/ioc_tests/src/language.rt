@@ -1,10 +1,11 @@
-//! Whole programs over databases with macros, aliases and records in pieces, and over one that isn't closed.
+//! Whole programs on databases with macros, aliases and records in pieces, and on a text that isn't
+//! closed.
 use crate::facts::{Definition, defined};
 use ioc_main::{RunFault, run};
 use ioc_values::{BadDbKind, DbFault, IocError};
 use std::alloc::Global;
 
-// What a run comes to and prints.
+// A run, with its expected result and output.
 struct Run {
     macros: &'static [Definition<'static>],
     db: &'static [u8],
@@ -70,7 +71,7 @@ static RUNS: [Run; 6] = [
     },
 ];
 
-// Does the run come to what is wanted, and print it?
+// Returns whether the run has the expected result and output.
 fn comes_to(alloc: Global, wanted: &Run) -> Result<bool, IocError> {
     let macros = defined(alloc, wanted.macros)?;
     let mut out = Vec::new(alloc);

@@ -1,6 +1,7 @@
-//! Tests of the crates below processing (`lower`), and tests that cross the crates: whole runs over memory, the directory of lock sets, with sets that are
-//! lists of numbers, and the engine for threads, from a database text to its end. They stand in one crate, so that what these are made of is read once for
-//! all, and none of them is proved twice.
+//! Tests of the crates below processing (`lower`), and tests across crates: whole runs in memory,
+//! the directory of lock sets, with sets that are lists of numbers, and the engine for threads,
+//! from a database text to its end. They are in one crate, so that their dependencies are read once
+//! for all and none is proved twice.
 #![tactic(auto)]
 
 #[cfg(test)]

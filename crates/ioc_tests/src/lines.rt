@@ -1,4 +1,4 @@
-//! Scripts with readers and writers of one byte a call.
+//! Scripts with readers and writers of one byte per call.
 use crate::streams::{OneByteReader, OneByteWriter};
 use ioc_dbfile::Macros;
 use ioc_main::{RunFault, run};
@@ -10,7 +10,8 @@ const SCRIPT: &[u8] = b"get a.VAL\n# nothing\n\nhello\nprocess a";
 
 const WANTED: &[u8] = b"= 3\nbad\nok processed\n";
 
-// Does a writer that takes so many bytes hold them, and the run end well where they are all?
+// Returns whether a writer that takes this many bytes has them at the end, and the run succeeds if
+// these are all.
 fn is_written(alloc: Global, left: usize) -> bool {
     let mut out = OneByteWriter {
         held: Vec::new(alloc),
@@ -32,7 +33,7 @@ fn a_writer_of_one_byte(rt: HostRuntime) {
     }
 }
 
-// Does a run whose reader gives so many bytes end so, and print this?
+// Returns whether a run whose reader returns this many bytes has the expected result and output.
 fn is_read(alloc: Global, left: usize, wanted: Result<(), RunFault>, printed: &[u8]) -> bool {
     let script = OneByteReader { rest: SCRIPT, left };
     let mut out = Vec::new(alloc);

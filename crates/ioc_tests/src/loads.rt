@@ -38,8 +38,8 @@ static LOADS: [(&[u8], &[Fact]); 17] = [
             Unnamed(b"h"),
         ],
     ),
-    // A link leads nowhere where there is no such record or field, and where the field is a link. One to a device leads there from the
-    // first record that names it.
+    // A link leads nowhere if there is no such record or field, or if the field is a link. Only the
+    // device link of the first record that names a device leads to it.
     (
         b"record(longin,a){field(INP,\"b.UDF PP\") field(FLNK,c)}\nrecord(bo,b){field(OUT,a)field(DOL,\"a.NOPE\")field(FLNK,\"c.OUT\")}\nrecord(longin,c){field(INP,nowhere)field(FLNK,\"b.OUT\")}\nrecord(fanout,d){field(LNK3,\"b.ZNAM\")field(SELL,a)}\nrecord(longin,e){field(INP,\"@card\")}record(longin,f){field(INP,\"@card\")}record(longin,g){field(INP,\"@card 1\")}",
         &[
@@ -62,7 +62,7 @@ static LOADS: [(&[u8], &[Fact]); 17] = [
             LeadsHome(6, INP),
         ],
     ),
-    // The value of the last field, as its text shows it.
+    // The text of the value that was set last.
     (
         b"record(longin,a){field(EGU,1)field(EGU,2)}",
         &[Shows(0, "EGU", b"2")],
@@ -88,7 +88,7 @@ static LOADS: [(&[u8], &[Fact]); 17] = [
         &[Shows(0, "EGU", b"\x07\x08\x09\x0b\x0c\x0d")],
     ),
     (b"record(longin,a){}", &[Shows(0, "EGU", b"")]),
-    // A name knows the escapes of a quote and a backslash alone; it has 60 bytes at most.
+    // In a name, only a quote and a backslash are escaped. A name has at most 60 bytes.
     (b"record(longin,\"a\\\\\\n\"){}", &[Named(b"a\\\\n", 0)]),
     (
         b"record(longin,a12345678901234567890123456789012345678901234567890123456789){field(VAL,\"\")}",
@@ -129,7 +129,7 @@ static LOADS: [(&[u8], &[Fact]); 17] = [
         b"record(longin,a){info(autosaveFields,\"VAL \\q\")info(\"k\",v)field(VAL,1)}",
         &[Counts(1), Shows(0, "VAL", b"1")],
     ),
-    // A link that comes before the record that it leads to, by its alias.
+    // A link that precedes the record that it leads to by an alias.
     (
         b"record(longin,a){field(FLNK,c)}record(longin,b){alias(c)}",
         &[Leads(0, FLNK, 1, VAL)],
@@ -266,7 +266,7 @@ fn refused_texts(rt: HostRuntime) {
 
 static TEXT: [u8; 42] = *b"record(longin, \"a\") {\n  field(VAL, \"1\")\n}\n";
 
-// What the first n bytes give.
+// Returns the expected result of the first `n` bytes.
 fn cut_makes(n: usize) -> Made {
     match n {
         0 => Made::Facts(&[Counts(0)]),
@@ -282,7 +282,7 @@ fn cut_makes(n: usize) -> Made {
     }
 }
 
-// Is the run of a text silent, and does it come to this?
+// Returns whether the run of a text prints nothing and has the expected result.
 fn runs_silently(alloc: Global, text: &[u8], wanted: Made) -> bool {
     let mut out = Vec::new(alloc);
     let ended = run(alloc, text, &Macros::new(alloc), b"".as_slice(), &mut out);

@@ -1,11 +1,12 @@
-//! Long databases and scripts with what they print: chains of 100,000 records, for which the stack need not be deeper, and limits that are passed.
+//! Long databases and scripts with the expected output: chains of 100,000 records, which need no
+//! deeper stack, and exceeded limits.
 use crate::parts::Piece::{Here, Next, Words};
 use crate::parts::{Part, text};
 use crate::programs::prints;
 use std::alloc::{AllocError, Global};
 use std::test::Fail;
 
-/// A database and a script, and what is printed.
+/// A database and a script, and the expected output.
 struct Long {
     name: &'static str,
     db: &'static [Part],
@@ -82,7 +83,8 @@ static LONG: [Long; 11] = [
         script: &[(0, 1, &[Words("process r0\nget r0.VAL\n")])],
         wanted: &[(0, 1, &[Words("ok processed\n= 5\n")])],
     },
-    // A chain of 257 records, each with a device of its own for which 1 is queued: an event asks 256 devices, and every further one faults.
+    // A chain of 257 records, each with a device of its own with one queued answer, 1: an event
+    // calls 256 devices, and every further call is a fault.
     Long {
         name: "devices past 256",
         db: &[(
@@ -107,7 +109,8 @@ static LONG: [Long; 11] = [
             (0, 1, &[Words("ok processed\n= 1\n= READ\n")]),
         ],
     },
-    // A chain of 2,000 records, each of which names the one before it, and 2,000 more by themselves.
+    // A chain of 2,000 records, each with a link to the one before it, and 2,000 more without
+    // links.
     Long {
         name: "sets of many records",
         db: &[
@@ -134,7 +137,8 @@ static LONG: [Long; 11] = [
             (0, 1, &[Words("\n")]),
         ],
     },
-    // Of 257 puts with notification on a record that awaits its device 256 are live, and no more; one is free again after a cancel.
+    // Of 257 puts with notification on a record that awaits its device, 256 are live. One more may
+    // begin after a cancel.
     Long {
         name: "notifications past 256",
         db: &[AWAITING],
@@ -147,7 +151,8 @@ static LONG: [Long; 11] = [
             (0, 1, &[Words("E9 QueueFull\nok\nok notify 257\n")]),
         ],
     },
-    // 255 wait behind one, and all end in the event that lets them start: each stores and has nothing processed.
+    // 255 wait behind one, and all end in the event that lets them start: each stores a value and
+    // processes nothing.
     Long {
         name: "256 notifications that end together",
         db: &[AWAITING],
@@ -162,7 +167,7 @@ static LONG: [Long; 11] = [
             (1, 257, &[Words("ended "), Here, Words("\n")]),
         ],
     },
-    // One event for 2,001 records: a queue holds 2,000, a line serves 1,000.
+    // One event for 2,001 records: a queue holds 2,000 requests, and 1,000 are served after a line.
     Long {
         name: "callbacks past 2000",
         db: &[(
@@ -227,7 +232,7 @@ static LONG: [Long; 11] = [
     },
 ];
 
-// Does a run print what it must?
+// Returns whether a run has the expected output.
 fn comes_to(alloc: Global, long: &Long) -> Result<bool, AllocError> {
     let db = text(alloc, long.db)?;
     let script = text(alloc, long.script)?;

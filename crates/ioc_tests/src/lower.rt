@@ -1,6 +1,7 @@
-//! Tests of the crates below processing: values, menus, names, links, alarms, the ledger and the reading of texts; devices, notifications,
-//! tables of puts, connected parts, queues, scan lists and tickets; fields, records, record types and the members of sets. What is tested stands in
-//! tables of constants, since an entry of a table costs the prover a hundredth of what a function does.
+//! Tests of the crates below processing: values, menus, names, links, alarms, the ledger and the
+//! parsing of texts; devices, notifications, tables of puts, connected parts, queues, scan lists
+//! and tickets; fields, records, record types and the members of sets. The cases are in constant
+//! tables, because an entry of a table is far cheaper to prove than a function.
 mod acts;
 mod alarms;
 mod bi;

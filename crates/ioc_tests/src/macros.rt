@@ -1,23 +1,23 @@
-//! Loads of database texts that use macros.
+//! Loads of database texts with macros.
 use crate::facts::Fact::{self, Named, Shows};
 use crate::facts::{Definition, Made, defined, makes};
 use ioc_values::{BadDbKind, IocError};
 use std::alloc::Global;
 
-// Macros, a text that uses them, and what holds of its records.
+// Macros, a text that uses them, and the facts of its records.
 static MACROS: [(&[Definition<'static>], &[u8], &[Fact]); 6] = [
     (
         &[(b"P", b"k")],
         b"record(longin,\"$(P)x\"){field(INP,\"$(V=3)\")}",
         &[Named(b"kx", 0), Shows(0, "VAL", b"3")],
     ),
-    // The last value of a name stands, and a default only where there is none.
+    // The last value of a name is used, and a default only if there is no value.
     (
         &[(b"N", b"1"), (b"M", b""), (b"N", b"2")],
         b"record(longin,a){field(VAL,\"$(N=5)\")field(EGU,\"${M=x}${O=}y\")}",
         &[Shows(0, "VAL", b"2"), Shows(0, "EGU", b"y")],
     ),
-    // Values are not replaced again, and may hold signs, quotes and comments.
+    // Values aren't expanded again, and may contain signs, quotes and comments.
     (
         &[
             (b"A", b"$(B)"),
@@ -32,7 +32,7 @@ static MACROS: [(&[Definition<'static>], &[u8], &[Fact]); 6] = [
         b"record($(TYPE),a)$(S)",
         &[Shows(0, "VAL", b"9")],
     ),
-    // A comment goes before macros are replaced.
+    // Comments are removed before macros are expanded.
     (
         &[],
         b"record(longin,a){field(VAL,1)} # $(NONE) $(",
@@ -55,7 +55,7 @@ fn texts_with_macros(rt: HostRuntime) {
     }
 }
 
-// Texts whose macros are wrong, where A is the one that is defined, with the line and the kind of the fault.
+// Texts whose macros are wrong, if only A is defined, with the line and the kind of the fault.
 static BAD_MACROS: [(&[u8], u64, BadDbKind); 15] = [
     (b"record(longin,\"$(P)x\")", 1, BadDbKind::Macro),
     (b"? $(P)", 1, BadDbKind::Macro),
@@ -70,7 +70,7 @@ static BAD_MACROS: [(&[u8], u64, BadDbKind); 15] = [
     (b"$(A=$)", 1, BadDbKind::Macro),
     (b"$($(A))", 1, BadDbKind::Macro),
     (b"$(A=#)", 1, BadDbKind::Macro),
-    // A number sign that comes out of a macro begins no comment.
+    // A number sign from a macro begins no comment.
     (b"record(longin,a)$(A)", 1, BadDbKind::Syntax),
     (b"\n$(A", 2, BadDbKind::Macro),
 ];
@@ -88,7 +88,7 @@ fn macros_that_cannot_be_replaced(rt: HostRuntime) {
 
 static BAD_NAMES: [&[u8]; 5] = [b"", b"A-B", b" A", b"A$", b"\xc3\xa4"];
 
-// Is a macro of the name refused, beside another?
+// Returns whether a macro with this name is refused, beside another macro.
 fn is_refused(alloc: Global, name: &[u8]) -> Result<bool, IocError> {
     let mut macros = defined(alloc, &[(b"A", b"1")])?;
     Ok(macros.define(alloc, name, b"2") == Err(IocError::BadValue))

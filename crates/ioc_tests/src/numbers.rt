@@ -1,4 +1,4 @@
-//! Sets of records that are nothing but their numbers.
+//! Sets of records that consist only of their numbers.
 ghost use Rattle.std.specs.Prelude.{◌≡◌, [], ℕ};
 
 use ioc_names::RecordNo;
@@ -12,7 +12,7 @@ pub struct Numbers {
 }
 
 impl Numbers {
-    /// The set of these numbers.
+    /// Returns the set of these numbers.
     pub fn of(alloc: Global, numbers: &[usize]) -> Result<Numbers, AllocError> {
         let mut list = Vec::new(alloc);
         list.extend_from_slice(numbers)?;

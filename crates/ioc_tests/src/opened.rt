@@ -1,4 +1,4 @@
-//! What engines are made of.
+//! The parts of engines: devices, records and links.
 ghost use Rattle.std.specs.Prelude.{◌≡◌, All, IfOk};
 
 use ioc_common::{FieldAddress, KeptLink, Lead, LinkField};
@@ -17,19 +17,19 @@ use std::sync::Arc;
 use std::sync::atomic::{AtomicU64, Ordering};
 use std::thread;
 
-// How often a device looks at a flag before it gives up.
+// The number of times that a device looks at a flag before it stops waiting.
 const TURNS: u64 = 1_000_000;
 
 /// A device of the tests.
 #[derive(Drop)]
 pub enum Sensor {
-    /// Raises the first flag when it is asked, and answers once the second is raised.
+    /// Raises the first flag when it is called, and answers once the second is raised.
     Holding(Arc<AtomicU64, Global>, Arc<AtomicU64, Global>),
-    /// All its answers come later.
+    /// All its answers are asynchronous.
     Later,
 }
 
-/// Whether a flag was raised within the turns.
+/// Returns whether a flag was raised in time.
 pub fn seen(flag: &AtomicU64) -> bool {
     for _ in 0..TURNS {
         if flag.load(Ordering::SeqCst) != 0 {
@@ -40,7 +40,7 @@ pub fn seen(flag: &AtomicU64) -> bool {
     false
 }
 
-// Says that the device is asked, and waits until another call was answered.
+// Reports that the device was called, and waits until another call is answered.
 fn hold(asked: &AtomicU64, answered: &AtomicU64) -> Answer {
     asked.store(1, Ordering::SeqCst);
     if seen(answered) {
@@ -68,7 +68,7 @@ impl Device for Sensor {
     }
 }
 
-/// The records of a text, of which the first may have a device.
+/// Returns the records of a text, of which the first may have a device.
 pub fn loaded(
     alloc: Global,
     text: &[u8],
@@ -83,7 +83,7 @@ pub fn loaded(
     Ok(all)
 }
 
-/// A link to VAL of a record, or an empty one.
+/// Returns a link to VAL of a record, or an empty one.
 pub fn link_to(alloc: Global, target: Option<usize>) -> Result<KeptLink, AllocError> {
     let Some(target) = target else {
         return Ok(KeptLink::empty());

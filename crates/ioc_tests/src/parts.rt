@@ -1,17 +1,17 @@
-//! Long texts, told by what they repeat.
+//! Long texts with repeated parts.
 use std::alloc::{AllocError, Global};
 
-/// A piece of a text that is repeated: words, or a number.
+/// A piece of a repeated text: words, or a number.
 #[derive(Clone, Copy)]
 pub enum Piece {
     Words(&'static str),
     /// The number of the repetition.
     Here,
-    /// The number after that.
+    /// The number of the next repetition.
     Next,
 }
 
-/// Pieces, repeated with each number from the first up to the second.
+/// Pieces that are repeated with each number from the first up to the second.
 pub type Part = (usize, usize, &'static [Piece]);
 
 fn push(text: &mut String, piece: Piece, number: usize) -> Result<(), AllocError> {
@@ -32,7 +32,7 @@ fn push_all(text: &mut String, pieces: &[Piece], number: usize) -> Result<(), Al
     Ok(())
 }
 
-/// The text of these parts.
+/// Returns the text of these parts.
 pub fn text(alloc: Global, parts: &[Part]) -> Result<String, AllocError> {
     let mut text = String::new(alloc);
     for (first, end, pieces) in parts {

@@ -1,20 +1,21 @@
-//! Databases with a script, and what is printed for each: the tables of the other files, which all go through one function.
+//! Databases with a script and the expected output: the tables of the other files, which share one
+//! function.
 use crate::{devices, lock_sets, notifications, relinks, rows, scans, types};
 use ioc_dbfile::Macros;
 use ioc_main::run;
 use std::alloc::Global;
 
-/// What a program is about, its database and its script, and what it prints.
+/// The title of a program, its database, its script, and its expected output.
 pub type Program = (&'static str, &'static [u8], &'static [u8], &'static [u8]);
 
-/// Does the run end at the end of its script, and print this?
+/// Returns whether the run ends at the end of its script with the expected output.
 pub fn prints(alloc: Global, db: &[u8], script: &[u8], wanted: &[u8]) -> bool {
     let mut out = Vec::new(alloc);
     let ended = run(alloc, db, &Macros::new(alloc), script, &mut out);
     ended.is_ok() && out.as_slice() == wanted
 }
 
-// What the first program is about that doesn't print what it must.
+// Returns the title of the first program with another output.
 fn first_wrong(alloc: Global, programs: &[Program]) -> Option<&'static str> {
     for (name, db, script, wanted) in programs {
         if !prints(alloc, db, script, wanted) {

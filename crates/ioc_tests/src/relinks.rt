@@ -1,4 +1,4 @@
-//! Scripts with link changes beside puts with notification and `sets`.
+//! Scripts with link changes, puts with notification and `sets`.
 use crate::programs::Program;
 
 pub static PROGRAMS: [Program; 10] = [

@@ -1,4 +1,4 @@
-//! Databases with a script, and what is printed for each.
+//! Databases with a script and the expected output.
 use crate::programs::Program;
 
 pub static PROGRAMS: [Program; 12] = [

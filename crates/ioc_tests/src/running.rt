@@ -1,5 +1,5 @@
-//! An engine from a database text to its end, and what is done with it meanwhile: one function for all tests, since one that starts an engine costs
-//! the prover as much as ten others.
+//! Runs an engine from a database text to its end. All tests share one function, because a function
+//! that starts an engine is costly to prove.
 ghost use Rattle.std.specs.Prelude.{◌≡◌, ◌-◌, ◌^◌, [], All};
 ghost use Rattle.crossbeam_utils.specs.Seq.{cell_view};
 ghost use Rattle.ioc_line.specs.Line.{keeper};
@@ -30,7 +30,8 @@ use std::thread::Threads;
 pub enum Work<'a> {
     /// The calls of one desk.
     Steps(&'a [Step]),
-    /// The first calls begin, and the others once the first flag is raised; the second flag is raised once these are answered.
+    /// The first calls begin, and the others follow once the first flag is raised. The second flag
+    /// is raised once these are answered.
     Beside {
         first: &'a [Step],
         others: &'a [Step],
@@ -41,7 +42,7 @@ pub enum Work<'a> {
     Eight,
 }
 
-/// How many calls were answered as they must, and how many sets and records there are at the end.
+/// The number of calls with the expected reply, and the numbers of sets and records at the end.
 #[derive(Clone, Copy, PartialEq, Eq, Debug)]
 pub struct Ended {
     pub held: usize,
@@ -49,7 +50,8 @@ pub struct Ended {
     pub records: usize,
 }
 
-// Calls once the first flag is raised, and raises the second then: how many of the calls were answered as they must.
+// Makes calls once the first flag is raised, then raises the second. Returns the number of calls
+// with the expected reply.
 fn follow_then<K: RecordKind + Drop, B: Base<K>, D: Device, R: Wait>(
     rt: &R,
     alloc: Global,
@@ -64,7 +66,7 @@ fn follow_then<K: RecordKind + Drop, B: Base<K>, D: Device, R: Wait>(
     if began { held } else { 0 }
 }
 
-// How many calls were answered as they must.
+// Returns the number of calls with the expected reply.
 fn done<
     K: RecordKind + Drop + Send + Sync,
     B: Base<K> + Send + Sync,
@@ -90,7 +92,7 @@ fn done<
     }
 }
 
-// Ends an engine: how many sets it has, and how many records these have.
+// Ends an engine, and returns the numbers of its sets and of their records.
 fn end<K: RecordKind + Drop, B: Base<K>, D: Device, R: Wait>(
     rt: &R,
     alloc: Global,
@@ -106,7 +108,7 @@ fn end<K: RecordKind + Drop, B: Base<K>, D: Device, R: Wait>(
     Some((report.sets.len(), records))
 }
 
-// What an engine of any name comes to; none where it isn't started.
+// Runs an engine of any name, and returns the result, or `None` if it can't be started.
 fn run<
     K: RecordKind + Drop + Send + Sync,
     B: Base<K> + Send + Sync,
@@ -143,7 +145,8 @@ fn run<
     })
 }
 
-/// What an engine of the records of a text comes to, of which the first may have a device; none where it isn't started.
+/// Runs an engine with the records of a text, of which the first may have a device. Returns `None`
+/// if it can't be started.
 pub fn run_text<R: Threads + Wait + Sync>(
     rt: &R,
     alloc: Global,

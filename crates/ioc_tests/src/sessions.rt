@@ -12,19 +12,21 @@ use std::sync::{Arc, Wait};
 use std::test::Fail;
 use std::thread::Threads;
 
-/// The calls of one desk, on the records of a text, of which the first may have a device that answers later.
+/// The calls of one desk on the records of a text, of which the first may have a device with
+/// asynchronous answers.
 struct Session {
     name: &'static str,
     text: &'static [u8],
     has_device: bool,
     steps: &'static [Step],
-    // How many sets and records there are at the end.
+    // The numbers of sets and records at the end.
     sets: usize,
     records: usize,
 }
 
 static SESSIONS: [Session; 4] = [
-    // What the record hasn't, what can't be put and what lies beyond the records takes no place; a put that DISP forbids takes one.
+    // A call on a missing field, a field that can't be put, or a missing record takes no place in
+    // the journal. A put that DISP forbids takes one.
     Session {
         name: "calls of one desk",
         text: b"record(longin,\"a\"){field(FLNK,\"b\")}\nrecord(longin,\"b\"){}\n",
@@ -45,7 +47,7 @@ static SESSIONS: [Session; 4] = [
         sets: 1,
         records: 2,
     },
-    // A chain of ten, and one beside.
+    // A chain of ten records, and one without links.
     Session {
         name: "moved by link changes",
         text: b"record(longin,\"c0\"){field(FLNK,\"c1\")}
@@ -70,7 +72,7 @@ record(longin,\"x\"){}
         sets: 2,
         records: 11,
     },
-    // The put that awaits the device is live until that has answered, the other is done at once.
+    // The put that awaits the device is live until the device answers; the other is done at once.
     Session {
         name: "live until done",
         text: NOTIFIED,
@@ -86,8 +88,8 @@ record(longin,\"x\"){}
         sets: 2,
         records: 2,
     },
-    // The put that awaits the device is given up: it isn't live any more, and not to be given up again, and the record's set is there for the answer
-    // of the device.
+    // The put that awaits the device is canceled: it isn't live any more and can't be canceled
+    // again, and the record's set is there for the answer of the device.
     Session {
         name: "over when given up",
         text: NOTIFIED,
@@ -108,10 +110,10 @@ record(longin,\"x\"){}
     },
 ];
 
-// A record whose device answers later, and one that is done at once.
+// A record with a device whose answers are asynchronous, and one that is done at once.
 const NOTIFIED: &[u8] = b"record(longin,\"p\"){field(INP,\"@d\")}\nrecord(longin,\"a\"){}\n";
 
-// Does a session come to what it must?
+// Returns whether a session has the expected result.
 fn is_held<R: Threads + Wait + Sync>(
     rt: &R,
     alloc: Global,
@@ -146,7 +148,7 @@ record(longin,\"b\"){}
 record(longin,\"c\"){}
 ";
 
-// The record with the device is processed, and shows what it got.
+// The record with the device is processed, and shows the value from it.
 static HOLDS: [Step; 2] = [
     Makes(Call::Process(0), Wanted::Answered),
     Makes(Call::Get(0, VAL), Wanted::Says(Says::Shown(b"7"))),
@@ -160,8 +162,8 @@ fn flag(alloc: Global) -> Result<Arc<AtomicU64, Global>, AllocError> {
     Ok(Arc::new(alloc, AtomicU64::new(0))?)
 }
 
-// A record is processed, whose device answers once a call of another set was answered: did it, was it asked before that call, and was that call answered
-// as it must?
+// Processes a record whose device answers once a call on another set is answered. Returns whether
+// it did, was called before that call, and that call had the expected reply.
 fn are_both_answered<R: Threads + Wait + Sync>(
     rt: &R,
     alloc: Global,
@@ -197,7 +199,7 @@ fn link_beside_work(rt: HostRuntime) -> Result<(), Fail> {
     Ok(())
 }
 
-// Are all calls of eight threads answered, and are all records there at the end?
+// Returns whether all calls of eight threads are answered, and all records are there at the end.
 fn are_all_answered<R: Threads + Wait + Sync>(rt: &R, alloc: Global) -> Result<bool, IocError> {
     let text = text(alloc)?;
     let Some(end) = run_text(rt, alloc, text.as_bytes(), None, Work::Eight)? else {

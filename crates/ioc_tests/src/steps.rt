@@ -1,4 +1,4 @@
-//! The calls of one desk as lists of steps, each with what must come of it.
+//! The calls of one desk as lists of steps, each with its expected result.
 use crate::calling::{Call, Told, make, seat};
 use ioc_device::Device;
 use ioc_engine::Engine;
@@ -23,17 +23,17 @@ pub enum Says {
     Refused(IocError),
 }
 
-/// What must come of a call.
+/// The expected result of a call.
 #[derive(Clone, Copy)]
 pub enum Wanted {
-    /// Any answer.
+    /// Any reply.
     Answered,
     Says(Says),
-    /// This answer, with that place in the journal.
+    /// This reply, with this place in the journal.
     At(u64, Says),
-    /// So many records are moved, and there is no more to tell.
+    /// A plain reply, with this many records moved.
     Moves(usize),
-    /// The call isn't begun, and has no place in the journal.
+    /// The call fails, and has no place in the journal.
     Fails(IocError),
 }
 
@@ -41,7 +41,7 @@ pub enum Wanted {
 #[derive(Clone, Copy)]
 pub enum Step {
     Makes(Call, Wanted),
-    /// The engine has so many parts, each of one record, by their order.
+    /// The engine has this many parts, each of one record, in order.
     AreAlone(usize),
 }
 
@@ -56,7 +56,7 @@ fn reply(says: Says) -> Reply {
     }
 }
 
-// Is the answer as it must be?
+// Returns whether the reply is the expected one.
 fn is_as_wanted(told: &Told, wanted: Wanted) -> bool {
     match wanted {
         Wanted::Answered => true,
@@ -67,7 +67,7 @@ fn is_as_wanted(told: &Told, wanted: Wanted) -> bool {
     }
 }
 
-// Did what must come of a call?
+// Returns whether a call has the expected result.
 fn is_met(told: Result<Told, IocError>, wanted: Wanted) -> bool {
     match (told, wanted) {
         (Ok(told), wanted) => is_as_wanted(&told, wanted),
@@ -76,7 +76,7 @@ fn is_met(told: Result<Told, IocError>, wanted: Wanted) -> bool {
     }
 }
 
-// Are the parts of an engine so many, and each of one record, by their order?
+// Returns whether an engine has this many parts, each of one record, in order.
 fn are_alone<K: RecordKind + Drop, B: Base<K>, D: Device, R: Wait>(
     rt: &R,
     alloc: Global,
@@ -95,7 +95,7 @@ fn are_alone<K: RecordKind + Drop, B: Base<K>, D: Device, R: Wait>(
     parts.len() == count
 }
 
-// Does what the step says, and tells whether that came of it which must.
+// Carries out a step, and returns whether it has the expected result.
 fn holds<K: RecordKind + Drop, B: Base<K>, D: Device, R: Wait>(
     rt: &R,
     alloc: Global,
@@ -110,7 +110,8 @@ fn holds<K: RecordKind + Drop, B: Base<K>, D: Device, R: Wait>(
     }
 }
 
-/// Goes through steps with a desk of their own: how many held, up to the first that doesn't.
+/// Carries out steps with a desk of their own, up to the first with another result. Returns the
+/// number of steps with the expected result.
 pub fn follow<K: RecordKind + Drop, B: Base<K>, D: Device, R: Wait>(
     rt: &R,
     alloc: Global,

@@ -1,9 +1,9 @@
-//! Readers and writers of one byte a call.
+//! Readers and writers of one byte per call.
 ghost use Rattle.std.specs.Prelude.{Some};
 
 use std::io::{self, Read, Write};
 
-/// A writer that takes one byte a call, and fails after so many.
+/// A writer that takes one byte per call, and fails after a number of bytes.
 #[derive(Drop)]
 pub struct OneByteWriter {
     pub held: Vec<u8>,
@@ -32,7 +32,7 @@ impl Write for OneByteWriter {
     }
 }
 
-/// A reader that gives one byte a call, and fails after so many.
+/// A reader that returns one byte per call, and fails after a number of bytes.
 #[derive(Drop)]
 pub struct OneByteReader<'a> {
     pub rest: &'a [u8],

@@ -1,4 +1,4 @@
-//! Tickets: each stands for one request.
+//! Tickets, one for each request.
 #![tactic(auto)]
 
 pub mod tickets;

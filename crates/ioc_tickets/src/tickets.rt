@@ -1,4 +1,4 @@
-//! Tickets, each of which is spent at most once or handed back. Those that are out are counted.
+//! Tickets, each of which is spent or handed back at most once. Those that are out are counted.
 ghost use Rattle.std.specs.Prelude.{◌≡◌, ◌+◌, ◌<◌, ◌^◌, ◌-◌, true, false};
 ghost use Rattle.ioc_tickets.specs.Counts.{counts, AddUp};
 
@@ -6,10 +6,11 @@ use std::marker::Model;
 use std::sync::ledger;
 use std::sync::ledger::{Blank, Book, Share};
 
-/// The parts into which an engine's tickets are cut: as many as can be begun.
+/// The number of parts into which an engine's tickets are divided: as many as can be begun.
 pub const PARTS: u64 = u64::MAX;
 
-/// A right to one request. Contracts see whether it is counted: one that was begun after the last number is not.
+/// The right to one request. Contracts see whether it is counted; a ticket begun after 2^64 - 1
+/// others isn't.
 #[derive(Drop)]
 pub struct Ticket<B: ledger::Ledger> {
     share: Option<Share<B>>,
@@ -25,7 +26,7 @@ impl<B: ledger::Ledger> Model for Ticket<B> {
     ghost invariant = { λ t. IfSome t.share (λ s. (s.parts ≡ 1) × (s.amount ≡ 1)) };
 }
 
-/// Counts the tickets that were begun, spent and handed back. A ticket that is dropped stays out.
+/// Counts the tickets that were begun, spent and handed back. A dropped ticket stays out.
 #[derive(Drop)]
 pub struct Ledger<B: ledger::Ledger> {
     begun: u64,
@@ -47,7 +48,7 @@ impl<B: ledger::Ledger> Model for Ledger<B> {
 }
 
 impl<B: ledger::Ledger> Ledger<B> {
-    /// No ticket was begun. The parts are [`PARTS`].
+    /// Creates a ledger without tickets. Its parts are [`PARTS`].
     pub fn new(blank: Blank) -> Self
         requires name { blank.name ≡ B.name }
         requires parts { (blank.parts ≡ B.parts) × (blank.parts ≡ 2 ^ 64 - 1) }
@@ -63,7 +64,8 @@ impl<B: ledger::Ledger> Ledger<B> {
         }
     }
 
-    /// Begins a ticket. Past 2^64 - 1 of them the counts stay as they are for good, and the ticket is not counted.
+    /// Begins a ticket. After 2^64 - 1 tickets the counts no longer change, and the ticket isn't
+    /// counted.
     pub fn begin(&mut self) -> Ticket<B>
         ensures counted { self.old.begun + 1 < 2 ^ 64 → (result ≡ true) × (self.new ≡ counts (self.old.begun + 1) self.old.spent self.old.back (self.old.out + 1)) }
         ensures full { self.old.begun + 1 ≡ 2 ^ 64 → (result ≡ false) × (self.new ≡ self.old) }
@@ -77,7 +79,7 @@ impl<B: ledger::Ledger> Ledger<B> {
         Ticket { share: Some(share) }
     }
 
-    /// Spends a ticket in its request.
+    /// Spends the ticket of a request.
     pub fn spend(&mut self, ticket: Ticket<B>)
         ensures counted { ticket ≡ true → (self.new.begun ≡ self.old.begun) × (self.new.spent ≡ self.old.spent + 1) × (self.new.back ≡ self.old.back) × (self.new.out + 1 ≡ self.old.out) }
         ensures uncounted { ticket ≡ false → self.new ≡ self.old }
@@ -87,7 +89,7 @@ impl<B: ledger::Ledger> Ledger<B> {
         }
     }
 
-    /// Takes a ticket back whose request was not made.
+    /// Takes back the ticket of a request that wasn't made.
     pub fn hand_back(&mut self, ticket: Ticket<B>)
         ensures counted { ticket ≡ true → (self.new.begun ≡ self.old.begun) × (self.new.spent ≡ self.old.spent) × (self.new.back ≡ self.old.back + 1) × (self.new.out + 1 ≡ self.old.out) }
         ensures uncounted { ticket ≡ false → self.new ≡ self.old }
@@ -97,28 +99,28 @@ impl<B: ledger::Ledger> Ledger<B> {
         }
     }
 
-    /// How many were begun.
+    /// Returns the number of tickets that were begun.
     pub fn begun(&self) -> u64
         ensures { result ≡ self.now.begun }
     {
         self.begun
     }
 
-    /// How many were spent.
+    /// Returns the number of tickets that were spent.
     pub fn spent(&self) -> u64
         ensures { result ≡ self.now.spent }
     {
         self.spent
     }
 
-    /// How many were handed back.
+    /// Returns the number of tickets that were handed back.
     pub fn handed_back(&self) -> u64
         ensures { result ≡ self.now.back }
     {
         self.back
     }
 
-    /// How many are out, neither spent nor handed back.
+    /// Returns the number of tickets that are out, neither spent nor handed back.
     pub fn out(&self) -> u64
         ensures out { result ≡ self.now.out }
         ensures all { AddUp self.now }
@@ -127,7 +129,7 @@ impl<B: ledger::Ledger> Ledger<B> {
     }
 }
 
-// Ends a ticket. True if it was counted.
+// Ends a ticket. Returns whether it was counted.
 fn take_in<B: ledger::Ledger>(book: &mut Book<B>, pool: &mut Share<B>, ticket: Ticket<B>) -> bool
     requires { pool.old.amount ≡ 0 }
     ensures is { result ≡ ticket }

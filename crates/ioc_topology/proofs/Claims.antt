@@ -10,14 +10,14 @@ use Rattle.ioc_topology.specs.Gathered.{AreApart, IsMarked, IsClaimed, AreFound}
 none_there : {X : Type 0} (x : X) → Contains [] x → ⊥
 none_there x h = omega (arith, h.1)
 
--- nothing is claimed at first
+-- No records are marked at first.
 pub claimed_none : (marks : List Bool) → IsClaimed marks marks []
 claimed_none marks = record { free = λ p q m h. absurd (none_there q h); marked = λ q. (λ m. inl m, ⊎_elim (λ m. m) (λ h. absurd (none_there q h))) }
 
 true_false : true ≡ false → ⊥
 true_false e = search rules
 
--- one more mark
+-- A marked record was marked before, or is the one marked last.
 mark_from : (marks : List Bool) (n q : ℕ) → IsMarked (set marks n true) q → IsMarked marks q ⊎ (q ≡ n)
 mark_from marks n q m = ⊎_elim (λ e. inr e) (λ ne. inl (sym (get_or-set_other marks n q true false ne) ∙ m)) (cases_eq q n)
 
@@ -54,7 +54,7 @@ claimed_more before after ns n h lt clear = record {
   );
 }
 
--- in a list that goes on, an element is where it was, or the last
+-- An element that satisfies a predicate still does so in a list with one more element.
 any_left : {X : Type 0} (P : X → Type 0) (xs : List X) (x : X) → Any P xs → Any P (xs ++ x ∷ [])
 any_left {X} P xs x h =
     let k : ℕ = h.0 in

@@ -1,9 +1,10 @@
--- What a closure's own clauses say of a call that was made for the caller.
+-- What the contract of a closure says of a call that was made for the caller.
 use Rattle.std.proofs.Common.{subst}
 use Rattle.std.specs.Borrow.{MutBor}
 use Rattle.std.specs.Fn.{FnOnceReturnsAtMut, Once}
 
--- where each call has Q between the value before, the answer and the value after, so has this one
+-- If each call of the closure satisfies `Q` for the value before, the result and the value after,
+-- so does this one.
 pub through : {F T V : Type 0} (g : Once F (MutBor T × Unit {0}) (V × (MutBor T × Unit {0}))) (f : F) (Q : T → V → T → Type 0) (s t : T) (r : V)
     → ((x y : MutBor T) (r : V) → g.post f (x, tt) (r, (y, tt)) → Q x.now r y.now)
     → FnOnceReturnsAtMut g f s r t

@@ -13,26 +13,27 @@ use std::marker::Model;
 use std::sync::atomic::{AtomicU64, Ordering};
 use std::sync::{Arc, Mutex, RwLock, Wait};
 
-/// A set's lock. It lies in a box, so that little room is cleared where a cell is let go.
+/// The lock of a set. It is boxed, so that dropping a cell clears little memory.
 pub type Cell<S> = Arc<Box<Mutex<S>>, Global>;
 
-// The home of a record whose set wasn't added yet: no cell has this key.
+// The home of a record whose set wasn't added yet. No cell has this key.
 const NOWHERE: u64 = u64::MAX;
 
-/// A cell, and its key.
+/// A cell with its key.
 #[derive(Drop)]
 pub struct Place<S: Locked> {
     pub(crate) key: usize,
     pub(crate) cell: Cell<S>,
 }
 
-/// The locks of all sets, and the home of each record. Contracts see it as the number of records that it was made for.
+/// The locks of all sets, and the home of each record. Contracts see the number of records that it
+/// was made for.
 ///
-/// Locks are taken in this order: the topology guard, then cells by rising key. The list of cells is held for a moment each time, and
-/// never while a cell's lock is awaited.
+/// Locks are taken in this order: the topology guard, then cells by rising key. The list of cells
+/// is locked only briefly, and never while the lock of a cell is awaited.
 #[derive(Drop)]
 pub struct Directory<S: Locked> {
-    // Of each record, the key of its set's cell: as it is, or was a moment ago.
+    // The key of the cell of each record's set. It may be out of date by the time it is used.
     pub(crate) homes: Vec<AtomicU64>,
     pub(crate) cells: RwLock<Slab<Cell<S>>>,
     pub(crate) topology: Mutex<()>,
@@ -47,11 +48,11 @@ impl<S: Locked> Model for Directory<S> {
 }
 
 impl<S: Locked> Directory<S> {
-    /// A directory for the records of the first so many numbers, of which no set was added yet.
+    /// Creates a directory for the records with the numbers below `count`, without sets.
     ///
     /// # Errors
     ///
-    /// [`AllocError`] where memory is wanting.
+    /// [`AllocError`] if allocation fails.
     pub fn new(alloc: Global, count: usize) -> Result<Directory<S>, AllocError>
         ensures { IfOk result (λ d. d ≡ count) }
     {
@@ -66,25 +67,26 @@ impl<S: Locked> Directory<S> {
         })
     }
 
-    /// How many records it was made for: theirs are the numbers below.
+    /// Returns the number of records that the directory was made for, which have the numbers below
+    /// it.
     pub fn len(&self) -> usize
         ensures { result ≡ self.now }
     {
         self.homes.len()
     }
 
-    /// Takes a set, in a cell of its own that is the home of its records from now on.
+    /// Adds a set, in a new cell that becomes the home of its records.
     ///
     /// # Errors
     ///
-    /// [`AllocError`] where memory is wanting: nothing has changed then, and the set is let go.
+    /// [`AllocError`] if allocation fails; the directory is unchanged then, and the set is dropped.
     pub fn add(&mut self, alloc: Global, set: S) -> Result<(), AllocError>
         ensures { self.new ≡ self.old }
     {
         let cells = self.cells.get_mut();
         cells.reserve(1)?;
         let mut cell = Arc::new(alloc, Box::new(alloc, Mutex::new(set))?)?;
-        // Nobody else has this cell yet.
+        // No one else has this cell yet.
         let Some(mutex) = Arc::get_mut(&mut cell) else {
             return Err(AllocError);
         };
@@ -93,7 +95,8 @@ impl<S: Locked> Directory<S> {
         Ok(())
     }
 
-    /// The cell at a key, if it hasn't been left since. The list is mostly free to be read: a call that can't wait is shorter.
+    /// Returns the cell with a key, unless it was removed. Tries the lock of the list first,
+    /// because it is mostly free and that call is shorter.
     #[inline(always)]
     pub(crate) fn cell_at(&self, rt: &impl Wait, key: usize) -> Option<Cell<S>> {
         match self.cells.try_read() {
@@ -102,7 +105,7 @@ impl<S: Locked> Directory<S> {
         }
     }
 
-    /// Where a record is; none where it moves right now.
+    /// Returns the place of a record, or `None` if it is being moved.
     #[inline(always)]
     pub(crate) fn place_of(
         &self,
@@ -122,12 +125,13 @@ impl<S: Locked> Directory<S> {
         }
     }
 
-    /// The lock of the set in which a record was found. It may have moved on since: who has got the lock looks whether it is there, and
-    /// else asks again.
+    /// Returns the lock of the set in which a record was found. The record may have moved since:
+    /// once the lock is taken, the caller checks whether the record is there, and otherwise asks
+    /// again.
     ///
     /// # Errors
     ///
-    /// [`IocError::NoRecord`]: the directory was made for fewer records.
+    /// [`IocError::NoRecord`] if the directory was made for fewer records.
     #[inline(always)]
     pub fn lock_of(&self, rt: &impl Wait, number: RecordNo) -> Result<Cell<S>, IocError>
         ensures known { OnOk result (number < self.now) }
@@ -141,12 +145,12 @@ impl<S: Locked> Directory<S> {
         unreachable!()
     }
 
-    /// Works on the set of a record, under its lock. The work moves no record to another set, and takes no other lock of the
-    /// directory.
+    /// Calls `work` with the set of a record, under its lock. `work` moves no record to another
+    /// set, and takes no other lock of the directory.
     ///
     /// # Errors
     ///
-    /// [`IocError::NoRecord`]: the directory was made for fewer records.
+    /// [`IocError::NoRecord`] if the directory was made for fewer records.
     pub fn with_set<T, F: FnOnce(&mut S) -> T, R: Wait>(
         &self,
         rt: &R,
@@ -174,7 +178,8 @@ impl<S: Locked> Directory<S> {
     }
 }
 
-// The cell of a list at a key, if it hasn't been left since. One whose count of holders is full is none either: who looks for it looks again.
+// Returns the cell of a list with a key, unless it was removed. If its reference count is at the
+// maximum there is no cell either, and the caller tries again.
 #[inline(always)]
 fn listed_at<S>(cells: &Slab<Cell<S>>, key: usize) -> Option<Cell<S>> {
     match cells.get(key) {
@@ -183,7 +188,7 @@ fn listed_at<S>(cells: &Slab<Cell<S>>, key: usize) -> Option<Cell<S>> {
     }
 }
 
-/// The cell with this key is the home of a set's records from now on.
+/// Makes the cell with this key the home of a set's records.
 pub(crate) fn set_homes<S: Locked>(homes: &[AtomicU64], set: &S, key: usize) {
     for place in 0..set.len() {
         if let Some(home) = homes.get(set.number_at(place).index()) {

@@ -1,4 +1,4 @@
-//! All sets at the end.
+//! Gathers all sets when the engine ends.
 ghost use Rattle.std.specs.Prelude.{◌≡◌, ◌↔◌, ◌<◌, ℕ, false, IsTrue, IfOk, slice_index_or, OnOk, OnErr};
 ghost use Rattle.ioc_topology.specs.Gathered.{HoldEach, IsMarked, IsClaimed};
 
@@ -9,12 +9,13 @@ use std::mem;
 use std::sync::{Arc, Wait};
 
 impl<S: Locked> Directory<S> {
-    /// Takes all sets out of the directory, which then is one for no record: each of the records that it was made for, and none in two
-    /// sets. It waits for ever if a record is still missing. The work grows with the records, not with their square.
+    /// Takes all sets out of the directory, which is left for no record. Together they have each
+    /// record that the directory was made for, and none twice. Waits forever if a record is
+    /// missing. Takes time proportional to the number of records.
     ///
     /// # Errors
     ///
-    /// [`AllocError`] where memory is wanting: nothing has changed then.
+    /// [`AllocError`] if allocation fails; nothing has changed then.
     pub fn gather<R: Wait>(&mut self, rt: &R, alloc: Global) -> Result<Vec<S>, AllocError>
         ensures all { IfOk result (λ v. HoldEach S.numbers v.items self.old) }
         ensures left { OnOk result (self.new ≡ 0) }
@@ -37,7 +38,7 @@ impl<S: Locked> Directory<S> {
         unreachable!()
     }
 
-    // The cells of all sets.
+    // Returns the cells of all sets.
     pub(crate) fn all_cells(
         &self,
         rt: &impl Wait,
@@ -52,7 +53,8 @@ impl<S: Locked> Directory<S> {
     }
 }
 
-// Do the sets hold each of the first records, and none in two of them? The marks are of the records that were found.
+// Returns whether the sets have each of the first `count` records, and none twice. `marks` are
+// those of the records found so far.
 fn hold_each<S: Locked>(sets: &[S], marks: &mut [bool], count: usize) -> bool
     requires { (q : ℕ) → slice_index_or marks.old q false ≡ false }
     ensures { IsTrue result → HoldEach S.numbers sets.now count }
@@ -65,7 +67,7 @@ fn hold_each<S: Locked>(sets: &[S], marks: &mut [bool], count: usize) -> bool
     all_marked(marks, count)
 }
 
-// Are the first so many marked?
+// Returns whether the first `count` records are marked.
 fn all_marked(marks: &[bool], count: usize) -> bool
     ensures { IsTrue result ↔ ((q : ℕ) → q < count → IsMarked marks.now q) }
 {
@@ -77,7 +79,7 @@ fn all_marked(marks: &[bool], count: usize) -> bool
     true
 }
 
-// Marks the records of a set; false where one of them had its mark.
+// Marks the records of a set. Returns `false` if one of them was marked before.
 fn claim<S: Locked>(set: &S, marks: &mut [bool]) -> bool
     ensures { IsTrue result → IsClaimed marks.old marks.new (S.numbers set.now) }
 {

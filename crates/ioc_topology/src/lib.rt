@@ -1,8 +1,9 @@
-//! Which lock has the set of a record.
+//! The locks of the sets of records, and the set of each record.
 //!
-//! Records are kept in sets, each under a lock of its own. A call looks up the set of its record, locks it, and looks again
-//! whether the record is there, else it tries again. A link change takes the topology guard and then one or two sets, by
-//! rising key, and no other set. Application Developer's Guide, "Database Locking, Scanning, and Processing", lock sets.
+//! Records are kept in sets, each under its own lock. A call looks up the set of its record, locks
+//! it, and checks that the record is there, otherwise it tries again. A link change takes the
+//! topology guard and then one or two sets, by rising key, and no other set. Application
+//! Developer's Guide, "Database Locking, Scanning, and Processing", lock sets.
 #![tactic(auto)]
 
 pub mod directory;

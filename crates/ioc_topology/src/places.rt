@@ -1,4 +1,5 @@
-//! The pieces of a link change: where the sets of two records are, their locks, and their homes afterwards.
+//! The parts of a link change: the places of the sets of two records, their locks, and the homes of
+//! the records afterwards.
 ghost use Rattle.std.specs.Prelude.{◌↔◌, ◌<◌, IsTrue, IfSome, IfOk, IfErr, OnOk};
 ghost use Rattle.ioc_topology.specs.Change.{AreKnown, AreLent, AreSound, OtherIsRefused, LinkIsRefused};
 
@@ -9,17 +10,17 @@ use ioc_values::IocError;
 use std::alloc::{AllocError, Global};
 use std::sync::{Arc, Mutex, MutexGuard, Wait};
 
-/// Two cells with sets of no records, which nobody else knows yet.
+/// Two new cells with sets without records, in which no one looks for a record yet.
 #[derive(Drop)]
 pub struct NewPlaces<S: Locked> {
-    // Of the second set, where no other set is concerned.
+    // The place of the second set, if no other set is concerned.
     beside: Place<S>,
-    // Of the spare set.
+    // The place of the spare set.
     spare: Place<S>,
 }
 
 impl<S: Locked> NewPlaces<S> {
-    /// The lock of the spare set.
+    /// Locks the spare set.
     pub fn lock_spare<R: Wait>(&self, rt: &R) -> MutexGuard<'_, S> {
         self.spare.cell.lock(rt)
     }
@@ -33,7 +34,7 @@ pub struct BothPlaces<S: Locked> {
 }
 
 impl<S: Locked> BothPlaces<S> {
-    /// The locks of both sets, taken by rising key.
+    /// Locks both sets, by rising key.
     pub fn lock<R: Wait>(&self, rt: &R) -> (MutexGuard<'_, S>, MutexGuard<'_, S>) {
         if self.first.key < self.second.key {
             let low = self.first.cell.lock(rt);
@@ -48,16 +49,16 @@ impl<S: Locked> BothPlaces<S> {
 }
 
 impl<S: Locked> Directory<S> {
-    /// The topology guard: while it is held, no other caller changes a link.
+    /// Locks the topology: while the guard is held, no other caller changes a link.
     pub fn guard_topology<R: Wait>(&self, rt: &R) -> MutexGuard<'_, ()> {
         self.topology.lock(rt)
     }
 
-    /// The cells that a link change may need.
+    /// Creates the cells that a link change may need.
     ///
     /// # Errors
     ///
-    /// [`AllocError`] where memory is wanting: nothing has changed then.
+    /// [`AllocError`] if allocation fails; nothing has changed then.
     pub fn new_places<R: Wait>(&self, rt: &R, alloc: Global) -> Result<NewPlaces<S>, AllocError> {
         let beside = self.new_place(rt, alloc)?;
         match self.new_place(rt, alloc) {
@@ -69,12 +70,13 @@ impl<S: Locked> Directory<S> {
         }
     }
 
-    /// The places of both records; none where one of them moves right now. Where there is no other record, or both are in one set, the
-    /// second place is a new one.
+    /// Returns the places of both records, or `None` if one of them is being moved. If there is no
+    /// other record, or both are in the same set, the second place is a new one.
     ///
     /// # Errors
     ///
-    /// [`IocError::NoRecord`]: the directory was made for fewer records. [`IocError::NoMemory`].
+    /// [`IocError::NoRecord`] if the directory was made for fewer records. [`IocError::NoMemory`]
+    /// if the reference count of a cell is at the maximum.
     pub fn both_places<R: Wait>(
         &self,
         rt: &R,
@@ -94,14 +96,14 @@ impl<S: Locked> Directory<S> {
         Ok(Some(BothPlaces { first, second }))
     }
 
-    /// Takes new cells from the list, whose sets still have no record.
+    /// Removes new cells, whose sets have no record.
     pub fn leave_new<R: Wait>(&self, rt: &R, new: &NewPlaces<S>) {
         self.leave(rt, new.beside.key);
         self.leave(rt, new.spare.key);
     }
 
-    /// The records of the three sets of a link change, which are locked, are found where they are from now on; a set that ended with no
-    /// record is let go.
+    /// Makes the three cells of a link change, whose sets are locked, the homes of the records that
+    /// they have now, and removes those without records.
     pub fn settle_all<R: Wait>(
         &self,
         rt: &R,
@@ -119,7 +121,7 @@ impl<S: Locked> Directory<S> {
         }
     }
 
-    // The place of the other record, where it isn't the first; else the place beside it.
+    // Returns the place of the other record if it isn't the first place, otherwise `beside`.
     fn second_place(
         &self,
         rt: &impl Wait,
@@ -144,7 +146,7 @@ impl<S: Locked> Directory<S> {
         }))
     }
 
-    // A new cell with a set of no records.
+    // Creates a cell with a set without records.
     fn new_place(&self, rt: &impl Wait, alloc: Global) -> Result<Place<S>, AllocError> {
         let cell = Arc::new(alloc, Box::new(alloc, Mutex::new(S::empty(alloc)))?)?;
         let listed = Arc::try_clone(&cell)?;
@@ -152,7 +154,8 @@ impl<S: Locked> Directory<S> {
         Ok(Place { key, cell })
     }
 
-    // The records of a set, which is locked, have this home from now on; where there are none, its cell is left.
+    // Makes a cell the home of the records of its set, which is locked, or removes the cell if
+    // there are none.
     fn settle(&self, rt: &impl Wait, set: &S, key: usize) {
         if set.len() == 0 {
             self.leave(rt, key);
@@ -161,13 +164,13 @@ impl<S: Locked> Directory<S> {
         }
     }
 
-    // Takes a cell from the list. Who waits for it will look again.
+    // Removes a cell from the list. Callers that wait for it will look again.
     fn leave(&self, rt: &impl Wait, key: usize) {
         let _left = self.cells.write(rt).try_remove(key);
     }
 }
 
-/// Tells the caller what always holds of three sets.
+/// States the invariants of three sets. Does nothing.
 pub fn all_sound<S: Locked>(first: &S, second: &S, spare: &S)
     ensures { AreSound S.sound first.now second.now spare.now }
 {
@@ -176,7 +179,7 @@ pub fn all_sound<S: Locked>(first: &S, second: &S, spare: &S)
     spare.is_sound();
 }
 
-/// Are these the sets that a link change is to be lent?
+/// Returns whether a link change works on these sets.
 pub fn are_lent<S: Locked>(
     first: &S,
     second: &S,

@@ -1,4 +1,4 @@
-//! Link changes: work on one or two sets, of which any may part or join.
+//! Link changes, which work on one or two sets and may part or join them.
 ghost use Rattle.std.specs.Prelude.{◌≡◌, IfOk, IfErr, OnOk, OnErr};
 ghost use Rattle.std.specs.Fn.{FnOnceReturnsAtMut, FnOnceTakesAtMut};
 ghost use Rattle.ioc_topology.specs.Change.{AreKnown, AreLent, AreSound, LinkIsRefused};
@@ -14,14 +14,16 @@ use std::mem;
 use std::sync::Wait;
 
 impl<S: Locked> Directory<S> {
-    /// Works on the set of a record, on that of the other one, and on a set of no records, under the topology guard and the
-    /// locks of these sets alone; what the caller brings along is lent with them, and comes back. Afterwards the records of each set are
-    /// found where they are now, and a set that ended with no record is let go. All memory is taken before the work: what the work does
-    /// stands. The work moves records among the three sets, adds none, and takes no other lock of the directory.
+    /// Calls `work` with the set of a record, the set of the other record, a set without records,
+    /// and `along`, which is returned. Holds the topology guard and the locks of these sets alone.
+    /// Afterwards each set is the home of the records that it has then, and a set without records
+    /// is dropped. All memory is allocated before the call, so the effects of `work` remain. `work`
+    /// moves records among the three sets, adds none, and takes no other lock of the directory.
     ///
     /// # Errors
     ///
-    /// [`IocError::NoRecord`]: the directory was made for fewer records. [`IocError::NoMemory`]. Nothing has changed then.
+    /// [`IocError::NoRecord`] if the directory was made for fewer records. [`IocError::NoMemory`]
+    /// if allocation fails. Nothing has changed then.
     pub fn relink<T, A: Drop, F: FnOnce(&mut Lent<S, A>) -> T, R: Wait>(
         &self,
         rt: &R,
@@ -66,7 +68,7 @@ impl<S: Locked> Directory<S> {
     }
 }
 
-// Works on three sets, with what the caller brings along.
+// Calls `work` with three sets and the value of the caller.
 fn lend<S: Locked, T, A: Drop, F: FnOnce(&mut Lent<S, A>) -> T>(
     first: &mut S,
     second: &mut S,

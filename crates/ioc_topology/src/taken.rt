@@ -1,4 +1,4 @@
-//! Sets that are taken out of their cells for a while, for a call that is about all of them at once.
+//! Sets that are taken out of their cells for the time of a call that concerns all of them at once.
 ghost use Rattle.std.specs.Prelude.{◌≡◌, true, All, IfOk, IfSome};
 ghost use Rattle.std.specs.Borrow.{Bor};
 ghost use Rattle.std.specs.Fn.{FnReturnsAt};
@@ -9,22 +9,24 @@ use std::alloc::{AllocError, Global};
 use std::mem;
 use std::sync::Wait;
 
-/// Sets that were taken out of their cells. Who looks for one of their records meanwhile finds a set of no records, and looks again, as
-/// while a record moves. It can't be dropped: whoever has it has to put the sets back.
+/// Sets that were taken out of their cells. A caller that looks for one of their records meanwhile
+/// finds a set without records and looks again, as while a record is being moved. It can't be
+/// dropped: the sets have to be put back.
 pub struct Taken<S: Locked> {
-    /// The sets. Who works on them adds none and takes none away.
+    /// The sets. Their number must not change.
     pub sets: Vec<S>,
     // The cell of each, in the same order.
     cells: Vec<Cell<S>>,
 }
 
 impl<S: Locked> Directory<S> {
-    /// Takes each set that meets the test out of its cell. The caller holds the topology guard until all are put back: so none parts or
-    /// joins meanwhile. One cell is locked after another, and the test takes no lock of the directory.
+    /// Takes each set that passes the test out of its cell. The caller holds the topology guard
+    /// until all are put back, so no set parts or joins another meanwhile. The cells are locked one
+    /// after another, and the test takes no lock of the directory.
     ///
     /// # Errors
     ///
-    /// [`AllocError`] where memory is wanting: nothing has changed then.
+    /// [`AllocError`] if allocation fails; nothing has changed then.
     pub fn take_where<F: Fn(&S) -> bool, R: Wait>(
         &self,
         rt: &R,
@@ -57,14 +59,14 @@ impl<S: Locked> Directory<S> {
     }
 }
 
-// The set lies in the cell from now on.
+// Puts a set into a cell.
 fn put_in<S: Locked>(cell: &mut S, set: S)
     ensures { cell.new ≡ set }
 {
     *cell = set;
 }
 
-// The set of a cell, if it meets the test; a set of no records is left there.
+// Takes the set of a cell if it passes the test, and leaves a set without records there.
 fn take_if<S: Locked, F: Fn(&S) -> bool, R: Wait>(
     rt: &R,
     alloc: Global,

@@ -1,4 +1,4 @@
-//! The record types: a record of whatever type, by an enum over the own fields of each.
+//! The record types: a record of any type, as an enum over the type-specific fields.
 #![tactic(auto)]
 
 mod on_heap;

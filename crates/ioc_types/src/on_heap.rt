@@ -1,4 +1,4 @@
-//! What a body on the heap does: what it does by itself.
+//! The operations of a body on the heap, which are those of the body itself.
 ghost use Rattle.std.specs.Prelude.{◌≡◌, IsTrue, is_some};
 ghost use Rattle.ioc_common.specs.Wants.{puts_out};
 ghost use Rattle.ioc_values.specs.Conversion.{value_in};

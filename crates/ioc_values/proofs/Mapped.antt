@@ -1,4 +1,4 @@
--- Where a test passes first in a list that a function makes.
+-- The first element of a mapped list that passes a test.
 use Rattle.std.proofs.Common.{◌≡◌, Bool, List, [], ◌∷◌, refl}
 use Rattle.std.specs.Prelude.{map, not, position}
 use Rattle.std.specs.List.{prefix_len}

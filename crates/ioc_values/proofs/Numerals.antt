@@ -6,7 +6,7 @@ use Rattle.std.proofs.lemmas.Bool.{le-ltb}
 use Rattle.std.proofs.Math.Nat.{mul-le-mul_left}
 use Rattle.ioc_values.specs.Number.{numeral, all_digits, below}
 
--- what the digits write behind those of n
+-- The number that the digits spell after those of `n`.
 abbrev pub numeral_after : ℕ → ℕ → List ℕ → Option ℕ
 numeral_after radix n [] = Some n
 numeral_after radix n (c ∷ cs) = cond (ltb (digit_value c) radix) (numeral_after radix (n * radix + digit_value c) cs) None
@@ -19,7 +19,7 @@ after_is : (radix n : ℕ) (cs : List ℕ) → numeral_after radix n cs ≡ cond
 after_is radix n [] = refl
 after_is radix n (c ∷ cs) = one_more _ _ _ _ (after_is radix (n * radix + digit_value c) cs)
 
--- behind none they write the number
+-- The digits after none spell their number.
 pub numeral_is : (radix : ℕ) (cs : List ℕ) → 0 < length cs → numeral_after radix 0 cs ≡ numeral radix cs
 numeral_is radix [] h = absurd (omega arith)
 numeral_is radix (c ∷ cs) h = after_is radix 0 (c ∷ cs)
@@ -31,7 +31,7 @@ none_either false limit o h = refl
 grows : (radix n d : ℕ) → 1 ≤ radix → n ≤ n * radix + d
 grows radix n d h = omega (arith, mul-le-mul_left n h)
 
--- a number that passed the limit stays past it
+-- A number that has reached the limit stays at or above it.
 pub numeral_past : (limit radix n : ℕ) (cs : List ℕ) → 1 ≤ radix → limit ≤ n → below limit (numeral_after radix n cs) ≡ None
 numeral_past limit radix n [] r h = rw (le-ltb n limit h) refl
 numeral_past limit radix n (c ∷ cs) r h =
@@ -42,6 +42,6 @@ some_where : (b : Bool) (v : ℕ) → is_some (cond b (Some v) None) ≡ b
 some_where true v = refl
 some_where false v = refl
 
--- there is a number where each byte is a digit
+-- A text of at least one byte spells a number if and only if each byte is a digit.
 pub some_numeral : (radix c : ℕ) (cs : List ℕ) → is_some (numeral radix (c ∷ cs)) ≡ all_digits radix (c ∷ cs)
 some_numeral radix c cs = some_where _ _

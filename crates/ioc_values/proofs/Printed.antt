@@ -1,4 +1,4 @@
--- A number that is printed in decimal is read again.
+-- A number printed in decimal reads back as the same number.
 use Rattle.std.proofs.Common.{◌≡◌, ℕ, suc, ◌≤◌, ◌<◌, Bool, true, false, cond, ◌&&◌, eqb, ltb, ◌^◌, List, [], ◌∷◌, reverse, Option, Some, None, ℤ, pos, negsuc, refl, ap, ◌∙◌, arith}
 use mathlib.Core.List.{reverse_aux}
 use Rattle.std.specs.List.{AllByRecursion}
@@ -15,7 +15,7 @@ use Rattle.std.proofs.lemmas.Fmt.{decimal_is_IsNumeral}
 use Rattle.ioc_values.specs.Trim.{is_blank, skip_front, trimmed}
 use Rattle.ioc_values.specs.Number.{numeral, below, all_digits, magnitude, signed, number_of}
 
--- ---- nothing to trim
+-- ---- Nothing to trim
 
 abbrev pub IsSolid : Bool → List ℕ → Type 0
 IsSolid tabs bs = AllByRecursion (λ b. is_blank tabs b ≡ false) bs
@@ -32,7 +32,7 @@ pub trim_solid : (tabs : Bool) (xs : List ℕ) → IsSolid tabs xs → trimmed (
 trim_solid tabs xs h =
     ap (λ (l : List ℕ). reverse (skip_front (is_blank tabs) (reverse l))) (skip_solid tabs xs h) ∙ ap reverse (skip_solid tabs (reverse xs) (solid_onto tabs xs [] h tt)) ∙ reverse-reverse xs
 
--- ---- digits
+-- ---- Digits
 
 digit_range : (c : ℕ) → digit_value c < 10 → (48 ≤ c) × (c < 58)
 digit_range c h = (grind (arith, nat_tests), grind (arith, nat_tests))
@@ -76,7 +76,7 @@ signed_of_minus : (cs : List ℕ) (n : ℕ) → IsNumeral 10 cs → digits_value
 unfolding signed
 signed_of_minus cs n h e = rw (magnitude_of_digits cs h, e) refl
 
--- nothing is dropped at the ends of a printed number
+-- A printed number has no blanks at its ends.
 pub decimal_solid : (tabs : Bool) (z : ℤ) → FitsSigned w64 z → trimmed (is_blank tabs) (signed_decimal z) ≡ signed_decimal z
 decimal_solid tabs (pos n) h =
     let d = decimal_is_IsNumeral n (omega (arith, ints)) in
@@ -85,7 +85,7 @@ decimal_solid tabs (negsuc n) h =
     let d = decimal_is_IsNumeral (suc n) (omega (arith, ints)) in
     trim_solid tabs (45 ∷ decimal (suc n)) (digit_solid tabs 45 (omega arith), digits_solid tabs (decimal (suc n)) d.0.1)
 
--- and it writes the number
+-- A printed number spells the number.
 pub decimal_signed : (z : ℤ) → FitsSigned w64 z → signed (signed_decimal z) ≡ Some z
 decimal_signed (pos n) h =
     let d = decimal_is_IsNumeral n (omega (arith, ints)) in
@@ -97,7 +97,7 @@ decimal_signed (negsuc n) h =
 pub printed_again : (z : ℤ) → FitsSigned w64 z → number_of (signed_decimal z) ≡ Some z
 printed_again z h = ap signed (decimal_solid false z h) ∙ decimal_signed z h
 
--- ---- digits alone
+-- ---- Digits alone
 
 and_both : (a b : Bool) → (a && b) ≡ true → (a ≡ true) × (b ≡ true)
 and_both true b h = (refl, h)
@@ -118,7 +118,7 @@ read_by : (b : Bool) (v n : ℕ) → Some n ≡ below (2 ^ 64) (cond b (Some v) 
 read_by true v n is = (refl, kept_is (ltb v (2 ^ 64)) v n is)
 read_by false v n is = cc
 
--- decimal digits alone write their number, without a sign and with nothing to trim
+-- Decimal digits alone spell their number: they have no sign, and nothing is trimmed.
 pub plain_number : (cs : List ℕ) (n : ℕ) → Some n ≡ below (2 ^ 64) (numeral 10 cs) → number_of cs ≡ Some (pos n)
 plain_number [] n is = cc
 plain_number (c ∷ cs) n is =

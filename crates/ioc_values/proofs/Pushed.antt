@@ -1,4 +1,4 @@
--- Zeros behind a byte that came in.
+-- The padding stays zero when a byte is appended.
 use Rattle.std.proofs.Common.{◌≡◌, ◌<◌, ◌-◌, ◌+◌, List, ℕ, drop, set, replicate, ap, sym, ◌∙◌, arith}
 use Rattle.std.proofs.lemmas.List.{drop-set-lt, drop-drop, drop-replicate}
 

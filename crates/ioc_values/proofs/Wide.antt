@@ -1,4 +1,4 @@
--- Numbers past 64 bits are in no range.
+-- Numbers that don't fit 64 bits are in no range.
 use Rattle.std.proofs.Common.{◌≡◌, ℕ, ◌^◌, ◌≤◌, min, Option, Some, None, ℤ, pos, negsuc, refl, arith}
 use Rattle.std.specs.Option.{option_and_then}
 use Rattle.std.proofs.lemmas.Bool.Decides.{nat_tests}
@@ -8,7 +8,7 @@ use Rattle.ioc_values.specs.declared.value.Value.{Value}
 use Rattle.ioc_values.specs.Number.{within_i64}
 use Rattle.ioc_values.specs.Conversion.{signed_value, unsigned_value, value_in, numbered}
 
--- a number below the limit fits 64 bits
+-- A number below the limit fits 64 bits.
 signed_kept : (limit : ℕ) (made : ℤ → Value) (z : ℤ) → limit ≤ 2 ^ 63 → signed_value limit made z ≡ option_and_then (signed_value limit made) (within_i64 (Some z))
 signed_kept limit made (pos n) h = grind (arith, nat_tests)
 signed_kept limit made (negsuc n) h = grind (arith, nat_tests)

@@ -1,5 +1,5 @@
--- What a field makes of a value. Record Reference Manual, "Fields: data types"; Application Developer's Guide,
--- "Database Access: conversion of field types".
+-- The conversion of a value to what a field holds. Record Reference Manual, "Fields: data types";
+-- Application Developer's Guide, "Database Access: conversion of field types".
 use Rattle.std.specs.Prelude.{ℕ, ◌^◌, Bool, true, false, List, map, ℤ, pos, negsuc, Option, Some, None, Result, Err, length, take, position, min, nat_eq, nat_lt, nat_le, if◌then◌else◌}
 use Rattle.std.specs.Fmt.{signed_decimal}
 use Rattle.std.specs.Option.{ok_or, option_and_then}
@@ -16,7 +16,7 @@ use Rattle.ioc_values.specs.declared.value.Value.{Value}
 use Rattle.ioc_values.specs.declared.value.Value.TheVariants.{Long, ULong, Short, UShort, UChar, Enum, Int64, Text}
 use Rattle.ioc_values.specs.Number.{is_within, number_of}
 
--- the number that a value is; a text is none
+-- The number of a value; a text has none.
 abbrev pub number_of_value : Value → Option ℤ
 number_of_value (Long z) = Some z
 number_of_value (ULong n) = Some (pos n)
@@ -27,16 +27,16 @@ number_of_value (Enum n) = Some (pos n)
 number_of_value (Int64 z) = Some z
 number_of_value (Text text) = None
 
--- a number from -limit to limit - 1
+-- The value of a number from -limit to limit - 1.
 abbrev pub signed_value : ℕ → (ℤ → Value) → ℤ → Option Value
 signed_value limit made z = if is_within limit z then Some (made z) else None
 
--- a number from 0 to limit - 1
+-- The value of a number from 0 to limit - 1.
 abbrev pub unsigned_value : ℕ → (ℕ → Value) → ℤ → Option Value
 unsigned_value limit made (pos n) = if nat_lt n limit then Some (made n) else None
 unsigned_value limit made (negsuc n) = None
 
--- a number as a value of the range, where it is in range
+-- The number as a value of the range, if it is in range.
 unfoldable pub value_in : Range → ℤ → Option Value
 value_in LongRange z = signed_value (2 ^ 31) Long z
 value_in ULongRange z = unsigned_value (2 ^ 32) ULong z
@@ -48,57 +48,57 @@ value_in Int64Range z = signed_value (2 ^ 63) Int64 z
 value_in ZeroRange z = unsigned_value 1 (λ n. Short (pos n)) z
 value_in BitsRange z = unsigned_value 33 UShort z
 
--- the choice or state of that number, of so many; none has a number past 65535
+-- The choice or state with this number, of `count` of them; none has a number above 65535.
 unfoldable pub numbered : ℕ → ℤ → Option Value
 numbered count z = unsigned_value (min count (2 ^ 16)) Enum z
 
--- the number of the choice with exactly this text, or the lowest state
+-- The number of the first choice or state with exactly this text.
 abbrev pub same_text : List (List ℕ) → List ℕ → Option ℕ
 same_text texts text = position (λ t. pointwise nat_eq t text) texts
 
--- and where the text isn't empty
+-- The number of the first state with exactly this text; an empty text names none.
 abbrev pub state_of : List (List ℕ) → List ℕ → Option ℕ
 state_of states text = if nat_eq (length text) 0 then None else same_text states text
 
--- the choice or state, of so many, whose text was found, else the one whose number the text writes
+-- The choice or state that was found by its text, or else the one whose number the text spells.
 abbrev pub found_or_numbered : ℕ → Option ℕ → List ℕ → Option Value
 found_or_numbered count (Some n) text = value_in EnumRange (pos n)
 found_or_numbered count None text = option_and_then (numbered count) (number_of text)
 
--- a kind of field, with the texts that it lends
+-- What a field can hold, with the texts of its choices.
 pub data FieldSort : Type 0 where
   Numbers : Range → FieldSort
   Texts : FieldSort
   Choices : List (List ℕ) → FieldSort
   States : List (List ℕ) → FieldSort
 
--- the kind as the code has it, with its texts as lists of bytes
+-- The sort of a kind, with its texts as lists of bytes.
 unfoldable pub sort_of : Kind → FieldSort
 sort_of (NumberField range) = Numbers range
 sort_of TextField = Texts
 sort_of (MenuField choices) = Choices (map (λ c. c.now) choices.now)
 sort_of (StateField states) = States states.now
 
--- a field that holds a text
+-- Whether the field holds a text.
 abbrev pub is_text : FieldSort → Bool
 is_text Texts = true
 is_text _ = false
 
--- a number in a field
+-- A number converted to what the field holds.
 unfoldable pub of_number : FieldSort → ℤ → Option Value
 of_number (Numbers range) z = value_in range z
 of_number Texts z = Some (Text (signed_decimal z))
 of_number (Choices texts) z = numbered (length texts) z
 of_number (States texts) z = value_in EnumRange z
 
--- a text in a field
+-- A text converted to what the field holds.
 unfoldable pub of_text : FieldSort → List ℕ → Option Value
 of_text (Numbers range) text = option_and_then (value_in range) (number_of text)
 of_text Texts text = Some (Text text)
 of_text (Choices texts) text = found_or_numbered (length texts) (same_text texts text) text
 of_text (States texts) text = found_or_numbered (length texts) (state_of texts text) text
 
--- what a field of the kind makes of a value
+-- A value converted to what the field holds.
 abbrev pub converted : Value → FieldSort → Result Value IocError
 converted (Long z) sort = ok_or (of_number sort z) BadValue
 converted (ULong n) sort = ok_or (of_number sort (pos n)) BadValue
@@ -109,15 +109,16 @@ converted (Enum n) sort = ok_or (of_number sort (pos n)) BadValue
 converted (Int64 z) sort = ok_or (of_number sort z) BadValue
 converted (Text text) sort = ok_or (of_text sort text) BadValue
 
--- a value that a script or a database spells: where it has more than 39 bytes, the first 39, known to be cut
+-- A text from a script or a database as an input; if it has more than 39 bytes, the first 39,
+-- marked as cut.
 unfoldable pub input_of : List ℕ → Input
 input_of text = if nat_le (length text) 39 then InputValue (Text (take 39 text)) else LongText (take 39 text)
 
--- what a field makes of a value that a caller gives: a cut text fits a text field alone
+-- An input converted to what the field holds; a cut text only fits a text field.
 unfoldable pub converted_input : Input → FieldSort → Result Value IocError
 converted_input (InputValue value) sort = converted value sort
 converted_input (LongText text) sort = if is_text sort then converted (Text text) sort else Err BadValue
 
--- what it makes of a value that a script or a database spells
+-- A text from a script or a database converted to what the field holds.
 unfoldable pub converted_text : List ℕ → FieldSort → Result Value IocError
 converted_text text sort = converted_input (input_of text) sort

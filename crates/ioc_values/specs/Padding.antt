@@ -1,4 +1,4 @@
--- Bytes with zeros behind them.
+-- Bytes padded with zeros.
 use Rattle.std.specs.Prelude.{◌≡◌, ◌≤◌, ◌-◌, ◌++◌, List, ℕ, length, take, drop, replicate}
 use Rattle.std.proofs.Common.{take-append-drop, length-take-le, ap, sym, ◌∙◌}
 

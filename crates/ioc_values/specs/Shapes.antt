@@ -1,4 +1,4 @@
--- What a field makes of a value is a value of its sort.
+-- A converted value is a value of the field's sort.
 use Rattle.std.specs.Prelude.{◌≡◌, ℕ, zero, suc, ◌^◌, ◌<◌, min, Bool, true, false, cond, List, length, position, ℤ, pos, negsuc, Option, Some, None, Ok, Err, nat_lt, nat_eq}
 use Rattle.std.specs.Option.{ok_or, option_and_then}
 use Rattle.std.specs.Fmt.{signed_decimal}
@@ -15,7 +15,7 @@ use Rattle.ioc_values.specs.declared.value.Value.TheVariants.{Long, ULong, Short
 use Rattle.ioc_values.specs.Number.{number_of}
 use Rattle.ioc_values.specs.Conversion.{FieldSort, Numbers, Texts, Choices, States, signed_value, unsigned_value, value_in, numbered, found_or_numbered, same_text, state_of, is_text, of_number, of_text, converted, converted_input}
 
--- a value of the range's variant, whose type keeps it in range
+-- Holds if the value has the variant of the range; its type keeps it in range.
 abbrev pub IsInRange : Range → Value → Type 0
 IsInRange LongRange v = (z : ℤ) × (v ≡ Long z)
 IsInRange ULongRange v = (n : ℕ) × (v ≡ ULong n)
@@ -27,7 +27,8 @@ IsInRange Int64Range v = (z : ℤ) × (v ≡ Int64 z)
 IsInRange ZeroRange v = v ≡ Short (pos 0)
 IsInRange BitsRange v = (n : ℕ) × (v ≡ UShort n)
 
--- a value of the variant that a field of the sort holds; of choices, the number of one
+-- Holds if the value has the variant that a field of the sort holds; for choices, if it is the
+-- number of one.
 abbrev pub IsValueOf : FieldSort → Value → Type 0
 IsValueOf (Numbers range) v = IsInRange range v
 IsValueOf Texts v = (t : List ℕ) × (v ≡ Text t)
@@ -66,7 +67,7 @@ numbered_is : (count : ℕ) (z : ℤ) (v : Value) → numbered count z ≡ Some 
 unfolding numbered
 numbered_is count z v is = let u = unsigned_is (min count (2 ^ 16)) Enum z v is in (u.0, u.1, omega (arith, u.2))
 
--- what comes through a number that a text writes
+-- A value made from an optional number is made from a number.
 through : (f : ℤ → Option Value) (o : Option ℤ) (v : Value) → option_and_then f o ≡ Some v → (z : ℤ) × (f z ≡ Some v)
 through f None v is = cc
 through f (Some z) v is = (z, is)
@@ -118,7 +119,7 @@ long_is : (b : Bool) (text : List ℕ) (sort : FieldSort) (v : Value) → cond b
 long_is true text sort v is = converted_is (Text text) sort v is
 long_is false text sort v is = cc
 
--- so does a value that a caller gives
+-- An input that a caller passes converts to a value of the sort.
 pub input_is : (given : Input) (sort : FieldSort) (v : Value) → converted_input given sort ≡ Ok v → IsValueOf sort v
 unfolding converted_input
 input_is (InputValue value) sort v is = converted_is value sort v is

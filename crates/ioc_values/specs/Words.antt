@@ -1,4 +1,4 @@
--- The words in which the programs print refusals.
+-- The words in which the programs print errors.
 use Rattle.std.specs.Prelude.{ℕ, List, ◌++◌, codes, decimal}
 use Rattle.ioc_values.specs.declared.error.IocError.{IocError}
 use Rattle.ioc_values.specs.declared.error.IocError.TheVariants as refusal
@@ -6,7 +6,7 @@ use Rattle.ioc_values.specs.declared.error.DbFault.{DbFault}
 use Rattle.ioc_values.specs.declared.error.BadDbKind.{BadDbKind}
 use Rattle.ioc_values.specs.declared.error.BadDbKind.TheVariants.{Syntax, Unclosed, OpenBody, BadType, BadField, NoMod, BadName, BadValue, BadLink, Duplicate, NoRecord, Macro, LeftOut, TooMany}
 
--- why a database text was refused
+-- The reason why a database text was rejected.
 unfoldable pub kind_words : BadDbKind → List ℕ
 kind_words Syntax = codes "syntax"
 kind_words Unclosed = codes "text not closed"
@@ -23,7 +23,7 @@ kind_words Macro = codes "macro"
 kind_words LeftOut = codes "left out"
 kind_words TooMany = codes "too many"
 
--- the number and the name of a refusal
+-- The number and the name of an error.
 unfoldable pub refusal_words : IocError → List ℕ
 refusal_words refusal.NoRecord = codes "E1 NoRecord"
 refusal_words refusal.NoField = codes "E2 NoField"
@@ -39,11 +39,11 @@ refusal_words refusal.JournalFull = codes "E11 JournalFull"
 refusal_words refusal.Stopped = codes "E12 Stopped"
 refusal_words (refusal.BadDb fault) = codes "E13 BadDb"
 
--- what a program prints of a refused database text: the line too, and why
+-- What a program prints for a rejected database text: the line and the reason too.
 unfoldable pub fault_text : DbFault → List ℕ
 fault_text fault = codes "E13 BadDb line " ++ decimal fault.line ++ codes ": " ++ kind_words fault.kind
 
--- what a program prints of a refusal
+-- What a program prints for an error.
 unfoldable pub refusal_text : IocError → List ℕ
 refusal_text (refusal.BadDb fault) = fault_text fault
 refusal_text refused = refusal_words refused

@@ -1,6 +1,7 @@
-//! Conversion of values to the kinds of fields.
+//! Conversion of values to what a field holds.
 //!
-//! Application Developer's Guide, "Database Definition" (the types of fields) and "Database Access" (conversion).
+//! Application Developer's Guide, "Database Definition" (the types of fields) and "Database Access"
+//! (conversion).
 
 ghost use Rattle.std.specs.Prelude.{◌≡◌, ◌≤◌, length, map, nat_eq, position};
 ghost use Rattle.std.specs.Cmp.Lexicographic.{pointwise};
@@ -16,7 +17,7 @@ use crate::short::Text;
 use crate::value::Value;
 use itoa::Buffer;
 
-/// A number as a value of the range, where it is in range.
+/// Returns the number as a value of the range, or `None` if it is out of range.
 #[tactic(auto, unfolding(crate::specs::Conversion::value_in))]
 fn value_in(range: Range, number: i64) -> Option<Value>
     ensures { result ≡ value_in range number }
@@ -37,7 +38,8 @@ fn value_in(range: Range, number: i64) -> Option<Value>
     }
 }
 
-/// The choice or state of that number, of so many.
+/// Returns the choice or state with this number, or `None` if there is none. There are `count` of
+/// them.
 #[tactic(auto, unfolding(crate::specs::Conversion::numbered))]
 fn numbered(count: usize, number: i64) -> Option<Value>
     ensures { result ≡ numbered count number }
@@ -50,21 +52,21 @@ fn numbered(count: usize, number: i64) -> Option<Value>
     }
 }
 
-/// The number of the choice with exactly this text.
+/// Returns the number of the choice with exactly this text.
 fn choice_of(choices: &[&'static str], text: &[u8]) -> Option<usize>
     ensures { result ≡ same_text (map (λ c. c.now) choices.now) text.now }
 {
     place_of(choices, text)
 }
 
-/// The place of the text among the choices.
+/// Returns the position of the text among the choices.
 fn place_of(choices: &[&'static str], text: &[u8]) -> Option<usize>
     ensures { result ≡ position (λ choice. pointwise nat_eq choice.now text.now) choices.now }
 {
     choices.iter().position(|choice| choice.as_bytes() == text)
 }
 
-/// The lowest state with exactly this text, which isn't empty.
+/// Returns the number of the first state with exactly this text, or `None` if the text is empty.
 fn state_of(states: &[Text], text: &[u8]) -> Option<usize>
     ensures { result ≡ state_of states.now text.now }
 {
@@ -74,14 +76,14 @@ fn state_of(states: &[Text], text: &[u8]) -> Option<usize>
     same_state(states, text)
 }
 
-/// The lowest state with exactly this text.
+/// Returns the number of the first state with exactly this text.
 fn same_state(states: &[Text], text: &[u8]) -> Option<usize>
     ensures { result ≡ same_text states.now text.now }
 {
     states.iter().position(|state| state.as_slice() == text)
 }
 
-/// The number that a text writes, as a value of the range.
+/// Returns the number that the text spells as a value of the range.
 #[tactic(auto, using(crate::proofs::Wide::value_of_wide))]
 fn text_in(range: Range, text: &[u8]) -> Option<Value>
     ensures { result ≡ option_and_then (value_in range) (number_of text.now) }
@@ -89,7 +91,8 @@ fn text_in(range: Range, text: &[u8]) -> Option<Value>
     value_in(range, number(text)?)
 }
 
-/// The choice or state, of so many, whose text was found, else the one whose number the text writes.
+/// Returns the choice or state that was found by its text, or else the one whose number the text
+/// spells. There are `count` of them.
 #[tactic(auto, using(crate::proofs::Wide::numbered_of_wide), unfolding(crate::specs::Conversion::value_in))]
 fn found_or_numbered(count: usize, found: Option<usize>, text: &[u8]) -> Option<Value>
     ensures { result ≡ found_or_numbered count found text.now }
@@ -100,8 +103,9 @@ fn found_or_numbered(count: usize, found: Option<usize>, text: &[u8]) -> Option<
     }
 }
 
-/// A number in a field; none where it is out of range or no choice has it. This isn't inlined, so that the conversion of a text
-/// doesn't clear what a number wants.
+/// Converts a number to what a field of the kind holds. Returns `None` if it is out of range or no
+/// choice has this number. This isn't inlined, so that a conversion of a text doesn't clear the
+/// memory for a number.
 #[inline(never)]
 #[tactic(auto, unfolding(crate::specs::Conversion::of_number, crate::specs::Conversion::sort_of))]
 pub fn of_number(kind: Kind<'_>, number: i64) -> Option<Value>
@@ -115,14 +119,15 @@ pub fn of_number(kind: Kind<'_>, number: i64) -> Option<Value>
     }
 }
 
-/// A number in decimal.
+/// Returns the number in decimal.
 fn decimal(number: i64) -> Text
     ensures { result ≡ signed_decimal number }
 {
     Text::cut(Buffer::new().format(number).as_bytes())
 }
 
-/// A text of at most 39 bytes in a field; none where the field makes nothing of it.
+/// Converts a text of at most 39 bytes to what a field of the kind holds. Returns `None` if it
+/// doesn't convert.
 #[tactic(auto, unfolding(crate::specs::Conversion::of_text, crate::specs::Conversion::sort_of))]
 pub fn of_text(kind: Kind<'_>, bytes: &[u8]) -> Option<Value>
     requires { length bytes.now ≤ 39 }
@@ -136,11 +141,12 @@ pub fn of_text(kind: Kind<'_>, bytes: &[u8]) -> Option<Value>
     }
 }
 
-/// What a field of the kind makes of a value. The result's variant is that of the kind.
+/// Converts a value to what a field of the kind holds. The variant of the result is that of the
+/// kind.
 ///
 /// # Errors
 ///
-/// [`IocError::BadValue`] where the value doesn't convert or is out of range.
+/// [`IocError::BadValue`] if the value doesn't convert or is out of range.
 #[inline(always)]
 pub fn convert(value: Value, kind: Kind<'_>) -> Result<Value, IocError>
     ensures { result ≡ converted value (sort_of kind.entry) }

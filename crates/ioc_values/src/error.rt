@@ -1,4 +1,4 @@
-//! The refusals of the engine's calls.
+//! The errors of the engine's calls.
 
 ghost use Rattle.std.specs.Prelude.{◌≡◌};
 ghost use Rattle.ioc_values.specs.Words.{refusal_words, kind_words};
@@ -7,12 +7,12 @@ ghost use Rattle.ioc_values.specs.declared.error.IocError.TheVariants.{NoMemory,
 use std::alloc::{AllocError, AllocFailed};
 use std::fmt;
 
-/// Why a call was refused. The number of each is the one that the programs print.
+/// Why a call failed. The programs print the number of each error.
 #[derive(Clone, Copy, PartialEq, Eq, Debug)]
 pub enum IocError {
     /// No record or alias has the name.
     NoRecord,
-    /// The type has no such field, or a link change names a field that is no link.
+    /// The type has no such field, or a link change names a field that isn't a link.
     NoField,
     /// The field can't be put.
     NoMod,
@@ -20,59 +20,60 @@ pub enum IocError {
     PutDisabled,
     /// The value doesn't convert or is out of range.
     BadValue,
-    /// The link text is malformed or uses a word left out.
+    /// The link text is malformed or contains an unsupported word.
     BadLink,
-    /// A link change where a notification is live.
+    /// The link can't be changed while a put with notification is live.
     NotifyPending,
-    /// The completion's number isn't the pending one, or the notification isn't live.
+    /// The number of the completion isn't the pending one, or the put with notification isn't live.
     Stale,
-    /// A queue or the table of notifications is full.
+    /// A queue or the table of puts with notification is full.
     QueueFull,
-    /// A growth was refused.
+    /// Allocation failed.
     NoMemory,
     /// The journal has no room left.
     JournalFull,
-    /// The engine was closed.
+    /// The engine is closed.
     Stopped,
-    /// The database text was refused.
+    /// The database text is invalid.
     BadDb(DbFault),
 }
 
-/// Why a database text was refused, and on which line, counted from 1 on.
+/// Why a database text was rejected, and the line, counted from 1.
 #[derive(Clone, Copy, PartialEq, Eq, Debug)]
 pub struct DbFault {
     pub line: u64,
     pub kind: BadDbKind,
 }
 
-/// Why a database text was refused.
+/// Why a database text was rejected.
 #[derive(Clone, Copy, PartialEq, Eq, Debug)]
 pub enum BadDbKind {
     Syntax,
     /// A quoted text isn't closed on its line.
     Unclosed,
-    /// The text ends inside a statement, outside a quoted text.
+    /// The text ends inside a statement, but not inside a quoted text.
     OpenBody,
     BadType,
     BadField,
-    /// The field can't be set in a database text.
+    /// A database text can't set the field.
     NoMod,
     BadName,
     BadValue,
     BadLink,
-    /// The name stands for a record of another type, or an alias is taken.
+    /// A record of another type has the name, or the alias is taken.
     Duplicate,
     NoRecord,
     Macro,
-    /// A statement of a database definition.
+    /// The statement belongs to a database definition, which isn't supported.
     LeftOut,
-    /// 131,072 records or 16 MiB passed.
+    /// The text has more than 131,072 records or more than 16 MiB.
     TooMany,
 }
 
 #[tactic(auto, unfolding(crate::specs::Words::refusal_words))]
 impl IocError {
-    /// The number and the name of the refusal, as `E5 BadValue`. Of a database text it leaves out the line and why.
+    /// Returns the number and the name of the error, such as `E5 BadValue`. For a database text the
+    /// line and the reason are left out.
     pub fn words(self) -> &'static str
         ensures { result.now ≡ refusal_words self }
     {
@@ -96,7 +97,7 @@ impl IocError {
 
 #[tactic(auto, unfolding(crate::specs::Words::kind_words))]
 impl BadDbKind {
-    /// Why the text was refused, as `text not closed`.
+    /// Returns the reason, such as `text not closed`.
     pub fn words(self) -> &'static str
         ensures { result.now ≡ kind_words self }
     {

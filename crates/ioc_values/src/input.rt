@@ -1,4 +1,4 @@
-//! Values as callers give them.
+//! Values as callers pass them.
 ghost use Rattle.std.specs.Prelude.{◌≡◌};
 ghost use Rattle.std.specs.Option.{ok_or, option_and_then};
 ghost use Rattle.ioc_values.specs.declared.error.IocError.TheVariants.{BadValue};
@@ -12,7 +12,8 @@ use crate::number::number;
 use crate::short::{MAX_TEXT_BYTES, Text};
 use crate::value::Value;
 
-/// A value as a caller gives it: a text of more than 39 bytes fits a text field alone, which takes its first 39 bytes.
+/// A value as a caller passes it. A text of more than 39 bytes only fits a text field, which takes
+/// its first 39 bytes.
 #[derive(Clone, Copy, PartialEq, Eq)]
 pub enum Input {
     Value(Value),
@@ -22,7 +23,7 @@ pub enum Input {
 
 #[tactic(auto, unfolding(crate::specs::Conversion::input_of))]
 impl Input {
-    /// A value that a script or a database spells.
+    /// Makes the input of a text from a script or a database.
     pub fn from_text(text: &[u8]) -> Self
         ensures { result ≡ input_of text.now }
     {
@@ -34,12 +35,12 @@ impl Input {
     }
 }
 
-/// What a field of the kind makes of a value that a caller gives.
+/// Converts a value that a caller passes to what a field of the kind holds.
 ///
 /// # Errors
 ///
-/// [`IocError::BadValue`] where the value doesn't convert or is out of range, or has more than 39 bytes and the
-/// field is no text.
+/// [`IocError::BadValue`] if the value doesn't convert or is out of range, or if it has more than
+/// 39 bytes and the field isn't a text.
 #[inline(always)]
 #[tactic(auto, unfolding(crate::specs::Conversion::converted_input))]
 pub fn convert_input(input: Input, kind: Kind<'_>) -> Result<Value, IocError>
@@ -57,8 +58,8 @@ pub fn convert_input(input: Input, kind: Kind<'_>) -> Result<Value, IocError>
     }
 }
 
-/// The number that a field for numbers takes from a text that a script or a database spells; none where it takes none, or one past 64
-/// bits.
+/// Returns the number that a numeric field takes from a text in a script or a database. Returns
+/// `None` if the text spells no number, has more than 39 bytes, or the number doesn't fit 64 bits.
 #[tactic(auto, using(crate::proofs::Spelled::number_spelled, crate::proofs::Spelled::long_no_number))]
 pub fn spelled_number(text: &[u8]) -> Option<i64>
     ensures { (range : Range) → ok_or (option_and_then (value_in range) result) BadValue ≡ converted_text text.now (Numbers range) }
@@ -70,13 +71,13 @@ pub fn spelled_number(text: &[u8]) -> Option<i64>
     }
 }
 
-/// What a field of the kind makes of a value that a script or a database spells: a text field takes its first 39
-/// bytes.
+/// Converts a text from a script or a database to what a field of the kind holds. A text field
+/// takes the first 39 bytes.
 ///
 /// # Errors
 ///
-/// [`IocError::BadValue`] where the value doesn't convert or is out of range, or has more than 39 bytes and the
-/// field is no text.
+/// [`IocError::BadValue`] if the text doesn't convert or is out of range, or if it has more than 39
+/// bytes and the field isn't a text.
 #[tactic(auto, using(crate::proofs::Spelled::short_spelled, crate::proofs::Spelled::long_spelled, crate::proofs::Spelled::long_refused))]
 pub fn convert_text(text: &[u8], kind: Kind<'_>) -> Result<Value, IocError>
     ensures { result ≡ converted_text text.now (sort_of kind.entry) }

@@ -4,7 +4,7 @@ ghost use Rattle.ioc_values.specs.Conversion.{sort_of, is_text};
 
 use crate::short::Text;
 
-/// The numbers that a field can hold.
+/// The range of numbers that a field can hold.
 #[derive(Clone, Copy, PartialEq, Eq, Debug)]
 pub enum Range {
     /// -2147483648 to 2147483647.
@@ -21,25 +21,25 @@ pub enum Range {
     Enum,
     /// -9223372036854775808 to 9223372036854775807.
     Int64,
-    /// 0 alone, a number of 16 bits.
+    /// Only 0, as a number of 16 bits.
     Zero,
-    /// 0 to 32: a count of bits.
+    /// A number of bits, 0 to 32.
     Bits,
 }
 
-/// What a field can hold, with the texts of its choices lent.
+/// What a field can hold. The texts of its choices are passed by reference.
 #[derive(Clone, Copy)]
 pub enum Kind<'a> {
     Number(Range),
     Text,
-    /// The choices of a menu, in the order of their numbers.
+    /// The texts of a menu's choices, in the order of their numbers.
     Menu(&'a [&'static str]),
-    /// The state texts: 2 of bi and bo, 16 of mbbi and mbbo.
+    /// The state texts: 2 for bi and bo, 16 for mbbi and mbbo.
     State(&'a [Text]),
 }
 
 impl Kind<'_> {
-    /// Whether the field holds a text.
+    /// Returns whether the field holds a text.
     #[tactic(auto, unfolding(crate::specs::Conversion::sort_of))]
     pub fn is_text(self) -> bool
         ensures { result ≡ is_text (sort_of self.entry) }

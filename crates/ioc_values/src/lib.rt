@@ -1,4 +1,4 @@
-//! Values of fields, their conversions, and the refusals of the engine's calls.
+//! Values of fields, their conversions, and the errors of the engine's calls.
 #![tactic(auto)]
 
 pub mod conversion;

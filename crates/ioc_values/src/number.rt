@@ -1,4 +1,5 @@
-//! Numbers in texts: an optional sign, then decimal digits, or `0x` and hexadecimal digits.
+//! Numbers in texts: an optional sign followed by decimal digits, or by `0x` and hexadecimal
+//! digits.
 
 ghost use Rattle.std.specs.Prelude.{◌≡◌, ◌^◌, ◌≤◌, ℤ, pos, neg_ℤ, Some, is_some, option_map, FitsSigned};
 ghost use Rattle.std.specs.Int.{w64};
@@ -7,7 +8,7 @@ ghost use Rattle.ioc_values.specs.Number.{numeral, magnitude, below, signed, wit
 
 use crate::trim::trim;
 
-/// What the digits write, where it is below 2^64.
+/// Returns the number that the digits spell, if it is below 2^64.
 #[inline(always)]
 #[tactic(auto, using(crate::proofs::Numerals::numeral_past, crate::proofs::Numerals::numeral_is))]
 fn numeral(digits: &[u8], radix: u32) -> Option<u64>
@@ -30,14 +31,16 @@ fn numeral(digits: &[u8], radix: u32) -> Option<u64>
     Some(n)
 }
 
-/// The number that decimal digits alone write. `None` where they write none, or one of 2^64 or more.
+/// Returns the number that a text of decimal digits alone spells. Returns `None` if it spells none,
+/// or one of 2^64 or more.
 pub fn decimal(digits: &[u8]) -> Option<u64>
     ensures { result ≡ below (2 ^ 64) (numeral 10 digits.now) }
 {
     numeral(digits, 10)
 }
 
-/// What decimal digits, or `0x` and hexadecimal digits, write, where it is below 2^64.
+/// Returns the number that decimal digits, or `0x` and hexadecimal digits, spell, if it is below
+/// 2^64.
 #[tactic(auto, unfolding(crate::specs::Number::magnitude))]
 fn magnitude(digits: &[u8]) -> Option<u64>
     ensures { result ≡ below (2 ^ 64) (magnitude digits.now) }
@@ -48,22 +51,22 @@ fn magnitude(digits: &[u8]) -> Option<u64>
     }
 }
 
-/// The number that the digits write behind a `-`.
+/// Returns the number that these digits spell after a `-`.
 fn negative(digits: &[u8]) -> Option<i64>
     ensures { result ≡ within_i64 (option_map (λ n. neg_ℤ (pos n)) (magnitude digits.now)) }
 {
     0i64.checked_sub_unsigned(magnitude(digits)?)
 }
 
-/// The number that the digits write.
+/// Returns the number that the digits spell.
 fn positive(digits: &[u8]) -> Option<i64>
     ensures { result ≡ within_i64 (option_map pos (magnitude digits.now)) }
 {
     0i64.checked_add_unsigned(magnitude(digits)?)
 }
 
-/// The number that the whole text writes, which has no space at its ends. `None` where it writes none, or one past
-/// 64 bits.
+/// Returns the number that the whole text spells; spaces at its ends aren't skipped. Returns `None`
+/// if it spells none, or if the number doesn't fit 64 bits.
 #[tactic(auto, unfolding(crate::specs::Number::signed))]
 pub fn signed(text: &[u8]) -> Option<i64>
     ensures { result ≡ within_i64 (signed text.now) }
@@ -76,7 +79,7 @@ pub fn signed(text: &[u8]) -> Option<i64>
     }
 }
 
-/// Whether each byte is a digit.
+/// Returns whether each byte is a digit.
 fn all_digits(digits: &[u8], radix: u32) -> bool
     requires low { 2 ≤ radix }
     requires high { radix ≤ 36 }
@@ -92,7 +95,7 @@ fn all_digits(digits: &[u8], radix: u32) -> bool
     true
 }
 
-/// Whether there are digits, and nothing else.
+/// Returns whether the text consists of digits, at least one.
 #[tactic(auto, using(crate::proofs::Numerals::some_numeral))]
 fn is_numeral(digits: &[u8], radix: u32) -> bool
     requires low { 2 ≤ radix }
@@ -105,7 +108,7 @@ fn is_numeral(digits: &[u8], radix: u32) -> bool
     }
 }
 
-/// Whether decimal digits, or `0x` and hexadecimal digits, are the whole text.
+/// Returns whether the whole text consists of decimal digits, or of `0x` and hexadecimal digits.
 #[tactic(auto, unfolding(crate::specs::Number::magnitude))]
 fn is_magnitude(digits: &[u8]) -> bool
     ensures { result ≡ is_some (magnitude digits.now) }
@@ -116,7 +119,7 @@ fn is_magnitude(digits: &[u8]) -> bool
     }
 }
 
-/// Whether the whole text writes a number, however large.
+/// Returns whether the whole text spells a number of any size.
 #[tactic(auto, unfolding(crate::specs::Number::signed))]
 pub fn is_number(text: &[u8]) -> bool
     ensures { result ≡ is_some (signed text.now) }
@@ -129,15 +132,16 @@ pub fn is_number(text: &[u8]) -> bool
     }
 }
 
-// A number without a sign, where it is in 64 bits with one.
+// Returns the number, if it fits 64 bits with a sign.
 fn unsigned(number: u64) -> Option<i64>
     ensures { result ≡ within_i64 (Some (pos number)) }
 {
     0i64.checked_add_unsigned(number)
 }
 
-/// The number that the whole text writes, with spaces at both ends dropped. `None` where it writes none, or one past
-/// 64 bits. Decimal digits alone, which most numbers are, are read first.
+/// Returns the number that the whole text spells, without the spaces at both ends. Returns `None`
+/// if it spells none, or if the number doesn't fit 64 bits. Decimal digits alone, the most common
+/// case, are tried first.
 pub fn number(text: &[u8]) -> Option<i64>
     ensures { result ≡ within_i64 (number_of text.now) }
 {
@@ -147,7 +151,7 @@ pub fn number(text: &[u8]) -> Option<i64>
     }
 }
 
-/// A number that is printed in decimal is read again.
+/// A number printed in decimal reads back as the same number.
 pub fn printed_is_read()
     ensures { (z : ℤ) → FitsSigned w64 z → number_of (signed_decimal z) ≡ Some z }
 {}

@@ -1,11 +1,11 @@
-//! Room for bytes that are written one after another, which is lent and not copied.
+//! A byte buffer of fixed capacity, which is passed by reference and never copied.
 
 ghost use Rattle.std.specs.Prelude.{◌≡◌, ◌↔◌, ◌≤◌, ◌<◌, ◌+◌, IsTrue, [], ◌++◌, ◌∷◌, length, take};
 
 use std::marker::Model;
 
-/// At most `CAP` bytes. Contracts see it as these bytes. It takes no memory, and is emptied at once, however many bytes it
-/// has.
+/// A buffer of at most `CAP` bytes; contracts see it as these bytes. It never allocates, and
+/// clearing it takes constant time.
 #[derive(Drop)]
 pub struct Room<const CAP: usize> {
     bytes: [u8; CAP],
@@ -23,7 +23,7 @@ impl<const CAP: usize> Model for Room<CAP> {
 }
 
 impl<const CAP: usize> Room<CAP> {
-    /// No bytes.
+    /// Creates an empty buffer.
     pub fn new() -> Self
         ensures { result ≡ [] }
     {
@@ -33,7 +33,7 @@ impl<const CAP: usize> Room<CAP> {
         }
     }
 
-    /// The bytes.
+    /// Returns the bytes.
     pub fn as_slice(&self) -> &[u8]
         ensures value { result.now ≡ self.now }
         ensures fits { length result.now ≤ CAP }
@@ -41,21 +41,21 @@ impl<const CAP: usize> Room<CAP> {
         &self.bytes[..self.len]
     }
 
-    /// Are there no bytes?
+    /// Returns whether the buffer is empty.
     pub fn is_empty(&self) -> bool
         ensures { IsTrue result ↔ (self.now ≡ []) }
     {
         self.len == 0
     }
 
-    /// Lets all bytes go.
+    /// Removes all bytes.
     pub fn clear(&mut self)
         ensures { self.new ≡ [] }
     {
         self.len = 0;
     }
 
-    /// Takes one more byte. There must be room.
+    /// Appends a byte. The buffer must not be full.
     pub fn push(&mut self, b: u8)
         requires { length self.old < CAP }
         ensures { self.new ≡ self.old ++ b ∷ [] }
@@ -64,7 +64,7 @@ impl<const CAP: usize> Room<CAP> {
         self.len += 1;
     }
 
-    /// Takes more bytes. There must be room.
+    /// Appends the bytes. They must fit.
     pub fn extend(&mut self, bytes: &[u8])
         requires { length self.old + length bytes.now ≤ CAP }
         ensures { self.new ≡ self.old ++ bytes.now }
@@ -76,7 +76,7 @@ impl<const CAP: usize> Room<CAP> {
         self.len = end;
     }
 
-    /// Takes more bytes, as many as there is room for.
+    /// Appends as many of the bytes as fit.
     pub fn extend_cut(&mut self, bytes: &[u8])
         ensures { self.new ≡ take CAP (self.old ++ bytes.now) }
     {

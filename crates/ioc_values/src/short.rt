@@ -1,10 +1,10 @@
-//! Texts of a fixed capacity, which take no memory.
+//! Byte strings of fixed capacity, which never allocate.
 
 ghost use Rattle.std.specs.Prelude.{◌≡◌, ◌≤◌, ◌↔◌, ◌<◌, ◌+◌, List, ℕ, [], ◌++◌, ◌∷◌, length, take, IsSome, IfSome};
 
 use std::marker::Model;
 
-/// At most `CAP` bytes.
+/// A byte string of at most `CAP` bytes.
 #[derive(Clone, Copy, PartialEq, Eq)]
 pub struct Short<const CAP: usize> {
     bytes: [u8; CAP],
@@ -32,7 +32,7 @@ impl<const CAP: usize> Model for Short<CAP> {
 }
 
 impl<const CAP: usize> Short<CAP> {
-    /// No bytes.
+    /// Creates an empty string.
     pub fn new() -> Self
         ensures { result ≡ [] }
     {
@@ -42,7 +42,7 @@ impl<const CAP: usize> Short<CAP> {
         }
     }
 
-    /// The bytes, where they are few enough.
+    /// Returns a string of these bytes, or `None` if they don't fit.
     pub fn from_slice(bytes: &[u8]) -> Option<Self>
         ensures fits { IsSome result ↔ (length bytes.now ≤ CAP) }
         ensures value { IfSome result (λ s. s ≡ bytes.now) }
@@ -53,7 +53,7 @@ impl<const CAP: usize> Short<CAP> {
         Some(Self::cut(bytes))
     }
 
-    /// The first of the bytes, as many as fit.
+    /// Returns a string of the first of these bytes, as many as fit.
     pub fn cut(bytes: &[u8]) -> Self
         ensures { result ≡ take CAP bytes.now }
     {
@@ -63,7 +63,7 @@ impl<const CAP: usize> Short<CAP> {
         Short { bytes: all, len }
     }
 
-    /// The bytes.
+    /// Returns the bytes.
     pub fn as_slice(&self) -> &[u8]
         ensures value { result.now ≡ self.now }
         ensures fits { length result.now ≤ CAP }
@@ -71,7 +71,7 @@ impl<const CAP: usize> Short<CAP> {
         &self.bytes[..self.len]
     }
 
-    /// Takes one more byte, or lets it go where the room is used up.
+    /// Appends a byte, or drops it if the string is full.
     pub fn push_cut(&mut self, b: u8)
         ensures { self.new ≡ take CAP (self.old ++ b ∷ []) }
     {
@@ -81,14 +81,14 @@ impl<const CAP: usize> Short<CAP> {
         }
     }
 
-    /// Lets all bytes go.
+    /// Removes all bytes.
     pub fn clear(&mut self)
         ensures { self.new ≡ [] }
     {
         *self = Self::new();
     }
 
-    /// Takes one more byte. There must be room.
+    /// Appends a byte. The string must not be full.
     pub fn push(&mut self, b: u8)
         requires { length self.old < CAP }
         ensures { self.new ≡ self.old ++ b ∷ [] }
@@ -96,7 +96,7 @@ impl<const CAP: usize> Short<CAP> {
         self.push_cut(b);
     }
 
-    /// Takes more bytes. There must be room.
+    /// Appends the bytes. They must fit.
     pub fn extend(&mut self, bytes: &[u8])
         requires { length self.old + length bytes.now ≤ CAP }
         ensures { self.new ≡ self.old ++ bytes.now }
@@ -107,13 +107,13 @@ impl<const CAP: usize> Short<CAP> {
     }
 }
 
-/// The most bytes of a text value, as a DBF_STRING field holds.
+/// The maximum length of a text value in bytes, as a DBF_STRING field holds it.
 pub const MAX_TEXT_BYTES: usize = 39;
 
-/// The most bytes of a record's name.
+/// The maximum length of a record name in bytes.
 pub const MAX_NAME_BYTES: usize = 60;
 
-/// The most bytes of a field's name.
+/// The maximum length of a field name in bytes.
 pub const MAX_FIELD_NAME_BYTES: usize = 8;
 
 /// A text value.
@@ -122,5 +122,5 @@ pub type Text = Short<MAX_TEXT_BYTES>;
 /// A record name.
 pub type Name = Short<MAX_NAME_BYTES>;
 
-/// The name of a field.
+/// A field name.
 pub type FieldName = Short<MAX_FIELD_NAME_BYTES>;

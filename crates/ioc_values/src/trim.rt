@@ -3,14 +3,14 @@
 ghost use Rattle.std.specs.Prelude.{◌≡◌, ◌≤◌, length};
 ghost use Rattle.ioc_values.specs.Trim.{trimmed, is_blank, skip_front};
 
-/// Whether the byte is a space, or where tabs count a tab.
+/// Returns whether the byte is a space or, if `tabs` is true, a tab.
 pub fn is_blank(b: u8, tabs: bool) -> bool
     ensures { result ≡ is_blank tabs b }
 {
     b == b' ' || (tabs && b == b'\t')
 }
 
-/// The text from its first byte on that is no blank.
+/// Returns the text from its first byte that isn't a blank.
 pub fn skip_front(text: &[u8], tabs: bool) -> &[u8]
     ensures value { result.now ≡ skip_front (is_blank tabs) text.now }
     ensures shorter { length result.now ≤ length text.now }
@@ -25,7 +25,7 @@ pub fn skip_front(text: &[u8], tabs: bool) -> &[u8]
     rest
 }
 
-/// The text without the spaces at its ends, or where tabs count without the spaces and tabs.
+/// Returns the text without the spaces at both ends; if `tabs` is true, without the tabs too.
 pub fn trim(text: &[u8], tabs: bool) -> &[u8]
     ensures value { result.now ≡ trimmed (is_blank tabs) text.now }
     ensures shorter { length result.now ≤ length text.now }

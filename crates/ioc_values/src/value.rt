@@ -4,7 +4,7 @@ ghost use Rattle.ioc_values.specs.Conversion.{number_of_value};
 
 use crate::short::Text;
 
-/// The value of a field, or one that is to be put into it.
+/// The value of a field, or a value to be put into it.
 #[derive(Clone, Copy, PartialEq, Eq)]
 pub enum Value {
     /// -2147483648 to 2147483647.
@@ -26,7 +26,7 @@ pub enum Value {
 }
 
 impl Value {
-    /// The number that the value is. A text is none, whatever it writes.
+    /// Returns the number of the value. A text has none, even if it spells one.
     pub fn number(self) -> Option<i64>
         ensures { result ≡ number_of_value self }
     {
@@ -43,7 +43,7 @@ impl Value {
     }
 }
 
-/// What an asynchronous device gives at last.
+/// The result of an asynchronous device.
 #[derive(Clone, Copy, PartialEq, Eq)]
 pub enum Finished {
     Done(Value),

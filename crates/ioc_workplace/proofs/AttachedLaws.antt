@@ -1,4 +1,5 @@
--- What stands beside the records of a set, after calls of devices: the bases as they were, and the devices as they worked.
+-- The bases and devices of a set after device calls: the bases are unchanged, and the devices have
+-- worked.
 use Rattle.std.proofs.Common.{◌≡◌, ℕ, Bool, List, Option, Some, None, true, false, cond, refl, sym, ap, ◌∙◌, subst}
 use Rattle.std.specs.Prelude.{◌==◌, IsSome, is_some}
 use Rattle.std.specs.Option.{option_map}
@@ -88,7 +89,7 @@ module _ {R D : Type 0} where
           subst (λ (z : ℕ → Option D). DevicesWork gives z moment calls (get after.devices)) (device_in before owned same)
           (subst (λ (z : ℕ → Option D). DevicesWork gives (λ n. device_of (attached_in before n)) moment calls z) (device_in after owned_then same_then) (devices_work work))
 
-  -- what stands beside each record is as it was: so are the devices and the bases
+  -- If what belongs to each record is unchanged, so are the devices and the bases.
   module _ (before after : Contents R D) (same : attached_in after ≡ attached_in before) where
     pub bases_alike : after.base ≡ before.base
     bases_alike = same_map nat_cmp_total nat_cmp-IsAntisymmetric after.base before.base

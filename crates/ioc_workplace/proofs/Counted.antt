@@ -1,4 +1,4 @@
--- Who has each put with notification, counted anew: each is live as often as it has holders.
+-- The parts of each put with notification, recounted: each is live with the count of its parts.
 use Rattle.std.proofs.Common.{◌≡◌, ℕ, zero, suc, ◌+◌, ◌-◌, ◌^◌, ◌<◌, ◌≤◌, Bool, true, false, cond, ◌||◌, eqb, nat_lt, List, [], ◌∷◌, length, get_or, Option, Some, None, is_some, unwrap_or, refl, sym, ap, subst, ◌∙◌, arith}
 use Rattle.std.specs.FinMap.{entries, len, len-entries}
 use Rattle.std.proofs.lemmas.Bool.{eqb-true}
@@ -16,7 +16,7 @@ use Rattle.ioc_workplace.specs.Recounting.{begun_each, gained_by, gained_each, g
 use Rattle.ioc_workplace.proofs.Counting.{lives, one_if, Counts, counts-gained, counts-lost, counts-same, few-one, live-lives, begun-lives, begun-holders, of_each, itself, another}
 use Rattle.ioc_workplace.proofs.Entries.{get-at}
 
--- ---- live, and how often
+-- Lemmas about how often one is live.
 
 pub live-some : (n : ℕ) (ls : List Live) → is_live n ls ≡ true → 1 ≤ lives n ls
 live-some n [] is = cc
@@ -32,7 +32,7 @@ some-live n (l ∷ ls) some = elim (eqb l.number n) as (λ b. 1 ≤ cond b (1 + 
   | false ↦ λ rest. some-live n ls rest
 ] some
 
--- ---- those that have begun
+-- Lemmas about those that have begun.
 
 pub none-begun : AreBegun []
 none-begun n = (omega arith, refl)
@@ -52,7 +52,7 @@ each-begun (x ∷ xs) ls are = elim (is_live x.number ls) as (λ b. is_live x.nu
   | false ↦ λ dead. each-begun xs (begun x.number ls) (one-begun x.number ls dead are)
 ] refl
 
--- who was live is live
+-- One that was live is still live.
 pub begun-keeps : (n : ℕ) (xs ls : List Live) → lives n ls ≤ lives n (begun_each xs ls)
 begun-keeps n [] ls = omega arith
 begun-keeps n (x ∷ xs) ls = elim (is_live x.number ls) as (λ b. lives n ls ≤ lives n (begun_each xs (cond b ls (begun x.number ls)))) [
@@ -60,7 +60,7 @@ begun-keeps n (x ∷ xs) ls = elim (is_live x.number ls) as (λ b. lives n ls �
   | false ↦ omega (arith, begun-keeps n xs (begun x.number ls), begun-lives x.number n ls)
 ]
 
--- and each of these is
+-- Each of these is live.
 pub begun-has : (n : ℕ) (xs ls : List Live) → 1 ≤ lives n xs → 1 ≤ lives n (begun_each xs ls)
 begun-has n [] ls some = absurd (let z : ⊥ = omega (arith, some) in z)
 begun-has n (x ∷ xs) ls some =
@@ -74,7 +74,7 @@ begun-has n (x ∷ xs) ls some =
       | false ↦ λ e rest. begun-has n xs (cond (is_live x.number ls) ls (begun x.number ls)) rest
     ] refl some
 
--- nobody else is
+-- No other is live.
 begun-zero : (m n : ℕ) (xs : List Live) (b : Bool) → eqb m n ≡ b → cond b (1 + lives n xs) (lives n xs) ≡ 0 → (one_if (eqb m n) ≡ 0) × (lives n xs ≡ 0)
 begun-zero m n xs true e none = absurd (let z : ⊥ = omega (arith, none) in z)
 begun-zero m n xs false e none = (ap one_if e, none)
@@ -88,7 +88,7 @@ begun-only n (x ∷ xs) ls none dead =
       | false ↦ begun-only n xs (begun x.number ls) zero_of.1 (omega (arith, begun-lives x.number n ls, zero_of.0, dead))
     ]
 
--- ---- counted one after another
+-- Lemmas about counting one after another.
 
 counted-if : (o : Option ℕ) (held : ℕ → ℕ) (ls : List Live) → Counts held ls → ((m : ℕ) → o ≡ Some m → 1 ≤ held m) → ((n : ℕ) → held n + 1 ≤ 2 ^ 64 - 1) → Counts (λ n. held n + one_if (is_notification n o)) (gained_if o ls)
 counted-if None held ls counts cover few = counts-same held (λ n. held n + 0) ls counts (λ n. omega arith)
@@ -111,7 +111,7 @@ counted-waiting (x ∷ xs) held ls counts cover few =
     let rest = counted-waiting xs with_one (gained x.number ls) one (λ i d within. let c = cover (suc i) d (omega (arith, within)) in omega (arith, c)) (λ n. omega (arith, few n, same n)) in
     counts-same (λ n. with_one n + how_many (λ (y : Waiting). y.number) n xs) _ (gained_each xs (gained x.number ls)) rest same
 
--- one fewer of each
+-- Each count is one less.
 pub counted-lost : (xs : List Live) (held : ℕ → ℕ) (ls : List Live) → Counts (λ n. lives n xs + held n) ls → Counts held (lost_each xs ls)
 counted-lost [] held ls counts = counts-same (λ n. 0 + held n) held ls counts (λ n. omega arith)
 counted-lost (x ∷ xs) held ls counts =
@@ -146,7 +146,7 @@ module _ {R : Type 0} (k : RecordRules R) where
   small : (n : ℕ) (r : R) → one_if_has k n r ≤ 1
   small n r = few-one (is_notification n (k.common r).notification)
 
-  -- counted of these records and those that wait, each is live as often as it has holders
+  -- Recounted from these records and those that wait, each is live with the count of its parts.
   pub recounted : (rs : Records R) (ws : List Waiting) (cs ls : List Live) → AreBegun cs → AreLive k rs ws cs → ((n : ℕ) → how_many (λ (x : Waiting). x.number) n ws ≤ 1) → len rs < 2 ^ 63
       → ls ≡ lost_each cs (gained_each ws (gained_by k (entries rs) cs)) → HoldersCounted k (resting rs ls ws)
   unfolding holders
@@ -168,7 +168,7 @@ module _ {R : Type 0} (k : RecordRules R) where
       let now = subst (λ (l : List Live). Counts all l) (sym is) last in
       record { counted = now.counted; live = now.live; waits_once = once }
 
-  -- nobody has any where none is live
+  -- If none is live, no record is part of one.
   pub gained-none : (es : List (ℕ × R)) → gained_by k es [] ≡ []
   gained-none [] = refl
   gained-none (e ∷ es) = elim (k.common e.1).notification as (λ o. gained_by k es (gained_if o []) ≡ []) [

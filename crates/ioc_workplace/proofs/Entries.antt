@@ -61,12 +61,12 @@ module _ {R : Type 0} (k : RecordRules R) (m : Records R) where
     pub gained-at : (o : Option ℕ) (ls : List Live) → (k.common (record_at k m q)).notification ≡ o → gained_by k (drop i (entries m)) ls ≡ gained_by k (drop (i + 1) (entries m)) (gained_if o ls)
     gained-at o ls has = ap (λ (es : List (ℕ × R)). gained_by k es ls) entry-next ∙ ap (λ (x : Option ℕ). gained_by k (drop (i + 1) (entries m)) (gained_if x ls)) has
 
-  -- there is one at each place within
+  -- There is an entry at each index below the length.
   pub none-past : (i : ℕ) → slice_get (keys m) i ≡ None → i < len m → ⊥
   none-past i none lt =
       let there : i < length (keys m) = omega (arith, lt, len-entries m, length-map (entries m) (λ e. e.0)) in
       none_some (slice_get (keys m) i) none (ap (λ (o : Option ℕ). is_some o) (slice_get-get_or (keys m) i 0 there))
 
-  -- past the last nothing is left
+  -- Past the last entry nothing is left to count.
   pub gained-past : (i : ℕ) (ls : List Live) → len m ≤ i → ls ≡ gained_by k (drop i (entries m)) ls
   gained-past i ls past = sym (ap (λ (es : List (ℕ × R)). gained_by k es ls) (drop_all i (entries m) (subst (λ (n : ℕ). n ≤ i) (len-entries m) past)))

@@ -1,11 +1,11 @@
--- A list that has nothing more often than another is no longer.
+-- A list that has no item more often than another is no longer than that.
 use Rattle.std.proofs.Common.{◌≡◌, ℕ, ◌+◌, ◌≤◌, Bool, true, false, cond, eqb, List, [], ◌∷◌, length, refl, sym, ap, subst, arith}
 use Rattle.std.proofs.lemmas.Bool.{eqb-true, eq-eqb}
 use Rattle.ioc_events.specs.Holding.{how_many}
 use Rattle.ioc_workplace.proofs.Counting.{one_if}
 
 module _ {B : Type 0} (g : B → ℕ) (m : ℕ) where
-  -- without the first of this number
+  -- The list without the first item with this number.
   abbrev without_one : List B → List B
   without_one [] = []
   without_one (y ∷ ys) = cond (eqb (g y) m) ys (y ∷ without_one ys)

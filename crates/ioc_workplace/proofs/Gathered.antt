@@ -1,4 +1,4 @@
--- The puts with notification that go along with some records, or come together from two sets.
+-- The puts with notification that stay with some records, or that come from two sets.
 use Rattle.std.proofs.Common.{◌≡◌, ℕ, zero, suc, ◌+◌, ◌^◌, ◌<◌, ◌≤◌, Bool, true, false, cond, not, ◌||◌, eqb, List, [], ◌∷◌, ◌++◌, length, Option, Some, None, refl, sym, ap, subst, ◌∙◌, inl, inr, arith, length-append}
 use Rattle.std.specs.Prelude.{Contains}
 use Rattle.std.specs.List.{filter}
@@ -19,7 +19,7 @@ use Rattle.ioc_workplace.proofs.Counting.{lives, how_many-append}
 use Rattle.ioc_workplace.proofs.Counted.{recounted, gained-none, none-begun, each-begun, live-some, some-live, begun-keeps, begun-has, begun-only}
 use Rattle.ioc_workplace.proofs.Fewer.{fewer}
 
--- ---- lists that are filtered
+-- Lemmas about filtered lists.
 
 one-there : {X : Type 0} (x y : X) → Contains (x ∷ []) y → x ≡ y
 one-there x y (zero, lt, is) = is
@@ -28,7 +28,7 @@ one-there x y (suc i, lt, is) = absurd (omega arith)
 later : {X : Type 0} (y : X) (xs : List X) (x : X) → Contains xs x → Contains (y ∷ xs) x
 later y xs x (i, lt, is) = (suc i, omega (arith, lt), is)
 
--- one that passes is among those that do, and nothing else is
+-- An item is in the filtered list if and only if it is in the list and passes.
 pub passes-there : {X : Type 0} (p : X → Bool) (xs : List X) (x : X) → Contains (filter p xs) x → Contains xs x × (p x ≡ true)
 passes-there p [] x h = absurd (omega (arith, h.1))
 passes-there p (y ∷ xs) x h =
@@ -55,7 +55,7 @@ fewer_pass f p n (x ∷ xs) =
       ]
     ]
 
--- ---- what a set keeps
+-- Lemmas about what a set has.
 
 pub kept-live : (kept : Option Notifications) (bl : List Live) (bw : List Waiting) (p : Puts) (n : Notifications) → puts_of kept bl bw ≡ p → kept ≡ Some n → n.live.live ≡ p.live
 kept-live kept bl bw p n view is = sym (ap (λ (o : Option Notifications). live_of o) is) ∙ ap (λ (x : Puts). x.live) view
@@ -69,7 +69,7 @@ kept-none kept bl bw p view is = (
   sym (ap (λ (x : Puts). x.waiting) view) ∙ ap (λ (o : Option Notifications). waiting_of o) is,
 )
 
--- ---- which begin
+-- Lemmas about those that begin.
 
 pub begun-length : (xs ls : List Live) → length (begun_each xs ls) ≤ length xs + length ls
 begun-length [] ls = omega arith
@@ -78,7 +78,7 @@ begun-length (x ∷ xs) ls = elim (is_live x.number ls) as (λ b. length (begun_
   | false ↦ let more = length-append ls (record { number = x.number; holders = 1 } ∷ []) in omega (arith, begun-length xs (begun x.number ls), more)
 ]
 
--- where none is live, nobody has one
+-- If none is live, no record is part of one.
 module _ {R : Type 0} (k : RecordRules R) where
   pub nobody-counted : (rs : Records R) (waiting : List Waiting) (live : List Live) → AreLive k rs waiting live → live ≡ [] → waiting ≡ [] → len rs < 2 ^ 63
       → (ls : List Live) (ws : List Waiting) → ls ≡ [] → ws ≡ [] → HoldersCounted k (resting rs ls ws)
@@ -87,7 +87,7 @@ module _ {R : Type 0} (k : RecordRules R) where
       let counted = recounted k rs [] [] [] none-begun now (λ n. omega arith) few (sym (gained-none k (entries rs))) in
       subst (λ (x : List Live). HoldersCounted k (resting rs x ws)) (sym is) (subst (λ (x : List Waiting). HoldersCounted k (resting rs [] x)) (sym is_waiting) counted)
 
-  -- of what is live, what these records have or waits for them is begun
+  -- Each live one that these records are part of, or that waits for them, has begun.
   pub own-live : (rs : Records R) (waiting : List Waiting) (live : List Live) → AreLive k rs waiting live → AreLive k rs (own_waiting rs waiting) (begun_each live [])
   own-live rs waiting live are =
       let begins : (n : ℕ) → is_live n live ≡ true → is_live n (begun_each live []) ≡ true = λ n is. some-live n (begun_each live []) (begun-has n live [] (live-some n live is)) in
@@ -96,7 +96,7 @@ module _ {R : Type 0} (k : RecordRules R) where
         waits = λ x c. begins x.number (are.waits x (passes-there (λ (y : Waiting). contains_key rs y.target) waiting x c).0);
       }
 
--- ---- two together
+-- Lemmas about two sets together.
 
 any-append : (n : ℕ) (xs ys : List Live) → is_live n (xs ++ ys) ≡ (is_live n xs || is_live n ys)
 any-append n [] ys = refl
@@ -105,7 +105,7 @@ any-append n (x ∷ xs) ys = elim (eqb x.number n) as (λ b. b || is_live n (xs 
   | false ↦ any-append n xs ys
 ]
 
--- those of the other that aren't in the one
+-- The count of the live ones of `other` that aren't in `one`.
 here-count : (n : ℕ) (y : Live) (left rest : List Live) (b : Bool) (a : ℕ) → eqb y.number n ≡ true → is_live y.number left ≡ b → lives n rest ≡ cond b 0 a
     → lives n (cond (not (is_live y.number left)) (y ∷ rest) rest) ≡ cond b 0 (1 + a)
 here-count n y left rest true a e is count = ap (λ (x : Bool). lives n (cond (not x) (y ∷ rest) rest)) is ∙ count
@@ -127,7 +127,7 @@ others-count n one (y ∷ ys) b is =
       | false ↦ λ e. there-count n y others (not (is_live y.number one)) e ∙ rest
     ] refl
 
--- how often one is live on either
+-- The number of times that one is live on either set.
 pub together-count : (n : ℕ) (one other : List Live) (b : Bool) → is_live n one ≡ b → lives n (together one other) ≡ lives n one + cond b 0 (lives n other)
 together-count n one other b is =
     how_many-append (λ (l : Live). l.number) n one (filter (λ (l : Live). not (is_live l.number one)) other) ∙ ap (λ (x : ℕ). lives n one + x) (others-count n one other b is)
@@ -139,12 +139,12 @@ dead n (l ∷ ls) is = elim (eqb l.number n) as (λ b. b || is_live n ls ≡ fal
   | false ↦ λ rest. dead n ls rest
 ] is
 
--- what is live together is live on one of them
+-- One that is live together is live on one of the sets.
 together-either : (n : ℕ) (one other : List Live) → 1 ≤ lives n (together one other) → (b : Bool) → is_live n one ≡ b → (c : ℕ) → lives n other ≡ c → 1 ≤ lives n one + c
 together-either n one other some true is c count = omega (arith, live-some n one is)
 together-either n one other some false is c count = omega (arith, some, together-count n one other false is, count)
 
--- and begun from them
+-- One that is live together has begun from the two sets.
 pub both-begun : (n : ℕ) (one other : List Live) → is_live n (together one other) ≡ true → is_live n (begun_each other (begun_each one [])) ≡ true
 both-begun n one other is =
     some-live n (begun_each other (begun_each one []))
@@ -156,7 +156,7 @@ both-begun n one other is =
     either zero b some left right = right (omega (arith, some))
     either (suc a) b some left right = left (omega arith)
 
--- no more begin than are live on either
+-- No more begin than are live on either set.
 few-begun : (n : ℕ) (one other : List Live) (b : Bool) → is_live n one ≡ b → (c : Bool) → is_live n other ≡ c → lives n (begun_each other (begun_each one [])) ≤ lives n (together one other)
 few-begun n one other true is c is_other = omega (arith, live-some n one is, together-count n one other true is, (each-begun other (begun_each one []) (each-begun one [] none-begun) n).0)
 few-begun n one other false is true is_other = omega (arith, live-some n other is_other, together-count n one other false is, (each-begun other (begun_each one []) (each-begun one [] none-begun) n).0)

@@ -1,4 +1,4 @@
--- What stands beside a record of a set, asked, gives what its device gives.
+-- The device of a record answers as the attached device of its set does.
 use Rattle.std.proofs.Common.{◌≡◌, ℕ, Bool, Option, Some, None, true, false, cond, refl, sym, ap, ◌∙◌, subst, arith}
 use Rattle.std.specs.Prelude.{◌==◌, is_some}
 use Rattle.std.proofs.lemmas.Bool.Decides.{nat_tests}
@@ -29,7 +29,7 @@ module _ {R D : Type 0} where
     no_other m true same none = ap (get ds) (same_number m n same) ∙ none
     no_other m false other none = refl
 
-    -- the devices after it
+    -- The devices after an answer.
     after_all : (o after : Option D) → get ds n ≡ o → Gives gives o ask moment answer after → es ≡ with_device_of ds n after → (m : ℕ) → get es m ≡ cond (m == n) after (get ds m)
     after_all (Some before) after is given e m =
         ap (λ (z : Devices D). get z m) (e ∙ ap (with_device_of ds n) given.2)

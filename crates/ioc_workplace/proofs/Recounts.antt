@@ -1,4 +1,5 @@
--- The loops that count anew who has each put with notification: a list's function, one item on.
+-- The loops that recount the parts of each put with notification: the function on lists, after one
+-- more item.
 use Rattle.std.proofs.Common.{◌≡◌, ℕ, ◌+◌, ◌<◌, ◌≤◌, suc, Bool, true, false, cond, List, [], ◌∷◌, ◌++◌, length, drop, take, get_or, sym, ap, ◌∙◌, length-append, arith}
 use Rattle.std.specs.List.{filter}
 use Rattle.std.proofs.lemmas.List.{at_drop_more, length-take}

@@ -5,6 +5,6 @@ use Rattle.ioc_notify.specs.declared.waiting_lists.Waiting.{Waiting}
 use Rattle.ioc_members.specs.Contents.{Records}
 use Rattle.ioc_store.specs.World.{World}
 
--- a database at rest with these records and puts with notification
+-- A database between events with these records and puts with notification.
 abbrev pub resting : {R : Type 0} → Records R → List Live → List Waiting → World R
 resting records live waiting = record { records = records; moment = 0; calls = []; outbox = []; dropped = 0; live = live; ended = []; waiting = waiting }

@@ -1,11 +1,11 @@
-//! What stands beside a record in its set.
+//! The base and the device of a record in its set.
 ghost use Rattle.std.specs.Prelude.{◌≡◌};
 
 use ioc_device::{Answer, Device};
 use ioc_values::Value;
 
-/// What stands beside a record in its set: its base, which no event touches, and its device, if it has one. As a device it gives what its
-/// device gives, or else a fault.
+/// The base of a record, which no event changes, and its device, if it has one. As a device it
+/// answers what its device answers, or a fault if it has none.
 #[derive(Drop)]
 pub struct Attached<K, D> {
     pub base: K,

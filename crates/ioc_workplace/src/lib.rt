@@ -1,4 +1,4 @@
-//! Where an event of a lock set is done, and the puts with notification that the set lends it.
+//! The buffers of an event on a lock set, and the puts with notification of the set.
 #![tactic(auto)]
 
 pub mod attached;

@@ -22,11 +22,12 @@ use std::alloc::{AllocError, Global};
 use std::marker::Model;
 use std::mem;
 
-/// The puts with notification that are live on a set and those of them that wait, and which were and did before its history. Room for
-/// both is taken with the first one, so that a history can begin at any time: a set without any has none.
+/// The live puts with notification of a set and those of them that wait, now and before the history
+/// of the set. Memory for both is allocated with the first one, so that a history can begin at any
+/// time; a set without any has none.
 #[derive(Drop)]
 pub struct LivePuts {
-    // Between events none has ended in it.
+    // Between events, none has ended in it.
     kept: Option<Notifications>,
     base_live: Vec<Live>,
     base_waiting: Vec<Waiting>,
@@ -45,7 +46,7 @@ impl Model for LivePuts {
     ghost invariant = { λ p. is_some p.kept ≡ true → (256 ≤ vec_capacity p.base_live) × (256 ≤ vec_capacity p.base_waiting) };
 }
 
-/// Room for the puts with notification of a set: none is live in it yet.
+/// Memory for the puts with notification of a set, of which none is live yet.
 #[derive(Drop)]
 pub struct PutsRoom {
     kept: Notifications,
@@ -59,11 +60,11 @@ pub struct PutsRoom {
 }
 
 impl PutsRoom {
-    /// Room for as many as can be live.
+    /// Reserves room for as many as can be live.
     ///
     /// # Errors
     ///
-    /// [`AllocError`] where memory is wanting.
+    /// [`AllocError`] if allocation fails.
     pub fn new(alloc: Global) -> Result<Self, AllocError> {
         let kept = Notifications::new(alloc)?;
         let base_live = Vec::with_capacity(alloc, 256)?;
@@ -76,14 +77,14 @@ impl PutsRoom {
     }
 }
 
-// Is an event a put with notification?
+// Returns whether an event is a put with notification.
 fn is_put(event: &SetEvent) -> bool
     ensures { result ≡ is_put_with_notification (event_by event.now) }
 {
     matches!(event, SetEvent::Notify(_, _, _, _))
 }
 
-// Are both lists empty?
+// Returns whether both lists are empty.
 fn are_empty(live: &[Live], waiting: &[Waiting]) -> bool
     ensures { IsTrue result ↔ ((live.now ≡ []) × (waiting.now ≡ [])) }
 {
@@ -91,7 +92,7 @@ fn are_empty(live: &[Live], waiting: &[Waiting]) -> bool
 }
 
 impl LivePuts {
-    /// None is live, and no room was taken.
+    /// Creates a value with none live and no memory.
     pub fn none(alloc: Global) -> Self
         ensures { result ≡ no_puts }
     {
@@ -102,7 +103,7 @@ impl LivePuts {
         }
     }
 
-    /// Is none live, and does none wait?
+    /// Returns whether none is live and none waits.
     pub fn are_none(&self) -> bool
         ensures { IsTrue result ↔ AreNone self.now }
     {
@@ -112,7 +113,7 @@ impl LivePuts {
         }
     }
 
-    /// Is the one of this number live?
+    /// Returns whether the one with this number is live.
     pub fn is_live(&self, number: NotifyId) -> bool
         ensures { result ≡ is_live number self.now.live }
     {
@@ -122,7 +123,7 @@ impl LivePuts {
         }
     }
 
-    /// Those that are live, with how many have each.
+    /// Returns the live ones, with the number of parts of each.
     pub fn live(&self) -> &[Live]
         ensures { result.now ≡ self.now.live }
     {
@@ -132,18 +133,18 @@ impl LivePuts {
         }
     }
 
-    /// Where no room was taken, none is live.
+    /// If no memory was reserved, none is live.
     pub fn none_without_room(&self)
         ensures { self.now.has_room ≡ false → AreNone self.now }
     {
         let _ = &self.kept;
     }
 
-    /// Takes room for a put with notification, if the event is one.
+    /// Reserves room for puts with notification, if the event is one.
     ///
     /// # Errors
     ///
-    /// [`AllocError`] where memory is wanting.
+    /// [`AllocError`] if allocation fails.
     #[inline(always)]
     pub fn make_room_for(&mut self, event: &SetEvent, alloc: Global) -> Result<(), AllocError>
         ensures room { OnOk result (is_put_with_notification (event_by event.now) ≡ true → self.new.has_room ≡ true) }
@@ -158,7 +159,7 @@ impl LivePuts {
         Ok(())
     }
 
-    // Takes room, where none was taken. This isn't inlined, since a set needs it once.
+    // Reserves room, if there is none. It is not inlined, since a set needs it once.
     #[inline(never)]
     fn take_room(&mut self, alloc: Global) -> Result<(), AllocError>
         requires none { self.old.has_room ≡ false }
@@ -175,7 +176,7 @@ impl LivePuts {
         Ok(())
     }
 
-    /// A history begins: those that are there now are kept as those before it.
+    /// Begins a history: the current puts with notification are stored as those before it.
     pub fn begin_history(&mut self)
         requires fits { length self.old.waiting ≤ 256 }
         ensures { self.new ≡ begun_with self.old }
@@ -192,18 +193,18 @@ impl LivePuts {
         }
     }
 
-    /// No more than 256 are live.
+    /// At most 256 are live.
     pub fn are_few(&self)
         ensures { length self.now.live ≤ 256 }
     {
         let _ = &self.kept;
     }
 
-    /// Room for these, where any is live; no room where none is.
+    /// Reserves room for these, if any is live; otherwise returns `None`.
     ///
     /// # Errors
     ///
-    /// [`AllocError`] where memory is wanting.
+    /// [`AllocError`] if allocation fails.
     pub fn room(&self, alloc: Global) -> Result<Option<PutsRoom>, AllocError>
         ensures { IfOk result (λ room. room ≡ None → AreNone self.now) }
     {
@@ -214,11 +215,11 @@ impl LivePuts {
         Ok(Some(room))
     }
 
-    /// Room for these and others in one, where any is live; no room where none is.
+    /// Reserves room for these and others in one set, if any is live; otherwise returns `None`.
     ///
     /// # Errors
     ///
-    /// [`AllocError`] where memory is wanting.
+    /// [`AllocError`] if allocation fails.
     pub fn room_with(&self, other: &LivePuts, alloc: Global) -> Result<Option<PutsRoom>, AllocError>
         ensures { IfOk result (λ room. room ≡ None → AreNone self.now × AreNone other.now) }
     {
@@ -229,7 +230,7 @@ impl LivePuts {
         Ok(Some(room))
     }
 
-    /// Lends them to the keeper of an event, which has none.
+    /// Moves them to the state of an event, which has none.
     pub fn lend(&mut self, event: &mut Notifications)
         requires live { event.old.live.live ≡ [] }
         requires waiting { event.old.waiting.waiting ≡ [] }
@@ -242,8 +243,8 @@ impl LivePuts {
         }
     }
 
-    /// Takes them back after the event: the keeper has none then, but still tells those that have ended. Where no room was taken, none
-    /// came to it.
+    /// Moves them back after the event. The state of the event has none then, but still reports
+    /// those that have ended. If no memory was reserved, none was moved.
     pub fn take_back(&mut self, event: &mut Notifications)
         requires lent { AreNone self.old }
         requires room { self.old.has_room ≡ false → (event.old.live.live ≡ []) × (event.old.waiting.waiting ≡ []) }
@@ -260,7 +261,7 @@ impl LivePuts {
 }
 
 impl LivePuts {
-    // Each that is live here begins in another place, where it isn't live yet.
+    // Begins each live one in `into`, if it isn't live there yet.
     fn begin_in(&self, into: &mut Notifications)
         requires ended { into.old.ended.items ≡ [] }
         requires fits { length (begun_each self.now.live into.old.live.live) ≤ 256 }
@@ -273,7 +274,7 @@ impl LivePuts {
         }
     }
 
-    // All that wait here wait in another place, behind all others.
+    // Appends all waiting ones to those that wait in `into`.
     fn queue_in(&self, into: &mut Notifications)
         requires fits { length into.old.waiting.waiting + length self.now.waiting ≤ 256 }
         ensures live { into.new.live ≡ into.old.live }
@@ -286,8 +287,8 @@ impl LivePuts {
     }
 }
 
-// Counts how many have each put with notification: of these records, and of those that wait. Each that is to be counted has begun, and
-// none else.
+// Recounts the parts of each put with notification: these records, and the waiting ones. All that
+// are to be counted have begun, and no others.
 fn recount<K: RecordKind, D>(
     members: &Members<K, D>,
     kept: &mut Notifications,
@@ -311,8 +312,9 @@ fn recount<K: RecordKind, D>(
     kept.clear_ended();
 }
 
-/// Of the puts with notification of a set, those that some of its records have, and those that wait for one of these, in the same order;
-/// how many have each is counted anew. A history begins with them. Room for them was taken before; no room is needed where none is live.
+/// Returns the puts with notification of a set that some of its records are part of or that wait
+/// for one of these records, in the same order, with the parts of each recounted. A history begins
+/// with them. The memory for them was reserved before; none is needed if none is live.
 pub fn own_puts<K: RecordKind, D>(
     members: &Members<K, D>,
     from: &LivePuts,
@@ -353,8 +355,9 @@ pub fn own_puts<K: RecordKind, D>(
     puts
 }
 
-/// The puts with notification of two sets that have become one with these records: those that wait in the one, and then those in the
-/// other; how many have each is counted anew. A history begins with them. Room for them was taken before; no room is needed where none is
+/// Returns the puts with notification of two sets that have become one with these records: those
+/// that wait in `one`, followed by those that wait in `other`, with the parts of each recounted. A
+/// history begins with them. The memory for them was reserved before; none is needed if none is
 /// live on either.
 pub fn joined_puts<K: RecordKind, D>(
     members: &Members<K, D>,

@@ -1,4 +1,4 @@
-//! Who has each put with notification, counted anew.
+//! The parts of each put with notification, recounted.
 ghost use Rattle.std.specs.Prelude.{◌≡◌, ◌+◌, ◌≤◌, ◌++◌, [], length};
 ghost use Rattle.std.specs.FinMap.{entries};
 ghost use Rattle.std.specs.Vec.{vec_capacity};
@@ -9,7 +9,7 @@ use ioc_notify::{Live, Waiting};
 use ioc_record::RecordKind;
 use ioc_store::notifications::Notifications;
 
-/// Those of these that aren't live yet begin.
+/// Begins those of these that aren't live yet.
 #[tactic(auto, using(crate::proofs::Recounts::begun_more))]
 pub fn begin_each(numbers: &[Live], into: &mut Notifications)
     requires ended { into.old.ended.items ≡ [] }
@@ -25,7 +25,7 @@ pub fn begin_each(numbers: &[Live], into: &mut Notifications)
     }
 }
 
-/// Each record has its notification, if it has one.
+/// Counts each record as a part of its put with notification, if it has one.
 pub fn count_records<K: RecordKind, D>(members: &Members<K, D>, into: &mut Notifications)
     ensures live { into.new.live.live ≡ gained_by K.rules (entries members.now.records) into.old.live.live }
     ensures ended { into.new.ended.items ≡ into.old.ended.items }
@@ -41,7 +41,7 @@ pub fn count_records<K: RecordKind, D>(members: &Members<K, D>, into: &mut Notif
     }
 }
 
-/// Each that waits has its notification.
+/// Counts the place of each waiting put with notification as a part of it.
 pub fn count_waiting(into: &mut Notifications)
     ensures live { into.new.live.live ≡ gained_each into.old.waiting.waiting into.old.live.live }
     ensures ended { into.new.ended.items ≡ into.old.ended.items }
@@ -53,7 +53,7 @@ pub fn count_waiting(into: &mut Notifications)
     }
 }
 
-/// One has each of these no more.
+/// Counts one part less of each of these.
 pub fn let_go_each(numbers: &[Live], into: &mut Notifications)
     ensures live { into.new.live.live ≡ lost_each numbers.now into.old.live.live }
     ensures waiting { into.new.waiting ≡ into.old.waiting }
@@ -63,7 +63,7 @@ pub fn let_go_each(numbers: &[Live], into: &mut Notifications)
     }
 }
 
-/// Those that wait for one of these records wait here too, behind all others.
+/// Appends those that wait for one of these records to the waiting ones.
 pub fn queue_own<K, D>(members: &Members<K, D>, from: &[Waiting], into: &mut Notifications)
     requires fits { length into.old.waiting.waiting + length from.now ≤ 256 }
     ensures live { into.new.live ≡ into.old.live }
@@ -77,7 +77,7 @@ pub fn queue_own<K, D>(members: &Members<K, D>, from: &[Waiting], into: &mut Not
     }
 }
 
-/// All of these wait here too, behind all others.
+/// Appends all of these to the waiting ones.
 pub fn queue_all(from: &[Waiting], into: &mut Notifications)
     requires fits { length into.old.waiting.waiting + length from.now ≤ 256 }
     ensures live { into.new.live ≡ into.old.live }
@@ -89,7 +89,7 @@ pub fn queue_all(from: &[Waiting], into: &mut Notifications)
     }
 }
 
-/// Copies those that are live into a vector that has room for them.
+/// Copies the live ones into a vector that has room for them.
 pub fn copy_live(from: &[Live], into: &mut Vec<Live>)
     requires room { length from.now ≤ vec_capacity into.old }
     ensures items { into.new.items ≡ from.now }
@@ -101,7 +101,7 @@ pub fn copy_live(from: &[Live], into: &mut Vec<Live>)
     }
 }
 
-/// Copies those that wait into a vector that has room for them.
+/// Copies the waiting ones into a vector that has room for them.
 pub fn copy_waiting(from: &[Waiting], into: &mut Vec<Waiting>)
     requires room { length from.now ≤ vec_capacity into.old }
     ensures items { into.new.items ≡ from.now }

@@ -1,4 +1,4 @@
-//! The records of a lock set as the keeper of an event.
+//! The records of a lock set as the store of an event.
 ghost use Rattle.std.specs.Prelude.{◌≡◌, ◌≤◌, [], IfOk};
 ghost use Rattle.std.specs.FinMap.{len};
 ghost use Rattle.std.specs.Vec.{vec_capacity};
@@ -12,7 +12,7 @@ use ioc_record::RecordKind;
 use ioc_store::{Call, EventStore, Frame, OutboxItem, Store};
 use std::alloc::{AllocError, Global};
 
-/// The records of a lock set with their devices, and what the event has come to.
+/// The records of a lock set with their devices, and the state of the event.
 #[derive(Drop)]
 pub struct SetStore<K, D> {
     pub members: Members<K, D>,
@@ -23,8 +23,8 @@ impl<K, D> SetStore<K, D> {
     ghost use Rattle.ioc_workplace.specs.SetStore.{world_of};
     ghost use Rattle.ioc_store.specs.World.{begun_at};
 
-    /// Begins an event at a moment, in nanoseconds since 1970-01-01 00:00 UTC: no device was called in it yet, and nothing
-    /// was sent.
+    /// Begins an event with this time stamp, in nanoseconds since 1970-01-01 00:00 UTC: no device
+    /// call is made yet, and nothing is sent.
     pub fn begin_at(&mut self, moment: u64)
         ensures world { world_of self.new ≡ begun_at moment (world_of self.old) }
         ensures members { self.new.members ≡ self.old.members }
@@ -32,11 +32,12 @@ impl<K, D> SetStore<K, D> {
         self.event.begin(moment);
     }
 
-    /// No open frame, with room for all records: what the requests of an event are made with.
+    /// Returns an empty list of open frames with room for all records, for the requests of an
+    /// event.
     ///
     /// # Errors
     ///
-    /// [`AllocError`] where memory is wanting.
+    /// [`AllocError`] if allocation fails.
     pub fn frames(&self, alloc: Global) -> Result<Vec<Frame>, AllocError>
         ensures empty { IfOk result (λ f. f.items ≡ []) }
         ensures room { IfOk result (λ f. len (world_of self.now).records ≤ vec_capacity f) }
@@ -46,7 +47,7 @@ impl<K, D> SetStore<K, D> {
     }
 }
 
-// A notification is taken from the records that have it.
+// Removes the records that are part of a put with notification from it.
 #[derive(Drop)]
 struct Freeing {
     notification: NotifyId,
@@ -64,7 +65,8 @@ impl<K: RecordKind> Change<K> for Freeing {
     }
 }
 
-// What an event does to the devices of a store leaves the bases as they are: they stand beside the devices.
+// The effect of an event on the devices of the store leaves the bases unchanged, which are beside
+// the devices.
 impl<K: RecordKind + Drop, D: Device> Store for SetStore<K, D> {
     type Record = K;
 

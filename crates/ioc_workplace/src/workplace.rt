@@ -1,4 +1,4 @@
-//! Where an event of a lock set is done.
+//! The buffers of an event on a lock set.
 ghost use Rattle.std.specs.Prelude.{◌≡◌, ◌≤◌, [], IfOk, OnOk, OnErr};
 ghost use Rattle.std.specs.Vec.{vec_capacity};
 ghost use Rattle.std.specs.FinMap.{len};
@@ -14,15 +14,17 @@ use ioc_store::{EventStore, Frame, OutboxItem};
 use std::alloc::{AllocError, Global};
 use std::mem;
 
-/// What an event needs and no set has for itself: where its calls, what it sends and its open frames are kept. One of it serves any number of
-/// sets, one event after another. Between events it has no records and no open frame, and no put with notification is live in it.
+/// What an event needs and a set doesn't have itself: buffers for its calls, for what it sends, and
+/// for its open frames. One value serves any number of sets, one event after another. Between
+/// events it has no records and no open frame, and no put with notification is live in it.
 #[derive(Drop)]
 pub struct Workplace<K, D> {
     pub store: SetStore<K, D>,
     pub frames: Vec<Frame>,
-    /// Room for the answers of an event, which are kept in it where no room of their size is to be had.
+    /// A spare buffer for the answers of an event, used if no buffer of the right size can be
+    /// allocated.
     pub spare: Vec<Answer>,
-    /// The same for the answers of which a journal keeps a list of its own.
+    /// A spare buffer for the copy of the answers that a journal keeps.
     pub journal_spare: Vec<Answer>,
     pub ghost no_record: { len store.members.records ≡ 0 },
     pub ghost none_live: { store.event.notifications.live.live ≡ [] },
@@ -32,7 +34,8 @@ pub struct Workplace<K, D> {
     pub ghost none_journaled: { journal_spare.items ≡ [] },
 }
 
-/// The answers of these calls, in room of their own: of their size, or else the spare room, which was taken before. So it can't be refused.
+/// Returns the answers of these calls in a buffer of their own: one of the right size, or the spare
+/// one if allocation fails. So this can't fail.
 #[inline(always)]
 pub fn kept_answers(calls: &Calls, spare: &mut Vec<Answer>, alloc: Global) -> KeptAnswers
     requires empty { spare.old.items ≡ [] }
@@ -54,11 +57,11 @@ impl<K, D> Workplace<K, D> {
     ghost use Rattle.ioc_workplace.specs.Resting.{resting};
     ghost use Rattle.std.specs.FinMap.{empty};
 
-    /// No event was done yet.
+    /// Creates the buffers before the first event.
     ///
     /// # Errors
     ///
-    /// [`AllocError`] where memory is wanting.
+    /// [`AllocError`] if allocation fails.
     pub fn new(alloc: Global) -> Result<Self, AllocError>
         ensures { IfOk result (λ p. world_of p.store ≡ resting empty [] []) }
     {
@@ -74,32 +77,32 @@ impl<K, D> Workplace<K, D> {
         })
     }
 
-    /// What the last event has sent, in order.
+    /// Returns the items that the last event has sent, in order.
     pub fn items(&self) -> &[OutboxItem]
         ensures { result.now ≡ (world_of self.now.store).outbox }
     {
         self.store.event.outbox.items()
     }
 
-    /// How many items of the last event found no room.
+    /// Returns the number of items that the last event has dropped.
     pub fn dropped(&self) -> u64
         ensures { result ≡ (world_of self.now.store).dropped }
     {
         self.store.event.outbox.dropped
     }
 
-    /// Which puts with notification have ended in the last event, in order.
+    /// Returns the puts with notification that have ended in the last event, in order.
     pub fn ended(&self) -> &[NotifyId]
         ensures { result.now ≡ (world_of self.now.store).ended }
     {
         self.store.event.notifications.ended()
     }
 
-    /// Takes room for the frames of an event on so many records, and for its answers.
+    /// Reserves room for the frames of an event on `count` records, and for its answers.
     ///
     /// # Errors
     ///
-    /// [`AllocError`] where memory is wanting.
+    /// [`AllocError`] if allocation fails.
     pub fn make_room(&mut self, count: usize) -> Result<(), AllocError>
         ensures frames { OnOk result (count ≤ vec_capacity self.new.frames) }
         ensures answers { OnOk result (256 ≤ vec_capacity self.new.spare) }

@@ -18,7 +18,7 @@ use Rattle.rec_binary.specs.declared.bi.Bi.{Bi}
 use Rattle.rec_binary.specs.declared.two_state.TwoState.{TwoState}
 use Rattle.rec_binary.specs.TwoState.{new_two_state, two_state_get, two_state_stored, tested}
 
--- ---- fields
+-- ---- Fields
 
 unfoldable pub new_bi : Bi
 new_bi = record { states = new_two_state; source = new_source }
@@ -26,22 +26,23 @@ new_bi = record { states = new_two_state; source = new_source }
 abbrev pub states_stored : Held Bi → OwnField → Value → Held Bi
 states_stored h field v = record h { body = record h.body { states = two_state_stored h.body.states field v } }
 
--- VAL clears UDF
+-- The fields with a converted value stored. VAL clears UDF.
 unfoldable pub bi_stored : Held Bi → OwnField → Value → Held Bi
 bi_stored h Val v = let stored = states_stored h Val v in record stored { condition = record h.condition { undefined = 0 } }
 bi_stored h field v = states_stored h field v
 
--- ---- the body
+-- ---- The body
 
--- the value is RVAL's where raw, else VAL's
+-- The kind of the input: that of RVAL if the raw value is read, else that of VAL.
 unfoldable pub bi_kind : Held Bi → InputKind
 bi_kind h = if is_raw h.body.source.input.link h.condition then input.Number range.ULong else input.Number range.UShort
 
--- the bits of MASK alone, where MASK isn't 0
+-- The bits of the number that are in MASK, if MASK isn't 0.
 abbrev pub masked : ℕ → ℕ → ℕ
 masked mask raw = if mask == 0 then raw else bit_and raw mask
 
--- RVAL takes a value's masked bits, VAL is 0 where these are and else 1, and UDF is cleared
+-- The fields with a value's masked bits in RVAL. VAL is 0 if these are 0 and else 1, and UDF is
+-- cleared.
 unfoldable pub raw_taken : Held Bi → ℕ → Held Bi
 raw_taken h raw =
     let bits = masked h.body.states.mask raw in
@@ -50,12 +51,12 @@ raw_taken h raw =
       condition = record h.condition { undefined = 0 };
     }
 
--- the same, where there is a number
+-- The fields with a number stored in RVAL in this way, if there is one.
 abbrev pub raw_taken_if : Held Bi → Option ℕ → Held Bi
 raw_taken_if h None = h
 raw_taken_if h (Some raw) = raw_taken h raw
 
--- VAL takes a number, where there is one, and UDF is cleared
+-- The fields with a number stored in VAL and UDF cleared, if there is one.
 abbrev pub state_taken_if : Held Bi → Option ℕ → Held Bi
 state_taken_if h None = h
 state_taken_if h (Some state) = record {
@@ -68,11 +69,12 @@ came h got =
     if is_raw h.body.source.input.link h.condition then raw_taken_if h (raw_came got h.body.states.raw)
     else state_taken_if h (state_came got h.body.states.value)
 
--- a defined value above 1 is no state, and has no alarm
+-- The fields with the alarms of the states raised. A defined value above 1 isn't a state and has no
+-- alarm.
 abbrev pub states_tested : Held TwoState → Held TwoState
 states_tested h = if h.condition.undefined == 0 && nat_lt 1 h.body.value then h else tested h
 
--- with the alarms of the states
+-- The fields of a bi with the alarms of the states raised.
 unfoldable pub bi_tested : Held Bi → Held Bi
 bi_tested h =
     let t = states_tested (record { body = h.body.states; condition = h.condition }) in
@@ -81,18 +83,19 @@ bi_tested h =
 unfoldable pub bi_taken : Held Bi → Got → Held Bi
 bi_taken h got = bi_tested (came h got)
 
--- ---- the load
+-- ---- The load
 
--- a constant of INP must convert to RVAL
+-- A constant in INP must convert to RVAL.
 abbrev pub bi_constant_kind : OwnField → Option InputKind
 bi_constant_kind Inp = Some (input.Number range.ULong)
 bi_constant_kind _ = None
 
--- RVAL takes a constant that fits
+-- The fields with a constant put into RVAL, if it fits.
 abbrev pub raw_put : Held Bi → ℤ → Held Bi
 raw_put h z = record h { body = record h.body { states = record h.body.states { raw = unwrap_or (raw_constant z) h.body.states.raw } } }
 
--- a constant of INP goes into RVAL where raw, and UDF stays; else into VAL, which clears UDF, where it is at most 65535, else nowhere
+-- The fields with a constant INP put. It goes into RVAL if the raw value is read, and UDF stays the
+-- same; otherwise it goes into VAL, which clears UDF, if it is at most 65535.
 abbrev pub constant_put : Held Bi → ℤ → Held Bi
 constant_put h z = if is_raw h.body.source.input.link h.condition then raw_put h z else state_taken_if h (state_constant z)
 
@@ -100,13 +103,13 @@ abbrev pub link_put : Held Bi → Link → Held Bi
 link_put h (Constant z) = constant_put h z
 link_put h _ = h
 
--- LALM becomes VAL
+-- The fields after the end of a load: a constant is put, and LALM becomes VAL.
 unfoldable pub bi_loaded : Held Bi → Held Bi
 bi_loaded h =
     let c = link_put h h.body.source.input.link in
     record c { body = record c.body { states = record c.body.states { last_alarmed = c.body.states.value } } }
 
--- ---- all of it
+-- ---- All of it
 
 abbrev pub bi : BodyRules Bi
 bi = record {

@@ -26,7 +26,7 @@ use Rattle.rec_binary.specs.declared.bi.Bi.{Bi}
 use Rattle.rec_binary.specs.TwoState.{new_two_state, two_state_get, two_state_stored}
 use Rattle.rec_binary.specs.Bi.{bi, new_bi, bi_stored, raw_taken, raw_taken_if, state_taken_if, raw_put, bi_tested, bi_taken, link_put, bi_loaded}
 
--- ---- links: INP stays
+-- ---- Links: INP stays
 
 stored-source : (h : Held Bi) (f : OwnField) (v : Value) → (bi_stored h f v).body.source ≡ h.body.source
 unfolding bi_stored
@@ -73,7 +73,7 @@ unfolding new_bi new_source use_of
 missing-links Inp = refl
 missing-links _ = refl
 
--- ---- values
+-- ---- Values
 
 reads_back : (h : Held Bi) (f : OwnField) (v : Value) → can_put Bi-type (Own f) ≡ true → IsValueOf (sort_in h.body.states.names (kind_of Bi-type (Own f))) v → two_state_get (bi_stored h f v).body.states f ≡ Some v
 unfolding row_of own_row bi_row two_state_row bi_stored two_state_get two_state_stored field_sort

@@ -15,7 +15,7 @@ use ioc_record::RecordBody;
 use ioc_values::{Range, Text, Value};
 use std::alloc::{AllocError, Global};
 
-/// The own fields of a bi. Record Reference Manual, "Binary Input Record".
+/// The type-specific fields of a bi. Record Reference Manual, "Binary Input Record".
 #[derive(Drop)]
 pub struct Bi {
     /// VAL, RVAL, MASK, ZNAM, ONAM, ZSV, OSV, COSV and LALM.
@@ -25,7 +25,7 @@ pub struct Bi {
 }
 
 impl Bi {
-    /// Those of a new record: all 0 or empty.
+    /// Creates the fields of a new record, all 0 or empty.
     #[tactic(auto, unfolding(crate::specs::Bi::new_bi))]
     pub fn new() -> Self
         ensures value { result ≡ new_bi }
@@ -37,7 +37,7 @@ impl Bi {
         }
     }
 
-    // RVAL takes a value, of which MASK lets its bits through, and VAL is made of it.
+    // Stores a value masked by MASK in RVAL, and sets VAL from it.
     #[tactic(auto, unfolding(crate::specs::Bi::raw_taken))]
     fn take_raw(&mut self, condition: &mut Condition, raw: u32)
         ensures { record { body = self.new; condition = condition.new } ≡ raw_taken (record { body = self.old; condition = condition.old }) raw }
@@ -51,7 +51,7 @@ impl Bi {
         condition.undefined = 0;
     }
 
-    // RVAL takes a number, where there is one.
+    // Stores a number in RVAL and sets VAL, if there is one.
     fn take_raw_if(&mut self, condition: &mut Condition, raw: Option<u32>)
         ensures { record { body = self.new; condition = condition.new } ≡ raw_taken_if (record { body = self.old; condition = condition.old }) raw }
     {
@@ -60,7 +60,7 @@ impl Bi {
         }
     }
 
-    // VAL takes a number, where there is one.
+    // Stores a number in VAL, if there is one.
     fn take_state_if(&mut self, condition: &mut Condition, state: Option<u16>)
         ensures { record { body = self.new; condition = condition.new } ≡ state_taken_if (record { body = self.old; condition = condition.old }) state }
     {
@@ -70,7 +70,7 @@ impl Bi {
         }
     }
 
-    // A value that is no state has no alarm of one.
+    // Raises the alarms of the states. A defined value above 1 isn't a state and has no alarm.
     #[tactic(auto, unfolding(crate::specs::Bi::bi_tested))]
     fn test(&mut self, condition: &mut Condition)
         ensures { record { body = self.new; condition = condition.new } ≡ bi_tested (record { body = self.old; condition = condition.old }) }
@@ -80,7 +80,8 @@ impl Bi {
         }
     }
 
-    // A constant goes into RVAL where raw, else into VAL where it is a state's number.
+    // Puts a constant into RVAL if the raw value is read, or else into VAL if it is from 0 to
+    // 65535.
     fn put_constant(&mut self, condition: &mut Condition, constant: i64)
         ensures { record { body = self.new; condition = condition.new } ≡ constant_put (record { body = self.old; condition = condition.old }) constant }
     {

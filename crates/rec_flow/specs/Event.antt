@@ -13,36 +13,37 @@ use Rattle.rec_text.specs.declared.text_input.TextInput.{TextInput}
 use Rattle.rec_text.specs.TextInput.{new_text_input, text_input_get, text_input_stored, text_constant_kind, constant_put}
 use Rattle.rec_flow.specs.declared.event.Event.{Event}
 
--- ---- fields
+-- ---- Fields
 
 unfoldable pub new_event : Event
 new_event = record { text = new_text_input }
 
--- its text input with the condition, and back
+-- The text input with the condition.
 abbrev pub inner : Held Event → Held TextInput
 inner h = record { body = h.body.text; condition = h.condition }
 
 abbrev pub outer : Held TextInput → Held Event
 outer h = record { body = record { text = h.body }; condition = h.condition }
 
--- ---- the body
+-- ---- The body
 
--- a text that came goes into VAL; UDF becomes 0, also where nothing came; after a fault all stays
+-- The fields after the input. A text is stored in VAL, and UDF becomes 0, also without a text.
+-- After a fault everything stays the same.
 unfoldable pub event_taken : Held Event → Got → Held Event
 event_taken h (got.Value v) = outer (text_input_stored (inner h) Val v)
 event_taken h got.Nothing = record h { condition = record h.condition { undefined = 0 } }
 event_taken h got.Fault = h
 
--- the event that VAL names is posted
+-- Posts the event that VAL names.
 unfoldable pub event_output : Held Event → Got → Output
 event_output h got = PostEvent (event_taken h got).body.text.value
 
--- ---- the load
+-- ---- The load
 
 unfoldable pub event_loaded : Held Event → Held Event
 event_loaded h = outer (constant_put (inner h) h.body.text.source.input.link)
 
--- ---- all of it
+-- ---- All of it
 
 abbrev pub event : BodyRules Event
 event = record {

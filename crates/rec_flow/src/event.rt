@@ -10,7 +10,7 @@ use ioc_values::{Text, Value};
 use rec_text::TextInput;
 use std::alloc::{AllocError, Global};
 
-/// The own fields of an event. Record Reference Manual, "Event Record".
+/// The type-specific fields of an event. Record Reference Manual, "Event Record".
 #[derive(Drop)]
 pub struct Event {
     /// VAL and INP.
@@ -18,7 +18,7 @@ pub struct Event {
 }
 
 impl Event {
-    /// Those of a new record: empty.
+    /// Creates the fields of a new record, which are empty.
     #[tactic(auto, unfolding(crate::specs::Event::new_event))]
     pub fn new() -> Self
         ensures value { result ≡ new_event }

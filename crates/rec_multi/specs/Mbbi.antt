@@ -20,7 +20,7 @@ use Rattle.rec_multi.specs.MultiState.{new_multi_state, multi_get, multi_stored,
 use Rattle.rec_multi.specs.declared.multi_state.MultiState.{MultiState}
 use Rattle.rec_multi.specs.declared.mbbi.Mbbi.{Mbbi}
 
--- ---- fields
+-- ---- Fields
 
 unfoldable pub new_mbbi : Mbbi
 new_mbbi = record { states = new_multi_state; source = new_source }
@@ -28,25 +28,25 @@ new_mbbi = record { states = new_multi_state; source = new_source }
 abbrev pub states_stored : Held Mbbi → OwnField → Value → Held Mbbi
 states_stored h field v = record h { body = record h.body { states = multi_stored h.body.states field v } }
 
--- VAL clears UDF
+-- The fields with a converted value stored. VAL clears UDF.
 unfoldable pub mbbi_stored : Held Mbbi → OwnField → Value → Held Mbbi
 mbbi_stored h Val v = let stored = states_stored h Val v in record stored { condition = record h.condition { undefined = 0 } }
 mbbi_stored h field v = states_stored h field v
 
--- ---- the body
+-- ---- The body
 
--- the value is RVAL's where raw, else VAL's
+-- The kind of the input: that of RVAL if the raw value is read, else that of VAL.
 unfoldable pub mbbi_kind : Held Mbbi → InputKind
 mbbi_kind h = if is_raw h.body.source.input.link h.condition then input.Number range.ULong else input.Number range.UShort
 
--- what VAL is, of RVAL shifted right by SHFT: where states are defined the lowest one of that value, 65535 where none has it;
--- else its 16 low bits
+-- The VAL for an RVAL, which is shifted right by SHFT. If states are defined it is the first one
+-- with that value, or 65535 if none has it; else it is the 16 low bits.
 unfoldable pub state_of : MultiState → ℕ → ℕ
 state_of t raw =
     let number = shifted_right raw t.shift in
     if are_defined t.states then state_valued t.states.values number else number % 2 ^ 16
 
--- RVAL takes the bits of MASK of a value, VAL is made of it, and UDF is cleared
+-- The fields with a value's masked bits in RVAL. VAL is set from these, and UDF is cleared.
 unfoldable pub raw_taken : Held Mbbi → ℕ → Held Mbbi
 raw_taken h raw =
     let bits = bit_and raw h.body.states.mask in
@@ -55,12 +55,12 @@ raw_taken h raw =
       condition = record h.condition { undefined = 0 };
     }
 
--- the same, where there is a number
+-- The fields with a number stored in RVAL in this way, if there is one.
 abbrev pub raw_taken_if : Held Mbbi → Option ℕ → Held Mbbi
 raw_taken_if h None = h
 raw_taken_if h (Some raw) = raw_taken h raw
 
--- VAL takes a number, where there is one, and UDF is cleared
+-- The fields with a number stored in VAL and UDF cleared, if there is one.
 abbrev pub state_taken_if : Held Mbbi → Option ℕ → Held Mbbi
 state_taken_if h None = h
 state_taken_if h (Some state) = record {
@@ -73,7 +73,7 @@ came h got =
     if is_raw h.body.source.input.link h.condition then raw_taken_if h (raw_came got h.body.states.raw)
     else state_taken_if h (state_came got h.body.states.value)
 
--- with the alarms of the states
+-- The fields with the alarms of the states raised.
 abbrev pub alarmed : Held Mbbi → Held Mbbi
 alarmed h =
     let t = tested (record { body = h.body.states; condition = h.condition }) in
@@ -82,18 +82,19 @@ alarmed h =
 unfoldable pub mbbi_taken : Held Mbbi → Got → Held Mbbi
 mbbi_taken h got = alarmed (came h got)
 
--- ---- the load
+-- ---- The load
 
--- a constant of INP must convert to RVAL
+-- A constant in INP must convert to RVAL.
 abbrev pub mbbi_constant_kind : OwnField → Option InputKind
 mbbi_constant_kind Inp = Some (input.Number range.ULong)
 mbbi_constant_kind _ = None
 
--- RVAL takes a constant that fits
+-- The fields with a constant put into RVAL, if it fits.
 abbrev pub raw_put : Held Mbbi → ℤ → Held Mbbi
 raw_put h z = record h { body = record h.body { states = record h.body.states { raw = unwrap_or (raw_constant z) h.body.states.raw } } }
 
--- a constant of INP goes into RVAL where raw, and UDF stays; else into VAL, which clears UDF, where it is at most 65535, else nowhere
+-- The fields with a constant INP put. It goes into RVAL if the raw value is read, and UDF stays the
+-- same; otherwise it goes into VAL, which clears UDF, if it is at most 65535.
 abbrev pub constant_put : Held Mbbi → ℤ → Held Mbbi
 constant_put h z = if is_raw h.body.source.input.link h.condition then raw_put h z else state_taken_if h (state_constant z)
 
@@ -101,17 +102,17 @@ abbrev pub link_put : Held Mbbi → Link → Held Mbbi
 link_put h (Constant z) = constant_put h z
 link_put h _ = h
 
--- MASK is made
+-- The fields with MASK set from NOBT and SHFT.
 abbrev pub mask_made : Held Mbbi → Held Mbbi
 mask_made h = record h { body = record h.body { states = masked h.body.states } }
 
--- MASK is made, a constant is put, and LALM becomes VAL
+-- The fields after the end of a load: MASK is set, a constant is put, and LALM becomes VAL.
 unfoldable pub mbbi_loaded : Held Mbbi → Held Mbbi
 mbbi_loaded h =
     let c = link_put (mask_made h) h.body.source.input.link in
     record c { body = record c.body { states = record c.body.states { last_alarmed = c.body.states.value } } }
 
--- ---- all of it
+-- ---- All of it
 
 abbrev pub mbbi : BodyRules Mbbi
 mbbi = record {

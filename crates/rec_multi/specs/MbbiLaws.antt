@@ -25,7 +25,7 @@ use Rattle.rec_multi.specs.MultiState.{new_multi_state, multi_get, multi_reads_b
 use Rattle.rec_multi.specs.Mbbi.{mbbi, new_mbbi, mbbi_stored, raw_taken, raw_taken_if, state_taken_if, raw_put, mbbi_taken, link_put, mask_made, mbbi_loaded}
 use Rattle.rec_multi.specs.declared.mbbi.Mbbi.{Mbbi}
 
--- ---- links: INP stays
+-- ---- Links: INP stays
 
 stored-source : (h : Held Mbbi) (f : OwnField) (v : Value) → (mbbi_stored h f v).body.source ≡ h.body.source
 unfolding mbbi_stored
@@ -72,7 +72,7 @@ unfolding new_mbbi new_source use_of
 missing-links Inp = refl
 missing-links _ = refl
 
--- ---- values
+-- ---- Values
 
 reads_back_by : (h : Held Mbbi) (texts : List (List ℕ)) (f : OwnField) (v : Value) → can_put_by (mbbi_row f) → IsValueBy texts (mbbi_row f) v → multi_get (mbbi_stored h f v).body.states f ≡ Some v
 unfolding mbbi_row mbbi_stored

@@ -26,7 +26,7 @@ use Rattle.rec_multi.specs.MultiState.{new_multi_state, multi_get, multi_stored,
 use Rattle.rec_multi.specs.declared.multi_state.MultiState.{MultiState}
 use Rattle.rec_multi.specs.declared.mbbo.Mbbo.{Mbbo}
 
--- ---- fields
+-- ---- Fields
 
 unfoldable pub new_mbbo : Mbbo
 new_mbbo = record { states = new_multi_state; drive = new_drive; invalid_value = 0 }
@@ -37,7 +37,7 @@ mbbo_get b Omsl = drive_get b.drive Omsl
 mbbo_get b Ivoa = drive_get b.drive Ivoa
 mbbo_get b field = multi_get b.states field
 
--- VAL clears UDF
+-- The fields with a converted value stored. VAL clears UDF.
 unfoldable pub mbbo_stored : Held Mbbo → OwnField → Value → Held Mbbo
 mbbo_stored h Val v = record { body = record h.body { states = multi_stored h.body.states Val v }; condition = record h.condition { undefined = 0 } }
 mbbo_stored h Ivov v = record h { body = record h.body { invalid_value = unwrap_or (ushort_in v) h.body.invalid_value } }
@@ -45,19 +45,19 @@ mbbo_stored h Omsl v = record h { body = record h.body { drive = drive_stored h.
 mbbo_stored h Ivoa v = record h { body = record h.body { drive = drive_stored h.body.drive Ivoa v } }
 mbbo_stored h field v = record h { body = record h.body { states = multi_stored h.body.states field v } }
 
--- ---- the body
+-- ---- The body
 
 abbrev pub mbbo_kind : InputKind
 mbbo_kind = input.Number range.UShort
 
--- with another VAL, and with another RVAL
+-- The fields with another VAL.
 abbrev pub with_value : Mbbo → ℕ → Mbbo
 with_value b value = record b { states = record b.states { value = value } }
 
 abbrev pub with_raw : Mbbo → ℕ → Mbbo
 with_raw b raw = record b { states = record b.states { raw = raw } }
 
--- the number of the state: where states are defined its value, and none where VAL is above 15; else VAL
+-- The number of the state: its value if states are defined, or none if VAL is above 15; else VAL.
 unfoldable pub number_of : MultiState → Option ℕ
 number_of t = if are_defined t.states then slice_get t.states.values t.value else Some t.value
 
@@ -65,17 +65,19 @@ abbrev pub shifted_if : Mbbo → Option ℕ → Mbbo
 shifted_if b None = b
 shifted_if b (Some number) = with_raw b (shifted_left number b.states.shift)
 
--- RVAL is the number of the state, shifted left by SHFT and cut to 32 bits; it stays where there is no such state
+-- The fields with RVAL set to the number of the state, shifted left by SHFT and truncated to 32
+-- bits. RVAL stays the same if there is no such state.
 unfoldable pub converted : Mbbo → Mbbo
 converted b = shifted_if b (number_of b.states)
 
--- a value that came goes into VAL, clears UDF, and is converted; where nothing came, a defined VAL is; after a fault all stays
+-- The fields after the input. A value is stored in VAL, clears UDF, and is converted. Without a
+-- value a defined VAL is converted, and after a fault everything stays the same.
 abbrev pub came : Held Mbbo → Got → Held Mbbo
 came h (got.Value v) = record { body = converted (with_value h.body (unwrap_or (ushort_in v) h.body.states.value)); condition = record h.condition { undefined = 0 } }
 came h got.Nothing = if h.condition.undefined == 0 then record h { body = converted h.body } else h
 came h got.Fault = h
 
--- with the alarms of the states
+-- The fields with the alarms of the states raised.
 abbrev pub alarmed : Held Mbbo → Held Mbbo
 alarmed h =
     let t = tested (record { body = h.body.states; condition = h.condition }) in
@@ -84,14 +86,14 @@ alarmed h =
 unfoldable pub worked : Held Mbbo → Got → Held Mbbo
 worked h got = alarmed (came h got)
 
--- with IVOV driven, where IVOA says so: it is converted whatever came
+-- The fields with VAL set to IVOV, if IVOA says so. It is converted whatever the input was.
 unfoldable pub settled : Held Mbbo → Held Mbbo
 settled h = if sets h.body.drive.on_invalid h.condition then record h { body = converted (with_value h.body h.body.invalid_value) } else h
 
 unfoldable pub mbbo_taken : Held Mbbo → Got → Held Mbbo
 mbbo_taken h got = settled (worked h got)
 
--- the bits of MASK of RVAL where raw, else VAL
+-- The driven value: RVAL masked by MASK if the raw value is written, else VAL.
 unfoldable pub driven_value : Mbbo → Condition → Value
 driven_value b c = if is_raw b.drive.output.link c then value.ULong (bit_and b.states.raw b.states.mask) else value.UShort b.states.value
 
@@ -101,19 +103,19 @@ driven h = if drives h.body.drive.on_invalid h.condition then written h.body.dri
 unfoldable pub mbbo_output : Held Mbbo → Got → Output
 mbbo_output h got = driven (mbbo_taken h got)
 
--- ---- the load
+-- ---- The load
 
--- a constant of DOL must convert to VAL
+-- A constant in DOL must convert to VAL.
 abbrev pub mbbo_constant_kind : OwnField → Option InputKind
 mbbo_constant_kind Dol = Some mbbo_kind
 mbbo_constant_kind _ = None
 
--- with VAL set to a value, if there is one
+-- The fields with VAL set to a value, if there is one.
 abbrev pub value_if : Held Mbbo → Option Value → Held Mbbo
 value_if h None = h
 value_if h (Some v) = record { body = with_value h.body (unwrap_or (ushort_in v) h.body.states.value); condition = record h.condition { undefined = 0 } }
 
--- a constant of DOL is put into VAL, which clears UDF
+-- The fields with a constant DOL put into VAL, which clears UDF.
 abbrev pub link_put : Held Mbbo → Link → Held Mbbo
 link_put h (Constant z) = value_if h (of_number (Numbers range.UShort) z)
 link_put h _ = h
@@ -121,13 +123,13 @@ link_put h _ = h
 abbrev pub mask_made : Held Mbbo → Held Mbbo
 mask_made h = record h { body = record h.body { states = masked h.body.states } }
 
--- MASK is made, a constant is put, and LALM becomes VAL
+-- The fields after the end of a load: MASK is set, a constant is put, and LALM becomes VAL.
 unfoldable pub mbbo_loaded : Held Mbbo → Held Mbbo
 mbbo_loaded h =
     let c = link_put (mask_made h) h.body.drive.desired.link in
     record c { body = record c.body { states = record c.body.states { last_alarmed = c.body.states.value } } }
 
--- ---- all of it
+-- ---- All of it
 
 abbrev pub mbbo : BodyRules Mbbo
 mbbo = record {

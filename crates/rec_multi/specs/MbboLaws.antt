@@ -32,9 +32,9 @@ use Rattle.rec_multi.specs.MultiState.{multi_get, multi_reads_back, multi_defaul
 use Rattle.rec_multi.specs.Mbbo.{mbbo, new_mbbo, mbbo_get, mbbo_stored, with_value, number_of, shifted_if, converted, came, worked, settled, mbbo_taken, driven_value, mbbo_output, value_if, link_put, mask_made, mbbo_loaded}
 use Rattle.rec_multi.specs.declared.mbbo.Mbbo.{Mbbo}
 
--- ---- links
+-- ---- Links
 
--- the links that a drive has
+-- The links of a drive.
 abbrev links : Drive → OwnField → Option LinkField
 links d = drive_link d.output d.desired
 
@@ -98,7 +98,7 @@ unfolding new_mbbo new_drive use_of
 missing-links Out = refl
 missing-links _ = refl
 
--- ---- values
+-- ---- Values
 
 reads_back_by : (h : Held Mbbo) (texts : List (List ℕ)) (f : OwnField) (v : Value) → can_put_by (mbbo_row f) → IsValueBy texts (mbbo_row f) v → mbbo_get (mbbo_stored h f v).body f ≡ Some v
 unfolding mbbo_row output_row mbbo_get mbbo_stored field_sort
@@ -119,7 +119,7 @@ set_values-of b f l Omsl = drive_set_values b.drive f l Omsl
 set_values-of b f l Ivoa = drive_set_values b.drive f l Ivoa
 set_values-of b f l _ = refl
 
--- ---- where the body goes
+-- ---- The output links
 
 driven_leads : (b : Bool) (out : LinkField) (x v : Value) (t : StandingLink) → cond b (written out x) NoOutput ≡ WriteLink (Standing t) v → use_of out ≡ Standing t
 driven_leads true out x v t is = written_leads out x v t is

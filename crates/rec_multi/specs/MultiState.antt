@@ -1,5 +1,5 @@
--- The fields that mbbi and mbbo have, and the alarms on them. Record Reference Manual, "Multi-Bit Binary Input Record" and
--- "Multi-Bit Binary Output Record".
+-- The fields that mbbi and mbbo share, and their alarms. Record Reference Manual, "Multi-Bit Binary
+-- Input Record" and "Multi-Bit Binary Output Record".
 use Rattle.std.proofs.Common.{◌≡◌, ℕ, true, List, Option, Some, refl, ap}
 use Rattle.std.specs.Option.{option_map}
 use Rattle.std.specs.Prelude.{◌==◌, false, if◌then◌else◌, unwrap_or}
@@ -48,7 +48,7 @@ multi_get t Cosv = Some (value.Enum (severity_number t.change_severity))
 multi_get t Lalm = Some (value.UShort t.last_alarmed)
 multi_get t field = states_get t.states field
 
--- with a converted value stored in a field; one of another kind changes nothing
+-- The fields with a converted value stored. A value of another kind changes nothing.
 unfoldable pub multi_stored : MultiState → OwnField → Value → MultiState
 multi_stored t Val v = record t { value = unwrap_or (state_in v) t.value }
 multi_stored t Rval v = record t { raw = unwrap_or (ulong_in v) t.raw }
@@ -59,33 +59,34 @@ multi_stored t Unsv v = record t { unknown_severity = unwrap_or (severity_in v) 
 multi_stored t Cosv v = record t { change_severity = unwrap_or (severity_in v) t.change_severity }
 multi_stored t field v = record t { states = states_stored t.states field v }
 
--- the severity of the state; UNSV where VAL is above 15
+-- The severity of the state, or UNSV if VAL is above 15.
 unfoldable pub severity_of : MultiState → Severity
 severity_of t = severity_in_state t.states t.value t.unknown_severity
 
--- a change of the state raises COS
+-- The fields with COS raised, if the state has changed.
 unfoldable pub changed : Held MultiState → Held MultiState
 changed h =
     if h.body.value == h.body.last_alarmed then h
     else record { body = record h.body { last_alarmed = h.body.value }; condition = raised status.Cos h.body.change_severity h.condition }
 
--- the alarm of an undefined value; else that of the state, and of a change
+-- The fields with the alarm of an undefined value raised, or else those of the state and of a
+-- change.
 unfoldable pub tested : Held MultiState → Held MultiState
 tested h =
     if h.condition.undefined == 0 then changed (record h { condition = raised status.State (severity_of h.body) h.condition })
     else record h { condition = raised status.Udf h.condition.undefined_severity h.condition }
 
--- at load MASK is made of NOBT and SHFT, where it is 0
+-- The fields with MASK set from NOBT and SHFT if it is 0, at load.
 unfoldable pub masked : MultiState → MultiState
 masked t = if t.mask == 0 then record t { mask = made_mask t.bits t.shift } else t
 
--- ---- laws
+-- ---- Laws
 
--- a value of the sort of a field with this row
+-- Holds if the value is of the sort of a field with this row.
 abbrev pub IsValueBy : List (List ℕ) → Option Row → Value → Type 0
 IsValueBy texts row v = IsValueOf (sort_in texts (option_map (λ (r : Row). r.kind) row)) v
 
--- what is put reads back
+-- A value that is put reads back.
 pub multi_reads_back : (t : MultiState) (texts : List (List ℕ)) (f : OwnField) (v : Value) → can_put_by (multi_state_row f) → IsValueBy texts (multi_state_row f) v → multi_get (multi_stored t f v) f ≡ Some v
 unfolding multi_state_row multi_get multi_stored field_sort
 multi_reads_back t texts Val v can is = rw is.1 refl
@@ -99,7 +100,7 @@ multi_reads_back t texts (StateText s) v can is = text_reads_back t.states s v i
 multi_reads_back t texts (StateSeverity s) v can is = severity_reads_back t.states s v is
 multi_reads_back t texts _ v can is = cc
 
--- a new one has the defaults
+-- A new record has the defaults.
 pub multi_defaults : (f : OwnField) → multi_get new_multi_state f ≡ default_by (multi_state_row f)
 unfolding multi_state_row multi_get new_multi_state zero_of states_get
 multi_defaults (StateValue s) = new_values s

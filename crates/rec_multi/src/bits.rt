@@ -1,8 +1,8 @@
-//! Bits of numbers of 32 bits.
+//! Bits of 32-bit numbers.
 ghost use Rattle.std.specs.Prelude.{◌≡◌};
 ghost use Rattle.rec_multi.specs.Bits.{lowest_bits, shifted_left, shifted_right, made_mask};
 
-// A number of as many ones, the lowest of 32 bits.
+// Returns a number whose lowest `count` bits are ones, at most all 32.
 #[tactic(auto, unfolding(crate::specs::Bits::lowest_bits))]
 fn lowest_bits(count: u16) -> u32
     ensures { result ≡ lowest_bits count }
@@ -15,7 +15,7 @@ fn lowest_bits(count: u16) -> u32
     }
 }
 
-/// A number shifted left, cut to 32 bits.
+/// Returns the number shifted left, truncated to 32 bits.
 #[tactic(auto, unfolding(crate::specs::Bits::shifted_left))]
 pub fn shifted_left(number: u32, count: u16) -> u32
     ensures { result ≡ shifted_left number count }
@@ -28,7 +28,7 @@ pub fn shifted_left(number: u32, count: u16) -> u32
     }
 }
 
-/// A number shifted right.
+/// Returns the number shifted right.
 #[tactic(auto, unfolding(crate::specs::Bits::shifted_right))]
 pub fn shifted_right(number: u32, count: u16) -> u32
     ensures { result ≡ shifted_right number count }
@@ -40,7 +40,7 @@ pub fn shifted_right(number: u32, count: u16) -> u32
     }
 }
 
-/// The mask of a number of as many bits, which begin at a place: all 32 bits where the number of bits is 0.
+/// Returns a mask of `count` bits that begins at bit `place`, or all 32 bits if the count is 0.
 #[tactic(auto, unfolding(crate::specs::Bits::made_mask))]
 pub fn made_mask(count: u16, place: u16) -> u32
     ensures { result ≡ made_mask count place }

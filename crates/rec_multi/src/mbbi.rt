@@ -16,7 +16,7 @@ use ioc_record::RecordBody;
 use ioc_values::{Range, Text, Value};
 use std::alloc::{AllocError, Global};
 
-/// The own fields of an mbbi. Record Reference Manual, "Multi-Bit Binary Input Record".
+/// The type-specific fields of an mbbi. Record Reference Manual, "Multi-Bit Binary Input Record".
 #[derive(Drop)]
 pub struct Mbbi {
     /// VAL, RVAL, MASK, SHFT, NOBT, the sixteen states, UNSV, COSV and LALM.
@@ -26,7 +26,7 @@ pub struct Mbbi {
 }
 
 impl Mbbi {
-    /// Those of a new record: all 0 or empty.
+    /// Creates the fields of a new record, all 0 or empty.
     #[tactic(auto, unfolding(crate::specs::Mbbi::new_mbbi))]
     pub fn new() -> Self
         ensures value { result ≡ new_mbbi }
@@ -38,7 +38,8 @@ impl Mbbi {
         }
     }
 
-    // What VAL is, of RVAL: where states are defined the lowest one of its value, else its low bits.
+    // Returns the VAL for an RVAL: the first state with its value if states are defined, else its
+    // low bits.
     #[tactic(auto, unfolding(crate::specs::Mbbi::state_of))]
     fn state_of(&self, raw: u32) -> u16
         ensures { result ≡ state_of self.now.states raw }
@@ -51,7 +52,7 @@ impl Mbbi {
         }
     }
 
-    // RVAL takes the bits of MASK of a value, and VAL is made of it.
+    // Stores a value masked by MASK in RVAL, and sets VAL from it.
     #[tactic(auto, unfolding(crate::specs::Mbbi::raw_taken))]
     fn take_raw(&mut self, condition: &mut Condition, raw: u32)
         ensures { record { body = self.new; condition = condition.new } ≡ raw_taken (record { body = self.old; condition = condition.old }) raw }
@@ -62,7 +63,7 @@ impl Mbbi {
         condition.undefined = 0;
     }
 
-    // RVAL takes a number, where there is one.
+    // Stores a number in RVAL and sets VAL, if there is one.
     fn take_raw_if(&mut self, condition: &mut Condition, raw: Option<u32>)
         ensures { record { body = self.new; condition = condition.new } ≡ raw_taken_if (record { body = self.old; condition = condition.old }) raw }
     {
@@ -71,7 +72,7 @@ impl Mbbi {
         }
     }
 
-    // VAL takes a number, where there is one.
+    // Stores a number in VAL, if there is one.
     fn take_state_if(&mut self, condition: &mut Condition, state: Option<u16>)
         ensures { record { body = self.new; condition = condition.new } ≡ state_taken_if (record { body = self.old; condition = condition.old }) state }
     {
@@ -81,7 +82,8 @@ impl Mbbi {
         }
     }
 
-    // A constant goes into RVAL where raw, else into VAL where it is a state's number.
+    // Puts a constant into RVAL if the raw value is read, or else into VAL if it is from 0 to
+    // 65535.
     fn put_constant(&mut self, condition: &mut Condition, constant: i64)
         ensures { record { body = self.new; condition = condition.new } ≡ constant_put (record { body = self.old; condition = condition.old }) constant }
     {

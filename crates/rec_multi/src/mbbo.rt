@@ -15,7 +15,7 @@ use ioc_record::RecordBody;
 use ioc_values::{Kind, Range, Text, Value, of_number};
 use std::alloc::{AllocError, Global};
 
-/// The own fields of an mbbo. Record Reference Manual, "Multi-Bit Binary Output Record".
+/// The type-specific fields of an mbbo. Record Reference Manual, "Multi-Bit Binary Output Record".
 #[derive(Drop)]
 pub struct Mbbo {
     /// VAL, RVAL, MASK, SHFT, NOBT, the sixteen states, UNSV, COSV and LALM.
@@ -27,7 +27,7 @@ pub struct Mbbo {
 }
 
 impl Mbbo {
-    /// Those of a new record: all 0 or empty.
+    /// Creates the fields of a new record, all 0 or empty.
     #[tactic(auto, unfolding(crate::specs::Mbbo::new_mbbo))]
     pub fn new() -> Self
         ensures value { result ≡ new_mbbo }
@@ -40,7 +40,8 @@ impl Mbbo {
         }
     }
 
-    // The number of the state: its value where states are defined, and none where there is no such state; else VAL itself.
+    // Returns the number of the state: its value if states are defined, or `None` if there is no
+    // such state; else VAL itself.
     #[tactic(auto, unfolding(crate::specs::Mbbo::number_of))]
     fn number(&self) -> Option<u32>
         ensures { result ≡ number_of self.now.states }
@@ -52,7 +53,7 @@ impl Mbbo {
         }
     }
 
-    // RVAL takes the number of the state, shifted left, if there is one.
+    // Sets RVAL to the number of the state, shifted left, if there is one.
     #[tactic(auto, unfolding(crate::specs::Mbbo::converted))]
     fn convert(&mut self)
         ensures { self.new ≡ converted self.old }
@@ -62,7 +63,7 @@ impl Mbbo {
         }
     }
 
-    // What came goes into VAL and is converted; where nothing came, a defined VAL is.
+    // Stores the input in VAL and converts it. Without a value a defined VAL is converted.
     fn came(&mut self, condition: &mut Condition, got: &Got)
         ensures { record { body = self.new; condition = condition.new } ≡ came (record { body = self.old; condition = condition.old }) got.now }
     {
@@ -81,7 +82,7 @@ impl Mbbo {
         }
     }
 
-    // Takes what came, and raises alarms.
+    // Takes the input, and raises alarms.
     #[tactic(auto, unfolding(crate::specs::Mbbo::worked))]
     fn work(&mut self, condition: &mut Condition, got: &Got)
         ensures { record { body = self.new; condition = condition.new } ≡ worked (record { body = self.old; condition = condition.old }) got.now }
@@ -90,7 +91,7 @@ impl Mbbo {
         self.states.test(condition);
     }
 
-    // What is driven.
+    // Returns the value that is driven.
     #[tactic(auto, unfolding(crate::specs::Mbbo::driven_value))]
     fn driven_value(&self, condition: &Condition) -> Value
         ensures { result ≡ driven_value self.now condition.now }

@@ -1,4 +1,4 @@
-//! The fields that mbbi and mbbo have, and the alarms on them.
+//! The fields that mbbi and mbbo share, and their alarms.
 ghost use Rattle.std.specs.Prelude.{◌≡◌};
 ghost use Rattle.ioc_record.specs.BodyRules.{Held};
 ghost use Rattle.rec_multi.specs.MultiState.{new_multi_state, multi_get, multi_stored, severity_of, changed, tested, masked};
@@ -10,8 +10,8 @@ use ioc_fields::OwnField;
 use ioc_menus::{Severity, Status};
 use ioc_values::Value;
 
-/// The fields that mbbi and mbbo have.
-/// Record Reference Manual, "Multi-Bit Binary Input Record" and "Multi-Bit Binary Output Record".
+/// The fields that mbbi and mbbo share. Record Reference Manual, "Multi-Bit Binary Input Record"
+/// and "Multi-Bit Binary Output Record".
 #[derive(Clone, Copy, Drop)]
 pub struct MultiState {
     /// VAL.
@@ -34,7 +34,7 @@ pub struct MultiState {
 }
 
 impl MultiState {
-    /// Those of a new record: all 0 or empty.
+    /// Creates the fields of a new record, all 0 or empty.
     #[tactic(auto, unfolding(crate::specs::MultiState::new_multi_state))]
     pub fn new() -> Self
         ensures { result ≡ new_multi_state }
@@ -89,7 +89,7 @@ impl MultiState {
         }
     }
 
-    // The severity of the state, or of a value that is none.
+    // Returns the severity of the state, or UNSV if the value isn't a state.
     #[tactic(auto, unfolding(crate::specs::MultiState::severity_of))]
     fn severity_of(&self) -> Severity
         ensures { result ≡ severity_of self.now }
@@ -97,7 +97,7 @@ impl MultiState {
         self.states.severity(self.value, self.unknown_severity)
     }
 
-    // A change of the state raises COS.
+    // Raises COS if the state has changed.
     #[tactic(auto, unfolding(crate::specs::MultiState::changed))]
     fn test_change(&mut self, condition: &mut Condition)
         ensures { record { body = self.new; condition = condition.new } ≡ changed (record { body = self.old; condition = condition.old }) }
@@ -108,7 +108,7 @@ impl MultiState {
         }
     }
 
-    /// The alarm of an undefined value; else that of the state, and of a change.
+    /// Raises the alarm of an undefined value, or else those of the state and of a change.
     #[tactic(auto, unfolding(crate::specs::MultiState::tested))]
     pub fn test(&mut self, condition: &mut Condition)
         ensures { record { body = self.new; condition = condition.new } ≡ tested (record { body = self.old; condition = condition.old }) }
@@ -122,7 +122,7 @@ impl MultiState {
         }
     }
 
-    /// At load MASK is made of NOBT and SHFT, where it is 0.
+    /// Sets MASK from NOBT and SHFT if it is 0, at load.
     #[tactic(auto, unfolding(crate::specs::MultiState::masked))]
     pub fn load_mask(&mut self)
         ensures { self.new ≡ masked self.old }

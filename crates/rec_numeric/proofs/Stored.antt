@@ -1,4 +1,4 @@
--- A number of a type's own range, stored in VAL.
+-- A number of the type's own range, stored in VAL.
 use Rattle.std.proofs.Common.{◌≡◌, ℤ, Option, Some, None, true, is_some, refl}
 use Rattle.std.specs.Option.{option_and_then}
 use Rattle.ioc_values.specs.declared.value.Value.{Value}
@@ -11,16 +11,16 @@ use Rattle.rec_numeric.specs.Output.{numeric_output, output_stored}
 use Rattle.rec_numeric.specs.declared.input.NumericInput.{NumericInput}
 use Rattle.rec_numeric.specs.declared.output.NumericOutput.{NumericOutput}
 
--- where a number comes of a value that may be there, the value is there
+-- If a number results from an optional value, there is a value.
 pub is_there : {N : Type 0} (taken : Value → Option N) (v : Option Value) (n : N) → Some n ≡ option_and_then taken v → true ≡ is_some v
 is_there taken None n is = cc
 is_there taken (Some v) n is = refl
 
--- an input with a number in VAL
+-- An input with this number in VAL.
 abbrev pub input_with : {N : Type 0} → Held (NumericInput N) → N → Held (NumericInput N)
 input_with h n = record { body = record h.body { numbers = record h.body.numbers { value = n } }; condition = record h.condition { undefined = 0 } }
 
--- an output with a number in VAL
+-- An output with this number in VAL.
 abbrev pub output_with : {N : Type 0} → Held (NumericOutput N) → N → Held (NumericOutput N)
 output_with h n = record { body = record h.body { numbers = record h.body.numbers { value = n } }; condition = record h.condition { undefined = 0 } }
 

@@ -1,4 +1,5 @@
--- The types longin and int64in. Record Reference Manual, "Long Input Record" and "64bit Integer Input Record".
+-- The types longin and int64in. Record Reference Manual, "Long Input Record" and "64bit Integer
+-- Input Record".
 use Rattle.std.specs.Prelude.{ℤ, [], Option, Some, None}
 use Rattle.ioc_values.specs.declared.value.Value.{Value}
 use Rattle.ioc_values.specs.Conversion.{Numbers, of_number}
@@ -17,7 +18,7 @@ use Rattle.rec_numeric.specs.Number.{NumberRules, long_number, int64_number}
 use Rattle.rec_numeric.specs.Numeric.{new_numeric, numeric_get, numeric_stored, tested}
 use Rattle.rec_numeric.specs.declared.input.NumericInput.{NumericInput}
 
--- ---- fields
+-- ---- Fields
 
 unfoldable pub new_input : {N : Type 0} → NumberRules N → NumericInput N
 new_input k = record { numbers = new_numeric k; source = new_source }
@@ -25,20 +26,21 @@ new_input k = record { numbers = new_numeric k; source = new_source }
 abbrev pub numbers_stored : {N : Type 0} → NumberRules N → Held (NumericInput N) → OwnField → Value → Held (NumericInput N)
 numbers_stored k h field v = record h { body = record h.body { numbers = numeric_stored k h.body.numbers field v } }
 
--- with a converted value stored in a field: VAL clears UDF
+-- The fields with a converted value stored. VAL clears UDF.
 unfoldable pub input_stored : {N : Type 0} → NumberRules N → Held (NumericInput N) → OwnField → Value → Held (NumericInput N)
 input_stored k h Val v = let stored = numbers_stored k h Val v in record stored { condition = record h.condition { undefined = 0 } }
 input_stored k h field v = numbers_stored k h field v
 
--- ---- the body
+-- ---- The body
 
--- with the alarms of the number
+-- The fields with the alarms of the number raised.
 abbrev pub alarmed : {N : Type 0} → (N → ℤ) → Held (NumericInput N) → Held (NumericInput N)
 alarmed whole h =
     let t = tested whole (record { body = h.body.numbers; condition = h.condition }) in
     record { body = record h.body { numbers = t.body }; condition = t.condition }
 
--- a value that came goes into VAL and clears UDF; where nothing came, and after a fault, they stay. Then alarms are tested
+-- The fields after the input. A value is stored in VAL and clears UDF; without a value, and after a
+-- fault, both stay the same.
 abbrev pub came : {N : Type 0} → NumberRules N → Held (NumericInput N) → Got → Held (NumericInput N)
 came k h (got.Value v) = input_stored k h Val v
 came k h _ = h
@@ -46,31 +48,31 @@ came k h _ = h
 unfoldable pub input_taken : {N : Type 0} → NumberRules N → (N → ℤ) → Held (NumericInput N) → Got → Held (NumericInput N)
 input_taken k whole h got = alarmed whole (came k h got)
 
--- ---- the load
+-- ---- The load
 
--- a constant of INP must convert to VAL
+-- A constant in INP must convert to VAL.
 abbrev pub input_constant_kind : {N : Type 0} → NumberRules N → OwnField → Option InputKind
 input_constant_kind k Inp = Some (input.Number k.range)
 input_constant_kind k _ = None
 
--- with VAL set to a value, if there is one
+-- The fields with VAL set to a value, if there is one.
 abbrev pub stored_if : {N : Type 0} → NumberRules N → Held (NumericInput N) → Option Value → Held (NumericInput N)
 stored_if k h None = h
 stored_if k h (Some v) = input_stored k h Val v
 
--- a constant of INP is put
+-- The fields with a constant INP put into VAL.
 abbrev pub constant_put : {N : Type 0} → NumberRules N → Held (NumericInput N) → Link → Held (NumericInput N)
 constant_put k h (Constant z) = stored_if k h (of_number (Numbers k.range) z)
 constant_put k h _ = h
 
--- then LALM becomes VAL
+-- The fields with LALM set to VAL.
 abbrev pub settled : {N : Type 0} → Held (NumericInput N) → Held (NumericInput N)
 settled h = record h { body = record h.body { numbers = record h.body.numbers { last_alarmed = h.body.numbers.value } } }
 
 unfoldable pub input_loaded : {N : Type 0} → NumberRules N → Held (NumericInput N) → Held (NumericInput N)
 input_loaded k h = settled (constant_put k h h.body.source.input.link)
 
--- ---- all of it
+-- ---- All of it
 
 abbrev pub numeric_input : {N : Type 0} → NumberRules N → (N → ℤ) → BodyRules (NumericInput N)
 numeric_input k whole = record {
@@ -89,7 +91,7 @@ numeric_input k whole = record {
   loaded = input_loaded k;
 }
 
--- the two types: each number is the whole number that it is
+-- The rules of longin and int64in, in which each number is its own integer.
 abbrev pub longin : BodyRules (NumericInput ℤ)
 longin = numeric_input long_number (λ z. z)
 

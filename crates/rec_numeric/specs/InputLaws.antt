@@ -35,7 +35,7 @@ links_by input range Inp = refl
 links_by input range _ = refl
 
 module _ {N : Type 0} (k : NumberRules N) (whole : N → ℤ) (lawful : IsLawfulNumber k) where
-  -- a body and a store leave INP alone
+  -- Neither the body nor a store changes INP.
   stored-source : (h : Held (NumericInput N)) (f : OwnField) (v : Value) → (input_stored k h f v).body.source ≡ h.body.source
   unfolding input_stored
   stored-source h Val v = refl

@@ -1,4 +1,5 @@
--- The numbers that numeric records hold. Record Reference Manual, "Long Input Record", "64bit Integer Input Record".
+-- The numbers of numeric records. Record Reference Manual, "Long Input Record", "64bit Integer
+-- Input Record".
 use Rattle.std.specs.Prelude.{ℤ, pos, Option}
 use Rattle.ioc_values.specs.declared.kind.Range.{Range}
 use Rattle.ioc_values.specs.declared.kind.Range.TheVariants as range
@@ -8,7 +9,8 @@ use Rattle.ioc_fields.specs.declared.record_type.RecordType.{RecordType}
 use Rattle.ioc_fields.specs.declared.record_type.RecordType.TheVariants as type
 use Rattle.ioc_common.specs.Parts.{long_in, int64_in}
 
--- a kind of numbers: its range and its values, the type that reads such numbers, and the one that writes them
+-- A kind of number: its range and its values, the record type that reads such numbers, and the one
+-- that writes them.
 pub record NumberRules (N : Type 0) : Type 0 where
   pub zero : N
   pub in_value : Value → Option N
@@ -17,10 +19,10 @@ pub record NumberRules (N : Type 0) : Type 0 where
   pub input_type : RecordType
   pub output_type : RecordType
 
--- numbers of 32 bits
+-- Numbers of 32 bits.
 abbrev pub long_number : NumberRules ℤ
 long_number = record { zero = pos 0; in_value = long_in; value = value.Long; range = range.Long; input_type = type.Longin; output_type = type.Longout }
 
--- numbers of 64 bits
+-- Numbers of 64 bits.
 abbrev pub int64_number : NumberRules ℤ
 int64_number = record { zero = pos 0; in_value = int64_in; value = value.Int64; range = range.Int64; input_type = type.Int64in; output_type = type.Int64out }

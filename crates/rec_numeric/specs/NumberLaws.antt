@@ -1,4 +1,5 @@
--- What the numbers of numeric records keep to: the field tables have the types, each with its numbers.
+-- The laws of the numbers in numeric records: the field tables have both types, each with its
+-- numbers.
 use Rattle.std.proofs.Common.{◌≡◌, false, Some, refl}
 use Rattle.ioc_values.specs.declared.value.Value.{Value}
 use Rattle.ioc_values.specs.Shapes.{IsInRange}
@@ -13,11 +14,11 @@ use Rattle.ioc_record.specs.ByRow.{default_by}
 use Rattle.rec_numeric.specs.Number.{NumberRules, long_number, int64_number}
 
 pub record IsLawfulNumber {N : Type 0} (k : NumberRules N) : Type 0 where
-  -- a value in the range is that of a number, and is read as this number
+  -- A value in the range is the value of a number, and reads back as this number.
   pub of_range : (v : Value) → IsInRange k.range v → (n : N) × (v ≡ k.value n)
   pub back : (n : N) → k.in_value (k.value n) ≡ Some n
   pub zero_is : zero_of (Number k.range) ≡ Some (k.value k.zero)
-  -- the two types, by the field tables
+  -- The rows of both types in the field tables.
   pub input_row : (f : OwnField) → own_row k.input_type f ≡ numeric_input_row k.range f
   pub output_row : (f : OwnField) → own_row k.output_type f ≡ numeric_output_row k.range f
   pub input_default : (f : OwnField) → own_default k.input_type f ≡ default_by (numeric_input_row k.range f)

@@ -1,4 +1,4 @@
--- What the group of numbers keeps to: what is put reads back, and a new one has the defaults.
+-- The laws of the shared numeric fields: what is put reads back, and a new record has the defaults.
 use Rattle.std.proofs.Common.{◌≡◌, ℕ, true, [], Option, Some, refl, sym, ap}
 use Rattle.std.specs.Option.{option_map}
 use Rattle.std.specs.Prelude.{◌<◌, unwrap_or, false}
@@ -20,7 +20,7 @@ use Rattle.rec_numeric.specs.NumberLaws.{IsLawfulNumber}
 use Rattle.rec_numeric.specs.Numeric.{new_numeric, numeric_get, numeric_stored}
 use Rattle.rec_numeric.specs.declared.numeric.Numeric.{Numeric}
 
--- a value of the sort of a field with this row
+-- Holds if the value is of the sort of a field with this row.
 abbrev pub IsValueBy : Option Row → Value → Type 0
 IsValueBy row v = IsValueOf (sort_in [] (option_map (λ (r : Row). r.kind) row)) v
 

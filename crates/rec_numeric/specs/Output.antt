@@ -1,4 +1,5 @@
--- The types longout and int64out. Record Reference Manual, "Long Output Record" and "64bit Integer Output Record".
+-- The types longout and int64out. Record Reference Manual, "Long Output Record" and "64bit Integer
+-- Output Record".
 use Rattle.std.specs.Prelude.{ℤ, int_lt, if◌then◌else◌, [], Option, Some, None, unwrap_or}
 use Rattle.ioc_values.specs.declared.value.Value.{Value}
 use Rattle.ioc_values.specs.Conversion.{Numbers, of_number}
@@ -18,7 +19,7 @@ use Rattle.rec_numeric.specs.Number.{NumberRules, long_number, int64_number}
 use Rattle.rec_numeric.specs.Numeric.{new_numeric, numeric_get, numeric_stored, tested}
 use Rattle.rec_numeric.specs.declared.output.NumericOutput.{NumericOutput}
 
--- ---- fields
+-- ---- Fields
 
 unfoldable pub new_output : {N : Type 0} → NumberRules N → NumericOutput N
 new_output k = record { numbers = new_numeric k; drive = new_drive; drive_high = k.zero; drive_low = k.zero; invalid_value = k.zero }
@@ -34,7 +35,7 @@ output_get k b field = numeric_get k b.numbers field
 abbrev pub numbers_stored : {N : Type 0} → NumberRules N → Held (NumericOutput N) → OwnField → Value → Held (NumericOutput N)
 numbers_stored k h field v = record h { body = record h.body { numbers = numeric_stored k h.body.numbers field v } }
 
--- with a converted value stored in a field: VAL clears UDF
+-- The fields with a converted value stored. VAL clears UDF.
 unfoldable pub output_stored : {N : Type 0} → NumberRules N → Held (NumericOutput N) → OwnField → Value → Held (NumericOutput N)
 output_stored k h Val v = let stored = numbers_stored k h Val v in record stored { condition = record h.condition { undefined = 0 } }
 output_stored k h Drvh v = record h { body = record h.body { drive_high = unwrap_or (k.in_value v) h.body.drive_high } }
@@ -44,17 +45,17 @@ output_stored k h Omsl v = record h { body = record h.body { drive = drive_store
 output_stored k h Ivoa v = record h { body = record h.body { drive = drive_stored h.body.drive Ivoa v } }
 output_stored k h field v = numbers_stored k h field v
 
--- ---- the body
+-- ---- The body
 
--- with another VAL
+-- The fields with another VAL.
 abbrev pub with_value : {N : Type 0} → NumericOutput N → N → NumericOutput N
 with_value b value = record b { numbers = record b.numbers { value = value } }
 
--- a value, or the limit that it is beyond
+-- The value, or the limit that it exceeds.
 unfoldable pub within : {N : Type 0} → (N → ℤ) → N → N → N → N
 within whole value low high = if int_lt (whole value) (whole low) then low else if int_lt (whole high) (whole value) then high else value
 
--- VAL within the drive limits, which are limits where DRVH is above DRVL
+-- VAL within the drive limits, which only apply if DRVH is greater than DRVL.
 unfoldable pub limited_value : {N : Type 0} → (N → ℤ) → NumericOutput N → N
 limited_value whole b =
     if int_lt (whole b.drive_low) (whole b.drive_high) then within whole b.numbers.value b.drive_low b.drive_high else b.numbers.value
@@ -62,17 +63,18 @@ limited_value whole b =
 abbrev pub limited : {N : Type 0} → (N → ℤ) → Held (NumericOutput N) → Held (NumericOutput N)
 limited whole h = record h { body = with_value h.body (limited_value whole h.body) }
 
--- a value goes into VAL and clears UDF
+-- The fields with a value stored in VAL, which clears UDF.
 abbrev pub given : {N : Type 0} → NumberRules N → Held (NumericOutput N) → Value → Held (NumericOutput N)
 given k h v = record { body = with_value h.body (unwrap_or (k.in_value v) h.body.numbers.value); condition = record h.condition { undefined = 0 } }
 
--- a value that came goes into VAL, which is kept within the drive limits, also where nothing came; after a fault all stays
+-- The fields after the input. A value is stored in VAL, which is kept within the drive limits, also
+-- without a value. After a fault everything stays the same.
 abbrev pub came : {N : Type 0} → NumberRules N → (N → ℤ) → Held (NumericOutput N) → Got → Held (NumericOutput N)
 came k whole h (got.Value v) = limited whole (given k h v)
 came k whole h got.Nothing = limited whole h
 came k whole h got.Fault = h
 
--- with the alarms of the number
+-- The fields with the alarms of the number raised.
 abbrev pub alarmed : {N : Type 0} → (N → ℤ) → Held (NumericOutput N) → Held (NumericOutput N)
 alarmed whole h =
     let t = tested whole (record { body = h.body.numbers; condition = h.condition }) in
@@ -81,45 +83,45 @@ alarmed whole h =
 unfoldable pub worked : {N : Type 0} → NumberRules N → (N → ℤ) → Held (NumericOutput N) → Got → Held (NumericOutput N)
 worked k whole h got = alarmed whole (came k whole h got)
 
--- with IVOV driven, as it stands, where IVOA says so
+-- The fields with VAL set to IVOV, unlimited, if IVOA says so.
 unfoldable pub settled : {N : Type 0} → Held (NumericOutput N) → Held (NumericOutput N)
 settled h = if sets h.body.drive.on_invalid h.condition then record h { body = with_value h.body h.body.invalid_value } else h
 
 unfoldable pub output_taken : {N : Type 0} → NumberRules N → (N → ℤ) → Held (NumericOutput N) → Got → Held (NumericOutput N)
 output_taken k whole h got = settled (worked k whole h got)
 
--- VAL is driven, unless IVOA says that nothing is
+-- The output of VAL, unless IVOA says that nothing is driven.
 abbrev pub driven : {N : Type 0} → NumberRules N → Held (NumericOutput N) → Output
 driven k h = if drives h.body.drive.on_invalid h.condition then written h.body.drive.output (k.value h.body.numbers.value) else NoOutput
 
 unfoldable pub output_driven : {N : Type 0} → NumberRules N → (N → ℤ) → Held (NumericOutput N) → Got → Output
 output_driven k whole h got = driven k (output_taken k whole h got)
 
--- ---- the load
+-- ---- The load
 
--- a constant of DOL must convert to VAL
+-- A constant in DOL must convert to VAL.
 abbrev pub output_constant_kind : {N : Type 0} → NumberRules N → OwnField → Option InputKind
 output_constant_kind k Dol = Some (input.Number k.range)
 output_constant_kind k _ = None
 
--- with VAL set to a value, if there is one
+-- The fields with VAL set to a value, if there is one.
 abbrev pub stored_if : {N : Type 0} → NumberRules N → Held (NumericOutput N) → Option Value → Held (NumericOutput N)
 stored_if k h None = h
 stored_if k h (Some v) = output_stored k h Val v
 
--- a constant of DOL is put
+-- The fields with a constant DOL put into VAL.
 abbrev pub constant_put : {N : Type 0} → NumberRules N → Held (NumericOutput N) → Link → Held (NumericOutput N)
 constant_put k h (Constant z) = stored_if k h (of_number (Numbers k.range) z)
 constant_put k h _ = h
 
--- then LALM becomes VAL
+-- The fields with LALM set to VAL.
 abbrev pub last_alarmed : {N : Type 0} → Held (NumericOutput N) → Held (NumericOutput N)
 last_alarmed h = record h { body = record h.body { numbers = record h.body.numbers { last_alarmed = h.body.numbers.value } } }
 
 unfoldable pub output_loaded : {N : Type 0} → NumberRules N → Held (NumericOutput N) → Held (NumericOutput N)
 output_loaded k h = last_alarmed (constant_put k h h.body.drive.desired.link)
 
--- ---- all of it
+-- ---- All of it
 
 abbrev pub numeric_output : {N : Type 0} → NumberRules N → (N → ℤ) → BodyRules (NumericOutput N)
 numeric_output k whole = record {
@@ -138,7 +140,7 @@ numeric_output k whole = record {
   loaded = output_loaded k;
 }
 
--- the two types: each number is the whole number that it is
+-- The rules of longout and int64out, in which each number is its own integer.
 abbrev pub longout : BodyRules (NumericOutput ℤ)
 longout = numeric_output long_number (λ z. z)
 

@@ -38,7 +38,7 @@ unfolding numeric_output_row output_row numeric_row
 links_by out dol range Out = refl
 links_by out dol range _ = refl
 
--- the links that a drive has
+-- The links of a drive.
 abbrev links : Drive → OwnField → Option LinkField
 links d = drive_link d.output d.desired
 
@@ -46,7 +46,7 @@ stored_drive-links : (d : Drive) (f : OwnField) (v : Value) → links (drive_sto
 stored_drive-links d f v = ap (λ l. drive_link l (drive_stored d f v).desired) (drive_stored-output d f v) ∙ ap (drive_link d.output) (drive_stored-desired d f v)
 
 module _ {N : Type 0} (k : NumberRules N) (whole : N → ℤ) (lawful : IsLawfulNumber k) where
-  -- a body and a store leave the links alone
+  -- Neither the body nor a store changes the links.
   stored-links : (h : Held (NumericOutput N)) (f : OwnField) (v : Value) → links (output_stored k h f v).body.drive ≡ links h.body.drive
   unfolding output_stored
   stored-links h Omsl v = stored_drive-links h.body.drive Omsl v
@@ -92,7 +92,7 @@ module _ {N : Type 0} (k : NumberRules N) (whole : N → ℤ) (lawful : IsLawful
   missing-links Out = refl
   missing-links _ = refl
 
-  -- what is put reads back
+  -- A value that is put reads back.
   reads_back_by : (h : Held (NumericOutput N)) (f : OwnField) (v : Value) → can_put_by (numeric_output_row k.range f) → IsValueBy (numeric_output_row k.range f) v → output_get k (output_stored k h f v).body f ≡ Some v
   unfolding numeric_output_row output_row output_get output_stored field_sort
   reads_back_by h Drvh v can is = number_shown k lawful v h.body.drive_high is
@@ -114,7 +114,7 @@ module _ {N : Type 0} (k : NumberRules N) (whole : N → ℤ) (lawful : IsLawful
   set_values-of b f l Ivoa = drive_set_values b.drive f l Ivoa
   set_values-of b f l _ = refl
 
-  -- where the body goes
+  -- If a link is written, OUT leads to that field.
   driven_leads : (b : Bool) (out : LinkField) (x v : Value) (t : StandingLink) → cond b (written out x) NoOutput ≡ WriteLink (Standing t) v → use_of out ≡ Standing t
   driven_leads true out x v t is = written_leads out x v t is
   driven_leads false out x v t is = cc
@@ -151,7 +151,7 @@ module _ {N : Type 0} (k : NumberRules N) (whole : N → ℤ) (lawful : IsLawful
     readers_write_none = λ h got v reads is. absurd (reads_none reads);
   }
 
-  -- a new one
+  -- A new record has the defaults.
   new_by : (f : OwnField) → output_get k (new_output k) f ≡ default_by (numeric_output_row k.range f)
   unfolding numeric_output_row output_row output_get drive_get new_output new_drive zero_of numeric_get
   new_by Drvh = sym lawful.zero_is

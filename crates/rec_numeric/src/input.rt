@@ -14,23 +14,24 @@ use ioc_record::RecordBody;
 use ioc_values::{Kind, Range, Text, Value, of_number};
 use std::alloc::{AllocError, Global};
 
-/// The own fields of a numeric input. Record Reference Manual, "Long Input Record" and "64bit Integer Input Record".
+/// The type-specific fields of a numeric input. Record Reference Manual, "Long Input Record" and
+/// "64bit Integer Input Record".
 #[derive(Drop)]
 pub struct NumericInput<N> {
-    /// VAL, the limits with their severities, HYST, LALM, and those kept without effect.
+    /// VAL, the limits with their severities, HYST, LALM, and the fields stored without effect.
     pub numbers: Numeric<N>,
     /// INP.
     pub source: Source,
 }
 
-/// Those of a longin: its numbers have 32 bits.
+/// The fields of a longin, whose numbers have 32 bits.
 pub type Longin = NumericInput<i32>;
 
-/// Those of an int64in: its numbers have 64 bits.
+/// The fields of an int64in, whose numbers have 64 bits.
 pub type Int64in = NumericInput<i64>;
 
 impl<N: Number> NumericInput<N> {
-    /// Those of a new record: all 0 or empty.
+    /// Creates the fields of a new record, all 0 or empty.
     #[tactic(auto, unfolding(crate::specs::Input::new_input))]
     pub fn new() -> Self
         ensures value { result ≡ new_input N.number }
@@ -42,8 +43,8 @@ impl<N: Number> NumericInput<N> {
         }
     }
 
-    // Stores a number, as a value of this range, in a field of whatever sort, and says whether it is in range. This isn't inlined, so
-    // that its value isn't cleared where VAL is meant.
+    // Stores a number as a value of this range in a field of any kind. Returns whether it is in
+    // range. This isn't inlined, so that VAL doesn't clear the memory for the value.
     #[inline(never)]
     #[tactic(auto, unfolding(ioc_values::specs::Conversion::of_number, ioc_values::specs::Conversion::sort_of))]
     fn store_converted(

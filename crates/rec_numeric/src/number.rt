@@ -1,4 +1,4 @@
-//! The numbers that numeric records hold: of 32 bits, and of 64.
+//! The numbers of numeric records, of 32 and of 64 bits.
 ghost use Rattle.std.specs.Prelude.{◌≡◌, Some};
 ghost use Rattle.std.specs.Option.{option_and_then};
 ghost use Rattle.ioc_values.specs.Conversion.{value_in};
@@ -11,32 +11,33 @@ use ioc_common::{int64_in, long_in};
 use ioc_fields::RecordType;
 use ioc_values::{Range, Value};
 
-/// A number that a numeric record holds, and the record types that hold it.
+/// A type of the numbers in numeric records, with the record types that hold such numbers.
 pub trait Number: WholeNumber {
     ghost number: { NumberRules Self };
 
     fn zero() -> Self
         ensures { result ≡ number.zero };
 
-    /// The number that a value of its kind is; none where the value is of another kind.
+    /// Returns the number of a value of its kind, or `None` if the value is of another kind.
     fn in_value(value: Value) -> Option<Self>
         ensures { result ≡ number.in_value value };
 
     fn value(self) -> Value
         ensures { result ≡ number.value self };
 
-    /// The number that a number of this range is as a value; none where its values are of another kind, or it is out of range.
+    /// Converts a number of this range. Returns `None` if the values of the range are of another
+    /// kind, or if the number is out of range.
     fn in_range(range: Range, whole: i64) -> Option<Self>
         ensures { result ≡ option_and_then number.in_value (value_in range whole) };
 
-    /// The number as which its value is shown.
+    /// Returns the number that its value shows.
     fn shown(self) -> i64
         ensures { number_shown (Some (number.value self)) ≡ Some result };
 
     fn range() -> Range
         ensures { result ≡ number.range };
 
-    /// The type that reads such numbers, and the one that writes them.
+    /// Returns the record type that reads such numbers. `output_type` is the one that writes them.
     fn input_type() -> RecordType
         ensures { result ≡ number.input_type };
 

@@ -16,10 +16,11 @@ use ioc_record::shown::number_in;
 use ioc_values::{Kind, Range, Text, Value, of_number};
 use std::alloc::{AllocError, Global};
 
-/// The own fields of a numeric output. Record Reference Manual, "Long Output Record" and "64bit Integer Output Record".
+/// The type-specific fields of a numeric output. Record Reference Manual, "Long Output Record" and
+/// "64bit Integer Output Record".
 #[derive(Drop)]
 pub struct NumericOutput<N> {
-    /// VAL, the limits with their severities, HYST, LALM, and those kept without effect.
+    /// VAL, the limits with their severities, HYST, LALM, and the fields stored without effect.
     pub numbers: Numeric<N>,
     /// OUT, DOL, OMSL and IVOA.
     pub drive: Drive,
@@ -30,13 +31,13 @@ pub struct NumericOutput<N> {
     pub invalid_value: N,
 }
 
-/// Those of a longout: its numbers have 32 bits.
+/// The fields of a longout, whose numbers have 32 bits.
 pub type Longout = NumericOutput<i32>;
 
-/// Those of an int64out: its numbers have 64 bits.
+/// The fields of an int64out, whose numbers have 64 bits.
 pub type Int64out = NumericOutput<i64>;
 
-// A value, or the limit that it is beyond.
+// Returns the value, or the limit that it exceeds.
 #[tactic(auto, unfolding(crate::specs::Output::within))]
 fn within<N: Number>(value: N, low: N, high: N) -> N
     ensures { result ≡ within N.whole value low high }
@@ -51,7 +52,7 @@ fn within<N: Number>(value: N, low: N, high: N) -> N
 }
 
 impl<N: Number> NumericOutput<N> {
-    /// Those of a new record: all 0 or empty.
+    /// Creates the fields of a new record, all 0 or empty.
     #[tactic(auto, unfolding(crate::specs::Output::new_output))]
     pub fn new() -> Self
         ensures value { result ≡ new_output N.number }
@@ -66,7 +67,7 @@ impl<N: Number> NumericOutput<N> {
         }
     }
 
-    // VAL within the drive limits, which are limits where DRVH is above DRVL.
+    // Returns VAL within the drive limits, which only apply if DRVH is greater than DRVL.
     #[tactic(auto, unfolding(crate::specs::Output::limited_value))]
     fn limited_value(&self) -> N
         ensures { result ≡ limited_value N.whole self.now }
@@ -78,7 +79,7 @@ impl<N: Number> NumericOutput<N> {
         }
     }
 
-    // Takes what came, keeps it within the drive limits, and raises alarms.
+    // Takes the input, keeps it within the drive limits, and raises alarms.
     #[tactic(auto, unfolding(crate::specs::Output::worked))]
     fn work(&mut self, condition: &mut Condition, got: &Got)
         ensures { record { body = self.new; condition = condition.new } ≡ worked N.number N.whole (record { body = self.old; condition = condition.old }) got.now }
@@ -95,8 +96,8 @@ impl<N: Number> NumericOutput<N> {
         self.numbers.test(condition);
     }
 
-    // Stores a number, as a value of this range, in a field of whatever sort, and says whether it is in range. This isn't inlined, so
-    // that its value isn't cleared where VAL is meant.
+    // Stores a number as a value of this range in a field of any kind. Returns whether it is in
+    // range. This isn't inlined, so that VAL doesn't clear the memory for the value.
     #[inline(never)]
     #[tactic(auto, unfolding(ioc_values::specs::Conversion::of_number, ioc_values::specs::Conversion::sort_of))]
     fn store_converted(

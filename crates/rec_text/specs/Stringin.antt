@@ -11,30 +11,31 @@ use Rattle.rec_text.specs.declared.text_input.TextInput.{TextInput}
 use Rattle.rec_text.specs.TextInput.{new_text_input, text_input_get, text_input_stored, came, text_constant_kind, constant_put}
 use Rattle.rec_text.specs.declared.stringin.Stringin.{Stringin}
 
--- ---- fields
+-- ---- Fields
 
 unfoldable pub new_stringin : Stringin
 new_stringin = record { text = new_text_input }
 
--- its text input with the condition, and back
+-- The text input with the condition.
 abbrev pub inner : Held Stringin → Held TextInput
 inner h = record { body = h.body.text; condition = h.condition }
 
 abbrev pub outer : Held TextInput → Held Stringin
 outer h = record { body = record { text = h.body }; condition = h.condition }
 
--- ---- the body
+-- ---- The body
 
--- a text that came goes into VAL; then the alarm of an undefined value is tested
+-- The fields after the input. A text is stored in VAL, and then the alarm of an undefined value is
+-- tested.
 unfoldable pub stringin_taken : Held Stringin → Got → Held Stringin
 stringin_taken h got = let c = came (inner h) got in outer (record c { condition = undefined_tested c.condition })
 
--- ---- the load
+-- ---- The load
 
 unfoldable pub stringin_loaded : Held Stringin → Held Stringin
 stringin_loaded h = outer (constant_put (inner h) h.body.text.source.input.link)
 
--- ---- all of it
+-- ---- All of it
 
 abbrev pub stringin : BodyRules Stringin
 stringin = record {

@@ -20,7 +20,7 @@ use Rattle.ioc_common.specs.Drive.{new_drive, drive_link, drive_with_link, drive
 use Rattle.ioc_record.specs.BodyRules.{BodyRules, Held}
 use Rattle.rec_text.specs.declared.stringout.Stringout.{Stringout}
 
--- ---- fields
+-- ---- Fields
 
 unfoldable pub new_stringout : Stringout
 new_stringout = record { value = []; drive = new_drive; invalid_value = [] }
@@ -30,7 +30,7 @@ stringout_get b Val = Some (value.Text b.value)
 stringout_get b Ivov = Some (value.Text b.invalid_value)
 stringout_get b field = drive_get b.drive field
 
--- with VAL set to a text, which clears UDF
+-- The fields with VAL set to a text, which clears UDF.
 abbrev pub value_set : Held Stringout → Value → Held Stringout
 value_set h v = record { body = record h.body { value = unwrap_or (text_in v) h.body.value }; condition = record h.condition { undefined = 0 } }
 
@@ -39,18 +39,18 @@ stringout_stored h Val v = value_set h v
 stringout_stored h Ivov v = record h { body = record h.body { invalid_value = unwrap_or (text_in v) h.body.invalid_value } }
 stringout_stored h field v = record h { body = record h.body { drive = drive_stored h.body.drive field v } }
 
--- ---- the body
+-- ---- The body
 
--- a text that came goes into VAL and clears UDF
+-- The fields after the input. A text is stored in VAL and clears UDF.
 abbrev pub came : Held Stringout → Got → Held Stringout
 came h (got.Value v) = value_set h v
 came h _ = h
 
--- then the alarm of an undefined value is tested
+-- The fields after the input, with the alarm of an undefined value tested.
 unfoldable pub worked : Held Stringout → Got → Held Stringout
 worked h got = let c = came h got in record c { condition = undefined_tested c.condition }
 
--- with IVOV driven, where IVOA says so
+-- The fields with VAL set to IVOV, if IVOA says so.
 unfoldable pub settled : Held Stringout → Held Stringout
 settled h = if sets h.body.drive.on_invalid h.condition then record h { body = record h.body { value = h.body.invalid_value } } else h
 
@@ -63,9 +63,9 @@ driven h = if drives h.body.drive.on_invalid h.condition then written h.body.dri
 unfoldable pub stringout_output : Held Stringout → Got → Output
 stringout_output h got = driven (stringout_taken h got)
 
--- ---- the load
+-- ---- The load
 
--- a constant of DOL must convert to VAL
+-- A constant in DOL must convert to VAL.
 abbrev pub stringout_constant_kind : OwnField → Option InputKind
 stringout_constant_kind Dol = Some input.Text
 stringout_constant_kind _ = None
@@ -74,7 +74,7 @@ abbrev pub value_if : Held Stringout → Option Value → Held Stringout
 value_if h None = h
 value_if h (Some v) = value_set h v
 
--- a constant of DOL is put as its decimal text
+-- The fields with a constant DOL put into VAL as its decimal text.
 abbrev pub constant_put : Held Stringout → Link → Held Stringout
 constant_put h (Constant z) = value_if h (of_number Texts z)
 constant_put h _ = h
@@ -82,7 +82,7 @@ constant_put h _ = h
 unfoldable pub stringout_loaded : Held Stringout → Held Stringout
 stringout_loaded h = constant_put h h.body.drive.desired.link
 
--- ---- all of it
+-- ---- All of it
 
 abbrev pub stringout : BodyRules Stringout
 stringout = record {

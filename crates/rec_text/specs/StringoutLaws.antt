@@ -29,7 +29,7 @@ use Rattle.ioc_record.specs.BodyLaws.{IsLawfulBody, IsNewBody}
 use Rattle.rec_text.specs.declared.stringout.Stringout.{Stringout}
 use Rattle.rec_text.specs.Stringout.{stringout, new_stringout, stringout_get, stringout_stored, came, worked, settled, stringout_taken, stringout_output, value_if, constant_put, stringout_loaded}
 
--- ---- links
+-- ---- Links
 
 stored-output : (h : Held Stringout) (f : OwnField) (v : Value) → (stringout_stored h f v).body.drive.output ≡ h.body.drive.output
 unfolding stringout_stored
@@ -89,7 +89,7 @@ missing-links Out = refl
 missing-links Dol = refl
 missing-links _ = refl
 
--- ---- values
+-- ---- Values
 
 reads_back : (h : Held Stringout) (f : OwnField) (v : Value) → can_put Stringout-type (Own f) ≡ true → IsValueOf (sort_in [] (kind_of Stringout-type (Own f))) v
     → stringout_get (stringout_stored h f v).body f ≡ Some v
@@ -106,7 +106,7 @@ set-values b f l Val = refl
 set-values b f l Ivov = refl
 set-values b f l g = drive_set_values b.drive f l g
 
--- ---- where the body goes
+-- ---- The output links
 
 driven_leads : (b : Bool) (out : LinkField) (x v : Value) (t : StandingLink) → cond b (written out x) NoOutput ≡ WriteLink (Standing t) v → use_of out ≡ Standing t
 driven_leads true out x v t is = written_leads out x v t is

@@ -1,4 +1,5 @@
--- The fields of the types that read a text. Record Reference Manual, "String Input Record" and "Event Record".
+-- The fields of the types that read a text. Record Reference Manual, "String Input Record" and
+-- "Event Record".
 use Rattle.std.proofs.Common.{◌≡◌, [], Option, Some, None, refl}
 use Rattle.std.specs.Prelude.{unwrap_or}
 use Rattle.ioc_values.specs.declared.value.Value.{Value}
@@ -17,7 +18,7 @@ use Rattle.ioc_common.specs.Source.{new_source}
 use Rattle.ioc_record.specs.BodyRules.{Held}
 use Rattle.rec_text.specs.declared.text_input.TextInput.{TextInput}
 
--- those of a new record: empty
+-- The fields of a new record, which are empty.
 unfoldable pub new_text_input : TextInput
 new_text_input = record { value = []; source = new_source }
 
@@ -25,32 +26,33 @@ unfoldable pub text_input_get : TextInput → OwnField → Option Value
 text_input_get b Val = Some (value.Text b.value)
 text_input_get b _ = None
 
--- VAL clears UDF
+-- The fields with a converted value stored. VAL clears UDF.
 unfoldable pub text_input_stored : Held TextInput → OwnField → Value → Held TextInput
 text_input_stored h Val v = record { body = record h.body { value = unwrap_or (text_in v) h.body.value }; condition = record h.condition { undefined = 0 } }
 text_input_stored h _ v = h
 
--- a text that came goes into VAL and clears UDF; where nothing came, and after a fault, they stay
+-- The fields after the input. A text is stored in VAL and clears UDF; without one, and after a
+-- fault, both stay the same.
 abbrev pub came : Held TextInput → Got → Held TextInput
 came h (got.Value v) = text_input_stored h Val v
 came h _ = h
 
--- a constant of INP must convert to VAL
+-- A constant in INP must convert to VAL.
 abbrev pub text_constant_kind : OwnField → Option InputKind
 text_constant_kind Inp = Some input.Text
 text_constant_kind _ = None
 
--- with VAL set to a value, if there is one
+-- The fields with VAL set to a value, if there is one.
 abbrev pub stored_if : Held TextInput → Option Value → Held TextInput
 stored_if h None = h
 stored_if h (Some v) = text_input_stored h Val v
 
--- a constant of INP is put as its decimal text
+-- The fields with a constant INP put into VAL as its decimal text.
 abbrev pub constant_put : Held TextInput → Link → Held TextInput
 constant_put h (Constant z) = stored_if h (of_number Texts z)
 constant_put h _ = h
 
--- ---- laws: INP stays
+-- ---- Laws: INP stays
 
 pub stored-source : (h : Held TextInput) (f : OwnField) (v : Value) → (text_input_stored h f v).body.source ≡ h.body.source
 unfolding text_input_stored

@@ -10,7 +10,7 @@ use ioc_record::RecordBody;
 use ioc_values::{Text, Value};
 use std::alloc::{AllocError, Global};
 
-/// The own fields of a stringin. Record Reference Manual, "String Input Record".
+/// The type-specific fields of a stringin. Record Reference Manual, "String Input Record".
 #[derive(Drop)]
 pub struct Stringin {
     /// VAL and INP.
@@ -18,7 +18,7 @@ pub struct Stringin {
 }
 
 impl Stringin {
-    /// Those of a new record: empty.
+    /// Creates the fields of a new record, which are empty.
     #[tactic(auto, unfolding(crate::specs::Stringin::new_stringin))]
     pub fn new() -> Self
         ensures value { result ≡ new_stringin }

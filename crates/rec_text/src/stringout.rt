@@ -13,7 +13,7 @@ use ioc_record::RecordBody;
 use ioc_values::{Kind, Text, Value, of_number};
 use std::alloc::{AllocError, Global};
 
-/// The own fields of a stringout. Record Reference Manual, "String Output Record".
+/// The type-specific fields of a stringout. Record Reference Manual, "String Output Record".
 #[derive(Drop)]
 pub struct Stringout {
     /// VAL.
@@ -25,7 +25,7 @@ pub struct Stringout {
 }
 
 impl Stringout {
-    /// Those of a new record: empty.
+    /// Creates the fields of a new record, which are empty.
     #[tactic(auto, unfolding(crate::specs::Stringout::new_stringout))]
     pub fn new() -> Self
         ensures value { result ≡ new_stringout }
@@ -38,7 +38,7 @@ impl Stringout {
         }
     }
 
-    // Takes what came, and raises the alarm of an undefined value.
+    // Takes the input, and raises the alarm of an undefined value.
     #[tactic(auto, unfolding(crate::specs::Stringout::worked))]
     fn work(&mut self, condition: &mut Condition, got: &Got)
         ensures { record { body = self.new; condition = condition.new } ≡ worked (record { body = self.old; condition = condition.old }) got.now }

@@ -19,7 +19,7 @@ pub struct TextInput {
 }
 
 impl TextInput {
-    /// Those of a new record: empty.
+    /// Creates the fields of a new record, which are empty.
     #[tactic(auto, unfolding(crate::specs::TextInput::new_text_input))]
     pub fn new() -> Self
         ensures { result ≡ new_text_input }
@@ -40,7 +40,7 @@ impl TextInput {
         }
     }
 
-    /// Stores a value that was converted for the field; VAL clears UDF.
+    /// Stores a value that was converted for the field. VAL clears UDF.
     #[tactic(auto, unfolding(crate::specs::TextInput::text_input_stored))]
     pub fn store(&mut self, condition: &mut Condition, field: OwnField, value: Value)
         ensures { record { body = self.new; condition = condition.new } ≡ text_input_stored (record { body = self.old; condition = condition.old }) field value }
@@ -51,7 +51,7 @@ impl TextInput {
         }
     }
 
-    /// A text that came goes into VAL, and clears UDF.
+    /// Stores the input, if there is one, in VAL, and clears UDF.
     pub fn come(&mut self, condition: &mut Condition, got: &Got)
         ensures { record { body = self.new; condition = condition.new } ≡ came (record { body = self.old; condition = condition.old }) got.now }
     {
@@ -60,7 +60,7 @@ impl TextInput {
         }
     }
 
-    /// A constant of INP goes into VAL as its decimal text.
+    /// Puts a constant INP into VAL as its decimal text.
     #[tactic(auto, unfolding(ioc_values::specs::Conversion::sort_of))]
     pub fn put_constant(&mut self, condition: &mut Condition)
         ensures { record { body = self.new; condition = condition.new } ≡ constant_put (record { body = self.old; condition = condition.old }) self.old.source.input.link }
@@ -72,11 +72,11 @@ impl TextInput {
         }
     }
 
-    /// The same fields.
+    /// Copies the fields.
     ///
     /// # Errors
     ///
-    /// [`AllocError`] where memory is wanting.
+    /// [`AllocError`] if allocation fails.
     pub fn copy(&self, alloc: Global) -> Result<Self, AllocError>
         ensures { IfOk result (λ copy. copy ≡ self.now) }
     {
@@ -87,7 +87,7 @@ impl TextInput {
         })
     }
 
-    /// They become the same as others with the same link.
+    /// Copies the fields of another record with the same link.
     pub fn copy_from(&mut self, other: &Self)
         requires { self.old.source.input ≡ other.now.source.input }
         ensures { self.new ≡ other.now }

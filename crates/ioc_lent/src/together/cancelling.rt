@@ -1,4 +1,4 @@
-//! A put with notification is given up on several sets, one after another.
+//! Cancels a put with notification on several sets, one after another.
 ghost use Rattle.std.specs.Prelude.{◌≡◌, ◌<◌, ℕ, true, length, slice_index_or, OnOk, OnErr};
 ghost use Rattle.ioc_notify.specs.Living.{is_live};
 ghost use Rattle.ioc_set.specs.Held.{Held};
@@ -15,7 +15,7 @@ use ioc_workplace::Workplace;
 use std::alloc::{AllocError, Global};
 use std::sync::Wait;
 
-// Gives a put with notification up on a set. Where memory is wanting it tries again, until there is some.
+// Cancels a put with notification on a set. If allocation fails, tries again until it succeeds.
 fn cancel_at_last<K: RecordKind + Drop, D: Device, R: Wait>(
     rt: &R,
     alloc: Global,
@@ -38,12 +38,13 @@ fn cancel_at_last<K: RecordKind + Drop, D: Device, R: Wait>(
     unreachable!()
 }
 
-/// Gives a put with notification up on each of these sets, on all of which it is live. Memory may be refused for the first of them alone: once
-/// one has given it up, the others are tried until they have.
+/// Cancels a put with notification on each of these sets, on all of which it is live. Only the
+/// first set may fail for lack of memory: once it is canceled there, the others are tried until
+/// they succeed.
 ///
 /// # Errors
 ///
-/// [`AllocError`] where memory is wanting: nothing has changed then.
+/// [`AllocError`] if allocation fails; nothing has changed then.
 pub fn cancel_all<K: RecordKind + Drop, D: Device, R: Wait>(
     rt: &R,
     alloc: Global,

@@ -1,4 +1,4 @@
-//! How many have a put with notification in several sets together.
+//! The count of a put with notification in several sets together.
 ghost use Rattle.std.specs.Prelude.{◌≡◌, ◌≤◌, ◌^◌, ◌↔◌, IsTrue, IfNone};
 ghost use Rattle.std.specs.Option.{IfSome};
 ghost use Rattle.ioc_notify.specs.Living.{is_live};
@@ -10,7 +10,8 @@ use ioc_put_table::holders_by;
 use ioc_record::RecordKind;
 use ioc_set::LockSet;
 
-/// How many have a put with notification in these sets together; none where a number of 64 bits can't tell.
+/// Returns the count of a put with notification in these sets together, or `None` if it doesn't fit
+/// in 64 bits.
 pub fn total_in<K: RecordKind, D>(sets: &[LockSet<K, D>], number: NotifyId) -> Option<u64>
     ensures total { IfSome result (λ total. total ≡ holders_in_all number sets.now) }
     ensures too_many { IfNone result (2 ^ 64 ≤ holders_in_all number sets.now) }
@@ -22,14 +23,14 @@ pub fn total_in<K: RecordKind, D>(sets: &[LockSet<K, D>], number: NotifyId) -> O
     Some(total)
 }
 
-// Is a put with notification live on a set?
+// Returns whether a put with notification is live on a set.
 fn is_live_on<K: RecordKind, D>(set: &LockSet<K, D>, number: NotifyId) -> bool
     ensures { result ≡ is_live number set.now.live }
 {
     set.live_puts().iter().any(|line| line.number == number)
 }
 
-/// Is a put with notification live on each of these sets?
+/// Returns whether a put with notification is live on each of these sets.
 pub fn all_live<K: RecordKind, D>(sets: &[LockSet<K, D>], number: NotifyId) -> bool
     ensures { IsTrue result ↔ IsLiveOnEach number sets.now }
 {

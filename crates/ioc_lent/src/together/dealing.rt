@@ -1,4 +1,4 @@
-//! Keys that one pass took over are dealt out again.
+//! Divides the keys that one pass took over among several passes again.
 ghost use Rattle.std.specs.Prelude.{◌≡◌, ◌<◌, ◌++◌, ℕ, [], length, slice_index_or};
 ghost use Rattle.std.specs.List.{AllPairs};
 ghost use Rattle.crossbeam_utils.specs.Seq.{cell_view};
@@ -16,7 +16,7 @@ use ioc_record::RecordKind;
 use ioc_set::LockSet;
 use std::marker::Brand;
 
-// A pass gives some of its keys away, and keeps others.
+// Moves some of the keys of a pass to a new one.
 fn give<P: Keys>(cell: &Cell, keeper: &mut Token) -> Token
     requires table { keeper.old.table_id ≡ cell.now.table.shared.table_id }
     requires holder { IsHolder (cell_view keeper.old) }
@@ -28,7 +28,7 @@ fn give<P: Keys>(cell: &Cell, keeper: &mut Token) -> Token
     pass::part::<P>(cell, keeper)
 }
 
-// The keys of a set's records are given away.
+// Moves the keys of a set's records to a new pass.
 fn give_records<P: Keys, K: RecordKind, D>(
     cell: &Cell,
     keeper: &mut Token,
@@ -45,7 +45,7 @@ fn give_records<P: Keys, K: RecordKind, D>(
     give::<P>(cell, keeper)
 }
 
-// All keys but that of the puts with notification are given up.
+// Drops all keys but that of the puts with notification.
 fn keep_puts<P: Keys>(cell: &Cell, keeper: &mut Token)
     requires table { keeper.old.table_id ≡ cell.now.table.shared.table_id }
     requires holder { IsHolder (cell_view keeper.old) }
@@ -57,8 +57,8 @@ fn keep_puts<P: Keys>(cell: &Cell, keeper: &mut Token)
     *keeper = own;
 }
 
-/// Each pass gets the keys of the records of the set beside it, from a keeper that owns all of them; the keeper is left with the key of the puts
-/// with notification.
+/// Assigns the keys of each set's records to the pass beside it. `keeper` owns all of them before,
+/// and only the key of the puts with notification afterwards.
 pub fn deal_all<K: RecordKind, D>(
     cell: &Cell,
     keeper: &mut Token,

@@ -1,4 +1,4 @@
-//! A put with notification is given up in all held sets that have it, in one call.
+//! Cancels a put with notification in all held sets with its records, in one call.
 ghost use Rattle.std.specs.Prelude.{◌≡◌, ◌≢◌, ◌<◌, ℕ, length, slice_index_or, IfOk, IfErr, IfNone, OnErr};
 ghost use Rattle.std.specs.Option.{IfSome};
 ghost use Rattle.crossbeam_utils.specs.Seq.{cell_view};
@@ -29,7 +29,7 @@ use ioc_workplace::Workplace;
 use std::alloc::Global;
 use std::sync::Wait;
 
-// Tells what always holds of each of these sets.
+// States the invariant of each of these sets. Does nothing.
 fn all_sound<K: RecordKind, D>(sets: &[LockSet<K, D>])
     ensures { (i : ℕ) (d : Held K D) → i < length sets.now → IsSound K.rules (slice_index_or sets.now i d) }
 {
@@ -38,13 +38,15 @@ fn all_sound<K: RecordKind, D>(sets: &[LockSet<K, D>])
     }
 }
 
-/// Gives a put with notification up in these held sets, which are all that have it, and keeps that in the journal as one call. Each pass owns the
-/// keys of the set beside it, and the keeper the key of the puts with notification.
+/// Cancels a put with notification in these held sets, which have all its records, and adds the
+/// cancel to the journal as one call. Each pass owns the keys of the set beside it, and `keeper`
+/// the key of the puts with notification.
 ///
 /// # Errors
 ///
-/// [`IocError::JournalFull`] where the journal has no place left, and [`IocError::NoMemory`] where memory is wanting: nothing has changed then. Once
-/// one of the sets has given it up, memory that is wanting is waited for.
+/// [`IocError::JournalFull`] if the journal has no place left. [`IocError::NoMemory`] if allocation
+/// fails. Nothing has changed then. Once it is canceled in one of the sets, a failed allocation is
+/// repeated until it succeeds.
 pub fn give_up<K: RecordKind + Drop, B: Base<K>, D: Device, R: Wait>(
     rt: &R,
     alloc: Global,
@@ -88,12 +90,12 @@ pub fn give_up<K: RecordKind + Drop, B: Base<K>, D: Device, R: Wait>(
     Ok(receipt)
 }
 
-/// Gives a put with notification up in these held sets, as [`give_up`] does, where all that have it are in them: so many. Where they aren't, nothing
-/// has changed, and there is no receipt.
+/// Cancels a put with notification in these held sets, as [`give_up`] does, if they have all its
+/// `total` records. Otherwise returns `None`, and nothing has changed.
 ///
 /// # Errors
 ///
-/// As those of [`give_up`].
+/// Those of [`give_up`].
 pub fn give_up_all<K: RecordKind + Drop, B: Base<K>, D: Device, R: Wait>(
     rt: &R,
     alloc: Global,

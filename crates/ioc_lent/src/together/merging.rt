@@ -1,4 +1,4 @@
-//! Passes whose keys go to one of them for a while.
+//! Moves the keys of several passes to one.
 ghost use Rattle.std.specs.Prelude.{All};
 ghost use Rattle.crossbeam_utils.specs.Seq.{cell_view};
 ghost use Rattle.ioc_lent.specs.Passes.{IsPassOf, IsPassIn, AreTakenOver};
@@ -8,7 +8,7 @@ use ioc_line::Token;
 use ioc_record::RecordKind;
 use std::sync::Wait;
 
-/// The keeper takes over the keys of all these passes, which are spent.
+/// Moves the keys of all these passes to `keeper`, and takes the passes.
 pub fn merge_all<K: RecordKind, B: Base<K>, R: Wait>(
     rt: &R,
     book: &Book<K, B>,

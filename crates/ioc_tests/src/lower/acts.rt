@@ -8,18 +8,18 @@ use ioc_menus::{Severity, Status};
 pub enum Act {
     Raise(Status, Severity),
     Inherit(Mode, Status, Severity),
-    /// The alarms are shown.
+    /// Shows the alarms.
     Show,
-    /// The record is active, and not by a step of its own.
+    /// Makes the record active, other than by a request.
     Activate,
-    /// The alarms are shown at this moment.
+    /// Shows the alarms with this time stamp.
     ShowAt(u64),
     /// A request finds the record disabled.
     Disable,
-    /// PUTF and RPRO are set.
+    /// Sets PUTF and RPRO.
     MarkPut(bool),
     MarkReprocess(bool),
-    /// The record is passive, or not.
+    /// Tests whether the record is passive.
     Passive(bool),
     /// A request finds the record active.
     Block,
@@ -27,13 +27,13 @@ pub enum Act {
     Unblock,
     Wait,
     EndWait,
-    /// The completion that the record awaits has this number.
+    /// Tests the number of the completion that the record awaits.
     Awaits(Option<u64>),
-    /// The last completion had this number.
+    /// Tests the number of the last completion.
     LastAwaited(u64),
 }
 
-/// Does what the step says, and tells whether that came of it which must.
+/// Carries out a step, and returns whether it has the expected result.
 pub fn is_done(common: &mut Common, act: Act) -> bool {
     match act {
         Act::Raise(status, severity) => common.raise(status, severity),

@@ -1,4 +1,4 @@
-//! Alarms: raised, settled, inherited, and those of limits.
+//! Alarms that are raised, settled and inherited, and alarms of limits.
 use ioc_alarms::*;
 use ioc_links::Mode;
 use ioc_menus::{Severity, Status};
@@ -44,7 +44,8 @@ fn raised_where_graver(rt: HostRuntime) {
     assert!(rt; a == SETTLED);
 }
 
-// A mode and the severity of a record in the alarm HIGH, with the alarm that a quiet one has then.
+// A mode and the severity of a record in the alarm HIGH, with the alarm that a record without alarm
+// inherits.
 static INHERITED: [(Mode, Severity, Status, Severity); 16] = [
     (
         Mode::Nms,
@@ -128,10 +129,10 @@ fn inherited_by_mode(rt: HostRuntime) {
     }
 }
 
-// A value and the LALM before it, with the status that it raises and the LALM behind it.
+// A value and LALM before it, with the status that it raises and LALM after it.
 type Reached = (i64, i64, Status, i64);
 
-// Each value raises what it must in a quiet record.
+// Asserts that each value raises the expected status in a record without alarm.
 fn are_reached(rt: &impl Abort, limits: &Limits<i64>, table: &[Reached]) {
     for (value, last, status, wanted) in table {
         let mut a = QUIET;
@@ -152,7 +153,7 @@ static HIGH_LIMIT: Limits<i64> = Limits {
     hysteresis: 2,
 };
 
-// The alarm HIGH ends below the hysteresis.
+// The alarm HIGH ends when the value is below the hysteresis.
 static BELOW: [Reached; 3] = [
     (10, 0, Status::High, 10),
     (9, 10, Status::High, 10),
@@ -203,7 +204,7 @@ static FOUR_LIMITS: Limits<i64> = Limits {
     hysteresis: 0,
 };
 
-// The first limit that is reached is raised.
+// Of the limits that are reached, the first raises its alarm.
 static FIRST_REACHED: [Reached; 6] = [
     (25, 0, Status::Hihi, 20),
     (20, 0, Status::Hihi, 20),

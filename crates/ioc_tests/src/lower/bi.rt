@@ -1,4 +1,4 @@
-//! A bi record by itself.
+//! A single bi record.
 use crate::lower::steps::Step::{
     Answer, AnswerFault, Begin, Converts, Copied, Has, Lists, Load, OwnsDevice, Put, PutNumber,
     PutRefused, Raised, Set, SetRefused, Stands, Take, Test,
@@ -62,7 +62,7 @@ pub static TESTS: [Step<'static>; 139] = [
     Take(Came::ULong(3), Does::Nothing),
     Has("RVAL", "0"),
     Has("VAL", "0"),
-    // Where nothing comes, RVAL as it stands is the value.
+    // Without an input, the value is RVAL as it is.
     Put("RVAL", "12"),
     TAKE_NOTHING,
     Has("RVAL", "4"),
@@ -89,7 +89,8 @@ pub static TESTS: [Step<'static>; 139] = [
     AnswerFault,
     Raised("READ", "INVALID"),
     Has("VAL", "1"),
-    // ZSV is of state 0 and OSV of state 1. A value above 1 has no alarm, not of a change either.
+    // ZSV is the severity of state 0 and OSV that of state 1. A value above 1 has no alarm, not
+    // even that of a change.
     Test("alarms of states"),
     Set("ZSV", "MINOR"),
     Set("OSV", "MAJOR"),
@@ -124,7 +125,8 @@ pub static TESTS: [Step<'static>; 139] = [
     SHOW,
     TAKE_NOTHING,
     Raised("STATE", "MINOR"),
-    // A constant goes into VAL where it fits, and into RVAL where raw, which leaves VAL and UDF.
+    // A constant is put into VAL if it fits, and into RVAL for raw input, which leaves VAL and UDF
+    // unchanged.
     Test("constant"),
     Set("INP", "7"),
     Load,

@@ -1,4 +1,4 @@
-//! A bo record by itself.
+//! A single bo record.
 use crate::lower::steps::Step::{
     Answer, AnswerFault, Begin, Converts, Copied, Has, Lists, Load, OwnsDevice, Put, PutNumber,
     PutRefused, Raised, ReadAsNumber, ReadAsText, Set, SetRefused, Stands, Take, Test,
@@ -32,7 +32,8 @@ pub static TESTS: [Step<'static>; 236] = [
     PutRefused("VAL", "Open", IocError::BadValue),
     Has("VAL", "shut"),
     PutNumber("VAL", 2),
-    // The lowest state with the text is put; an empty text is shown as the number.
+    // A text is put as the lowest state with that text. A state with an empty text is shown as its
+    // number.
     Has("VAL", "2"),
     Put("ONAM", ""),
     Put("VAL", "1"),
@@ -41,7 +42,7 @@ pub static TESTS: [Step<'static>; 236] = [
     Put("VAL", "shut"),
     Put("ZNAM", ""),
     Has("VAL", "0"),
-    // RVAL is 0 where VAL is 0, else MASK where that isn't 0, else VAL.
+    // RVAL is 0 if VAL is 0, otherwise MASK if that isn't 0, otherwise VAL.
     Test("MASK 0, VAL 1"),
     Set("MASK", "0"),
     Set("RVAL", "77"),
@@ -117,7 +118,7 @@ pub static TESTS: [Step<'static>; 236] = [
     Has("RVAL", "8"),
     AnswerFault,
     Raised("WRITE", "INVALID"),
-    // DOL is read in a closed loop alone. After its fault VAL stays, and is converted.
+    // DOL is read only in a closed loop. After a fault of DOL, VAL is unchanged, and is converted.
     Test("desired output"),
     Set("DOL", "wish"),
     Load,
@@ -170,7 +171,7 @@ pub static TESTS: [Step<'static>; 236] = [
     SetRefused("DOL", "65536", IocError::BadValue),
     SetRefused("DOL", "-1", IocError::BadValue),
     SetRefused("DOL", "@card", IocError::BadLink),
-    // An alarm raised, INVALID: IVOA decides what is driven.
+    // With an INVALID alarm, IVOA decides what is driven.
     Test("Continue normally"),
     Set("IVOA", "Continue normally"),
     Set("IVOV", "3"),
@@ -201,7 +202,7 @@ pub static TESTS: [Step<'static>; 236] = [
     Raised("UDF", "INVALID"),
     Has("VAL", "3"),
     Has("RVAL", "8"),
-    // A lesser alarm lets the output be driven, whatever IVOA says.
+    // With a lesser alarm, the output is driven, whatever IVOA is.
     Test("lesser alarm"),
     Set("IVOA", "Don't drive outputs"),
     Set("UDFS", "MAJOR"),
@@ -210,7 +211,7 @@ pub static TESTS: [Step<'static>; 236] = [
     Take(Came::Nothing, Does::WriteAbsent(0)),
     Put("IVOA", "Set output to IVOV"),
     Take(Came::Nothing, Does::WriteAbsent(0)),
-    // A state has the alarm of ZSV where VAL is 0, else that of OSV.
+    // The severity of a state is ZSV if VAL is 0, otherwise OSV.
     Test("alarms of states"),
     Set("ZSV", "MINOR"),
     Set("OSV", "MAJOR"),
@@ -224,7 +225,8 @@ pub static TESTS: [Step<'static>; 236] = [
     SHOW,
     Take(Came::UShort(2), Does::Nothing),
     Raised("STATE", "MAJOR"),
-    // Where VAL differs from LALM, COS is raised with COSV, and LALM becomes VAL whatever the effect.
+    // If VAL differs from LALM, COS is raised with COSV, and LALM becomes VAL even if the alarm has
+    // no effect.
     Test("changes of state"),
     Set("OSV", "MINOR"),
     Set("COSV", "MAJOR"),
@@ -248,7 +250,7 @@ pub static TESTS: [Step<'static>; 236] = [
     Put("UDF", "1"),
     TAKE_NOTHING,
     Has("NSTA", "UDF"),
-    // What readers of numbers and of texts have.
+    // The values for readers of numbers and of texts.
     Test("fields read"),
     Set("ONAM", "on"),
     Set("ZNAM", "12"),

@@ -1,4 +1,4 @@
-//! A record of each type by itself, as the type's list of steps says.
+//! Single records of each type, by the type's list of steps.
 use crate::lower::steps::follow;
 use crate::lower::{bi, bo, fanout, int64, longin, longout, multi, records, texts};
 use rec_binary::{Bi, Bo};

@@ -3,18 +3,18 @@ use ioc_callback::{Queue, Queues};
 use ioc_menus::Priority;
 use std::test::Fail;
 
-/// A step on the queues, with what must come of it. The once queue is the one without a priority.
+/// A step on the queues, with its expected result. The once queue is the one without a priority.
 #[derive(Clone, Copy)]
 enum Step {
     Push(Option<Priority>, u32),
     Next(Option<u32>),
-    /// Of so many items that are pushed one after another, so many find room.
+    /// Pushes the first number of items one after another, of which the second number find room.
     Fill(Option<Priority>, u32, u32),
     Dropped(u64),
 }
 
 static STEPS: [Step; 21] = [
-    // HIGH comes before MEDIUM, LOW and once.
+    // HIGH precedes MEDIUM, LOW and once.
     Step::Push(None, 1),
     Step::Push(Some(Priority::Low), 2),
     Step::Push(Some(Priority::Medium), 3),
@@ -29,7 +29,7 @@ static STEPS: [Step; 21] = [
     Step::Next(Some(1)),
     Step::Next(None),
     Step::Dropped(0),
-    // Full queues drop, and count what they drop.
+    // Full queues drop items, and count them.
     Step::Fill(Some(Priority::High), 2001, 2000),
     Step::Fill(Some(Priority::Medium), 2001, 2000),
     Step::Fill(Some(Priority::Low), 2002, 2000),
@@ -39,7 +39,7 @@ static STEPS: [Step; 21] = [
     Step::Next(Some(1)),
 ];
 
-// Pushes an item, and tells whether there was room.
+// Pushes an item, and returns whether there was room.
 fn push(queues: &mut Queues<u32>, priority: Option<Priority>, item: u32) -> bool {
     match priority {
         Some(priority) => queues.push(priority, item).is_ok(),
@@ -47,7 +47,7 @@ fn push(queues: &mut Queues<u32>, priority: Option<Priority>, item: u32) -> bool
     }
 }
 
-// How many of so many items found room, which are pushed one after another.
+// Pushes this many items one after another, and returns how many found room.
 fn taken(queues: &mut Queues<u32>, priority: Option<Priority>, count: u32) -> u32 {
     let mut taken = 0u32;
     for item in 0..count {
@@ -58,7 +58,7 @@ fn taken(queues: &mut Queues<u32>, priority: Option<Priority>, count: u32) -> u3
     taken
 }
 
-// Does what the step says, and tells whether that came of it which must.
+// Carries out a step, and returns whether it has the expected result.
 fn holds(queues: &mut Queues<u32>, step: Step) -> bool {
     match step {
         Step::Push(priority, item) => push(queues, priority, item),
@@ -68,7 +68,7 @@ fn holds(queues: &mut Queues<u32>, step: Step) -> bool {
     }
 }
 
-// The first step that doesn't hold, by its place in the list.
+// Returns the place of the first step with another result.
 fn first_wrong(queues: &mut Queues<u32>, steps: &[Step]) -> Option<usize> {
     for (place, step) in steps.iter().enumerate() {
         if !holds(queues, *step) {
@@ -85,7 +85,7 @@ fn queues_by_priority(rt: HostRuntime) -> Result<(), Fail> {
     Ok(())
 }
 
-/// A step on one queue of two places, with what must come of it.
+/// A step on one queue of two places, with its expected result.
 #[derive(Clone, Copy)]
 enum QueueStep {
     Empty(bool),

@@ -1,4 +1,4 @@
-//! Lines and their texts, on examples of the database grammar.
+//! Lines and their texts, by examples of the database grammar.
 use ioc_dbtext::{End, Macros, expand};
 use std::alloc::Global;
 
@@ -16,7 +16,7 @@ static LINES: [(&[u8], Option<&[u8]>); 11] = [
     (b"$ (A) $A # $(A)\n", Some(b"$ (A) $A ")),
 ];
 
-/// A text, with the bytes and the lengths of its lines' texts, and what ended them.
+/// A text, with the bytes and lengths of its lines' texts, and how they end.
 struct Expansion {
     text: &'static [u8],
     bytes: &'static [u8],
@@ -57,7 +57,7 @@ static EXPANSIONS: [Expansion; 5] = [
     },
 ];
 
-// Are these the bytes and the lengths of the text's lines, and does it end so?
+// Returns whether these are the bytes and lengths of the text's lines, and their end.
 fn is_expanded(alloc: Global, text: &[u8], bytes: &[u8], lengths: &[usize], end: End) -> bool {
     match expand(alloc, &Macros::new(alloc), text) {
         Ok(texts) => {
@@ -73,7 +73,7 @@ fn is_told(alloc: Global, wanted: &Expansion) -> bool {
     is_expanded(alloc, wanted.text, wanted.bytes, wanted.lengths, wanted.end)
 }
 
-// Is this the text of the line, or is its macro refused?
+// Returns whether this is the text of the line, or, for `None`, whether its macro is refused.
 fn is_text(alloc: Global, line: &[u8], wanted: Option<&[u8]>) -> bool {
     match wanted {
         Some(text) => is_expanded(alloc, line, text, &[text.len()], End::Whole),

@@ -1,13 +1,13 @@
-//! Tokens and their lines, on examples of the database grammar.
+//! Tokens and their lines, by examples of the database grammar.
 use ioc_dbtext::{Macros, TokenKind, expand};
 use ioc_dbtokens::{Tokens, unescaped};
 use ioc_values::BadDbKind;
 use std::alloc::Global;
 
-// A token: its line, what it is and its text.
+// A token: its line, its kind and its text.
 type Wanted = (u64, TokenKind, &'static [u8]);
 
-// Is the next token this one? A sign that doesn't stand there isn't taken.
+// Returns whether the next token is this one. A sign is taken only if it is next.
 fn is_next(tokens: &mut Tokens<'_>, wanted: &Wanted) -> bool {
     if tokens.take_sign(b';') {
         return false;
@@ -19,7 +19,7 @@ fn is_next(tokens: &mut Tokens<'_>, wanted: &Wanted) -> bool {
     token.line == line && token.kind == kind && token.text == said
 }
 
-// Are these the tokens, and no more?
+// Returns whether these are all the tokens.
 fn are_next(tokens: &mut Tokens<'_>, table: &[Wanted]) -> bool {
     for wanted in table {
         if !is_next(tokens, wanted) {
@@ -29,7 +29,7 @@ fn are_next(tokens: &mut Tokens<'_>, table: &[Wanted]) -> bool {
     tokens.next().is_none()
 }
 
-// Are these the tokens of the text?
+// Returns whether these are the tokens of the text.
 fn are_tokens(alloc: Global, text: &[u8], table: &[Wanted]) -> bool {
     match expand(alloc, &Macros::new(alloc), text) {
         Ok(texts) => are_next(&mut Tokens::new(&texts), table),
@@ -67,7 +67,7 @@ static TEXTS: [(&[u8], &[Wanted]); 4] = [
     ),
 ];
 
-// Whether they stand in a value, bytes between quotes, and what they are there.
+// Whether the bytes between quotes are a value, these bytes, and what they mean there.
 static ESCAPES: [(bool, &[u8], &[u8]); 8] = [
     (true, b"a b", b"a b"),
     (false, b"a b", b"a b"),

@@ -1,9 +1,9 @@
-//! Devices, also behind a box.
+//! Devices, including boxed ones.
 use ioc_device::{Answer, Ask, Device, answer_of};
 use ioc_values::Value;
 use std::test::Fail;
 
-/// Answers how often it was asked, and later where it is to write.
+/// Answers a read with the number of its calls, and a write asynchronously.
 #[derive(Drop)]
 struct Counting {
     asked: u16,
@@ -23,7 +23,7 @@ impl Device for Counting {
     }
 }
 
-// Is a device asked each time, whatever it is?
+// Returns whether a device of any type is called each time.
 fn is_asked<D: Device>(device: &mut D) -> bool {
     let answers = [
         answer_of(device, &Ask::Read, 0),

@@ -1,4 +1,4 @@
-//! A fanout record by itself.
+//! A single fanout record.
 use crate::lower::steps::Step::{
     Begin, Converts, Copied, Has, Load, Put, PutRefused, Set, SetRefused, Stands, Take, Test,
 };
@@ -28,7 +28,8 @@ pub static TESTS: [Step<'static>; 53] = [
     Take(Came::Nothing, Does::Follow(0xffff)),
     Has("UDF", "0"),
     Has("NSTA", "NO_ALARM"),
-    // What SELL gives goes into SELN; after a fault SELN stays, and the choice goes on.
+    // The value of SELL is put into SELN. After a fault, SELN is unchanged, and the links are
+    // selected all the same.
     Test("number by a link"),
     Set("SELM", "Specified"),
     Set("SELL", "n PP MSS"),

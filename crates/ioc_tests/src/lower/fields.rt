@@ -1,5 +1,5 @@
-//! The tables of fields: rows, names, defaults, links. All are lists of facts, since a list costs the prover little and a
-//! function much.
+//! The tables of fields: rows, names, defaults and links. All cases are in lists of facts, because
+//! a list is far cheaper to prove than a function.
 use Fact::{
     CanPut, CanSet, Default, Field, Index, KeptOnly, Kind, NoDefault, NoField, NoKind, NoType,
     ProcessPassive, Role, Row, Type,
@@ -46,24 +46,25 @@ enum Mark {
     P,
     // Neither put nor set.
     N,
-    // Kept, without effect.
+    // Stored, without effect.
     K,
-    // Set by a database text alone; so is a link.
+    // Set only by a database text, as link fields are.
     Set,
 }
 
 // A fact of a record type.
 enum Fact {
-    // From here on this type: its name, whether it reads devices, and how many fields of links it has.
+    // The type of the following facts: its name, whether it reads devices, and its number of link
+    // fields.
     Type(RecordType, &'static str, bool, usize),
-    // No type has the name.
+    // No type has this name.
     NoType(&'static str),
-    // The row of the field of a name.
+    // The row of the field with this name.
     Row(&'static str, FieldKind, Mark),
-    // The field of a name, and that is the field's name.
+    // The field with this name, which is also the name of the field.
     Field(&'static str, FieldNo),
     NoField(&'static str),
-    // The number that the field has in a new record; none where it is a link.
+    // The number of the field in a new record. A link field has none.
     Default(&'static str, i64),
     NoDefault(&'static str),
     Kind(FieldNo, FieldKind),
@@ -72,7 +73,7 @@ enum Fact {
     KeptOnly(FieldNo, bool),
     CanPut(FieldNo, bool),
     CanSet(FieldNo),
-    // What links the fields of a role take.
+    // The kind of links that fields of this role take.
     Role(LinkRole, LinkKind),
     Index(Slot, usize),
 }
@@ -120,7 +121,7 @@ static COMMON: [Fact; 36] = [
     NoDefault("FLNK"),
 ];
 
-// What is so whatever the type, and then the facts of each type.
+// The facts that don't depend on the type, and then those of each type.
 static TYPES: [Fact; 165] = [
     Role(LinkRole::Input, LinkKind::WithDevice),
     Role(LinkRole::Output, LinkKind::WithDevice),
@@ -289,7 +290,7 @@ static TYPES: [Fact; 165] = [
     NoField("IVOV"),
 ];
 
-// The row that the tables of fields tell of a field.
+// Returns the row of a field in the tables of fields.
 fn told(kind: FieldKind, mark: Mark) -> ioc_fields::Row {
     if let FieldKind::Link(role) = kind {
         return ioc_fields::Row::link(role);
@@ -303,13 +304,13 @@ fn told(kind: FieldKind, mark: Mark) -> ioc_fields::Row {
     }
 }
 
-// The number that a field has in a new record.
+// Returns the number of a field in a new record.
 fn default_number(record_type: RecordType, name: &str) -> Option<i64> {
     let field = field(record_type, name.as_bytes())?;
     default_of(record_type, field)?.number()
 }
 
-// A fact of a name.
+// Returns whether a fact of a name holds.
 fn holds(record_type: RecordType, fact: &Fact) -> bool {
     match fact {
         Row(name, kind, mark) => match field(record_type, name.as_bytes()) {
@@ -336,7 +337,7 @@ fn holds(record_type: RecordType, fact: &Fact) -> bool {
     }
 }
 
-// A fact of a field, or of what no type changes.
+// Returns whether a fact of a field holds, or one that doesn't depend on the type.
 fn field_holds(record_type: RecordType, fact: &Fact) -> bool {
     match fact {
         Kind(field, kind) => kind_of(record_type, *field) == Some(*kind),
@@ -351,7 +352,8 @@ fn field_holds(record_type: RecordType, fact: &Fact) -> bool {
     }
 }
 
-// The first fact that doesn't hold, by its place in the table, which begins with this type.
+// Returns the place of the first fact that doesn't hold. The facts begin with those of type
+// `first`.
 fn first_wrong(first: RecordType, facts: &[Fact]) -> Option<usize> {
     let mut record_type = first;
     for (place, fact) in facts.iter().enumerate() {

@@ -1,4 +1,4 @@
-//! An int64in and an int64out record by themselves.
+//! A single int64in record and a single int64out record.
 use crate::lower::steps::Step::{
     Begin, Converts, Copied, Has, Lists, Load, Put, PutRefused, Raised, Set, Shows, Take, Test,
 };

@@ -1,4 +1,4 @@
-//! Counts of requests.
+//! The counts of requests.
 use ioc_ledger::{Outcome, Tally};
 
 static OTHERS: [Outcome; 4] = [
@@ -27,7 +27,7 @@ fn requests_and_completions(rt: HostRuntime) {
         tally.count(*outcome);
     }
     assert!(rt; tally == WANTED);
-    // Answers that come later, and completions.
+    // Asynchronous answers, and completions.
     let mut later = Tally::default();
     later.count_started(2);
     later.count_started(0);

@@ -1,9 +1,9 @@
-//! Link texts, each printed and read again, and texts that are no links.
+//! Link texts, each printed and parsed again, and texts that aren't links.
 use ioc_links::{LinkKind, is_record_name, parse, print};
 
 const REFUSED: &[u8] = b"?";
 
-// Is the link of the text printed so, or is the text refused?
+// Returns whether the link of the text is printed as expected. A text that isn't a link is refused.
 fn is_printed(text: &[u8], wanted: &[u8]) -> bool {
     match parse(LinkKind::WithDevice, text) {
         Ok(link) => print(&link).as_slice() == wanted,
@@ -11,7 +11,7 @@ fn is_printed(text: &[u8], wanted: &[u8]) -> bool {
     }
 }
 
-// Is the link printed so, and printed so again where that is read?
+// Returns whether the link is printed as expected, and again after that text is parsed.
 fn is_spelled(text: &[u8], wanted: &[u8]) -> bool {
     is_printed(text, wanted) && (wanted == REFUSED || is_printed(wanted, wanted))
 }

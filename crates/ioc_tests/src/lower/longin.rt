@@ -1,4 +1,4 @@
-//! A longin record by itself.
+//! A single longin record.
 use crate::lower::acts::Act;
 use crate::lower::steps::Step::{
     Answer, AnswerFault, Begin, Converts, Copied, Do, Has, Load, OwnsDevice, Put, Raised, Set,
@@ -27,7 +27,7 @@ pub static TESTS: [Step<'static>; 130] = [
     Set("HYST", "10"),
     Set("VAL", "0"),
     Load,
-    // The hysteresis counts from the limit that was reached last.
+    // The hysteresis is relative to the limit that was reached last.
     Take(Came::Long(0), Does::Nothing),
     Shows("NO_ALARM", "NO_ALARM"),
     Has("LALM", "0"),
@@ -89,12 +89,12 @@ pub static TESTS: [Step<'static>; 130] = [
     Put("VAL", "70"),
     Copied,
     Do(Act::Raise(Status::Link, Severity::Invalid)),
-    // The limit is reached without effect, and LALM stays.
+    // The alarm of the limit has no effect, and LALM is unchanged.
     TAKE_FAULT,
     Has("VAL", "70"),
     Raised("LINK", "INVALID"),
     Has("LALM", "60"),
-    // An undefined value raises UDF, and no limit is tested; a value that comes makes it defined.
+    // An undefined value raises UDF, and no limit is tested. An input makes it defined.
     Test("undefined value first"),
     Set("HIGH", "-1"),
     Set("HSV", "MAJOR"),
@@ -133,7 +133,7 @@ pub static TESTS: [Step<'static>; 130] = [
     Has("LALM", "5"),
     Has("STAT", "UDF"),
     Has("SEVR", "NO_ALARM"),
-    // A value of the device that doesn't convert acts as its fault.
+    // A value from the device that can't be converted acts like a fault of the device.
     Test("device of its own"),
     Set("INP", "@card 3"),
     Load,

@@ -1,4 +1,4 @@
-//! A longout record by itself.
+//! A single longout record.
 use crate::lower::steps::Step::{
     AnswerFault, Begin, Converts, Copied, Has, Lists, Load, OwnsDevice, Put, PutRefused, Raised,
     Set, SetRefused, Stands, Take, Test,
@@ -25,7 +25,7 @@ pub static TESTS: [Step<'static>; 115] = [
     Take(Came::Long(-11), Does::WriteAbsentLong(-10)),
     Has("VAL", "-10"),
     Take(Came::Long(9), Does::WriteAbsentLong(9)),
-    // They are limits where DRVH is above DRVL alone.
+    // The drive limits apply only if DRVH is above DRVL.
     Test("equal drive limits"),
     Set("DRVH", "5"),
     Set("DRVL", "5"),
@@ -72,7 +72,8 @@ pub static TESTS: [Step<'static>; 115] = [
     Take(Came::Long(15), Does::Nothing),
     Raised("HIGH", "MINOR"),
     Has("LALM", "10"),
-    // An alarm raised, INVALID: IVOA decides what is driven. IVOV is driven as it stands, and UDF stays.
+    // With an INVALID alarm, IVOA decides what is driven. IVOV is driven as it is, and UDF is
+    // unchanged.
     Test("Continue normally"),
     Set("IVOV", "30"),
     Set("DRVH", "10"),

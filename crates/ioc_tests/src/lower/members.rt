@@ -1,5 +1,6 @@
-//! Sets of records, as link changes join and part them, by a list of steps. Where memory is refused once, all must be as before,
-//! and what was refused is done once more: so the test holds whichever allocation fails.
+//! Sets of records that are joined and parted by link changes, by a list of steps. If an allocation
+//! fails, all must be as before, and the step is repeated: so the test holds whichever allocation
+//! fails.
 use crate::lower::sets::{
     Cut, Linked, Sensor, add, answers, both_lead, fresh, holds, is_refused, join, leads_out, made,
     part,
@@ -26,7 +27,7 @@ static CHAIN: [Linked; 10] = [
     (9, None),
 ];
 
-// Its first three once the link of the third is empty, and the others.
+// The first three records of the chain once the link of the third is empty, and the others.
 static FRONT: [Linked; 3] = [(0, Some(1)), (1, Some(2)), (2, None)];
 
 static BACK: [Linked; 7] = [
@@ -43,7 +44,7 @@ static ALONE: [Linked; 1] = [(10, None)];
 
 static FRONT_AND_ALONE: [Linked; 4] = [(0, Some(1)), (1, Some(2)), (2, Some(10)), (10, None)];
 
-// The chain, and a record that no link joins to it.
+// The chain, and a record without links.
 static CHAIN_AND_ALONE: [Linked; 11] = [
     (0, Some(1)),
     (1, Some(2)),
@@ -88,7 +89,7 @@ static OPEN_RING: [Linked; 10] = [
     (9, Some(0)),
 ];
 
-// Are all links of the chain empty, and those of the bases as they were?
+// Returns whether all links of the chain are empty, and those of the bases unchanged.
 fn are_cut<K: RecordKind, D: Device>(set: &mut Members<K, D>) -> bool {
     for (number, target) in &CHAIN {
         let number = RecordNo::new(*number);
@@ -99,7 +100,7 @@ fn are_cut<K: RecordKind, D: Device>(set: &mut Members<K, D>) -> bool {
     true
 }
 
-/// The records that a set has.
+/// The records of a set.
 #[derive(Clone, Copy)]
 enum List {
     Nothing,
@@ -129,33 +130,35 @@ fn records(list: List) -> &'static [Linked] {
     }
 }
 
-/// A step on three sets, with what must come of it.
+/// A step on three sets, with its expected result.
 #[derive(Clone, Copy)]
 enum Step {
-    /// The first set gives way to one of these records.
+    /// Replaces the first set by one of these records.
     First(List),
     Second(List),
-    /// The first set gets this record.
+    /// Adds this record to the first set.
     Add(usize, Option<usize>),
-    /// The link of a record of the first set leads there, and what falls off is the second set.
+    /// Changes the link of a record of the first set. The records that part from it are the second
+    /// set.
     Part(usize, Option<usize>),
-    /// The link of a record of the first set leads to one of the second, and all are in the first.
+    /// Changes the link of a record of the first set to one of the second. All records are in the
+    /// first set then.
     Join(usize, usize),
-    /// The second set and the third change places.
+    /// Swaps the second set and the third.
     Swap,
-    /// All links of the first set become empty.
+    /// Empties all links of the first set.
     Cut,
-    /// The first set has these records, and the second those.
+    /// The records of the first set and of the second.
     Are(List, List),
-    /// The links of the first set are those of the chain, cut.
+    /// The first set is the chain with all links empty.
     AreCut,
     IsFolded(bool),
     IsPart(bool),
-    /// What the chain may not be asked is told beforehand.
+    /// The tests refuse what can't be done with the chain.
     Refused,
 }
 
-/// The sets.
+/// The sets that the steps work on.
 #[derive(Drop)]
 struct Sets<K, D> {
     first: Members<K, D>,
@@ -164,7 +167,8 @@ struct Sets<K, D> {
 }
 
 static STEPS: [Step; 44] = [
-    // The third link of the chain goes, then leads to the record alone, then back to where it led.
+    // The third link of the chain is emptied, then leads to the single record, then back to where
+    // it led.
     Step::First(List::Chain),
     Step::Are(List::Chain, List::Nothing),
     Step::Part(2, None),
@@ -184,19 +188,19 @@ static STEPS: [Step; 44] = [
     Step::Swap,
     Step::Are(List::Chain, List::Alone),
     Step::Second(List::Nothing),
-    // A link within the set closes the ring, and another one goes: nothing falls off.
+    // A link within the set closes the ring, and another one is emptied: no record parts.
     Step::Are(List::Chain, List::Nothing),
     Step::Part(9, Some(0)),
     Step::Are(List::Ring, List::Nothing),
     Step::Part(4, None),
     Step::Are(List::OpenRing, List::Nothing),
     Step::First(List::Chain),
-    // Two chains aren't apart.
+    // Two chains have common records.
     Step::Are(List::Chain, List::Nothing),
     Step::Second(List::Chain),
     Step::Are(List::Chain, List::Chain),
     Step::Refused,
-    // A record more that no link joins to the others, and one whose link leaves them.
+    // A further record without links, and one whose link leaves the set.
     Step::Add(10, None),
     Step::Are(List::ChainAndAlone, List::Chain),
     Step::IsPart(false),
@@ -215,7 +219,7 @@ static STEPS: [Step; 44] = [
     Step::IsPart(false),
 ];
 
-// A step that makes records.
+// Carries out a step that creates records.
 fn makes(
     alloc: Global,
     sets: &mut Sets<Record<Longin>, Sensor>,
@@ -230,7 +234,7 @@ fn makes(
     Ok(true)
 }
 
-// A step that changes sets.
+// Carries out a step that changes sets.
 fn changes<K: RecordKind + Drop, D: Device>(
     alloc: Global,
     sets: &mut Sets<K, D>,
@@ -263,7 +267,7 @@ fn changes<K: RecordKind + Drop, D: Device>(
     }
 }
 
-// A step that asks the sets.
+// Carries out a step that tests the sets.
 fn tells<K: RecordKind, D: Device>(
     alloc: Global,
     first: &mut Members<K, D>,
@@ -282,7 +286,8 @@ fn tells<K: RecordKind, D: Device>(
     }
 }
 
-// Does a step hold, or once more where memory was refused and the sets are as before?
+// Returns whether a step has the expected result, if necessary at the second attempt after a failed
+// allocation that left the sets as before.
 fn holds_again(
     alloc: Global,
     sets: &mut Sets<Record<Longin>, Sensor>,
@@ -295,7 +300,7 @@ fn holds_again(
     }
 }
 
-// The first step that doesn't hold, by its place in the list.
+// Returns the place of the first step with another result.
 fn first_wrong(alloc: Global, sets: &mut Sets<Record<Longin>, Sensor>) -> Option<usize> {
     let mut before = &Step::Are(List::Nothing, List::Nothing);
     for (place, step) in STEPS.iter().enumerate() {

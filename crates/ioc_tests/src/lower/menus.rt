@@ -1,4 +1,4 @@
-//! Texts and numbers of choices.
+//! The texts and numbers of choices.
 use ioc_menus::*;
 
 static TEXTS: [(Menu, u16, Option<&str>); 11] = [

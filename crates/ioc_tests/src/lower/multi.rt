@@ -1,4 +1,4 @@
-//! An mbbi and an mbbo record by themselves.
+//! A single mbbi record and a single mbbo record.
 use crate::lower::steps::Step::{
     Answer, AnswerFault, Begin, Converts, Copied, Has, Lists, Load, OwnsDevice, Put, PutRefused,
     Raised, ReadAsNumber, Set, SetRefused, Stands, Take, Test,
@@ -18,7 +18,8 @@ const TAKE_NOTHING: Step<'static> = Take(Came::Nothing, Does::Nothing);
 const TAKE_FAULT: Step<'static> = Take(Came::Fault, Does::Nothing);
 
 pub static INPUT: [Step<'static>; 174] = [
-    // MASK is made at load, where it is 0: the NOBT lowest bits, shifted left by SHFT and cut to 32 bits; all 32 where NOBT is 0.
+    // A MASK of 0 is computed at load: the NOBT lowest bits, shifted left by SHFT and cut to 32
+    // bits, or all 32 bits if NOBT is 0.
     Test("MASK of NOBT 4, SHFT 8"),
     Set("NOBT", "4"),
     Set("SHFT", "8"),
@@ -60,7 +61,7 @@ pub static INPUT: [Step<'static>; 174] = [
     PutRefused("SHFT", "-1", IocError::BadValue),
     Has("NOBT", "2"),
     Has("SHFT", "1"),
-    // The lowest state of the value: the fourth's value is 0.
+    // The lowest state with the value. The value of the fourth is 0.
     Test("raw value of a state"),
     Set("DTYP", "Raw Soft Channel"),
     Set("NOBT", "4"),
@@ -125,7 +126,7 @@ pub static INPUT: [Step<'static>; 174] = [
     Has("VAL", "9"),
     AnswerFault,
     Raised("READ", "INVALID"),
-    // A state's own severity, and that of a value that is no state.
+    // The severity of a state, and that of a value that is no state.
     Test("alarms of states"),
     Set("ZRSV", "MINOR"),
     Set("FFSV", "MAJOR"),
@@ -175,7 +176,7 @@ pub static INPUT: [Step<'static>; 174] = [
     Has("VAL", "0"),
     Has("UDF", "1"),
     SetRefused("INP", "4294967296", IocError::BadValue),
-    // A text stands for the lowest state that has it.
+    // A text means the lowest state that has it.
     Test("texts of states"),
     Set("ZRST", "off"),
     Set("ONST", "on"),
@@ -199,7 +200,7 @@ pub static INPUT: [Step<'static>; 174] = [
 ];
 
 pub static OUTPUT: [Step<'static>; 99] = [
-    // RVAL is the value of the state, shifted left by SHFT; of it the bits of MASK are written.
+    // RVAL is the value of the state, shifted left by SHFT. The bits of MASK are written.
     Test("state written"),
     Set("ZRVL", "5"),
     Set("ONVL", "6"),

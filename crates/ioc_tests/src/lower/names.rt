@@ -1,24 +1,24 @@
-//! Names of records, and their numbers.
+//! The names of records and their numbers.
 use ioc_names::*;
 use ioc_values::Name;
 use std::process::Abort;
 
-/// A step of a test, with what must come of it.
+/// A step of a test, with its expected result.
 #[derive(Clone, Copy)]
 enum Step<'a> {
-    /// There are so many records.
+    /// The number of records.
     Counts(usize),
-    /// No record has the name.
+    /// No record has this name.
     Misses(&'a [u8]),
-    /// The record of this number has the name.
+    /// The record with this number has this name.
     Finds(&'a [u8], usize),
-    /// A new record has the name, and this number.
+    /// Adds a record with this name, which gets this number.
     Adds(&'a [u8], usize),
-    /// The record of this number has this second name.
+    /// Adds this second name to the record with this number.
     Aliases(&'a [u8], usize),
 }
 
-// Adds a record, where its name is free and a number is left.
+// Adds a record if its name is free and a number is left.
 fn add(names: &mut Names, name: Name) -> Option<RecordNo> {
     if names.len() == usize::MAX || names.find(name.as_slice()).is_some() {
         return None;
@@ -26,7 +26,7 @@ fn add(names: &mut Names, name: Name) -> Option<RecordNo> {
     names.add(name).ok()
 }
 
-// Gives a record a second name, where that is free and there is the record.
+// Adds a second name to a record if the name is free and the record exists.
 fn alias(names: &mut Names, number: RecordNo, name: Name) -> bool {
     if names.len() <= number.index() || names.find(name.as_slice()).is_some() {
         return false;
@@ -34,7 +34,7 @@ fn alias(names: &mut Names, number: RecordNo, name: Name) -> bool {
     names.alias(number, name).is_ok()
 }
 
-// Does what the step says, and tells whether that came of it which must.
+// Carries out a step, and returns whether it has the expected result.
 fn holds(names: &mut Names, step: &Step<'_>) -> bool {
     match step {
         Step::Counts(count) => names.len() == *count && names.is_empty() == (*count == 0),
@@ -45,7 +45,7 @@ fn holds(names: &mut Names, step: &Step<'_>) -> bool {
     }
 }
 
-// Goes through steps, from no records on.
+// Carries out steps, beginning without records.
 fn follow(rt: &(impl AllocGlobal + Abort), steps: &[Step<'_>]) {
     let mut names = Names::new(rt.alloc());
     let mut number = 0u64;
@@ -88,7 +88,7 @@ static LONG: [u8; 61] = [120; 61];
 fn records_aliases_and_long_names(rt: HostRuntime) {
     follow(&rt, &RECORDS);
     follow(&rt, &ALIAS);
-    // A name that is too long is not found.
+    // A name that is too long isn't found.
     let cut = &LONG[..60];
     let steps = [
         Step::Misses(cut),

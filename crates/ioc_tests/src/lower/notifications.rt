@@ -1,4 +1,4 @@
-//! Waiting lists of notifications, and the numbers of those that are live, by lists of steps.
+//! The waiting lists of notifications, and the numbers of live ones, by lists of steps.
 use ioc_fields::{CommonField, FieldNo};
 use ioc_names::RecordNo;
 use ioc_notify::{LiveNumbers, NotifyId, WaitingLists};
@@ -6,20 +6,20 @@ use ioc_values::Value;
 use std::alloc::{AllocError, Global};
 use std::test::Fail;
 
-/// A step on waiting lists, with what must come of it.
+/// A step on waiting lists, with its expected result.
 #[derive(Clone, Copy)]
 enum Step {
-    /// The notification of this number waits for that record from now on, or there is no room.
+    /// Adds the notification with this number to the waiting list of a record, if there is room.
     Add(u64, usize, bool),
-    /// The notification that waits longest for a record.
+    /// The notification that has waited longest for a record.
     First(usize, Option<u64>),
-    /// The lowest record from this one on for which one waits.
+    /// The first record, from this one on, that a notification waits for.
     Next(usize, Option<usize>),
     Remove(u64, bool),
     Has(u64, bool),
 }
 
-// First in, first out at each record, where there is room for four.
+// First in, first out for each record, with room for four.
 static STEPS: [Step; 17] = [
     Step::Next(0, None),
     Step::Add(1, 7, true),
@@ -40,7 +40,7 @@ static STEPS: [Step; 17] = [
     Step::Has(1, false),
 ];
 
-// Adds a notification, where there is room.
+// Adds a notification if there is room.
 fn add(lists: &mut WaitingLists, number: u64, target: usize) -> bool {
     if !lists.has_room() {
         return false;
@@ -54,7 +54,8 @@ fn add(lists: &mut WaitingLists, number: u64, target: usize) -> bool {
     true
 }
 
-// Is this the notification that waits longest for a record, with the value that all have?
+// Returns whether this notification has waited longest for a record, and has the value that all
+// have.
 fn is_first(lists: &WaitingLists, target: usize, wanted: Option<u64>) -> bool {
     match lists.first(RecordNo::new(target)) {
         Some(waiting) => {
@@ -64,7 +65,7 @@ fn is_first(lists: &WaitingLists, target: usize, wanted: Option<u64>) -> bool {
     }
 }
 
-// Does what the step says, and tells whether that came of it which must.
+// Carries out a step, and returns whether it has the expected result.
 fn holds(lists: &mut WaitingLists, step: Step) -> bool {
     match step {
         Step::Add(number, target, wanted) => add(lists, number, target) == wanted,
@@ -77,7 +78,7 @@ fn holds(lists: &mut WaitingLists, step: Step) -> bool {
     }
 }
 
-// A copy stays as it was while its lists get more room and one more.
+// Returns whether a copy is unchanged when the original gets more room and one more notification.
 fn is_copied(alloc: Global) -> Result<bool, AllocError> {
     let mut lists = WaitingLists::with_room(alloc, 1)?;
     let has_one = add(&mut lists, 1, 7);
@@ -99,17 +100,18 @@ fn first_in_first_out_at_each_record(rt: HostRuntime) -> Result<(), Fail> {
     Ok(())
 }
 
-/// A step on the numbers of live notifications, with what must come of it.
+/// A step on the numbers of live notifications, with its expected result.
 #[derive(Clone, Copy)]
 enum LiveStep {
-    /// All are forgotten.
+    /// Forgets all notifications.
     New,
-    /// The notification of a number begins, where fewer than 256 are live.
+    /// Begins the notification with this number, if fewer than 256 are live.
     Begin(u64, bool),
-    /// So many begin, from that of number 1 on.
+    /// Begins this many notifications, numbered from 1 on.
     BeginAll(u64),
     Gain(u64),
-    /// One of its holders has it no more; is it live no more either?
+    /// Removes one record from the notification, and whether the notification isn't live any more
+    /// either.
     Lose(u64, bool),
     Forget(u64, bool),
     Live(u64, bool),
@@ -117,7 +119,7 @@ enum LiveStep {
 }
 
 static LIVE_STEPS: [LiveStep; 19] = [
-    // A notification ends with its last holder.
+    // A notification ends with its last record.
     LiveStep::Live(1, false),
     LiveStep::Begin(1, true),
     LiveStep::Begin(2, true),
@@ -132,7 +134,7 @@ static LIVE_STEPS: [LiveStep; 19] = [
     LiveStep::Forget(2, false),
     LiveStep::Begin(3, true),
     LiveStep::Counts(1),
-    // 256 are live at most.
+    // At most 256 are live.
     LiveStep::New,
     LiveStep::BeginAll(256),
     LiveStep::Begin(257, false),
@@ -140,7 +142,7 @@ static LIVE_STEPS: [LiveStep; 19] = [
     LiveStep::Begin(257, true),
 ];
 
-// Begins a notification, where fewer than 256 are live.
+// Begins a notification if fewer than 256 are live.
 fn begin(live: &mut LiveNumbers, number: u64) -> bool {
     if live.len() >= 256 {
         return false;
@@ -149,7 +151,7 @@ fn begin(live: &mut LiveNumbers, number: u64) -> bool {
     true
 }
 
-// Does each begin?
+// Begins this many notifications, and returns whether each began.
 fn begin_all(live: &mut LiveNumbers, count: u64) -> bool {
     let mut all = true;
     for number in 0..count {

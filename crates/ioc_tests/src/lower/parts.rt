@@ -6,10 +6,11 @@ use ioc_names::RecordNo;
 use std::alloc::{AllocError, Global};
 use std::test::Fail;
 
-// The ends of the edges between so many records, the number of each one's part, and a count that an end isn't below where there are any.
+// The ends of the edges, the number of records, the number of each one's part, and a count that is
+// too low for the ends, if there are any.
 static PARTS: [(&[(usize, usize)], usize, &[usize], usize); 2] = [
     (&[], 0, &[], 0),
-    // A loop, a pair and a record alone.
+    // A loop, a pair and a single record.
     (
         &[(4, 0), (2, 4), (0, 2), (5, 3), (1, 1)],
         6,
@@ -35,7 +36,7 @@ fn edges_between(alloc: Global, ends: &[(usize, usize)]) -> Result<Vec<Edge>, Al
     Ok(edges)
 }
 
-// The number of each record's part; none where an end isn't below the count.
+// Returns the number of each record's part, or none if an end isn't below the count.
 fn numbers(alloc: Global, edges: &[Edge], count: usize) -> Result<Vec<usize>, AllocError> {
     if !are_below(edges, count) {
         return Ok(Vec::new(alloc));
@@ -43,7 +44,7 @@ fn numbers(alloc: Global, edges: &[Edge], count: usize) -> Result<Vec<usize>, Al
     parts_of_all(alloc, edges, count)
 }
 
-// Are these the parts, and is an end too high for fewer records?
+// Returns whether these are the parts, and an end is too high for fewer records.
 fn are_parts(
     alloc: Global,
     ends: &[(usize, usize)],
@@ -56,7 +57,8 @@ fn are_parts(
     Ok(found.as_slice() == wanted && are_below(edges.as_slice(), fewer) == ends.is_empty())
 }
 
-// Are the parts right where there are gaps between the records' numbers, and where there are no records?
+// Returns whether the parts are right if there are gaps between the records' numbers, and if there
+// are no records.
 fn are_parts_with_gaps(alloc: Global) -> Result<bool, AllocError> {
     let nodes = [RecordNo::new(3), RecordNo::new(10), RecordNo::new(11)];
     let found = parts(alloc, &[edge(11, 3)], &nodes)?;
@@ -76,7 +78,7 @@ fn parts_of_records(rt: HostRuntime) -> Result<(), Fail> {
     Ok(())
 }
 
-// A chain of 100,000 records, its links in a shuffled order.
+// Returns a chain of 100,000 records, with its links in a shuffled order.
 fn chain(alloc: Global) -> Result<Vec<Edge>, AllocError> {
     let mut edges = Vec::with_capacity(alloc, 99_999)?;
     for i in 0..99_999usize {
@@ -86,7 +88,7 @@ fn chain(alloc: Global) -> Result<Vec<Edge>, AllocError> {
     Ok(edges)
 }
 
-// Is each of the numbers 0?
+// Returns whether all the numbers are 0.
 fn are_zeros(numbers: &[usize]) -> bool {
     for number in numbers {
         if *number != 0 {

@@ -6,7 +6,7 @@ use ioc_put_table::PutTable;
 use std::alloc::{AllocError, Global};
 use std::test::Fail;
 
-// What a set has: one put with notification, which so many have.
+// Returns the live puts with notification of a set that has one, with this many records.
 fn one(number: u64, holders: u64) -> [Live; 1]
     ensures { result ≡ record { number = number; holders = holders } ∷ [] }
 {
@@ -16,7 +16,7 @@ fn one(number: u64, holders: u64) -> [Live; 1]
     }]
 }
 
-// Is its number taken while a set has it, and another one free?
+// Returns whether its number is taken while a set has it, and another number is free.
 fn is_taken(table: &PutTable) -> bool {
     let seven = NotifyId::new(7);
     let eight = NotifyId::new(8);
@@ -24,8 +24,9 @@ fn is_taken(table: &PutTable) -> bool {
     is_seven && table.has_place(eight) && !table.is_live(eight)
 }
 
-// What two sets have of one put, the first two holders, the other one: whether its number is taken, and whether it is live once the first set
-// has it no more, and once nobody has it.
+// Two sets have a put with notification, with two records in the first and one in the second.
+// Returns whether its number is taken, whether it is live without the first set, and whether it is
+// live without both.
 fn lives_until_the_last(alloc: Global) -> Result<[bool; 3], AllocError> {
     let seven = NotifyId::new(7);
     let mut table = PutTable::new(alloc);

@@ -1,4 +1,5 @@
-//! What records of every type do alike: the steps on common fields, puts, texts of fields.
+//! What is common to records of all types: the steps on common fields, puts, and the texts of
+//! fields.
 use crate::lower::acts::Act;
 use crate::lower::steps::Step::{
     Do, Has, Load, MayPut, Put, PutByLink, PutRefused, Raised, Set, SetRefused, Shows, Test,
@@ -74,7 +75,8 @@ pub static TESTS: [Step<'static>; 188] = [
     PutRefused("PUTF", "1", IocError::NoMod),
     PutRefused("RPRO", "1", IocError::NoMod),
     SetRefused("LCNT", "1", IocError::NoMod),
-    // A client puts no field but DISP while DISP isn't 0, and is told so before its value is looked at; a link puts.
+    // While DISP isn't 0, a client can put no field but DISP, and is refused before its value is
+    // tested. A link can put.
     Test("puts disabled"),
     MayPut("VAL", None),
     Put("DISP", "1"),
@@ -95,7 +97,8 @@ pub static TESTS: [Step<'static>; 188] = [
     Has("SDIS", "-7"),
     Has("DISA", "-7"),
     Has("UDF", "1"),
-    // A disabled record shows DISABLE with DISS once; what was raised is dropped then, and kept later.
+    // A disabled record shows DISABLE with DISS once. Alarms raised before are dropped then, and
+    // those raised later are kept.
     Test("disabled"),
     Set("DISS", "MAJOR"),
     Do(Act::MarkPut(true)),
@@ -170,7 +173,8 @@ pub static TESTS: [Step<'static>; 188] = [
     SetRefused("INP", "a CPP", IocError::BadLink),
     SetRefused("INP", "2147483648", IocError::BadValue),
     Set("FLNK", "2147483648"),
-    // A record asked again and again while it is active raises SCAN at the eleventh time.
+    // A record that is requested again and again while it is active raises SCAN at the eleventh
+    // request.
     Test("eleventh request of an active record"),
     Set("UDF", "0"),
     Load,
@@ -208,7 +212,7 @@ pub static TESTS: [Step<'static>; 188] = [
     Has("PACT", "1"),
 ];
 
-// What is made of nothing, and how a number and a text are converted.
+// Returns whether conversions of nothing, of a number and of a text have the expected results.
 fn are_made() -> bool {
     let ushort = InputKind::Number(Range::UShort);
     let text = Value::Text(Text::cut(b"-1"));

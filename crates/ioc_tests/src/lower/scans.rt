@@ -5,28 +5,28 @@ use ioc_scan::{ListName, Listed, Place, ScanLists};
 use ioc_values::{Short, Text};
 use std::test::Fail;
 
-/// A record's fields, as a change of it says.
+/// The fields of a record, as in a change of its scan list.
 #[derive(Clone, Copy)]
 enum Fields {
-    /// SCAN is 1 second, and PHAS this.
+    /// SCAN is `1 second`, and PHAS is this number.
     EverySecond(i16),
     Passive,
-    /// SCAN is Event, and EVNT this.
+    /// SCAN is `Event`, and EVNT is this text.
     Event(&'static [u8]),
-    /// SCAN is I/O Intr, and the record has this device.
+    /// SCAN is `I/O Intr`, and the record has this device.
     Interrupt(&'static [u8]),
 }
 
 /// A step of a test.
 #[derive(Clone, Copy)]
 enum Step {
-    /// The lists give way to new ones, of so many records.
+    /// Replaces the lists by new ones, for this many records.
     New(usize),
-    /// This record's change of this number comes.
+    /// Applies the change with this number to a record.
     Changes(usize, u64, Fields),
     Adds(usize, Fields),
     Removes(usize),
-    /// The list of records with these fields is walked: there are these records, in this order.
+    /// The list of records with these fields has these records, in this order.
     Walks(Fields, &'static [usize]),
 }
 
@@ -40,10 +40,10 @@ static STEPS: [Step; 42] = [
     Step::Changes(3, 0, Fields::EverySecond(0)),
     Step::Changes(4, 0, Fields::Passive),
     Step::Walks(Fields::EverySecond(0), &[2, 1, 3, 0]),
-    // The same again: behind those with its PHAS.
+    // The same place again: behind the others with its PHAS.
     Step::Changes(1, 1, Fields::EverySecond(0)),
     Step::Walks(Fields::EverySecond(0), &[2, 3, 1, 0]),
-    // One that comes too late.
+    // A change that comes too late.
     Step::Changes(1, 0, Fields::Passive),
     Step::Walks(Fields::EverySecond(0), &[2, 3, 1, 0]),
     Step::Changes(3, 1, Fields::Passive),
@@ -104,7 +104,7 @@ fn place_of(fields: Fields) -> Option<Place> {
     })
 }
 
-// Does a change, where there is the record and a number of adding.
+// Applies a change if the record exists and a number of adding is left.
 fn change(lists: &mut ScanLists, member: usize, number: u64, place: Option<Place>) -> bool {
     if member >= lists.len() || !lists.can_change() {
         return false;
@@ -112,7 +112,8 @@ fn change(lists: &mut ScanLists, member: usize, number: u64, place: Option<Place
     lists.change(RecordNo::new(member), number, place).is_ok()
 }
 
-// Adds a record with a place, and removes one without, where there is the record and a number of adding.
+// Adds a record with a place, or removes one without, if the record exists and a number of adding
+// is left.
 fn put(lists: &mut ScanLists, member: usize, place: Option<Place>) -> bool {
     if member >= lists.len() || !lists.can_change() {
         return false;
@@ -126,7 +127,7 @@ fn put(lists: &mut ScanLists, member: usize, place: Option<Place>) -> bool {
     }
 }
 
-// Are these the records, in this order?
+// Returns whether these are the records, in this order.
 fn are_listed(found: &[Listed], wanted: &[usize]) -> bool {
     for (place, listed) in found.iter().enumerate() {
         if wanted.get(place) != Some(&listed.number.index()) {
@@ -136,7 +137,7 @@ fn are_listed(found: &[Listed], wanted: &[usize]) -> bool {
     found.len() == wanted.len()
 }
 
-// Whether the list has these records, in this order.
+// Returns whether the list has these records, in this order.
 fn has(lists: &ScanLists, fields: Fields, wanted: &[usize], into: &mut Vec<Listed>) -> bool {
     match list_of(fields) {
         Some(list) => lists.walk(&list, into).is_ok() && are_listed(into.as_slice(), wanted),
@@ -144,7 +145,7 @@ fn has(lists: &ScanLists, fields: Fields, wanted: &[usize], into: &mut Vec<Liste
     }
 }
 
-// Does what the step says, and tells whether that came of it which must.
+// Carries out a step, and returns whether it has the expected result.
 fn holds(lists: &mut ScanLists, step: Step, into: &mut Vec<Listed>) -> bool {
     match step {
         Step::New(count) => lists.len() == count,

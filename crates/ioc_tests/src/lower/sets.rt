@@ -1,4 +1,4 @@
-//! Sets of records whose links make a chain, and what may be asked of them.
+//! Sets of records whose links form a chain, and the operations on them.
 ghost use Rattle.std.specs.Prelude.{◌≡◌, ◌∷◌, [], ℕ, None, IsTrue, IsSome, IfOk, Contains};
 ghost use Rattle.std.specs.FinMap as map;
 ghost use Rattle.ioc_common.specs.Links.{use_of, named_by};
@@ -15,7 +15,7 @@ use ioc_values::{Name, Value};
 use rec_numeric::Longin;
 use std::alloc::{AllocError, Global};
 
-/// Answers the number of its record.
+/// A device that answers with the number of its record.
 #[derive(Drop)]
 pub struct Sensor {
     number: u16,
@@ -35,18 +35,18 @@ impl Device for Sensor {
 
 pub type Set = Members<Record<Longin>, Sensor>;
 
-/// A record's number, and the one that its link leads to.
+/// The number of a record, and that of the record that its link leads to.
 pub type Linked = (usize, Option<usize>);
 
-// The field whose links make the chain.
+// The field whose links form the chain.
 const LINK: FieldNo = FieldNo::Common(CommonField::Flnk);
 
-// A record's number, as its device answers it.
+// Returns a record's number as the answer of its device.
 fn u16_of(number: usize) -> u16 {
     u16::try_from(number).unwrap_or(u16::MAX)
 }
 
-/// The link of a record becomes empty.
+/// Empties the link of a record.
 pub struct Cut;
 
 impl<K: RecordKind> Change<K> for Cut {
@@ -61,7 +61,7 @@ impl<K: RecordKind> Change<K> for Cut {
     }
 }
 
-// A link to VAL of a record, or an empty one.
+// Returns a link to VAL of a record, or an empty one.
 fn link_to(alloc: Global, target: Option<usize>) -> Result<KeptLink, AllocError> {
     let Some(target) = target else {
         return Ok(KeptLink::empty());
@@ -76,7 +76,8 @@ fn link_to(alloc: Global, target: Option<usize>) -> Result<KeptLink, AllocError>
     KeptLink::new(alloc, LinkField { link, lead })
 }
 
-/// Adds the record under this number, its link leading to the target, and its device; no where the number isn't above all others.
+/// Adds a record with this number, a link to the target, and its device. Returns `false` if the
+/// number isn't above all others.
 pub fn add<K: RecordKind + Drop>(
     alloc: Global,
     set: &mut Members<K, Sensor>,
@@ -97,12 +98,12 @@ pub fn add<K: RecordKind + Drop>(
     Ok(true)
 }
 
-/// A new record.
+/// Returns a new record.
 pub fn fresh() -> Record<Longin> {
     Record::new(Name::cut(b"any"), Longin::new())
 }
 
-/// A set of these records, each with its link.
+/// Returns a set of these records, each with its link.
 pub fn made(alloc: Global, records: &[Linked]) -> Result<Set, AllocError> {
     let mut set = Members::with_room(alloc, records.len())?;
     for (number, target) in records {
@@ -111,7 +112,7 @@ pub fn made(alloc: Global, records: &[Linked]) -> Result<Set, AllocError> {
     Ok(set)
 }
 
-// Does the link of a record lead there?
+// Returns whether the link of a record leads to the target.
 fn leads<K: RecordKind>(item: &K, target: Option<usize>) -> bool {
     match item.link(LINK) {
         Some(link) => link.record_named() == target.map(RecordNo::new),
@@ -119,7 +120,7 @@ fn leads<K: RecordKind>(item: &K, target: Option<usize>) -> bool {
     }
 }
 
-/// Do the links of the record and of its base lead there?
+/// Returns whether the links of the record and of its base lead to these targets.
 pub fn both_lead<K: RecordKind, D: Device>(
     set: &Members<K, D>,
     number: RecordNo,
@@ -129,13 +130,14 @@ pub fn both_lead<K: RecordKind, D: Device>(
     set.has(number) && leads(set.record(number), target) && leads(set.base(number), base_target)
 }
 
-/// Does the record's device answer?
+/// Returns whether the record's device answers.
 pub fn answers<K: RecordKind, D: Device>(set: &mut Members<K, D>, number: RecordNo) -> bool {
     let given = set.device_gives(number, &Ask::Read, 0);
     given == Answer::Done(Value::UShort(u16_of(number.index())))
 }
 
-/// Are these the records, with these links, also in their bases, and has each its device?
+/// Returns whether these are the records, with these links also in their bases, and each has its
+/// device.
 pub fn holds<K: RecordKind, D: Device>(set: &mut Members<K, D>, wanted: &[Linked]) -> bool {
     if set.len() != wanted.len() || set.is_empty() != wanted.is_empty() {
         return false;
@@ -156,7 +158,7 @@ pub fn holds<K: RecordKind, D: Device>(set: &mut Members<K, D>, wanted: &[Linked
     true
 }
 
-// May the link of a record be set, and the set parted then?
+// Returns whether the link of a record may be changed and the set parted.
 fn may_part<K: RecordKind, D: Device>(
     alloc: Global,
     set: &Members<K, D>,
@@ -175,7 +177,8 @@ fn may_part<K: RecordKind, D: Device>(
     set.is_part(alloc)
 }
 
-/// Sets a link and parts the set: what falls off is the rest. False where that may not be asked.
+/// Changes a link and parts the set. The records that part from it are `rest`. Returns `false` if
+/// that isn't allowed.
 pub fn part<K: RecordKind + Drop, D: Device>(
     alloc: Global,
     set: &mut Members<K, D>,
@@ -192,7 +195,7 @@ pub fn part<K: RecordKind + Drop, D: Device>(
     Ok(true)
 }
 
-// May two sets be joined by the link of a record of the first?
+// Returns whether two sets may be joined by the link of a record of the first.
 fn may_join<K: RecordKind, D: Device>(
     alloc: Global,
     set: &Members<K, D>,
@@ -217,7 +220,7 @@ fn may_join<K: RecordKind, D: Device>(
     other.is_part(alloc)
 }
 
-/// Joins two sets by a link; false where that may not be asked.
+/// Joins two sets by a link. Returns `false` if that isn't allowed.
 pub fn join<K: RecordKind, D: Device>(
     alloc: Global,
     set: &mut Members<K, D>,
@@ -234,7 +237,8 @@ pub fn join<K: RecordKind, D: Device>(
     Ok(true)
 }
 
-/// What the chain hasn't, and what another chain has that isn't apart from it.
+/// Returns whether the set refuses what the chain doesn't have, and another set with common
+/// records.
 pub fn is_refused<K: RecordKind, D: Device>(set: &Members<K, D>, other: &Members<K, D>) -> bool {
     let has = [
         set.has_link(RecordNo::new(10), LINK),
@@ -246,7 +250,7 @@ pub fn is_refused<K: RecordKind, D: Device>(set: &Members<K, D>, other: &Members
     has == [false; 5]
 }
 
-/// Links that lead out of the chain, and nowhere.
+/// Returns whether a link that leads out of the chain, and an empty one, are recognized as such.
 pub fn leads_out<K: RecordKind, D: Device>(
     alloc: Global,
     set: &Members<K, D>,

@@ -1,5 +1,5 @@
-//! Tests of one record as lists of steps, each with what must come of it. One list holds all tests of a type, since
-//! a list costs the prover little and a function much.
+//! Tests of single records as lists of steps, each with its expected result. One list has all tests
+//! of a type, because a list is far cheaper to prove than a function.
 use crate::lower::acts::{Act, is_done};
 use ioc_common::{
     FieldAddress, Fresh, Got, InputKind, KeptLink, Lead, LinkUse, Need, Output, StandingLink,
@@ -14,7 +14,7 @@ use ioc_values::{Finished, Input, IocError, Name, Range, Text, Value};
 use std::alloc::Global;
 use std::process::Abort;
 
-/// What comes to a body.
+/// The input of a body.
 #[derive(Clone, Copy)]
 pub enum Came {
     Nothing,
@@ -23,11 +23,12 @@ pub enum Came {
     UShort(u16),
     ULong(u32),
     Int64(i64),
-    /// A text of the test's.
+    /// A text from the test.
     Text(&'static str),
 }
 
-/// What a body wants: a link read is one that leads to VAL of the record of number 1, with PP or not, and of this mode.
+/// What a body needs. A link that is read leads to VAL of record 1, with PP or not, and in this
+/// mode.
 #[derive(Clone, Copy)]
 pub enum Wants {
     Nothing,
@@ -37,7 +38,7 @@ pub enum Wants {
     Link(bool, Mode),
 }
 
-/// What a body does next: a link written is one, NPP NMS, that leads to VAL of the record of number 1.
+/// What a body does next. A link that is written leads to VAL of record 1, with NPP and NMS.
 #[derive(Clone, Copy)]
 pub enum Does {
     Nothing,
@@ -52,55 +53,55 @@ pub enum Does {
     Follow(u16),
     WriteText(&'static str),
     WriteDeviceText(&'static str),
-    /// The event of this name is posted.
+    /// Posts the event with this name.
     Post(&'static str),
 }
 
-/// A step of a test, with what must come of it.
+/// A step of a test, with its expected result.
 #[derive(Clone, Copy)]
 pub enum Step<'a> {
-    /// The test of this name begins, with a new record.
+    /// Begins the test with this name, with a new record.
     Test(&'a str),
-    /// A database text sets a field.
+    /// Sets a field by a database text.
     Set(&'a str, &'a str),
     SetRefused(&'a str, &'a str, IocError),
-    /// The load ends.
+    /// Ends the load.
     Load,
-    /// The record gives way to a copy of it.
+    /// Replaces the record by a copy.
     Copied,
-    /// A script puts a field.
+    /// Puts a text into a field by a script.
     Put(&'a str, &'a str),
     PutRefused(&'a str, &'a str, IocError),
-    /// A link puts a text, whatever DISP is.
+    /// Puts a text into a field by a link, whatever DISP is.
     PutByLink(&'a str, &'a str),
-    /// A client may put the field, or is told this.
+    /// Whether a client may put the field, or the refusal.
     MayPut(&'a str, Option<IocError>),
-    /// A record puts a number.
+    /// Puts a number into a field, as a record does.
     PutNumber(&'a str, i32),
-    /// The link of the field leads to VAL of the record of number 1.
+    /// Makes the link of the field lead to VAL of record 1.
     Stands(FieldNo),
-    /// The link of the field leads to the record's own device.
+    /// Makes the link of the field lead to the record's own device.
     OwnsDevice(FieldNo),
-    /// The body begins, and wants this.
+    /// The body begins, and needs this.
     Begin(Wants),
-    /// The body takes this, and does that next.
+    /// The body takes this input, and does this next.
     Take(Came, Does),
-    /// The body's device has answered a number at last, or a fault.
+    /// Completes the body with a number from its device, or with a fault.
     Answer(u32),
     AnswerFault,
     Do(Act),
     /// The field has this text.
     Has(&'a str, &'a str),
-    /// The alarms are shown, and have this status and severity.
+    /// Shows the alarms, which have this status and severity.
     Shows(&'a str, &'a str),
     /// An alarm of this status and severity is raised.
     Raised(&'a str, &'a str),
-    /// A reader of a number has this from the field, and one of a text has that.
+    /// The field as a number, and as a text, for a reader.
     ReadAsNumber(&'a str, i32),
     ReadAsText(&'a str, &'a str),
-    /// What the body wants is converted to this.
+    /// The kind that the input of the body is converted to.
     Converts(InputKind),
-    /// The type has so many link fields, and so many states.
+    /// The numbers of link fields and of states of the type.
     Lists(usize, usize),
 }
 
@@ -112,18 +113,18 @@ const NSTA: FieldNo = FieldNo::Common(CommonField::Nsta);
 
 const NSEV: FieldNo = FieldNo::Common(CommonField::Nsev);
 
-/// The alarms are shown.
+/// Shows the alarms.
 pub const SHOW: Step<'static> = Step::Do(Act::Show);
 
 /// A request finds the record active.
 pub const BLOCK: Step<'static> = Step::Do(Act::Block);
 
-// Is this the text of the field?
+// Returns whether this is the text of the field.
 fn has_text<K: RecordKind>(item: &K, field: FieldNo, wanted: &str) -> bool {
     text_of(item, field).as_slice() == wanted.as_bytes()
 }
 
-// The link of the field leads there.
+// Makes the link of the field lead to `lead`.
 fn lead_on<K: RecordKind>(alloc: Global, item: &mut K, field: FieldNo, lead: Lead) -> bool {
     let Some(kept) = item.link(field) else {
         return false;
@@ -139,7 +140,7 @@ fn lead_on<K: RecordKind>(alloc: Global, item: &mut K, field: FieldNo, lead: Lea
     }
 }
 
-// A lead to VAL of the record of number 1.
+// Returns a lead to VAL of record 1.
 fn there() -> Lead {
     Lead::Field(FieldAddress {
         number: RecordNo::new(1),
@@ -147,7 +148,7 @@ fn there() -> Lead {
     })
 }
 
-// The use of a link that leads there.
+// Returns the use of a link to VAL of record 1.
 fn standing(process_passive: bool, mode: Mode) -> LinkUse {
     LinkUse::Standing(StandingLink {
         number: RecordNo::new(1),
@@ -193,7 +194,7 @@ fn output(does: Does) -> Output {
     }
 }
 
-// The name of the field that a step is about.
+// Returns the name of the field of a step, if it has one.
 fn name_of<'a>(step: &Step<'a>) -> Option<&'a str> {
     match step {
         Step::Set(name, _) | Step::SetRefused(name, _, _) => Some(*name),
@@ -205,7 +206,7 @@ fn name_of<'a>(step: &Step<'a>) -> Option<&'a str> {
     }
 }
 
-// Is the step refused since its type hasn't the field?
+// Returns whether the expected refusal is that the type doesn't have the field.
 fn is_fieldless(step: &Step<'_>) -> bool {
     match step {
         Step::SetRefused(_, _, fault) | Step::PutRefused(_, _, fault) => *fault
@@ -214,7 +215,7 @@ fn is_fieldless(step: &Step<'_>) -> bool {
     }
 }
 
-// A step on a field.
+// Carries out a step on a field.
 fn field_holds<K: RecordKind>(
     alloc: Global,
     item: &mut K,
@@ -235,7 +236,7 @@ fn field_holds<K: RecordKind>(
     }
 }
 
-// What comes of a put by a client. It promises nothing, so that who calls it in five cases has nothing to look at in each.
+// Puts a field as a client does. It has no contract, which keeps its five callers cheap to prove.
 fn put_by_client<K: RecordKind>(
     item: &mut K,
     field: FieldNo,
@@ -244,7 +245,7 @@ fn put_by_client<K: RecordKind>(
     put_field(item, field, given)
 }
 
-// A step that puts, or asks whether a client may.
+// Carries out a step that puts a field, or tests whether a client may.
 fn is_put<K: RecordKind>(item: &mut K, field: FieldNo, step: &Step<'_>) -> bool {
     match step {
         Step::Put(_, text) => {
@@ -264,7 +265,7 @@ fn is_put<K: RecordKind>(item: &mut K, field: FieldNo, step: &Step<'_>) -> bool 
     }
 }
 
-// Does what the step says, and tells whether that came of it which must.
+// Carries out a step, and returns whether it has the expected result.
 fn holds<K: RecordKind + Drop>(alloc: Global, item: &mut K, step: &Step<'_>) -> bool {
     let Some(name) = name_of(step) else {
         return record_holds(alloc, item, step);
@@ -275,13 +276,13 @@ fn holds<K: RecordKind + Drop>(alloc: Global, item: &mut K, step: &Step<'_>) -> 
     }
 }
 
-// The alarms are shown, and have this status and severity.
+// Shows the alarms, and returns whether they have this status and severity.
 fn shows<K: RecordKind>(item: &mut K, status: &str, severity: &str) -> bool {
     item.common_mut().show(0);
     has_text(item, STAT, status) && has_text(item, SEVR, severity)
 }
 
-// A step on what every record has.
+// Carries out a step on what all records have.
 fn record_holds<K: RecordKind + Drop>(alloc: Global, item: &mut K, step: &Step<'_>) -> bool {
     match step {
         Step::Test(_) => true,
@@ -297,7 +298,7 @@ fn record_holds<K: RecordKind + Drop>(alloc: Global, item: &mut K, step: &Step<'
     }
 }
 
-// The body begins, and wants this.
+// Returns whether the body needs this at its beginning.
 fn begins<K: RecordKind>(item: &K, wants: Wants) -> bool {
     let (need, link) = match wants {
         Wants::Nothing | Wants::Unused => (Need::Nothing, LinkUse::Unused),
@@ -308,21 +309,21 @@ fn begins<K: RecordKind>(item: &K, wants: Wants) -> bool {
     item.begin() == need && item.wanted_link() == link
 }
 
-// The body takes what came, and does this next.
+// Passes an input to the body, and returns whether it does this next.
 fn takes<K: RecordKind>(item: &mut K, got: Got, does: Output) -> bool {
     let mut output = Output::NoOutput;
     let puts_out = item.take(&got, &mut output);
     puts_out == (does != Output::NoOutput) && output == does
 }
 
-// The body's device has answered at last, and the body puts out nothing.
+// Completes the body with the answer of its device, and returns whether it outputs nothing.
 fn ends<K: RecordKind>(item: &mut K, finished: Finished) -> bool {
     let mut output = Output::FollowLinks(0);
     item.finish(finished, &mut output);
     output == Output::NoOutput
 }
 
-// The record gives way to a copy, which has become the same as it once more.
+// Replaces the record by a copy that was updated from it once more.
 fn copied<K: RecordKind + Drop>(alloc: Global, item: &mut K) -> bool {
     let Ok(mut copy) = item.copy(alloc) else {
         return false;
@@ -332,7 +333,7 @@ fn copied<K: RecordKind + Drop>(alloc: Global, item: &mut K) -> bool {
     true
 }
 
-// A step of the record's type.
+// Carries out a step that depends on the record's type.
 fn type_holds<K: RecordKind + Drop>(alloc: Global, item: &mut K, step: &Step<'_>) -> bool {
     match step {
         Step::Load => {
@@ -351,7 +352,7 @@ fn type_holds<K: RecordKind + Drop>(alloc: Global, item: &mut K, step: &Step<'_>
     }
 }
 
-/// Goes through the tests of a list of steps, each with a new record of the type.
+/// Carries out the tests of a list of steps, each with a new record of the type.
 pub fn follow<B: RecordBody + Fresh + Drop>(
     rt: &impl Abort,
     alloc: Global,

@@ -1,4 +1,4 @@
-//! A stringin, a stringout and an event record by themselves.
+//! A single stringin, stringout and event record each.
 use crate::lower::steps::Step::{
     Begin, Converts, Copied, Has, Lists, Load, OwnsDevice, Put, Raised, Set, SetRefused, Stands,
     Take, Test,
@@ -16,7 +16,7 @@ const OUT: FieldNo = FieldNo::Own(OwnField::Out);
 const DOL: FieldNo = FieldNo::Own(OwnField::Dol);
 
 pub static STRINGIN: [Step<'static>; 43] = [
-    // The alarm of an undefined value, until a text comes.
+    // The alarm of an undefined value, until there is an input.
     Test("new"),
     Has("VAL", ""),
     Has("INP", ""),
@@ -45,7 +45,7 @@ pub static STRINGIN: [Step<'static>; 43] = [
     Set("INP", "@card"),
     OwnsDevice(INP),
     Begin(Wants::Device),
-    // A constant's decimal text.
+    // The decimal text of a constant.
     Test("constant"),
     Set("INP", "0x10"),
     Load,
@@ -75,7 +75,7 @@ pub static STRINGOUT: [Step<'static>; 57] = [
     Converts(InputKind::Text),
     Take(Came::Nothing, Does::Nothing),
     Raised("UDF", "INVALID"),
-    // DOL is read in a closed loop alone.
+    // DOL is read only in a closed loop.
     Test("closed loop"),
     Set("DOL", "d"),
     Load,
@@ -97,7 +97,7 @@ pub static STRINGOUT: [Step<'static>; 57] = [
     Load,
     Has("VAL", "-3"),
     Has("UDF", "0"),
-    // With an alarm, INVALID, IVOA decides.
+    // With an INVALID alarm, IVOA decides what is driven.
     Test("driven all the same"),
     Set("OUT", "@card"),
     OwnsDevice(OUT),
@@ -126,7 +126,7 @@ pub static STRINGOUT: [Step<'static>; 57] = [
 ];
 
 pub static EVENT: [Step<'static>; 26] = [
-    // UDF becomes 0 where nothing came, and no alarm is raised.
+    // Without an input, UDF becomes 0, and no alarm is raised.
     Test("new"),
     Has("VAL", ""),
     Lists(3, 0),
@@ -141,7 +141,7 @@ pub static EVENT: [Step<'static>; 26] = [
     Take(Came::Text("shot"), Does::Post("shot")),
     Has("VAL", "shot"),
     Has("UDF", "0"),
-    // After a fault VAL is posted as it stands, and UDF stays.
+    // After a fault, VAL is posted as it is, and UDF is unchanged.
     Test("fault"),
     Set("INP", "n"),
     Stands(INP),

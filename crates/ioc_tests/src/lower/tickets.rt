@@ -6,7 +6,8 @@ use std::marker::Brand;
 use std::sync::ledger;
 use std::sync::ledger::Blank;
 
-// How many tickets were begun, spent, handed back, and are out: of three, of which one is spent, one handed back and one kept.
+// Returns the numbers of tickets that were begun, spent and handed back, and that are out. Of three
+// tickets, one is spent, one handed back and one kept.
 fn three_tickets<B: ledger::Ledger>(blank: Blank) -> [u64; 4]
     requires name { blank.name ≡ B.name }
     requires parts { (blank.parts ≡ B.parts) × (blank.parts ≡ 2 ^ 64 - 1) }

@@ -1,4 +1,4 @@
-//! Conversions at the ends of every range, and the printed refusals.
+//! Conversions at the ends of all ranges, and the texts of refusals.
 use ioc_values::number::{is_number, number, signed};
 use ioc_values::trim::trim;
 use ioc_values::{
@@ -15,7 +15,7 @@ fn text(bytes: &[u8]) -> Value {
     Value::Text(Text::cut(bytes))
 }
 
-/// A value, with its text lent.
+/// A value, with its text borrowed.
 #[derive(Clone, Copy)]
 enum Given {
     Long(i32),
@@ -41,7 +41,7 @@ fn value(given: Given) -> Value {
     }
 }
 
-// What a conversion makes, or that it refuses.
+// Returns the value of a conversion, or its refusal.
 fn made(wanted: Option<Given>) -> Result<Value, IocError> {
     match wanted {
         Some(given) => Ok(value(given)),
@@ -67,7 +67,7 @@ fn kind(field: Field, states: &[Text]) -> Kind<'_> {
     }
 }
 
-// A value, and what it makes in a field, where that doesn't refuse it.
+// A value, and its conversion for a field, if that isn't refused.
 type Converted = (Given, Field, Option<Given>);
 
 fn are_converted(rt: &impl Abort, states: &[Text], table: &[Converted]) {
@@ -332,7 +332,7 @@ static REFUSALS: [(IocError, &str); 12] = [
     (IocError::Stopped, "E12 Stopped"),
 ];
 
-// Are these the words of the refusal, and is it printed so?
+// Returns whether these are the words of the refusal, and its text.
 fn says(alloc: Global, refused: IocError, words: &str, printed: &str) -> bool {
     match refused.to_string(alloc) {
         Ok(text) => refused.words() == words && text.as_str() == printed,
@@ -357,7 +357,7 @@ static DATABASE_FAULTS: [(BadDbKind, &str); 14] = [
     (BadDbKind::TooMany, "too many"),
 ];
 
-// Is the fault printed so?
+// Returns whether this is the text of the fault.
 fn prints(alloc: Global, fault: DbFault, printed: &str) -> bool {
     match fault.to_string(alloc) {
         Ok(text) => text.as_str() == printed,

@@ -5,7 +5,7 @@ use Rattle.ioc_members.specs.Contents.{nothing}
 use Rattle.ioc_dealing.specs.Dealing.{HasPart}
 use Rattle.ioc_dealing.proofs.dealing.deal.Given as goal
 
--- each set has what was dealt to it so far, and the rest is to come
+-- Each set has the records that were assigned to it so far, and the others remain.
 abbrev pub invariant-loop-number : goal.invariant-loop-number
 invariant-loop-number g l =
     record {

@@ -4,7 +4,7 @@ use Rattle.ioc_members.specs.Joined.{Names}
 use Rattle.ioc_dealing.specs.Linked.{links_in}
 use Rattle.ioc_dealing.proofs.parts.edges_of.Given as goal
 
--- the edges of the records so far
+-- The edges of the records visited so far are collected.
 abbrev pub invariant-loop-number : goal.invariant-loop-number
 invariant-loop-number g l =
     let links = links_in g.K.RecordKind.rules l.all in

@@ -3,6 +3,6 @@ use Rattle.std.specs.FinMap.{keys}
 use Rattle.ioc_line.specs.Key.{record_keys}
 use Rattle.ioc_engine.proofs.holding.hold.Given as goal
 
--- the keys of the records
+-- The keys of the records.
 abbrev pub ghosts-hold_as : goal.ghosts-hold_as
 ghosts-hold_as g a = record { keys = record_keys (keys a.members.records); rest = [] }

@@ -4,7 +4,7 @@ use Rattle.ioc_line.specs.Line.{keeper}
 use Rattle.ioc_engine.specs.Loading.{AreSetsFrom, AreOfPartsBelow}
 use Rattle.ioc_engine.proofs.holding.hold_all.Given as goal
 
--- the parts below have their keys, and the sets from here on wait as they were dealt
+-- The keys of the lower parts are created, and the sets from here on are as before.
 abbrev pub invariant-loop-part : goal.invariant-loop-part
 invariant-loop-part g l = record {
   count : l.directory ≡ length l.parts;

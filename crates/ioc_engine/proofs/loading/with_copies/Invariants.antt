@@ -5,7 +5,7 @@ use Rattle.ioc_dealing.specs.declared.dealing.Loaded.{Loaded}
 use Rattle.ioc_engine.specs.Loading.{HaveDevices}
 use Rattle.ioc_engine.proofs.loading.with_copies.Given as goal
 
--- those so far have copies and their devices, and what is left is behind them
+-- The records so far have copies and their devices, and the others remain.
 abbrev pub invariant-loop : goal.invariant-loop
 invariant-loop g l = record {
   many : l.counter + length (into_iter_items l.left) ≡ length l.fn.records.items;

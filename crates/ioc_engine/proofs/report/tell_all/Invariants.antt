@@ -4,7 +4,7 @@ use Rattle.ioc_lent.specs.Holding.{HeldView}
 use Rattle.ioc_engine.specs.Ended.{IsAsTold}
 use Rattle.ioc_engine.proofs.report.tell_all.Given as goal
 
--- those so far know the list, and every set is as it was
+-- The sets so far know the list, and each set is as it was.
 abbrev pub invariant-loop-place : goal.invariant-loop-place
 invariant-loop-place g l = record {
   sets : map (λ (h : HeldView g.row.K.Denot g.row.D.Denot). h.set) l.sets ≡ map (λ (h : HeldView g.row.K.Denot g.row.D.Denot). h.set) l.fn.sets;

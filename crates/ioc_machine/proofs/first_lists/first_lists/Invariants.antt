@@ -3,7 +3,7 @@ use Rattle.ioc_types.specs.Record.{record_rules}
 use Rattle.ioc_machine.specs.FirstLists.{with_each}
 use Rattle.ioc_machine.proofs.first_lists.first_lists.Given as goal
 
--- those that are left are added to what there is
+-- Adding the remaining records to the lists so far results in the lists with all records.
 abbrev pub invariant-loop-rest : goal.invariant-loop-rest
 invariant-loop-rest l =
     (with_each record_rules l.occasion l.lists l.number l.rest ≡ with_each record_rules l.occasion l.initial.lists 0 l.records)

@@ -5,7 +5,7 @@ use Rattle.ioc_graph.specs.Members.{Follow}
 use Rattle.ioc_main.specs.Sets.{part_words, other_names}
 use Rattle.ioc_main.proofs.sets.add_part.Given as goal
 
--- the members that are left follow from this place
+-- The remaining members follow from this place.
 abbrev pub invariant-loop-number : goal.invariant-loop-number
 invariant-loop-number l =
     (left : List ℕ) × Follow l.next l.number left

@@ -4,6 +4,6 @@ use Rattle.ioc_graph.specs.declared.edges.Edge.{Edge}
 use Rattle.ioc_members.specs.Slots.{numbers_of}
 use Rattle.ioc_members.proofs.connected.lead_within.Given as goal
 
--- the edges so far do
+-- The edges visited so far lead to records of the slots.
 abbrev pub invariant-loop-edge : goal.invariant-loop-edge
 invariant-loop-edge g l = (i : ℕ) (d : Edge) → i < l.edge-index → Contains (numbers_of l.slots) (get_or l.edges i d).to

@@ -4,7 +4,7 @@ use Rattle.std.specs.Vec.Iter.{into_iter_items}
 use Rattle.ioc_members.specs.Dealt.{dealt}
 use Rattle.ioc_members.proofs.dealing.deal.Given as goal
 
--- what is left goes where it goes of all
+-- The remaining slots are divided as in the whole list.
 abbrev pub invariant-loop-n : goal.invariant-loop-n
 invariant-loop-n g l =
     let left = into_iter_items l.left in

@@ -3,7 +3,7 @@ use Rattle.std.specs.Prelude.{slice_index}
 use Rattle.ioc_members.specs.Slots.{numbers_of}
 use Rattle.ioc_members.proofs.slots.searched.Given as goal
 
--- wherever the record stands, it is from low up to high
+-- If the record is there, its place is from `low` up to `high`.
 abbrev pub invariant-halve : goal.invariant-halve
 invariant-halve g l = (l.high ≤ length l.slots) × (l.low ≤ l.high) × ((k : ℕ) → k < length l.slots → slice_index (numbers_of l.slots) k ≡ l.number → (l.low ≤ k) × (k < l.high))
 

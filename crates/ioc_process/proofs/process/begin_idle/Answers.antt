@@ -15,14 +15,14 @@ use Rattle.ioc_process.proofs.Turning.{turns_on}
 use Rattle.ioc_process.proofs.process.begin_idle.Goals as goal
 
 module _ {R : Type 0} (k : RecordRules R) (lawful : IsLawful k) where
-  -- the record was found idle
+  -- The record was found idle.
   abbrev ready : World R → ℕ → World R
   ready w s = changed k w s unblocked
 
   ready-keeps : (w : World R) (s : ℕ) → Has w s → Keeps k w (ready w s)
   ready-keeps w s there = keeps-changed k lawful w s there unblocked (λ _. (refl, refl))
 
-  -- and its body took nothing
+  -- The record has taken an empty input.
   abbrev took : World R → ℕ → World R
   took w s = put (ready w s) s (k.taken (at k (ready w s) s) got.Nothing)
 

@@ -10,7 +10,7 @@ use Rattle.ioc_set.proofs.Awaits.{awaits-at, awaits-past}
 use Rattle.ioc_set.proofs.awaited.count_awaited.Goals as goal
 use Rattle.ioc_set.proofs.awaited.count_awaited.Goals.{in-Some+in-Some-pending, in-Some+in_default-pending, in_default}
 
--- nothing is left past the last
+-- Past the last record nothing is left to count.
 all_counted : {R : Type 0} (k : RecordRules R) (rs : Records R) (count i : ℕ) → total (one_if_awaits k) (drop i (entries rs)) ≡ 0
     → count + total (one_if_awaits k) (drop i (entries rs)) ≡ total (one_if_awaits k) (entries rs) → count ≡ awaited k rs
 unfolding awaited

@@ -1,7 +1,7 @@
 use Rattle.ioc_engine.specs.Loading.{loaded_world, have_device}
 use Rattle.ioc_tests.proofs.running.run_text.Given as goal
 
--- the engine's name
+-- The name of the engine.
 abbrev pub ghosts-run-B-Base : goal.ghosts-run-B-Base
 ghosts-run-B-Base g a = record { base = loaded_world a.all.items; had_device = have_device a.all.items; places = a.blank.name; tickets = a.tickets.name }
 

@@ -3,7 +3,7 @@ use Rattle.std.specs.FinMap.{entries}
 use Rattle.ioc_workplace.specs.Recounting.{gained_by}
 use Rattle.ioc_workplace.proofs.recount.count_records.Given as goal
 
--- the records so far have theirs
+-- The records visited so far are counted.
 abbrev pub invariant-loop-place : goal.invariant-loop-place
 invariant-loop-place g l =
     (gained_by g.K.RecordKind.rules (drop l.place (entries l.members.records)) l.into.live.live ≡ gained_by g.K.RecordKind.rules (entries l.members.records) l.fn.into.live.live)

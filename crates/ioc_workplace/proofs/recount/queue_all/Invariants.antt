@@ -1,7 +1,7 @@
 use Rattle.std.proofs.Common.{◌≡◌, ◌++◌, take}
 use Rattle.ioc_workplace.proofs.recount.queue_all.Given as goal
 
--- those so far wait here
+-- The ones visited so far wait here.
 abbrev pub invariant-loop-item : goal.invariant-loop-item
 invariant-loop-item l =
     (l.into.waiting.waiting ≡ l.fn.into.waiting.waiting ++ take l.item-index l.from)

@@ -2,7 +2,7 @@ use Rattle.std.proofs.Common.{◌≡◌, ◌++◌, take}
 use Rattle.ioc_workplace.specs.Recounting.{own_waiting}
 use Rattle.ioc_workplace.proofs.recount.queue_own.Given as goal
 
--- those so far wait here
+-- The ones visited so far wait here, if they wait for one of the records.
 abbrev pub invariant-loop-item : goal.invariant-loop-item
 invariant-loop-item g l =
     (l.into.waiting.waiting ≡ l.fn.into.waiting.waiting ++ own_waiting l.members.records (take l.item-index l.from))

@@ -4,7 +4,7 @@ use Rattle.ioc_topology.specs.Gathered.{IsMarked}
 use Rattle.ioc_engine.specs.Seen.{IsPartSeen}
 use Rattle.ioc_engine.proofs.engine.Engine.parts.Given as goal
 
--- each part was seen, each record so far is in one, and who has a mark too
+-- Each part was seen, each record so far is in one of them, and so is each marked record.
 abbrev pub invariant-loop-number : goal.invariant-loop-number
 invariant-loop-number g l = record {
   seen : All (λ v. IsPartSeen g.row.D.Denot g.K.RecordKind.rules g.B.Base.base v.items) l.parts.items;

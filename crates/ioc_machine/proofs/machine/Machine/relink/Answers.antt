@@ -13,7 +13,7 @@ use Rattle.ioc_machine.proofs.Closing.{settled_same, room_same, none_yet}
 use Rattle.ioc_machine.proofs.Eventing.{event_alone}
 use Rattle.ioc_machine.proofs.machine.Machine.relink.Goals as goal
 
--- a link change asks no device
+-- A link change calls no device.
 no_answers : Answers
 no_answers calls n ask = Fault
 

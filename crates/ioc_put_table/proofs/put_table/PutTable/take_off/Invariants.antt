@@ -3,7 +3,7 @@ use Rattle.std.specs.Vec.{vec_capacity}
 use Rattle.ioc_put_table.specs.Counts.{IsTable, holders_in}
 use Rattle.ioc_put_table.proofs.put_table.PutTable.take_off.Given as goal
 
--- the puts so far are taken off
+-- The counts of the puts so far are subtracted.
 abbrev pub invariant-loop-live : goal.invariant-loop-live
 invariant-loop-live l = record {
   table : IsTable l.self-inside.items.items;

@@ -6,7 +6,7 @@ use Rattle.ioc_types.specs.declared.record.Body.TheVariants.{Longin, Longout, In
 use Rattle.ioc_types.specs.Record.{record_type, link}
 use Rattle.ioc_types.proofs.record.BodyRecordBody.copy_from.Goals as goal
 
--- a body that is of one type
+-- Holds for a body of one type.
 abbrev Made : {T : Type 0} → (T → Body) → Body → Type 0
 Made {T = T} back b = (x : T) × (b ≡ back x)
 

@@ -19,7 +19,7 @@ use Rattle.ioc_types.specs.declared.record.Body.TheVariants.{Longin, Longout, In
 use Rattle.ioc_types.specs.Record.{left, body_rules}
 use Rattle.ioc_types.proofs.record.BodyRecordBody.store_number.Goals as goal
 
--- a number that is stored by the rules of a type is stored by those of all
+-- A number that is stored by the rules of a type is stored by the rules of all types.
 numbered : {T : Type 0} (k : BodyRules T) (back : T → Body) (h : Held T) (f : OwnField) (o : Option Value)
     → ((v : Value) → left back (k.stored h f v) ≡ body_rules.stored (left back h) f v)
     → left back (number_stored k h f o) ≡ number_stored body_rules (left back h) f o
