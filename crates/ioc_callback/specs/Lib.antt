@@ -1,1 +1,3 @@
 pub mod Serving
+pub mod Waiting
+pub mod WaitingCode

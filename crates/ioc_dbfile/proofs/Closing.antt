@@ -4,21 +4,21 @@ use Rattle.std.specs.Prelude.{slice_get, slice_index_or, Contains, is_some}
 use Rattle.ioc_names.specs.NameTable.{NameTable, number_of}
 use Rattle.ioc_links.specs.declared.link.Link.{Link}
 use Rattle.ioc_links.specs.declared.link.Link.TheVariants.{Empty, Constant, Device, Database}
-use Rattle.ioc_common.specs.declared.link_field.Lead.{Lead}
-use Rattle.ioc_common.specs.declared.link_field.Lead.TheVariants.{Nowhere, Field, OwnDevice}
+use Rattle.ioc_dbcommon.specs.declared.link_field.Lead.{Lead}
+use Rattle.ioc_dbcommon.specs.declared.link_field.Lead.TheVariants.{Nowhere, Field, OwnDevice}
 use Rattle.ioc_links.specs.declared.link.Flags.{Flags}
 use Rattle.ioc_fields.specs.declared.record_type.RecordType.{RecordType}
 use Rattle.ioc_fields.specs.declared.field_no.FieldNo.{FieldNo}
 use Rattle.ioc_fields.specs.Names.{field_of}
-use Rattle.ioc_common.specs.declared.link_field.FieldAddress.{FieldAddress}
+use Rattle.ioc_dbcommon.specs.declared.link_field.FieldAddress.{FieldAddress}
 use Rattle.ioc_fields.specs.Table.{is_link}
-use Rattle.ioc_common.specs.declared.link_field.LinkField.{LinkField}
-use Rattle.ioc_common.specs.Links.{use_of, use_as, database_use, device_use, named_by, named_by_field, named_by_all}
+use Rattle.ioc_dbcommon.specs.declared.link_field.LinkField.{LinkField}
+use Rattle.ioc_dbcommon.specs.Links.{use_of, use_as, database_use, device_use, named_by, named_by_field, named_by_all}
 use Rattle.ioc_record.specs.Laws.{IsLawful}
 use Rattle.ioc_record.specs.RecordRules.{RecordRules, targets}
-use Rattle.ioc_types.specs.RecordLaws.{record_lawful}
+use Rattle.rec_types.specs.RecordLaws.{record_lawful}
 use Rattle.ioc_fields.specs.LinkFields.{link_fields, link_fields_are, stands_among_links}
-use Rattle.ioc_types.specs.Record.{Record, record_rules}
+use Rattle.rec_types.specs.Record.{Record, record_rules}
 use Rattle.ioc_dbfile.specs.FirstWorld.{first_world}
 use Rattle.ioc_store.specs.OneMapLaws.{get-numbered, contains-numbered}
 use Rattle.ioc_store.specs.World.{at, IsClosed}

@@ -14,15 +14,15 @@ use Rattle.ioc_fields.specs.declared.field_kind.FieldKind.TheVariants as kind
 use Rattle.ioc_fields.specs.declared.row.Row.{Row}
 use Rattle.ioc_fields.specs.Kinds.{link_kind_of}
 use Rattle.ioc_fields.specs.Table.{row_of}
-use Rattle.ioc_common.specs.declared.link_field.LinkField.{LinkField}
-use Rattle.ioc_common.specs.declared.link_field.Lead.TheVariants.{Nowhere}
-use Rattle.ioc_common.specs.Steps.{new_common}
+use Rattle.ioc_dbcommon.specs.declared.link_field.LinkField.{LinkField}
+use Rattle.ioc_dbcommon.specs.declared.link_field.Lead.TheVariants.{Nowhere}
+use Rattle.ioc_dbcommon.specs.Steps.{new_common}
 use Rattle.ioc_record.specs.Values.{field_sort, stored_if}
 use Rattle.ioc_record.specs.Loading.{constant_fits, set_value, link_set_to, set_by_kind, set_by, set_field}
 use Rattle.ioc_record.specs.Laws.{IsLawful}
 use Rattle.ioc_record.specs.RecordRules.{RecordRules}
-use Rattle.ioc_types.specs.Record.{Record, record_rules, new_record}
-use Rattle.ioc_types.specs.RecordLaws.{record_lawful}
+use Rattle.rec_types.specs.Record.{Record, record_rules, new_record}
+use Rattle.rec_types.specs.RecordLaws.{record_lawful}
 use Rattle.ioc_dbfile.specs.FirstWorld.{first_world}
 use Rattle.ioc_store.specs.OneMapLaws.{get-numbered}
 use Rattle.ioc_store.specs.World.{at, common_at}

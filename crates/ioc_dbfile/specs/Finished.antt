@@ -8,17 +8,17 @@ use Rattle.ioc_links.specs.declared.link.Target.{Target}
 use Rattle.ioc_fields.specs.declared.record_type.RecordType.{RecordType}
 use Rattle.ioc_fields.specs.declared.field_no.FieldNo.{FieldNo}
 use Rattle.ioc_fields.specs.Names.{field_of}
-use Rattle.ioc_common.specs.declared.link_field.LinkField.{LinkField}
-use Rattle.ioc_common.specs.declared.link_field.FieldAddress.{FieldAddress}
-use Rattle.ioc_common.specs.declared.link_field.Lead.{Lead}
-use Rattle.ioc_common.specs.declared.link_field.Lead.TheVariants.{Nowhere, Field}
+use Rattle.ioc_dbcommon.specs.declared.link_field.LinkField.{LinkField}
+use Rattle.ioc_dbcommon.specs.declared.link_field.FieldAddress.{FieldAddress}
+use Rattle.ioc_dbcommon.specs.declared.link_field.Lead.{Lead}
+use Rattle.ioc_dbcommon.specs.declared.link_field.Lead.TheVariants.{Nowhere, Field}
 use Rattle.ioc_fields.specs.Table.{is_link}
 use Rattle.ioc_record.specs.RecordRules.{RecordRules}
 use Rattle.ioc_values.specs.declared.error.DbFault.{DbFault}
-use Rattle.ioc_statements.specs.Statements.{◌>>=◌}
+use Rattle.ioc_dbparse.specs.Statements.{◌>>=◌}
 use Rattle.ioc_dbfile.specs.Loader.{Loading, loading}
-use Rattle.ioc_dbtext.specs.Macros.{Defined}
-use Rattle.ioc_statements.specs.Loading.{filled_by}
+use Rattle.ioc_dblex.specs.Macros.{Defined}
+use Rattle.ioc_dbparse.specs.Loading.{filled_by}
 use Rattle.ioc_dbfile.specs.Owners.{owner_of, device_lead}
 
 -- The field as the target of a link, if it exists and is no link field itself.

@@ -7,8 +7,8 @@ use Rattle.ioc_values.specs.declared.error.BadDbKind.{BadDbKind}
 use Rattle.ioc_values.specs.declared.error.BadDbKind.TheVariants as kinds
 use Rattle.ioc_values.specs.declared.error.IocError.{IocError}
 use Rattle.ioc_values.specs.declared.error.IocError.TheVariants as refusals
-use Rattle.ioc_statements.specs.declared.builder.BuildError.{BuildError}
-use Rattle.ioc_statements.specs.declared.builder.BuildError.TheVariants.{Memory, Refused}
+use Rattle.ioc_dbparse.specs.declared.builder.BuildError.{BuildError}
+use Rattle.ioc_dbparse.specs.declared.builder.BuildError.TheVariants.{Memory, Refused}
 use Rattle.ioc_names.specs.NameTable.{NameTable, table_code, number_of, added, aliased}
 use Rattle.ioc_links.specs.Grammar.{is_record_name}
 use Rattle.ioc_fields.specs.declared.record_type.RecordType.{RecordType}
@@ -18,7 +18,7 @@ use Rattle.ioc_fields.specs.Names.{field_of}
 use Rattle.ioc_fields.specs.Table.{can_set}
 use Rattle.ioc_record.specs.RecordRules.{RecordRules}
 use Rattle.ioc_record.specs.Loading.{set_field}
-use Rattle.ioc_statements.specs.Rules.{Rules}
+use Rattle.ioc_dbparse.specs.Rules.{Rules}
 
 -- The names, and the records by their numbers.
 pub record Loading (R : Type 0) : Type 0 where

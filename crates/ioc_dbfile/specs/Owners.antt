@@ -5,12 +5,12 @@ use Rattle.std.specs.Cmp.Lexicographic.{pointwise}
 use Rattle.std.specs.List.{list_any, position_from}
 use Rattle.ioc_links.specs.declared.link.Link.{Link}
 use Rattle.ioc_links.specs.declared.link.Link.TheVariants.{Device}
-use Rattle.ioc_common.specs.declared.link_field.Lead.{Lead}
-use Rattle.ioc_common.specs.declared.link_field.Lead.TheVariants.{Nowhere, OwnDevice as To-device}
-use Rattle.ioc_common.specs.declared.link_field.LinkField.{LinkField}
-use Rattle.ioc_common.specs.declared.link_field.LinkUse.{LinkUse}
-use Rattle.ioc_common.specs.declared.link_field.LinkUse.TheVariants.{OwnDevice}
-use Rattle.ioc_common.specs.Links.{use_of}
+use Rattle.ioc_dbcommon.specs.declared.link_field.Lead.{Lead}
+use Rattle.ioc_dbcommon.specs.declared.link_field.Lead.TheVariants.{Nowhere, OwnDevice as To-device}
+use Rattle.ioc_dbcommon.specs.declared.link_field.LinkField.{LinkField}
+use Rattle.ioc_dbcommon.specs.declared.link_field.LinkUse.{LinkUse}
+use Rattle.ioc_dbcommon.specs.declared.link_field.LinkUse.TheVariants.{OwnDevice}
+use Rattle.ioc_dbcommon.specs.Links.{use_of}
 use Rattle.ioc_record.specs.RecordRules.{RecordRules}
 
 -- Whether a link is `@` and this text.

@@ -1,5 +1,5 @@
 -- What contracts see of a loaded database.
-use Rattle.ioc_types.specs.Record.{Record}
+use Rattle.rec_types.specs.Record.{Record}
 use Rattle.ioc_dbfile.specs.declared.database.Database.{Database}
 use Rattle.ioc_dbfile.specs.Loader.{Loading}
 

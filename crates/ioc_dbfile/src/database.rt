@@ -1,12 +1,12 @@
 //! Loaded databases.
-ghost use Rattle.ioc_types.specs.Record.{record_rules};
+ghost use Rattle.rec_types.specs.Record.{record_rules};
 ghost use Rattle.ioc_dbfile.specs.FirstWorld.{first_world};
 ghost use Rattle.ioc_store.specs.World.{IsClosed};
 ghost use Rattle.ioc_process.specs.Rules.{IsQuiet};
 
 use crate::finish::finish_all;
 use ioc_names::Names;
-use ioc_types::Record;
+use rec_types::Record;
 use std::alloc::{AllocError, Global};
 
 /// A loaded database: the names of its records, and the records by their numbers. A device that

@@ -10,8 +10,8 @@ use ioc_fields::{FieldNo, RecordType, can_set, field};
 use ioc_links::is_record_name;
 use ioc_names::{Entered, Names, RecordNo};
 use ioc_record::{RecordKind, set_field};
-use ioc_statements::{BuildError, Builder};
-use ioc_types::Record;
+use ioc_dbparse::{BuildError, Builder};
+use rec_types::Record;
 use ioc_values::{BadDbKind, IocError, Name};
 use std::alloc::{AllocError, Global};
 use std::marker::Model;
@@ -29,10 +29,10 @@ pub struct DatabaseBuilder {
 
 impl Model for DatabaseBuilder {
     ghost use Rattle.ioc_dbfile.specs.Loader.{Loading};
-    ghost use Rattle.ioc_types.specs.Record.{Record, record_rules};
+    ghost use Rattle.rec_types.specs.Record.{Record, record_rules};
     ghost use Rattle.ioc_dbfile.specs.Idle.{AllIdle};
     ghost use Rattle.ioc_record.specs.contracts.record.Record as row;
-    ghost use Rattle.ioc_types.specs.contracts.record.Body as body;
+    ghost use Rattle.rec_types.specs.contracts.record.Body as body;
     ghost use Rattle.ioc_dbfile.specs.Loader.{loading_code};
 
     ghost Value = { Loading Record };
@@ -45,9 +45,9 @@ impl Model for DatabaseBuilder {
 }
 
 impl DatabaseBuilder {
-    ghost use Rattle.ioc_types.specs.Record.{record_rules, new_record};
+    ghost use Rattle.rec_types.specs.Record.{record_rules, new_record};
     ghost use Rattle.ioc_dbfile.specs.Loader.{add_more};
-    ghost use Rattle.ioc_statements.specs.Rules.{Builds};
+    ghost use Rattle.ioc_dbparse.specs.Rules.{Builds};
     ghost use Rattle.ioc_dbfile.specs.Finished.{all_finished};
     ghost use Rattle.ioc_dbfile.specs.SeenDatabase.{database_of};
 
@@ -110,7 +110,7 @@ fn kind_of_refusal(refusal: IocError) -> BadDbKind
 #[tactic(auto, unfolding(crate::specs::Loader::find_record, crate::specs::Loader::add_record, crate::specs::Loader::alias_record, crate::specs::Loader::find_field, crate::specs::Loader::set_at, crate::specs::Loader::most_records))]
 impl Builder for DatabaseBuilder {
     ghost use Rattle.ioc_dbfile.specs.Loader.{loading};
-    ghost use Rattle.ioc_types.specs.Record.{record_rules, new_record};
+    ghost use Rattle.rec_types.specs.Record.{record_rules, new_record};
 
     ghost rules = { loading record_rules new_record };
 

@@ -1,18 +1,18 @@
 //! The end of a load, which resolves links and puts constants.
 ghost use Rattle.std.specs.Prelude.{◌≡◌, Some, IfOk, OnOk, map};
-ghost use Rattle.ioc_types.specs.Record.{record_rules};
+ghost use Rattle.rec_types.specs.Record.{record_rules};
 ghost use Rattle.ioc_fields.specs.Table.{is_link_kind};
 ghost use Rattle.ioc_dbfile.specs.Finished.{target_in, standing_of, leads_to, linked, linked_all, finished, by_place};
 ghost use Rattle.ioc_dbfile.specs.Owners.{owner_of};
 ghost use Rattle.ioc_dbfile.specs.OwnerTable.{owner_in};
 
 use crate::owners::{Owners, owners_of};
-use ioc_common::{FieldAddress, KeptLink, Lead, LinkField};
+use ioc_dbcommon::{FieldAddress, KeptLink, Lead, LinkField};
 use ioc_fields::{FieldKind, FieldNo, RecordType, field, kind_of};
 use ioc_links::{Link, Target};
 use ioc_names::{Names, RecordNo};
 use ioc_record::RecordKind;
-use ioc_types::Record;
+use rec_types::Record;
 use std::alloc::{AllocError, Global};
 
 // What is known of all records when their links are resolved.

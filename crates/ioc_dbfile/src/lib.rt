@@ -1,6 +1,6 @@
 //! Database texts: the records that they define, or the first fault.
 //!
-//! The statements of a text (`ioc_statements`) fill a database; at its end each link is resolved,
+//! The statements of a text (`ioc_dbparse`) fill a database; at its end each link is resolved,
 //! and constants are put. EPICS Application Developer's Guide, "Database Definition".
 #![tactic(auto)]
 
@@ -15,6 +15,6 @@ pub mod owners;
 pub use database::Database;
 pub use database_builder::{DatabaseBuilder, MAX_RECORDS};
 pub use finish::target_field;
-pub use ioc_dbtext::{MAX_BYTES, Macros};
+pub use ioc_dblex::{MAX_BYTES, Macros};
 pub use loading::load;
 pub use owners::{Owners, owners_of, owns_device};

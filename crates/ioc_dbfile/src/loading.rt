@@ -1,13 +1,13 @@
 //! Loads a database from a text.
-ghost use Rattle.ioc_statements.specs.Statements.{Gives};
+ghost use Rattle.ioc_dbparse.specs.Statements.{Gives};
 ghost use Rattle.ioc_dbfile.specs.Finished.{loaded_by};
 ghost use Rattle.ioc_dbfile.specs.SeenDatabase.{database_of};
-ghost use Rattle.ioc_types.specs.Record.{record_rules, new_record};
+ghost use Rattle.rec_types.specs.Record.{record_rules, new_record};
 
 use crate::database::Database;
 use crate::database_builder::DatabaseBuilder;
-use ioc_dbtext::Macros;
-use ioc_statements::fill_by_text;
+use ioc_dblex::Macros;
+use ioc_dbparse::fill_by_text;
 use ioc_values::IocError;
 use std::alloc::Global;
 

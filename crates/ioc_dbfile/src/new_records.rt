@@ -3,7 +3,7 @@ ghost use Rattle.std.specs.Prelude.{◌≡◌, ◌++◌, ◌∷◌, [], OnOk, On
 ghost use Rattle.ioc_fields.specs.declared.record_type.RecordType.{RecordType};
 
 use ioc_fields::RecordType;
-use ioc_types::{Body, Record};
+use rec_types::{Body, Record};
 use ioc_values::Name;
 use std::alloc::{AllocError, Global};
 
@@ -17,7 +17,7 @@ pub trait NewRecord: Drop {
 }
 
 impl NewRecord for Record {
-    ghost use Rattle.ioc_types.specs.Record.{new_record};
+    ghost use Rattle.rec_types.specs.Record.{new_record};
 
     ghost created = { new_record };
 

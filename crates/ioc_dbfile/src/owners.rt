@@ -1,16 +1,16 @@
 //! The record that owns each device.
 ghost use Rattle.std.specs.Prelude.{◌≡◌, ℕ, List, Some, None, if◌then◌else◌, IfOk, OnOk};
 ghost use Rattle.std.specs.Option.{option_copied};
-ghost use Rattle.ioc_types.specs.Record.{record_rules};
+ghost use Rattle.rec_types.specs.Record.{record_rules};
 ghost use Rattle.ioc_dbfile.specs.Owners.{names_device, asks_for, owner_of, device_lead, leads_home, owns_device};
 ghost use Rattle.ioc_dbfile.specs.OwnerTable.{owner_in, or_else};
 
 use crate::device_name::DeviceName;
-use ioc_common::{KeptLink, Lead, LinkUse};
+use ioc_dbcommon::{KeptLink, Lead, LinkUse};
 use ioc_links::{Link, MAX_DEVICE_BYTES};
 use ioc_names::RecordNo;
 use ioc_record::RecordKind;
-use ioc_types::Record;
+use rec_types::Record;
 use ioc_values::Short;
 use std::alloc::{AllocError, Global};
 use std::collections::HashMap;

@@ -2,10 +2,10 @@
 use Rattle.std.proofs.Common.{◌≡◌, ℕ, zero, suc, List, [], ◌∷◌, refl, sym, subst, ⊎_elim}
 use mathlib.Core.Option.{some, some-injective, some-ne-none}
 use lib.ListN.{get_elem?}
-use Rattle.ioc_line.specs.declared.room.View.{View}
-use Rattle.ioc_line.specs.Key.{Key}
-use Rattle.ioc_line.specs.KeyLaws.{continues_self}
-use Rattle.ioc_line.specs.Line.{keeper, Fits, Holds, Kept}
+use Rattle.ioc_history.specs.declared.room.View.{View}
+use Rattle.ioc_history.specs.Key.{Key}
+use Rattle.ioc_history.specs.KeyLaws.{continues_self}
+use Rattle.ioc_history.specs.Line.{keeper, Fits, Holds, Kept}
 
 pub begins : (words : List ℕ) → Kept words (keeper [] [] ∷ [])
 begins words = record {

@@ -5,7 +5,7 @@ use Rattle.std.specs.List.{sum_by}
 use Rattle.ioc_ledger.specs.declared.tally.Tally.{Tally}
 use Rattle.ioc_ledger.specs.Requests.{filled, no_counts}
 use Rattle.ioc_set.specs.Linking.{added}
-use Rattle.ioc_lent.specs.Holding.{HeldView}
+use Rattle.ioc_journaled_set.specs.Holding.{HeldView}
 use Rattle.ioc_engine.specs.Ended.{counts_in}
 
 -- The tally with the counts of each set added in turn.

@@ -8,21 +8,21 @@ use Rattle.std.proofs.lemmas.List.{get_or-set_other, length-set, length-map}
 use Rattle.std.proofs.lemmas.Option.{slice_get-map}
 use Rattle.ioc_notify.specs.Waits.{at_record}
 use Rattle.ioc_record.specs.RecordRules.{RecordRules, targets}
-use Rattle.ioc_members.specs.Contents.{Contents, nothing, record_at}
-use Rattle.ioc_members.specs.Joined.{links_of, Names, IsPart}
+use Rattle.ioc_set_records.specs.Contents.{Contents, nothing, record_at}
+use Rattle.ioc_set_records.specs.Joined.{links_of, Names, IsPart}
 use Rattle.ioc_store.specs.OneMapLaws.{get-numbered, len-numbered}
 use Rattle.ioc_store.specs.World.{World, Has, IsClosed, at, common_at}
-use Rattle.ioc_line.specs.Key.{Key, record_keys}
-use Rattle.ioc_line.specs.Key.{Has as Has_key}
-use Rattle.ioc_line.specs.KeyLaws.{has_either, record_kind}
-use Rattle.ioc_holding.specs.Held.{Holds}
-use Rattle.ioc_workplace.specs.Resting.{resting}
+use Rattle.ioc_history.specs.Key.{Key, record_keys}
+use Rattle.ioc_history.specs.Key.{Has as Has_key}
+use Rattle.ioc_history.specs.KeyLaws.{has_either, record_kind}
+use Rattle.ioc_history.specs.Held.{Holds}
+use Rattle.ioc_set_store.specs.Resting.{resting}
 use Rattle.ioc_ledger.specs.Requests.{no_counts}
-use Rattle.ioc_lent.specs.Holding.{KeepsDevices}
+use Rattle.ioc_journaled_set.specs.Holding.{KeepsDevices}
 use Rattle.ioc_set.specs.Linking.{anew, AreCalm, IsCalm, NoneAwaits}
-use Rattle.ioc_dealing.specs.declared.dealing.Loaded.{Loaded}
-use Rattle.ioc_dealing.specs.Dealing.{HasPart}
-use Rattle.ioc_dealing.specs.Linked.{AreParts, links_in}
+use Rattle.ioc_set_records.specs.declared.loaded.Loaded.{Loaded}
+use Rattle.ioc_set_records.specs.Dealing.{HasPart}
+use Rattle.ioc_set_records.specs.Linked.{AreParts, links_in}
 use Rattle.ioc_engine.specs.Loading.{loaded_world, have_device, AreOfPartsBelow, IsIdle, IsAtRest, IsSetOf, AreSetsFrom}
 use Rattle.ioc_engine.proofs.Keys.{record_contains, key_there}
 

@@ -5,7 +5,7 @@ use Rattle.std.specs.Ordering.{nat_cmp, eq_by_cmp, is_eq}
 use Rattle.std.specs.FinMap.{FinMap, keys, contains_key, contains_key-keys, nat_cmp-IsAntisymmetric}
 use Rattle.std.proofs.lemmas.Cmp.{eq_by_cmp_equiv, nat_cmp_total}
 use Rattle.std.proofs.lemmas.Map.Views.{Contains-from_any, list_any-from_Contains}
-use Rattle.ioc_line.specs.Key.{Key, Has, record_keys}
+use Rattle.ioc_history.specs.Key.{Key, Has, record_keys}
 
 pub record_contains : (key : Key) (ns : List ℕ) → Has key (record_keys ns) → Contains ns key.1
 record_contains key [] h = absurd h

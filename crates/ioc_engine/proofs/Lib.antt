@@ -6,3 +6,4 @@ mod Beginning
 mod Copies
 mod Keys
 mod DealtParts
+mod OnceAdding

@@ -5,7 +5,7 @@ use Rattle.ioc_values.specs.declared.error.IocError.{IocError}
 use Rattle.ioc_record.specs.RecordRules.{RecordRules}
 use Rattle.ioc_store.specs.World.{World}
 use Rattle.ioc_events.specs.declared.event.Event.{Event}
-use Rattle.ioc_lent.specs.Holding.{HeldView, numbers_of, IsSoundlyHeld, IsNoCall}
+use Rattle.ioc_journaled_set.specs.Holding.{HeldView, numbers_of, IsSoundlyHeld, IsNoCall}
 use Rattle.ioc_engine.specs.Served.{CallIsRefused}
 
 module _ {R D : Type 0} (k : RecordRules R) (base : World R) (held : HeldView R D) (count number : ℕ) (event : Event) (error : IocError) where

@@ -4,10 +4,10 @@ use Rattle.std.specs.Prelude.{◌⊎◌, ℕ, List, All}
 use Rattle.ioc_record.specs.RecordRules.{RecordRules}
 use Rattle.ioc_store.specs.World.{World}
 use Rattle.ioc_events.specs.declared.reply.Reply.{Reply}
-use Rattle.ioc_journal.specs.Account.{DeskView}
-use Rattle.ioc_lent.specs.Holding.{HeldView, IsSoundlyHeld}
-use Rattle.ioc_lent.specs.Puts.{PutsView, WasStale}
-use Rattle.ioc_lent.specs.GivingUp.{GaveUpOn}
+use Rattle.ioc_history.specs.Account.{DeskView}
+use Rattle.ioc_journaled_set.specs.Holding.{HeldView, IsSoundlyHeld}
+use Rattle.ioc_journaled_set.specs.Puts.{PutsView, WasStale}
+use Rattle.ioc_journaled_set.specs.GivingUp.{GaveUpOn}
 
 module _ {R : Type 0} (D : Type 0) (k : RecordRules R) (base : World R) (number : ℕ) (desk : DeskView) (moment : ℕ) (reply : Reply) (desk_then : DeskView) where
   -- The put with notification was canceled on all sets with its records, which were sound before

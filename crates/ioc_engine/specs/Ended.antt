@@ -6,10 +6,10 @@ use Rattle.std.specs.FinMap.{get}
 use Rattle.ioc_record.specs.RecordRules.{RecordRules}
 use Rattle.ioc_store.specs.World.{World}
 use Rattle.ioc_topology.specs.Gathered.{HoldEach}
-use Rattle.ioc_line.specs.declared.entry.Note.{Note}
-use Rattle.ioc_holding.specs.Legal.{map_of}
-use Rattle.ioc_journal.specs.Account.{IsAccount}
-use Rattle.ioc_lent.specs.Holding.{HeldView, KeepsDevices, numbers_of, IsSoundlyHeld}
+use Rattle.ioc_history.specs.declared.entry.Note.{Note}
+use Rattle.ioc_history.specs.Legal.{map_of}
+use Rattle.ioc_history.specs.Account.{IsAccount}
+use Rattle.ioc_journaled_set.specs.Holding.{HeldView, KeepsDevices, numbers_of, IsSoundlyHeld}
 use Rattle.ioc_ledger.specs.declared.tally.Tally.{Tally}
 use Rattle.ioc_ledger.specs.Requests.{filled}
 

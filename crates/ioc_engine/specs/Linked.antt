@@ -4,17 +4,17 @@ use Rattle.std.specs.Prelude.{ℕ, ◌≡◌, ◌⊎◌, Option, Contains}
 use Rattle.ioc_values.specs.declared.error.IocError.{IocError}
 use Rattle.ioc_values.specs.declared.error.IocError.TheVariants.{NoField, Stopped}
 use Rattle.ioc_fields.specs.declared.field_no.FieldNo.{FieldNo}
-use Rattle.ioc_common.specs.declared.link_field.LinkField.{LinkField}
-use Rattle.ioc_common.specs.Links.{use_of, record_named}
+use Rattle.ioc_dbcommon.specs.declared.link_field.LinkField.{LinkField}
+use Rattle.ioc_dbcommon.specs.Links.{use_of, record_named}
 use Rattle.ioc_record.specs.RecordRules.{RecordRules}
-use Rattle.ioc_members.specs.Joined.{HasLink}
+use Rattle.ioc_set_records.specs.Joined.{HasLink}
 use Rattle.ioc_store.specs.World.{World}
 use Rattle.ioc_events.specs.declared.reply.Reply.{Reply}
-use Rattle.ioc_journal.specs.Account.{DeskView}
-use Rattle.ioc_journal.specs.Places.{IsNoPlace}
+use Rattle.ioc_history.specs.Account.{DeskView}
+use Rattle.ioc_history.specs.Places.{IsNoPlace}
 use Rattle.ioc_topology.specs.Change.{AreLent, AreSound, LinkIsRefused}
-use Rattle.ioc_lent.specs.Holding.{HeldView, numbers_of, IsSoundlyHeld}
-use Rattle.ioc_lent.specs.Changing.{Relinks}
+use Rattle.ioc_journaled_set.specs.Holding.{HeldView, numbers_of, IsSoundlyHeld}
+use Rattle.ioc_journaled_set.specs.Changing.{Relinks}
 
 -- The record that a link leads to, if there is one.
 abbrev pub other_of : LinkField → Option ℕ

@@ -3,15 +3,15 @@
 use Rattle.std.specs.Prelude.{◌≡◌, ℕ, ◌<◌, ◌≤◌, Bool, false, Option, None, List, [], map, length, All, is_some, slice_get, slice_index, slice_index_or}
 use Rattle.std.specs.Option.{option_and_then}
 use Rattle.ioc_record.specs.RecordRules.{RecordRules}
-use Rattle.ioc_members.specs.Contents.{Contents, nothing}
-use Rattle.ioc_members.specs.Joined.{links_of, IsPart}
+use Rattle.ioc_set_records.specs.Contents.{Contents, nothing}
+use Rattle.ioc_set_records.specs.Joined.{links_of, IsPart}
 use Rattle.ioc_store.specs.OneMap.{numbered}
 use Rattle.ioc_store.specs.World.{World}
-use Rattle.ioc_line.specs.Key.{Key, Has}
-use Rattle.ioc_workplace.specs.Resting.{resting}
-use Rattle.ioc_dealing.specs.declared.dealing.Loaded.{Loaded}
-use Rattle.ioc_dealing.specs.Dealing.{HasPart}
-use Rattle.ioc_dealing.specs.Linked.{AreParts}
+use Rattle.ioc_history.specs.Key.{Key, Has}
+use Rattle.ioc_set_store.specs.Resting.{resting}
+use Rattle.ioc_set_records.specs.declared.loaded.Loaded.{Loaded}
+use Rattle.ioc_set_records.specs.Dealing.{HasPart}
+use Rattle.ioc_set_records.specs.Linked.{AreParts}
 
 -- The world at the load, in which the records are numbered by their places.
 abbrev pub loaded_world : {R D : Type 0} → List (Loaded R D) → World R

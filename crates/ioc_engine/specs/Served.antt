@@ -9,12 +9,12 @@ use Rattle.ioc_record.specs.RecordRules.{RecordRules}
 use Rattle.ioc_store.specs.World.{World}
 use Rattle.ioc_events.specs.declared.event.Event.{Event}
 use Rattle.ioc_events.specs.declared.reply.Reply.{Reply}
-use Rattle.ioc_journal.specs.Account.{DeskView}
-use Rattle.ioc_journal.specs.Places.{IsNoPlace}
+use Rattle.ioc_history.specs.Account.{DeskView}
+use Rattle.ioc_history.specs.Places.{IsNoPlace}
 use Rattle.ioc_set.specs.Held.{now_of}
 use Rattle.ioc_set.specs.NoCalls.{no_call}
 use Rattle.ioc_topology.specs.Change.{IsRefused}
-use Rattle.ioc_lent.specs.Holding.{HeldView, numbers_of, IsSoundlyHeld, Serves, Tells}
+use Rattle.ioc_journaled_set.specs.Holding.{HeldView, numbers_of, IsSoundlyHeld, Serves, Tells}
 
 module _ {R : Type 0} (D : Type 0) (k : RecordRules R) (base : World R) where
   -- A sound set has the record, and the record has no such field, or the field can't be put.

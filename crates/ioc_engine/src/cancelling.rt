@@ -2,20 +2,20 @@
 ghost use Rattle.std.specs.Prelude.{◌≡◌, ◌⊎◌, All, IfOk, IfErr, IfNone, OnErr};
 ghost use Rattle.std.specs.Option.{IfSome};
 ghost use Rattle.ioc_values.specs.declared.error.IocError.TheVariants.{Stopped};
-ghost use Rattle.ioc_journal.specs.Places.{IsNoPlace};
-ghost use Rattle.ioc_lent.specs.Holding.{IsSoundlyHeld};
+ghost use Rattle.ioc_history.specs.Places.{IsNoPlace};
+ghost use Rattle.ioc_journaled_set.specs.Holding.{IsSoundlyHeld};
 ghost use Rattle.ioc_engine.specs.Cancelled.{WasCancelled, WasGivenUp, WasNotLive};
 
 use crate::engine::Engine;
 use ioc_device::Device;
 use ioc_events::Reply;
-use ioc_journal::{Base, Desk, Receipt};
-use ioc_lent::{Held, cancel_on};
+use ioc_history::{Base, Desk, Receipt};
+use ioc_journaled_set::{Held, cancel_on};
 use ioc_notify::NotifyId;
 use ioc_record::RecordKind;
 use ioc_topology::Locked;
 use ioc_values::IocError;
-use ioc_workplace::Workplace;
+use ioc_set_store::Workplace;
 use std::alloc::Global;
 use std::sync::Wait;
 

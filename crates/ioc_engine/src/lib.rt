@@ -9,6 +9,7 @@
 //! Developer's Guide, "Database Locking, Scanning, and Processing", lock sets; "iocInit".
 #![tactic(auto)]
 
+mod once_requests;
 mod cancelling;
 pub mod engine;
 pub mod holding;
@@ -22,7 +23,7 @@ pub mod sending;
 pub mod starting;
 
 pub use engine::Engine;
-pub use ioc_lent::{AllPuts, Held};
+pub use ioc_journaled_set::{AllPuts, Held};
 pub use loading::with_copies;
 pub use opening::new_cell;
 pub use report::{OnceTally, Report};

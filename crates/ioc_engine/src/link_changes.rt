@@ -1,21 +1,21 @@
 //! Link changes of the engine.
 ghost use Rattle.std.specs.Prelude.{◌≡◌, IfOk, IfErr, OnOk, OnErr};
-ghost use Rattle.ioc_workplace.specs.SetStore.{world_of};
+ghost use Rattle.ioc_set_store.specs.SetStore.{world_of};
 ghost use Rattle.ioc_topology.specs.Change.{AreKnown, AreLent};
-ghost use Rattle.ioc_lent.specs.Holding.{numbers_of};
+ghost use Rattle.ioc_journaled_set.specs.Holding.{numbers_of};
 ghost use Rattle.ioc_engine.specs.Linked.{other_of, WasLinked, LinkWasRefused};
 
 use crate::engine::Engine;
-use ioc_common::KeptLink;
+use ioc_dbcommon::KeptLink;
 use ioc_device::Device;
 use ioc_fields::FieldNo;
-use ioc_journal::{Base, Desk};
-use ioc_lent::{Changed, Held, change_link};
+use ioc_history::{Base, Desk};
+use ioc_journaled_set::{Changed, Held, change_link};
 use ioc_names::RecordNo;
 use ioc_record::RecordKind;
 use ioc_topology::{NewPlaces, all_sound, are_lent};
 use ioc_values::IocError;
-use ioc_workplace::Workplace;
+use ioc_set_store::Workplace;
 use std::alloc::Global;
 use std::sync::Wait;
 

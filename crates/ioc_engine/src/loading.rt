@@ -3,7 +3,7 @@ ghost use Rattle.std.specs.Prelude.{◌≡◌, None, drop, map, slice_index_or, 
 ghost use Rattle.std.specs.Vec.Iter.{into_iter_items};
 ghost use Rattle.ioc_engine.specs.Loading.{HaveDevices};
 
-use ioc_dealing::Loaded;
+use ioc_set_records::Loaded;
 use ioc_record::RecordKind;
 use std::alloc::{AllocError, Global};
 use std::vec::IntoIter;

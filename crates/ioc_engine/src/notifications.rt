@@ -2,22 +2,22 @@
 ghost use Rattle.std.specs.Prelude.{◌≡◌, ◌⊎◌, ℕ, IfOk, IfErr, OnErr};
 ghost use Rattle.ioc_values.specs.declared.error.IocError.TheVariants.{QueueFull, Stopped};
 ghost use Rattle.ioc_events.specs.declared.event.Event.TheVariants.{Put, Notify};
-ghost use Rattle.ioc_journal.specs.Places.{IsNoPlace};
-ghost use Rattle.ioc_lent.specs.Puts.{PutsView, WasAsked};
-ghost use Rattle.ioc_workplace.specs.SetStore.{world_of};
+ghost use Rattle.ioc_history.specs.Places.{IsNoPlace};
+ghost use Rattle.ioc_journaled_set.specs.Puts.{PutsView, WasAsked};
+ghost use Rattle.ioc_set_store.specs.SetStore.{world_of};
 ghost use Rattle.ioc_engine.specs.Served.{WasServed, CallIsRefused};
 
 use crate::engine::Engine;
 use ioc_device::Device;
 use ioc_events::Reply;
 use ioc_fields::FieldNo;
-use ioc_journal::{Base, Desk, Receipt};
+use ioc_history::{Base, Desk, Receipt};
 use ioc_names::RecordNo;
 use ioc_notify::NotifyId;
 use ioc_record::RecordKind;
 use ioc_topology::Locked;
 use ioc_values::{Input, IocError};
-use ioc_workplace::Workplace;
+use ioc_set_store::Workplace;
 use std::alloc::Global;
 use std::sync::Wait;
 

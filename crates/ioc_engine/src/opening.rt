@@ -1,9 +1,9 @@
 //! The cell that an engine is named by.
 ghost use Rattle.std.specs.Prelude.{◌≡◌, [], IfOk};
 ghost use Rattle.crossbeam_utils.specs.Seq.{cell_view};
-ghost use Rattle.ioc_line.specs.Line.{keeper};
+ghost use Rattle.ioc_history.specs.Line.{keeper};
 
-use ioc_line::{Cell, Token};
+use ioc_history::{Cell, Token};
 use std::alloc::{AllocError, Global};
 
 /// Creates the cell of an engine that isn't started yet, and the keeper's pass, which has seen no

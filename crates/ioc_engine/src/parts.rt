@@ -1,14 +1,14 @@
 //! The records of each lock set.
 ghost use Rattle.std.specs.Prelude.{◌≡◌, ◌⊎◌, ◌<◌, ℕ, false, slice_index_or, All, Any, Contains, IfOk, IfErr};
-ghost use Rattle.ioc_lent.specs.Holding.{numbers_of};
+ghost use Rattle.ioc_journaled_set.specs.Holding.{numbers_of};
 ghost use Rattle.ioc_topology.specs.Change.{IsRefused};
 ghost use Rattle.ioc_topology.specs.Gathered.{IsMarked};
 ghost use Rattle.ioc_values.specs.declared.error.IocError.TheVariants.{NoMemory, Stopped};
 ghost use Rattle.ioc_engine.specs.Seen.{IsPartSeen};
 
 use crate::engine::Engine;
-use ioc_journal::Base;
-use ioc_lent::Held;
+use ioc_history::Base;
+use ioc_journaled_set::Held;
 use ioc_names::RecordNo;
 use ioc_record::RecordKind;
 use ioc_topology::Locked;

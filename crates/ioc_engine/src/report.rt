@@ -1,18 +1,18 @@
 //! The end of the engine.
 ghost use Rattle.std.specs.Prelude.{◌≡◌, map, All, IfOk, IfErr};
-ghost use Rattle.ioc_line.specs.Line.{Begins};
-ghost use Rattle.ioc_journal.specs.Account.{IsEntryOf};
-ghost use Rattle.ioc_lent.specs.Holding.{KeepsDevices};
+ghost use Rattle.ioc_history.specs.Line.{Begins};
+ghost use Rattle.ioc_history.specs.Account.{IsEntryOf};
+ghost use Rattle.ioc_journaled_set.specs.Holding.{KeepsDevices};
 ghost use Rattle.ioc_engine.specs.Ended.{IsAsTold, IsEnd, counts_in};
 ghost use Rattle.ioc_engine.specs.Once.{AreAllBack};
 
 use crate::cancelling::all_sound;
 use crate::engine::Engine;
-use ioc_journal::{Base, Journal, Receipt};
+use ioc_history::{Base, Journal, Receipt};
 use ioc_ledger::Tally;
-use ioc_lent::Held;
-use ioc_line::{Cell, JournalEntry};
-use ioc_once::OnceList;
+use ioc_journaled_set::Held;
+use ioc_history::{Cell, JournalEntry};
+use ioc_callback::OnceList;
 use ioc_record::RecordKind;
 use ioc_set::linking::add_counts;
 use std::alloc::Global;

@@ -1,9 +1,9 @@
 //! What the events of the engine send.
 use crate::engine::Engine;
-use ioc_journal::Base;
-use ioc_once::add_once;
+use ioc_history::Base;
+use ioc_callback::add_once;
 use ioc_record::RecordKind;
-use ioc_workplace::Workplace;
+use ioc_set_store::Workplace;
 use std::marker::PhantomData;
 use std::sync::Wait;
 use std::sync::ledger::Ledger;

@@ -1,25 +1,25 @@
 //! The start of an engine.
 ghost use Rattle.std.specs.Prelude.{◌≡◌, ◌-◌, ◌^◌, ◌↔◌, [], All, IsTrue, IfOk, IfErr, OnOk, length};
 ghost use Rattle.crossbeam_utils.specs.Seq.{cell_view};
-ghost use Rattle.ioc_line.specs.Line.{keeper};
-ghost use Rattle.ioc_journal.specs.Account.{AreNoDesks, AreRecords};
-ghost use Rattle.ioc_journal.specs.Places.{AreAllowed};
-ghost use Rattle.ioc_holding.specs.Legal.{IsSound};
-ghost use Rattle.ioc_members.specs.Joined.{IsClosed};
-ghost use Rattle.ioc_dealing.specs.Linked.{AreParts, links_in};
+ghost use Rattle.ioc_history.specs.Line.{keeper};
+ghost use Rattle.ioc_history.specs.Account.{AreNoDesks, AreRecords};
+ghost use Rattle.ioc_history.specs.Places.{AreAllowed};
+ghost use Rattle.ioc_history.specs.Legal.{IsSound};
+ghost use Rattle.ioc_set_records.specs.Joined.{IsClosed};
+ghost use Rattle.ioc_set_records.specs.Linked.{AreParts, links_in};
 ghost use Rattle.ioc_engine.specs.Loading.{loaded_world, have_device, IsIdle};
 ghost use Rattle.ioc_engine.specs.declared.starting.StartError.TheVariants.{BadValue, NotAtRest, LinkLeaves};
 
 use crate::engine::Engine;
 use crate::holding::hold_all;
 use crate::sending::OnceTickets;
-use ioc_dealing::laws::dealt_sets_are_parts;
-use ioc_dealing::{Loaded, deal, parts_of};
-use ioc_holding::laws::lists_leave_sound;
-use ioc_journal::{Base, Book, Journal, Limits};
-use ioc_lent::{AllPuts, Held};
-use ioc_line::{Cell, Token, pass};
-use ioc_once::OnceList;
+use ioc_set_records::loaded_laws::dealt_sets_are_parts;
+use ioc_set_records::{Loaded, deal, parts_of};
+use ioc_history::legal_laws::lists_leave_sound;
+use ioc_history::{Base, Book, Journal, Limits};
+use ioc_journaled_set::{AllPuts, Held};
+use ioc_history::{Cell, Token, pass};
+use ioc_callback::OnceList;
 use ioc_record::RecordKind;
 use ioc_topology::Directory;
 use std::alloc::{AllocError, Global};

@@ -6,7 +6,7 @@ use Rattle.std.specs.Prelude.{Contains, nat_lt, ◌++◌}
 use Rattle.std.specs.FinMap.{gets, contains_key}
 use Rattle.ioc_ledger.specs.Requests.{more}
 use Rattle.ioc_store.specs.declared.outbox.OutboxItem.{OutboxItem}
-use Rattle.ioc_common.specs.Steps.{with_notification}
+use Rattle.ioc_dbcommon.specs.Steps.{with_notification}
 use Rattle.ioc_record.specs.RecordRules.{RecordRules, targets}
 use Rattle.ioc_record.specs.Laws.{IsLawful}
 use Rattle.ioc_store.specs.World.{World, at, common_at, put, changed, called, sent, lost, taken_on, let_go}

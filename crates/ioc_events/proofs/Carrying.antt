@@ -4,8 +4,8 @@ use Rattle.std.specs.FinMap.{len}
 use Rattle.ioc_notify.specs.declared.live_numbers.Live.{Live}
 use Rattle.ioc_notify.specs.Living.{gained, lost as lost_by, is_at_its_last}
 use Rattle.ioc_values.specs.declared.value.Finished.{Finished}
-use Rattle.ioc_common.specs.declared.common.Common.{Common}
-use Rattle.ioc_common.specs.Steps.{with_notification}
+use Rattle.ioc_dbcommon.specs.declared.common.Common.{Common}
+use Rattle.ioc_dbcommon.specs.Steps.{with_notification}
 use Rattle.ioc_record.specs.RecordRules.{RecordRules}
 use Rattle.ioc_record.specs.Laws.{IsLawful}
 use Rattle.ioc_store.specs.declared.call.Call.{Call}

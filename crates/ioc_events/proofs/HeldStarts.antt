@@ -10,8 +10,8 @@ use Rattle.ioc_ledger.specs.Requests.{Requests}
 use Rattle.ioc_notify.specs.declared.live_numbers.Live.{Live}
 use Rattle.ioc_notify.specs.declared.waiting_lists.Waiting.{Waiting}
 use Rattle.ioc_notify.specs.Waits.{without}
-use Rattle.ioc_common.specs.declared.common.Common.{Common}
-use Rattle.ioc_common.specs.Steps.{with_put_mark, with_notification}
+use Rattle.ioc_dbcommon.specs.declared.common.Common.{Common}
+use Rattle.ioc_dbcommon.specs.Steps.{with_put_mark, with_notification}
 use Rattle.ioc_record.specs.RecordRules.{RecordRules}
 use Rattle.ioc_record.specs.Laws.{IsLawful}
 use Rattle.ioc_store.specs.World.{World, Has, IsClosed, Keeps, at, common_at, put, changed, unqueued}

@@ -9,7 +9,7 @@ use Rattle.std.proofs.lemmas.List.Elements.{Contains-append_cases}
 use Rattle.ioc_ledger.specs.Requests.{Requests, None, followed_by}
 use Rattle.ioc_notify.specs.declared.waiting_lists.Waiting.{Waiting}
 use Rattle.ioc_notify.specs.Waits.{at_record, without}
-use Rattle.ioc_common.specs.Steps.{with_put_mark}
+use Rattle.ioc_dbcommon.specs.Steps.{with_put_mark}
 use Rattle.ioc_record.specs.RecordRules.{RecordRules}
 use Rattle.ioc_record.specs.Laws.{IsLawful}
 use Rattle.ioc_store.specs.World.{World, at, changed, unqueued}

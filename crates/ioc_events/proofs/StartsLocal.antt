@@ -6,7 +6,7 @@ use Rattle.ioc_values.specs.declared.value.Value.{Value}
 use Rattle.ioc_fields.specs.declared.field_no.FieldNo.{FieldNo}
 use Rattle.ioc_ledger.specs.Requests.{Requests, None, followed_by}
 use Rattle.ioc_notify.specs.declared.waiting_lists.Waiting.{Waiting}
-use Rattle.ioc_common.specs.Steps.{with_put_mark}
+use Rattle.ioc_dbcommon.specs.Steps.{with_put_mark}
 use Rattle.ioc_record.specs.RecordRules.{RecordRules}
 use Rattle.ioc_record.specs.Laws.{IsLawful}
 use Rattle.ioc_store.specs.World.{World, at, common_at, put, changed, unqueued}

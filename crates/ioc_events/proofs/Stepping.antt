@@ -20,8 +20,8 @@ use Rattle.ioc_process.specs.Keeping.{keeps-put}
 use Rattle.ioc_events.specs.declared.reply.Reply.{Reply}
 use Rattle.ioc_events.specs.declared.reply.Reply.TheVariants.{Plain, Outcome as Outcome-reply, Refused}
 use Rattle.ioc_ledger.specs.declared.outcome.Outcome.TheVariants.{Processed, Reprocess}
-use Rattle.ioc_common.specs.declared.common.Common.{Common}
-use Rattle.ioc_common.specs.Steps.{with_put_mark, with_reprocess_mark}
+use Rattle.ioc_dbcommon.specs.declared.common.Common.{Common}
+use Rattle.ioc_dbcommon.specs.Steps.{with_put_mark, with_reprocess_mark}
 use Rattle.ioc_store.specs.World.{World, Has, at, common_at, put, changed, SameLinks, Keeps, has_place, cancelled}
 use Rattle.ioc_process.specs.Processing.{Done, ran, processed, went_on_at_last}
 use Rattle.ioc_process.specs.Runs.{Comes, Leaves}

@@ -6,8 +6,8 @@ use Rattle.ioc_values.specs.declared.input.Input.{Input}
 use Rattle.ioc_fields.specs.declared.field_no.FieldNo.{FieldNo}
 use Rattle.ioc_ledger.specs.Requests.{Requests}
 use Rattle.ioc_notify.specs.declared.waiting_lists.Waiting.{Waiting}
-use Rattle.ioc_common.specs.declared.common.Common.{Common}
-use Rattle.ioc_common.specs.Steps.{with_put_mark, with_reprocess_mark, with_notification}
+use Rattle.ioc_dbcommon.specs.declared.common.Common.{Common}
+use Rattle.ioc_dbcommon.specs.Steps.{with_put_mark, with_reprocess_mark, with_notification}
 use Rattle.ioc_record.specs.RecordRules.{RecordRules}
 use Rattle.ioc_record.specs.Values.{put_field}
 use Rattle.ioc_record.specs.Laws.{IsLawful}

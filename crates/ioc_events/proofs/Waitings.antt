@@ -6,8 +6,8 @@ use Rattle.ioc_notify.specs.declared.waiting_lists.Waiting.{Waiting}
 use Rattle.ioc_fields.specs.declared.field_no.FieldNo.{FieldNo}
 use Rattle.ioc_record.specs.RecordRules.{RecordRules}
 use Rattle.ioc_record.specs.Laws.{IsLawful}
-use Rattle.ioc_common.specs.declared.common.Common.{Common}
-use Rattle.ioc_common.specs.Steps.{with_put_mark, with_reprocess_mark, with_notification}
+use Rattle.ioc_dbcommon.specs.declared.common.Common.{Common}
+use Rattle.ioc_dbcommon.specs.Steps.{with_put_mark, with_reprocess_mark, with_notification}
 use Rattle.ioc_store.specs.declared.outbox.OutboxItem.{OutboxItem}
 use Rattle.ioc_store.specs.World.{World, at, common_at, put, changed, called, sent, lost, taken_on, let_go, has_place, admitted, queued, cancelled}
 use Rattle.ioc_notify.specs.Waits.{without}
@@ -28,8 +28,8 @@ use Rattle.ioc_values.specs.declared.value.Finished.{Finished}
 use Rattle.ioc_fields.specs.Table.{row_of}
 use Rattle.ioc_ledger.specs.Requests.{Request}
 use Rattle.ioc_ledger.specs.declared.outcome.Outcome.TheVariants.{Reprocess}
-use Rattle.ioc_common.specs.declared.link_field.LinkField.{LinkField}
-use Rattle.ioc_common.specs.Links.{use_of, named_by}
+use Rattle.ioc_dbcommon.specs.declared.link_field.LinkField.{LinkField}
+use Rattle.ioc_dbcommon.specs.Links.{use_of, named_by}
 use Rattle.ioc_record.specs.Values.{text_of, put_field, stops_put}
 use Rattle.std.proofs.lemmas.List.Elements.{Contains-append_cases}
 use Rattle.ioc_events.specs.Starting.{value_to_put, must_wait}

@@ -12,7 +12,7 @@ use Rattle.ioc_fields.specs.declared.field_no.FieldNo.{FieldNo}
 use Rattle.ioc_fields.specs.Table.{is_process_passive}
 use Rattle.ioc_notify.specs.declared.waiting_lists.Waiting.{Waiting}
 use Rattle.ioc_notify.specs.Waits.{at_record}
-use Rattle.ioc_common.specs.Steps.{is_passive, with_put_mark, with_notification}
+use Rattle.ioc_dbcommon.specs.Steps.{is_passive, with_put_mark, with_notification}
 use Rattle.ioc_ledger.specs.Requests.{None, followed_by}
 use Rattle.ioc_record.specs.RecordRules.{RecordRules}
 use Rattle.ioc_record.specs.Values.{put_tested, converted_for}

@@ -16,9 +16,9 @@ use Rattle.ioc_ledger.specs.declared.outcome.Outcome.{Outcome}
 use Rattle.ioc_ledger.specs.declared.outcome.Outcome.TheVariants.{Reprocess}
 use Rattle.ioc_ledger.specs.Requests.{Requests, None, Request, first_outcome, followed_by}
 use Rattle.ioc_record.specs.RecordRules.{RecordRules}
-use Rattle.ioc_common.specs.Steps.{with_put_mark, with_reprocess_mark}
-use Rattle.ioc_common.specs.declared.link_field.LinkField.{LinkField}
-use Rattle.ioc_common.specs.Links.{use_of, named_by}
+use Rattle.ioc_dbcommon.specs.Steps.{with_put_mark, with_reprocess_mark}
+use Rattle.ioc_dbcommon.specs.declared.link_field.LinkField.{LinkField}
+use Rattle.ioc_dbcommon.specs.Links.{use_of, named_by}
 use Rattle.ioc_record.specs.Values.{text_of, put_field, stops_put}
 use Rattle.ioc_events.specs.declared.event.Entry.{Entry}
 use Rattle.ioc_events.specs.declared.reply.Reply.{Reply}

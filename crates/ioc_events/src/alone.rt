@@ -18,15 +18,15 @@ ghost use Rattle.ioc_events.specs.Told.{told_by};
 
 use crate::reply::Effect;
 use crate::told::Told;
-use ioc_common::Common;
+use ioc_dbcommon::Common;
 use ioc_fields::{FieldNo, OwnField, RecordType, is_process_passive};
 use ioc_ledger::{Outcome, Tally};
 use ioc_names::RecordNo;
 use ioc_process::outputs::is_proc;
 use ioc_process::process::{complete_record, request_record};
 use ioc_record::{PutFault, RecordKind, put_field, put_spelled};
-use ioc_steps::scanning::rescan;
-use ioc_steps::steps::{mark_put, mark_reprocess};
+use ioc_process::scanning::rescan;
+use ioc_process::steps::{mark_put, mark_reprocess};
 use ioc_store::frames::Frame;
 use ioc_store::store::Store;
 use ioc_values::{Finished, Input, IocError};

@@ -2,7 +2,7 @@
 ghost use Rattle.std.specs.Prelude.{◌≡◌};
 
 use crate::reply::Reply;
-use ioc_common::LinkField;
+use ioc_dbcommon::LinkField;
 use ioc_device::Answer;
 use ioc_fields::FieldNo;
 use ioc_names::RecordNo;

@@ -1,6 +1,6 @@
 //! Link changes.
 ghost use Rattle.std.specs.Prelude.{◌≡◌, ◌&&◌, true, is_some};
-ghost use Rattle.ioc_common.specs.Links.{named_by};
+ghost use Rattle.ioc_dbcommon.specs.Links.{named_by};
 ghost use Rattle.ioc_ledger.specs.Requests.{None};
 ghost use Rattle.ioc_record.specs.Values.{stops_put};
 ghost use Rattle.ioc_events.specs.declared.event.Event.TheVariants.{Link};
@@ -9,11 +9,11 @@ ghost use Rattle.ioc_events.specs.Step.{all_there, stepped};
 ghost use Rattle.ioc_store.specs.World.{Has, at, common_at, put};
 
 use crate::reply::Reply;
-use ioc_common::{KeptLink, LinkUse};
+use ioc_dbcommon::{KeptLink, LinkUse};
 use ioc_fields::FieldNo;
 use ioc_names::RecordNo;
 use ioc_record::{RecordKind, stops_put};
-use ioc_steps::scanning::{device_of, rewire};
+use ioc_process::scanning::{device_of, rewire};
 use ioc_store::store::Store;
 use ioc_values::IocError;
 

@@ -20,7 +20,7 @@ use ioc_ledger::Tally;
 use ioc_names::RecordNo;
 use ioc_notify::{NotifyId, Waiting};
 use ioc_record::{RecordKind, convert_for, test_put};
-use ioc_steps::steps::common;
+use ioc_process::steps::common;
 use ioc_store::frames::Frame;
 use ioc_store::store::Store;
 use ioc_values::{Input, IocError, Value};

@@ -1,9 +1,13 @@
 //! The outcomes of requests, and their counts.
+//!
+//! Tickets, one for each request.
 #![tactic(auto)]
 
 pub mod laws;
 pub mod outcome;
 pub mod tally;
+pub mod tickets;
 
 pub use outcome::Outcome;
 pub use tally::Tally;
+pub use tickets::{Ledger, PARTS, Ticket};

@@ -3,8 +3,8 @@ use Rattle.std.proofs.Common.{◌≡◌, ℕ, List, Option, Some, None, Ok, Err,
 use Rattle.std.specs.Prelude.{Result, IfSome, IfErr}
 use Rattle.std.specs.Io.KnownBytes.{Appends, Keeps}
 use Rattle.ioc_names.specs.NameTable.{NameTable}
-use Rattle.ioc_types.specs.Record.{Record, record_rules}
-use Rattle.ioc_dbtext.specs.Macros.{Defined}
+use Rattle.rec_types.specs.Record.{Record, record_rules}
+use Rattle.ioc_dblex.specs.Macros.{Defined}
 use Rattle.ioc_dbfile.specs.Loader.{Loading}
 use Rattle.ioc_main.specs.declared.fault.ScriptFault.{ScriptFault}
 use Rattle.ioc_main.specs.declared.fault.ScriptFault.TheVariants as script
@@ -13,10 +13,10 @@ use Rattle.ioc_main.specs.declared.fault.RunFault.TheVariants.{Memory}
 use Rattle.ioc_main.specs.Faults.{run_fault_of, fault_of}
 use Rattle.ioc_values.specs.declared.error.IocError.{IocError}
 use Rattle.ioc_values.specs.declared.error.IocError.TheVariants as refusal
-use Rattle.ioc_statements.specs.Statements.{Gives}
+use Rattle.ioc_dbparse.specs.Statements.{Gives}
 use Rattle.ioc_dbfile.specs.SeenDatabase.{database_of}
-use Rattle.ioc_script.specs.Script.{lines_of}
-use Rattle.ioc_machine.specs.Machine.{Machine, first_machine}
+use Rattle.ioc_main.specs.Script.{lines_of}
+use Rattle.ioc_sim.specs.Machine.{Machine, first_machine}
 use Rattle.ioc_main.specs.Replay.{transcript}
 use Rattle.ioc_main.specs.Written.{WritesFront, WritesPart, StopsScript}
 use Rattle.ioc_main.specs.Transcript.{loaded, transcript_by, transcript_of, IsDatabase, in_the_load, in_a_line, StopsWith}

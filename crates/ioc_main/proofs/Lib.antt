@@ -1,9 +1,11 @@
-pub mod WrittenLemmas
-pub mod Cutting
-pub mod ComingLemmas
-pub mod Feeding
-pub mod Reading
 pub mod Beginning
-pub mod Getting
 pub mod Bracing
+pub mod ComingLemmas
+pub mod Cutting
+pub mod Feeding
+pub mod Getting
+pub mod Reading
 pub mod Telling
+pub mod Verbs
+pub mod Words
+pub mod WrittenLemmas

@@ -1,6 +1,6 @@
 -- Something is printed for a line that puts.
 use Rattle.std.proofs.Common.{◌≡◌, ℕ, false, List, Option, Some, None, refl}
-use Rattle.ioc_script.specs.Script.{put_of, put_at, before, behind, is_silent}
+use Rattle.ioc_main.specs.Script.{put_of, put_at, before, behind, is_silent}
 
 at_speaks : (name : List ℕ) (field text : Option (List ℕ)) → is_silent (put_at name field text) ≡ false
 at_speaks name None text = refl

@@ -7,7 +7,7 @@ use Rattle.std.specs.declared.vec.IntoIter.{IntoIter}
 use Rattle.std.specs.declared.io.Error.{Error}
 use Rattle.std.specs.IoError.{error_kind}
 use Rattle.std.specs.Vec.Iter.{into_iter_items}
-use Rattle.ioc_dbtext.specs.Macros.{Defined, front_of, back_of, is_macro_name}
+use Rattle.ioc_dblex.specs.Macros.{Defined, front_of, back_of, is_macro_name}
 use Rattle.ioc_main.specs.declared.arguments.Arguments.{Arguments}
 use Rattle.ioc_main.specs.declared.fault.RunFault.{RunFault}
 use Rattle.ioc_main.specs.declared.fault.RunFault.TheVariants.{Usage, Help, Version, Memory}

@@ -1,6 +1,6 @@
 -- What is still to be printed while a script is read.
 use Rattle.std.specs.Prelude.{◌≡◌, ℕ, List, [], ◌∷◌, ◌++◌, ⊤, Option, Some, None}
-use Rattle.ioc_script.specs.Script.{lines_of, cut}
+use Rattle.ioc_main.specs.Script.{lines_of, cut}
 use Rattle.ioc_main.specs.Written.{Writes}
 
 -- The lines of the beginning of a line followed by other lines.

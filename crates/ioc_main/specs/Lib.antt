@@ -1,9 +1,12 @@
+pub mod Arguments
 pub mod Coming
-pub mod Written
+pub mod Faults
 pub mod Relink
-pub mod Sets
 pub mod Replay
 pub mod ReplayLaws
-pub mod Faults
-pub mod Arguments
+pub mod Replies
+pub mod Script
+pub mod Seen
+pub mod Sets
 pub mod Transcript
+pub mod Written

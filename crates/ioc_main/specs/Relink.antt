@@ -16,8 +16,8 @@ use Rattle.ioc_record.specs.RecordRules.{RecordRules}
 use Rattle.ioc_record.specs.Values.{stops_put}
 use Rattle.ioc_store.specs.World.{at, common_at}
 use Rattle.ioc_events.specs.declared.event.Event.TheVariants.{Link as Link-event}
-use Rattle.ioc_machine.specs.Machine.{Machine, Told, done, refused}
-use Rattle.ioc_machine.specs.Leads.{field_of_link}
+use Rattle.ioc_sim.specs.Machine.{Machine, Told, done, refused}
+use Rattle.ioc_sim.specs.Leads.{field_of_link}
 
 module _ {R : Type 0} (k : RecordRules R) (names : NameTable) where
   -- The field gets this link, if the text is a valid one.

@@ -17,13 +17,13 @@ use Rattle.ioc_record.specs.RecordRules.{RecordRules}
 use Rattle.ioc_store.specs.World.{World, at}
 use Rattle.ioc_events.specs.declared.event.Event.TheVariants.{Get as Get-event, Process as Process-event, Put as Put-event, Complete as Complete-event}
 use Rattle.ioc_events.specs.Step.{stepped}
-use Rattle.ioc_script.specs.Script.{Command, Silent, Bad, Process, Put, Get, At, Next-done, Next-fault, Next-later, Done, Fault, Event, Interrupt, Scan, Link, Tally as Tally-command, command_of, is_silent, Notify, Cancel, Sets}
-use Rattle.ioc_script.specs.Replies.{reply_words, count_words, tally_words}
+use Rattle.ioc_main.specs.Script.{Command, Silent, Bad, Process, Put, Get, At, Next-done, Next-fault, Next-later, Done, Fault, Event, Interrupt, Scan, Link, Tally as Tally-command, command_of, is_silent, Notify, Cancel, Sets}
+use Rattle.ioc_main.specs.Replies.{reply_words, count_words, tally_words}
 use Rattle.ioc_scan.specs.declared.list_name.ListName.TheVariants.{Period as Period-list}
 use Rattle.ioc_main.specs.Sets.{sets_line}
-use Rattle.ioc_machine.specs.Scanner.{event_list, interrupt_list}
+use Rattle.ioc_sim.specs.Scanner.{event_list, interrupt_list}
 use Rattle.ioc_main.specs.Relink.{were_linked}
-use Rattle.ioc_machine.specs.Machine.{Machine, Told, Counted, answers_from, refused, queued_at, queued_on, at_moment, most_served, done, scanned, serve, with_none_ended, notified, given_up}
+use Rattle.ioc_sim.specs.Machine.{Machine, Told, Counted, answers_from, refused, queued_at, queued_on, at_moment, most_served, done, scanned, serve, with_none_ended, notified, given_up}
 
 -- A line for each put with notification that has ended.
 abbrev pub ended_lines : List ℕ → List ℕ

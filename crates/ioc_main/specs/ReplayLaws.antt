@@ -2,10 +2,10 @@
 use Rattle.std.proofs.Common.{◌≡◌, ℕ, List, [], ◌∷◌, ◌++◌, length, take, refl, sym, ap, ◌∙◌, inl, inr, arith}
 use Rattle.std.proofs.lemmas.Bool.{cases_lt, lt-ltb}
 use Rattle.std.proofs.lemmas.List.{length-take, take_all}
-use Rattle.ioc_types.specs.Record.{record_rules}
+use Rattle.rec_types.specs.Record.{record_rules}
 use Rattle.ioc_main.specs.declared.replay.Replay.{Replay}
-use Rattle.ioc_machine.specs.SeenMachine.{machine_of}
-use Rattle.ioc_script.specs.Script.{Command, cut, command_of}
+use Rattle.ioc_sim.specs.SeenMachine.{machine_of}
+use Rattle.ioc_main.specs.Script.{Command, cut, command_of}
 use Rattle.ioc_main.specs.Replay.{transcript, answered}
 
 -- What is printed for these lines.

@@ -5,7 +5,7 @@ use Rattle.ioc_graph.specs.Parts.{all_below}
 use Rattle.ioc_graph.specs.Members.{members_from}
 use Rattle.ioc_record.specs.RecordRules.{RecordRules}
 use Rattle.ioc_store.specs.World.{World, common_at}
-use Rattle.ioc_machine.specs.Sets.{parts_of}
+use Rattle.ioc_sim.specs.Sets.{parts_of}
 
 module _ {R : Type 0} (k : RecordRules R) (w : World R) where
   -- The name of a record.

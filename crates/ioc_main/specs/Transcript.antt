@@ -1,16 +1,16 @@
 -- What a run prints for a database text and a script.
 use Rattle.std.specs.Prelude.{◌≡◌, ℕ, List, [], Option, IfSome, Result, Ok, Err}
 use Rattle.std.specs.Io.KnownBytes.{Keeps}
-use Rattle.ioc_types.specs.Record.{record_rules, new_record}
-use Rattle.ioc_types.specs.Record.{Record}
+use Rattle.rec_types.specs.Record.{record_rules, new_record}
+use Rattle.rec_types.specs.Record.{Record}
 use Rattle.ioc_values.specs.declared.error.DbFault.{DbFault}
-use Rattle.ioc_dbtext.specs.Macros.{Defined}
+use Rattle.ioc_dblex.specs.Macros.{Defined}
 use Rattle.ioc_dbfile.specs.Loader.{Loading}
 use Rattle.ioc_dbfile.specs.Finished.{loaded_by}
 use Rattle.ioc_main.specs.declared.fault.RunFault.{RunFault}
 use Rattle.ioc_main.specs.declared.fault.RunFault.TheVariants.{BadDb, Read, Write, Memory}
-use Rattle.ioc_script.specs.Script.{lines_of}
-use Rattle.ioc_machine.specs.Machine.{first_machine}
+use Rattle.ioc_main.specs.Script.{lines_of}
+use Rattle.ioc_sim.specs.Machine.{first_machine}
 use Rattle.ioc_main.specs.Replay.{transcript}
 use Rattle.ioc_main.specs.Written.{WritesFront, WritesPart}
 

@@ -1,18 +1,18 @@
 //! Answers the lines of a script.
 ghost use Rattle.std.specs.Prelude.{◌≡◌, ◌≤◌, ◌+◌, ◌++◌, [], codes, length, IfOk, OnOk, OnErr};
-ghost use Rattle.ioc_types.specs.Record.{record_rules};
-ghost use Rattle.ioc_machine.specs.Machine.{with_none_ended};
-ghost use Rattle.ioc_machine.specs.SeenMachine.{machine_of};
+ghost use Rattle.rec_types.specs.Record.{record_rules};
+ghost use Rattle.ioc_sim.specs.Machine.{with_none_ended};
+ghost use Rattle.ioc_sim.specs.SeenMachine.{machine_of};
 ghost use Rattle.ioc_main.specs.Replay.{carried_out, answered, attended, ended_lines};
-ghost use Rattle.ioc_script.specs.Script.{command_of, is_silent, put_of, before, behind};
-ghost use Rattle.ioc_script.specs.Seen.{seen};
-ghost use Rattle.ioc_script.specs.declared.command.Command.TheVariants.{Sets};
+ghost use Rattle.ioc_main.specs.Script.{command_of, is_silent, put_of, before, behind};
+ghost use Rattle.ioc_main.specs.Seen.{seen};
+ghost use Rattle.ioc_main.specs.declared.command.Command.TheVariants.{Sets};
 ghost use Rattle.ioc_main.specs.Coming.{Stands};
 
 use crate::replay::Replay;
 use crate::session::{Replies, Said, Session};
 use ioc_device::Answer;
-use ioc_script::{Command, ended_line, split_before, words_of_put};
+use crate::{Command, ended_line, split_before, words_of_put};
 use ioc_values::Finished;
 use std::alloc::AllocError;
 

@@ -5,7 +5,7 @@ ghost use Rattle.ioc_main.specs.Arguments.{asked, macro_of, macros_of, file_of, 
 
 use crate::fault::{RunFault, is_out_of_memory};
 use ioc_dbfile::Macros;
-use ioc_dbtext::split_at_byte;
+use ioc_dblex::split_at_byte;
 use ioc_values::IocError;
 use std::alloc::Global;
 use std::env::Args;

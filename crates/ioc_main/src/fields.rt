@@ -1,16 +1,16 @@
 //! The fields that lines of a script name.
 ghost use Rattle.std.specs.Prelude.{◌≡◌, IsSome, IfOk, OnOk};
-ghost use Rattle.ioc_types.specs.Record.{record_rules};
+ghost use Rattle.rec_types.specs.Record.{record_rules};
 ghost use Rattle.ioc_fields.specs.Table.{row_of, kind_of};
 ghost use Rattle.ioc_store.specs.World.{Has, at};
-ghost use Rattle.ioc_machine.specs.SeenMachine.{machine_of};
+ghost use Rattle.ioc_sim.specs.SeenMachine.{machine_of};
 ghost use Rattle.ioc_main.specs.Replay.{channel};
 ghost use Rattle.ioc_main.specs.Relink.{linked_in};
 
 use ioc_events::Reply;
 use ioc_fields::{FieldKind, FieldNo, field, kind_of};
 use ioc_links::parse;
-use ioc_machine::Machine;
+use ioc_sim::Machine;
 use ioc_names::{Names, RecordNo};
 use ioc_record::{RecordKind, stops_put};
 use ioc_store::Store;

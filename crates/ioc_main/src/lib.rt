@@ -1,22 +1,32 @@
+//! The language of scripts: the command of each line, and the lines of replies.
+//!
 //! Runs of a database text and a script of requests, which are answered line by line.
 #![tactic(auto)]
 
 mod answering;
 mod arguments;
+mod command;
+mod counts;
 mod ending;
 mod fault;
 mod fields;
 mod lines;
+mod parts;
 mod replay;
+mod reply_line;
 mod runs;
 mod session;
 mod sets;
 mod writing;
 
 pub use arguments::Arguments;
+pub use command::{Command, words_of_put};
+pub use counts::{count_line, ended_line, notify_line, tally_line};
 pub use ending::{Ending, Stream, whole_run};
 pub use fault::{LineFault, RunFault, ScriptFault, WriteFault};
 pub use lines::run_script;
+pub use parts::{cut_at, split_before};
 pub use replay::Replay;
+pub use reply_line::{LineReply, say_effect, say_refusal, say_reply};
 pub use runs::run;
 pub use session::{Said, Session};

@@ -1,14 +1,14 @@
 //! Reads the lines of a script from any reader, and answers each as it ends.
 ghost use Rattle.std.specs.Prelude.{◌≡◌, ◌≤◌, ◌+◌, ◌∷◌, ◌++◌, [], List, ℕ, length, OnOk, OnErr, IfSome, IfErr};
 ghost use Rattle.std.specs.Io.KnownBytes.{Appends};
-ghost use Rattle.ioc_script.specs.Script.{lines_of, cut};
+ghost use Rattle.ioc_main.specs.Script.{lines_of, cut};
 ghost use Rattle.ioc_main.specs.Coming.{still, to_come};
 ghost use Rattle.ioc_main.specs.Written.{Writes, WritesPart, StopsLine, StopsScript};
 
 use crate::fault::{LineFault, ScriptFault, WriteFault};
 use crate::session::{Said, Session};
 use crate::writing::write_text;
-use ioc_script::cut_at;
+use crate::cut_at;
 use ioc_values::Room;
 use std::alloc::Global;
 use std::io::{Read, Write};

@@ -1,16 +1,16 @@
 //! A loaded database and the operations of scripts on it.
 ghost use Rattle.std.specs.Prelude.{◌≡◌, ◌≤◌, ◌+◌, ◌∷◌, ◌++◌, [], length, take, codes, IfOk, OnOk, OnErr};
 ghost use Rattle.ioc_names.specs.NameTable.{number_of};
-ghost use Rattle.ioc_types.specs.Record.{record_rules};
+ghost use Rattle.rec_types.specs.Record.{record_rules};
 ghost use Rattle.ioc_record.specs.Values.{text_of};
 ghost use Rattle.ioc_process.specs.Rules.{IsSettled};
 ghost use Rattle.ioc_dbfile.specs.FirstWorld.{first_world};
-ghost use Rattle.ioc_machine.specs.Machine.{first_machine, queued_on, at_moment, given_up, scanned};
-ghost use Rattle.ioc_machine.specs.Scanner.{event_list, interrupt_list};
+ghost use Rattle.ioc_sim.specs.Machine.{first_machine, queued_on, at_moment, given_up, scanned};
+ghost use Rattle.ioc_sim.specs.Scanner.{event_list, interrupt_list};
 ghost use Rattle.ioc_scan.specs.declared.list_name.ListName.TheVariants.{Period as Period-list};
-ghost use Rattle.ioc_machine.specs.SeenMachine.{machine_of};
+ghost use Rattle.ioc_sim.specs.SeenMachine.{machine_of};
 ghost use Rattle.ioc_main.specs.Replay.{channel, processed, got, were_put, answers_next, were_completed, given_value, were_notified};
-ghost use Rattle.ioc_script.specs.Replies.{reply_words, tally_words, count_words};
+ghost use Rattle.ioc_main.specs.Replies.{reply_words, tally_words, count_words};
 ghost use Rattle.ioc_main.specs.Relink.{were_linked};
 ghost use Rattle.ioc_main.specs.Sets.{sets_line};
 
@@ -19,14 +19,14 @@ use crate::session::Replies;
 use crate::sets::say_sets;
 use ioc_device::Answer;
 use ioc_fields::FieldNo;
-use ioc_machine::{Machine, event_list, interrupt_list};
+use ioc_sim::{Machine, event_list, interrupt_list};
 use ioc_names::Names;
 use ioc_notify::NotifyId;
 use ioc_record::add_text;
 use ioc_scan::{ListName, Period};
-use ioc_script::{count_line, say_effect, say_refusal, say_reply, tally_line};
+use crate::{count_line, say_effect, say_refusal, say_reply, tally_line};
 use ioc_store::Store;
-use ioc_types::Record;
+use rec_types::Record;
 use ioc_values::{Finished, Input, IocError, Text, Value};
 use std::alloc::{AllocError, Global};
 

@@ -1,18 +1,18 @@
 //! The reply to the line `sets`.
 ghost use Rattle.std.specs.Prelude.{◌≡◌, ◌<◌, ◌+◌, ◌-◌, ◌++◌, ◌∷◌, [], codes, length, slice_index, OnOk};
-ghost use Rattle.ioc_types.specs.Record.{record_rules};
+ghost use Rattle.rec_types.specs.Record.{record_rules};
 ghost use Rattle.ioc_store.specs.OneMap.{world_of};
 ghost use Rattle.ioc_graph.specs.Parts.{all_below};
 ghost use Rattle.ioc_graph.specs.Members.{AreFirsts, AreFollowers};
-ghost use Rattle.ioc_machine.specs.SeenMachine.{machine_of};
+ghost use Rattle.ioc_sim.specs.SeenMachine.{machine_of};
 ghost use Rattle.ioc_main.specs.Sets.{name_at, part_words, first_words, parts_words, sets_line};
 
 use ioc_graph::followers;
-use ioc_machine::{Machine, Scripted};
+use ioc_sim::{Machine, Scripted};
 use ioc_names::RecordNo;
 use ioc_record::RecordKind;
 use ioc_store::{OneMap, Store};
-use ioc_types::Record;
+use rec_types::Record;
 use std::alloc::{AllocError, Global};
 
 // Appends a text and the name of a record.

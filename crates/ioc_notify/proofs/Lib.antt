@@ -1,2 +1,5 @@
 mod Lists
 mod Numbers
+mod Short
+mod Tables
+mod Telling

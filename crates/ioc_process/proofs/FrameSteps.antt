@@ -8,16 +8,16 @@ use Rattle.ioc_ledger.specs.declared.tally.Tally.{Tally}
 use Rattle.ioc_ledger.specs.declared.outcome.Outcome.{Outcome}
 use Rattle.ioc_ledger.specs.declared.outcome.Outcome.TheVariants.{Processed, Disabled, Reprocess}
 use Rattle.ioc_ledger.specs.Requests.{Requests, None, Request, followed_by, counted, counted_one}
-use Rattle.ioc_common.specs.declared.common.Common.{Common}
-use Rattle.ioc_common.specs.declared.link_field.LinkUse.{LinkUse}
-use Rattle.ioc_common.specs.declared.link_field.LinkUse.TheVariants.{Unused, OwnDevice, Absent, Standing}
-use Rattle.ioc_common.specs.declared.link_field.StandingLink.{StandingLink}
-use Rattle.ioc_common.specs.declared.body.Got.{Got}
-use Rattle.ioc_common.specs.declared.body.Want.{Want}
-use Rattle.ioc_common.specs.declared.body.Output.{Output}
-use Rattle.ioc_common.specs.Links.{record_named, use_of}
-use Rattle.ioc_common.specs.Wants.{is_unused}
-use Rattle.ioc_common.specs.Steps.{with_active, shown, unblocked, is_passive, disabled, disable_kind}
+use Rattle.ioc_dbcommon.specs.declared.common.Common.{Common}
+use Rattle.ioc_dbcommon.specs.declared.link_field.LinkUse.{LinkUse}
+use Rattle.ioc_dbcommon.specs.declared.link_field.LinkUse.TheVariants.{Unused, OwnDevice, Absent, Standing}
+use Rattle.ioc_dbcommon.specs.declared.link_field.StandingLink.{StandingLink}
+use Rattle.ioc_dbcommon.specs.declared.body.Got.{Got}
+use Rattle.ioc_dbcommon.specs.declared.body.Want.{Want}
+use Rattle.ioc_dbcommon.specs.declared.body.Output.{Output}
+use Rattle.ioc_dbcommon.specs.Links.{record_named, use_of}
+use Rattle.ioc_dbcommon.specs.Wants.{is_unused}
+use Rattle.ioc_dbcommon.specs.Steps.{with_active, shown, unblocked, is_passive, disabled, disable_kind}
 use Rattle.ioc_record.specs.Values.{read_as}
 use Rattle.ioc_record.specs.RecordRules.{RecordRules}
 use Rattle.ioc_record.specs.Laws.{IsLawful}
@@ -27,8 +27,8 @@ use Rattle.ioc_process.specs.Frames.{Ended, Calls}
 use Rattle.ioc_store.specs.World.{World, Has, at, common_at, put, changed, sent, idle, Stays, Keeps, IsClosed}
 use Rattle.ioc_store.specs.Marks.{is_put_down, put_down, put_mark_passed, at_rest, is_disabled, resumed}
 use Rattle.ioc_store.specs.declared.outbox.OutboxItem.TheVariants.{Once}
-use Rattle.ioc_common.specs.declared.body.InputKind.{InputKind}
-use Rattle.ioc_common.specs.declared.body.Got.TheVariants.{Fault as Got-fault}
+use Rattle.ioc_dbcommon.specs.declared.body.InputKind.{InputKind}
+use Rattle.ioc_dbcommon.specs.declared.body.Got.TheVariants.{Fault as Got-fault}
 use Rattle.ioc_process.specs.Processing.{Done, Came, Reading, PutOut, request, completed, completed_if, finished, finished_if, after_output, put_out, followed, followed_each, caused, value_came, body, input, read_record, prepared, Ran, Read, as_request, as_input, ran_after, processed, asked, judged, begun_idle, ran, read_link, faulted, read_at}
 use Rattle.ioc_store.specs.Rests.{rested, disable_came}
 use Rattle.ioc_store.specs.Links.{is_chosen, chosen_links, link_at, requests_first, passive_named}

@@ -1,7 +1,7 @@
 -- What a requested record takes over from the one that requests it.
 use Rattle.std.proofs.Common.{◌≡◌, ap, ◌∙◌, sym, arith, refl, ℕ, Bool, true, false, ◌≤◌, Some}
-use Rattle.ioc_common.specs.declared.common.Common.{Common}
-use Rattle.ioc_common.specs.Steps.{with_put_mark, with_notification}
+use Rattle.ioc_dbcommon.specs.declared.common.Common.{Common}
+use Rattle.ioc_dbcommon.specs.Steps.{with_put_mark, with_notification}
 use Rattle.ioc_store.specs.Marks.{is_put_down, put_mark_passed}
 use Rattle.ioc_store.specs.World.{common_at, changed, taken_on, at, World, Has, Keeps, idle}
 use Rattle.ioc_store.specs.Given.{Answers}

@@ -1,8 +1,9 @@
+mod FrameLoop
 mod FrameSteps
+mod FrameTurns
+mod FrameWork
 mod Handing
 mod Needs
-mod Writing
-mod FrameTurns
+pub mod OneLook
 mod Turning
-mod FrameWork
-mod FrameLoop
+mod Writing

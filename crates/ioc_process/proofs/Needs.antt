@@ -2,16 +2,16 @@
 -- them.
 use Rattle.std.proofs.Common.{◌≡◌, ℕ, true, false, Some, refl, ap, subst, ◌∙◌}
 use Rattle.ioc_ledger.specs.Requests.{None}
-use Rattle.ioc_common.specs.declared.link_field.LinkUse.{LinkUse}
-use Rattle.ioc_common.specs.declared.link_field.LinkUse.TheVariants.{Unused, OwnDevice, Absent, Standing}
-use Rattle.ioc_common.specs.declared.body.Want.{Want}
-use Rattle.ioc_common.specs.declared.body.Want.TheVariants.{NoInput, ReadLink, ReadDevice}
-use Rattle.ioc_common.specs.declared.body.Need.TheVariants as need
-use Rattle.ioc_common.specs.declared.body.Got.{Got}
-use Rattle.ioc_common.specs.declared.body.Got.TheVariants as got
-use Rattle.ioc_common.specs.declared.body.Output.TheVariants.{NoOutput}
-use Rattle.ioc_common.specs.Links.{record_named}
-use Rattle.ioc_common.specs.Wants.{need_of, link_wanted, puts_out, puts_none}
+use Rattle.ioc_dbcommon.specs.declared.link_field.LinkUse.{LinkUse}
+use Rattle.ioc_dbcommon.specs.declared.link_field.LinkUse.TheVariants.{Unused, OwnDevice, Absent, Standing}
+use Rattle.ioc_dbcommon.specs.declared.body.Want.{Want}
+use Rattle.ioc_dbcommon.specs.declared.body.Want.TheVariants.{NoInput, ReadLink, ReadDevice}
+use Rattle.ioc_dbcommon.specs.declared.body.Need.TheVariants as need
+use Rattle.ioc_dbcommon.specs.declared.body.Got.{Got}
+use Rattle.ioc_dbcommon.specs.declared.body.Got.TheVariants as got
+use Rattle.ioc_dbcommon.specs.declared.body.Output.TheVariants.{NoOutput}
+use Rattle.ioc_dbcommon.specs.Links.{record_named}
+use Rattle.ioc_dbcommon.specs.Wants.{need_of, link_wanted, puts_out, puts_none}
 use Rattle.ioc_record.specs.RecordRules.{RecordRules}
 use Rattle.ioc_record.specs.Laws.{IsLawful}
 use Rattle.ioc_store.specs.World.{World, Has, at, put}

@@ -3,7 +3,7 @@ use Rattle.std.proofs.Common.{◌≡◌, ℕ, ◌+◌, ◌≤◌, Bool, true, fa
 use Rattle.ioc_menus.specs.declared.severity.Severity.TheVariants.{Invalid}
 use Rattle.ioc_menus.specs.declared.status.Status.TheVariants.{Link as LinkAlarm}
 use Rattle.ioc_process.specs.Processing.{faulted}
-use Rattle.ioc_common.specs.Steps.{with_active, raised}
+use Rattle.ioc_dbcommon.specs.Steps.{with_active, raised}
 use Rattle.ioc_record.specs.RecordRules.{RecordRules}
 use Rattle.ioc_record.specs.Laws.{IsLawful}
 use Rattle.ioc_store.specs.declared.frames.Frame.{Frame}

@@ -1,7 +1,7 @@
 -- What follows a write, given its result.
 use Rattle.std.proofs.Common.{◌≡◌, ℕ, Bool, true, false, cond, refl}
 use Rattle.ioc_ledger.specs.Requests.{None}
-use Rattle.ioc_common.specs.declared.link_field.StandingLink.{StandingLink}
+use Rattle.ioc_dbcommon.specs.declared.link_field.StandingLink.{StandingLink}
 use Rattle.ioc_record.specs.RecordRules.{RecordRules}
 use Rattle.ioc_process.specs.declared.outputs.Written.{Written as Written-result}
 use Rattle.ioc_process.specs.declared.outputs.Written.TheVariants.{InVain, Alone, AndRequests}

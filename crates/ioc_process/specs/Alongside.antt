@@ -1,15 +1,15 @@
 -- Two worlds in which the same requests are made: a relation between them is kept.
 use Rattle.std.proofs.Common.{◌≡◌, ℕ, zero, suc, ◌+◌, Bool, true, false, cond, eqb, List, [], ◌∷◌, length, Option, Some, None as Nothing_, refl, ap, subst, ◌∙◌, arith}
 use Rattle.std.specs.Prelude.{Result, Ok, Err, Contains, nat_lt, ◌&&◌, ◌||◌, ◌-◌, ◌^◌, nat_eq}
-use Rattle.ioc_common.specs.declared.common.Common.{Common}
-use Rattle.ioc_common.specs.declared.link_field.LinkUse.{LinkUse}
-use Rattle.ioc_common.specs.declared.link_field.LinkUse.TheVariants.{Unused, OwnDevice, Absent, Standing}
-use Rattle.ioc_common.specs.declared.link_field.StandingLink.{StandingLink}
-use Rattle.ioc_common.specs.declared.body.Got.{Got}
-use Rattle.ioc_common.specs.declared.body.Want.{Want}
-use Rattle.ioc_common.specs.declared.body.Want.TheVariants.{NoInput, ReadLink, ReadDevice}
-use Rattle.ioc_common.specs.declared.body.Output.{Output}
-use Rattle.ioc_common.specs.declared.body.Output.TheVariants.{NoOutput, WriteLink, WriteDevice, FollowLinks, PostEvent}
+use Rattle.ioc_dbcommon.specs.declared.common.Common.{Common}
+use Rattle.ioc_dbcommon.specs.declared.link_field.LinkUse.{LinkUse}
+use Rattle.ioc_dbcommon.specs.declared.link_field.LinkUse.TheVariants.{Unused, OwnDevice, Absent, Standing}
+use Rattle.ioc_dbcommon.specs.declared.link_field.StandingLink.{StandingLink}
+use Rattle.ioc_dbcommon.specs.declared.body.Got.{Got}
+use Rattle.ioc_dbcommon.specs.declared.body.Want.{Want}
+use Rattle.ioc_dbcommon.specs.declared.body.Want.TheVariants.{NoInput, ReadLink, ReadDevice}
+use Rattle.ioc_dbcommon.specs.declared.body.Output.{Output}
+use Rattle.ioc_dbcommon.specs.declared.body.Output.TheVariants.{NoOutput, WriteLink, WriteDevice, FollowLinks, PostEvent}
 use Rattle.ioc_fields.specs.declared.field_no.FieldNo.{FieldNo}
 use Rattle.ioc_fields.specs.declared.field_no.FieldNo.TheVariants.{Own}
 use Rattle.ioc_fields.specs.declared.field_no.OwnField.TheVariants.{Lnk}
@@ -22,9 +22,9 @@ use Rattle.ioc_ledger.specs.declared.outcome.Outcome.{Outcome}
 use Rattle.ioc_ledger.specs.declared.outcome.Outcome.TheVariants.{Disabled, Reprocess}
 use Rattle.ioc_values.specs.declared.value.Value.{Value}
 use Rattle.ioc_values.specs.declared.error.IocError.{IocError}
-use Rattle.ioc_common.specs.Links.{use_of}
+use Rattle.ioc_dbcommon.specs.Links.{use_of}
 use Rattle.ioc_record.specs.Values.{read_as, converted_to, put_untested, converted_for}
-use Rattle.ioc_common.specs.Steps.{inherited, blocked, unblocked, with_active, shown, is_passive, with_put_mark, with_reprocess_mark, disabled, disable_kind, change_numbered, with_notification}
+use Rattle.ioc_dbcommon.specs.Steps.{inherited, blocked, unblocked, with_active, shown, is_passive, with_put_mark, with_reprocess_mark, disabled, disable_kind, change_numbered, with_notification}
 use Rattle.ioc_record.specs.RecordRules.{RecordRules, targets}
 use Rattle.ioc_record.specs.Laws.{IsLawful}
 use Rattle.ioc_store.specs.declared.outbox.OutboxItem.{OutboxItem}
@@ -35,8 +35,8 @@ use Rattle.ioc_store.specs.declared.call.Call.{Call}
 use Rattle.ioc_device.specs.declared.Ask.{Ask}
 use Rattle.ioc_device.specs.declared.Ask.TheVariants.{Read as Read-ask, Write as Write-ask}
 use Rattle.ioc_values.specs.declared.value.Finished.{Finished}
-use Rattle.ioc_common.specs.declared.body.InputKind.{InputKind}
-use Rattle.ioc_common.specs.declared.body.Got.TheVariants.{Nothing as Got-nothing, Value as Got-value, Fault as Got-fault}
+use Rattle.ioc_dbcommon.specs.declared.body.InputKind.{InputKind}
+use Rattle.ioc_dbcommon.specs.declared.body.Got.TheVariants.{Nothing as Got-nothing, Value as Got-value, Fault as Got-fault}
 use Rattle.ioc_store.specs.Links.{link_at, use_of_field, chosen_links, is_proc, requests_first, requests_after, handed_on}
 use Rattle.ioc_ledger.specs.Requests.{Requests, None, Request, followed_by}
 use Rattle.ioc_process.specs.Processing.{Done, Ran, Read, Came, Reading, Written, PutOut, as_request, ran_after, processed, asked, next_call, judged, begun_idle, ran, went_on_at_last, caused, followed, inherits, value_came, stored_at, wrote, after_writing, write_link, followed_each, finished, finished_if, after_output, acknowledged, write_device, put_out, prepared, read_record, faulted, read_link, completed, completed_if, device_gave, received, read_device, can_ask, input, body, turned_away, requested, nested, request, read_at}

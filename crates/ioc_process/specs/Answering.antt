@@ -6,7 +6,7 @@ use Rattle.ioc_values.specs.declared.error.IocError.{IocError}
 use Rattle.std.proofs.lemmas.Grind.{common_steps}
 use Rattle.ioc_device.specs.declared.Answer.{Answer}
 use Rattle.ioc_device.specs.declared.Answer.TheVariants.{Done, Later, Fault as Fault-answer}
-use Rattle.ioc_common.specs.declared.body.Got.{Got}
+use Rattle.ioc_dbcommon.specs.declared.body.Got.{Got}
 use Rattle.ioc_record.specs.RecordRules.{RecordRules}
 use Rattle.ioc_store.specs.World.{World, at, common_at, Stays, called}
 use Rattle.ioc_store.specs.declared.call.Call.{Call}

@@ -1,18 +1,18 @@
 -- The cases of a request and of a body, in the order of the code.
 use Rattle.std.proofs.Common.{◌≡◌, ℕ, true, false, refl, ap, ◌∙◌}
 use Rattle.ioc_ledger.specs.declared.tally.Tally.{Tally}
-use Rattle.ioc_common.specs.declared.body.Got.{Got}
-use Rattle.ioc_common.specs.declared.body.Want.TheVariants.{ReadLink}
+use Rattle.ioc_dbcommon.specs.declared.body.Got.{Got}
+use Rattle.ioc_dbcommon.specs.declared.body.Want.TheVariants.{ReadLink}
 use Rattle.ioc_fields.specs.declared.field_no.FieldNo.TheVariants.{Own}
 use Rattle.ioc_fields.specs.declared.field_no.OwnField.TheVariants.{Lnk}
 use Rattle.ioc_fields.specs.declared.field_no.Slot.{Slot}
 use Rattle.ioc_values.specs.declared.value.Value.{Value}
 use Rattle.ioc_values.specs.declared.value.Finished.{Finished}
-use Rattle.ioc_common.specs.declared.body.Output.TheVariants.{WriteLink}
-use Rattle.ioc_common.specs.declared.link_field.StandingLink.{StandingLink}
-use Rattle.ioc_common.specs.declared.link_field.LinkUse.TheVariants.{Standing}
-use Rattle.ioc_common.specs.declared.link_field.LinkUse.{LinkUse}
-use Rattle.ioc_common.specs.Links.{use_of}
+use Rattle.ioc_dbcommon.specs.declared.body.Output.TheVariants.{WriteLink}
+use Rattle.ioc_dbcommon.specs.declared.link_field.StandingLink.{StandingLink}
+use Rattle.ioc_dbcommon.specs.declared.link_field.LinkUse.TheVariants.{Standing}
+use Rattle.ioc_dbcommon.specs.declared.link_field.LinkUse.{LinkUse}
+use Rattle.ioc_dbcommon.specs.Links.{use_of}
 use Rattle.ioc_record.specs.RecordRules.{RecordRules}
 use Rattle.ioc_record.specs.Laws.{IsLawful}
 use Rattle.ioc_store.specs.World.{World, Has, at, common_at, IsClosed}

@@ -9,7 +9,7 @@ use Rattle.ioc_ledger.specs.declared.outcome.Outcome.TheVariants.{Active, Reproc
 use Rattle.ioc_ledger.specs.Requests.{None, followed_by, counted}
 use Rattle.ioc_fields.specs.Names.{all_slots}
 use Rattle.ioc_fields.specs.declared.field_no.Slot.{Slot}
-use Rattle.ioc_common.specs.Steps.{with_active, disable_kind}
+use Rattle.ioc_dbcommon.specs.Steps.{with_active, disable_kind}
 use Rattle.ioc_record.specs.RecordRules.{RecordRules}
 use Rattle.ioc_store.specs.declared.frames.Place.{Place}
 use Rattle.ioc_store.specs.declared.frames.Place.TheVariants.{ReadingDisable, Reading as Reading-place, Writing, FollowingEach, Following}

@@ -8,17 +8,17 @@ use Rattle.ioc_fields.specs.declared.field_no.Slot.{Slot}
 use Rattle.ioc_values.specs.declared.value.Value.{Value}
 use Rattle.ioc_values.specs.declared.input.Input.TheVariants.{Value as InputValue}
 use Rattle.ioc_record.specs.Values.{put_untested, converted_for}
-use Rattle.ioc_common.specs.declared.body.Output.{Output}
+use Rattle.ioc_dbcommon.specs.declared.body.Output.{Output}
 use Rattle.ioc_store.specs.declared.outbox.OutboxItem.{OutboxItem}
 use Rattle.ioc_store.specs.declared.outbox.OutboxItem.TheVariants.{Once, Post}
 use Rattle.ioc_store.specs.Links.{handed_on}
-use Rattle.ioc_common.specs.declared.common.Common.{Common}
-use Rattle.ioc_common.specs.declared.link_field.LinkUse.{LinkUse}
-use Rattle.ioc_common.specs.declared.link_field.StandingLink.{StandingLink}
-use Rattle.ioc_common.specs.declared.body.Got.{Got}
-use Rattle.ioc_common.specs.declared.body.Want.{Want}
-use Rattle.ioc_common.specs.Steps.{blocked, unblocked, with_active, shown, waiting, with_put_mark, with_reprocess_mark, disabled, change_numbered, with_notification}
-use Rattle.ioc_common.specs.declared.body.InputKind.{InputKind}
+use Rattle.ioc_dbcommon.specs.declared.common.Common.{Common}
+use Rattle.ioc_dbcommon.specs.declared.link_field.LinkUse.{LinkUse}
+use Rattle.ioc_dbcommon.specs.declared.link_field.StandingLink.{StandingLink}
+use Rattle.ioc_dbcommon.specs.declared.body.Got.{Got}
+use Rattle.ioc_dbcommon.specs.declared.body.Want.{Want}
+use Rattle.ioc_dbcommon.specs.Steps.{blocked, unblocked, with_active, shown, waiting, with_put_mark, with_reprocess_mark, disabled, change_numbered, with_notification}
+use Rattle.ioc_dbcommon.specs.declared.body.InputKind.{InputKind}
 use Rattle.ioc_device.specs.declared.Ask.{Ask}
 use Rattle.ioc_values.specs.declared.value.Finished.{Finished}
 use Rattle.ioc_store.specs.Marks.{put_down, put_mark_passed, resumed, at_rest, with_disable_input}

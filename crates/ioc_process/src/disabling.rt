@@ -1,10 +1,10 @@
 //! SDIS: a request reads it before anything else and doesn't process a record that is disabled.
 ghost use Rattle.std.specs.Prelude.{◌≡◌, ◌<◌, ℕ, List, [], true, false, vec_len};
 ghost use Rattle.std.specs.Vec.{vec_capacity};
-ghost use Rattle.ioc_common.specs.Steps.{disable_kind};
+ghost use Rattle.ioc_dbcommon.specs.Steps.{disable_kind};
 ghost use Rattle.ioc_store.specs.World.{Has, common_at, IsClosed};
 ghost use Rattle.ioc_store.specs.Given.{Answers, Begins};
-ghost use Rattle.ioc_common.specs.Links.{use_of};
+ghost use Rattle.ioc_dbcommon.specs.Links.{use_of};
 ghost use Rattle.ioc_ledger.specs.declared.outcome.Outcome.TheVariants.{Disabled};
 ghost use Rattle.ioc_store.specs.Marks.{is_disabled};
 ghost use Rattle.ioc_store.specs.declared.frames.Next.TheVariants.{Ends};
@@ -15,11 +15,11 @@ ghost use Rattle.ioc_process.specs.Frames.{Ended, after_disable, after_turn, tur
 
 use crate::inputs::{fault_link, read_value};
 use crate::reading::begin_body;
-use ioc_common::{LinkUse, StandingLink, disable_kind};
+use ioc_dbcommon::{LinkUse, StandingLink, disable_kind};
 use ioc_ledger::Outcome;
 use ioc_names::RecordNo;
-use ioc_steps::notifying::tell;
-use ioc_steps::steps::{common, disable, is_disabled, passes_on, set_active, take_disable_input};
+use crate::notifying::tell;
+use crate::steps::{common, disable, is_disabled, passes_on, set_active, take_disable_input};
 use ioc_store::frames::{Frame, Next, Place};
 use ioc_store::store::Store;
 

@@ -5,8 +5,8 @@ ghost use Rattle.std.specs.Vec.{vec_capacity};
 ghost use Rattle.ioc_store.specs.World.{Has, common_at, IsClosed};
 ghost use Rattle.ioc_store.specs.Given.{Answers, Begins};
 ghost use Rattle.ioc_process.specs.Runs.{ForAnswers, IsStanding};
-ghost use Rattle.ioc_common.specs.declared.body.Output.TheVariants.{WriteLink};
-ghost use Rattle.ioc_common.specs.declared.link_field.LinkUse.TheVariants.{Standing};
+ghost use Rattle.ioc_dbcommon.specs.declared.body.Output.TheVariants.{WriteLink};
+ghost use Rattle.ioc_dbcommon.specs.declared.link_field.LinkUse.TheVariants.{Standing};
 ghost use Rattle.ioc_process.specs.Processing.{processed, request, completed, faulted, finished, after_output, put_out, write_link, wrote, after_writing, followed_each};
 ghost use Rattle.ioc_process.specs.Frames.{then_finished, remaining, after_turn, turn_of, Opens, Turns};
 
@@ -14,14 +14,14 @@ use crate::inputs::fault_link;
 use crate::outputs::{
     Written, is_chosen, link_at, passive_record, passive_target, write_device, write_value,
 };
-use ioc_common::{Got, LinkUse, Output, StandingLink};
+use ioc_dbcommon::{Got, LinkUse, Output, StandingLink};
 use ioc_fields::Slot;
 use ioc_ledger::Outcome;
 use ioc_menus::{Severity, Status};
 use ioc_names::RecordNo;
 use ioc_record::RecordKind;
-use ioc_steps::looks::show_on;
-use ioc_steps::steps::{raise, rest, set_active, take};
+use crate::looks::show_on;
+use crate::steps::{raise, rest, set_active, take};
 use ioc_store::frames::{Frame, Next, Place};
 use ioc_store::outbox::OutboxItem;
 use ioc_store::store::Store;

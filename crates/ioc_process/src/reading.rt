@@ -1,7 +1,7 @@
 //! The input of a body: it reads a link or its device, or needs neither.
 ghost use Rattle.std.specs.Prelude.{◌≡◌, ◌<◌, ◌-◌, ℕ, List, [], false, vec_len};
 ghost use Rattle.std.specs.Vec.{vec_capacity};
-ghost use Rattle.ioc_common.specs.Wants.{need_of};
+ghost use Rattle.ioc_dbcommon.specs.Wants.{need_of};
 ghost use Rattle.ioc_store.specs.World.{Has, at, common_at, IsClosed};
 ghost use Rattle.ioc_store.specs.Given.{Begins};
 ghost use Rattle.ioc_process.specs.Runs.{ForAnswers, IsStanding};
@@ -10,11 +10,11 @@ ghost use Rattle.ioc_process.specs.Frames.{after_reading, after_turn, turn_of, O
 
 use crate::finishing::{finish_body, take_fault};
 use crate::inputs::{ask_device, read_value};
-use ioc_common::{Got, LinkUse, Need, StandingLink};
+use ioc_dbcommon::{Got, LinkUse, Need, StandingLink};
 use ioc_ledger::Outcome;
 use ioc_names::RecordNo;
 use ioc_record::RecordKind;
-use ioc_steps::steps::{need, passes_on, set_active, wanted_link};
+use crate::steps::{need, passes_on, set_active, wanted_link};
 use ioc_store::frames::{Frame, Next, Place};
 use ioc_store::store::Store;
 

@@ -14,14 +14,14 @@ use Rattle.ioc_fields.specs.declared.field_no.CommonField.TheVariants.{Name, Des
 use Rattle.ioc_fields.specs.declared.record_type.RecordType.{RecordType}
 use Rattle.ioc_fields.specs.Table.{row_of, common_row, can_put}
 use Rattle.ioc_fields.specs.Defaults.{zero_of, default_of}
-use Rattle.ioc_common.specs.declared.common.Common.{Common}
-use Rattle.ioc_common.specs.declared.link_field.LinkField.{LinkField}
-use Rattle.ioc_common.specs.Condition.{new_condition, condition_get, condition_stored}
-use Rattle.ioc_common.specs.Scanning.{new_scanning, scanning_get, scanning_stored}
-use Rattle.ioc_common.specs.Disabling.{new_disabling, disabling_get, disabling_stored}
-use Rattle.ioc_common.specs.Parts.{severity_back, scan_back, pini_back, priority_back}
-use Rattle.ioc_common.specs.CommonFields.{shown_name, shown_time, common_get, common_stored}
-use Rattle.ioc_common.specs.Steps.{new_common}
+use Rattle.ioc_dbcommon.specs.declared.common.Common.{Common}
+use Rattle.ioc_dbcommon.specs.declared.link_field.LinkField.{LinkField}
+use Rattle.ioc_dbcommon.specs.Condition.{new_condition, condition_get, condition_stored}
+use Rattle.ioc_dbcommon.specs.Scanning.{new_scanning, scanning_get, scanning_stored}
+use Rattle.ioc_dbcommon.specs.Disabling.{new_disabling, disabling_get, disabling_stored}
+use Rattle.ioc_dbcommon.specs.Parts.{severity_back, scan_back, pini_back, priority_back}
+use Rattle.ioc_dbcommon.specs.CommonFields.{shown_name, shown_time, common_get, common_stored}
+use Rattle.ioc_dbcommon.specs.Steps.{new_common}
 use Rattle.ioc_record.specs.RecordRules.{RecordRules}
 use Rattle.ioc_record.specs.Values.{sort_at, field_sort}
 use Rattle.ioc_record.specs.Laws.{PutsAlone}

@@ -6,10 +6,10 @@ use Rattle.ioc_fields.specs.declared.field_no.FieldNo.TheVariants.{Common as Com
 use Rattle.ioc_fields.specs.declared.field_no.OwnField.{OwnField}
 use Rattle.ioc_fields.specs.declared.field_no.OwnField.TheVariants.{Inp, Out, Dol}
 use Rattle.ioc_fields.specs.declared.field_no.CommonField.TheVariants.{Sdis, Flnk}
-use Rattle.ioc_common.specs.declared.link_field.LinkField.{LinkField}
-use Rattle.ioc_common.specs.Links.{no_link}
-use Rattle.ioc_common.specs.Source.{source_link}
-use Rattle.ioc_common.specs.Drive.{drive_link}
+use Rattle.ioc_dbcommon.specs.declared.link_field.LinkField.{LinkField}
+use Rattle.ioc_dbcommon.specs.Links.{no_link}
+use Rattle.ioc_dbcommon.specs.Source.{source_link}
+use Rattle.ioc_dbcommon.specs.Drive.{drive_link}
 use Rattle.ioc_record.specs.Whole.{link_from}
 
 pub same_disable : (d f e g : LinkField) (k l : OwnField → Option LinkField) → link_from d f k ≡ link_from e g l → d ≡ e

@@ -2,7 +2,7 @@
 //! allocating.
 ghost use Rattle.std.specs.Prelude.{◌≡◌, IfOk};
 
-use ioc_common::Common;
+use ioc_dbcommon::Common;
 use std::alloc::{AllocError, Global};
 
 /// Copies the fields.

@@ -3,7 +3,7 @@ ghost use Rattle.std.specs.Prelude.{◌≡◌};
 ghost use Rattle.ioc_values.specs.Conversion.{sort_of};
 ghost use Rattle.ioc_record.specs.Values.{field_sort, input_sort};
 
-use ioc_common::InputKind;
+use ioc_dbcommon::InputKind;
 use ioc_fields::FieldKind;
 use ioc_menus::choices;
 use ioc_values::{Kind, Text};

@@ -2,9 +2,9 @@
 use Rattle.std.proofs.Common.{◌≡◌, List, [], refl, sym, ap, subst, ◌∙◌}
 use Rattle.ioc_ledger.specs.declared.tally.Tally.{Tally}
 use Rattle.ioc_record.specs.RecordRules.{RecordRules}
-use Rattle.ioc_members.specs.Contents.{Records, Contents, AreLike, RecordsAreLikeTheirBase, record_at}
+use Rattle.ioc_set_records.specs.Contents.{Records, Contents, AreLike, RecordsAreLikeTheirBase, record_at}
 use Rattle.ioc_events.specs.declared.event.Entry.{Entry}
-use Rattle.ioc_workplace.specs.Puts.{Puts, no_puts, AreNone, HasBegun, begun_with}
+use Rattle.ioc_set_store.specs.Puts.{Puts, no_puts, AreNone, HasBegun, begun_with}
 use Rattle.ioc_set.specs.Held.{folded}
 use Rattle.ioc_set.specs.Doing.{held_by}
 use Rattle.ioc_set.specs.Linking.{anew}

@@ -8,20 +8,20 @@ use Rattle.std.specs.FinMap.{FinMap, get, get-entries, insert, entries, entries_
 use Rattle.std.specs.FinMap.Entries.{is_sorted, below_all}
 use Rattle.std.proofs.lemmas.Bool.{eqb-true, eq-eqb}
 use Rattle.ioc_fields.specs.declared.field_no.FieldNo.{FieldNo}
-use Rattle.ioc_common.specs.declared.common.Common.{Common}
-use Rattle.ioc_common.specs.declared.link_field.LinkField.{LinkField}
-use Rattle.ioc_common.specs.Steps.{change_numbered}
+use Rattle.ioc_dbcommon.specs.declared.common.Common.{Common}
+use Rattle.ioc_dbcommon.specs.declared.link_field.LinkField.{LinkField}
+use Rattle.ioc_dbcommon.specs.Steps.{change_numbered}
 use Rattle.ioc_record.specs.RecordRules.{RecordRules}
 use Rattle.ioc_record.specs.Laws.{IsLawful}
-use Rattle.ioc_members.specs.Contents.{Records, record_at}
-use Rattle.ioc_members.specs.Joined.{AreShared, relinked}
+use Rattle.ioc_set_records.specs.Contents.{Records, record_at}
+use Rattle.ioc_set_records.specs.Joined.{AreShared, relinked}
 use Rattle.ioc_store.specs.World.{World, Has, at, begun, begun_at, put, changed, lost, total}
 use Rattle.ioc_store.specs.Scanning.{rewired}
 use Rattle.ioc_store.specs.ScanLaws.{rewired-either, moved-either}
 use Rattle.ioc_store.specs.Weights.{first, second, less, weight_of, total-insert}
 use Rattle.ioc_store.specs.Worlds.{sent_by, ones_few}
 use Rattle.ioc_set.specs.Awaiting.{one_if_awaits, awaited}
-use Rattle.ioc_workplace.specs.Resting.{resting}
+use Rattle.ioc_set_store.specs.Resting.{resting}
 use Rattle.ioc_set.specs.Linking.{NoneAwaits}
 use Rattle.ioc_set.proofs.Linked.{has_begun}
 

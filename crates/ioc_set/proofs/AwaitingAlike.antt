@@ -9,11 +9,11 @@ use Rattle.ioc_values.specs.declared.input.Input.TheVariants.{Value as InputValu
 use Rattle.ioc_fields.specs.declared.field_no.FieldNo.{FieldNo}
 use Rattle.ioc_ledger.specs.Requests.{more}
 use Rattle.ioc_notify.specs.declared.waiting_lists.Waiting.{Waiting}
-use Rattle.ioc_common.specs.declared.common.Common.{Common}
-use Rattle.ioc_common.specs.declared.link_field.StandingLink.{StandingLink}
-use Rattle.ioc_common.specs.declared.body.Got.{Got}
-use Rattle.ioc_common.specs.declared.body.InputKind.{InputKind}
-use Rattle.ioc_common.specs.Steps.{with_put_mark, with_notification, change_numbered, disabled}
+use Rattle.ioc_dbcommon.specs.declared.common.Common.{Common}
+use Rattle.ioc_dbcommon.specs.declared.link_field.StandingLink.{StandingLink}
+use Rattle.ioc_dbcommon.specs.declared.body.Got.{Got}
+use Rattle.ioc_dbcommon.specs.declared.body.InputKind.{InputKind}
+use Rattle.ioc_dbcommon.specs.Steps.{with_put_mark, with_notification, change_numbered, disabled}
 use Rattle.ioc_record.specs.RecordRules.{RecordRules}
 use Rattle.ioc_record.specs.Values.{put_untested, converted_for}
 use Rattle.ioc_record.specs.Laws.{IsLawful}

@@ -7,18 +7,18 @@ use Rattle.ioc_fields.specs.declared.field_no.FieldNo.TheVariants.{Own}
 use Rattle.ioc_fields.specs.declared.field_no.OwnField.TheVariants.{Lnk}
 use Rattle.ioc_fields.specs.declared.field_no.Slot.{Slot}
 use Rattle.ioc_ledger.specs.Requests.{Requests}
-use Rattle.ioc_common.specs.declared.common.Common.{Common}
-use Rattle.ioc_common.specs.declared.link_field.LinkUse.{LinkUse}
-use Rattle.ioc_common.specs.declared.link_field.LinkUse.TheVariants.{Standing}
-use Rattle.ioc_common.specs.declared.link_field.StandingLink.{StandingLink}
-use Rattle.ioc_common.specs.declared.body.Got.{Got}
-use Rattle.ioc_common.specs.declared.body.InputKind.{InputKind}
-use Rattle.ioc_common.specs.declared.body.Output.{Output}
-use Rattle.ioc_common.specs.declared.body.Output.TheVariants.{WriteLink}
-use Rattle.ioc_common.specs.declared.body.Want.{Want}
-use Rattle.ioc_common.specs.declared.body.Want.TheVariants.{ReadLink}
-use Rattle.ioc_common.specs.Steps.{blocked, unblocked, with_active, with_reprocess_mark, shown}
-use Rattle.ioc_common.specs.Links.{use_of}
+use Rattle.ioc_dbcommon.specs.declared.common.Common.{Common}
+use Rattle.ioc_dbcommon.specs.declared.link_field.LinkUse.{LinkUse}
+use Rattle.ioc_dbcommon.specs.declared.link_field.LinkUse.TheVariants.{Standing}
+use Rattle.ioc_dbcommon.specs.declared.link_field.StandingLink.{StandingLink}
+use Rattle.ioc_dbcommon.specs.declared.body.Got.{Got}
+use Rattle.ioc_dbcommon.specs.declared.body.InputKind.{InputKind}
+use Rattle.ioc_dbcommon.specs.declared.body.Output.{Output}
+use Rattle.ioc_dbcommon.specs.declared.body.Output.TheVariants.{WriteLink}
+use Rattle.ioc_dbcommon.specs.declared.body.Want.{Want}
+use Rattle.ioc_dbcommon.specs.declared.body.Want.TheVariants.{ReadLink}
+use Rattle.ioc_dbcommon.specs.Steps.{blocked, unblocked, with_active, with_reprocess_mark, shown}
+use Rattle.ioc_dbcommon.specs.Links.{use_of}
 use Rattle.ioc_record.specs.RecordRules.{RecordRules}
 use Rattle.ioc_record.specs.Laws.{IsLawful}
 use Rattle.ioc_store.specs.declared.outbox.OutboxItem.TheVariants.{Post}

@@ -4,10 +4,10 @@ use Rattle.std.specs.Prelude.{slice_get}
 use Rattle.std.specs.FinMap.{len, len-entries, entries, keys}
 use Rattle.std.proofs.lemmas.List.{drop_all}
 use Rattle.ioc_record.specs.RecordRules.{RecordRules}
-use Rattle.ioc_members.specs.Contents.{Records, record_at}
+use Rattle.ioc_set_records.specs.Contents.{Records, record_at}
 use Rattle.ioc_store.specs.World.{total}
 use Rattle.ioc_set.specs.Awaiting.{one_if_awaits}
-use Rattle.ioc_workplace.proofs.Entries.{entry-next}
+use Rattle.ioc_set_store.proofs.Entries.{entry-next}
 
 module _ {R : Type 0} (k : RecordRules R) (m : Records R) where
   -- The number of records from a place on that await a completion.

@@ -8,7 +8,7 @@ use Rattle.ioc_events.specs.declared.event.Event.{Event}
 use Rattle.ioc_events.specs.declared.reply.Reply.{Reply}
 use Rattle.ioc_events.specs.declared.reply.Reply.TheVariants.{Notify as Notify-reply}
 use Rattle.ioc_events.specs.StepRules.{Does, Step, by_itself, then_others, no_such_record, no_such_field, shows_field, processes_record, refuses_value, stores_alone, stores_while_active, stores_and_processes, not_awaited, completes_at_last, leads_to_no_record, no_link_field, keeps_its_link, takes_link, refuses_notified_value, no_place, waits_its_turn, starts_now, not_live, cancels, tells_if_live}
-use Rattle.ioc_workplace.specs.Puts.{is_put_with_notification}
+use Rattle.ioc_set_store.specs.Puts.{is_put_with_notification}
 
 module _ {R : Type 0} (k : RecordRules R) (answers : Answers) (n : ℕ) where
   does-begins : {w w' : World R} {event : Event} {reply : Reply} {requests : Requests} → Does k answers w event w' reply requests → reply ≡ Notify-reply n → is_put_with_notification event ≡ true

@@ -10,17 +10,17 @@ use Rattle.ioc_notify.specs.declared.live_numbers.Live.{Live}
 use Rattle.ioc_notify.specs.declared.waiting_lists.Waiting.{Waiting}
 use Rattle.ioc_notify.specs.Living.{is_live}
 use Rattle.ioc_record.specs.RecordRules.{RecordRules, targets}
-use Rattle.ioc_members.specs.Contents.{Records, Devices, record_at}
-use Rattle.ioc_members.specs.Joined.{links_of, IsPart}
+use Rattle.ioc_set_records.specs.Contents.{Records, Devices, record_at}
+use Rattle.ioc_set_records.specs.Joined.{links_of, IsPart}
 use Rattle.ioc_store.specs.World.{World, Has, IsClosed, at, common_at}
 use Rattle.ioc_events.specs.StepRules.{at_the_end}
 use Rattle.ioc_events.specs.Holding.{IsCounted, IsHeld, by_a_record}
 use Rattle.ioc_set.specs.Awaiting.{awaited}
 use Rattle.ioc_set.specs.Held.{Held, now_of}
-use Rattle.ioc_workplace.specs.Resting.{resting}
+use Rattle.ioc_set_store.specs.Resting.{resting}
 use Rattle.ioc_set.specs.Linking.{anew, AreCalm}
 use Rattle.ioc_set.specs.Sound.{IsSound, CountsAddUp}
-use Rattle.ioc_workplace.proofs.Entries.{none_some}
+use Rattle.ioc_set_store.proofs.Entries.{none_some}
 
 pub none_in : {A : Type 0} (x : A) → Contains [] x → ⊥
 none_in x c = let l = c.1 in omega arith

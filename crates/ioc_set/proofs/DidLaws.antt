@@ -7,7 +7,7 @@ use Rattle.ioc_ledger.specs.Requests.{Requests}
 use Rattle.ioc_notify.specs.declared.live_numbers.Live.{Live}
 use Rattle.ioc_notify.specs.declared.waiting_lists.Waiting.{Waiting}
 use Rattle.ioc_record.specs.RecordRules.{RecordRules}
-use Rattle.ioc_members.specs.Contents.{Records, Contents, DevicesAreOwned, BaseHasTheSame}
+use Rattle.ioc_set_records.specs.Contents.{Records, Contents, DevicesAreOwned, BaseHasTheSame}
 use Rattle.ioc_store.specs.declared.call.Call.{Call}
 use Rattle.ioc_store.specs.declared.notifications.Notifications.{Notifications}
 use Rattle.ioc_store.specs.World.{World, IsClosed, Keeps, at, begun, begun_at}
@@ -22,13 +22,13 @@ use Rattle.ioc_events.specs.Events.{Tells}
 use Rattle.ioc_events.specs.Step.{Stepped, stepped}
 use Rattle.ioc_events.specs.StepRules.{Step, Replay, at_the_end, and_then}
 use Rattle.ioc_events.specs.Holding.{IsCounted}
-use Rattle.ioc_workplace.specs.declared.set_store.SetStore.{SetStore}
-use Rattle.ioc_workplace.specs.SetStore.{world_of, given_of}
-use Rattle.ioc_workplace.specs.Attached.{AttachedGives, attached_in}
-use Rattle.ioc_workplace.specs.Puts.{Puts, AreNone, now_with, is_put_with_notification}
-use Rattle.ioc_workplace.specs.Resting.{resting}
+use Rattle.ioc_set_store.specs.declared.set_store.SetStore.{SetStore}
+use Rattle.ioc_set_store.specs.SetStore.{world_of, given_of}
+use Rattle.ioc_set_store.specs.Attached.{AttachedGives, attached_in}
+use Rattle.ioc_set_store.specs.Puts.{Puts, AreNone, now_with, is_put_with_notification}
+use Rattle.ioc_set_store.specs.Resting.{resting}
 use Rattle.ioc_set.specs.Doing.{with_kept, Did}
-use Rattle.ioc_workplace.proofs.AttachedLaws.{base_kept, worked}
+use Rattle.ioc_set_store.proofs.AttachedLaws.{base_kept, worked}
 
 -- An event begins on a store that has these records and these puts with notification.
 pub starts : {R D : Type 0} (s : SetStore R D) (rs : Records R) (live : List Live) (waiting : List Waiting) (moment : ℕ) → s.members.records ≡ rs → (world_of s).live ≡ live → (world_of s).waiting ≡ waiting

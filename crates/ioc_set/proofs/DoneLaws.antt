@@ -9,7 +9,7 @@ use Rattle.ioc_ledger.specs.declared.tally.Tally.{Tally}
 use Rattle.ioc_notify.specs.declared.live_numbers.Live.{Live}
 use Rattle.ioc_notify.specs.declared.waiting_lists.Waiting.{Waiting}
 use Rattle.ioc_record.specs.RecordRules.{RecordRules}
-use Rattle.ioc_members.specs.Contents.{Devices, Contents, RecordsAreLikeTheirBase}
+use Rattle.ioc_set_records.specs.Contents.{Devices, Contents, RecordsAreLikeTheirBase}
 use Rattle.ioc_store.specs.World.{World, Keeps, at, begun, begun_at}
 use Rattle.ioc_store.specs.Given.{DevicesWork}
 use Rattle.ioc_events.specs.declared.event.Event.{Event}
@@ -18,12 +18,12 @@ use Rattle.ioc_events.specs.declared.event.Entry.{Entry}
 use Rattle.ioc_events.specs.declared.event.SetEvent.{SetEvent}
 use Rattle.ioc_events.specs.Told.{event_by}
 use Rattle.ioc_events.specs.Step.{is_link_change}
-use Rattle.ioc_workplace.specs.declared.set_store.SetStore.{SetStore}
-use Rattle.ioc_workplace.specs.SetStore.{world_of}
+use Rattle.ioc_set_store.specs.declared.set_store.SetStore.{SetStore}
+use Rattle.ioc_set_store.specs.SetStore.{world_of}
 use Rattle.ioc_set.specs.Held.{Held, now_of, folded, done_by, held_after}
-use Rattle.ioc_workplace.specs.Resting.{resting}
+use Rattle.ioc_set_store.specs.Resting.{resting}
 use Rattle.ioc_set.specs.Sound.{IsSound, TellsOf}
-use Rattle.ioc_workplace.specs.Puts.{Puts}
+use Rattle.ioc_set_store.specs.Puts.{Puts}
 use Rattle.ioc_set.specs.Doing.{is_done_on_sets, held_by, with_place, with_kept, Did, Does}
 
 no_link : (event : Event) → is_done_on_sets event ≡ true → is_link_change event ≡ false

@@ -5,9 +5,9 @@ use Rattle.std.specs.Prelude.{◌↔◌, ◌&&◌, IsSome, IsTrue, is_some, unwr
 use Rattle.std.specs.FinMap.{get, insert, contains_key, entries, len}
 use Rattle.std.proofs.lemmas.Bool.{lt-ltb, eqb-true}
 use Rattle.ioc_fields.specs.declared.field_no.FieldNo.{FieldNo}
-use Rattle.ioc_common.specs.declared.common.Common.{Common}
-use Rattle.ioc_common.specs.declared.link_field.LinkField.{LinkField}
-use Rattle.ioc_common.specs.Steps.{change_numbered}
+use Rattle.ioc_dbcommon.specs.declared.common.Common.{Common}
+use Rattle.ioc_dbcommon.specs.declared.link_field.LinkField.{LinkField}
+use Rattle.ioc_dbcommon.specs.Steps.{change_numbered}
 use Rattle.ioc_ledger.specs.declared.tally.Tally.{Tally}
 use Rattle.ioc_notify.specs.declared.live_numbers.Live.{Live}
 use Rattle.ioc_notify.specs.declared.waiting_lists.Waiting.{Waiting}
@@ -15,8 +15,8 @@ use Rattle.ioc_notify.specs.Living.{is_live}
 use Rattle.ioc_notify.specs.Waits.{at_record}
 use Rattle.ioc_record.specs.RecordRules.{RecordRules, targets}
 use Rattle.ioc_record.specs.Laws.{IsLawful}
-use Rattle.ioc_members.specs.Contents.{Records, Devices, record_at}
-use Rattle.ioc_members.specs.Joined.{links_of, IsPart, AreShared, relinked}
+use Rattle.ioc_set_records.specs.Contents.{Records, Devices, record_at}
+use Rattle.ioc_set_records.specs.Joined.{links_of, IsPart, AreShared, relinked}
 use Rattle.ioc_store.specs.World.{World, Has, at, put, changed, lost, total, is_notification}
 use Rattle.ioc_store.specs.Weights.{weight_of, total-insert}
 use Rattle.ioc_store.specs.ScanLaws.{rewired-either, moved-either}
@@ -27,15 +27,15 @@ use Rattle.ioc_events.specs.Starting.{is_ready}
 use Rattle.ioc_events.specs.Holding.{IsCounted, IsHeld, by_a_record, in_a_waiting_list, HoldersCounted, holders, how_many, one_if_has}
 use Rattle.ioc_set.specs.Awaiting.{awaited}
 use Rattle.ioc_set.specs.Held.{Held, NoneIsLive, now_of}
-use Rattle.ioc_workplace.specs.Resting.{resting}
+use Rattle.ioc_set_store.specs.Resting.{resting}
 use Rattle.ioc_set.specs.Linking.{anew, AreHeld, MayBeOne}
-use Rattle.ioc_workplace.specs.Recounting.{own_waiting, together, AreLive, WaitsGoAlong}
+use Rattle.ioc_set_store.specs.Recounting.{own_waiting, together, AreLive, WaitsGoAlong}
 use Rattle.ioc_set.specs.Sound.{IsSound, CountsAddUp}
 use Rattle.ioc_set.proofs.Calm.{none_in, get-insert, shut}
-use Rattle.ioc_workplace.proofs.Entries.{none_some}
-use Rattle.ioc_workplace.proofs.Counting.{lives, one_if}
-use Rattle.ioc_workplace.proofs.Fewer.{fewer}
-use Rattle.ioc_workplace.proofs.Gathered.{passes-there}
+use Rattle.ioc_set_store.proofs.Entries.{none_some}
+use Rattle.ioc_set_store.proofs.Counting.{lives, one_if}
+use Rattle.ioc_set_store.proofs.Fewer.{fewer}
+use Rattle.ioc_set_store.proofs.Gathered.{passes-there}
 
 no_more : (t w l : ℕ) → w ≤ 1 → l ≡ cond (nat_lt 0 (t + w)) 1 0 → w ≤ l
 no_more t zero l once is = omega arith

@@ -6,26 +6,26 @@ use Rattle.std.specs.FinMap.{get}
 use Rattle.std.proofs.lemmas.Bool.{eqb-true, eq-eqb}
 use Rattle.std.proofs.lemmas.List.Elements.{Contains-append_cases}
 use Rattle.ioc_fields.specs.declared.field_no.FieldNo.{FieldNo}
-use Rattle.ioc_common.specs.declared.link_field.LinkField.{LinkField}
+use Rattle.ioc_dbcommon.specs.declared.link_field.LinkField.{LinkField}
 use Rattle.ioc_notify.specs.declared.live_numbers.Live.{Live}
 use Rattle.ioc_notify.specs.declared.waiting_lists.Waiting.{Waiting}
 use Rattle.ioc_notify.specs.Living.{is_live}
 use Rattle.ioc_record.specs.RecordRules.{RecordRules}
 use Rattle.ioc_record.specs.Laws.{IsLawful}
-use Rattle.ioc_members.specs.Contents.{Records, record_at}
-use Rattle.ioc_members.specs.Joined.{AreShared, relinked}
+use Rattle.ioc_set_records.specs.Contents.{Records, record_at}
+use Rattle.ioc_set_records.specs.Joined.{AreShared, relinked}
 use Rattle.ioc_store.specs.World.{at}
 use Rattle.ioc_events.specs.Holding.{IsHeld, by_a_record, in_a_waiting_list, HoldersCounted, how_many}
 use Rattle.ioc_set.specs.Held.{Held, now_of}
-use Rattle.ioc_workplace.specs.Resting.{resting}
+use Rattle.ioc_set_store.specs.Resting.{resting}
 use Rattle.ioc_set.specs.Linking.{AreHeld, MayBeOne}
-use Rattle.ioc_workplace.specs.Recounting.{together, AreLive, WaitsGoAlong}
+use Rattle.ioc_set_store.specs.Recounting.{together, AreLive, WaitsGoAlong}
 use Rattle.ioc_set.proofs.Calm.{get-insert}
-use Rattle.ioc_workplace.proofs.Entries.{none_some}
-use Rattle.ioc_workplace.proofs.Counting.{lives, how_many-append}
-use Rattle.ioc_workplace.proofs.Counted.{live-some, some-live}
-use Rattle.ioc_workplace.proofs.Fewer.{fewer}
-use Rattle.ioc_workplace.proofs.Gathered.{passes-there, together-count, dead}
+use Rattle.ioc_set_store.proofs.Entries.{none_some}
+use Rattle.ioc_set_store.proofs.Counting.{lives, how_many-append}
+use Rattle.ioc_set_store.proofs.Counted.{live-some, some-live}
+use Rattle.ioc_set_store.proofs.Fewer.{fewer}
+use Rattle.ioc_set_store.proofs.Gathered.{passes-there, together-count, dead}
 use Rattle.ioc_set.proofs.HeldRecords.{AreSame, Within, within_relinked, same_itself}
 
 -- Lemmas about those that are live on one of two sets.

@@ -4,27 +4,27 @@ use Rattle.std.specs.Prelude.{IsSome, is_some, unwrap_or, Contains}
 use Rattle.std.specs.FinMap.{get, insert}
 use Rattle.std.proofs.lemmas.Grind.{common_steps}
 use Rattle.ioc_fields.specs.declared.field_no.FieldNo.{FieldNo}
-use Rattle.ioc_common.specs.declared.link_field.LinkField.{LinkField}
-use Rattle.ioc_common.specs.Links.{no_link, use_of, named_by, named_by_field}
+use Rattle.ioc_dbcommon.specs.declared.link_field.LinkField.{LinkField}
+use Rattle.ioc_dbcommon.specs.Links.{no_link, use_of, named_by, named_by_field}
 use Rattle.ioc_notify.specs.declared.live_numbers.Live.{Live}
 use Rattle.ioc_notify.specs.Living.{is_live}
 use Rattle.ioc_record.specs.RecordRules.{RecordRules}
 use Rattle.ioc_events.specs.Holding.{IsHeld, holders, how_many}
 use Rattle.ioc_record.specs.Laws.{IsLawful}
-use Rattle.ioc_members.specs.Contents.{Records, record_at}
-use Rattle.ioc_members.specs.Joined.{AreShared, HasLink, HasFreeLink, relinked}
+use Rattle.ioc_set_records.specs.Contents.{Records, record_at}
+use Rattle.ioc_set_records.specs.Joined.{AreShared, HasLink, HasFreeLink, relinked}
 use Rattle.ioc_store.specs.World.{World, at, begun_at}
 use Rattle.ioc_store.specs.Scanning.{device_of, rewired}
 use Rattle.ioc_set.specs.Held.{Held, NoneIsLive, now_of, folded}
 use Rattle.ioc_set.specs.Doing.{with_kept}
 use Rattle.ioc_set.specs.Linking.{anew, FallsApart, MayBeOne, BecomeOne, LeadsInto}
 use Rattle.ioc_set.specs.Sound.{IsSound}
-use Rattle.ioc_workplace.specs.Recounting.{AreLive}
+use Rattle.ioc_set_store.specs.Recounting.{AreLive}
 use Rattle.ioc_set.proofs.Joining.{stay_may}
 use Rattle.ioc_set.proofs.Linked.{stay_within}
-use Rattle.ioc_workplace.proofs.Counting.{few-one}
+use Rattle.ioc_set_store.proofs.Counting.{few-one}
 use Rattle.ioc_set.proofs.Calm.{get-insert, none_in}
-use Rattle.ioc_workplace.proofs.Entries.{none_some}
+use Rattle.ioc_set_store.proofs.Entries.{none_some}
 
 -- An empty link leads nowhere.
 nowhere : named_by (use_of no_link) ≡ []

@@ -2,12 +2,12 @@
 use Rattle.std.proofs.Common.{◌≡◌, ℕ, true, false, Option, refl, ap, ◌∙◌}
 use Rattle.std.specs.Prelude.{is_some, unwrap_or}
 use Rattle.ioc_fields.specs.declared.field_no.FieldNo.{FieldNo}
-use Rattle.ioc_common.specs.declared.link_field.LinkField.{LinkField}
-use Rattle.ioc_common.specs.Links.{use_of, named_by}
+use Rattle.ioc_dbcommon.specs.declared.link_field.LinkField.{LinkField}
+use Rattle.ioc_dbcommon.specs.Links.{use_of, named_by}
 use Rattle.ioc_ledger.specs.Requests.{Requests, None}
 use Rattle.ioc_record.specs.RecordRules.{RecordRules}
 use Rattle.ioc_record.specs.Values.{stops_put}
-use Rattle.ioc_members.specs.Joined.{HasLink}
+use Rattle.ioc_set_records.specs.Joined.{HasLink}
 use Rattle.ioc_store.specs.World.{World, at, common_at}
 use Rattle.ioc_store.specs.Given.{Answers}
 use Rattle.ioc_store.specs.Scanning.{with_link_changed}

@@ -4,23 +4,23 @@ use Rattle.std.specs.Prelude.{IsSome}
 use Rattle.std.specs.FinMap.{get, len}
 use Rattle.ioc_ledger.specs.Requests.{no_counts}
 use Rattle.ioc_fields.specs.declared.field_no.FieldNo.{FieldNo}
-use Rattle.ioc_common.specs.declared.link_field.LinkField.{LinkField}
+use Rattle.ioc_dbcommon.specs.declared.link_field.LinkField.{LinkField}
 use Rattle.ioc_ledger.specs.declared.tally.Tally.{Tally}
 use Rattle.ioc_notify.specs.declared.live_numbers.Live.{Live}
 use Rattle.ioc_notify.specs.declared.waiting_lists.Waiting.{Waiting}
 use Rattle.ioc_record.specs.RecordRules.{RecordRules}
 use Rattle.ioc_record.specs.Laws.{IsLawful}
-use Rattle.ioc_members.specs.Contents.{Records, Devices, Contents, nothing, record_at, RecordsAreLikeTheirBase}
-use Rattle.ioc_members.specs.Joined.{links_of, IsPart, AreShared, relinked}
+use Rattle.ioc_set_records.specs.Contents.{Records, Devices, Contents, nothing, record_at, RecordsAreLikeTheirBase}
+use Rattle.ioc_set_records.specs.Joined.{links_of, IsPart, AreShared, relinked}
 use Rattle.ioc_store.specs.World.{Has, Keeps, at, begun, begun_at}
 use Rattle.ioc_store.specs.Scanning.{rewired}
 use Rattle.ioc_events.specs.declared.event.Entry.{Entry}
 use Rattle.ioc_events.specs.Holding.{HoldersCounted}
 use Rattle.ioc_set.specs.Awaiting.{awaited}
-use Rattle.ioc_workplace.specs.Puts.{Puts, AreNone, HasBegun, begun_with}
-use Rattle.ioc_workplace.specs.Recounting.{own_waiting, AreLive}
+use Rattle.ioc_set_store.specs.Puts.{Puts, AreNone, HasBegun, begun_with}
+use Rattle.ioc_set_store.specs.Recounting.{own_waiting, AreLive}
 use Rattle.ioc_set.specs.Held.{Held, now_of}
-use Rattle.ioc_workplace.specs.Resting.{resting}
+use Rattle.ioc_set_store.specs.Resting.{resting}
 use Rattle.ioc_set.specs.Doing.{held_by}
 use Rattle.ioc_set.specs.Linking.{anew, added, AreCalm, AreHeld, FallsApart, BecomeOne, less_awaited, awaited_alone}
 use Rattle.ioc_set.specs.Sound.{IsSound, CountsAddUp}

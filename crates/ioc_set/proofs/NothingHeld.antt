@@ -7,17 +7,17 @@ use Rattle.std.specs.FinMap.{empty, get, entries, get-empty, len-empty, len-entr
 use Rattle.ioc_ledger.specs.Requests.{no_counts}
 use Rattle.ioc_ledger.specs.declared.tally.Tally.{Tally}
 use Rattle.ioc_record.specs.RecordRules.{RecordRules, targets}
-use Rattle.ioc_members.specs.Contents.{Contents, nothing, RecordsAreLikeTheirBase}
-use Rattle.ioc_members.specs.Joined.{links_of, IsPart}
+use Rattle.ioc_set_records.specs.Contents.{Contents, nothing, RecordsAreLikeTheirBase}
+use Rattle.ioc_set_records.specs.Joined.{links_of, IsPart}
 use Rattle.ioc_store.specs.World.{World, IsClosed, total, at}
 use Rattle.ioc_process.specs.Rules.{IsSettled}
 use Rattle.ioc_events.specs.declared.event.Entry.{Entry}
 use Rattle.ioc_events.specs.StepRules.{at_the_end}
 use Rattle.ioc_events.specs.Holding.{IsCounted, HoldersAwait, holders, one_if_has}
 use Rattle.ioc_set.specs.Awaiting.{one_if_awaits, awaited}
-use Rattle.ioc_workplace.specs.Puts.{Puts, no_puts}
+use Rattle.ioc_set_store.specs.Puts.{Puts, no_puts}
 use Rattle.ioc_set.specs.Held.{Held, nothing_held}
-use Rattle.ioc_workplace.specs.Resting.{resting}
+use Rattle.ioc_set_store.specs.Resting.{resting}
 use Rattle.ioc_set.specs.Sound.{IsSound, CountsAddUp}
 use Rattle.ioc_set.specs.Doing.{held_by}
 use Rattle.ioc_set.proofs.Anew.{WereNone}

@@ -3,18 +3,18 @@ use Rattle.std.proofs.Common.{◌≡◌, ℕ, List, refl, sym, ap, subst, ◌∙
 use Rattle.std.specs.Prelude.{IsSome, Contains}
 use Rattle.std.specs.FinMap.{get}
 use Rattle.ioc_fields.specs.declared.field_no.FieldNo.{FieldNo}
-use Rattle.ioc_common.specs.declared.link_field.LinkField.{LinkField}
+use Rattle.ioc_dbcommon.specs.declared.link_field.LinkField.{LinkField}
 use Rattle.ioc_notify.specs.declared.live_numbers.Live.{Live}
 use Rattle.ioc_notify.specs.declared.waiting_lists.Waiting.{Waiting}
 use Rattle.ioc_notify.specs.Waits.{at_record}
 use Rattle.ioc_record.specs.RecordRules.{RecordRules}
 use Rattle.ioc_record.specs.Laws.{IsLawful}
-use Rattle.ioc_members.specs.Contents.{Records, Devices}
-use Rattle.ioc_members.specs.Joined.{AreShared, relinked}
+use Rattle.ioc_set_records.specs.Contents.{Records, Devices}
+use Rattle.ioc_set_records.specs.Joined.{AreShared, relinked}
 use Rattle.ioc_store.specs.World.{World, Has, Keeps, at, begun, begun_at, put}
 use Rattle.ioc_store.specs.Scanning.{device_of, rewired}
 use Rattle.ioc_set.specs.Held.{Held, now_of}
-use Rattle.ioc_workplace.specs.Resting.{resting}
+use Rattle.ioc_set_store.specs.Resting.{resting}
 use Rattle.ioc_set.specs.Doing.{with_kept}
 use Rattle.ioc_set.specs.Linking.{anew, added, FallsApart, link_change_of}
 use Rattle.ioc_set.proofs.Linked.{has_begun, was_begun}

@@ -4,26 +4,26 @@ use Rattle.std.specs.Prelude.{IsSome, unwrap_or}
 use Rattle.std.specs.FinMap.{get, insert}
 use Rattle.std.specs.Cmp.Lexicographic.{pointwise}
 use Rattle.std.proofs.lemmas.Grind.{common_steps}
-use Rattle.ioc_common.specs.Steps.{change_numbered}
+use Rattle.ioc_dbcommon.specs.Steps.{change_numbered}
 use Rattle.ioc_ledger.specs.Requests.{more}
 use Rattle.ioc_notify.specs.declared.live_numbers.Live.{Live}
 use Rattle.ioc_notify.specs.declared.waiting_lists.Waiting.{Waiting}
 use Rattle.ioc_record.specs.RecordRules.{RecordRules}
 use Rattle.ioc_record.specs.Laws.{IsLawful}
-use Rattle.ioc_members.specs.Contents.{Records, Contents, record_at}
-use Rattle.ioc_members.specs.Joined.{AreShared}
+use Rattle.ioc_set_records.specs.Contents.{Records, Contents, record_at}
+use Rattle.ioc_set_records.specs.Joined.{AreShared}
 use Rattle.ioc_process.specs.Keeping.{keeps_all, moved-keeps}
 use Rattle.ioc_store.specs.declared.outbox.OutboxItem.TheVariants.{Change}
 use Rattle.ioc_store.specs.World.{World, Has, Keeps, at, begun, begun_at, put, changed, sent, lost}
 use Rattle.ioc_store.specs.Scanning.{device_of, moved, rewired}
 use Rattle.ioc_store.specs.ScanLaws.{rewired-either, moved-either}
 use Rattle.ioc_store.specs.Worlds.{sent_by}
-use Rattle.ioc_workplace.specs.declared.set_store.SetStore.{SetStore}
-use Rattle.ioc_workplace.specs.SetStore.{world_of}
-use Rattle.ioc_workplace.specs.Resting.{resting}
+use Rattle.ioc_set_store.specs.declared.set_store.SetStore.{SetStore}
+use Rattle.ioc_set_store.specs.SetStore.{world_of}
+use Rattle.ioc_set_store.specs.Resting.{resting}
 use Rattle.ioc_set.specs.Doing.{with_records, with_kept}
 use Rattle.ioc_set.proofs.Calm.{get-insert}
-use Rattle.ioc_workplace.proofs.Entries.{none_some}
+use Rattle.ioc_set_store.proofs.Entries.{none_some}
 
 -- The state of an event in a store whose records were swapped with those of a set.
 pub came_to : {R D : Type 0} (s' s'' : SetStore R D) (after : Contents R D) (w : World R) → after ≡ s'.members → s''.event ≡ s'.event → world_of s' ≡ w

@@ -4,14 +4,14 @@ use Rattle.std.specs.Prelude.{IsSome, Bool, if◌then◌else◌, unwrap_or}
 use Rattle.std.specs.Option.{option_map}
 use Rattle.std.specs.FinMap.{get}
 use Rattle.std.proofs.lemmas.List.{length_push}
-use Rattle.ioc_common.specs.Links.{named_by_all}
+use Rattle.ioc_dbcommon.specs.Links.{named_by_all}
 use Rattle.ioc_ledger.specs.declared.tally.Tally.{Tally}
 use Rattle.ioc_ledger.specs.Requests.{Requests, Fits, AddsUp, CountsEach, counted, counted_started, counted_completion}
 use Rattle.ioc_notify.specs.declared.live_numbers.Live.{Live}
 use Rattle.ioc_notify.specs.declared.waiting_lists.Waiting.{Waiting}
 use Rattle.ioc_record.specs.RecordRules.{RecordRules, targets}
-use Rattle.ioc_members.specs.Contents.{Records, Devices}
-use Rattle.ioc_members.specs.Joined.{Links, links_of, IsPart}
+use Rattle.ioc_set_records.specs.Contents.{Records, Devices}
+use Rattle.ioc_set_records.specs.Joined.{Links, links_of, IsPart}
 use Rattle.ioc_store.specs.World.{World, IsClosed, Keeps, SameLinks, at, begun, begun_at}
 use Rattle.ioc_store.specs.Given.{Answers, answers_of, later_among, listed}
 use Rattle.ioc_process.specs.Rules.{IsSettled}
@@ -24,7 +24,7 @@ use Rattle.ioc_events.specs.Starting.{NoneReady, is_ready}
 use Rattle.ioc_events.specs.Holding.{IsCounted, HoldersAwait, holders}
 use Rattle.ioc_set.specs.Awaiting.{awaited, one_if_completes}
 use Rattle.ioc_set.specs.Held.{Held, now_of, before_of, done_by, counted_on, held_after, folded}
-use Rattle.ioc_workplace.specs.Resting.{resting}
+use Rattle.ioc_set_store.specs.Resting.{resting}
 use Rattle.ioc_set.specs.Sound.{IsSound, TellsOf}
 use Rattle.ioc_set.proofs.Counts.{AnswersAddUp, answers_same, answers_then}
 

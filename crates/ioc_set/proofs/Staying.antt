@@ -16,7 +16,7 @@ use Rattle.ioc_events.specs.StepRules.{Step, Replay, at_the_end, and_then}
 use Rattle.ioc_events.specs.Holding.{IsCounted}
 use Rattle.ioc_set.specs.Held.{Held, NoneIsLive, now_of, done_by}
 use Rattle.ioc_set.specs.Sound.{IsSound}
-use Rattle.ioc_workplace.specs.Puts.{is_put_with_notification}
+use Rattle.ioc_set_store.specs.Puts.{is_put_with_notification}
 use Rattle.ioc_set.specs.Doing.{is_ordinary, with_place, Does}
 use Rattle.ioc_set.proofs.DoneLaws.{now_kept}
 

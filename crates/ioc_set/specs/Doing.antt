@@ -10,7 +10,7 @@ use Rattle.ioc_ledger.specs.declared.tally.Tally.{Tally}
 use Rattle.ioc_notify.specs.declared.live_numbers.Live.{Live}
 use Rattle.ioc_notify.specs.declared.waiting_lists.Waiting.{Waiting}
 use Rattle.ioc_record.specs.RecordRules.{RecordRules}
-use Rattle.ioc_members.specs.Contents.{Records, Contents}
+use Rattle.ioc_set_records.specs.Contents.{Records, Contents}
 use Rattle.ioc_store.specs.World.{World, Keeps, begun_at}
 use Rattle.ioc_store.specs.Given.{DevicesWork, answers_of}
 use Rattle.ioc_events.specs.declared.event.Event.{Event}
@@ -18,11 +18,11 @@ use Rattle.ioc_events.specs.declared.event.Event.TheVariants.{Process, Put, Comp
 use Rattle.ioc_events.specs.declared.event.Entry.{Entry}
 use Rattle.ioc_events.specs.declared.reply.Reply.{Reply}
 use Rattle.ioc_events.specs.Step.{tallied}
-use Rattle.ioc_workplace.specs.declared.set_store.SetStore.{SetStore}
-use Rattle.ioc_workplace.specs.SetStore.{world_of}
-use Rattle.ioc_workplace.specs.Puts.{Puts, now_with}
+use Rattle.ioc_set_store.specs.declared.set_store.SetStore.{SetStore}
+use Rattle.ioc_set_store.specs.SetStore.{world_of}
+use Rattle.ioc_set_store.specs.Puts.{Puts, now_with}
 use Rattle.ioc_set.specs.Held.{Held, now_of, folded, done_by, held_after}
-use Rattle.ioc_workplace.specs.Resting.{resting}
+use Rattle.ioc_set_store.specs.Resting.{resting}
 use Rattle.ioc_set.specs.Sound.{TellsOf}
 
 -- Holds of a request, a put and a completion.

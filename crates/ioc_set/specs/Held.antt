@@ -9,12 +9,12 @@ use Rattle.ioc_ledger.specs.declared.tally.Tally.{Tally}
 use Rattle.ioc_notify.specs.declared.live_numbers.Live.{Live}
 use Rattle.ioc_notify.specs.declared.waiting_lists.Waiting.{Waiting}
 use Rattle.ioc_record.specs.RecordRules.{RecordRules}
-use Rattle.ioc_members.specs.Contents.{Records, Devices}
+use Rattle.ioc_set_records.specs.Contents.{Records, Devices}
 use Rattle.ioc_store.specs.World.{World, begun_at}
 use Rattle.ioc_store.specs.Given.{listed}
 use Rattle.ioc_events.specs.declared.event.Entry.{Entry}
 use Rattle.ioc_events.specs.Step.{Stepped, stepped, tallied}
-use Rattle.ioc_workplace.specs.Resting.{resting}
+use Rattle.ioc_set_store.specs.Resting.{resting}
 
 -- The state of a set before the first event of its history.
 pub record Base (R : Type 0) : Type 0 where

@@ -10,7 +10,7 @@ use Rattle.ioc_notify.specs.declared.waiting_lists.Waiting.{Waiting}
 use Rattle.ioc_notify.specs.contracts.waiting_lists.Waiting as waiting_row
 use Rattle.ioc_events.specs.declared.event.Entry.{Entry}
 use Rattle.ioc_events.specs.contracts.event.Entry as entry_row
-use Rattle.ioc_members.specs.Contents.{Records, Devices}
+use Rattle.ioc_set_records.specs.Contents.{Records, Devices}
 use Rattle.ioc_set.specs.Held.{Held}
 
 abbrev pub held_code : {R D : Type 0} → Coded R → Coded D → Coded (Held R D)

@@ -6,22 +6,22 @@
 use Rattle.std.specs.Prelude.{◌≡◌, ◌≢◌, ◌↔◌, ℕ, ◌+◌, ◌-◌, ◌^◌, ◌<◌, ◌≤◌, ◌==◌, if◌then◌else◌, List, [], ◌++◌, length, Contains, IsSome, IsTrue, None}
 use Rattle.std.specs.FinMap.{get}
 use Rattle.ioc_fields.specs.declared.field_no.FieldNo.{FieldNo}
-use Rattle.ioc_common.specs.declared.link_field.LinkField.{LinkField}
-use Rattle.ioc_common.specs.Links.{no_link}
+use Rattle.ioc_dbcommon.specs.declared.link_field.LinkField.{LinkField}
+use Rattle.ioc_dbcommon.specs.Links.{no_link}
 use Rattle.ioc_ledger.specs.declared.tally.Tally.{Tally}
 use Rattle.ioc_ledger.specs.Requests.{filled, no_counts}
 use Rattle.ioc_notify.specs.declared.live_numbers.Live.{Live}
 use Rattle.ioc_notify.specs.declared.waiting_lists.Waiting.{Waiting}
 use Rattle.ioc_record.specs.RecordRules.{RecordRules}
-use Rattle.ioc_members.specs.Contents.{Records, Devices, record_at}
-use Rattle.ioc_members.specs.Joined.{AreShared, relinked}
+use Rattle.ioc_set_records.specs.Contents.{Records, Devices, record_at}
+use Rattle.ioc_set_records.specs.Joined.{AreShared, relinked}
 use Rattle.ioc_store.specs.World.{World, begun_at}
 use Rattle.ioc_store.specs.Scanning.{device_of, rewired, with_link_changed}
 use Rattle.ioc_events.specs.Holding.{HoldersAwait, HoldersCounted}
 use Rattle.ioc_set.specs.Held.{Held, NoneIsLive, now_of, nothing_held}
-use Rattle.ioc_workplace.specs.Resting.{resting}
+use Rattle.ioc_set_store.specs.Resting.{resting}
 use Rattle.ioc_set.specs.Doing.{with_kept}
-use Rattle.ioc_workplace.specs.Recounting.{WaitsGoAlong, together}
+use Rattle.ioc_set_store.specs.Recounting.{WaitsGoAlong, together}
 use Rattle.ioc_set.specs.Sound.{IsSound}
 
 -- The set with these records, devices, puts with notification and counts, and with an empty

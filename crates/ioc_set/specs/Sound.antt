@@ -6,7 +6,7 @@ use Rattle.std.specs.Prelude.{◌≡◌, ◌⊎◌, ℕ, ◌+◌, ◌-◌, ◌^�
 use Rattle.ioc_ledger.specs.declared.tally.Tally.{Tally}
 use Rattle.ioc_ledger.specs.Requests.{Fits, AddsUp}
 use Rattle.ioc_record.specs.RecordRules.{RecordRules}
-use Rattle.ioc_members.specs.Joined.{links_of, IsPart}
+use Rattle.ioc_set_records.specs.Joined.{links_of, IsPart}
 use Rattle.ioc_store.specs.World.{World}
 use Rattle.ioc_store.specs.Given.{answers_of}
 use Rattle.ioc_process.specs.Rules.{IsSettled}

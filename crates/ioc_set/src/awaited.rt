@@ -4,7 +4,7 @@ ghost use Rattle.ioc_set.specs.Awaiting.{awaited};
 ghost use Rattle.ioc_set.specs.Linking.{less_awaited, awaited_alone};
 
 use ioc_ledger::Tally;
-use ioc_members::Members;
+use ioc_set_records::Members;
 use ioc_record::RecordKind;
 
 /// Returns the number of these records that await a completion.

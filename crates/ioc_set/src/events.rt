@@ -1,8 +1,8 @@
 //! Events on a lock set, except link changes.
 ghost use Rattle.std.specs.Prelude.{◌≡◌, ◌<◌, ◌≤◌, ◌+◌, length, IfOk, OnOk, OnErr, vec_len, vec_capacity};
 ghost use Rattle.ioc_events.specs.declared.event.Event.TheVariants.{Process, Put, Complete, Notify, Cancel};
-ghost use Rattle.ioc_members.specs.Contents.{RecordsAreLikeTheirBase};
-ghost use Rattle.ioc_workplace.specs.SetStore.{world_of};
+ghost use Rattle.ioc_set_records.specs.Contents.{RecordsAreLikeTheirBase};
+ghost use Rattle.ioc_set_store.specs.SetStore.{world_of};
 ghost use Rattle.ioc_set.specs.Doing.{Does, held_by, with_place};
 ghost use Rattle.ioc_events.specs.Told.{event_by, told_by};
 
@@ -15,12 +15,12 @@ use ioc_device::Device;
 use ioc_events::{SetEvent, Told};
 use ioc_fields::FieldNo;
 use ioc_ledger::Tally;
-use ioc_members::Members;
+use ioc_set_records::Members;
 use ioc_names::RecordNo;
 use ioc_notify::NotifyId;
 use ioc_record::RecordKind;
 use ioc_values::{Finished, Input};
-use ioc_workplace::{LivePuts, Workplace};
+use ioc_set_store::{LivePuts, Workplace};
 use std::alloc::{AllocError, Global};
 
 // Makes a place for one more event in the history, which is cleared first if it is full.

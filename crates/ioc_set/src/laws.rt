@@ -2,8 +2,8 @@
 ghost use Rattle.std.specs.Prelude.{◌≡◌, ◌≢◌, ◌<◌, ◌≤◌, ◌^◌, ℕ, true, false, List, [], ◌∷◌, length};
 ghost use Rattle.std.specs.FinMap.{len};
 ghost use Rattle.ioc_fields.specs.declared.field_no.FieldNo.{FieldNo};
-ghost use Rattle.ioc_common.specs.declared.link_field.LinkField.{LinkField};
-ghost use Rattle.ioc_common.specs.Links.{use_of, named_by};
+ghost use Rattle.ioc_dbcommon.specs.declared.link_field.LinkField.{LinkField};
+ghost use Rattle.ioc_dbcommon.specs.Links.{use_of, named_by};
 ghost use Rattle.ioc_ledger.specs.declared.tally.Tally.{Tally};
 ghost use Rattle.ioc_notify.specs.declared.live_numbers.Live.{Live};
 ghost use Rattle.ioc_notify.specs.declared.waiting_lists.Waiting.{Waiting};
@@ -20,16 +20,16 @@ ghost use Rattle.ioc_events.specs.declared.reply.Reply.TheVariants.{Notify, Plai
 ghost use Rattle.ioc_events.specs.Step.{stepped, all_there};
 ghost use Rattle.ioc_events.specs.Holding.{IsCounted, IsHeld};
 ghost use Rattle.ioc_events.specs.StepRules.{Replay, Step};
-ghost use Rattle.ioc_members.specs.Contents.{Records, Devices};
-ghost use Rattle.ioc_members.specs.Joined.{links_of, IsPart, HasLink};
+ghost use Rattle.ioc_set_records.specs.Contents.{Records, Devices};
+ghost use Rattle.ioc_set_records.specs.Joined.{links_of, IsPart, HasLink};
 ghost use Rattle.ioc_events.specs.declared.event.Entry.{Entry};
 ghost use Rattle.ioc_set.specs.Awaiting.{awaited};
 ghost use Rattle.ioc_set.specs.Held.{Held, NoneIsLive, now_of, folded, held_after};
 ghost use Rattle.ioc_set.specs.Doing.{is_ordinary, Does};
 ghost use Rattle.ioc_set.specs.Linking.{anew, AreCalm, AreHeld, MayBeOne};
-ghost use Rattle.ioc_workplace.specs.Recounting.{AreLive};
+ghost use Rattle.ioc_set_store.specs.Recounting.{AreLive};
 ghost use Rattle.ioc_set.specs.Sound.{CountsAddUp, IsSound, TellsOf};
-ghost use Rattle.ioc_workplace.specs.Puts.{is_put_with_notification};
+ghost use Rattle.ioc_set_store.specs.Puts.{is_put_with_notification};
 
 use crate::awaiting_laws::events_count_awaited;
 use ioc_device::Device;

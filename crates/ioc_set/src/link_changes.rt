@@ -1,30 +1,30 @@
 //! Link changes of lock sets: one set that is divided, and two that become one.
 ghost use Rattle.std.specs.Prelude.{◌≡◌, ◌<◌, ◌≤◌, ◌+◌, ℕ, [], ◌∷◌, None, IsSome, Contains, IfOk, OnOk, OnErr};
 ghost use Rattle.std.specs.FinMap as map;
-ghost use Rattle.ioc_common.specs.Links.{use_of, named_by};
+ghost use Rattle.ioc_dbcommon.specs.Links.{use_of, named_by};
 ghost use Rattle.ioc_store.specs.Scanning.{rewired};
 ghost use Rattle.ioc_store.specs.World.{Has, begun_at};
-ghost use Rattle.ioc_members.specs.Joined.{HasLink, HasFreeLink, relinked};
+ghost use Rattle.ioc_set_records.specs.Joined.{HasLink, HasFreeLink, relinked};
 ghost use Rattle.ioc_set.specs.Held.{NoneIsLive, now_of, folded};
 ghost use Rattle.ioc_set.specs.Linking.{anew, FallsApart, MayBeOne, BecomeOne, LeadsInto, link_change_of};
-ghost use Rattle.ioc_workplace.specs.SetStore.{world_of};
+ghost use Rattle.ioc_set_store.specs.SetStore.{world_of};
 ghost use Rattle.ioc_set.specs.Doing.{with_kept};
 
 use crate::awaited::take_awaited;
 use crate::laws::held_records_are_sound;
 use crate::linking::{add_counts, begin_anew, rescan_on};
 use crate::lock_set::LockSet;
-use ioc_common::KeptLink;
+use ioc_dbcommon::KeptLink;
 use ioc_device::Device;
 use ioc_fields::FieldNo;
 use ioc_ledger::Tally;
 use ioc_links::MAX_DEVICE_BYTES;
-use ioc_members::Room;
+use ioc_set_records::Room;
 use ioc_names::RecordNo;
 use ioc_record::RecordKind;
 use ioc_values::Short;
-use ioc_workplace::live_puts::{PutsRoom, joined_puts, own_puts};
-use ioc_workplace::{LivePuts, Workplace};
+use ioc_set_store::live_puts::{PutsRoom, joined_puts, own_puts};
+use ioc_set_store::{LivePuts, Workplace};
 use std::alloc::{AllocError, Global};
 
 impl<K: RecordKind + Drop, D: Drop> LockSet<K, D> {

@@ -1,25 +1,25 @@
 //! The steps of a link change on the members of lock sets.
 ghost use Rattle.std.specs.Prelude.{◌≡◌, ◌≤◌, [], length, IsSome, vec_capacity};
 ghost use Rattle.std.specs.FinMap.{get};
-ghost use Rattle.ioc_members.specs.Contents.{RecordsAreLikeTheirBase};
+ghost use Rattle.ioc_set_records.specs.Contents.{RecordsAreLikeTheirBase};
 ghost use Rattle.ioc_store.specs.Scanning.{rewired};
 ghost use Rattle.ioc_store.specs.World.{begun_at};
 ghost use Rattle.ioc_set.specs.Doing.{with_records};
-ghost use Rattle.ioc_workplace.specs.Resting.{resting};
+ghost use Rattle.ioc_set_store.specs.Resting.{resting};
 ghost use Rattle.ioc_set.specs.Linking.{added};
-ghost use Rattle.ioc_workplace.specs.Puts.{begun_with};
-ghost use Rattle.ioc_workplace.specs.SetStore.{world_of};
+ghost use Rattle.ioc_set_store.specs.Puts.{begun_with};
+ghost use Rattle.ioc_set_store.specs.SetStore.{world_of};
 
 use crate::kept::Kept;
 use ioc_device::Device;
 use ioc_ledger::Tally;
 use ioc_links::MAX_DEVICE_BYTES;
-use ioc_members::Members;
+use ioc_set_records::Members;
 use ioc_names::RecordNo;
 use ioc_record::RecordKind;
-use ioc_steps::scanning::rewire;
+use ioc_process::scanning::rewire;
 use ioc_values::Short;
-use ioc_workplace::{LivePuts, Workplace};
+use ioc_set_store::{LivePuts, Workplace};
 use std::mem;
 
 /// Clears the history of a set, so that each record equals its base and the puts with notification

@@ -9,14 +9,14 @@ ghost use Rattle.ioc_set.specs.NoCalls.{no_call};
 ghost use Rattle.std.specs.Option.{IfSome};
 ghost use Rattle.ioc_ledger.specs.Requests.{no_counts};
 ghost use Rattle.ioc_store.specs.Given.{Answers};
-ghost use Rattle.ioc_common.specs.Links.{use_of, named_by};
+ghost use Rattle.ioc_dbcommon.specs.Links.{use_of, named_by};
 ghost use Rattle.ioc_store.specs.Scanning.{device_of};
 ghost use Rattle.ioc_record.specs.Values.{stops_put};
 ghost use Rattle.ioc_store.specs.World.{Has, at, common_at};
-ghost use Rattle.ioc_members.specs.Contents.{RecordsAreLikeTheirBase};
-ghost use Rattle.ioc_members.specs.Joined.{links_of, IsPart, HasLink};
+ghost use Rattle.ioc_set_records.specs.Contents.{RecordsAreLikeTheirBase};
+ghost use Rattle.ioc_set_records.specs.Joined.{links_of, IsPart, HasLink};
 ghost use Rattle.ioc_set.specs.Held.{NoneIsLive, now_of, nothing_held, folded};
-ghost use Rattle.ioc_workplace.specs.Resting.{resting};
+ghost use Rattle.ioc_set_store.specs.Resting.{resting};
 ghost use Rattle.ioc_set.specs.Linking.{anew, AreCalm, NoneAwaits};
 ghost use Rattle.ioc_set.specs.Sound.{IsSound};
 ghost use Rattle.ioc_set.specs.Doing.{held_by};
@@ -25,19 +25,19 @@ use crate::kept::Kept;
 use crate::laws::{calm_records_are_sound, held_records_are_sound};
 use crate::linking::begin_anew;
 use crate::no_calls::{why_not_put, why_not_shown};
-use ioc_common::KeptLink;
+use ioc_dbcommon::KeptLink;
 use ioc_events::{Event, Reply};
 use ioc_fields::{FieldNo, row_of};
 use ioc_ledger::Tally;
 use ioc_links::MAX_DEVICE_BYTES;
-use ioc_members::Members;
+use ioc_set_records::Members;
 use ioc_names::RecordNo;
 use ioc_notify::{Live, NotifyId};
 use ioc_record::{RecordKind, stops_put, text_of};
-use ioc_steps::scanning::device_of;
+use ioc_process::scanning::device_of;
 use ioc_values::{IocError, Short};
-use ioc_workplace::LivePuts;
-use ioc_workplace::live_puts::PutsRoom;
+use ioc_set_store::LivePuts;
+use ioc_set_store::live_puts::PutsRoom;
 use std::alloc::{AllocError, Global};
 use std::marker::Model;
 
@@ -63,7 +63,7 @@ impl<K: RecordKind, D> Model for LockSet<K, D> {
 
     ghost use Rattle.ioc_set.specs.Doing.{held_by};
     ghost use Rattle.ioc_set.specs.Sound.{IsSound};
-    ghost use Rattle.ioc_members.specs.Contents.{RecordsAreLikeTheirBase};
+    ghost use Rattle.ioc_set_records.specs.Contents.{RecordsAreLikeTheirBase};
 
     ghost view = { λ s. held_by s.members s.puts s.base_tally s.tally s.history.items };
 

@@ -7,8 +7,8 @@ ghost use Rattle.ioc_process.specs.Runs.{ForAnswers};
 ghost use Rattle.ioc_events.specs.Step.{stepped};
 ghost use Rattle.ioc_events.specs.Events.{Tells};
 ghost use Rattle.ioc_events.specs.Holding.{IsCounted};
-ghost use Rattle.ioc_workplace.specs.Resting.{resting};
-ghost use Rattle.ioc_workplace.specs.Puts.{is_put_with_notification};
+ghost use Rattle.ioc_set_store.specs.Resting.{resting};
+ghost use Rattle.ioc_set_store.specs.Puts.{is_put_with_notification};
 ghost use Rattle.ioc_set.specs.Doing.{Did};
 ghost use Rattle.ioc_events.specs.Told.{event_by, told_by};
 
@@ -18,11 +18,11 @@ use ioc_device::Device;
 use ioc_events::event_rules::rules_are_steps;
 use ioc_events::{SetEvent, Told, run_cancel, run_complete, run_notify, run_put, run_request};
 use ioc_ledger::Tally;
-use ioc_members::Members;
+use ioc_set_records::Members;
 use ioc_record::RecordKind;
 use ioc_store::{Frame, Store};
-use ioc_workplace::workplace::kept_answers;
-use ioc_workplace::{LivePuts, Workplace};
+use ioc_set_store::workplace::kept_answers;
+use ioc_set_store::{LivePuts, Workplace};
 use std::alloc::Global;
 use std::mem;
 

@@ -9,12 +9,12 @@ use Rattle.ioc_fields.specs.declared.field_no.FieldNo.TheVariants.{Common as Com
 use Rattle.ioc_fields.specs.declared.field_no.OwnField.TheVariants.{Lnk}
 use Rattle.ioc_fields.specs.declared.field_no.CommonField.TheVariants.{Proc}
 use Rattle.ioc_fields.specs.declared.field_no.Slot.{Slot}
-use Rattle.ioc_common.specs.declared.link_field.LinkField.{LinkField}
-use Rattle.ioc_common.specs.declared.link_field.LinkUse.{LinkUse}
-use Rattle.ioc_common.specs.declared.link_field.LinkUse.TheVariants.{Unused}
-use Rattle.ioc_common.specs.declared.link_field.StandingLink.{StandingLink}
-use Rattle.ioc_common.specs.Links.{use_of, record_named}
-use Rattle.ioc_common.specs.Steps.{inherited, is_passive}
+use Rattle.ioc_dbcommon.specs.declared.link_field.LinkField.{LinkField}
+use Rattle.ioc_dbcommon.specs.declared.link_field.LinkUse.{LinkUse}
+use Rattle.ioc_dbcommon.specs.declared.link_field.LinkUse.TheVariants.{Unused}
+use Rattle.ioc_dbcommon.specs.declared.link_field.StandingLink.{StandingLink}
+use Rattle.ioc_dbcommon.specs.Links.{use_of, record_named}
+use Rattle.ioc_dbcommon.specs.Steps.{inherited, is_passive}
 use Rattle.ioc_record.specs.RecordRules.{RecordRules}
 use Rattle.ioc_store.specs.World.{World, at, common_at, changed}
 

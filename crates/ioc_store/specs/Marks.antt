@@ -3,11 +3,11 @@
 use Rattle.std.specs.Prelude.{None as Nothing_}
 use Rattle.std.specs.Prelude.{Bool, true, false, ◌&&◌, is_some, if◌then◌else◌}
 use Rattle.std.specs.Ordering.{int_eq}
-use Rattle.ioc_common.specs.declared.common.Common.{Common}
+use Rattle.ioc_dbcommon.specs.declared.common.Common.{Common}
 use Rattle.ioc_values.specs.declared.value.Value.{Value}
 use Rattle.ioc_fields.specs.declared.field_no.CommonField.TheVariants.{Disa}
-use Rattle.ioc_common.specs.Disabling.{disabling_stored}
-use Rattle.ioc_common.specs.Steps.{blocked, with_reprocess_mark, with_put_mark}
+use Rattle.ioc_dbcommon.specs.Disabling.{disabling_stored}
+use Rattle.ioc_dbcommon.specs.Steps.{blocked, with_reprocess_mark, with_put_mark}
 
 -- Holds if a request marks the record for reprocessing: the record awaits its completion, and the
 -- requesting one is processed for a put.

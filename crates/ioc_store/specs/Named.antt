@@ -3,11 +3,11 @@ use Rattle.std.proofs.Common.{◌≡◌, true, Option, Some, None, refl, sym, ap
 use Rattle.std.specs.Prelude.{Contains, is_some, slice_get}
 use Rattle.ioc_fields.specs.declared.field_no.FieldNo.{FieldNo}
 use Rattle.ioc_fields.specs.LinkFields.{link_fields_are, stands_among_links}
-use Rattle.ioc_common.specs.declared.link_field.LinkField.{LinkField}
-use Rattle.ioc_common.specs.declared.link_field.LinkUse.{LinkUse}
-use Rattle.ioc_common.specs.declared.link_field.LinkUse.TheVariants.{Standing}
-use Rattle.ioc_common.specs.declared.link_field.StandingLink.{StandingLink}
-use Rattle.ioc_common.specs.Links.{use_of, named_by, named_by_field}
+use Rattle.ioc_dbcommon.specs.declared.link_field.LinkField.{LinkField}
+use Rattle.ioc_dbcommon.specs.declared.link_field.LinkUse.{LinkUse}
+use Rattle.ioc_dbcommon.specs.declared.link_field.LinkUse.TheVariants.{Standing}
+use Rattle.ioc_dbcommon.specs.declared.link_field.StandingLink.{StandingLink}
+use Rattle.ioc_dbcommon.specs.Links.{use_of, named_by, named_by_field}
 use Rattle.ioc_record.specs.RecordRules.{RecordRules, targets}
 use Rattle.ioc_record.specs.Laws.{IsLawful}
 use Rattle.ioc_record.specs.WholeLaws.{named_in}

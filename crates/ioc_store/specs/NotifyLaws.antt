@@ -1,6 +1,6 @@
 -- What stays unchanged when a record joins or leaves a put with notification.
 use Rattle.std.proofs.Common.{ℕ, Option, Some, None as Nothing_}
-use Rattle.ioc_common.specs.Steps.{with_notification}
+use Rattle.ioc_dbcommon.specs.Steps.{with_notification}
 use Rattle.ioc_record.specs.RecordRules.{RecordRules}
 use Rattle.ioc_store.specs.World.{World, Has, changed, taken_on, let_go}
 use Rattle.ioc_store.specs.Worlds.{has-put}

@@ -4,8 +4,8 @@
 -- dbNotifyCompletion).
 use Rattle.std.specs.Prelude.{ℕ, if◌then◌else◌, is_some, Option, Some}
 use Rattle.std.specs.Prelude.{None as Nothing_}
-use Rattle.ioc_common.specs.declared.common.Common.{Common}
-use Rattle.ioc_common.specs.Steps.{with_notification}
+use Rattle.ioc_dbcommon.specs.declared.common.Common.{Common}
+use Rattle.ioc_dbcommon.specs.Steps.{with_notification}
 use Rattle.ioc_record.specs.RecordRules.{RecordRules}
 use Rattle.ioc_store.specs.World.{World, common_at, changed, taken_on, let_go}
 

@@ -3,8 +3,8 @@
 --
 -- Record Reference Manual, "Fields Common to All Record Types", SDIS and RPRO.
 use Rattle.std.specs.Prelude.{ℕ, if◌then◌else◌}
-use Rattle.ioc_common.specs.declared.body.Got.{Got}
-use Rattle.ioc_common.specs.declared.body.Got.TheVariants.{Value as Got-value, Nothing as Got-nothing, Fault as Got-fault}
+use Rattle.ioc_dbcommon.specs.declared.body.Got.{Got}
+use Rattle.ioc_dbcommon.specs.declared.body.Got.TheVariants.{Value as Got-value, Nothing as Got-nothing, Fault as Got-fault}
 use Rattle.ioc_record.specs.RecordRules.{RecordRules}
 use Rattle.ioc_store.specs.declared.outbox.OutboxItem.TheVariants.{Once}
 use Rattle.ioc_store.specs.World.{World, common_at, changed, sent}

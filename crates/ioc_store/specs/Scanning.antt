@@ -9,9 +9,9 @@ use Rattle.ioc_fields.specs.declared.field_no.FieldNo.{FieldNo}
 use Rattle.ioc_fields.specs.declared.field_no.FieldNo.TheVariants.{Common as Common-field, Own}
 use Rattle.ioc_fields.specs.declared.field_no.OwnField.TheVariants.{Inp, Out}
 use Rattle.ioc_fields.specs.declared.field_no.CommonField.TheVariants.{Scan, Phas, Prio, Evnt}
-use Rattle.ioc_common.specs.declared.link_field.LinkField.{LinkField}
-use Rattle.ioc_common.specs.Links.{device_text}
-use Rattle.ioc_common.specs.Steps.{change_numbered}
+use Rattle.ioc_dbcommon.specs.declared.link_field.LinkField.{LinkField}
+use Rattle.ioc_dbcommon.specs.Links.{device_text}
+use Rattle.ioc_dbcommon.specs.Steps.{change_numbered}
 use Rattle.ioc_record.specs.RecordRules.{RecordRules}
 use Rattle.ioc_store.specs.declared.outbox.OutboxItem.TheVariants.{Change}
 use Rattle.ioc_store.specs.World.{World, at, common_at, put, changed, sent, lost}

@@ -2,7 +2,7 @@
 ghost use Rattle.std.specs.Prelude.{◌≡◌};
 ghost use Rattle.ioc_store.specs.Places.{requested_at};
 
-use ioc_common::StandingLink;
+use ioc_dbcommon::StandingLink;
 use ioc_ledger::Outcome;
 use ioc_names::RecordNo;
 

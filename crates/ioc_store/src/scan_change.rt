@@ -1,5 +1,5 @@
 //! Changes of a record's place on the scan lists.
-use ioc_common::Scanning;
+use ioc_dbcommon::Scanning;
 use ioc_links::MAX_DEVICE_BYTES;
 use ioc_names::RecordNo;
 use ioc_values::Short;

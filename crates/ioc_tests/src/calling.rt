@@ -5,12 +5,12 @@ use ioc_device::Device;
 use ioc_engine::Engine;
 use ioc_events::Reply;
 use ioc_fields::{CommonField, FieldNo, OwnField};
-use ioc_journal::{Base, Desk, Receipt};
+use ioc_history::{Base, Desk, Receipt};
 use ioc_names::RecordNo;
 use ioc_notify::NotifyId;
 use ioc_record::RecordKind;
 use ioc_values::{Finished, Input, IocError, Value};
-use ioc_workplace::Workplace;
+use ioc_set_store::Workplace;
 use std::alloc::Global;
 use std::sync::Wait;
 

@@ -2,7 +2,7 @@
 use crate::calling::{Call, VAL, make, seat};
 use ioc_device::Device;
 use ioc_engine::Engine;
-use ioc_journal::Base;
+use ioc_history::Base;
 use ioc_record::RecordKind;
 use std::alloc::{AllocError, Global};
 use std::fmt::Write;

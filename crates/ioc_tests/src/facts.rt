@@ -1,6 +1,6 @@
 //! Loads a database text, which makes a database with given facts, or has a fault.
 use Fact::{Counts, Leads, LeadsHome, LeadsNowhere, Named, Shows, Unnamed};
-use ioc_common::{FieldAddress, Lead};
+use ioc_dbcommon::{FieldAddress, Lead};
 use ioc_dbfile::{Database, Macros, load};
 use ioc_fields::{FieldNo, field};
 use ioc_names::RecordNo;

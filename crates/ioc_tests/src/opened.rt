@@ -1,16 +1,16 @@
 //! The parts of engines: devices, records and links.
 ghost use Rattle.std.specs.Prelude.{◌≡◌, All, IfOk};
 
-use ioc_common::{FieldAddress, KeptLink, Lead, LinkField};
+use ioc_dbcommon::{FieldAddress, KeptLink, Lead, LinkField};
 use ioc_dbfile::{Database, load};
-use ioc_dbtext::Macros;
-use ioc_dealing::Loaded;
+use ioc_dblex::Macros;
+use ioc_set_records::Loaded;
 use ioc_device::{Answer, Device};
 use ioc_engine::with_copies;
 use ioc_fields::{FieldNo, OwnField};
 use ioc_links::{LinkKind, parse};
 use ioc_names::RecordNo;
-use ioc_types::Record;
+use rec_types::Record;
 use ioc_values::{IocError, Value};
 use std::alloc::{AllocError, Global};
 use std::sync::Arc;

@@ -2,20 +2,20 @@
 //! that starts an engine is costly to prove.
 ghost use Rattle.std.specs.Prelude.{◌≡◌, ◌-◌, ◌^◌, [], All};
 ghost use Rattle.crossbeam_utils.specs.Seq.{cell_view};
-ghost use Rattle.ioc_line.specs.Line.{keeper};
+ghost use Rattle.ioc_history.specs.Line.{keeper};
 ghost use Rattle.ioc_engine.specs.Loading.{loaded_world, have_device};
 
 use crate::eight::eight;
 use crate::opened::{Sensor, loaded, seen};
 use crate::steps::{Step, follow};
-use ioc_dealing::Loaded;
+use ioc_set_records::Loaded;
 use ioc_device::Device;
 use ioc_engine::{Engine, new_cell, start};
-use ioc_journal::{Base, Limits, PLACES};
-use ioc_line::{Cell, Token};
+use ioc_history::{Base, Limits, PLACES};
+use ioc_history::{Cell, Token};
 use ioc_record::RecordKind;
 use ioc_topology::Locked;
-use ioc_types::Record;
+use rec_types::Record;
 use ioc_values::IocError;
 use std::alloc::Global;
 use std::marker::Brand;

@@ -3,12 +3,12 @@ use crate::calling::{Call, Told, make, seat};
 use ioc_device::Device;
 use ioc_engine::Engine;
 use ioc_events::Reply;
-use ioc_journal::{Base, Desk};
+use ioc_history::{Base, Desk};
 use ioc_ledger::Outcome;
 use ioc_notify::NotifyId;
 use ioc_record::{FieldText, RecordKind};
 use ioc_values::IocError;
-use ioc_workplace::Workplace;
+use ioc_set_store::Workplace;
 use std::alloc::Global;
 use std::sync::Wait;
 

@@ -7,12 +7,12 @@ use Rattle.ioc_links.specs.declared.link.Link.TheVariants.{Constant}
 use Rattle.ioc_fields.specs.declared.field_no.OwnField.{OwnField}
 use Rattle.ioc_fields.specs.declared.field_no.OwnField.TheVariants.{Val, Inp}
 use Rattle.ioc_fields.specs.declared.record_type.RecordType.TheVariants as type
-use Rattle.ioc_common.specs.declared.body.Got.{Got}
-use Rattle.ioc_common.specs.declared.body.InputKind.{InputKind}
-use Rattle.ioc_common.specs.declared.body.InputKind.TheVariants as input
-use Rattle.ioc_common.specs.declared.body.Output.TheVariants.{NoOutput}
-use Rattle.ioc_common.specs.Raw.{is_raw, raw_came, state_came, raw_constant, state_constant}
-use Rattle.ioc_common.specs.Source.{new_source, source_link, source_with_link, source_begin}
+use Rattle.ioc_dbcommon.specs.declared.body.Got.{Got}
+use Rattle.ioc_dbcommon.specs.declared.body.InputKind.{InputKind}
+use Rattle.ioc_dbcommon.specs.declared.body.InputKind.TheVariants as input
+use Rattle.ioc_dbcommon.specs.declared.body.Output.TheVariants.{NoOutput}
+use Rattle.ioc_dbcommon.specs.Raw.{is_raw, raw_came, state_came, raw_constant, state_constant}
+use Rattle.ioc_dbcommon.specs.Source.{new_source, source_link, source_with_link, source_begin}
 use Rattle.ioc_record.specs.BodyRules.{BodyRules, Held}
 use Rattle.rec_binary.specs.declared.bi.Bi.{Bi}
 use Rattle.rec_binary.specs.declared.two_state.TwoState.{TwoState}

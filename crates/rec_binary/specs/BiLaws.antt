@@ -13,13 +13,13 @@ use Rattle.ioc_fields.specs.declared.record_type.RecordType.TheVariants.{Bi as B
 use Rattle.ioc_fields.specs.Table.{row_of, own_row, bi_row, two_state_row, can_put, is_link, kind_of}
 use Rattle.ioc_fields.specs.Types.{reads_device}
 use Rattle.ioc_fields.specs.Defaults.{zero_of, own_default}
-use Rattle.ioc_common.specs.declared.source.Source.{Source}
-use Rattle.ioc_common.specs.declared.body.Got.{Got}
-use Rattle.ioc_common.specs.Links.{no_link, use_of, named_by_field}
+use Rattle.ioc_dbcommon.specs.declared.source.Source.{Source}
+use Rattle.ioc_dbcommon.specs.declared.body.Got.{Got}
+use Rattle.ioc_dbcommon.specs.Links.{no_link, use_of, named_by_field}
 use Rattle.ioc_record.specs.Values.{field_sort, sort_in}
-use Rattle.ioc_common.specs.Parts.{severity_back}
-use Rattle.ioc_common.specs.Raw.{is_raw, raw_came, state_came, state_constant}
-use Rattle.ioc_common.specs.Source.{new_source, source_link, source_set_here, source_set_there, source_set_others, source_set_twice, source_begin_leads}
+use Rattle.ioc_dbcommon.specs.Parts.{severity_back}
+use Rattle.ioc_dbcommon.specs.Raw.{is_raw, raw_came, state_came, state_constant}
+use Rattle.ioc_dbcommon.specs.Source.{new_source, source_link, source_set_here, source_set_there, source_set_others, source_set_twice, source_begin_leads}
 use Rattle.ioc_record.specs.BodyRules.{Held}
 use Rattle.ioc_record.specs.BodyLaws.{IsLawfulBody, IsNewBody}
 use Rattle.rec_binary.specs.declared.bi.Bi.{Bi}

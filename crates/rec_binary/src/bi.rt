@@ -5,7 +5,7 @@ ghost use Rattle.ioc_record.specs.BodyLaws.{IsNewBody};
 ghost use Rattle.rec_binary.specs.Bi.{bi, new_bi, raw_taken, bi_tested, constant_put, raw_taken_if, state_taken_if};
 
 use crate::two_state::TwoState;
-use ioc_common::{
+use ioc_dbcommon::{
     Condition, Fresh, Got, InputKind, KeptLink, LinkUse, Need, Output, Source, raw_came,
     raw_constant, state_came, state_constant,
 };

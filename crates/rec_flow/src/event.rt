@@ -3,7 +3,7 @@ ghost use Rattle.std.specs.Prelude.{◌≡◌};
 ghost use Rattle.ioc_record.specs.BodyLaws.{IsNewBody};
 ghost use Rattle.rec_flow.specs.Event.{event, new_event};
 
-use ioc_common::{Condition, Fresh, Got, InputKind, KeptLink, LinkUse, Need, Output};
+use ioc_dbcommon::{Condition, Fresh, Got, InputKind, KeptLink, LinkUse, Need, Output};
 use ioc_fields::{OwnField, RecordType};
 use ioc_record::RecordBody;
 use ioc_values::{Text, Value};

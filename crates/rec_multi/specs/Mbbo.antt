@@ -9,16 +9,16 @@ use Rattle.ioc_links.specs.declared.link.Link.TheVariants.{Constant}
 use Rattle.ioc_fields.specs.declared.field_no.OwnField.{OwnField}
 use Rattle.ioc_fields.specs.declared.field_no.OwnField.TheVariants.{Val, Dol, Omsl, Ivoa, Ivov}
 use Rattle.ioc_fields.specs.declared.record_type.RecordType.TheVariants as type
-use Rattle.ioc_common.specs.declared.condition.Condition.{Condition}
-use Rattle.ioc_common.specs.declared.body.Got.{Got}
-use Rattle.ioc_common.specs.declared.body.Got.TheVariants as got
-use Rattle.ioc_common.specs.declared.body.InputKind.{InputKind}
-use Rattle.ioc_common.specs.declared.body.InputKind.TheVariants as input
-use Rattle.ioc_common.specs.declared.body.Output.{Output}
-use Rattle.ioc_common.specs.declared.body.Output.TheVariants.{NoOutput}
-use Rattle.ioc_common.specs.Parts.{ushort_in}
-use Rattle.ioc_common.specs.Raw.{is_raw}
-use Rattle.ioc_common.specs.Drive.{new_drive, drive_link, drive_with_link, drive_get, drive_stored, drive_begin, sets, drives, written}
+use Rattle.ioc_dbcommon.specs.declared.condition.Condition.{Condition}
+use Rattle.ioc_dbcommon.specs.declared.body.Got.{Got}
+use Rattle.ioc_dbcommon.specs.declared.body.Got.TheVariants as got
+use Rattle.ioc_dbcommon.specs.declared.body.InputKind.{InputKind}
+use Rattle.ioc_dbcommon.specs.declared.body.InputKind.TheVariants as input
+use Rattle.ioc_dbcommon.specs.declared.body.Output.{Output}
+use Rattle.ioc_dbcommon.specs.declared.body.Output.TheVariants.{NoOutput}
+use Rattle.ioc_dbcommon.specs.Parts.{ushort_in}
+use Rattle.ioc_dbcommon.specs.Raw.{is_raw}
+use Rattle.ioc_dbcommon.specs.Drive.{new_drive, drive_link, drive_with_link, drive_get, drive_stored, drive_begin, sets, drives, written}
 use Rattle.ioc_record.specs.BodyRules.{BodyRules, Held}
 use Rattle.rec_multi.specs.Bits.{shifted_left}
 use Rattle.rec_multi.specs.States.{are_defined}

@@ -14,16 +14,16 @@ use Rattle.ioc_fields.specs.declared.record_type.RecordType.TheVariants.{Mbbo as
 use Rattle.ioc_fields.specs.Table.{row_of, own_row, mbbo_row, output_row, multi_state_row, can_put, is_link, kind_of}
 use Rattle.ioc_fields.specs.Types.{reads_device}
 use Rattle.ioc_fields.specs.Defaults.{zero_of, own_default}
-use Rattle.ioc_common.specs.declared.drive.Drive.{Drive}
-use Rattle.ioc_common.specs.declared.link_field.LinkField.{LinkField}
-use Rattle.ioc_common.specs.declared.link_field.LinkUse.TheVariants.{Standing}
-use Rattle.ioc_common.specs.declared.link_field.StandingLink.{StandingLink}
-use Rattle.ioc_common.specs.declared.body.Got.{Got}
-use Rattle.ioc_common.specs.declared.body.Got.TheVariants as got
-use Rattle.ioc_common.specs.declared.body.Output.TheVariants.{NoOutput, WriteLink}
-use Rattle.ioc_common.specs.Links.{no_link, use_of, named_by_field}
+use Rattle.ioc_dbcommon.specs.declared.drive.Drive.{Drive}
+use Rattle.ioc_dbcommon.specs.declared.link_field.LinkField.{LinkField}
+use Rattle.ioc_dbcommon.specs.declared.link_field.LinkUse.TheVariants.{Standing}
+use Rattle.ioc_dbcommon.specs.declared.link_field.StandingLink.{StandingLink}
+use Rattle.ioc_dbcommon.specs.declared.body.Got.{Got}
+use Rattle.ioc_dbcommon.specs.declared.body.Got.TheVariants as got
+use Rattle.ioc_dbcommon.specs.declared.body.Output.TheVariants.{NoOutput, WriteLink}
+use Rattle.ioc_dbcommon.specs.Links.{no_link, use_of, named_by_field}
 use Rattle.ioc_record.specs.Values.{field_sort, sort_in}
-use Rattle.ioc_common.specs.Drive.{new_drive, drive_link, drive_with_link, drive_get, drive_stored, drives, sets, written, drive_stored-output, drive_stored-desired, omsl_reads_back, ivoa_reads_back, begin_leads, written_leads, drive_set_here, drive_set_there, drive_set_others, drive_set_twice, drive_set_values}
+use Rattle.ioc_dbcommon.specs.Drive.{new_drive, drive_link, drive_with_link, drive_get, drive_stored, drives, sets, written, drive_stored-output, drive_stored-desired, omsl_reads_back, ivoa_reads_back, begin_leads, written_leads, drive_set_here, drive_set_there, drive_set_others, drive_set_twice, drive_set_values}
 use Rattle.ioc_record.specs.BodyRules.{Held}
 use Rattle.ioc_record.specs.BodyLaws.{IsLawfulBody, IsNewBody}
 use Rattle.ioc_record.specs.ByRow.{can_put_by, default_by}

@@ -15,9 +15,9 @@ use Rattle.ioc_fields.specs.declared.field_no.OwnField.TheVariants.{Val, Rval, M
 use Rattle.ioc_fields.specs.declared.row.Row.{Row}
 use Rattle.ioc_fields.specs.Table.{multi_state_row}
 use Rattle.ioc_fields.specs.Defaults.{zero_of}
-use Rattle.ioc_common.specs.Condition.{raised}
+use Rattle.ioc_dbcommon.specs.Condition.{raised}
 use Rattle.ioc_record.specs.Values.{field_sort, sort_in}
-use Rattle.ioc_common.specs.Parts.{ulong_in, ushort_in, state_in, severity_in, severity_back}
+use Rattle.ioc_dbcommon.specs.Parts.{ulong_in, ushort_in, state_in, severity_in, severity_back}
 use Rattle.ioc_record.specs.BodyRules.{Held}
 use Rattle.ioc_record.specs.ByRow.{can_put_by, default_by}
 use Rattle.rec_multi.specs.Bits.{made_mask}

@@ -6,7 +6,7 @@ ghost use Rattle.rec_multi.specs.Mbbi.{mbbi, new_mbbi, state_of, raw_taken, cons
 
 use crate::bits::shifted_right;
 use crate::multi_state::MultiState;
-use ioc_common::{
+use ioc_dbcommon::{
     Condition, Fresh, Got, InputKind, KeptLink, LinkUse, Need, Output, Source, raw_came,
     raw_constant, state_came, state_constant,
 };

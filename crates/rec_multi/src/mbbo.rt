@@ -6,7 +6,7 @@ ghost use Rattle.rec_multi.specs.Mbbo.{mbbo, new_mbbo, number_of, converted, cam
 
 use crate::bits::shifted_left;
 use crate::multi_state::MultiState;
-use ioc_common::{
+use ioc_dbcommon::{
     Condition, Drive, Fresh, Got, InputKind, KeptLink, LinkUse, Need, Output, ushort_in,
 };
 use ioc_fields::{OwnField, RecordType};

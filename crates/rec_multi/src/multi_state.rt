@@ -5,7 +5,7 @@ ghost use Rattle.rec_multi.specs.MultiState.{new_multi_state, multi_get, multi_s
 
 use crate::bits::made_mask;
 use crate::states::States;
-use ioc_common::{Condition, severity_in, state_in, ulong_in, ushort_in};
+use ioc_dbcommon::{Condition, severity_in, state_in, ulong_in, ushort_in};
 use ioc_fields::OwnField;
 use ioc_menus::{Severity, Status};
 use ioc_values::Value;

@@ -12,13 +12,13 @@ use Rattle.ioc_fields.specs.declared.field_no.OwnField.{OwnField}
 use Rattle.ioc_fields.specs.declared.field_no.OwnField.TheVariants.{Val, Inp}
 use Rattle.ioc_fields.specs.Table.{row_of, numeric_input_row, numeric_row, can_put, is_link, kind_of}
 use Rattle.ioc_fields.specs.Defaults.{zero_of, own_default}
-use Rattle.ioc_common.specs.declared.link_field.LinkField.{LinkField}
-use Rattle.ioc_common.specs.declared.source.Source.{Source}
-use Rattle.ioc_common.specs.declared.body.Got.{Got}
-use Rattle.ioc_common.specs.declared.body.Got.TheVariants as got
-use Rattle.ioc_common.specs.Links.{no_link, use_of, named_by_field}
+use Rattle.ioc_dbcommon.specs.declared.link_field.LinkField.{LinkField}
+use Rattle.ioc_dbcommon.specs.declared.source.Source.{Source}
+use Rattle.ioc_dbcommon.specs.declared.body.Got.{Got}
+use Rattle.ioc_dbcommon.specs.declared.body.Got.TheVariants as got
+use Rattle.ioc_dbcommon.specs.Links.{no_link, use_of, named_by_field}
 use Rattle.ioc_record.specs.Values.{sort_in}
-use Rattle.ioc_common.specs.Source.{new_source, source_link, source_set_here, source_set_there, source_set_others, source_set_twice, source_begin_leads}
+use Rattle.ioc_dbcommon.specs.Source.{new_source, source_link, source_set_here, source_set_there, source_set_others, source_set_twice, source_begin_leads}
 use Rattle.ioc_record.specs.BodyRules.{Held}
 use Rattle.ioc_record.specs.BodyLaws.{IsLawfulBody, IsNewBody}
 use Rattle.ioc_record.specs.ByRow.{can_put_by, default_by, is_link_by}

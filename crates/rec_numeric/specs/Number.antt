@@ -7,7 +7,7 @@ use Rattle.ioc_values.specs.declared.value.Value.{Value}
 use Rattle.ioc_values.specs.declared.value.Value.TheVariants as value
 use Rattle.ioc_fields.specs.declared.record_type.RecordType.{RecordType}
 use Rattle.ioc_fields.specs.declared.record_type.RecordType.TheVariants as type
-use Rattle.ioc_common.specs.Parts.{long_in, int64_in}
+use Rattle.ioc_dbcommon.specs.Parts.{long_in, int64_in}
 
 -- A kind of number: its range and its values, the record type that reads such numbers, and the one
 -- that writes them.

@@ -14,7 +14,7 @@ use Rattle.ioc_fields.specs.Table.{numeric_row}
 use Rattle.ioc_fields.specs.Defaults.{zero_of}
 use Rattle.ioc_record.specs.Values.{field_sort, sort_in}
 use Rattle.ioc_record.specs.ByRow.{can_put_by, default_by}
-use Rattle.ioc_common.specs.Parts.{severity_in, severity_back}
+use Rattle.ioc_dbcommon.specs.Parts.{severity_in, severity_back}
 use Rattle.rec_numeric.specs.Number.{NumberRules}
 use Rattle.rec_numeric.specs.NumberLaws.{IsLawfulNumber}
 use Rattle.rec_numeric.specs.Numeric.{new_numeric, numeric_get, numeric_stored}

@@ -7,7 +7,7 @@ ghost use Rattle.rec_numeric.specs.Input.{numeric_input, new_input};
 
 use crate::number::Number;
 use crate::numeric::Numeric;
-use ioc_common::{Condition, Fresh, Got, InputKind, KeptLink, LinkUse, Need, Output, Source};
+use ioc_dbcommon::{Condition, Fresh, Got, InputKind, KeptLink, LinkUse, Need, Output, Source};
 use ioc_fields::{OwnField, RecordType};
 use ioc_links::Link;
 use ioc_record::RecordBody;

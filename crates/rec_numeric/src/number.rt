@@ -7,7 +7,7 @@ ghost use Rattle.rec_numeric.specs.Number.{NumberRules};
 ghost use Rattle.rec_numeric.specs.NumberLaws.{IsLawfulNumber};
 
 use ioc_alarms::WholeNumber;
-use ioc_common::{int64_in, long_in};
+use ioc_dbcommon::{int64_in, long_in};
 use ioc_fields::RecordType;
 use ioc_values::{Range, Value};
 

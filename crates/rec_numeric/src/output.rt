@@ -8,7 +8,7 @@ ghost use Rattle.rec_numeric.specs.Output.{numeric_output, new_output, within, l
 
 use crate::number::Number;
 use crate::numeric::Numeric;
-use ioc_common::{Condition, Drive, Fresh, Got, InputKind, KeptLink, LinkUse, Need, Output};
+use ioc_dbcommon::{Condition, Drive, Fresh, Got, InputKind, KeptLink, LinkUse, Need, Output};
 use ioc_fields::{OwnField, RecordType};
 use ioc_links::Link;
 use ioc_record::RecordBody;

@@ -1,11 +1,11 @@
 -- The type stringin. Record Reference Manual, "String Input Record".
 use Rattle.std.specs.Prelude.{[]}
 use Rattle.ioc_fields.specs.declared.record_type.RecordType.TheVariants as type
-use Rattle.ioc_common.specs.declared.body.Got.{Got}
-use Rattle.ioc_common.specs.declared.body.InputKind.TheVariants as input
-use Rattle.ioc_common.specs.declared.body.Output.TheVariants.{NoOutput}
-use Rattle.ioc_common.specs.Condition.{undefined_tested}
-use Rattle.ioc_common.specs.Source.{source_link, source_with_link, source_begin}
+use Rattle.ioc_dbcommon.specs.declared.body.Got.{Got}
+use Rattle.ioc_dbcommon.specs.declared.body.InputKind.TheVariants as input
+use Rattle.ioc_dbcommon.specs.declared.body.Output.TheVariants.{NoOutput}
+use Rattle.ioc_dbcommon.specs.Condition.{undefined_tested}
+use Rattle.ioc_dbcommon.specs.Source.{source_link, source_with_link, source_begin}
 use Rattle.ioc_record.specs.BodyRules.{BodyRules, Held}
 use Rattle.rec_text.specs.declared.text_input.TextInput.{TextInput}
 use Rattle.rec_text.specs.TextInput.{new_text_input, text_input_get, text_input_stored, came, text_constant_kind, constant_put}

@@ -9,12 +9,12 @@ use Rattle.ioc_links.specs.declared.link.Link.{Link}
 use Rattle.ioc_links.specs.declared.link.Link.TheVariants.{Constant}
 use Rattle.ioc_fields.specs.declared.field_no.OwnField.{OwnField}
 use Rattle.ioc_fields.specs.declared.field_no.OwnField.TheVariants.{Val, Inp}
-use Rattle.ioc_common.specs.declared.body.Got.{Got}
-use Rattle.ioc_common.specs.declared.body.Got.TheVariants as got
-use Rattle.ioc_common.specs.declared.body.InputKind.{InputKind}
-use Rattle.ioc_common.specs.declared.body.InputKind.TheVariants as input
-use Rattle.ioc_common.specs.Parts.{text_in}
-use Rattle.ioc_common.specs.Source.{new_source}
+use Rattle.ioc_dbcommon.specs.declared.body.Got.{Got}
+use Rattle.ioc_dbcommon.specs.declared.body.Got.TheVariants as got
+use Rattle.ioc_dbcommon.specs.declared.body.InputKind.{InputKind}
+use Rattle.ioc_dbcommon.specs.declared.body.InputKind.TheVariants as input
+use Rattle.ioc_dbcommon.specs.Parts.{text_in}
+use Rattle.ioc_dbcommon.specs.Source.{new_source}
 use Rattle.ioc_record.specs.BodyRules.{Held}
 use Rattle.rec_text.specs.declared.text_input.TextInput.{TextInput}
 

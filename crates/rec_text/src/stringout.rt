@@ -4,7 +4,7 @@ ghost use Rattle.ioc_record.specs.BodyRules.{Held};
 ghost use Rattle.ioc_record.specs.BodyLaws.{IsNewBody};
 ghost use Rattle.rec_text.specs.Stringout.{stringout, new_stringout, worked};
 
-use ioc_common::{
+use ioc_dbcommon::{
     Condition, Drive, Fresh, Got, InputKind, KeptLink, LinkUse, Need, Output, text_in,
 };
 use ioc_fields::{OwnField, RecordType};

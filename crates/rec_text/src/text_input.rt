@@ -3,7 +3,7 @@ ghost use Rattle.std.specs.Prelude.{◌≡◌, IfOk};
 ghost use Rattle.ioc_record.specs.BodyRules.{Held};
 ghost use Rattle.rec_text.specs.TextInput.{new_text_input, text_input_get, text_input_stored, came, constant_put};
 
-use ioc_common::{Condition, Got, Source, text_in};
+use ioc_dbcommon::{Condition, Got, Source, text_in};
 use ioc_fields::OwnField;
 use ioc_links::Link;
 use ioc_values::{Kind, Text, Value, of_number};

@@ -1,5 +1,5 @@
 //! Steps on the fields that every record has.
-use ioc_common::Common;
+use ioc_dbcommon::Common;
 use ioc_links::Mode;
 use ioc_menus::{Severity, Status};
 

@@ -4,7 +4,7 @@ use crate::lower::steps::Step::{
     PutRefused, Raised, ReadAsNumber, ReadAsText, Set, SetRefused, Stands, Take, Test,
 };
 use crate::lower::steps::{Came, Does, SHOW, Step, Wants};
-use ioc_common::InputKind;
+use ioc_dbcommon::InputKind;
 use ioc_fields::{FieldNo, OwnField};
 use ioc_links::Mode;
 use ioc_values::{IocError, Range};

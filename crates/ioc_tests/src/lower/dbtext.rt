@@ -1,5 +1,5 @@
 //! Lines and their texts, by examples of the database grammar.
-use ioc_dbtext::{End, Macros, expand};
+use ioc_dblex::{End, Macros, expand};
 use std::alloc::Global;
 
 static LINES: [(&[u8], Option<&[u8]>); 11] = [

@@ -3,7 +3,7 @@ use crate::lower::steps::Step::{
     Begin, Converts, Copied, Has, Load, Put, PutRefused, Set, SetRefused, Stands, Take, Test,
 };
 use crate::lower::steps::{Came, Does, Step, Wants, follow};
-use ioc_common::{InputKind, Kept};
+use ioc_dbcommon::{InputKind, Kept};
 use ioc_fields::{FieldNo, OwnField, Slot};
 use ioc_links::Mode;
 use ioc_record::RecordBody;

@@ -3,7 +3,7 @@ use crate::lower::steps::Step::{
     Begin, Converts, Copied, Has, Lists, Load, Put, PutRefused, Raised, Set, Shows, Take, Test,
 };
 use crate::lower::steps::{Came, Does, Step, Wants};
-use ioc_common::InputKind;
+use ioc_dbcommon::InputKind;
 use ioc_values::{IocError, Range};
 
 const TAKE_NOTHING: Step<'static> = Take(Came::Nothing, Does::Nothing);

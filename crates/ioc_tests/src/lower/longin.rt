@@ -5,7 +5,7 @@ use crate::lower::steps::Step::{
     Shows, Take, Test,
 };
 use crate::lower::steps::{Came, Does, SHOW, Step, Wants};
-use ioc_common::InputKind;
+use ioc_dbcommon::InputKind;
 use ioc_fields::{FieldNo, OwnField};
 use ioc_menus::{Severity, Status};
 use ioc_values::Range;

@@ -6,7 +6,7 @@ use crate::lower::sets::{
     part,
 };
 use ioc_device::Device;
-use ioc_members::Members;
+use ioc_set_records::Members;
 use ioc_names::RecordNo;
 use ioc_record::{Record, RecordKind};
 use rec_numeric::Longin;

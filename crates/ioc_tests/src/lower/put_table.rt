@@ -2,7 +2,7 @@
 ghost use Rattle.std.specs.Prelude.{◌≡◌, ◌∷◌, []};
 
 use ioc_notify::{Live, NotifyId};
-use ioc_put_table::PutTable;
+use ioc_notify::PutTable;
 use std::alloc::{AllocError, Global};
 use std::test::Fail;
 

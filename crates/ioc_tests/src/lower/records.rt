@@ -5,7 +5,7 @@ use crate::lower::steps::Step::{
     Do, Has, Load, MayPut, Put, PutByLink, PutRefused, Raised, Set, SetRefused, Shows, Test,
 };
 use crate::lower::steps::{BLOCK, SHOW, Step};
-use ioc_common::{InputKind, KeptLink, LinkField, LinkUse, disable_kind};
+use ioc_dbcommon::{InputKind, KeptLink, LinkField, LinkUse, disable_kind};
 use ioc_links::Mode;
 use ioc_menus::{Severity, Status};
 use ioc_record::convert_to;

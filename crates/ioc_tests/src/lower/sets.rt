@@ -1,14 +1,14 @@
 //! Sets of records whose links form a chain, and the operations on them.
 ghost use Rattle.std.specs.Prelude.{◌≡◌, ◌∷◌, [], ℕ, None, IsTrue, IsSome, IfOk, Contains};
 ghost use Rattle.std.specs.FinMap as map;
-ghost use Rattle.ioc_common.specs.Links.{use_of, named_by};
-ghost use Rattle.ioc_members.specs.Joined.{links_of, IsPart, HasLink, HasFreeLink};
+ghost use Rattle.ioc_dbcommon.specs.Links.{use_of, named_by};
+ghost use Rattle.ioc_set_records.specs.Joined.{links_of, IsPart, HasLink, HasFreeLink};
 
-use ioc_common::{FieldAddress, KeptLink, Lead, LinkField};
+use ioc_dbcommon::{FieldAddress, KeptLink, Lead, LinkField};
 use ioc_device::{Answer, Ask, Device};
 use ioc_fields::{CommonField, FieldNo, OwnField};
 use ioc_links::{LinkKind, parse};
-use ioc_members::{Change, Members};
+use ioc_set_records::{Change, Members};
 use ioc_names::RecordNo;
 use ioc_record::{Record, RecordKind};
 use ioc_values::{Name, Value};
@@ -52,7 +52,7 @@ pub struct Cut;
 impl<K: RecordKind> Change<K> for Cut {
     ghost use Rattle.ioc_fields.specs.declared.field_no.FieldNo.TheVariants.{Common};
     ghost use Rattle.ioc_fields.specs.declared.field_no.CommonField.TheVariants.{Flnk};
-    ghost use Rattle.ioc_common.specs.Links.{no_link};
+    ghost use Rattle.ioc_dbcommon.specs.Links.{no_link};
 
     ghost changed = { λ _ item. K.rules.with_link item (Common Flnk) no_link };
 

@@ -1,7 +1,7 @@
 //! Tests of single records as lists of steps, each with its expected result. One list has all tests
 //! of a type, because a list is far cheaper to prove than a function.
 use crate::lower::acts::{Act, is_done};
-use ioc_common::{
+use ioc_dbcommon::{
     FieldAddress, Fresh, Got, InputKind, KeptLink, Lead, LinkUse, Need, Output, StandingLink,
 };
 use ioc_fields::{CommonField, FieldNo, OwnField, field};

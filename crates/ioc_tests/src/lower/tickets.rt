@@ -1,7 +1,7 @@
 //! Tests of tickets.
 ghost use Rattle.std.specs.Prelude.{◌≡◌, ◌-◌, ◌^◌};
 
-use ioc_tickets::{Ledger, PARTS};
+use ioc_ledger::{Ledger, PARTS};
 use std::marker::Brand;
 use std::sync::ledger;
 use std::sync::ledger::Blank;

@@ -1,5 +1,5 @@
 use Rattle.std.proofs.Common.{◌≡◌, ◌++◌, ◌+◌, ℕ, List, Option, map, take, drop, get_or, length, ap, sym, ◌∙◌, arith}
-use Rattle.ioc_types.specs.Record.{Record, record_rules}
+use Rattle.rec_types.specs.Record.{Record, record_rules}
 use Rattle.ioc_fields.specs.declared.record_type.RecordType.{RecordType}
 use Rattle.ioc_dbfile.specs.Finished.{Owner, finished, by_place}
 use Rattle.ioc_dbfile.specs.Owners.{owner_of}

@@ -1,5 +1,5 @@
 use Rattle.std.proofs.Common.{◌≡◌, ◌++◌, take, drop}
-use Rattle.ioc_types.specs.Record.{record_rules}
+use Rattle.rec_types.specs.Record.{record_rules}
 use Rattle.ioc_dbfile.specs.Finished.{finished, by_place}
 use Rattle.ioc_dbfile.specs.OwnerTable.{owner_in}
 use Rattle.ioc_dbfile.proofs.finish.finish_all.Given as goal

@@ -1,5 +1,5 @@
 use Rattle.std.proofs.Common.{◌≡◌, length}
-use Rattle.ioc_types.specs.Record.{record_rules}
+use Rattle.rec_types.specs.Record.{record_rules}
 use Rattle.ioc_dbfile.specs.Finished.{linked_all}
 use Rattle.ioc_dbfile.specs.OwnerTable.{owner_in}
 use Rattle.ioc_dbfile.proofs.finish.link_all.Given as goal

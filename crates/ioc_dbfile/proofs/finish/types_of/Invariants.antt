@@ -1,5 +1,5 @@
 use Rattle.std.proofs.Common.{◌≡◌, ◌++◌, length, map}
-use Rattle.ioc_types.specs.Record.{record_rules}
+use Rattle.rec_types.specs.Record.{record_rules}
 use Rattle.ioc_dbfile.proofs.finish.types_of.Given as goal
 
 abbrev pub invariant-loop-rest : goal.invariant-loop-rest

@@ -1,7 +1,7 @@
 use Rattle.std.proofs.Common.{◌≡◌, ◌∙◌, List, [], ◌∷◌, ℕ, Option, None, Some, length, refl, sym, arith, rules}
 use Rattle.std.specs.Cmp.Lexicographic.{pointwise}
 use Rattle.std.specs.List.{position_from}
-use Rattle.ioc_types.specs.Record.{record_rules}
+use Rattle.rec_types.specs.Record.{record_rules}
 use Rattle.ioc_dbfile.specs.Owners.{owner_of, asks_for}
 use Rattle.ioc_dbfile.specs.OwnerTable.{owner_in, or_else}
 use Rattle.ioc_dbfile.proofs.OwnerLemmas.{then_others, or_none, none_at_end}

@@ -1,6 +1,6 @@
 use Rattle.std.proofs.Common.{◌≡◌, ◌+◌, ℕ, List, length}
 use Rattle.std.specs.List.{position_from}
-use Rattle.ioc_types.specs.Record.{record_rules}
+use Rattle.rec_types.specs.Record.{record_rules}
 use Rattle.ioc_dbfile.specs.Owners.{asks_for}
 use Rattle.ioc_dbfile.specs.OwnerTable.{owner_in, or_else}
 use Rattle.ioc_dbfile.proofs.owners.owners_of.Given as goal

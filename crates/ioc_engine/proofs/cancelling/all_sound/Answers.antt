@@ -1,5 +1,5 @@
 use Rattle.std.proofs.Common.{ℕ, ◌<◌, length, get_or, subst, ◌∙◌, below_more, rules}
-use Rattle.ioc_lent.specs.Holding.{HeldView, IsSoundlyHeld}
+use Rattle.ioc_journaled_set.specs.Holding.{HeldView, IsSoundlyHeld}
 use Rattle.std.proofs.lemmas.List.{get_or_default}
 use Rattle.ioc_engine.proofs.cancelling.all_sound.Goals as goal
 

@@ -1,6 +1,6 @@
 use Rattle.std.proofs.Common.{ℕ, ◌<◌}
 use Rattle.std.specs.Prelude.{slice_index_or}
-use Rattle.ioc_lent.specs.Holding.{HeldView, IsSoundlyHeld}
+use Rattle.ioc_journaled_set.specs.Holding.{HeldView, IsSoundlyHeld}
 use Rattle.ioc_engine.proofs.cancelling.all_sound.Given as goal
 
 abbrev pub invariant-loop-set : goal.invariant-loop-set

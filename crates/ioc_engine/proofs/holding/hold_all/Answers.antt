@@ -1,5 +1,5 @@
 use Rattle.std.proofs.Common.{◌≡◌, ◌<◌, length, ◌∙◌, arith, rules}
-use Rattle.ioc_members.specs.Contents.{nothing}
+use Rattle.ioc_set_records.specs.Contents.{nothing}
 use Rattle.ioc_engine.proofs.DealtParts.{sets_left, set_here, get_or_any}
 use Rattle.ioc_engine.proofs.holding.hold_all.Goals as goal
 

@@ -1,6 +1,6 @@
 use Rattle.std.proofs.Common.{◌≡◌, [], length}
 use Rattle.crossbeam_utils.specs.Seq.{cell_view}
-use Rattle.ioc_line.specs.Line.{keeper}
+use Rattle.ioc_history.specs.Line.{keeper}
 use Rattle.ioc_engine.specs.Loading.{AreSetsFrom, AreOfPartsBelow}
 use Rattle.ioc_engine.proofs.holding.hold_all.Given as goal
 

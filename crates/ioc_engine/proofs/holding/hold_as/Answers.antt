@@ -1,14 +1,14 @@
 use Rattle.std.proofs.Common.{List, [], refl, sym, ◌∙◌, subst}
 use Rattle.std.specs.FinMap.{keys}
 use Rattle.crossbeam_utils.specs.Seq.{cell_view}
-use Rattle.ioc_line.specs.declared.room.View.{View}
-use Rattle.ioc_line.specs.Key.{Key, Has}
-use Rattle.ioc_line.specs.KeyLaws.{record_kind}
-use Rattle.ioc_holding.specs.Held.{Cover}
-use Rattle.ioc_journal.specs.Account.{IsHolder, AreRecords}
+use Rattle.ioc_history.specs.declared.room.View.{View}
+use Rattle.ioc_history.specs.Key.{Key, Has}
+use Rattle.ioc_history.specs.KeyLaws.{record_kind}
+use Rattle.ioc_history.specs.Held.{Cover}
+use Rattle.ioc_history.specs.Account.{IsHolder, AreRecords}
 use Rattle.ioc_set.specs.Held.{Held, now_of}
-use Rattle.ioc_workplace.specs.Resting.{resting}
-use Rattle.ioc_lent.specs.Holding.{IsOwner, KeepsDevices}
+use Rattle.ioc_set_store.specs.Resting.{resting}
+use Rattle.ioc_journaled_set.specs.Holding.{IsOwner, KeepsDevices}
 use Rattle.ioc_engine.proofs.Keys.{contains_record, there_key}
 use Rattle.ioc_engine.proofs.holding.hold_as.Goals as goal
 

@@ -1,7 +1,7 @@
 use Rattle.std.proofs.Common.{◌≡◌, ◌++◌, List, None, length, map, drop, sym, ap, ◌∙◌, subst, arith}
 use Rattle.std.specs.Prelude.{All}
 use Rattle.std.specs.Vec.Iter.{into_iter_items}
-use Rattle.ioc_dealing.specs.declared.dealing.Loaded.{Loaded}
+use Rattle.ioc_set_records.specs.declared.loaded.Loaded.{Loaded}
 use Rattle.ioc_engine.specs.Loading.{HaveDevices}
 use Rattle.ioc_engine.proofs.Copies.{one_kept, all_kept, one_fewer, all_taken, each_at, first_left, fewer_left}
 use Rattle.ioc_engine.proofs.loading.with_copies.Goals as goal

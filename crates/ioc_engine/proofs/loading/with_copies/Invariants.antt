@@ -1,7 +1,7 @@
 use Rattle.std.proofs.Common.{◌≡◌, ◌+◌, ◌++◌, length, map, drop}
 use Rattle.std.specs.Prelude.{All}
 use Rattle.std.specs.Vec.Iter.{into_iter_items}
-use Rattle.ioc_dealing.specs.declared.dealing.Loaded.{Loaded}
+use Rattle.ioc_set_records.specs.declared.loaded.Loaded.{Loaded}
 use Rattle.ioc_engine.specs.Loading.{HaveDevices}
 use Rattle.ioc_engine.proofs.loading.with_copies.Given as goal
 

@@ -1,5 +1,5 @@
 use Rattle.std.proofs.Common.{◌≡◌, take}
-use Rattle.ioc_lent.specs.Holding.{numbers_of}
+use Rattle.ioc_journaled_set.specs.Holding.{numbers_of}
 use Rattle.ioc_engine.proofs.parts.numbers_in.Given as goal
 
 abbrev pub invariant-loop-place : goal.invariant-loop-place

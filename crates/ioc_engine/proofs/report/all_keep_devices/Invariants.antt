@@ -1,6 +1,6 @@
 use Rattle.std.proofs.Common.{ℕ, ◌<◌}
 use Rattle.std.specs.Prelude.{slice_index_or}
-use Rattle.ioc_lent.specs.Holding.{HeldView, KeepsDevices}
+use Rattle.ioc_journaled_set.specs.Holding.{HeldView, KeepsDevices}
 use Rattle.ioc_engine.proofs.report.all_keep_devices.Given as goal
 
 abbrev pub invariant-loop-held : goal.invariant-loop-held

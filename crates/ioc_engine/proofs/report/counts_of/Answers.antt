@@ -1,6 +1,6 @@
 use Rattle.std.proofs.Common.{◌≡◌, ◌∙◌, List, [], drop, sym, ap}
 use Rattle.std.proofs.Math.ListN.{drop_of_length-le}
-use Rattle.ioc_lent.specs.Holding.{HeldView}
+use Rattle.ioc_journaled_set.specs.Holding.{HeldView}
 use Rattle.ioc_engine.proofs.Counts.{counted_with, counted_all}
 use Rattle.ioc_engine.proofs.report.counts_of.Goals as goal
 

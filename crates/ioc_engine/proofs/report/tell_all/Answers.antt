@@ -1,8 +1,8 @@
 use Rattle.std.proofs.Common.{◌∙◌, subst, length, ◌<◌, arith}
 use Rattle.std.proofs.Math.Seq.{map-set_same}
-use Rattle.ioc_line.specs.declared.entry.Note.{Note}
-use Rattle.ioc_journal.specs.Places.{JournalOf}
-use Rattle.ioc_lent.specs.Holding.{HeldView}
+use Rattle.ioc_history.specs.declared.entry.Note.{Note}
+use Rattle.ioc_history.specs.Places.{JournalOf}
+use Rattle.ioc_journaled_set.specs.Holding.{HeldView}
 use Rattle.ioc_engine.specs.Ended.{IsAsTold}
 use Rattle.ioc_engine.proofs.Ending.{one_more}
 use Rattle.ioc_engine.proofs.report.tell_all.Goals as goal

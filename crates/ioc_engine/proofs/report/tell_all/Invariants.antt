@@ -1,6 +1,6 @@
 use Rattle.std.proofs.Common.{◌≡◌, ◌<◌, ℕ, map}
 use Rattle.std.specs.Prelude.{slice_index_or}
-use Rattle.ioc_lent.specs.Holding.{HeldView}
+use Rattle.ioc_journaled_set.specs.Holding.{HeldView}
 use Rattle.ioc_engine.specs.Ended.{IsAsTold}
 use Rattle.ioc_engine.proofs.report.tell_all.Given as goal
 

@@ -1,7 +1,7 @@
 use Rattle.std.proofs.Common.{◌<◌, ◌^◌, List, refl, sym, subst, length, arith, rules}
-use Rattle.ioc_members.specs.Contents.{Contents, nothing}
+use Rattle.ioc_set_records.specs.Contents.{Contents, nothing}
 use Rattle.ioc_store.specs.World.{World}
-use Rattle.ioc_holding.specs.Legal.{IsSound}
+use Rattle.ioc_history.specs.Legal.{IsSound}
 use Rattle.ioc_engine.specs.Loading.{loaded_world, IsAtRest, AreSetsFrom}
 use Rattle.ioc_engine.proofs.DealtParts.{database_is_shut, database_is_free, database_is_small}
 use Rattle.ioc_engine.proofs.starting.holdings.Goals as goal

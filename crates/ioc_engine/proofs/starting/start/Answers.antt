@@ -1,9 +1,9 @@
 use Rattle.std.proofs.lemmas.Result.{err_from_is_err_and}
 use Rattle.std.proofs.Common.{◌≡◌, List, subst}
 use Rattle.std.specs.Prelude.{All}
-use Rattle.ioc_members.specs.Joined.{IsClosed}
-use Rattle.ioc_dealing.specs.declared.dealing.Loaded.{Loaded}
-use Rattle.ioc_dealing.specs.Linked.{links_in}
+use Rattle.ioc_set_records.specs.Joined.{IsClosed}
+use Rattle.ioc_set_records.specs.declared.loaded.Loaded.{Loaded}
+use Rattle.ioc_set_records.specs.Linked.{links_in}
 use Rattle.ioc_engine.specs.Loading.{IsIdle}
 use Rattle.ioc_engine.specs.declared.starting.StartError.TheVariants.{NotAtRest, LinkLeaves}
 use Rattle.ioc_engine.proofs.starting.start.Goals as goal

@@ -1,6 +1,6 @@
 use Rattle.std.proofs.Common.{true, refl, ap, sym, ◌∙◌}
-use Rattle.ioc_common.specs.declared.common.Common.{Common}
-use Rattle.ioc_common.specs.Steps.{with_put_mark, with_reprocess_mark}
+use Rattle.ioc_dbcommon.specs.declared.common.Common.{Common}
+use Rattle.ioc_dbcommon.specs.Steps.{with_put_mark, with_reprocess_mark}
 use Rattle.ioc_events.specs.Starting.{processes}
 use Rattle.ioc_process.specs.Keeping.{keeps_on, keeps-changed, closed_on}
 use Rattle.ioc_process.specs.Answering.{begins_same}

@@ -1,5 +1,5 @@
 use Rattle.std.proofs.Common.{true, refl, ap, sym, ◌∙◌}
-use Rattle.ioc_common.specs.Steps.{with_put_mark}
+use Rattle.ioc_dbcommon.specs.Steps.{with_put_mark}
 use Rattle.ioc_events.specs.Starting.{processes}
 use Rattle.ioc_process.specs.Answering.{begins_same}
 use Rattle.ioc_process.specs.Keeping.{keeps_on, keeps-changed, closed_on, notified-keeps}

@@ -1,5 +1,5 @@
 use Rattle.std.proofs.Common.{refl, Some}
-use Rattle.ioc_common.specs.Steps.{with_notification}
+use Rattle.ioc_dbcommon.specs.Steps.{with_notification}
 use Rattle.ioc_store.specs.Worlds.{has-put}
 use Rattle.ioc_process.specs.Keeping.{keeps-changed}
 use Rattle.ioc_events.proofs.starting.take_and_store.Goals as goal

@@ -1,5 +1,5 @@
 use Rattle.std.specs.Prelude.{codes}
-use Rattle.ioc_types.specs.Record.{record_rules}
+use Rattle.rec_types.specs.Record.{record_rules}
 use Rattle.ioc_record.specs.Values.{text_of}
 use Rattle.ioc_main.proofs.Getting.{shown_behind}
 use Rattle.ioc_main.proofs.replay.say_shown.Goals as goal

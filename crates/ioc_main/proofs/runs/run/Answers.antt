@@ -1,9 +1,9 @@
 use Rattle.std.proofs.Common.{◌≡◌}
 use Rattle.std.proofs.lemmas.Result.{err_from_is_err_and}
-use Rattle.ioc_types.specs.Record.{record_rules}
+use Rattle.rec_types.specs.Record.{record_rules}
 use Rattle.ioc_dbfile.specs.SeenDatabase.{database_of}
-use Rattle.ioc_machine.specs.Machine.{first_machine}
-use Rattle.ioc_machine.specs.SeenMachine.{machine_of}
+use Rattle.ioc_sim.specs.Machine.{first_machine}
+use Rattle.ioc_sim.specs.SeenMachine.{machine_of}
 use Rattle.ioc_main.proofs.Beginning.{runs_whole, runs_stop, load_stops, memory_stops, err_as}
 use Rattle.ioc_main.proofs.runs.run.Goals as goal
 

@@ -1,5 +1,5 @@
 use Rattle.std.proofs.Common.{◌≡◌, ℕ, ◌-◌, ◌++◌, List, length}
-use Rattle.ioc_types.specs.Record.{record_rules}
+use Rattle.rec_types.specs.Record.{record_rules}
 use Rattle.ioc_store.specs.OneMap.{world_of}
 use Rattle.ioc_graph.specs.Members.{Follow}
 use Rattle.ioc_main.specs.Sets.{part_words, other_names}

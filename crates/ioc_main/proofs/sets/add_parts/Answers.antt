@@ -1,5 +1,5 @@
 use Rattle.std.proofs.Common.{◌∙◌, arith}
-use Rattle.ioc_types.specs.Record.{record_rules}
+use Rattle.rec_types.specs.Record.{record_rules}
 use Rattle.ioc_store.specs.OneMap.{world_of}
 use Rattle.ioc_main.proofs.Bracing.{parts_step}
 use Rattle.ioc_main.proofs.sets.add_parts.Goals as goal

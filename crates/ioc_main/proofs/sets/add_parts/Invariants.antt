@@ -1,6 +1,6 @@
 use Rattle.std.proofs.Common.{◌≡◌, ◌≤◌, ◌-◌, ◌++◌, length}
 use Rattle.std.specs.List.{range_with_len}
-use Rattle.ioc_types.specs.Record.{record_rules}
+use Rattle.rec_types.specs.Record.{record_rules}
 use Rattle.ioc_store.specs.OneMap.{world_of}
 use Rattle.ioc_graph.specs.Parts.{all_below}
 use Rattle.ioc_main.specs.Sets.{parts_words}

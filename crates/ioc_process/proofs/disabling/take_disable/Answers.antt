@@ -1,5 +1,5 @@
 use Rattle.std.proofs.Common.{◌∙◌, arith}
-use Rattle.ioc_common.specs.Steps.{disable_kind}
+use Rattle.ioc_dbcommon.specs.Steps.{disable_kind}
 use Rattle.ioc_process.specs.Processing.{read_at}
 use Rattle.ioc_process.specs.Depth.{stays_on, disable_came-stays}
 use Rattle.ioc_process.specs.Keeping.{closed_on, keeps_on, disable_came-keeps}

@@ -1,5 +1,5 @@
 use Rattle.std.proofs.Common.{ap, ◌∙◌, sym, arith}
-use Rattle.ioc_common.specs.declared.common.Common.{Common}
+use Rattle.ioc_dbcommon.specs.declared.common.Common.{Common}
 use Rattle.ioc_ledger.specs.declared.outcome.Outcome.TheVariants.{Reprocess}
 use Rattle.ioc_store.specs.Marks.{is_put_down, put_down, put_mark_passed}
 use Rattle.ioc_store.specs.World.{common_at, changed}

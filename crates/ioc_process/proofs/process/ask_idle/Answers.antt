@@ -1,5 +1,5 @@
 use Rattle.std.proofs.Common.{◌∙◌, refl, arith}
-use Rattle.ioc_common.specs.Steps.{with_put_mark}
+use Rattle.ioc_dbcommon.specs.Steps.{with_put_mark}
 use Rattle.ioc_process.proofs.Handing.{handed_to-keeps, handed_to-fewer, handed_to-inactive, handed_to-ran}
 use Rattle.ioc_process.specs.Keeping.{keeps-changed, closed_on}
 use Rattle.ioc_process.proofs.Turning.{turns_on, some_idle}

@@ -1,5 +1,5 @@
 use Rattle.std.proofs.Common.{ap, ◌∙◌, sym}
-use Rattle.ioc_common.specs.declared.common.Common.{Common}
+use Rattle.ioc_dbcommon.specs.declared.common.Common.{Common}
 use Rattle.ioc_process.proofs.process.begin_called.Goals as goal
 
 pub ask_idle-requires-clause-is_idle : goal.ask_idle-requires-clause-is_idle

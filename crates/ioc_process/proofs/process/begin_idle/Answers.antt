@@ -1,6 +1,6 @@
 use Rattle.std.proofs.Common.{◌≡◌, ℕ, refl, sym, ap, ◌∙◌, arith}
-use Rattle.ioc_common.specs.Steps.{unblocked}
-use Rattle.ioc_common.specs.declared.body.Got.TheVariants as got
+use Rattle.ioc_dbcommon.specs.Steps.{unblocked}
+use Rattle.ioc_dbcommon.specs.declared.body.Got.TheVariants as got
 use Rattle.ioc_record.specs.RecordRules.{RecordRules}
 use Rattle.ioc_record.specs.Laws.{IsLawful}
 use Rattle.ioc_store.specs.World.{World, Has, at, common_at, changed, put, Keeps, IsClosed}

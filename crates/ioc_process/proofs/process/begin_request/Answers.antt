@@ -1,6 +1,6 @@
 use Rattle.std.proofs.Common.{ap, ◌∙◌, sym, arith}
-use Rattle.ioc_common.specs.declared.common.Common.{Common}
-use Rattle.ioc_common.specs.Steps.{blocked}
+use Rattle.ioc_dbcommon.specs.declared.common.Common.{Common}
+use Rattle.ioc_dbcommon.specs.Steps.{blocked}
 use Rattle.ioc_ledger.specs.declared.outcome.Outcome.TheVariants.{Active}
 use Rattle.ioc_process.specs.Frames.{after_turn}
 use Rattle.ioc_store.specs.StepFrames.{blocked-frame}

@@ -1,5 +1,5 @@
 use Rattle.std.proofs.Common.{ap, ◌∙◌, sym}
-use Rattle.ioc_common.specs.declared.body.Want.TheVariants.{ReadLink}
+use Rattle.ioc_dbcommon.specs.declared.body.Want.TheVariants.{ReadLink}
 use Rattle.ioc_process.specs.Processing.{input, processed}
 use Rattle.ioc_process.specs.Bodies.{input_stands}
 use Rattle.ioc_process.proofs.FrameSteps.{body-input}

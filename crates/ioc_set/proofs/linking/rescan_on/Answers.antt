@@ -1,13 +1,13 @@
 use Rattle.std.proofs.Common.{◌∙◌, [], refl, ap}
 use Rattle.std.specs.FinMap.{len}
-use Rattle.ioc_members.specs.Contents.{Contents}
+use Rattle.ioc_set_records.specs.Contents.{Contents}
 use Rattle.ioc_store.specs.Given.{Given}
 use Rattle.ioc_store.specs.Scanning.{rewired}
 use Rattle.ioc_store.specs.World.{World, begun_at}
-use Rattle.ioc_workplace.specs.declared.attached.Attached.{Attached}
-use Rattle.ioc_workplace.specs.Attached.{attached_in}
-use Rattle.ioc_workplace.specs.Resting.{resting}
-use Rattle.ioc_workplace.proofs.AttachedLaws.{bases_alike, devices_alike}
+use Rattle.ioc_set_store.specs.declared.attached.Attached.{Attached}
+use Rattle.ioc_set_store.specs.Attached.{attached_in}
+use Rattle.ioc_set_store.specs.Resting.{resting}
+use Rattle.ioc_set_store.proofs.AttachedLaws.{bases_alike, devices_alike}
 use Rattle.ioc_set.proofs.DidLaws.{starts}
 use Rattle.ioc_set.proofs.Rescans.{came_to, rewired-live, rewired-waiting, live_begun, waiting_begun}
 use Rattle.ioc_set.proofs.linking.rescan_on.Goals as goal

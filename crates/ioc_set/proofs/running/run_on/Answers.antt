@@ -2,8 +2,8 @@ use Rattle.std.proofs.Common.{sym, ap, ◌∙◌, subst}
 use Rattle.std.specs.FinMap.{len}
 use Rattle.ioc_store.specs.World.{World, IsClosed}
 use Rattle.ioc_events.specs.Told.{event_by, told_by}
-use Rattle.ioc_members.specs.Contents.{Contents}
-use Rattle.ioc_workplace.specs.Puts.{Puts}
+use Rattle.ioc_set_records.specs.Contents.{Contents}
+use Rattle.ioc_set_store.specs.Puts.{Puts}
 use Rattle.ioc_set.proofs.DidLaws.{starts, closed_begun, none_here, did}
 use Rattle.ioc_set.proofs.running.run_on.Goals as goal
 

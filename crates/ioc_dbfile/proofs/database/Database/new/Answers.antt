@@ -1,6 +1,6 @@
 use Rattle.std.proofs.Common.{◌≡◌, length, arith}
 use Rattle.std.proofs.lemmas.List.{with_items_is}
-use Rattle.ioc_types.specs.Record.{record_rules}
+use Rattle.rec_types.specs.Record.{record_rules}
 use Rattle.ioc_dbfile.specs.Owners.{owner_of}
 use Rattle.ioc_dbfile.proofs.Closing.{finished_closed}
 use Rattle.ioc_dbfile.proofs.Idling.{finished_quiet}

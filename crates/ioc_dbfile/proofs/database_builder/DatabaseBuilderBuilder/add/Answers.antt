@@ -1,4 +1,4 @@
-use Rattle.ioc_types.specs.Record.{record_rules, new_record}
+use Rattle.rec_types.specs.Record.{record_rules, new_record}
 use Rattle.ioc_dbfile.proofs.Idling.{all-append, new-idle}
 use Rattle.ioc_dbfile.proofs.database_builder.DatabaseBuilderBuilder.add.Goals as goal
 

@@ -1,8 +1,8 @@
 use Rattle.std.proofs.Common.{◌≡◌, ◌<◌, ◌∙◌, ap, sym, subst, arith, length, Some}
 use Rattle.std.specs.Prelude.{slice_get}
 use Rattle.std.proofs.lemmas.Option.{slice_get-get_or}
-use Rattle.ioc_types.specs.Record.{record_rules}
-use Rattle.ioc_types.specs.RecordLaws.{record_lawful}
+use Rattle.rec_types.specs.Record.{record_rules}
+use Rattle.rec_types.specs.RecordLaws.{record_lawful}
 use Rattle.ioc_dbfile.specs.Idle.{IsIdle}
 use Rattle.ioc_dbfile.proofs.Idling.{all-set, idle-at, set_field-idle, set-made}
 use Rattle.ioc_dbfile.proofs.database_builder.DatabaseBuilderBuilder.set.Goals as goal

@@ -1,7 +1,7 @@
 use Rattle.std.proofs.Common.{sym, ◌∙◌, subst, IsTrue, Contains, rules}
 use Rattle.ioc_events.specs.declared.event.Event.TheVariants.{Get}
-use Rattle.ioc_journal.specs.Account.{DeskView}
-use Rattle.ioc_lent.specs.Holding.{HeldView, numbers_of, IsSoundlyHeld, Tells}
+use Rattle.ioc_history.specs.Account.{DeskView}
+use Rattle.ioc_journaled_set.specs.Holding.{HeldView, numbers_of, IsSoundlyHeld, Tells}
 use Rattle.ioc_engine.proofs.Refusals.{ok_then, err_then, refused_by_set}
 use Rattle.ioc_engine.proofs.engine.Engine.get.Goals as goal
 

@@ -1,7 +1,7 @@
 use Rattle.std.proofs.Common.{All, List, sym, subst}
 use Rattle.std.proofs.lemmas.Option.{IfSome_then}
 use Rattle.std.proofs.lemmas.Result.{IfOk-weaker}
-use Rattle.ioc_lent.specs.Holding.{HeldView, IsSoundlyHeld}
+use Rattle.ioc_journaled_set.specs.Holding.{HeldView, IsSoundlyHeld}
 use Rattle.ioc_engine.proofs.engine.Engine.give_up.Goals as goal
 
 pub returns-clause-gave_up : goal.returns-clause-gave_up

@@ -1,5 +1,5 @@
 use Rattle.std.proofs.Common.{sym, ◌∙◌, subst}
-use Rattle.ioc_lent.specs.Holding.{HeldView, IsSoundlyHeld}
+use Rattle.ioc_journaled_set.specs.Holding.{HeldView, IsSoundlyHeld}
 use Rattle.ioc_engine.proofs.engine.Engine.part_of.Goals as goal
 
 pub returns-then-has-clause-seen : goal.returns-then-has-clause-seen

@@ -1,10 +1,10 @@
 use Rattle.std.proofs.Common.{ℕ, Option, sym, ◌∙◌, subst}
 use Rattle.std.specs.Prelude.{IfOk, IfErr}
-use Rattle.ioc_common.specs.declared.link_field.LinkField.{LinkField}
-use Rattle.ioc_workplace.specs.SetStore.{world_of}
-use Rattle.ioc_journal.specs.Account.{DeskView}
+use Rattle.ioc_dbcommon.specs.declared.link_field.LinkField.{LinkField}
+use Rattle.ioc_set_store.specs.SetStore.{world_of}
+use Rattle.ioc_history.specs.Account.{DeskView}
 use Rattle.ioc_topology.specs.Change.{AreLent}
-use Rattle.ioc_lent.specs.Holding.{numbers_of}
+use Rattle.ioc_journaled_set.specs.Holding.{numbers_of}
 use Rattle.ioc_engine.specs.Linked.{other_of, WasLinked, LinkWasRefused}
 use Rattle.ioc_engine.proofs.engine.Engine.relink.Goals as goal
 

@@ -1,8 +1,8 @@
 use Rattle.std.proofs.lemmas.Result.{err_from_is_err_and}
 use Rattle.std.proofs.Common.{sym, ◌∙◌, subst, IsTrue, Contains, rules}
-use Rattle.ioc_workplace.specs.SetStore.{world_of}
-use Rattle.ioc_journal.specs.Account.{DeskView}
-use Rattle.ioc_lent.specs.Holding.{HeldView, numbers_of, IsSoundlyHeld, Serves}
+use Rattle.ioc_set_store.specs.SetStore.{world_of}
+use Rattle.ioc_history.specs.Account.{DeskView}
+use Rattle.ioc_journaled_set.specs.Holding.{HeldView, numbers_of, IsSoundlyHeld, Serves}
 use Rattle.ioc_engine.proofs.Refusals.{refused_by_set}
 use Rattle.ioc_engine.proofs.engine.Engine.serve.Goals as goal
 

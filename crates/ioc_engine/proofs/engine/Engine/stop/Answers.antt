@@ -2,12 +2,12 @@ use Rattle.std.proofs.Common.{◌≡◌, List, length, map, drop, sym, ap, ◌�
 use Rattle.std.proofs.lemmas.List.{length-map}
 use Rattle.std.specs.Prelude.{ℕ, All}
 use Rattle.std.specs.FinMap.{keys}
-use Rattle.ioc_line.specs.declared.entry.Note.{Note}
+use Rattle.ioc_history.specs.declared.entry.Note.{Note}
 use Rattle.ioc_topology.specs.Gathered.{HoldEach}
 use Rattle.ioc_set.specs.Held.{Held}
-use Rattle.ioc_lent.specs.Holding.{HeldView, KeepsDevices, numbers_of, IsSoundlyHeld}
-use Rattle.ioc_journal.specs.Account.{IsAccount}
-use Rattle.ioc_journal.specs.Places.{JournalOf}
+use Rattle.ioc_journaled_set.specs.Holding.{HeldView, KeepsDevices, numbers_of, IsSoundlyHeld}
+use Rattle.ioc_history.specs.Account.{IsAccount}
+use Rattle.ioc_history.specs.Places.{JournalOf}
 use Rattle.ioc_engine.specs.Ended.{IsAsTold, IsEnd}
 use Rattle.ioc_engine.proofs.Ending.{still_hold_each, whole}
 use Rattle.ioc_engine.proofs.engine.Engine.stop.Goals as goal

@@ -1,5 +1,5 @@
 use Rattle.std.proofs.Common.{List, ap, ◌∙◌}
-use Rattle.ioc_lent.specs.Holding.{HeldView}
+use Rattle.ioc_journaled_set.specs.Holding.{HeldView}
 use Rattle.ioc_engine.specs.Ended.{counts_in}
 use Rattle.ioc_engine.proofs.report.Report.tally.Goals as goal
 

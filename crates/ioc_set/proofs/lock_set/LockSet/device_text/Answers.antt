@@ -1,7 +1,7 @@
 use Rattle.std.proofs.Common.{◌∙◌, ap}
 use Rattle.ioc_store.specs.Scanning.{device_of}
 use Rattle.ioc_set.specs.Held.{Held}
-use Rattle.ioc_members.specs.Contents.{record_at}
+use Rattle.ioc_set_records.specs.Contents.{record_at}
 use Rattle.ioc_set.proofs.Linked.{record_now}
 use Rattle.ioc_set.proofs.lock_set.LockSet.device_text.Goals as goal
 

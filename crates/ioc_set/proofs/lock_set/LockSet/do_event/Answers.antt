@@ -3,9 +3,9 @@ use Rattle.ioc_store.specs.World.{World}
 use Rattle.ioc_events.specs.declared.reply.Reply.{Reply}
 use Rattle.ioc_events.specs.Told.{event_by, told_by}
 use Rattle.ioc_events.specs.Holding.{IsCounted}
-use Rattle.ioc_workplace.specs.SetStore.{world_of}
+use Rattle.ioc_set_store.specs.SetStore.{world_of}
 use Rattle.ioc_set.specs.Held.{Held, done_by}
-use Rattle.ioc_workplace.specs.Resting.{resting}
+use Rattle.ioc_set_store.specs.Resting.{resting}
 use Rattle.ioc_set.specs.Doing.{is_done_on_sets, held_by, with_place, Does}
 use Rattle.ioc_set.proofs.DoneLaws.{same_held, now_kept, alike_after, sound_then, does, set_events_are_done}
 use Rattle.ioc_set.proofs.lock_set.LockSet.do_event.Goals as goal

@@ -1,6 +1,6 @@
 use Rattle.std.proofs.Common.{◌∙◌, ap}
-use Rattle.ioc_members.specs.Contents.{record_at}
-use Rattle.ioc_common.specs.declared.common.Common.{Common}
+use Rattle.ioc_set_records.specs.Contents.{record_at}
+use Rattle.ioc_dbcommon.specs.declared.common.Common.{Common}
 use Rattle.ioc_record.specs.Values.{stops_put}
 use Rattle.ioc_set.specs.Held.{Held}
 use Rattle.ioc_set.proofs.Linked.{record_now}

@@ -1,6 +1,6 @@
 use Rattle.std.specs.Prelude.{◌↔◌, IsTrue}
 use Rattle.std.proofs.Common.{subst}
-use Rattle.ioc_members.specs.Joined.{HasLink}
+use Rattle.ioc_set_records.specs.Joined.{HasLink}
 use Rattle.ioc_set.specs.Held.{Held}
 use Rattle.ioc_set.proofs.lock_set.LockSet.has_link.Goals as goal
 

@@ -1,7 +1,7 @@
 use Rattle.std.specs.Prelude.{◌↔◌, IsTrue, IsSome, ℕ, Contains}
 use Rattle.std.specs.FinMap.{get}
 use Rattle.std.proofs.Common.{subst}
-use Rattle.ioc_common.specs.Links.{use_of, named_by}
+use Rattle.ioc_dbcommon.specs.Links.{use_of, named_by}
 use Rattle.ioc_set.specs.Held.{Held}
 use Rattle.ioc_set.proofs.lock_set.LockSet.leads_within.Goals as goal
 

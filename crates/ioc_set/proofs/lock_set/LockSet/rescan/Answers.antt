@@ -3,16 +3,16 @@ use Rattle.std.specs.Prelude.{IsSome}
 use Rattle.std.specs.FinMap.{get}
 use Rattle.ioc_notify.specs.declared.live_numbers.Live.{Live}
 use Rattle.ioc_notify.specs.declared.waiting_lists.Waiting.{Waiting}
-use Rattle.ioc_members.specs.Contents.{Contents, Records}
+use Rattle.ioc_set_records.specs.Contents.{Contents, Records}
 use Rattle.ioc_store.specs.World.{World, begun_at}
 use Rattle.ioc_store.specs.Scanning.{rewired}
 use Rattle.ioc_set.specs.Held.{Held}
-use Rattle.ioc_workplace.specs.Resting.{resting}
-use Rattle.ioc_workplace.specs.Puts.{Puts}
+use Rattle.ioc_set_store.specs.Resting.{resting}
+use Rattle.ioc_set_store.specs.Puts.{Puts}
 use Rattle.ioc_set.specs.Linking.{AreHeld}
 use Rattle.ioc_set.specs.Sound.{CountsAddUp}
 use Rattle.ioc_set.specs.Doing.{held_by, with_kept}
-use Rattle.ioc_workplace.specs.SetStore.{world_of}
+use Rattle.ioc_set_store.specs.SetStore.{world_of}
 use Rattle.ioc_set.proofs.Anew.{begun_now}
 use Rattle.ioc_set.proofs.AwaitedSums.{awaited-rescanned}
 use Rattle.ioc_set.proofs.Linked.{anew_holds, rescanned_part, rescanned_held, rescanned_like}

@@ -1,13 +1,13 @@
 use Rattle.std.proofs.Common.{◌≡◌, ◌+◌, ◌^◌, ◌<◌, ◌∙◌, length, refl, ap, subst, sym, arith}
 use Rattle.std.specs.Prelude.{IsSome, is_some}
 use Rattle.std.specs.FinMap.{get}
-use Rattle.ioc_members.specs.Contents.{Records, Contents}
+use Rattle.ioc_set_records.specs.Contents.{Records, Contents}
 use Rattle.ioc_ledger.specs.declared.tally.Tally.{Tally}
 use Rattle.ioc_set.specs.Awaiting.{awaited}
 use Rattle.ioc_set.specs.Held.{Held}
 use Rattle.ioc_set.specs.Linking.{added, less_awaited, awaited_alone}
 use Rattle.ioc_set.specs.Sound.{CountsAddUp}
-use Rattle.ioc_workplace.specs.Puts.{Puts}
+use Rattle.ioc_set_store.specs.Puts.{Puts}
 use Rattle.ioc_set.specs.Doing.{held_by}
 use Rattle.ioc_set.proofs.AwaitedSums.{awaited-few, awaited-parted}
 use Rattle.ioc_set.proofs.Counts.{rest_adds_up, stay_adds_up, parts_add_up}

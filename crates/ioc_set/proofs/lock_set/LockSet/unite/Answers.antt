@@ -4,9 +4,9 @@ use Rattle.std.specs.FinMap.{get}
 use Rattle.ioc_ledger.specs.Requests.{no_counts}
 use Rattle.ioc_ledger.specs.declared.tally.Tally.{Tally}
 use Rattle.ioc_notify.specs.declared.waiting_lists.Waiting.{Waiting}
-use Rattle.ioc_members.specs.Contents.{Records, Contents}
+use Rattle.ioc_set_records.specs.Contents.{Records, Contents}
 use Rattle.ioc_set.specs.Held.{Held}
-use Rattle.ioc_workplace.specs.Puts.{Puts}
+use Rattle.ioc_set_store.specs.Puts.{Puts}
 use Rattle.ioc_set.specs.Sound.{CountsAddUp}
 use Rattle.ioc_set.specs.Doing.{held_by}
 use Rattle.ioc_set.specs.Awaiting.{awaited}

@@ -1,6 +1,0 @@
-use Rattle.ioc_common.proofs.Once.{past_stays}
-use Rattle.ioc_common.specs.Steps.{answered}
-use Rattle.ioc_common.proofs.laws.numbers_are_awaited_once.Goals as goal
-
-pub returns-clause-once : goal.returns-clause-once
-returns-clause-once c = λ common number later low awaited. past_stays (answered common) number later low (λ e. cc)

@@ -1,0 +1,160 @@
+//! The parts of a converted value, by the kind of the field that it is for.
+ghost use Rattle.std.specs.Prelude.{◌≡◌};
+ghost use Rattle.ioc_dbcommon.specs.Parts.{long_in, int64_in, ulong_in, short_in, ushort_in, uchar_in, state_in, text_in, severity_in, omsl_in, ivoa_in, scan_in, pini_in, priority_in};
+
+use ioc_menus::{Ivoa, Omsl, Pini, Priority, Scan, Severity};
+use ioc_values::{Text, Value};
+
+/// Returns the number of a Long.
+pub fn long_in(value: Value) -> Option<i32>
+    ensures { result ≡ long_in value }
+{
+    if let Value::Long(number) = value {
+        Some(number)
+    } else {
+        None
+    }
+}
+
+/// Returns the number of an Int64.
+pub fn int64_in(value: Value) -> Option<i64>
+    ensures { result ≡ int64_in value }
+{
+    if let Value::Int64(number) = value {
+        Some(number)
+    } else {
+        None
+    }
+}
+
+/// Returns the number of a ULong.
+pub fn ulong_in(value: Value) -> Option<u32>
+    ensures { result ≡ ulong_in value }
+{
+    if let Value::ULong(number) = value {
+        Some(number)
+    } else {
+        None
+    }
+}
+
+/// Returns the number of a Short.
+pub fn short_in(value: Value) -> Option<i16>
+    ensures { result ≡ short_in value }
+{
+    if let Value::Short(number) = value {
+        Some(number)
+    } else {
+        None
+    }
+}
+
+/// Returns the number of a UShort.
+pub fn ushort_in(value: Value) -> Option<u16>
+    ensures { result ≡ ushort_in value }
+{
+    if let Value::UShort(number) = value {
+        Some(number)
+    } else {
+        None
+    }
+}
+
+/// Returns the number of a UChar.
+pub fn uchar_in(value: Value) -> Option<u8>
+    ensures { result ≡ uchar_in value }
+{
+    if let Value::UChar(number) = value {
+        Some(number)
+    } else {
+        None
+    }
+}
+
+/// Returns the number of a state or a choice.
+pub fn state_in(value: Value) -> Option<u16>
+    ensures { result ≡ state_in value }
+{
+    if let Value::Enum(number) = value {
+        Some(number)
+    } else {
+        None
+    }
+}
+
+/// Returns the text of a text value.
+pub fn text_in(value: Value) -> Option<Text>
+    ensures { result ≡ text_in value }
+{
+    if let Value::Text(text) = value {
+        Some(text)
+    } else {
+        None
+    }
+}
+
+/// Returns the severity of a value for a severity field.
+pub fn severity_in(value: Value) -> Option<Severity>
+    ensures { result ≡ severity_in value }
+{
+    if let Value::Enum(number) = value {
+        Severity::from_number(number)
+    } else {
+        None
+    }
+}
+
+/// Returns the OMSL choice of a value.
+pub fn omsl_in(value: Value) -> Option<Omsl>
+    ensures { result ≡ omsl_in value }
+{
+    if let Value::Enum(number) = value {
+        Omsl::from_number(number)
+    } else {
+        None
+    }
+}
+
+/// Returns the IVOA choice of a value.
+pub fn ivoa_in(value: Value) -> Option<Ivoa>
+    ensures { result ≡ ivoa_in value }
+{
+    if let Value::Enum(number) = value {
+        Ivoa::from_number(number)
+    } else {
+        None
+    }
+}
+
+/// Returns the SCAN choice of a value.
+pub fn scan_in(value: Value) -> Option<Scan>
+    ensures { result ≡ scan_in value }
+{
+    if let Value::Enum(number) = value {
+        Scan::from_number(number)
+    } else {
+        None
+    }
+}
+
+/// Returns the PINI choice of a value.
+pub fn pini_in(value: Value) -> Option<Pini>
+    ensures { result ≡ pini_in value }
+{
+    if let Value::Enum(number) = value {
+        Pini::from_number(number)
+    } else {
+        None
+    }
+}
+
+/// Returns the PRIO choice of a value.
+pub fn priority_in(value: Value) -> Option<Priority>
+    ensures { result ≡ priority_in value }
+{
+    if let Value::Enum(number) = value {
+        Priority::from_number(number)
+    } else {
+        None
+    }
+}

@@ -1,0 +1,15 @@
+pub mod Bytes
+pub mod Escapes
+pub mod Lexing
+pub mod Lines
+pub mod MacroLaws
+pub mod Macros
+pub mod SeenLines
+pub mod SeenMacros
+pub mod SeenPlace
+pub mod SeenSaid
+pub mod SeenTexts
+pub mod SeenToken
+pub mod Signs
+pub mod Texts
+pub mod Tokens

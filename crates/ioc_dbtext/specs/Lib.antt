@@ -1,9 +1,0 @@
-pub mod Bytes
-pub mod Macros
-pub mod Lines
-pub mod Lexing
-pub mod Texts
-pub mod SeenToken
-pub mod SeenTexts
-pub mod SeenMacros
-pub mod MacroLaws

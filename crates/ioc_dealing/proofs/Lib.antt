@@ -1,4 +1,0 @@
-mod MapLaws
-mod Dealt
-mod Linked
-mod Keys

@@ -1,6 +1,0 @@
-use Rattle.std.proofs.Common.{◌≡◌, replicate}
-use Rattle.ioc_members.specs.Contents.{nothing}
-use Rattle.ioc_dealing.proofs.dealing.empty_sets.Given as goal
-
-abbrev pub invariant-loop-place : goal.invariant-loop-place
-invariant-loop-place g l = l.sets.items ≡ replicate l.place nothing

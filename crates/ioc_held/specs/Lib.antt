@@ -1,6 +1,0 @@
-pub mod Holding
-pub mod HeldViewCode
-pub mod LinkChanges
-pub mod LinkLaws
-pub mod Puts
-pub mod PutsViewCode

@@ -1,0 +1,24 @@
+mod Adding
+mod Asking
+pub mod Basics
+mod Calls
+mod Doing
+mod Ending
+mod Ends
+mod Few
+mod Giving
+mod Lasting
+mod Linking
+mod Lists
+pub mod LiveFew
+mod Moves
+mod Moving
+pub mod Numbers
+pub mod Placing
+mod Replaying
+mod Rescanning
+mod Rewiring
+mod Room
+mod Sharing
+mod Summing
+mod Uniting

@@ -1,0 +1,14 @@
+pub mod Account
+pub mod DeskCode
+pub mod EventLaws
+pub mod Held
+pub mod Kept
+pub mod Key
+pub mod KeyLaws
+pub mod Laws
+pub mod Legal
+pub mod Line
+pub mod LinkChange
+pub mod Places
+pub mod PlacesCode
+pub mod Unnamed

@@ -1,0 +1,232 @@
+//! All calls of an engine in one order.
+ghost use Rattle.std.specs.Prelude.{◌≡◌, ◌+◌, ◌-◌, ◌^◌, ◌++◌, [], IfOk, IfErr, OnOk, OnErr};
+ghost use Rattle.crossbeam_utils.specs.Seq.{cell_view};
+ghost use Rattle.ioc_history.specs.Key.{Key, Has};
+ghost use Rattle.ioc_history.specs.Line.{keeper, holder, Continues};
+ghost use Rattle.ioc_history.specs.Legal.{IsLegal, IsSound};
+ghost use Rattle.ioc_values.specs.declared.error.IocError.TheVariants.{JournalFull};
+ghost use Rattle.ioc_history.specs.Account.{AreNoDesks, AreRecords, IsHolder, MayFollow, BothMayFollow, MayBegin, Call, Added, AddedByBoth, AreMerged, calls, calls_by};
+ghost use Rattle.ioc_history.specs.Places.{AreAllowed, places, journal_of, one_more_held, one_more_desk, HoldsOne, HoldsNone};
+
+use crate::base::Base;
+use crate::dealing::{deal, take_over};
+use crate::desk::Desk;
+use crate::entries::{Entries, Place};
+use crate::limits::Limits;
+use crate::receipt::Receipt;
+use ioc_events::Entry;
+use crate::{Cell, Keys, Token, pass};
+use ioc_record::RecordKind;
+use ioc_values::IocError;
+use std::alloc::Global;
+use std::marker::{Model, PhantomData};
+use std::sync::Wait;
+use std::sync::ledger::Blank;
+
+/// All calls of an engine, each with its desk and its number. Contracts see them as one list with
+/// the keys that each call concerns, the number of held places, the limit, and the number of desks
+/// that were opened.
+#[derive(Drop)]
+pub struct Journal<K: RecordKind, B: Base<K>> {
+    pub(crate) entries: Entries<K, B>,
+    desks: u64,
+    pub(crate) pass: Token,
+}
+
+impl<K: RecordKind, B: Base<K>> Model for Journal<K, B> {
+    ghost use Rattle.ioc_history.specs.declared.entry.Note.{Note};
+    ghost use Rattle.ioc_history.specs.Places.{JournalOf};
+    ghost use Rattle.ioc_history.specs.PlacesCode.{journal_code};
+
+    ghost Value = { JournalOf Note };
+
+    ghost coded = { journal_code };
+
+    ghost use Rattle.crossbeam_utils.specs.Seq.{cell_view};
+    ghost use Rattle.ioc_history.specs.Kept.{IsKept};
+    ghost use Rattle.ioc_history.specs.Places.{journal_of};
+
+    ghost view = { λ j. journal_of (cell_view j.pass).seen j.entries.held j.entries.limit j.desks };
+
+    ghost invariant = { λ j. IsKept K.rules B.base B.table j.pass.table_id (cell_view j.pass) j.entries.filled j.desks };
+}
+
+impl<K: RecordKind, B: Base<K>> Journal<K, B> {
+    /// A journal without calls. The keeper's pass has created only keys of records.
+    pub fn new(alloc: Global, master: Token, blank: Blank, limits: Limits) -> Self
+        requires table { master.table_id ≡ B.table }
+        requires pass { cell_view master ≡ keeper [] (cell_view master).born }
+        requires given { AreNoDesks (cell_view master).born }
+        requires name { blank.name ≡ B.places }
+        requires parts { blank.parts ≡ 2 ^ 64 - 1 }
+        requires limits { AreAllowed limits }
+        requires sound { IsSound K.rules B.base }
+        ensures { result ≡ journal_of [] 0 limits.journal 0 }
+    {
+        Journal {
+            entries: Entries::new(alloc, blank, limits),
+            desks: 0,
+            pass: master,
+        }
+    }
+
+    /// Opens a desk, which has seen all calls and made none. Its number is the number of desks
+    /// opened before.
+    ///
+    /// # Errors
+    ///
+    /// [`IocError::JournalFull`] exactly if no number is left for a desk.
+    pub fn open_desk(&mut self, cell: &Cell) -> Result<Desk<K, B>, IocError>
+        requires table { cell.now.table.shared.table_id ≡ B.table }
+        ensures desk { IfOk result (λ d. (d.number ≡ self.old.desks) × (d.next ≡ 0) × (d.seen ≡ self.old.filled) × (calls_by d.number (calls d.seen) ≡ [])) }
+        ensures opened { OnOk result (self.new ≡ one_more_desk self.old) }
+        ensures refused { IfErr result (λ error. (error ≡ JournalFull) × (self.old.desks ≡ 2 ^ 64 - 1)) }
+        ensures same { OnErr result (self.new ≡ self.old) }
+    {
+        if self.desks == u64::MAX {
+            return Err(IocError::JournalFull);
+        }
+        let number = self.desks;
+        let pass = pass::claim_key(cell, &mut self.pass, 1, number);
+        self.desks += 1;
+        Ok(Desk {
+            number,
+            next: 0,
+            pass,
+            of: PhantomData,
+            kind: PhantomData,
+        })
+    }
+
+    /// Reserves a place for a call.
+    ///
+    /// # Errors
+    ///
+    /// [`IocError::JournalFull`] if entries and held places reach the limit, otherwise
+    /// [`IocError::NoMemory`] if allocation fails.
+    #[inline(always)]
+    pub fn reserve(&mut self) -> Result<Place<K, B>, IocError>
+        ensures held { IfOk result (λ _. HoldsOne (places self.old) (places self.new)) }
+        ensures refused { IfErr result (HoldsNone (places self.old)) }
+        ensures same { OnErr result (self.new ≡ self.old) }
+        ensures desks { self.new.desks ≡ self.old.desks }
+    {
+        self.entries.hold()
+    }
+
+    /// Frees a place whose call wasn't made.
+    pub fn give_back(&mut self, place: Place<K, B>)
+        ensures free { places self.old ≡ one_more_held (places self.new) }
+        ensures desks { self.new.desks ≡ self.old.desks }
+    {
+        self.entries.give_back(place);
+    }
+
+    /// Adds a call of a desk. The caller holds the lock of the set that the call concerns; all keys
+    /// of the set's pass are noted.
+    #[inline(always)]
+    pub fn append<R: Wait>(
+        &mut self,
+        rt: &R,
+        cell: &Cell,
+        place: Place<K, B>,
+        set: &mut Token,
+        desk: &mut Desk<K, B>,
+        entry: Entry,
+    ) -> Receipt<K, B>
+        requires table { (cell.now.table.shared.table_id ≡ B.table) × (set.old.table_id ≡ B.table) }
+        requires set { IsHolder (cell_view set.old) × AreNoDesks (cell_view set.old).owns }
+        requires follows { MayFollow K.rules B.base (cell_view set.old).seen (cell_view set.old).owns entry }
+        requires begins { MayBegin (cell_view set.old).seen (cell_view set.old).owns entry.event }
+        ensures call { Call K.rules B.base desk.old entry desk.new }
+        ensures receipt { result ≡ desk.new.seen }
+        ensures list { self.new ≡ journal_of desk.new.seen self.new.held self.old.limit self.old.desks }
+        ensures held { self.old.held ≡ self.new.held + 1 }
+        ensures set { (set.new.table_id ≡ set.old.table_id) × (cell_view set.new ≡ holder self.new.filled (cell_view set.old).owns) }
+        ensures added { Added K.rules B.base (cell_view set.old).seen (cell_view set.old).owns entry self.old.filled self.new.filled }
+    {
+        let index = self.entries.len() as u64;
+        self.entries.fill(place, desk.number, desk.next, entry);
+        let Some(made) = self.entries.at(index) else {
+            unreachable!();
+        };
+        let pass = pass::append(rt, cell, &mut self.pass, set, &mut desk.pass, made);
+        desk.next += 1;
+        Receipt {
+            place: index,
+            pass,
+            of: PhantomData,
+            kind: PhantomData,
+        }
+    }
+
+    /// Adds a call of a desk that concerns two sets, both of whose locks the caller holds.
+    /// Afterwards the first pass owns the keys of `P` and the second the rest of `P`.
+    pub fn append_two<P: Keys, R: Wait>(
+        &mut self,
+        rt: &R,
+        cell: &Cell,
+        place: Place<K, B>,
+        one: &mut Token,
+        other: &mut Token,
+        desk: &mut Desk<K, B>,
+        entry: Entry,
+    ) -> Receipt<K, B>
+        requires table { (cell.now.table.shared.table_id ≡ B.table) × (one.old.table_id ≡ B.table) × (other.old.table_id ≡ B.table) }
+        requires one { IsHolder (cell_view one.old) × AreRecords (cell_view one.old).owns }
+        requires other { IsHolder (cell_view other.old) × AreNoDesks (cell_view other.old).owns }
+        requires within { (key : Key) → Has key (P.keys ++ P.rest) → Has key ((cell_view one.old).owns ++ (cell_view other.old).owns) }
+        requires apart { (key : Key) → Has key P.keys → Has key P.rest → ⊥ }
+        requires follows { BothMayFollow K.rules B.base (cell_view one.old).seen (cell_view one.old).owns (cell_view other.old).seen (cell_view other.old).owns entry }
+        requires begins { MayBegin (cell_view other.old).seen (cell_view other.old).owns entry.event }
+        ensures call { Call K.rules B.base desk.old entry desk.new }
+        ensures receipt { result ≡ desk.new.seen }
+        ensures list { self.new ≡ journal_of desk.new.seen self.new.held self.old.limit self.old.desks }
+        ensures held { self.old.held ≡ self.new.held + 1 }
+        ensures one { (one.new.table_id ≡ one.old.table_id) × (cell_view one.new ≡ holder self.new.filled P.keys) }
+        ensures other { (other.new.table_id ≡ other.old.table_id) × (cell_view other.new ≡ holder self.new.filled P.rest) }
+        ensures added { AddedByBoth K.rules B.base (cell_view one.old).seen (cell_view one.old).owns (cell_view other.old).seen (cell_view other.old).owns entry self.old.filled self.new.filled }
+    {
+        let call = desk.next;
+        let index = self.entries.len() as u64;
+        self.entries.fill(place, desk.number, call, entry);
+        let Some(made) = self.entries.at(index) else {
+            unreachable!();
+        };
+        let pass = deal::<P, R>(rt, cell, &mut self.pass, one, other, &mut desk.pass, made);
+        desk.next = call + 1;
+        Receipt {
+            place: index,
+            pass,
+            of: PhantomData,
+            kind: PhantomData,
+        }
+    }
+
+    /// Compares two passes: they have no key in common. Afterwards both know the whole list.
+    pub fn compare<R: Wait>(&mut self, rt: &R, cell: &Cell, one: &mut Token, other: &mut Token)
+        requires table { (cell.now.table.shared.table_id ≡ B.table) × (one.old.table_id ≡ B.table) × (other.old.table_id ≡ B.table) }
+        requires holders { IsHolder (cell_view one.old) × IsHolder (cell_view other.old) }
+        ensures one { (one.new.table_id ≡ one.old.table_id) × (cell_view one.new ≡ holder self.old.filled (cell_view one.old).owns) }
+        ensures other { (other.new.table_id ≡ other.old.table_id) × (cell_view other.new ≡ holder self.old.filled (cell_view other.old).owns) }
+        ensures goes_on { Continues (cell_view one.old).seen (cell_view one.old).owns self.old.filled × Continues (cell_view other.old).seen (cell_view other.old).owns self.old.filled }
+        ensures legal { IsSound K.rules B.base × IsLegal K.rules B.base self.old.filled }
+        ensures apart { (key : Key) → Has key (cell_view one.old).owns → Has key (cell_view other.old).owns → ⊥ }
+        ensures same { self.new ≡ self.old }
+    {
+        pass::compare(rt, cell, &mut self.pass, one, other);
+    }
+
+    /// Moves the keys of the second pass to the first. Afterwards the second owns nothing, and both
+    /// know the whole list.
+    pub fn merge<R: Wait>(&mut self, rt: &R, cell: &Cell, one: &mut Token, other: &mut Token)
+        requires table { (cell.now.table.shared.table_id ≡ B.table) × (one.old.table_id ≡ B.table) × (other.old.table_id ≡ B.table) }
+        requires holders { IsHolder (cell_view one.old) × IsHolder (cell_view other.old) }
+        ensures table { (one.new.table_id ≡ one.old.table_id) × (other.new.table_id ≡ other.old.table_id) }
+        ensures merged { AreMerged K.rules B.base (cell_view one.old) (cell_view other.old) self.old.filled (cell_view one.new) (cell_view other.new) }
+        ensures apart { (key : Key) → Has key (cell_view one.old).owns → Has key (cell_view other.old).owns → ⊥ }
+        ensures same { self.new ≡ self.old }
+    {
+        take_over(rt, cell, &mut self.pass, one, other);
+    }
+}

@@ -1,0 +1,45 @@
+//! A list that only grows, passes that each know a beginning of it, and keys that each belong to
+//! one pass.
+//!
+//! Whoever holds a set of records holds a pass that owns the keys of these records: what others add
+//! to the list meanwhile concerns other records, because no two passes own the same key. Passes
+//! have no bytes, and the cell that ties them together is never written to.
+//!
+//! What the caller that holds some records knows of the list of all events.
+//!
+//! The records are kept in separately locked sets. Each call on a set is noted in one list, with
+//! the keys of the set's records. Read as one list, the notes are a possible run of an engine with
+//! all records in one map, and each set is equal to that map at its own records.
+//!
+//! All calls in one order: the journal, the desks that call, and the receipts of their calls.
+//!
+//! A call is added to the journal while the lock of the set that it concerns is held. A desk knows
+//! a beginning of the journal's list that includes all its own calls. This list is legal: it is a
+//! possible run of an engine with all records in one map.
+#![tactic(auto)]
+
+pub mod base;
+pub mod book;
+mod dealing;
+pub mod desk;
+mod ending;
+pub mod entries;
+pub mod entry;
+pub mod journal;
+pub mod legal_laws;
+pub mod limits;
+mod lookup;
+pub mod pass;
+pub mod receipt;
+pub mod relink;
+pub mod room;
+
+pub use base::Base;
+pub use book::Book;
+pub use desk::Desk;
+pub use entries::{Entries, PLACES, Place, Places};
+pub use entry::JournalEntry;
+pub use journal::Journal;
+pub use limits::Limits;
+pub use receipt::Receipt;
+pub use room::{Cell, Keys, Room, Said, Token};

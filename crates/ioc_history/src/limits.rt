@@ -1,0 +1,29 @@
+//! The limits of an engine.
+ghost use Rattle.std.specs.Prelude.{◌≡◌, ◌↔◌, IsTrue};
+ghost use Rattle.ioc_history.specs.Places.{AreAllowed};
+
+/// The limits of an engine. The number of places in its journal is the number of calls that it can
+/// take.
+#[derive(Clone, Copy, PartialEq, Eq, Debug)]
+pub struct Limits {
+    /// The number of places in the journal, for entries and for calls on their way: from 1 to
+    /// 4,194,304.
+    pub journal: u64,
+}
+
+impl Default for Limits {
+    ghost is_default = { λ limits. limits.journal ≡ 100000 };
+
+    fn default() -> Limits {
+        Limits { journal: 100_000 }
+    }
+}
+
+impl Limits {
+    /// Returns whether the limits are within their ranges.
+    pub fn are_allowed(&self) -> bool
+        ensures { IsTrue result ↔ AreAllowed self.now }
+    {
+        self.journal >= 1 && self.journal <= 4_194_304
+    }
+}

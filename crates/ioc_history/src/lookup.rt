@@ -1,0 +1,65 @@
+//! The entries of the journal, and the entry of a receipt.
+ghost use Rattle.std.specs.Prelude.{◌≡◌, ◌≤◌, ◌+◌, length, slice_get};
+ghost use Rattle.std.specs.Option.{option_map};
+ghost use Rattle.crossbeam_utils.specs.Seq.{cell_view};
+ghost use Rattle.ioc_history.specs.Line.{keeper, Begins};
+ghost use Rattle.ioc_history.specs.Account.{calls, IsEntryOf};
+
+use crate::base::Base;
+use crate::journal::Journal;
+use crate::receipt::Receipt;
+use crate::{Cell, JournalEntry, Token, pass};
+use ioc_record::RecordKind;
+use std::sync::Wait;
+
+// Compares a pass with the keeper's list, which begins with what the pass has seen.
+fn compare_one<R: Wait>(rt: &R, cell: &Cell, master: &mut Token, one: &mut Token)
+    requires table { (master.old.table_id ≡ cell.now.table.shared.table_id) × (one.old.table_id ≡ master.old.table_id) }
+    requires keeper { cell_view master.old ≡ keeper (cell_view master.old).seen (cell_view master.old).born }
+    ensures keeper { (master.new.table_id ≡ master.old.table_id) × (cell_view master.new ≡ cell_view master.old) }
+    ensures one { (one.new.table_id ≡ one.old.table_id) × (cell_view one.new ≡ cell_view one.old) }
+    ensures begins { Begins (cell_view one.old).seen (cell_view master.old).seen }
+{
+    let copy = pass::again(cell, one);
+    pass::take_in(rt, cell, master, copy);
+}
+
+impl<K: RecordKind, B: Base<K>> Journal<K, B> {
+    /// Returns the number of calls. With the held places it is at most the limit.
+    pub fn len(&self) -> usize
+        ensures count { result ≡ length self.now.filled }
+        ensures within { length self.now.filled + self.now.held ≤ self.now.limit }
+        ensures few { self.now.limit ≤ 4194304 }
+    {
+        self.entries.len()
+    }
+
+    /// Returns the call at a place, from 0 on, or `None` past the last.
+    pub fn entry_at(&self, place: u64) -> Option<&JournalEntry>
+        ensures { option_map (λ e. e.now) result ≡ slice_get (calls self.now.filled) place }
+    {
+        self.entries.at(place)
+    }
+
+    /// Compares a receipt with the list of calls, which begins with what the receipt knows.
+    pub fn compare_receipt<R: Wait>(&mut self, rt: &R, cell: &Cell, receipt: &mut Receipt<K, B>)
+        requires table { cell.now.table.shared.table_id ≡ B.table }
+        ensures begins { Begins receipt.old self.old.filled }
+        ensures receipt { receipt.new ≡ receipt.old }
+        ensures same { self.new ≡ self.old }
+    {
+        compare_one(rt, cell, &mut self.pass, &mut receipt.pass);
+    }
+
+    /// Returns the call of a receipt: it is at the receipt's place, and the receipt's list ends
+    /// with it. The list of calls has to begin with the receipt's list.
+    pub fn entry_of(&self, receipt: &Receipt<K, B>) -> &JournalEntry
+        requires begins { Begins receipt.now self.now.filled }
+        ensures { IsEntryOf receipt.now self.now.filled result.now }
+    {
+        let Some(entry) = self.entries.at(receipt.place) else {
+            unreachable!()
+        };
+        entry
+    }
+}

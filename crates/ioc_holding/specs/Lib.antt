@@ -1,5 +1,0 @@
-pub mod Legal
-pub mod Held
-pub mod LinkChange
-pub mod EventLaws
-pub mod Laws

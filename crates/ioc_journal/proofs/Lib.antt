@@ -1,5 +1,0 @@
-mod Calls
-pub mod Numbers
-mod Adding
-mod Ends
-mod Room

@@ -1,0 +1,39 @@
+-- What the table of the puts with notification knows of a longer list, and after an event that was
+-- counted.
+use Rattle.std.proofs.Common.{◌≡◌, ℕ, ◌+◌, ◌<◌, ◌≤◌, ◌^◌, List, sym, ◌∙◌, subst, inl, refl, arith}
+use Rattle.ioc_notify.specs.declared.live_numbers.Live.{Live}
+use Rattle.ioc_notify.specs.Living.{holders_of}
+use Rattle.ioc_notify.specs.Counts.{holders_in}
+use Rattle.ioc_record.specs.RecordRules.{RecordRules}
+use Rattle.ioc_store.specs.World.{World}
+use Rattle.ioc_history.specs.declared.entry.Note.{Note}
+use Rattle.ioc_history.specs.Line.{Continues}
+use Rattle.ioc_history.specs.Legal.{IsLegal, map_of, notifications_key}
+use Rattle.ioc_history.specs.Laws.{LiveLasts}
+use Rattle.ioc_journaled_set.specs.Puts.{AreCounted, AreMoved}
+use Rattle.ioc_history.specs.Account.{puts_key}
+
+module _ {R : Type 0} (k : RecordRules R) where
+  -- The counts of a list that was seen are those of a list that continues from it without the key
+  -- of the puts with notification.
+  pub counted_on : LiveLasts k → (base : World R) (seen log : List Note) (lines : List Live) → AreCounted k base lines seen → Continues seen puts_key log → IsLegal k base log → AreCounted k base lines log
+  counted_on lasts base seen log lines counted go legal n =
+      counted n
+      ∙ subst (λ (l : List Note). holders_of n (map_of k base seen).live ≡ holders_of n (map_of k base l).live) (sym go.1)
+      (lasts base seen go.0 (go.2 notifications_key (inl refl)) (subst (λ (l : List Note). IsLegal k base l) go.1 legal) n)
+
+  -- The event of a set is added: the counts of the set are at most those of the lines, the sums
+  -- fit, and the counts afterwards are right.
+  module _ (lasts : LiveLasts k) (base : World R) (seen log longer : List Note) (lines before after : List Live) (counted : AreCounted k base lines seen) (go : Continues seen puts_key log) (legal : IsLegal k base log)
+      (moved : AreMoved k base log longer before after) where
+    at_log : (n : ℕ) → holders_in n lines ≡ holders_of n (map_of k base log).live
+    at_log = counted_on lasts base seen log lines counted go legal
+
+    pub before_there : (n : ℕ) → holders_in n before ≤ holders_in n lines
+    before_there n = let fewer = moved.fewer n in let same = at_log n in omega (arith, fewer, same)
+
+    pub sums_fit : (n : ℕ) → holders_in n lines + holders_in n after < 2 ^ 64 + holders_in n before
+    sums_fit n = let fits = moved.fits n in let same = at_log n in let by = moved.moved n in omega (arith, fits, same, by)
+
+    pub counted_then : (then : List Live) → ((n : ℕ) → holders_in n then + holders_in n before ≡ holders_in n lines + holders_in n after) → AreCounted k base then longer
+    counted_then then counts n = let same = at_log n in let by = moved.moved n in let now = counts n in omega (arith, same, by, now)

@@ -1,0 +1,25 @@
+mod Beside
+mod Counted
+mod Counting
+pub mod Dealing
+pub mod Devices
+mod Following
+mod GiveUpAmong
+mod GiveUpEvents
+mod GiveUpGiving
+mod GiveUpSumming
+mod GivingUp
+pub mod Keys
+mod KeysOfSets
+mod Leading
+mod LedSets
+mod Lending
+mod Nothing
+mod PartedSets
+mod Parting
+mod Places
+mod Refusing
+mod Serving
+mod SetsTogether
+mod TakingOver
+mod Telling

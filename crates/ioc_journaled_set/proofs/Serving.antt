@@ -1,0 +1,250 @@
+-- What a set knows after an event of its own.
+use Rattle.std.proofs.Common.{◌≡◌, ℕ, Bool, true, false, cond, List, [], ◌∷◌, ◌++◌, length, None, refl, sym, ap, ◌∙◌, subst, zero, suc, arith}
+use Rattle.std.specs.Prelude.{◌==◌, Contains, is_some}
+use Rattle.std.specs.Ordering.{nat_cmp}
+use Rattle.std.specs.FinMap.{FinMap, get}
+use Rattle.atomic_table.specs.Seated.{TableId}
+use Rattle.ioc_device.specs.declared.Ask.{Ask}
+use Rattle.ioc_device.specs.declared.Answer.{Answer}
+use Rattle.ioc_ledger.specs.Requests.{Requests}
+use Rattle.ioc_fields.specs.declared.field_no.FieldNo.{FieldNo}
+use Rattle.ioc_record.specs.RecordRules.{RecordRules}
+use Rattle.ioc_store.specs.World.{World, Has, IsClosed, at, begun, begun_at}
+use Rattle.ioc_store.specs.Given.{Answers, answers_of, listed}
+use Rattle.ioc_events.specs.declared.event.Event.{Event}
+use Rattle.ioc_events.specs.declared.event.Event.TheVariants.{Get, Process, Put, Complete, Link, Notify, Cancel, IsLive}
+use Rattle.ioc_events.specs.declared.event.Entry.{Entry}
+use Rattle.ioc_events.specs.declared.reply.Reply.{Reply}
+use Rattle.ioc_events.specs.Holding.{IsCounted, holders}
+use Rattle.ioc_events.specs.Local.{AskAlike}
+use Rattle.ioc_events.specs.Step.{names, stepped}
+use Rattle.ioc_events.specs.StepRules.{Step, KeepsRecords}
+use Rattle.ioc_history.specs.declared.entry.Note.{Note}
+use Rattle.ioc_history.specs.declared.room.View.{View}
+use Rattle.ioc_history.specs.Key.{Key, Has as Has_key}
+use Rattle.ioc_history.specs.Line.{Continues, holder, noted}
+use Rattle.ioc_history.specs.KeyLaws.{has_left}
+use Rattle.ioc_history.specs.Legal.{AreLiveAlike, IsLegal, IsSound, key_of, notifications_key, map_of, done}
+use Rattle.ioc_history.specs.Held.{Holds, Cover, CancelsWithin, AreHeldAlike, IsOf, IsDone, question_note}
+use Rattle.ioc_history.specs.Laws.{Lasts, OneMore, HoldersMove, MovesAlike, Asks, HeldAlike, GoesOn}
+use Rattle.ioc_history.specs.Account.{journalled, number_given, AreRecords, IsHolder, MayFollow, Added}
+use Rattle.ioc_journaled_set.specs.Holding.{IsOwner}
+use Rattle.ioc_set.specs.Held.{Held, NoneIsLive, now_of, folded, done_by, held_after}
+use Rattle.ioc_set.specs.Doing.{is_ordinary, with_place, Does}
+
+pub one_there : {X : Type 0} (x y : X) → Contains (x ∷ []) y → x ≡ y
+one_there x y (zero, lt, is) = is
+one_there x y (suc i, lt, is) = absurd (omega arith)
+
+false_true : false ≡ true → ⊥
+false_true e = cc
+
+-- An ordinary event names a record.
+pub names_one : (event : Event) → is_ordinary event ≡ true → (n : ℕ) × Contains (names event) n
+names_one (Get s field) is = absurd (false_true is)
+names_one (Process s) is = (s, (zero, omega arith, refl))
+names_one (Put s field given) is = (s, (zero, omega arith, refl))
+names_one (Complete s n x) is = (s, (zero, omega arith, refl))
+names_one (Link s field link) is = absurd (false_true is)
+names_one (Notify s n field given) is = absurd (false_true is)
+names_one (Cancel n) is = absurd (false_true is)
+names_one (IsLive n) is = absurd (false_true is)
+
+-- An ordinary event begins no put with notification.
+pub begins_no_put : (event : Event) → is_ordinary event ≡ true → number_given event ≡ None
+begins_no_put (Get s field) is = refl
+begins_no_put (Process s) is = refl
+begins_no_put (Put s field given) is = refl
+begins_no_put (Complete s n x) is = refl
+begins_no_put (Link s field link) is = refl
+begins_no_put (Notify s n field given) is = absurd (false_true is)
+begins_no_put (Cancel n) is = refl
+begins_no_put (IsLive n) is = refl
+
+-- A pass that has seen more of the list still owns the keys of the records that were there.
+pub owner_on : {R : Type 0} (table id id' : TableId) (v v' : View) (seen : List Note) (w w' : World R) → IsOwner table id v w → id' ≡ id → v' ≡ holder seen v.owns → ((n : ℕ) → Has w' n → Has w n) → IsOwner table id' v' w'
+owner_on table id id' v v' seen w w' owner same is only = record {
+  same = same ∙ owner.same;
+  holder = subst (λ (x : View). IsHolder x) (sym is) refl;
+  records = subst (λ (x : View). AreRecords x.owns) (sym is) owner.records;
+  covers = subst (λ (x : View). Cover x.owns w') (sym is) (λ r s. owner.covers r (only r s));
+}
+
+module _ {R : Type 0} (k : RecordRules R) where
+  pub no_cancel : (m v : World R) (event : Event) → is_ordinary event ≡ true → CancelsWithin k m v event
+  no_cancel m v (Get s field) is = tt
+  no_cancel m v (Process s) is = tt
+  no_cancel m v (Put s field given) is = tt
+  no_cancel m v (Complete s n x) is = tt
+  no_cancel m v (Link s field link) is = tt
+  no_cancel m v (Notify s n field given) is = tt
+  no_cancel m v (Cancel n) is = absurd (false_true is)
+  no_cancel m v (IsLive n) is = tt
+
+  pub asks_nothing : (w v : World R) (event : Event) → is_ordinary event ≡ true → AskAlike w v event
+  asks_nothing w v (Get s field) is = tt
+  asks_nothing w v (Process s) is = tt
+  asks_nothing w v (Put s field given) is = tt
+  asks_nothing w v (Complete s n x) is = tt
+  asks_nothing w v (Link s field link) is = tt
+  asks_nothing w v (Notify s n field given) is = absurd (false_true is)
+  asks_nothing w v (Cancel n) is = absurd (false_true is)
+  asks_nothing w v (IsLive n) is = absurd (false_true is)
+
+  closed_begun : (w : World R) (moment : ℕ) → IsClosed k w → IsClosed k (begun_at moment w)
+  unfolding at begun_at begun
+  closed_begun w moment c = record { closed = c.closed }
+
+  there_begun : (w : World R) (moment n : ℕ) → Has (begun_at moment w) n → Has w n
+  unfolding begun_at begun
+  there_begun w moment n h = h
+
+  -- What a set knows of a longer list without its keys.
+  module _ (lasts : Lasts k) (base v : World R) (seen : List Note) (owned : List Key) (covers : Cover owned v) (holds : Holds k (map_of k base seen) v) where
+    pub holds_on : (log : List Note) → Continues seen owned log → IsLegal k base log → Holds k (map_of k base log) v
+    holds_on log go legal =
+        subst (λ (l : List Note). Holds k (map_of k base l) v) (sym go.1)
+        (lasts base v seen go.0 holds (λ r s. go.2 (key_of r) (covers r s)) (subst (λ (l : List Note). IsLegal k base l) go.1 legal))
+
+  live_alike : (v w : World R) → v.live ≡ w.live → AreLiveAlike v w
+  live_alike v w same number = rw same refl
+
+  counted_begun : (w : World R) (moment : ℕ) → IsCounted k w → IsCounted k (begun_at moment w)
+  unfolding at begun_at begun holders
+  counted_begun w moment c = record {
+    closed = closed_begun w moment c.closed;
+    few = c.few;
+    counted = record { counted = c.counted.counted; live = c.counted.live; waits_once = c.counted.waits_once };
+  }
+
+  placed_now : {D : Type 0} (full : Bool) (h : Held R D) → now_of (cond full (folded h) h) ≡ now_of h
+  placed_now true h = refl
+  placed_now false h = refl
+
+module _ {R D : Type 0} (k : RecordRules R) (gives : D → Ask → ℕ → Answer → D → Type 0) (h h' : Held R D) (moment : ℕ) (event : Event) (reply : Reply) (come_to : World R)
+    (does : Does k gives h moment event reply h' come_to) (there : (n : ℕ) → Contains (names event) n → Has (now_of h) n) where
+  abbrev e : Entry
+  e = does.entry
+
+  abbrev after : World R
+  after = (done_by k (now_of h) e).world
+
+  was_now : now_of (with_place h) ≡ now_of h
+  was_now = placed_now k (length h.history == 64) h
+
+  used : answers_of after.calls ≡ e.answers
+  used = subst (λ (w : World R). answers_of (done_by k w e).world.calls ≡ e.answers) was_now does.tells.answers
+
+  replied : (done_by k (now_of h) e).reply ≡ e.reply
+  replied = subst (λ (w : World R). (done_by k w e).reply ≡ e.reply) was_now does.tells.reply
+
+  -- The entry has the answers of devices that the event left.
+  pub entry_is : (answers : List Answer) → answers ≡ answers_of come_to.calls → e ≡ record { moment = moment; event = event; answers = answers; reply = reply }
+  entry_is answers copied =
+      let told : e.answers ≡ answers = sym used ∙ ap (λ (w : World R). answers_of w.calls) (sym does.left) ∙ sym copied in
+      λ i. record { moment = does.moment i; event = does.event i; answers = told i; reply = does.answer i }
+
+  now_then : now_of h' ≡ now_of (held_after k (with_place h) e h'.devices)
+  now_then = ap (λ (z : Held R D). now_of z) does.after
+
+  pub records_then : (now_of h').records ≡ after.records
+  records_then = ap (λ (w : World R). w.records) now_then ∙ ap (λ (w : World R). (done_by k w e).world.records) was_now
+
+  pub waiting_then : (now_of h').waiting ≡ after.waiting
+  waiting_then = ap (λ (w : World R). w.waiting) now_then ∙ ap (λ (w : World R). (done_by k w e).world.waiting) was_now
+
+  pub live_then : (now_of h').live ≡ after.live
+  live_then = ap (λ (w : World R). w.live) now_then ∙ ap (λ (w : World R). (done_by k w e).world.live) was_now
+
+  -- If no put with notification is live before and after, no record is part of one.
+  pub none_held : (counted : (answers : Answers) (w after : World R) (event : Event) (reply : Reply) (requests : Requests) → Step k answers w event after reply requests → IsCounted k w → IsCounted k after)
+      → (allowed : (answers : Answers) (w : World R) (event : Event) → Step k answers w event (stepped k answers w event).world (stepped k answers w event).reply (stepped k answers w event).requests)
+      → IsCounted k (now_of h) → NoneIsLive h → NoneIsLive h' → AreHeldAlike k (now_of h) after
+  none_held counted allowed before none none_then number =
+      let done = done_by k (now_of h) e in
+      let step = allowed (listed e.answers) (begun_at e.moment (now_of h)) e.event in
+      let then = counted (listed e.answers) (begun_at e.moment (now_of h)) after e.event done.reply done.requests step (counted_begun k (now_of h) e.moment before) in
+      sym (before.counted.counted number) ∙ live_alike k (now_of h) after (none.0 ∙ sym none_then.0 ∙ live_then) number ∙ then.counted.counted number
+
+  -- The event, noted with these keys, follows a legal list after which the set is held: the set is
+  -- held after it, and the counts of all records change as those of the set do.
+  module _ (one_more : OneMore k) (moves : HoldersMove k) (base : World R) (log : List Note) (desk call : ℕ) (keys : List Key) (sound : IsSound k base) (legal : IsLegal k base log)
+      (holds : Holds k (map_of k base log) (now_of h)) (covers : Cover keys (now_of h)) (cancels : CancelsWithin k (map_of k base log) (now_of h) event)
+      (asks : AskAlike (begun_at moment (now_of h)) (begun_at moment (map_of k base log)) event) (same : (Has_key notifications_key keys → ⊥) → AreHeldAlike k (now_of h) after) where
+    abbrev note : Note
+    note = noted (journalled desk call e) keys
+
+    is_of : IsOf k (map_of k base log) (now_of h) note
+    unfolding done
+    is_of = record {
+      named = λ r c. there r (subst (λ (x : Event). Contains (names x) r) does.event c);
+      cancels = subst (λ (x : Event). CancelsWithin k (map_of k base log) (now_of h) x) (sym does.event) cancels;
+      asks = subst (λ (t : ℕ). AskAlike (begun_at t (now_of h)) (begun_at t (map_of k base log)) e.event) (sym does.moment) (subst (λ (x : Event). AskAlike (begun_at moment (now_of h)) (begun_at moment (map_of k base log)) x) (sym does.event) asks);
+      covers = covers;
+      live = same;
+    }
+
+    is_done : IsDone k (now_of h) note after
+    unfolding done
+    is_done = record { world = refl; reply = replied; used = used }
+
+    pub noted_on : GoesOn k base log note (λ m. Holds k m after)
+    noted_on = one_more base (now_of h) after log note sound legal holds is_of is_done
+
+    pub moved_on : MovesAlike k (map_of k base log) (map_of k base (log ++ note ∷ [])) (now_of h) after
+    moved_on = moves base (now_of h) after log note sound legal holds is_of is_done
+
+  -- The event adds no record.
+  pub only : ((answers : Answers) (w : World R) (event : Event) → Step k answers w event (stepped k answers w event).world (stepped k answers w event).reply (stepped k answers w event).requests)
+      → ((answers : Answers) (w after : World R) (event : Event) (reply : Reply) (requests : Requests) → Step k answers w event after reply requests → IsClosed k w → KeepsRecords w after)
+      → IsClosed k (now_of h) → (n : ℕ) → Has (now_of h') n → Has (now_of h) n
+  only allowed kept shut n has =
+      let step = allowed (listed e.answers) (begun_at e.moment (now_of h)) e.event in
+      there_begun k (now_of h) e.moment n
+      ((kept (listed e.answers) (begun_at e.moment (now_of h)) after e.event (done_by k (now_of h) e).reply (done_by k (now_of h) e).requests step (closed_begun k (now_of h) e.moment shut)).only n
+      (subst (λ (rs : FinMap nat_cmp R). is_some (get rs n) ≡ true) records_then has))
+
+  -- An event that asks nothing of all puts with notification, and leaves the counts of the set as
+  -- they were.
+  module _ (lasts : Lasts k) (one_more : OneMore k) (moves : HoldersMove k) (alike : HeldAlike k) (ordinary : is_ordinary event ≡ true) (same : AreHeldAlike k (now_of h) after)
+      (base : World R) (seen : List Note) (owned : List Key) (covers : Cover owned (now_of h)) (holds : Holds k (map_of k base seen) (now_of h)) where
+    goes_on : (log : List Note) (desk call : ℕ) (own : List Key) → IsSound k base → Continues seen owned log → IsLegal k base log
+        → GoesOn k base log (noted (journalled desk call e) (owned ++ own)) (λ m. Holds k m after)
+    goes_on log desk call own sound go legal =
+        noted_on one_more moves base log desk call (owned ++ own) sound legal (holds_on k lasts base (now_of h) seen owned covers holds log go legal)
+        (λ r s. has_left (key_of r) owned own (covers r s)) (no_cancel k (map_of k base log) (now_of h) event ordinary)
+        (asks_nothing k (begun_at moment (now_of h)) (begun_at moment (map_of k base log)) event ordinary) (λ out. same)
+
+    -- The event may follow any legal list.
+    pub may_follow : (done_entry : Entry) → e ≡ done_entry → MayFollow k base seen owned done_entry
+    may_follow done_entry is = subst (λ (x : Entry). MayFollow k base seen owned x) is (λ log desk call own sound go legal. (goes_on log desk call own sound go legal).legal)
+
+    -- The set is held after the event.
+    pub held_then : (done_entry : Entry) → e ≡ done_entry → (log longer : List Note) → Added k base seen owned done_entry log longer → Holds k (map_of k base longer) (now_of h')
+    held_then done_entry is log longer added =
+        let a = subst (λ (x : Entry). Added k base seen owned x log longer) (sym is) added in
+        let known = (goes_on log a.desk a.call a.own a.sound a.goes_on a.legal).known in
+        alike (map_of k base longer) after (now_of h') (subst (λ (l : List Note). Holds k (map_of k base l) after) (sym a.ends) known) records_then waiting_then
+
+-- A get on a held set.
+module _ {R : Type 0} (k : RecordRules R) (lasts : Lasts k) (asks : Asks k) (base v : World R) (moment s : ℕ) (field : FieldNo) (reply : Reply)
+    (answer : (answers : Answers) → reply ≡ (stepped k answers v (Get s field)).reply) (there : Has v s)
+    (seen : List Note) (owned : List Key) (covers : Cover owned v) (holds : Holds k (map_of k base seen) v) where
+  abbrev pub got : Entry
+  got = record { moment = moment; event = Get s field; answers = []; reply = reply }
+
+  get_goes_on : (log : List Note) (desk call : ℕ) (own : List Key) → IsSound k base → Continues seen owned log → IsLegal k base log
+      → GoesOn k base log (noted (journalled desk call got) (owned ++ own)) (λ m. Holds k m v)
+  get_goes_on log desk call own sound go legal =
+      let none : Answers = listed [] in
+      subst (λ (r : Reply). GoesOn k base log (question_note desk call moment (Get s field) r (owned ++ own)) (λ m. Holds k m v)) (sym (answer none))
+      (asks base v log desk call moment (Get s field) none (owned ++ own) refl sound legal (holds_on k lasts base v seen owned covers holds log go legal)
+      (λ r c. subst (λ (n : ℕ). Has v n) (one_there s r c) there) tt (λ r h. has_left (key_of r) owned own (covers r h)))
+
+  pub get_may_follow : (entry : Entry) → got ≡ entry → MayFollow k base seen owned entry
+  get_may_follow entry is = subst (λ (x : Entry). MayFollow k base seen owned x) is (λ log desk call own sound go legal. (get_goes_on log desk call own sound go legal).legal)
+
+  pub held_after_get : (entry : Entry) → got ≡ entry → (log longer : List Note) → Added k base seen owned entry log longer → Holds k (map_of k base longer) v
+  held_after_get entry is log longer added =
+      let a = subst (λ (x : Entry). Added k base seen owned x log longer) (sym is) added in
+      subst (λ (l : List Note). Holds k (map_of k base l) v) (sym a.ends) (get_goes_on log a.desk a.call a.own a.sound a.goes_on a.legal).known

@@ -1,0 +1,139 @@
+-- The events without effect that the owner of the key of the puts with notification may note.
+use Rattle.std.proofs.Common.{◌≡◌, ◌↔◌, ℕ, ◌<◌, Bool, true, false, cond, nat_lt, List, [], ◌∷◌, ◌++◌, refl, sym, ap, ◌∙◌, subst, arith}
+use Rattle.std.specs.Prelude.{IsTrue}
+use Rattle.std.proofs.lemmas.Bool.{ltb-true, lt-ltb}
+use Rattle.ioc_values.specs.declared.error.IocError.TheVariants.{Stale}
+use Rattle.ioc_ledger.specs.Requests.{None}
+use Rattle.ioc_notify.specs.declared.live_numbers.Live.{Live}
+use Rattle.ioc_notify.specs.Living.{holders_of, is_live}
+use Rattle.ioc_notify.specs.Counts.{holders_in, lines_of, IsTable}
+use Rattle.ioc_record.specs.RecordRules.{RecordRules}
+use Rattle.ioc_store.specs.World.{World, at, begun, begun_at}
+use Rattle.ioc_store.specs.Given.{Answers, answers_of, listed}
+use Rattle.ioc_device.specs.declared.Answer.{Answer}
+use Rattle.ioc_events.specs.declared.event.Event.{Event}
+use Rattle.ioc_events.specs.declared.event.Event.TheVariants.{Cancel, IsLive}
+use Rattle.ioc_events.specs.declared.event.Entry.{Entry}
+use Rattle.ioc_events.specs.declared.reply.Reply.{Reply}
+use Rattle.ioc_events.specs.declared.reply.Reply.TheVariants.{Live as Live-reply}
+use Rattle.ioc_events.specs.Holding.{IsCounted, holders}
+use Rattle.ioc_events.specs.Step.{Stepped, stepped, done_alone, done_there, refused, with_starts, lets_start}
+use Rattle.ioc_history.specs.declared.entry.Note.{Note}
+use Rattle.ioc_history.specs.Key.{Key}
+use Rattle.ioc_history.specs.Line.{Continues, noted}
+use Rattle.ioc_history.specs.Legal.{AreLiveAlike, IsLegal, IsSound, IsUntouched, Fits, done, map_of}
+use Rattle.ioc_history.specs.Account.{journalled, MayFollow, Added, puts_key}
+use Rattle.ioc_journaled_set.specs.Puts.{told_at}
+use Rattle.ioc_journaled_set.proofs.Beside.{lines_are}
+
+-- An entry with these answers.
+abbrev pub entry_with : ℕ → Event → Reply → List Answer → Entry
+entry_with moment event reply answers = record { moment = moment; event = event; answers = answers; reply = reply }
+
+both_same : (a b : Bool) → (a ≡ true → b ≡ true) → (b ≡ true → a ≡ true) → a ≡ b
+both_same true b there back = sym (there refl)
+both_same false true there back = let no : false ≡ true = back refl in cc
+both_same false false there back = refl
+
+one_if : (a : ℕ) → (b : Bool) → nat_lt 0 a ≡ b → 0 < cond b 1 0 → 0 < a
+one_if a true is some = ltb-true 0 a is
+one_if a false is some = absurd (omega (arith, some))
+
+if_one : (a : ℕ) → 0 < a → 0 < cond (nat_lt 0 a) 1 0
+if_one a some = subst (λ (b : Bool). 0 < cond b 1 0) (sym (lt-ltb 0 a some)) (omega arith)
+
+module _ {R : Type 0} (k : RecordRules R) (live_lines : (ls : List Live) (n : ℕ) → IsTrue (is_live n ls) ↔ (0 < lines_of n ls)) where
+  -- A put with notification is live in a counted world exactly if its count isn't zero.
+  live_in : (w : World R) (n : ℕ) → IsCounted k w → (is_live n w.live ≡ true → 0 < holders_of n w.live) × (0 < holders_of n w.live → is_live n w.live ≡ true)
+  live_in w n counted =
+      let lines = lines_are n w.live in
+      let all = counted.counted.counted n in
+      let once = counted.counted.live n in (
+        λ is. (let some = (live_lines w.live n).0 is in let here = one_if (holders k w n) (nat_lt 0 (holders k w n)) refl (omega (arith, some, lines, once)) in omega (arith, here, all)),
+        λ some. (live_lines w.live n).1 (let one = if_one (holders k w n) (omega (arith, some, all)) in omega (arith, one, lines, once)),
+      )
+
+  -- A put with notification is live in a table with the counts of a world exactly if it is live in
+  -- that world.
+  pub same_live : (lines : List Live) (w : World R) (n : ℕ) → IsTable lines → ((ls : List Live) (m : ℕ) → IsTable ls → IsTrue (is_live m ls) ↔ (0 < holders_in m ls))
+      → IsCounted k w → holders_in n lines ≡ holders_of n w.live → is_live n lines ≡ is_live n w.live
+  same_live lines w n table held counted same =
+      both_same (is_live n lines) (is_live n w.live)
+      (λ is. (live_in w n counted).1 (let some = (held lines n table).0 is in omega (arith, some, same)))
+      (λ is. (held lines n table).1 (let some = (live_in w n counted).0 is in omega (arith, some, same)))
+
+module _ {R : Type 0} (k : RecordRules R) where
+  legal_join : (xs ys : List Note) (m : World R) → IsLegal k m xs → IsLegal k (map_of k m xs) ys → IsLegal k m (xs ++ ys)
+  legal_join [] ys m first then = then
+  legal_join (x ∷ xs) ys m first then = (first.0, legal_join xs ys (done k m x).world first.1 then)
+
+  map_join : (xs ys : List Note) (m : World R) → map_of k m (xs ++ ys) ≡ map_of k (map_of k m xs) ys
+  map_join [] ys m = refl
+  map_join (x ∷ xs) ys m = map_join xs ys (done k m x).world
+
+  untouched : (m : World R) (moment r : ℕ) → IsUntouched k r m (begun_at moment m)
+  unfolding at begun begun_at
+  untouched m moment r = record { same = refl; waiting = refl; named = λ a c. c }
+
+  live_begun : (m : World R) (moment : ℕ) → AreLiveAlike m (begun_at moment m)
+  unfolding begun begun_at
+  live_begun m moment number = refl
+
+  -- The beginning of an event leaves the live puts with notification as they are.
+  pub live_at : (m : World R) (moment number : ℕ) → is_live number m.live ≡ is_live number (begun_at moment m).live
+  unfolding begun begun_at
+  live_at m moment number = refl
+
+  none_called : (m : World R) (moment : ℕ) → answers_of (begun_at moment m).calls ≡ []
+  unfolding begun begun_at
+  none_called m moment = refl
+
+  -- A question or a refusal leaves the world after any legal list as it is.
+  module _ (base : World R) (moment : ℕ) (event : Event) (reply : Reply) (seen : List Note)
+      (comes : (log : List Note) → IsSound k base → Continues seen puts_key log → IsLegal k base log
+      → (answers : Answers) → stepped k answers (begun_at moment (map_of k base log)) event ≡ record { world = begun_at moment (map_of k base log); reply = reply; requests = None }) where
+    module _ (log : List Note) (desk call : ℕ) (keys : List Key) (sound : IsSound k base) (go : Continues seen puts_key log) (legal : IsLegal k base log) where
+      abbrev note : Note
+      note = noted (journalled desk call (told_at moment event reply)) keys
+
+      done_is : done k (map_of k base log) note ≡ record { world = begun_at moment (map_of k base log); reply = reply; requests = None }
+      unfolding done
+      done_is = comes log sound go legal (listed [])
+
+      fits : Fits k (map_of k base log) note
+      fits = record {
+        reply = sym (ap (λ (d : Stepped R). d.reply) done_is);
+        used = ap (λ (d : Stepped R). answers_of d.world.calls) done_is ∙ none_called (map_of k base log) moment;
+        untouched = λ r out. subst (λ (d : Stepped R). IsUntouched k r (map_of k base log) d.world) (sym done_is) (untouched (map_of k base log) moment r);
+        live = λ out. subst (λ (d : Stepped R). AreLiveAlike (map_of k base log) d.world) (sym done_is) (live_begun (map_of k base log) moment);
+      }
+
+      legal_then : IsLegal k base (log ++ note ∷ [])
+      legal_then = legal_join log (note ∷ []) base legal (fits, tt)
+
+      alike_then : AreLiveAlike (map_of k base log) (map_of k base (log ++ note ∷ []))
+      alike_then =
+          subst (λ (w : World R). AreLiveAlike (map_of k base log) w) (sym (map_join log (note ∷ []) base ∙ ap (λ (d : Stepped R). d.world) done_is)) (live_begun (map_of k base log) moment)
+
+    pub told_follows : (entry : Entry) → told_at moment event reply ≡ entry → MayFollow k base seen puts_key entry
+    told_follows entry is = subst (λ (x : Entry). MayFollow k base seen puts_key x) is (λ log desk call own sound go legal. legal_then log desk call (puts_key ++ own) sound go legal)
+
+    pub told_alike : (entry : Entry) → told_at moment event reply ≡ entry → (log longer : List Note) → Added k base seen puts_key entry log longer → AreLiveAlike (map_of k base log) (map_of k base longer)
+    told_alike entry is log longer added =
+        let a = subst (λ (x : Entry). Added k base seen puts_key x log longer) (sym is) added in
+        subst (λ (l : List Note). AreLiveAlike (map_of k base log) (map_of k base l)) (sym a.ends) (alike_then log a.desk a.call (puts_key ++ a.own) a.sound a.goes_on a.legal)
+
+  -- The question whether a put with notification is live.
+  pub ask_comes : (answers : Answers) (w : World R) (number : ℕ) → stepped k answers w (IsLive number) ≡ record { world = w; reply = Live-reply (is_live number w.live); requests = None }
+  unfolding stepped done_alone done_there
+  ask_comes answers w number = refl
+
+  stale : (answers : Answers) (w : World R) (number : ℕ) (first : Stepped R) (b : Bool) → b ≡ false
+      → (let d = cond b first (refused w Stale) in cond (lets_start (Cancel number) d.reply) (with_starts k answers d) d) ≡ refused w Stale
+  stale answers w number first true is = cc
+  stale answers w number first false is = refl
+
+  -- Canceling a put with notification that isn't live.
+  pub stale_comes : (answers : Answers) (w : World R) (number : ℕ) → is_live number w.live ≡ false → stepped k answers w (Cancel number) ≡ refused w Stale
+  unfolding stepped done_alone done_there
+  stale_comes answers w number none = stale answers w number _ (is_live number w.live) none

@@ -1,0 +1,30 @@
+use Rattle.std.proofs.Common.{List, sym, ◌∙◌, subst, arith}
+use Rattle.crossbeam_utils.specs.Seq.{cell_view}
+use Rattle.ioc_device.specs.declared.Answer.{Answer}
+use Rattle.ioc_events.specs.declared.event.Event.TheVariants.{Link}
+use Rattle.ioc_events.specs.declared.reply.Reply.TheVariants.{Plain}
+use Rattle.ioc_history.specs.Account.{BothMayFollow, Call, AddedByBoth}
+use Rattle.ioc_journaled_set.proofs.link_changes.keep_change.Goals as goal
+
+pub append_two-requires-clause-other : goal.append_two-requires-clause-other
+append_two-requires-clause-other g c = (c.requires.other.0, λ key has desk. let record_key = c.requires.other.1 key has in absurd (omega (arith, record_key, desk)))
+
+pub append_two-requires-clause-follows : goal.append_two-requires-clause-follows
+append_two-requires-clause-follows g c =
+    let none = c.new-2.ensures ∙ c.new.ensures.items in
+    let one = cell_view c.args.one.now in
+    let other = cell_view c.args.other.now in
+    subst (λ (l : List Answer). BothMayFollow g.K.RecordKind.rules g.B.Base.base one.seen one.owns other.seen other.owns (record { moment = c.args.moment; event = Link c.args.number c.args.field c.args.link; answers = l; reply = Plain })) (sym none) c.requires.follows
+
+pub returns-clause-call : goal.returns-clause-call
+returns-clause-call g c =
+    let none = c.new-2.ensures ∙ c.new.ensures.items in
+    subst (λ (l : List Answer). Call g.K.RecordKind.rules g.B.Base.base c.args.desk.now (record { moment = c.args.moment; event = Link c.args.number c.args.field c.args.link; answers = l; reply = Plain }) c.append_two.new.desk) none c.append_two.ensures.call
+
+pub returns-clause-added : goal.returns-clause-added
+returns-clause-added g c =
+    let none = c.new-2.ensures ∙ c.new.ensures.items in
+    let one = cell_view c.args.one.now in
+    let other = cell_view c.args.other.now in
+    let added = c.append_two.ensures.added in
+    (added.0, subst (λ (l : List Answer). AddedByBoth g.K.RecordKind.rules g.B.Base.base one.seen one.owns other.seen other.owns (record { moment = c.args.moment; event = Link c.args.number c.args.field c.args.link; answers = l; reply = Plain }) added.0 c.append_two.new.desk.seen) none added.1)

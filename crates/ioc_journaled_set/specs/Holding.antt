@@ -1,0 +1,98 @@
+-- Sets under their locks, and the calls on them. Application Developer's Guide, "Database Locking,
+-- Scanning, and Processing". The journal is this project's own.
+use Rattle.std.specs.Prelude.{◌≡◌, ◌⊎◌, ℕ, Bool, List, [], Option, Some, None, MatchOption, unwrap_or, is_some}
+use Rattle.std.specs.Option.{option_map}
+use Rattle.std.specs.FinMap.{get, keys}
+use Rattle.atomic_table.specs.Seated.{TableId}
+use Rattle.crossbeam_utils.specs.Seq.{cell_view}
+use Rattle.ioc_device.specs.declared.Ask.{Ask}
+use Rattle.ioc_device.specs.declared.Answer.{Answer}
+use Rattle.ioc_record.specs.RecordRules.{RecordRules}
+use Rattle.ioc_store.specs.World.{World, Has}
+use Rattle.ioc_store.specs.Given.{Answers}
+use Rattle.ioc_events.specs.declared.event.Event.{Event}
+use Rattle.ioc_events.specs.declared.reply.Reply.{Reply}
+use Rattle.ioc_events.specs.Step.{stepped}
+use Rattle.ioc_history.specs.declared.entry.Note.{Note}
+use Rattle.ioc_history.specs.declared.room.View.{View}
+use Rattle.ioc_history.specs.Legal.{map_of}
+use Rattle.ioc_history.specs.Held.{Holds, Cover}
+use Rattle.ioc_values.specs.declared.error.IocError.{IocError}
+use Rattle.ioc_history.specs.Account.{Pass, DeskView, IsHolder, AreRecords, Call}
+use Rattle.ioc_history.specs.Places.{IsNoPlace}
+use Rattle.ioc_set.specs.Held.{Held, now_of}
+use Rattle.ioc_set.specs.Sound.{IsSound}
+use Rattle.ioc_set.specs.NoCalls.{no_call}
+use Rattle.ioc_set.specs.Doing.{Does}
+
+-- A set, and the beginning of the journal's list that its pass has seen.
+pub record HeldView (R D : Type 0) : Type 0 where
+  pub set : Held R D
+  pub seen : List Note
+
+abbrev pub held_view : {R D : Type 0} → Held R D → List Note → HeldView R D
+held_view h seen = record { set = h; seen = seen }
+
+-- The numbers of the set's records.
+abbrev pub numbers_of : {R D : Type 0} → HeldView R D → List ℕ
+numbers_of v = keys v.set.records
+
+-- Holds if exactly those of the set's records have a device that had one at the load.
+abbrev pub KeepsDevices : {R D : Type 0} → (ℕ → Bool) → Held R D → Type 0
+KeepsDevices had h = (n : ℕ) → Has (now_of h) n → is_some (get h.devices n) ≡ had n
+
+-- The list that the pass has seen, which is empty without a pass.
+abbrev pub seen_by : Option Pass → List Note
+seen_by pass = unwrap_or (option_map (λ (p : Pass). (cell_view {V = View} p).seen) pass) []
+
+-- Holds of a pass of this engine that owns the keys of these records.
+pub record IsOwner {R : Type 0} (table id : TableId) (v : View) (w : World R) : Type 0 where
+  pub same : id ≡ table
+  pub holder : IsHolder v
+  pub records : AreRecords v.owns
+  pub covers : Cover v.owns w
+
+-- The errors of an event on the records of a set that isn't added to the journal: its record has no
+-- such field, the field can't be put, the journal has no place left, or allocation fails.
+abbrev pub IsNoCall : {R D : Type 0} → RecordRules R → Held R D → Event → IocError → Type 0
+IsNoCall k h event error = (no_call k (now_of h) event ≡ Some error) ⊎ IsNoPlace error
+
+module _ {R D : Type 0} (k : RecordRules R) (base : World R) where
+  -- The invariant of a journaled set: it has a pass for its records, the set is equal to the world
+  -- of all records at its own records, and each record has its device.
+  pub record IsHeld (had : ℕ → Bool) (table : TableId) (pass : Option Pass) (h : Held R D) : Type 0 where
+    pub owner : MatchOption pass ((n : ℕ) → Has (now_of h) n → ⊥) (λ (p : Pass). IsOwner table p.table_id (cell_view {V = View} p) (now_of h))
+    pub holds : Holds k (map_of k base (seen_by pass)) (now_of h)
+    pub devices : KeepsDevices had h
+
+  -- Holds of a set that was taken from its journaled set, with the pass that owns the keys of its
+  -- records.
+  pub record IsLent (had : ℕ → Bool) (table : TableId) (h : Held R D) (slot : Option Pass) : Type 0 where
+    pub pass : Pass
+    pub there : slot ≡ Some pass
+    pub owner : IsOwner table pass.table_id (cell_view {V = View} pass) (now_of h)
+    pub holds : Holds k (map_of k base (cell_view {V = View} pass).seen) (now_of h)
+    pub devices : KeepsDevices had h
+
+  -- What is true of a set and its pass whenever its lock is free.
+  pub record IsSoundlyHeld (v : HeldView R D) : Type 0 where
+    pub sound : IsSound k v.set
+    pub holds : Holds k (map_of k base v.seen) (now_of v.set)
+
+  -- The set replies to a question of a desk, and the question is the last call of the legal list
+  -- that desk and set have seen afterwards.
+  pub record Tells (held : HeldView R D) (desk : DeskView) (at_moment : ℕ) (asked : Event) (reply : Reply) (held_then : HeldView R D) (desk_then : DeskView) : Type 0 where
+    pub is_call : no_call k (now_of held.set) asked ≡ None
+    pub answer : (answers : Answers) → reply ≡ (stepped k answers (now_of held.set) asked).reply
+    pub set : held_then.set ≡ held.set
+    pub call : Call k base desk (record { moment = at_moment; event = asked; answers = []; reply = reply }) desk_then
+    pub seen : held_then.seen ≡ desk_then.seen
+
+module _ {R D : Type 0} (k : RecordRules R) (gives : D → Ask → ℕ → Answer → D → Type 0) (base : World R) where
+  -- An event of a desk is done on a set, and is the last call of the legal list that desk and set
+  -- have seen afterwards.
+  pub record Serves (held : HeldView R D) (desk : DeskView) (at_moment : ℕ) (done : Event) (reply : Reply) (held_then : HeldView R D) (desk_then : DeskView) (come_to : World R) : Type 0 where
+    pub is_call : no_call k (now_of held.set) done ≡ None
+    pub does : Does k gives held.set at_moment done reply held_then.set come_to
+    pub call : Call k base desk does.entry desk_then
+    pub seen : held_then.seen ≡ desk_then.seen

@@ -1,0 +1,13 @@
+pub mod Changing
+pub mod GiveUpLaws
+pub mod GivingUp
+pub mod HeldViewCode
+pub mod Holding
+pub mod LinkChanges
+pub mod LinkLaws
+pub mod Passes
+pub mod Puts
+pub mod PutsViewCode
+pub use Rattle.ioc_held.specs.Holding
+pub use Rattle.ioc_held.specs.Puts
+pub mod Sets

@@ -1,0 +1,94 @@
+-- The puts with notification of all lock sets, in one table beside the journal. Application
+-- Developer's Guide, "Put with Notification" (dbPutNotify): it is complete when all processing that
+-- it has caused is done. The table and its place beside the journal are this project's own.
+use Rattle.std.specs.Prelude.{◌≡◌, ◌⊎◌, ◌+◌, ◌-◌, ◌≤◌, ◌<◌, ◌^◌, ℕ, true, false, List, [], length, All}
+use Rattle.atomic_table.specs.Seated.{TableId}
+use Rattle.crossbeam_utils.specs.Seq.{cell_view}
+use Rattle.ioc_notify.specs.declared.live_numbers.Live.{Live}
+use Rattle.ioc_notify.specs.Living.{holders_of, is_live}
+use Rattle.ioc_record.specs.RecordRules.{RecordRules}
+use Rattle.ioc_store.specs.World.{World}
+use Rattle.ioc_notify.specs.Counts.{Table, holders_in}
+use Rattle.ioc_values.specs.declared.error.IocError.TheVariants.{Stale}
+use Rattle.ioc_events.specs.declared.event.Event.{Event}
+use Rattle.ioc_events.specs.declared.event.Event.TheVariants.{Cancel, IsLive}
+use Rattle.ioc_events.specs.declared.event.Entry.{Entry}
+use Rattle.ioc_events.specs.declared.reply.Reply.{Reply}
+use Rattle.ioc_events.specs.declared.reply.Reply.TheVariants.{Live as Live-reply, Refused}
+use Rattle.ioc_history.specs.Account.{DeskView, Call, Pass, puts_key, calls, numbers_given}
+use Rattle.ioc_history.specs.declared.entry.Note.{Note}
+use Rattle.ioc_history.specs.declared.room.View.{View}
+use Rattle.ioc_history.specs.Line.{holder}
+use Rattle.ioc_history.specs.Legal.{map_of}
+
+-- The live puts with notification, each with its count, the last number assigned, and the beginning
+-- of the journal's list that their pass has seen.
+pub record PutsView : Type 0 where
+  pub live : List Live
+  pub last : ℕ
+  pub seen : List Note
+
+abbrev pub puts_view : List Live → ℕ → List Note → PutsView
+puts_view live last seen = record { live = live; last = last; seen = seen }
+
+-- Holds if a put with notification may begin under the number after the last: fewer than 256 are
+-- live, and none of them has this number.
+pub record CanBegin (p : PutsView) (number : ℕ) : Type 0 where
+  pub after : number ≡ p.last + 1
+  pub few : length p.live < 256
+  pub free : is_live number p.live ≡ false
+
+-- Holds if no put with notification may begin: 256 are live, no number is left, or a live one has
+-- the next number.
+abbrev pub NoneCanBegin : PutsView → Type 0
+NoneCanBegin p = (256 ≤ length p.live) ⊎ ((p.last ≡ 2 ^ 64 - 1) ⊎ (is_live (p.last + 1) p.live ≡ true))
+
+-- Holds if no put with notification began under a number above this one.
+abbrev pub NoneIsAbove : ℕ → List Note → Type 0
+NoneIsAbove last seen = All (λ number. number ≤ last) (numbers_given (calls seen))
+
+module _ {R : Type 0} (k : RecordRules R) (base : World R) where
+  -- Holds if the counts of the lines are those of the world of all records after these notes.
+  abbrev pub AreCounted : List Live → List Note → Type 0
+  AreCounted live seen = (n : ℕ) → holders_in n live ≡ holders_of n (map_of k base seen).live
+
+  -- The invariant of the table: the pass owns the key of the puts with notification, the table has
+  -- the counts of all, none began under a number above the last, and there is room for the lines of
+  -- a set.
+  pub record AreKept (table : TableId) (pass : Pass) (t : Table) (last : ℕ) : Type 0 where
+    pub same : pass.table_id ≡ table
+    pub holds : cell_view {V = View} pass ≡ holder (cell_view {V = View} pass).seen puts_key
+    pub counted : AreCounted t.live (cell_view {V = View} pass).seen
+    pub below : NoneIsAbove last (cell_view {V = View} pass).seen
+    pub few : length t.live ≤ 256
+    pub room : 512 ≤ t.room
+
+  -- Holds if, from `log` to `longer`, the counts in the world of all records change as the lines of
+  -- a set do from `before` to `after`, the counts of the set were at most those of all, and at most
+  -- 256 puts with notification are live afterwards.
+  pub record AreMoved (log longer : List Note) (before after : List Live) : Type 0 where
+    pub moved : (n : ℕ) → holders_of n (map_of k base longer).live + holders_in n before ≡ holders_of n (map_of k base log).live + holders_in n after
+    pub fewer : (n : ℕ) → holders_in n before ≤ holders_of n (map_of k base log).live
+    pub fits : (n : ℕ) → holders_of n (map_of k base longer).live ≤ 2 ^ 63
+    pub few : length (map_of k base longer).live ≤ 256
+
+-- The journal's entry of a question or of a refusal, in which no device answers.
+abbrev pub told_at : (moment : ℕ) → Event → Reply → Entry
+told_at moment event reply = record { moment = moment; event = event; answers = []; reply = reply }
+
+module _ {R : Type 0} (k : RecordRules R) (base : World R) (puts : PutsView) (desk : DeskView) (moment number : ℕ) (reply : Reply) (puts_then : PutsView) (desk_then : DeskView) where
+  -- A desk asks whether a put with notification is live, which it is if the table has it. The
+  -- question is the last call of the legal list that desk and table have seen afterwards, and
+  -- nothing else has changed.
+  pub record WasAsked : Type 0 where
+    pub answer : reply ≡ Live-reply (is_live number puts.live)
+    pub call : Call k base desk (told_at moment (IsLive number) reply) desk_then
+    pub kept : puts_then ≡ puts_view puts.live puts.last desk_then.seen
+
+  -- A put with notification isn't canceled because it isn't live. The refusal is the last call of
+  -- that list, and nothing else has changed.
+  pub record WasStale : Type 0 where
+    pub none : is_live number puts.live ≡ false
+    pub answer : reply ≡ Refused Stale
+    pub call : Call k base desk (told_at moment (Cancel number) reply) desk_then
+    pub kept : puts_then ≡ puts_view puts.live puts.last desk_then.seen

@@ -1,0 +1,122 @@
+//! Calls that concern puts with notification but no set.
+ghost use Rattle.std.specs.Prelude.{◌≡◌, ◌∷◌, false, List, None, IfOk, IfErr, OnErr};
+ghost use Rattle.ioc_events.specs.declared.event.Event.TheVariants.{Cancel, IsLive};
+ghost use Rattle.ioc_notify.specs.Living.{is_live};
+ghost use Rattle.ioc_history.specs.declared.entry.Note.{Note};
+ghost use Rattle.ioc_history.specs.Legal.{AreLiveAlike, map_of};
+ghost use Rattle.ioc_history.specs.Account.{Call, MayFollow, Added, number_given, puts_key};
+ghost use Rattle.ioc_history.specs.Places.{IsNoPlace};
+ghost use Rattle.ioc_journaled_set.specs.Puts.{puts_view, WasAsked, WasStale};
+
+use crate::puts::AllPuts;
+use ioc_events::{Entry, Event, KeptAnswers, Reply};
+use ioc_history::legal_laws::{lists_leave_sound, live_lasts};
+use ioc_history::{Base, Book, Desk, Place, Receipt};
+use ioc_notify::NotifyId;
+use ioc_notify::table_laws::lines_tell_holders;
+use ioc_record::RecordKind;
+use ioc_values::IocError;
+use std::alloc::Global;
+use std::sync::Wait;
+
+impl<K: RecordKind, B: Base<K>> AllPuts<K, B> {
+    /// Returns whether the put with notification with this number is live.
+    pub fn is_live(&self, number: NotifyId) -> bool
+        ensures { result ≡ is_live number self.now.live }
+    {
+        self.table.is_live(number)
+    }
+
+    // Adds an event to the journal that leaves all puts with notification as they are.
+    fn keep_told<R: Wait>(
+        &mut self,
+        rt: &R,
+        book: &Book<K, B>,
+        place: Place<K, B>,
+        desk: &mut Desk<K, B>,
+        entry: Entry,
+    ) -> Receipt<K, B>
+        requires follows { MayFollow K.rules B.base self.old.seen puts_key entry }
+        requires begins_none { number_given entry.event ≡ None }
+        requires alike { (log longer : List Note) → Added K.rules B.base self.old.seen puts_key entry log longer → AreLiveAlike (map_of K.rules B.base log) (map_of K.rules B.base longer) }
+        ensures call { Call K.rules B.base desk.old entry desk.new }
+        ensures receipt { result ≡ desk.new.seen }
+        ensures kept { self.new ≡ puts_view self.old.live self.old.last desk.new.seen }
+    {
+        live_lasts::<K>();
+        book.append(rt, place, &mut self.pass, desk, entry)
+    }
+
+    /// Replies whether a put with notification is live, and adds the question to the journal.
+    ///
+    /// # Errors
+    ///
+    /// [`IocError::JournalFull`] if the journal has no place left. [`IocError::NoMemory`] if
+    /// allocation fails. Nothing has changed then.
+    pub fn ask<R: Wait>(
+        &mut self,
+        rt: &R,
+        alloc: Global,
+        book: &Book<K, B>,
+        desk: &mut Desk<K, B>,
+        number: NotifyId,
+        moment: u64,
+    ) -> Result<(Reply, Receipt<K, B>), IocError>
+        ensures asked { IfOk result (λ x. WasAsked K.rules B.base self.old desk.old moment number x.0 self.new desk.new) }
+        ensures receipt { IfOk result (λ x. x.1 ≡ desk.new.seen) }
+        ensures refused { IfErr result IsNoPlace }
+        ensures err { OnErr result ((self.new ≡ self.old) × (desk.new ≡ desk.old)) }
+    {
+        live_lasts::<K>();
+        lists_leave_sound::<K>();
+        lines_tell_holders();
+        self.table.is_table();
+        let place = book.reserve(rt)?;
+        let is_live = self.table.is_live(number);
+        let entry = Entry {
+            moment,
+            event: Event::IsLive(number),
+            answers: KeptAnswers::new(Vec::new(alloc)),
+            reply: Reply::Live(is_live),
+        };
+        let receipt = self.keep_told(rt, book, place, desk, entry);
+        Ok((Reply::Live(is_live), receipt))
+    }
+
+    /// Refuses to cancel a put with notification that isn't live, and adds the refusal to the
+    /// journal.
+    ///
+    /// # Errors
+    ///
+    /// [`IocError::JournalFull`] if the journal has no place left. [`IocError::NoMemory`] if
+    /// allocation fails. Nothing has changed then.
+    pub fn refuse_cancel<R: Wait>(
+        &mut self,
+        rt: &R,
+        alloc: Global,
+        book: &Book<K, B>,
+        desk: &mut Desk<K, B>,
+        number: NotifyId,
+        moment: u64,
+    ) -> Result<(Reply, Receipt<K, B>), IocError>
+        requires none { is_live number self.old.live ≡ false }
+        ensures stale { IfOk result (λ x. WasStale K.rules B.base self.old desk.old moment number x.0 self.new desk.new) }
+        ensures receipt { IfOk result (λ x. x.1 ≡ desk.new.seen) }
+        ensures refused { IfErr result IsNoPlace }
+        ensures err { OnErr result ((self.new ≡ self.old) × (desk.new ≡ desk.old)) }
+    {
+        live_lasts::<K>();
+        lists_leave_sound::<K>();
+        lines_tell_holders();
+        self.table.is_table();
+        let place = book.reserve(rt)?;
+        let entry = Entry {
+            moment,
+            event: Event::Cancel(number),
+            answers: KeptAnswers::new(Vec::new(alloc)),
+            reply: Reply::Refused(IocError::Stale),
+        };
+        let receipt = self.keep_told(rt, book, place, desk, entry);
+        Ok((Reply::Refused(IocError::Stale), receipt))
+    }
+}

@@ -1,0 +1,235 @@
+//! A link change of a record of one of three sets, passed by reference.
+ghost use Rattle.std.specs.Prelude.{◌≡◌, ◌⊎◌, ◌<◌, ◌-◌, ◌^◌, ◌∷◌, ℕ, false, [], IsSome, IfOk, IfErr, OnErr, Contains};
+ghost use Rattle.std.specs.FinMap.{get};
+ghost use Rattle.ioc_values.specs.declared.error.IocError.TheVariants.{NoField};
+ghost use Rattle.ioc_dbcommon.specs.Links.{use_of, named_by, record_named};
+ghost use Rattle.ioc_record.specs.Values.{stops_put};
+ghost use Rattle.ioc_set_records.specs.Joined.{HasLink};
+ghost use Rattle.ioc_store.specs.World.{common_at};
+ghost use Rattle.ioc_topology.specs.Change.{AreLent};
+ghost use Rattle.ioc_history.specs.Places.{IsNoPlace};
+ghost use Rattle.ioc_set.specs.Held.{now_of, folded};
+ghost use Rattle.ioc_set_store.specs.SetStore.{world_of};
+ghost use Rattle.ioc_journaled_set.specs.Holding.{HeldView, numbers_of};
+ghost use Rattle.ioc_journaled_set.specs.Changing.{size_of, KeepsLarger, KeepsLargest, FellApart, WasLed, Relinks};
+
+use ioc_dbcommon::KeptLink;
+use ioc_device::Device;
+use ioc_events::Reply;
+use ioc_fields::FieldNo;
+use crate::Held;
+use ioc_history::{Base, Book, Desk, Receipt};
+use ioc_names::RecordNo;
+use ioc_record::RecordKind;
+use ioc_topology::Locked;
+use ioc_values::IocError;
+use ioc_set_store::Workplace;
+use std::alloc::Global;
+use std::mem;
+use std::sync::Wait;
+
+/// The result of a link change.
+#[derive(Drop)]
+pub struct Changed<K: RecordKind, B: Base<K>> {
+    /// The reply, as in the journal.
+    pub reply: Reply,
+    /// The receipt of the call.
+    pub receipt: Receipt<K, B>,
+    /// The number of records that were moved: if a set was parted, those of the smaller part, and
+    /// if two sets were joined, those of the smaller set.
+    pub moved: usize,
+}
+
+// Returns the number of records of a set.
+fn size<K: RecordKind + Drop, B: Base<K>, D: Drop>(held: &Held<K, B, D>) -> usize
+    ensures size { result ≡ size_of held.now }
+    ensures few { result < 2 ^ 63 }
+{
+    held.set.are_few();
+    held.set.len()
+}
+
+// Leaves the larger of two parts of a set in the first place, and returns the number of records of
+// the smaller one.
+fn keep_larger<K: RecordKind + Drop, B: Base<K>, D: Drop>(
+    first: &mut Held<K, B, D>,
+    spare: &mut Held<K, B, D>,
+) -> usize
+    ensures { KeepsLarger first.old spare.old first.new spare.new result }
+{
+    let stay = size(first);
+    let rest = size(spare);
+    if stay < rest {
+        mem::swap(first, spare);
+    }
+    stay.min(rest)
+}
+
+// Arranges the sets after a link change that joined a part of one set with another set. `first` is
+// the joined set, `spare` is the rest of the first set, `before` and `other` are the sizes of the
+// two sets before the change. Unless the part is the largest of the three, the joined set goes to
+// the second place, where the other set was, and the rest to the first. Returns the number of
+// records that were moved.
+fn keep_largest<K: RecordKind + Drop, B: Base<K>, D: Drop>(
+    first: &mut Held<K, B, D>,
+    second: &mut Held<K, B, D>,
+    spare: &mut Held<K, B, D>,
+    before: usize,
+    other: usize,
+) -> usize
+    requires few { other < 2 ^ 63 }
+    ensures { KeepsLargest (before - size_of spare.old) other first.old second.old spare.old first.new second.new spare.new result }
+{
+    let rest = size(spare);
+    let part = before.saturating_sub(rest);
+    if part < other || part < rest {
+        mem::swap(first, second);
+        mem::swap(first, spare);
+    }
+    part.min(other) + part.min(rest)
+}
+
+// Changes a link of a record of the first set to a record of that set, or to none.
+fn part_first<K: RecordKind + Drop, B: Base<K>, D: Device, R: Wait>(
+    rt: &R,
+    alloc: Global,
+    book: &Book<K, B>,
+    desk: &mut Desk<K, B>,
+    workplace: &mut Workplace<K, D>,
+    first: &mut Held<K, B, D>,
+    spare: &mut Held<K, B, D>,
+    number: RecordNo,
+    field: FieldNo,
+    link: KeptLink,
+    twin: KeptLink,
+    moment: u64,
+) -> Result<Changed<K, B>, IocError>
+    requires twin { twin ≡ link }
+    requires field { HasLink K.rules first.old.set.records number field }
+    requires allowed { stops_put (common_at K.rules (now_of first.old.set) number) field ≡ false }
+    requires within { (t : ℕ) → Contains (named_by (use_of link)) t → IsSome (get first.old.set.records t) }
+    ensures parts { (second : HeldView K D) → IfOk result (λ c. FellApart K.rules B.base first.old second spare.old desk.old moment number field link c.reply c.moved first.new second spare.new desk.new (world_of workplace.new.store)) }
+    ensures receipt { IfOk result (λ c. c.receipt ≡ desk.new.seen) }
+    ensures refused { IfErr result IsNoPlace }
+    ensures kept { OnErr result ((folded first.new.set ≡ folded first.old.set) × (spare.new ≡ spare.old)) }
+    ensures desk { OnErr result (desk.new ≡ desk.old) }
+{
+    let (rest, receipt) = first.part(
+        rt, alloc, book, desk, workplace, number, field, link, twin, moment,
+    )?;
+    *spare = rest;
+    let moved = keep_larger(first, spare);
+    Ok(Changed {
+        reply: Reply::Plain,
+        receipt,
+        moved,
+    })
+}
+
+// Changes a link of a record of the first set to a record of the second.
+fn lead_first<K: RecordKind + Drop, B: Base<K>, D: Device, R: Wait>(
+    rt: &R,
+    alloc: Global,
+    book: &Book<K, B>,
+    desk: &mut Desk<K, B>,
+    workplace: &mut Workplace<K, D>,
+    first: &mut Held<K, B, D>,
+    second: &mut Held<K, B, D>,
+    spare: &mut Held<K, B, D>,
+    number: RecordNo,
+    field: FieldNo,
+    link: KeptLink,
+    twin: KeptLink,
+    moment: u64,
+) -> Result<Changed<K, B>, IocError>
+    requires twin { twin ≡ link }
+    requires field { HasLink K.rules first.old.set.records number field }
+    requires allowed { stops_put (common_at K.rules (now_of first.old.set) number) field ≡ false }
+    requires to { (t : ℕ) × (named_by (use_of link) ≡ t ∷ []) × IsSome (get second.old.set.records t) }
+    ensures leads { IfOk result (λ c. WasLed K.rules B.base first.old second.old spare.old desk.old moment number field link c.reply c.moved first.new second.new spare.new desk.new (world_of workplace.new.store)) }
+    ensures receipt { IfOk result (λ c. c.receipt ≡ desk.new.seen) }
+    ensures refused { IfErr result IsNoPlace }
+    ensures kept { OnErr result ((folded first.new.set ≡ folded first.old.set) × (second.new.set ≡ second.old.set) × (spare.new ≡ spare.old)) }
+    ensures desk { OnErr result (desk.new ≡ desk.old) }
+{
+    let before = size(first);
+    let other = size(second);
+    let (rest, receipt) = first.lead_into(
+        rt, alloc, book, desk, workplace, second, number, field, link, twin, moment,
+    )?;
+    *spare = rest;
+    let moved = keep_largest(first, second, spare, before, other);
+    Ok(Changed {
+        reply: Reply::Plain,
+        receipt,
+        moved,
+    })
+}
+
+/// Changes a link of a record of the first set, and adds the change to the journal. If the link
+/// leads to a record of the first set then, or to none, this set may part in two; otherwise the
+/// record's part joins the second set, and the rest is a set of its own. The larger part of a set
+/// keeps its place. `link` and `twin` are equal.
+///
+/// # Errors
+///
+/// [`IocError::NoField`] if the field is no link of the record; nothing has changed then.
+/// [`IocError::JournalFull`] if the journal has no place left, and [`IocError::NoMemory`] if
+/// allocation fails; nothing has changed then, except that the history may be forgotten. If DISP
+/// forbids the change, the refusal is a reply, which is added to the journal.
+pub fn change_link<K: RecordKind + Drop, B: Base<K>, D: Device, R: Wait>(
+    rt: &R,
+    alloc: Global,
+    book: &Book<K, B>,
+    desk: &mut Desk<K, B>,
+    workplace: &mut Workplace<K, D>,
+    first: &mut Held<K, B, D>,
+    second: &mut Held<K, B, D>,
+    spare: &mut Held<K, B, D>,
+    number: RecordNo,
+    field: FieldNo,
+    link: KeptLink,
+    twin: KeptLink,
+    moment: u64,
+) -> Result<Changed<K, B>, IocError>
+    requires twin { twin ≡ link }
+    requires lent { AreLent numbers_of number (record_named (use_of link)) first.old second.old spare.old }
+    ensures relinks { IfOk result (λ c. Relinks K.rules B.base first.old second.old spare.old desk.old moment number field link c.reply c.moved first.new second.new spare.new desk.new (world_of workplace.new.store)) }
+    ensures receipt { IfOk result (λ c. c.receipt ≡ desk.new.seen) }
+    ensures refused { IfErr result (λ error. IsNoPlace error ⊎ ((error ≡ NoField) × (HasLink K.rules first.old.set.records number field → ⊥))) }
+    ensures kept { OnErr result ((folded first.new.set ≡ folded first.old.set) × (second.new.set ≡ second.old.set) × (spare.new ≡ spare.old)) }
+    ensures desk { OnErr result (desk.new ≡ desk.old) }
+{
+    if !first.set.has_link(number, field) {
+        return Err(IocError::NoField);
+    }
+    if first.set.forbids(number, field) {
+        first.is_sound();
+        second.is_sound();
+        let (reply, receipt) = first.refuse_link(
+            rt,
+            alloc,
+            book,
+            desk,
+            number,
+            field,
+            link.get(),
+            moment,
+        )?;
+        return Ok(Changed {
+            reply,
+            receipt,
+            moved: 0,
+        });
+    }
+    if first.set.leads_within(&link) {
+        let changed = part_first(
+            rt, alloc, book, desk, workplace, first, spare, number, field, link, twin, moment,
+        )?;
+        return Ok(changed);
+    }
+    let changed = lead_first(
+        rt, alloc, book, desk, workplace, first, second, spare, number, field, link, twin, moment,
+    )?;
+    Ok(changed)
+}

@@ -1,0 +1,180 @@
+//! Separates journaled sets from their passes for a call that concerns all of them, and puts them
+//! together again.
+ghost use Rattle.std.specs.Prelude.{◌≡◌, ◌≢◌, ◌≤◌, ◌<◌, ℕ, [], Some, Option, length, slice_index_or, IfOk, IfErr, IfNone, OnErr};
+ghost use Rattle.std.specs.Option.{IfSome};
+ghost use Rattle.ioc_notify.specs.Living.{holders_of};
+ghost use Rattle.ioc_history.specs.Line.{holder};
+ghost use Rattle.ioc_history.specs.Legal.{map_of};
+ghost use Rattle.ioc_history.specs.Places.{IsNoPlace};
+ghost use Rattle.std.specs.Vec.{vec_len, vec_capacity};
+ghost use Rattle.crossbeam_utils.specs.Seq.{cell_view};
+ghost use Rattle.ioc_set.specs.Held.{Held as SetHeld};
+ghost use Rattle.ioc_journaled_set.specs.Holding.{HeldView, held_view, seen_by};
+ghost use Rattle.ioc_journaled_set.specs.Sets.{AreItsSets};
+ghost use Rattle.ioc_journaled_set.specs.GivingUp.{EachIsLent, HaveNotAll, sets_of, AreSameSets, HeldGaveUp, GaveUpOn};
+ghost use Rattle.ioc_history.specs.Account.{puts_key, Pass};
+
+use crate::together::giving_up::give_up_all;
+use ioc_device::Device;
+use ioc_events::Reply;
+use crate::{AllPuts, Held};
+use ioc_history::{Base, Book, Desk, Receipt};
+use ioc_history::{Cell, Token};
+use ioc_notify::{Live, NotifyId};
+use ioc_notify::table_laws::lines_tell_holders;
+use ioc_record::RecordKind;
+use ioc_set::LockSet;
+use ioc_topology::Locked;
+use ioc_values::IocError;
+use ioc_set_store::Workplace;
+use std::alloc::Global;
+use std::mem;
+use std::sync::Wait;
+
+// Separates each of these journaled sets from its pass, into reserved memory.
+fn lend_all<K: RecordKind + Drop, B: Base<K>, D: Drop>(
+    alloc: Global,
+    cell: &Cell,
+    keeper: &mut Token,
+    held: &mut [Held<K, B, D>],
+    sets: &mut Vec<LockSet<K, D>>,
+    passes: &mut Vec<Option<Token>>,
+)
+    requires table { (keeper.old.table_id ≡ B.table) × (cell.now.table.shared.table_id ≡ B.table) }
+    requires room { (length held.old ≤ vec_capacity sets.old) × (length held.old ≤ vec_capacity passes.old) }
+    requires empty { (sets.old.items ≡ []) × (passes.old.items ≡ []) }
+    ensures keeper { (keeper.new.table_id ≡ keeper.old.table_id) × (cell_view keeper.new ≡ cell_view keeper.old) }
+    ensures sets { sets.new.items ≡ sets_of held.old }
+    ensures beside { length passes.new.items ≡ length held.old }
+    ensures lent { EachIsLent K.rules B.base B.had_device B.table sets.new.items passes.new.items }
+{
+    for i in 0..held.len() {
+        let one = mem::replace(&mut held[i], Held::empty(alloc));
+        let (set, own) = one.into_parts(cell, keeper);
+        sets.push_reserved(set);
+        passes.push_reserved(Some(own));
+    }
+}
+
+// Puts sets and passes together again.
+fn take_back_all<K: RecordKind + Drop, B: Base<K>, D: Drop>(
+    alloc: Global,
+    held: &mut [Held<K, B, D>],
+    sets: &mut [LockSet<K, D>],
+    passes: &mut [Option<Token>],
+)
+    requires count { (length sets.old ≡ length held.old) × (length passes.old ≡ length held.old) }
+    requires lent { EachIsLent K.rules B.base B.had_device B.table sets.old passes.old }
+    ensures { (i : ℕ) (d : HeldView K D) (e : SetHeld K D) (f : Option Pass) → i < length held.new →
+        slice_index_or held.new i d ≡ held_view (slice_index_or sets.old i e) (seen_by (slice_index_or passes.old i f)) }
+{
+    for i in 0..held.len() {
+        let set = mem::replace(&mut sets[i], LockSet::empty(alloc));
+        let Some(own) = passes[i].take() else {
+            unreachable!();
+        };
+        held[i] = Held::new(set, own);
+    }
+}
+
+// Cancels a put with notification on sets that were separated from their passes, if they have all
+// its `total` records. Then puts sets and passes together again.
+fn give_up_lent<K: RecordKind + Drop, B: Base<K>, D: Device, R: Wait>(
+    rt: &R,
+    alloc: Global,
+    book: &Book<K, B>,
+    desk: &mut Desk<K, B>,
+    workplace: &mut Workplace<K, D>,
+    keeper: &mut Token,
+    held: &mut [Held<K, B, D>],
+    sets: &mut [LockSet<K, D>],
+    passes: &mut [Option<Token>],
+    number: NotifyId,
+    total: u64,
+    moment: u64,
+) -> Result<Option<Receipt<K, B>>, IocError>
+    requires keeper { (keeper.old.table_id ≡ B.table) × (cell_view keeper.old ≡ holder (cell_view keeper.old).seen puts_key) }
+    requires total { total ≡ holders_of number (map_of K.rules B.base (cell_view keeper.old).seen).live }
+    requires some { total ≢ 0 }
+    requires count { (length sets.old ≡ length held.old) × (length passes.old ≡ length held.old) }
+    requires lent { EachIsLent K.rules B.base B.had_device B.table sets.old passes.old }
+    ensures gave_up { IfOk result (λ given. IfSome given (λ _. HeldGaveUp K.rules B.base moment number desk.old sets.old (cell_view keeper.old) desk.new held.new (cell_view keeper.new))) }
+    ensures receipt { IfOk result (λ given. IfSome given (λ receipt. receipt ≡ desk.new.seen)) }
+    ensures table { keeper.new.table_id ≡ B.table }
+    ensures missing { IfOk result (λ given. IfNone given (AreSameSets sets.old held.new × (keeper.new ≡ keeper.old) × (desk.new ≡ desk.old) × (AreItsSets number total sets.old → ⊥))) }
+    ensures refused { IfErr result IsNoPlace }
+    ensures err { OnErr result (AreSameSets sets.old held.new × (keeper.new ≡ keeper.old) × (desk.new ≡ desk.old)) }
+{
+    let given = give_up_all(
+        rt, alloc, book, desk, workplace, keeper, sets, passes, number, total, moment,
+    );
+    take_back_all(alloc, held, sets, passes);
+    given
+}
+
+/// Cancels a put with notification on journaled sets, and adds the cancel to the journal as one
+/// call. Returns `None` if not all its records are in these sets; nothing has changed then.
+///
+/// # Errors
+///
+/// [`IocError::JournalFull`] if the journal has no place left. [`IocError::NoMemory`] if allocation
+/// fails. Nothing has changed then.
+pub fn cancel_on<K: RecordKind + Drop, B: Base<K>, D: Device, R: Wait>(
+    rt: &R,
+    alloc: Global,
+    book: &Book<K, B>,
+    desk: &mut Desk<K, B>,
+    workplace: &mut Workplace<K, D>,
+    all: &mut AllPuts<K, B>,
+    held: &mut [Held<K, B, D>],
+    number: NotifyId,
+    moment: u64,
+) -> Result<Option<(Reply, Receipt<K, B>)>, IocError>
+    ensures gave_up { IfOk result (λ given. IfSome given (λ x. GaveUpOn K.rules B.base moment number desk.old held.old all.old x.0 desk.new held.new all.new)) }
+    ensures receipt { IfOk result (λ given. IfSome given (λ x. x.1 ≡ desk.new.seen)) }
+    ensures missing { IfOk result (λ given. IfNone given (AreSameSets (sets_of held.old) held.new × (all.new ≡ all.old) × (desk.new ≡ desk.old) × HaveNotAll number all.old.live (sets_of held.old))) }
+    ensures refused { IfErr result IsNoPlace }
+    ensures err { OnErr result (AreSameSets (sets_of held.old) held.new × (all.new ≡ all.old) × (desk.new ≡ desk.old)) }
+{
+    lines_tell_holders();
+    all.table.is_table();
+    let total = all.table.holders(number);
+    if total == 0 {
+        return Ok(None);
+    }
+    let mut sets = Vec::with_capacity(alloc, held.len())?;
+    let mut passes = Vec::with_capacity(alloc, held.len())?;
+    lend_all(
+        alloc,
+        book.cell(),
+        &mut all.pass,
+        held,
+        &mut sets,
+        &mut passes,
+    );
+    let given = give_up_lent(
+        rt,
+        alloc,
+        book,
+        desk,
+        workplace,
+        &mut all.pass,
+        held,
+        sets.as_mut_slice(),
+        passes.as_mut_slice(),
+        number,
+        total,
+        moment,
+    );
+    match given {
+        Ok(Some(receipt)) => {
+            all.table.take_off(&[Live {
+                number,
+                holders: total,
+            }]);
+            Ok(Some((Reply::Plain, receipt)))
+        }
+        Ok(None) => Ok(None),
+        Err(refused) => Err(refused),
+    }
+}

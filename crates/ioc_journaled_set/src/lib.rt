@@ -1,0 +1,28 @@
+//! What is kept under the lock of a set: the set, and what its pass has seen of the journal.
+//!
+//! Each event on a set is added to the journal while the set's lock is held. The events of all sets
+//! therefore form one list, which is a possible run of an engine with all records in one map, with
+//! the same replies.
+//!
+//! Calls on journaled sets that are passed by reference: a link change of one or two sets, and the
+//! cancel of a put with notification on several sets.
+#![tactic(auto)]
+
+mod asking;
+mod beginning;
+pub mod changing;
+mod ending;
+pub mod give_up_laws;
+mod giving_up;
+pub mod held;
+mod link_changes;
+pub mod link_laws;
+mod locked;
+pub mod puts;
+mod running;
+pub mod together;
+
+pub use changing::{Changed, change_link};
+pub use giving_up::cancel_on;
+pub use held::Held;
+pub use puts::AllPuts;

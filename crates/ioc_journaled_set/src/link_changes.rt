@@ -1,0 +1,308 @@
+//! Link changes of journaled sets.
+ghost use Rattle.std.specs.Prelude.{◌≡◌, ◌++◌, ◌∷◌, ℕ, List, [], None, true, false, IsSome, IfOk, IfErr, OnErr, Contains};
+ghost use Rattle.std.specs.FinMap.{get};
+ghost use Rattle.crossbeam_utils.specs.Seq.{cell_view};
+ghost use Rattle.ioc_values.specs.declared.error.IocError.TheVariants.{PutDisabled};
+ghost use Rattle.ioc_dbcommon.specs.Links.{use_of, named_by};
+ghost use Rattle.ioc_record.specs.Values.{stops_put};
+ghost use Rattle.ioc_set_records.specs.Joined.{HasLink};
+ghost use Rattle.ioc_store.specs.World.{common_at};
+ghost use Rattle.ioc_events.specs.declared.reply.Reply.TheVariants.{Refused};
+ghost use Rattle.ioc_history.specs.declared.entry.Note.{Note};
+ghost use Rattle.ioc_history.specs.Key.{Key, Has};
+ghost use Rattle.ioc_history.specs.Line.{holder};
+ghost use Rattle.ioc_history.specs.Account.{IsHolder, AreRecords, BothMayFollow, Call, AddedByBoth};
+ghost use Rattle.ioc_history.specs.Places.{IsNoPlace};
+ghost use Rattle.ioc_set.specs.Held.{now_of, folded};
+ghost use Rattle.ioc_set.specs.Linking.{MayBeOne};
+ghost use Rattle.ioc_set_store.specs.SetStore.{world_of};
+ghost use Rattle.ioc_journaled_set.specs.LinkChanges.{link_change, keys_of, IsKnown, Refuses, Parts, Leads};
+
+use crate::held::Held;
+use crate::link_laws::{held_sets_may_be_one, led_sets_are_held, parted_sets_are_held};
+use ioc_dbcommon::{KeptLink, LinkField};
+use ioc_device::Device;
+use ioc_events::{Entry, Event, KeptAnswers, Reply};
+use ioc_fields::FieldNo;
+use ioc_history::legal_laws::{holding_lasts, lists_leave_sound};
+use ioc_history::{Base, Book, Desk, Place, Receipt};
+use ioc_history::{Keys, Token, pass};
+use ioc_names::RecordNo;
+use ioc_record::RecordKind;
+use ioc_set::LockSet;
+use ioc_values::IocError;
+use ioc_set_store::Workplace;
+use std::alloc::Global;
+use std::marker::{Brand, PhantomData};
+use std::sync::Wait;
+
+// Adds a link change to the journal, and assigns the keys of the records to the passes of the two
+// sets after it.
+fn keep_change<P: Keys, K: RecordKind, B: Base<K>, D, R: Wait>(
+    rt: &R,
+    alloc: Global,
+    book: &Book<K, B>,
+    place: Place<K, B>,
+    desk: &mut Desk<K, B>,
+    one: &mut Token,
+    other: &mut Token,
+    stay: &LockSet<K, D>,
+    rest: &LockSet<K, D>,
+    number: RecordNo,
+    field: FieldNo,
+    link: LinkField,
+    moment: u64,
+) -> Receipt<K, B>
+    requires table { (one.old.table_id ≡ B.table) × (other.old.table_id ≡ B.table) }
+    requires one { IsHolder (cell_view one.old) × AreRecords (cell_view one.old).owns }
+    requires other { IsHolder (cell_view other.old) × AreRecords (cell_view other.old).owns }
+    requires keys { (P.keys ≡ keys_of stay.now) × (P.rest ≡ keys_of rest.now) }
+    requires within { (key : Key) → Has key (P.keys ++ P.rest) → Has key ((cell_view one.old).owns ++ (cell_view other.old).owns) }
+    requires apart { (key : Key) → Has key P.keys → Has key P.rest → ⊥ }
+    requires follows { BothMayFollow K.rules B.base (cell_view one.old).seen (cell_view one.old).owns (cell_view other.old).seen (cell_view other.old).owns (link_change moment number field link) }
+    ensures call { Call K.rules B.base desk.old (link_change moment number field link) desk.new }
+    ensures receipt { result ≡ desk.new.seen }
+    ensures one { (one.new.table_id ≡ B.table) × (cell_view one.new ≡ holder desk.new.seen P.keys) }
+    ensures other { (other.new.table_id ≡ B.table) × (cell_view other.new ≡ holder desk.new.seen P.rest) }
+    ensures added { (log : List Note) × AddedByBoth K.rules B.base (cell_view one.old).seen (cell_view one.old).owns (cell_view other.old).seen (cell_view other.old).owns (link_change moment number field link) log desk.new.seen }
+{
+    let _ = stay;
+    let _ = rest;
+    let entry = Entry {
+        moment,
+        event: Event::Link(number, field, link),
+        answers: KeptAnswers::new(Vec::new(alloc)),
+        reply: Reply::Plain,
+    };
+    book.append_two::<P, R>(rt, place, one, other, desk, entry)
+}
+
+impl<K: RecordKind + Drop, B: Base<K>, D: Device> Held<K, B, D> {
+    /// Changes a link of a record to a record of this set, or to none, and adds the change to the
+    /// journal. The set keeps the record's part, and the records that no link connects with it any
+    /// more are returned as a journaled set of their own, which may be without records. Live puts
+    /// with notification go with their records; see [`LockSet::part`]. `link` and `twin` are equal.
+    ///
+    /// # Errors
+    ///
+    /// [`IocError::JournalFull`] if the journal has no place left. [`IocError::NoMemory`] if
+    /// allocation fails. Nothing has changed then, except that the history may be forgotten.
+    pub fn part<R: Wait>(
+        &mut self,
+        rt: &R,
+        alloc: Global,
+        book: &Book<K, B>,
+        desk: &mut Desk<K, B>,
+        workplace: &mut Workplace<K, D>,
+        number: RecordNo,
+        field: FieldNo,
+        link: KeptLink,
+        twin: KeptLink,
+        moment: u64,
+    ) -> Result<(Held<K, B, D>, Receipt<K, B>), IocError>
+        requires twin { twin ≡ link }
+        requires field { HasLink K.rules self.old.set.records number field }
+        requires allowed { stops_put (common_at K.rules (now_of self.old.set) number) field ≡ false }
+        requires within { (t : ℕ) → Contains (named_by (use_of link)) t → IsSome (get self.old.set.records t) }
+        ensures parts { IfOk result (λ x. Parts K.rules B.base self.old desk.old moment number field link self.new x.0 desk.new (world_of workplace.new.store)) }
+        ensures receipt { IfOk result (λ x. x.1 ≡ desk.new.seen) }
+        ensures refused { IfErr result IsNoPlace }
+        ensures set { OnErr result (folded self.new.set ≡ folded self.old.set) }
+        ensures seen { OnErr result (self.new.seen ≡ self.old.seen) }
+        ensures desk { OnErr result (desk.new ≡ desk.old) }
+    {
+        holding_lasts::<K>();
+        parted_sets_are_held::<K, D>();
+        let chosen = link.get();
+        let place = book.reserve(rt)?;
+        let rest = match self
+            .set
+            .part(workplace, alloc, number, field, link, twin, moment)
+        {
+            Ok(rest) => rest,
+            Err(_refused) => {
+                book.give_back(rt, place);
+                return Err(IocError::NoMemory);
+            }
+        };
+        self.set.is_sound();
+        rest.is_sound();
+        self.set.devices_are_owned();
+        rest.devices_are_owned();
+        let Some(mut pass) = self.pass.take() else {
+            unreachable!();
+        };
+        let mut other = pass::again(book.cell(), &mut pass);
+        let receipt = keep_change::<Brand, K, B, D, R>(
+            rt, alloc, book, place, desk, &mut pass, &mut other, &self.set, &rest, number, field,
+            chosen, moment,
+        );
+        self.pass = Some(pass);
+        let rest = Held {
+            set: rest,
+            pass: Some(other),
+            of: PhantomData,
+        };
+        Ok((rest, receipt))
+    }
+
+    // Compares two journaled sets with records: they have no record in common and may be joined.
+    // Afterwards both have seen the same list.
+    fn compare<R: Wait>(&mut self, rt: &R, book: &Book<K, B>, other: &mut Held<K, B, D>)
+        requires one { (n : ℕ) × IsSome (get self.old.set.records n) }
+        requires other { (n : ℕ) × IsSome (get other.old.set.records n) }
+        ensures apart { (q : ℕ) → IsSome (get self.old.set.records q) → get other.old.set.records q ≡ None }
+        ensures one { MayBeOne self.old.set other.old.set }
+        ensures same { (self.new.set ≡ self.old.set) × (other.new.set ≡ other.old.set) }
+    {
+        holding_lasts::<K>();
+        lists_leave_sound::<K>();
+        held_sets_may_be_one::<K, D>();
+        self.set.is_sound();
+        other.set.is_sound();
+        let Some(mut pass) = self.pass.take() else {
+            unreachable!();
+        };
+        let Some(mut beside) = other.pass.take() else {
+            unreachable!();
+        };
+        book.compare(rt, &mut pass, &mut beside);
+        self.pass = Some(pass);
+        other.pass = Some(beside);
+    }
+
+    /// Changes a link of a record of this set to a record of another set, takes over the records of
+    /// that set, and adds the change to the journal. The records of this set that only the old link
+    /// connected with the record are returned as a journaled set of their own, which may be without
+    /// records; the other set is left without records. Live puts with notification go with their
+    /// records; see [`LockSet::lead_into`]. `link` and `twin` are equal.
+    ///
+    /// # Errors
+    ///
+    /// [`IocError::JournalFull`] if the journal has no place left. [`IocError::NoMemory`] if
+    /// allocation fails. Nothing has changed then, except that the history may be forgotten.
+    pub fn lead_into<R: Wait>(
+        &mut self,
+        rt: &R,
+        alloc: Global,
+        book: &Book<K, B>,
+        desk: &mut Desk<K, B>,
+        workplace: &mut Workplace<K, D>,
+        other: &mut Held<K, B, D>,
+        number: RecordNo,
+        field: FieldNo,
+        link: KeptLink,
+        twin: KeptLink,
+        moment: u64,
+    ) -> Result<(Held<K, B, D>, Receipt<K, B>), IocError>
+        requires twin { twin ≡ link }
+        requires field { HasLink K.rules self.old.set.records number field }
+        requires allowed { stops_put (common_at K.rules (now_of self.old.set) number) field ≡ false }
+        requires to { (t : ℕ) × (named_by (use_of link) ≡ t ∷ []) × IsSome (get other.old.set.records t) }
+        ensures leads { IfOk result (λ x. Leads K.rules B.base self.old other.old desk.old moment number field link self.new other.new x.0 desk.new (world_of workplace.new.store)) }
+        ensures receipt { IfOk result (λ x. x.1 ≡ desk.new.seen) }
+        ensures refused { IfErr result IsNoPlace }
+        ensures set { OnErr result ((folded self.new.set ≡ folded self.old.set) × (other.new.set ≡ other.old.set)) }
+        ensures desk { OnErr result (desk.new ≡ desk.old) }
+    {
+        holding_lasts::<K>();
+        led_sets_are_held::<K, D>();
+        self.compare(rt, book, other);
+        let chosen = link.get();
+        self.set.devices_are_owned();
+        other.set.devices_are_owned();
+        let place = book.reserve(rt)?;
+        let rest = match self.set.lead_into(
+            &mut other.set,
+            workplace,
+            alloc,
+            number,
+            field,
+            link,
+            twin,
+            moment,
+        ) {
+            Ok(rest) => rest,
+            Err(_refused) => {
+                book.give_back(rt, place);
+                return Err(IocError::NoMemory);
+            }
+        };
+        rest.is_sound();
+        self.set.devices_are_owned();
+        rest.devices_are_owned();
+        let Some(mut pass) = self.pass.take() else {
+            unreachable!();
+        };
+        let Some(mut beside) = other.pass.take() else {
+            unreachable!();
+        };
+        let receipt = keep_change::<Brand, K, B, D, R>(
+            rt,
+            alloc,
+            book,
+            place,
+            desk,
+            &mut pass,
+            &mut beside,
+            &self.set,
+            &rest,
+            number,
+            field,
+            chosen,
+            moment,
+        );
+        self.pass = Some(pass);
+        let rest = Held {
+            set: rest,
+            pass: Some(beside),
+            of: PhantomData,
+        };
+        Ok((rest, receipt))
+    }
+
+    /// Refuses a link change that DISP forbids, and adds the refusal to the journal. The set stays
+    /// as it is.
+    ///
+    /// # Errors
+    ///
+    /// [`IocError::JournalFull`] if the journal has no place left. [`IocError::NoMemory`] if
+    /// allocation fails. Nothing has changed then.
+    pub fn refuse_link<R: Wait>(
+        &mut self,
+        rt: &R,
+        alloc: Global,
+        book: &Book<K, B>,
+        desk: &mut Desk<K, B>,
+        number: RecordNo,
+        field: FieldNo,
+        link: LinkField,
+        moment: u64,
+    ) -> Result<(Reply, Receipt<K, B>), IocError>
+        requires field { HasLink K.rules self.old.set.records number field }
+        requires forbidden { stops_put (common_at K.rules (now_of self.old.set) number) field ≡ true }
+        requires known { (t : ℕ) → Contains (named_by (use_of link)) t → IsKnown K.rules B.base t }
+        ensures refuses { IfOk result (λ x. Refuses K.rules B.base self.old desk.old moment number field link self.new desk.new) }
+        ensures reply { IfOk result (λ x. x.0 ≡ Refused PutDisabled) }
+        ensures receipt { IfOk result (λ x. x.1 ≡ desk.new.seen) }
+        ensures refused { IfErr result IsNoPlace }
+        ensures err { OnErr result ((self.new ≡ self.old) × (desk.new ≡ desk.old)) }
+    {
+        holding_lasts::<K>();
+        lists_leave_sound::<K>();
+        let place = book.reserve(rt)?;
+        let event = Event::Link(number, field, link);
+        let entry = Entry {
+            moment,
+            event,
+            answers: KeptAnswers::new(Vec::new(alloc)),
+            reply: Reply::Refused(IocError::PutDisabled),
+        };
+        let Some(mut pass) = self.pass.take() else {
+            unreachable!();
+        };
+        let receipt = book.append(rt, place, &mut pass, desk, entry);
+        self.pass = Some(pass);
+        Ok((Reply::Refused(IocError::PutDisabled), receipt))
+    }
+}

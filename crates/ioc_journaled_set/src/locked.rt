@@ -1,0 +1,44 @@
+//! Journaled sets under the locks of a directory.
+use crate::held::Held;
+use ioc_history::Base;
+use ioc_names::RecordNo;
+use ioc_record::RecordKind;
+use ioc_set::LockSet;
+use ioc_topology::Locked;
+use std::alloc::Global;
+use std::marker::PhantomData;
+
+impl<K: RecordKind + Drop, B: Base<K>, D: Drop> Locked for Held<K, B, D> {
+    ghost use Rattle.ioc_journaled_set.specs.Holding.{IsSoundlyHeld, numbers_of};
+
+    ghost numbers = { λ h. numbers_of h };
+
+    ghost sound = { λ h. IsSoundlyHeld K.rules B.base h };
+
+    fn empty(alloc: Global) -> Self {
+        Held {
+            set: LockSet::empty(alloc),
+            pass: None,
+            of: PhantomData,
+        }
+    }
+
+    fn has(&self, number: RecordNo) -> bool {
+        self.set.has(number)
+    }
+
+    fn len(&self) -> usize {
+        self.set.len()
+    }
+
+    fn number_at(&self, place: usize) -> RecordNo {
+        match self.set.number_at(place) {
+            Some(number) => number,
+            None => unreachable!(),
+        }
+    }
+
+    fn is_sound(&self) {
+        self.set.is_sound();
+    }
+}

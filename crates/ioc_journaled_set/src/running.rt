@@ -1,0 +1,138 @@
+//! Performs the event of a call on a set.
+ghost use Rattle.std.specs.Prelude.{◌≡◌, true, IfOk, IfErr, OnErr};
+ghost use Rattle.ioc_store.specs.Given.{answers_of};
+ghost use Rattle.ioc_events.specs.Told.{told_by};
+ghost use Rattle.ioc_history.specs.Places.{IsNoPlace};
+ghost use Rattle.ioc_set_store.specs.SetStore.{world_of};
+ghost use Rattle.ioc_set.specs.Doing.{Does, is_done_on_sets};
+
+use ioc_device::Device;
+use ioc_events::{Entry, Event, KeptAnswers, Reply, Told};
+use ioc_history::{Base, Book, Place};
+use ioc_notify::Live;
+use ioc_record::RecordKind;
+use ioc_set::LockSet;
+use ioc_values::IocError;
+use ioc_set_store::Workplace;
+use ioc_set_store::workplace::kept_answers;
+use std::alloc::{AllocError, Global};
+use std::mem;
+use std::sync::Wait;
+
+/// The result of an event that was done on a set with live puts with notification, and isn't in the
+/// journal yet. Its place has to be filled.
+pub(crate) struct Ran<K: RecordKind, B: Base<K>> {
+    /// The held place of the event.
+    pub place: Place<K, B>,
+    /// The puts with notification that were live on the set before the event.
+    pub before: Vec<Live>,
+    pub reply: Reply,
+    pub entry: Entry,
+}
+
+// Performs an event on a set. If allocation fails, nothing has changed.
+#[inline(always)]
+fn do_in<K: RecordKind + Drop, D: Device>(
+    set: &mut LockSet<K, D>,
+    workplace: &mut Workplace<K, D>,
+    alloc: Global,
+    event: &Event,
+    moment: u64,
+) -> Result<Told, AllocError>
+    requires done_here { is_done_on_sets event.now ≡ true }
+    ensures ok { IfOk result (λ told. Does K.rules D.gives set.old moment event.now (told_by told) set.new (world_of workplace.new.store)) }
+    ensures err { OnErr result (set.new ≡ set.old) }
+{
+    match event {
+        Event::Process(number) => set.request(workplace, alloc, *number, moment),
+        Event::Put(number, field, given) => {
+            set.put(workplace, alloc, *number, *field, *given, moment)
+        }
+        Event::Complete(number, wait, finished) => {
+            set.complete(workplace, alloc, *number, *wait, *finished, moment)
+        }
+        Event::Notify(target, number, field, given) => {
+            set.put_notify(workplace, alloc, *number, *target, *field, *given, moment)
+        }
+        Event::Cancel(number) => set.cancel(workplace, alloc, *number, moment),
+        _ => unreachable!(),
+    }
+}
+
+/// Performs an event on a set, and returns the reply and the answers of devices, in memory of their
+/// own size.
+///
+/// # Errors
+///
+/// [`AllocError`] if allocation fails; nothing has changed then.
+#[inline(always)]
+pub(crate) fn run_in<K: RecordKind + Drop, D: Device>(
+    set: &mut LockSet<K, D>,
+    workplace: &mut Workplace<K, D>,
+    alloc: Global,
+    event: &Event,
+    moment: u64,
+) -> Result<(Reply, KeptAnswers), AllocError>
+    requires done_here { is_done_on_sets event.now ≡ true }
+    ensures ok { IfOk result (λ done. Does K.rules D.gives set.old moment event.now done.0 set.new (world_of workplace.new.store)) }
+    ensures answers { IfOk result (λ done. done.1 ≡ answers_of (world_of workplace.new.store).calls) }
+    ensures err { OnErr result (set.new ≡ set.old) }
+{
+    // Reserved before the event, because nothing may be refused after it, and kept for the next
+    // one.
+    let mut spare = mem::replace(&mut workplace.journal_spare, Vec::new(alloc));
+    spare.reserve(256)?;
+    let told = do_in(set, workplace, alloc, event, moment)?;
+    let answers = kept_answers(&workplace.store.event.calls, &mut spare, alloc);
+    workplace.journal_spare = spare;
+    Ok((told.reply(), answers))
+}
+
+/// Reserves a place in the journal for an event, and performs the event on a set. The result has
+/// the set's live puts with notification before the event.
+///
+/// # Errors
+///
+/// [`IocError::JournalFull`] if the journal has no place left. [`IocError::NoMemory`] if allocation
+/// fails. Nothing has changed then.
+pub(crate) fn run_counted<K: RecordKind + Drop, B: Base<K>, D: Device, R: Wait>(
+    rt: &R,
+    alloc: Global,
+    book: &Book<K, B>,
+    set: &mut LockSet<K, D>,
+    workplace: &mut Workplace<K, D>,
+    event: &Event,
+    moment: u64,
+) -> Result<Ran<K, B>, IocError>
+    requires done_here { is_done_on_sets event.now ≡ true }
+    ensures does { IfOk result (λ ran. Does K.rules D.gives set.old moment event.now ran.reply set.new (world_of workplace.new.store)) }
+    ensures entry { IfOk result (λ ran. ran.entry ≡ record { moment = moment; event = event.now; answers = answers_of (world_of workplace.new.store).calls; reply = ran.reply }) }
+    ensures before { IfOk result (λ ran. ran.before.items ≡ set.old.live) }
+    ensures refused { IfErr result IsNoPlace }
+    ensures err { OnErr result (set.new ≡ set.old) }
+{
+    let Ok(before) = set.live_puts().to_vec(alloc) else {
+        return Err(IocError::NoMemory);
+    };
+    let place = book.reserve(rt)?;
+    let (reply, answers) = match run_in(set, workplace, alloc, event, moment) {
+        Ok(done) => done,
+        Err(_refused) => {
+            book.give_back(rt, place);
+            return Err(IocError::NoMemory);
+        }
+    };
+    let answer = &reply;
+    let entry = Entry {
+        moment,
+        event: *event,
+        answers,
+        reply: *answer,
+    };
+    Ok(Ran {
+        place,
+        before,
+        reply: *answer,
+        entry,
+    })
+}

@@ -1,0 +1,71 @@
+//! Cancels a put with notification on several sets, one after another.
+ghost use Rattle.std.specs.Prelude.{◌≡◌, ◌<◌, ℕ, true, length, slice_index_or, OnOk, OnErr};
+ghost use Rattle.ioc_notify.specs.Living.{is_live};
+ghost use Rattle.ioc_set.specs.Held.{Held};
+ghost use Rattle.ioc_set_store.specs.SetStore.{world_of};
+ghost use Rattle.ioc_journaled_set.specs.GiveUpLaws.{GivesUp, CameToNothing};
+ghost use Rattle.ioc_journaled_set.specs.Sets.{EachGivesUp};
+
+use crate::give_up_laws::cancels_leave_nobody;
+use ioc_device::Device;
+use ioc_notify::NotifyId;
+use ioc_record::RecordKind;
+use ioc_set::LockSet;
+use ioc_set_store::Workplace;
+use std::alloc::{AllocError, Global};
+use std::sync::Wait;
+
+// Cancels a put with notification on a set. If allocation fails, tries again until it succeeds.
+fn cancel_at_last<K: RecordKind + Drop, D: Device, R: Wait>(
+    rt: &R,
+    alloc: Global,
+    workplace: &mut Workplace<K, D>,
+    set: &mut LockSet<K, D>,
+    number: NotifyId,
+    moment: u64,
+)
+    requires live { is_live number set.old.live ≡ true }
+    ensures gives_up { GivesUp K.rules moment number set.old set.new }
+    ensures nothing { CameToNothing (world_of workplace.new.store) }
+{
+    cancels_leave_nobody::<K, D>();
+    for _ in rt.forever() {
+        set.is_sound();
+        if let Ok(_reply) = set.cancel(workplace, alloc, number, moment) {
+            return;
+        }
+    }
+    unreachable!()
+}
+
+/// Cancels a put with notification on each of these sets, on all of which it is live. Only the
+/// first set may fail for lack of memory: once it is canceled there, the others are tried until
+/// they succeed.
+///
+/// # Errors
+///
+/// [`AllocError`] if allocation fails; nothing has changed then.
+pub fn cancel_all<K: RecordKind + Drop, D: Device, R: Wait>(
+    rt: &R,
+    alloc: Global,
+    workplace: &mut Workplace<K, D>,
+    sets: &mut [LockSet<K, D>],
+    number: NotifyId,
+    moment: u64,
+) -> Result<(), AllocError>
+    requires live { (i : ℕ) (d : Held K D) → i < length sets.old → is_live number (slice_index_or sets.old i d).live ≡ true }
+    ensures ok { OnOk result (EachGivesUp K.rules moment number sets.old sets.new) }
+    ensures err { OnErr result (sets.new ≡ sets.old) }
+{
+    cancels_leave_nobody::<K, D>();
+    if sets.len() == 0 {
+        return Ok(());
+    }
+    let first = &mut sets[0];
+    first.is_sound();
+    first.cancel(workplace, alloc, number, moment)?;
+    for i in 1..sets.len() {
+        cancel_at_last(rt, alloc, workplace, &mut sets[i], number, moment);
+    }
+    Ok(())
+}

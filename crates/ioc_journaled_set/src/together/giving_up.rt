@@ -1,0 +1,134 @@
+//! Cancels a put with notification in all held sets with its records, in one call.
+ghost use Rattle.std.specs.Prelude.{◌≡◌, ◌≢◌, ◌<◌, ℕ, length, slice_index_or, IfOk, IfErr, IfNone, OnErr};
+ghost use Rattle.std.specs.Option.{IfSome};
+ghost use Rattle.crossbeam_utils.specs.Seq.{cell_view};
+ghost use Rattle.ioc_history.specs.Line.{holder};
+ghost use Rattle.ioc_notify.specs.Living.{holders_of};
+ghost use Rattle.ioc_history.specs.Legal.{map_of};
+ghost use Rattle.ioc_history.specs.Places.{IsNoPlace};
+ghost use Rattle.ioc_set.specs.Held.{Held};
+ghost use Rattle.ioc_set.specs.Sound.{IsSound};
+ghost use Rattle.ioc_journaled_set.specs.Sets.{AreItsSets, EachIsHeldBy, HaveAll, GaveUp};
+ghost use Rattle.ioc_history.specs.Account.{puts_key};
+
+use crate::give_up_laws::cancelled_sets_are_held;
+use crate::together::cancelling::cancel_all;
+use crate::together::counting::{all_live, total_in};
+use crate::together::dealing::deal_all;
+use crate::together::merging::merge_all;
+use ioc_device::Device;
+use ioc_events::{Entry, Event, KeptAnswers, Reply};
+use ioc_history::legal_laws::{holding_lasts, live_lasts};
+use ioc_history::{Base, Book, Desk, Receipt};
+use ioc_history::Token;
+use ioc_notify::NotifyId;
+use ioc_record::RecordKind;
+use ioc_set::LockSet;
+use ioc_values::IocError;
+use ioc_set_store::Workplace;
+use std::alloc::Global;
+use std::sync::Wait;
+
+// States the invariant of each of these sets. Does nothing.
+fn all_sound<K: RecordKind, D>(sets: &[LockSet<K, D>])
+    ensures { (i : ℕ) (d : Held K D) → i < length sets.now → IsSound K.rules (slice_index_or sets.now i d) }
+{
+    for set in sets {
+        set.is_sound();
+    }
+}
+
+/// Cancels a put with notification in these held sets, which have all its records, and adds the
+/// cancel to the journal as one call. Each pass owns the keys of the set beside it, and `keeper`
+/// the key of the puts with notification.
+///
+/// # Errors
+///
+/// [`IocError::JournalFull`] if the journal has no place left. [`IocError::NoMemory`] if allocation
+/// fails. Nothing has changed then. Once it is canceled in one of the sets, a failed allocation is
+/// repeated until it succeeds.
+pub fn give_up<K: RecordKind + Drop, B: Base<K>, D: Device, R: Wait>(
+    rt: &R,
+    alloc: Global,
+    book: &Book<K, B>,
+    desk: &mut Desk<K, B>,
+    workplace: &mut Workplace<K, D>,
+    keeper: &mut Token,
+    sets: &mut [LockSet<K, D>],
+    passes: &mut [Option<Token>],
+    number: NotifyId,
+    moment: u64,
+) -> Result<Receipt<K, B>, IocError>
+    requires keeper { (keeper.old.table_id ≡ B.table) × (cell_view keeper.old ≡ holder (cell_view keeper.old).seen puts_key) }
+    requires beside { length passes.old ≡ length sets.old }
+    requires held { EachIsHeldBy K.rules B.base B.table sets.old passes.old }
+    requires have { HaveAll K.rules B.base number (cell_view keeper.old).seen sets.old }
+    ensures gave_up { IfOk result (λ _. GaveUp K.rules B.base B.table moment number desk.old sets.old (cell_view keeper.old) desk.new sets.new passes.new (cell_view keeper.new)) }
+    ensures table { keeper.new.table_id ≡ B.table }
+    ensures receipt { IfOk result (λ receipt. receipt ≡ desk.new.seen) }
+    ensures refused { IfErr result IsNoPlace }
+    ensures err { OnErr result ((sets.new ≡ sets.old) × (passes.new ≡ passes.old) × (keeper.new ≡ keeper.old) × (desk.new ≡ desk.old)) }
+{
+    cancelled_sets_are_held::<K, D>();
+    holding_lasts::<K>();
+    live_lasts::<K>();
+    all_sound(sets);
+    let place = book.reserve(rt)?;
+    if let Err(_refused) = cancel_all(rt, alloc, workplace, sets, number, moment) {
+        book.give_back(rt, place);
+        return Err(IocError::NoMemory);
+    }
+    merge_all(rt, book, keeper, passes);
+    let entry = Entry {
+        moment,
+        event: Event::Cancel(number),
+        answers: KeptAnswers::new(Vec::new(alloc)),
+        reply: Reply::Plain,
+    };
+    let receipt = book.append(rt, place, keeper, desk, entry);
+    deal_all(book.cell(), keeper, sets, passes);
+    Ok(receipt)
+}
+
+/// Cancels a put with notification in these held sets, as [`give_up`] does, if they have all its
+/// `total` records. Otherwise returns `None`, and nothing has changed.
+///
+/// # Errors
+///
+/// Those of [`give_up`].
+pub fn give_up_all<K: RecordKind + Drop, B: Base<K>, D: Device, R: Wait>(
+    rt: &R,
+    alloc: Global,
+    book: &Book<K, B>,
+    desk: &mut Desk<K, B>,
+    workplace: &mut Workplace<K, D>,
+    keeper: &mut Token,
+    sets: &mut [LockSet<K, D>],
+    passes: &mut [Option<Token>],
+    number: NotifyId,
+    total: u64,
+    moment: u64,
+) -> Result<Option<Receipt<K, B>>, IocError>
+    requires keeper { (keeper.old.table_id ≡ B.table) × (cell_view keeper.old ≡ holder (cell_view keeper.old).seen puts_key) }
+    requires beside { length passes.old ≡ length sets.old }
+    requires held { EachIsHeldBy K.rules B.base B.table sets.old passes.old }
+    requires total { total ≡ holders_of number (map_of K.rules B.base (cell_view keeper.old).seen).live }
+    requires some { total ≢ 0 }
+    ensures gave_up { IfOk result (λ given. IfSome given (λ _. GaveUp K.rules B.base B.table moment number desk.old sets.old (cell_view keeper.old) desk.new sets.new passes.new (cell_view keeper.new))) }
+    ensures missing { IfOk result (λ given. IfNone given ((sets.new ≡ sets.old) × (passes.new ≡ passes.old) × (keeper.new ≡ keeper.old) × (desk.new ≡ desk.old) × (AreItsSets number total sets.old → ⊥))) }
+    ensures table { keeper.new.table_id ≡ B.table }
+    ensures receipt { IfOk result (λ given. IfSome given (λ receipt. receipt ≡ desk.new.seen)) }
+    ensures refused { IfErr result IsNoPlace }
+    ensures err { OnErr result ((sets.new ≡ sets.old) × (passes.new ≡ passes.old) × (keeper.new ≡ keeper.old) × (desk.new ≡ desk.old)) }
+{
+    let Some(found) = total_in(sets, number) else {
+        return Ok(None);
+    };
+    if found != total || !all_live(sets, number) {
+        return Ok(None);
+    }
+    let receipt = give_up(
+        rt, alloc, book, desk, workplace, keeper, sets, passes, number, moment,
+    )?;
+    Ok(Some(receipt))
+}

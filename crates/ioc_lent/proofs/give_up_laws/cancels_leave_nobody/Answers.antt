@@ -1,5 +1,0 @@
-use Rattle.ioc_lent.proofs.GiveUpGiving.{cancel-gives-up}
-use Rattle.ioc_lent.proofs.give_up_laws.cancels_leave_nobody.Goals as goal
-
-pub returns : goal.returns
-returns g c = cancel-gives-up g.K.RecordKind.rules g.D.Device.gives g.met.K.RecordKind.lawful

@@ -1,6 +1,0 @@
-use Rattle.std.proofs.Common.{◌≡◌, take}
-use Rattle.ioc_lent.specs.GiveUpLaws.{holders_in_all}
-use Rattle.ioc_lent.proofs.together.counting.total_in.Given as goal
-
-abbrev pub invariant-loop-set : goal.invariant-loop-set
-invariant-loop-set g l = l.total ≡ holders_in_all l.number (take l.set-index l.sets)

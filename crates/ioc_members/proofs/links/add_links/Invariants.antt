@@ -1,9 +1,0 @@
-use Rattle.std.proofs.Common.{◌≡◌, ◌++◌, take}
-use Rattle.ioc_common.specs.Links.{named_by_all}
-use Rattle.ioc_members.specs.Edges.{edges_from}
-use Rattle.ioc_members.proofs.links.add_links.Given as goal
-
-abbrev pub invariant-loop-field : goal.invariant-loop-field
-invariant-loop-field g l =
-    let k = g.K.RecordKind.rules in
-    l.edges.items ≡ l.initial.edges.items ++ edges_from l.number (named_by_all (k.link l.fields) (take l.field-index (k.link_fields l.fields)))

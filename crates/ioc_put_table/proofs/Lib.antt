@@ -1,3 +1,0 @@
-mod Short
-mod Tables
-mod Telling

@@ -1,5 +1,0 @@
-use Rattle.ioc_put_table.proofs.Short.{table_short}
-use Rattle.ioc_put_table.proofs.laws.tables_are_short.Goals as goal
-
-pub returns : goal.returns
-returns c = table_short

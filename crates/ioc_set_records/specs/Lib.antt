@@ -1,0 +1,12 @@
+pub mod Answers
+pub mod Changed
+pub mod Contents
+pub mod Dealing
+pub mod Dealt
+pub mod Edges
+pub mod Joined
+pub mod Linked
+pub mod LoadedEdges
+pub mod Parted
+pub mod Slots
+pub mod Twins

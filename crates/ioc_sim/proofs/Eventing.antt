@@ -1,0 +1,80 @@
+-- The effect of an event's code on the machine of a script.
+use Rattle.std.proofs.Common.{◌≡◌, ℕ, false, [], List, refl, sym, ap, subst, ◌∙◌}
+use Rattle.ioc_device.specs.declared.Answer.{Answer}
+use Rattle.ioc_ledger.specs.declared.tally.Tally.{Tally}
+use Rattle.ioc_record.specs.RecordRules.{RecordRules}
+use Rattle.ioc_events.specs.declared.event.Event.{Event}
+use Rattle.ioc_events.specs.declared.reply.Reply.{Reply}
+use Rattle.ioc_store.specs.World.{World, begun}
+use Rattle.ioc_store.specs.Given.{Given, Answers, Begins}
+use Rattle.ioc_process.specs.Runs.{ForAnswers}
+use Rattle.ioc_process.specs.Rules.{IsSettled}
+use Rattle.ioc_events.specs.Events.{Tells}
+use Rattle.ioc_events.specs.Step.{Stepped, stepped, tallied, completes}
+use Rattle.ioc_ledger.specs.Requests.{None, no_counts}
+use Rattle.ioc_process.specs.Answering.{begins_same}
+use Rattle.ioc_sim.proofs.Closing.{begun-none}
+use Rattle.ioc_dbfile.specs.Finished.{Owner}
+use Rattle.ioc_sim.specs.Machine.{Machine, Queued, TakesAnswer, answers_from, left_after, stepped_on}
+use Rattle.ioc_sim.specs.Scanner.{Scanner}
+use Rattle.ioc_sim.proofs.Scripting.{left_is, accords}
+
+-- Machines with equal parts are equal.
+module _ {R : Type 0} (n : ℕ) (x : List ℕ) where
+  pub same_machine : (o o' : Owner) (w w' : World R) (d d' : Queued) (t t' : Tally) (s s' : Scanner) → o ≡ o' → w ≡ w' → d ≡ d' → t ≡ t' → s ≡ s'
+      → (let a : Machine R = record { world = w; queued = d; tally = t; scanner = s; owner = o; next = n; ended = x } in let b : Machine R = record { world = w'; queued = d'; tally = t'; scanner = s'; owner = o'; next = n; ended = x } in a ≡ b)
+  same_machine o o' w w' d d' t t' s s' u e f g h = λ i. record { world = e i; queued = f i; tally = g i; scanner = h i; owner = u i; next = n; ended = x }
+
+-- A tally without counts is the first one.
+pub none_counted : (t : Tally) → t.begun ≡ 0 × (t.processed ≡ 0 × (t.disabled ≡ 0 × (t.active ≡ 0 × (t.reprocess ≡ 0 × (t.started ≡ 0 × t.completed ≡ 0))))) → t ≡ no_counts
+none_counted t e = λ i. record {
+  begun = e.0 i;
+  processed = e.1.0 i;
+  disabled = e.1.1.0 i;
+  active = e.1.1.1.0 i;
+  reprocess = e.1.1.1.1.0 i;
+  started = e.1.1.1.1.1.0 i;
+  completed = e.1.1.1.1.1.1 i;
+}
+
+-- The machine after the code of an event, before what the event sent is taken.
+pub record IsDone {R : Type 0} (k : RecordRules R) (m after : Machine R) (reply : Reply) (event : Event) : Type 0 where
+  pub machine : after ≡ (stepped_on k m event).machine
+  pub reply_is : reply ≡ (stepped_on k m event).reply
+  pub settled : ((answers : Answers) (w : World R) (event : Event) → IsSettled k w → IsSettled k (stepped k answers w event).world) → IsSettled k (begun m.world) → IsSettled k after.world
+
+pub event_is : {R : Type 0} (k : RecordRules R) (m : Machine R) (event : Event) (start w : World R) (before after : Given (List Answer)) (t : Tally) (reply : Reply)
+    → start ≡ begun m.world → before.devices ≡ m.queued → before.calls ≡ [] → Begins TakesAnswer before after → after.calls ≡ w.calls
+    → ForAnswers after (λ answers. Tells start w reply m.tally t event (stepped k answers start event))
+    → IsDone k m (record { world = w; queued = after.devices; tally = t; scanner = m.scanner; owner = m.owner; next = m.next; ended = m.ended }) reply event
+unfolding stepped_on
+event_is {R} k m event start w before after t reply begins devices none work calls step =
+    let answers = answers_from m.queued in
+    let told : Tells (begun m.world) w reply m.tally t event (stepped k answers (begun m.world) event) =
+    subst (λ (s : World R). Tells s w reply m.tally t event (stepped k answers s event)) begins (step answers (accords m.queued before after devices none work)) in
+    let left : after.devices ≡ left_after m.queued (stepped k answers (begun m.world) event).world.calls =
+    left_is m.queued before after devices none work ∙ ap (left_after m.queued) (calls ∙ ap (λ (x : World R). x.calls) told.world) in
+    record {
+      machine = same_machine m.next m.ended _ _ _ _ _ _ _ _ _ _ refl told.world left told.tally refl;
+      reply_is = told.reply;
+      settled = λ leaves is. subst (IsSettled k) (sym told.world) (leaves answers (begun m.world) event is);
+    }
+
+-- An event without requests and calls of devices counts nothing.
+counts_nothing : {R : Type 0} (t : Tally) (w after : World R) (event : Event) (reply : Reply) → completes event reply ≡ false → w.calls ≡ [] → after.calls ≡ []
+    → tallied t w event (record { world = after; reply = reply; requests = None }) ≡ t
+unfolding tallied
+counts_nothing t w after event reply none before called = rw (none, before, called) refl
+
+-- The machine after the code of such an event.
+pub event_alone : {R : Type 0} (k : RecordRules R) (m : Machine R) (event : Event) (start w : World R) (before after : Given (List Answer)) (t : Tally) (reply : Reply)
+    → start ≡ begun m.world → before.devices ≡ m.queued → before.calls ≡ [] → after ≡ before → after.calls ≡ w.calls → completes event reply ≡ false → t ≡ m.tally
+    → ((answers : Answers) → stepped k answers start event ≡ record { world = w; reply = reply; requests = None })
+    → IsDone k m (record { world = w; queued = after.devices; tally = t; scanner = m.scanner; owner = m.owner; next = m.next; ended = m.ended }) reply event
+event_alone {R} k m event start w before after t reply begins devices none same calls completed kept step =
+    event_is k m event start w before after t reply begins devices none (begins_same same) calls
+    (λ answers accords. record {
+      world = sym (ap (λ (s : Stepped R). s.world) (step answers));
+      reply = sym (ap (λ (s : Stepped R). s.reply) (step answers));
+      tally = kept ∙ sym (ap (tallied m.tally start event) (step answers) ∙ counts_nothing m.tally start w event reply completed (begun-none m.world start begins) (sym calls ∙ ap (λ (g : Given (List Answer)). g.calls) same ∙ none));
+    })

@@ -1,6 +1,0 @@
-use Rattle.std.proofs.Common.{◌≡◌, ◌-◌}
-use Rattle.ioc_statements.specs.Statements.{body_at}
-use Rattle.ioc_statements.proofs.entries.body_at.Given as goal
-
-abbrev pub invariant-loop : goal.invariant-loop
-invariant-loop g l = body_at g.B.Builder.rules (l.turns - l.counter) l.last l.number l.builder l.tokens ≡ body_at g.B.Builder.rules l.turns l.last l.number l.initial.builder l.initial.tokens

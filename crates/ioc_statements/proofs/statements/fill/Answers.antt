@@ -1,8 +1,0 @@
-use Rattle.ioc_statements.proofs.Loop.{gives_then}
-use Rattle.ioc_statements.proofs.Shrinking.{turns_suffice}
-use Rattle.ioc_statements.proofs.statements.fill.Goals as goal
-
-pub returns : goal.returns
-returns g c =
-    rw (← turns_suffice g.B.Builder.rules c.args.last c.args.builder.now c.args.tokens.now c.args.turns c.requires)
-    (gives_then _ (λ read. read.0) _ _ c.statements_at.ensures)

@@ -1,0 +1,162 @@
+-- Records of all types: each follows the rules of its type. Record Reference Manual, one chapter
+-- per type.
+use Rattle.std.specs.Prelude.{ℕ, ℤ, List, Option}
+use Rattle.ioc_values.specs.declared.value.Value.{Value}
+use Rattle.ioc_fields.specs.declared.field_no.OwnField.{OwnField}
+use Rattle.ioc_fields.specs.declared.record_type.RecordType.{RecordType}
+use Rattle.ioc_fields.specs.declared.record_type.RecordType.TheVariants as type
+use Rattle.ioc_dbcommon.specs.declared.condition.Condition.{Condition}
+use Rattle.ioc_dbcommon.specs.declared.link_field.LinkField.{LinkField}
+use Rattle.ioc_dbcommon.specs.declared.body.Want.{Want}
+use Rattle.ioc_dbcommon.specs.declared.body.Got.{Got}
+use Rattle.ioc_dbcommon.specs.declared.body.InputKind.{InputKind}
+use Rattle.ioc_dbcommon.specs.declared.body.Output.{Output}
+use Rattle.ioc_record.specs.declared.record.Record.{Record as Whole}
+use Rattle.ioc_record.specs.RecordRules.{RecordRules}
+use Rattle.ioc_record.specs.Whole.{whole, new_record as new_whole}
+use Rattle.ioc_record.specs.BodyRules.{BodyRules, Held}
+use Rattle.rec_numeric.specs.declared.input.NumericInput.{NumericInput}
+use Rattle.rec_numeric.specs.declared.output.NumericOutput.{NumericOutput}
+use Rattle.rec_numeric.specs.Number.{long_number, int64_number}
+use Rattle.rec_numeric.specs.Input.{longin, int64in, new_input}
+use Rattle.rec_numeric.specs.Output.{longout, int64out, new_output}
+use Rattle.rec_binary.specs.declared.bi.Bi.{Bi as Bi-fields}
+use Rattle.rec_binary.specs.Bi.{bi, new_bi}
+use Rattle.rec_binary.specs.declared.bo.Bo.{Bo as Bo-fields}
+use Rattle.rec_binary.specs.Bo.{bo, new_bo}
+use Rattle.rec_multi.specs.declared.mbbi.Mbbi.{Mbbi as Mbbi-fields}
+use Rattle.rec_multi.specs.Mbbi.{mbbi, new_mbbi}
+use Rattle.rec_multi.specs.declared.mbbo.Mbbo.{Mbbo as Mbbo-fields}
+use Rattle.rec_multi.specs.Mbbo.{mbbo, new_mbbo}
+use Rattle.rec_text.specs.declared.stringin.Stringin.{Stringin as Stringin-fields}
+use Rattle.rec_text.specs.Stringin.{stringin, new_stringin}
+use Rattle.rec_text.specs.declared.stringout.Stringout.{Stringout as Stringout-fields}
+use Rattle.rec_text.specs.Stringout.{stringout, new_stringout}
+use Rattle.rec_flow.specs.declared.fanout.Fanout.{Fanout as Fanout-fields}
+use Rattle.rec_flow.specs.Fanout.{fanout, new_fanout}
+use Rattle.rec_flow.specs.declared.event.Event.{Event as Event-fields}
+use Rattle.rec_flow.specs.Event.{event, new_event}
+use Rattle.rec_types.specs.declared.record.Body.{Body}
+use Rattle.rec_types.specs.declared.record.Body.TheVariants.{Longin, Longout, Int64in, Int64out, Bi, Bo, Mbbi, Mbbo, Stringin, Stringout, Fanout, Event}
+
+-- The type-specific fields of a new record of a type.
+abbrev pub new_body : RecordType → Body
+new_body type.Longin = Longin (new_input long_number)
+new_body type.Longout = Longout (new_output long_number)
+new_body type.Int64in = Int64in (new_input int64_number)
+new_body type.Int64out = Int64out (new_output int64_number)
+new_body type.Bi = Bi new_bi
+new_body type.Bo = Bo new_bo
+new_body type.Mbbi = Mbbi new_mbbi
+new_body type.Mbbo = Mbbo new_mbbo
+new_body type.Stringin = Stringin new_stringin
+new_body type.Stringout = Stringout new_stringout
+new_body type.Fanout = Fanout new_fanout
+new_body type.Event = Event new_event
+
+-- The type-specific fields of a record with the rules of their type, and how they become a body of
+-- any type.
+pub record Typed : Type 1 where
+  pub Of : Type 0
+  pub rules : BodyRules Of
+  pub it : Of
+  pub back : Of → Body
+
+-- The fields of a body, by its type.
+abbrev pub typed : Body → Typed
+typed (Longin b) = record { Of = NumericInput ℤ; rules = longin; it = b; back = Longin }
+typed (Longout b) = record { Of = NumericOutput ℤ; rules = longout; it = b; back = Longout }
+typed (Int64in b) = record { Of = NumericInput ℤ; rules = int64in; it = b; back = Int64in }
+typed (Int64out b) = record { Of = NumericOutput ℤ; rules = int64out; it = b; back = Int64out }
+typed (Bi b) = record { Of = Bi-fields; rules = bi; it = b; back = Bi }
+typed (Bo b) = record { Of = Bo-fields; rules = bo; it = b; back = Bo }
+typed (Mbbi b) = record { Of = Mbbi-fields; rules = mbbi; it = b; back = Mbbi }
+typed (Mbbo b) = record { Of = Mbbo-fields; rules = mbbo; it = b; back = Mbbo }
+typed (Stringin b) = record { Of = Stringin-fields; rules = stringin; it = b; back = Stringin }
+typed (Stringout b) = record { Of = Stringout-fields; rules = stringout; it = b; back = Stringout }
+typed (Fanout b) = record { Of = Fanout-fields; rules = fanout; it = b; back = Fanout }
+typed (Event b) = record { Of = Event-fields; rules = event; it = b; back = Event }
+
+-- The fields with the condition of the record.
+abbrev pub held : (b : Body) → Condition → Held (typed b).Of
+held b c = record { body = (typed b).it; condition = c }
+
+abbrev pub left : {T : Type 0} → (T → Body) → Held T → Held Body
+left back h = record { body = back h.body; condition = h.condition }
+
+-- The rules of all types are those of each type. The last line covers every type except the first.
+abbrev pub record_type : Body → RecordType
+record_type (Longin b) = longin.record_type b
+record_type b = (typed b).rules.record_type (typed b).it
+
+abbrev pub link : Body → OwnField → Option LinkField
+link (Longin b) = longin.link b
+link b = (typed b).rules.link (typed b).it
+
+abbrev pub with_link : Body → OwnField → LinkField → Body
+with_link (Longin b) f l = Longin (longin.with_link b f l)
+with_link b f l = (typed b).back ((typed b).rules.with_link (typed b).it f l)
+
+abbrev pub states : Body → List (List ℕ)
+states (Longin b) = longin.states b
+states b = (typed b).rules.states (typed b).it
+
+abbrev pub get : Body → OwnField → Option Value
+get (Longin b) f = longin.get b f
+get b f = (typed b).rules.get (typed b).it f
+
+abbrev pub stored : Body → Condition → OwnField → Value → Held Body
+stored (Longin b) c f v = left Longin (longin.stored (record { body = b; condition = c }) f v)
+stored b c f v = left (typed b).back ((typed b).rules.stored (held b c) f v)
+
+abbrev pub begin : Body → Want
+begin (Longin b) = longin.begin b
+begin b = (typed b).rules.begin (typed b).it
+
+abbrev pub input_kind : Body → Condition → InputKind
+input_kind (Longin b) c = longin.input_kind (record { body = b; condition = c })
+input_kind b c = (typed b).rules.input_kind (held b c)
+
+abbrev pub taken : Body → Condition → Got → Held Body
+taken (Longin b) c got = left Longin (longin.taken (record { body = b; condition = c }) got)
+taken b c got = left (typed b).back ((typed b).rules.taken (held b c) got)
+
+abbrev pub output : Body → Condition → Got → Output
+output (Longin b) c got = longin.output (record { body = b; condition = c }) got
+output b c got = (typed b).rules.output (held b c) got
+
+abbrev pub constant_kind : Body → Condition → OwnField → Option InputKind
+constant_kind (Longin b) c f = longin.constant_kind (record { body = b; condition = c }) f
+constant_kind b c f = (typed b).rules.constant_kind (held b c) f
+
+abbrev pub loaded : Body → Condition → Held Body
+loaded (Longin b) c = left Longin (longin.loaded (record { body = b; condition = c }))
+loaded b c = left (typed b).back ((typed b).rules.loaded (held b c))
+
+abbrev pub body_rules : BodyRules Body
+body_rules = record {
+  missing = Longin longin.missing;
+  record_type = record_type;
+  link = link;
+  with_link = with_link;
+  states = states;
+  get = get;
+  stored = λ h. stored h.body h.condition;
+  begin = begin;
+  input_kind = λ h. input_kind h.body h.condition;
+  taken = λ h. taken h.body h.condition;
+  output = λ h. output h.body h.condition;
+  constant_kind = λ h. constant_kind h.body h.condition;
+  loaded = λ h. loaded h.body h.condition;
+}
+
+-- A record of any type.
+abbrev pub Record : Type 0
+Record = Whole Body
+
+abbrev pub record_rules : RecordRules Record
+record_rules = whole body_rules
+
+-- A new record of a type.
+abbrev pub new_record : RecordType → List ℕ → Record
+new_record type name = new_whole name (new_body type)

@@ -1,0 +1,288 @@
+//! The enum of record types.
+ghost use Rattle.std.specs.Prelude.{◌≡◌, IfOk};
+
+use crate::on_heap;
+use ioc_dbcommon::{Condition, Got, InputKind, Kept, KeptLink, LinkUse, Need, Output};
+use ioc_fields::{OwnField, RecordType};
+use ioc_record::RecordBody;
+use ioc_values::{Range, Text, Value};
+use rec_binary::{Bi, Bo};
+use rec_flow::{Event, Fanout};
+use rec_multi::{Mbbi, Mbbo};
+use rec_numeric::{Int64in, Int64out, Longin, Longout};
+use rec_text::{Stringin, Stringout};
+use std::alloc::{AllocError, Global};
+
+/// The type-specific fields of a record of any type. The larger ones are on the heap, so that the
+/// others take less memory.
+#[derive(Drop)]
+pub enum Body {
+    Longin(Longin),
+    Longout(Kept<Longout>),
+    Int64in(Kept<Int64in>),
+    Int64out(Kept<Int64out>),
+    Bi(Kept<Bi>),
+    Bo(Kept<Bo>),
+    Mbbi(Kept<Mbbi>),
+    Mbbo(Kept<Mbbo>),
+    Stringin(Stringin),
+    Stringout(Kept<Stringout>),
+    Fanout(Kept<Fanout>),
+    Event(Event),
+}
+
+/// A record of any type.
+pub type Record = ioc_record::Record<Body>;
+
+// Calls a query on a body, by its type.
+macro_rules! ask {
+    ($on:expr, $body:ident => $call:expr) => {
+        match $on {
+            Body::Longin($body) => $call,
+            Body::Longout(kept) => {
+                let $body = kept.get();
+                $call
+            }
+            Body::Int64in(kept) => {
+                let $body = kept.get();
+                $call
+            }
+            Body::Int64out(kept) => {
+                let $body = kept.get();
+                $call
+            }
+            Body::Bi(kept) => {
+                let $body = kept.get();
+                $call
+            }
+            Body::Bo(kept) => {
+                let $body = kept.get();
+                $call
+            }
+            Body::Mbbi(kept) => {
+                let $body = kept.get();
+                $call
+            }
+            Body::Mbbo(kept) => {
+                let $body = kept.get();
+                $call
+            }
+            Body::Stringin($body) => $call,
+            Body::Stringout(kept) => {
+                let $body = kept.get();
+                $call
+            }
+            Body::Fanout(kept) => {
+                let $body = kept.get();
+                $call
+            }
+            Body::Event($body) => $call,
+        }
+    };
+}
+
+// Calls an operation on a body, by its type: one for a body in the record itself, and one for a
+// body on the heap.
+macro_rules! work {
+    ($on:expr, $body:ident => $here:expr, $on_heap:expr) => {
+        match $on {
+            Body::Longin($body) => $here,
+            Body::Longout($body) => $on_heap,
+            Body::Int64in($body) => $on_heap,
+            Body::Int64out($body) => $on_heap,
+            Body::Bi($body) => $on_heap,
+            Body::Bo($body) => $on_heap,
+            Body::Mbbi($body) => $on_heap,
+            Body::Mbbo($body) => $on_heap,
+            Body::Stringin($body) => $here,
+            Body::Stringout($body) => $on_heap,
+            Body::Fanout($body) => $on_heap,
+            Body::Event($body) => $here,
+        }
+    };
+}
+
+// Copies the body to a new place on the heap.
+fn copy_kept<B: RecordBody + Drop>(alloc: Global, kept: &Kept<B>) -> Result<Kept<B>, AllocError>
+    ensures { IfOk result (λ copy. copy ≡ kept.now) }
+{
+    let body = kept.get().copy(alloc)?;
+    Kept::new(alloc, body)
+}
+
+impl Body {
+    ghost use Rattle.rec_types.specs.Record.{new_body};
+
+    /// Creates the type-specific fields of a new record of this type.
+    pub fn new(alloc: Global, record_type: RecordType) -> Result<Self, AllocError>
+        ensures { IfOk result (λ b. b ≡ new_body record_type) }
+    {
+        Ok(match record_type {
+            RecordType::Longin => Body::Longin(Longin::new()),
+            RecordType::Longout => Body::Longout(Kept::<Longout>::fresh(alloc)?),
+            RecordType::Int64in => Body::Int64in(Kept::<Int64in>::fresh(alloc)?),
+            RecordType::Int64out => Body::Int64out(Kept::<Int64out>::fresh(alloc)?),
+            RecordType::Bi => Body::Bi(Kept::<Bi>::fresh(alloc)?),
+            RecordType::Bo => Body::Bo(Kept::<Bo>::fresh(alloc)?),
+            RecordType::Mbbi => Body::Mbbi(Kept::<Mbbi>::fresh(alloc)?),
+            RecordType::Mbbo => Body::Mbbo(Kept::<Mbbo>::fresh(alloc)?),
+            RecordType::Stringin => Body::Stringin(Stringin::new()),
+            RecordType::Stringout => Body::Stringout(Kept::<Stringout>::fresh(alloc)?),
+            RecordType::Fanout => Body::Fanout(Kept::<Fanout>::fresh(alloc)?),
+            RecordType::Event => Body::Event(Event::new()),
+        })
+    }
+}
+
+impl RecordBody for Body {
+    ghost use Rattle.rec_types.specs.Record.{body_rules};
+    ghost use Rattle.rec_types.specs.RecordLaws.{body_lawful};
+
+    ghost rules = { body_rules };
+
+    ghost lawful = { body_lawful };
+
+    fn record_type(&self) -> RecordType {
+        ask!(self, body => body.record_type())
+    }
+
+    fn link(&self, field: OwnField) -> Option<&KeptLink> {
+        ask!(self, body => body.link(field))
+    }
+
+    fn set_link(&mut self, field: OwnField, link: KeptLink) {
+        work!(self, body => body.set_link(field, link), on_heap::set_link(body, field, link))
+    }
+
+    fn states(&self) -> &[Text] {
+        ask!(self, body => body.states())
+    }
+
+    fn get(&self, field: OwnField) -> Option<Value> {
+        ask!(self, body => body.get(field))
+    }
+
+    fn number(&self, field: OwnField) -> Option<i64> {
+        ask!(self, body => body.number(field))
+    }
+
+    fn store(&mut self, condition: &mut Condition, field: OwnField, value: Value) {
+        work!(self, body => body.store(condition, field, value), on_heap::store(body, condition, field, value))
+    }
+
+    fn store_number(
+        &mut self,
+        condition: &mut Condition,
+        field: OwnField,
+        range: Range,
+        number: i64,
+    ) -> bool {
+        work!(self, body => body.store_number(condition, field, range, number), on_heap::store_number(body, condition, field, range, number))
+    }
+
+    fn begin(&self) -> Need {
+        ask!(self, body => body.begin())
+    }
+
+    fn wanted_link(&self) -> LinkUse {
+        ask!(self, body => body.wanted_link())
+    }
+
+    fn input_kind(&self, condition: &Condition) -> InputKind {
+        ask!(self, body => body.input_kind(condition))
+    }
+
+    fn take(&mut self, condition: &mut Condition, got: &Got, output: &mut Output) -> bool {
+        work!(self, body => body.take(condition, got, output), on_heap::take(body, condition, got, output))
+    }
+
+    fn constant_kind(&self, condition: &Condition, field: OwnField) -> Option<InputKind> {
+        ask!(self, body => body.constant_kind(condition, field))
+    }
+
+    fn load(&mut self, condition: &mut Condition) {
+        work!(self, body => body.load(condition), on_heap::load(body, condition))
+    }
+
+    fn copy(&self, alloc: Global) -> Result<Self, AllocError> {
+        Ok(match self {
+            Body::Longin(body) => Body::Longin(body.copy(alloc)?),
+            Body::Longout(kept) => Body::Longout(copy_kept(alloc, kept)?),
+            Body::Int64in(kept) => Body::Int64in(copy_kept(alloc, kept)?),
+            Body::Int64out(kept) => Body::Int64out(copy_kept(alloc, kept)?),
+            Body::Bi(kept) => Body::Bi(copy_kept(alloc, kept)?),
+            Body::Bo(kept) => Body::Bo(copy_kept(alloc, kept)?),
+            Body::Mbbi(kept) => Body::Mbbi(copy_kept(alloc, kept)?),
+            Body::Mbbo(kept) => Body::Mbbo(copy_kept(alloc, kept)?),
+            Body::Stringin(body) => Body::Stringin(body.copy(alloc)?),
+            Body::Stringout(kept) => Body::Stringout(copy_kept(alloc, kept)?),
+            Body::Fanout(kept) => Body::Fanout(copy_kept(alloc, kept)?),
+            Body::Event(body) => Body::Event(body.copy(alloc)?),
+        })
+    }
+
+    fn copy_from(&mut self, other: &Self) {
+        match self {
+            Body::Longin(body) => {
+                if let Body::Longin(other) = other {
+                    body.copy_from(other);
+                }
+            }
+            Body::Longout(kept) => {
+                if let Body::Longout(other) = other {
+                    on_heap::copy_from(kept, other);
+                }
+            }
+            Body::Int64in(kept) => {
+                if let Body::Int64in(other) = other {
+                    on_heap::copy_from(kept, other);
+                }
+            }
+            Body::Int64out(kept) => {
+                if let Body::Int64out(other) = other {
+                    on_heap::copy_from(kept, other);
+                }
+            }
+            Body::Bi(kept) => {
+                if let Body::Bi(other) = other {
+                    on_heap::copy_from(kept, other);
+                }
+            }
+            Body::Bo(kept) => {
+                if let Body::Bo(other) = other {
+                    on_heap::copy_from(kept, other);
+                }
+            }
+            Body::Mbbi(kept) => {
+                if let Body::Mbbi(other) = other {
+                    on_heap::copy_from(kept, other);
+                }
+            }
+            Body::Mbbo(kept) => {
+                if let Body::Mbbo(other) = other {
+                    on_heap::copy_from(kept, other);
+                }
+            }
+            Body::Stringin(body) => {
+                if let Body::Stringin(other) = other {
+                    body.copy_from(other);
+                }
+            }
+            Body::Stringout(kept) => {
+                if let Body::Stringout(other) = other {
+                    on_heap::copy_from(kept, other);
+                }
+            }
+            Body::Fanout(kept) => {
+                if let Body::Fanout(other) = other {
+                    on_heap::copy_from(kept, other);
+                }
+            }
+            Body::Event(body) => {
+                if let Body::Event(other) = other {
+                    body.copy_from(other);
+                }
+            }
+        }
+    }
+}
