@@ -3,7 +3,7 @@ use Rattle.std.specs.Prelude.{ℤ, ◌+ℤ◌, ◌-ℤ◌, int_le, Bool, ◌&&�
 use Rattle.std.specs.Ordering.{int_eq}
 use Rattle.ioc_menus.specs.declared.status.Status.TheVariants.{Hihi, Lolo, High, Low}
 use Rattle.ioc_alarms.specs.declared.alarms.Alarms.{Alarms}
-use Rattle.ioc_alarms.specs.declared.limits.Limits.{Limits}
+use Rattle.ioc_alarms.specs.declared.limits.AlarmLimits.{AlarmLimits}
 use Rattle.ioc_alarms.specs.declared.limits.ReachedLimit.{ReachedLimit}
 use Rattle.ioc_alarms.specs.Alarms.{raised, takes_effect}
 use Rattle.ioc_alarms.specs.Severities.{is_alarm}
@@ -24,14 +24,14 @@ first_that_holds [] = None
 first_that_holds (c ∷ cs) = if c.0 then Some c.1 else first_that_holds cs
 
 -- Whether a high limit is reached, at a value and LALM. `whole` is the integer of a value.
-abbrev pub high_holds : {N : Type 0} → (N → ℤ) → Limits N → N → N → N → Bool
+abbrev pub high_holds : {N : Type 0} → (N → ℤ) → AlarmLimits N → N → N → N → Bool
 high_holds whole l value last limit = is_high (whole limit) (whole l.hysteresis) (whole value) (whole last)
 
-abbrev pub low_holds : {N : Type 0} → (N → ℤ) → Limits N → N → N → N → Bool
+abbrev pub low_holds : {N : Type 0} → (N → ℤ) → AlarmLimits N → N → N → N → Bool
 low_holds whole l value last limit = is_low (whole limit) (whole l.hysteresis) (whole value) (whole last)
 
 -- The limits in the order in which they are tested, each with its test.
-abbrev pub limit_tests : {N : Type 0} → (N → ℤ) → N → N → Limits N → List (Bool × ReachedLimit N)
+abbrev pub limit_tests : {N : Type 0} → (N → ℤ) → N → N → AlarmLimits N → List (Bool × ReachedLimit N)
 limit_tests whole value last l =
     (is_alarm l.hihi_severity && high_holds whole l value last l.hihi, record { status = Hihi; severity = l.hihi_severity; limit = l.hihi })
     ∷ (is_alarm l.lolo_severity && low_holds whole l value last l.lolo, record { status = Lolo; severity = l.lolo_severity; limit = l.lolo })
@@ -40,7 +40,7 @@ limit_tests whole value last l =
     ∷ []
 
 -- The first limit that is reached, if any.
-unfoldable pub first_reached : {N : Type 0} → (N → ℤ) → N → N → Limits N → Option (ReachedLimit N)
+unfoldable pub first_reached : {N : Type 0} → (N → ℤ) → N → N → AlarmLimits N → Option (ReachedLimit N)
 first_reached whole value last l = first_that_holds (limit_tests whole value last l)
 
 -- The alarms with the alarm of a reached limit raised, and LALM: the limit if the alarm took
@@ -50,5 +50,5 @@ limited_by value last None a = (a, value)
 limited_by value last (Some r) a = (raised r.status r.severity a, if takes_effect r.severity a then r.limit else last)
 
 -- The alarms and LALM after the limits are tested, at a value and LALM.
-unfoldable pub limited : {N : Type 0} → (N → ℤ) → N → N → Limits N → Alarms → Alarms × N
+unfoldable pub limited : {N : Type 0} → (N → ℤ) → N → N → AlarmLimits N → Alarms → Alarms × N
 limited whole value last l a = limited_by value last (first_reached whole value last l) a

@@ -32,7 +32,7 @@ impl WholeNumber for i64 {
 /// The limits of a value, the severity of each limit's alarm, and how far a value must come back
 /// from a limit until its alarm ends. A limit whose severity is NO_ALARM isn't tested.
 #[derive(Clone, Copy, PartialEq, Eq, Debug)]
-pub struct Limits<N> {
+pub struct AlarmLimits<N> {
     /// HIHI.
     pub hihi: N,
     /// LOLO.
@@ -62,7 +62,7 @@ pub struct ReachedLimit<N> {
 }
 
 #[tactic(auto, unfolding(crate::specs::Limits::is_high, crate::specs::Limits::is_low))]
-impl<N: WholeNumber> Limits<N> {
+impl<N: WholeNumber> AlarmLimits<N> {
     ghost use Rattle.ioc_alarms.specs.Limits.{is_high, is_low, first_reached};
 
     // Returns whether a high limit is reached.

@@ -4,7 +4,7 @@ use Rattle.std.specs.Prelude.{map}
 use Rattle.std.proofs.lemmas.Bool.{ltb-true, ltb-false}
 use Rattle.std.proofs.lemmas.List.Sums.{sum_by_push}
 use Rattle.ioc_ledger.specs.Counts.{Counts, counts}
-use Rattle.ioc_callback.specs.declared.once_list.OnceRequest.{OnceRequest}
+use Rattle.ioc_callback.specs.declared.once_queue.OnceRequest.{OnceRequest}
 use Rattle.ioc_callback.specs.Waiting.{records_of, tickets_in, IsBegun, IsReturned}
 
 -- The counts before and after a ticket is begun. The ticket is counted, unless no more can be.

@@ -3,7 +3,7 @@
 use Rattle.std.specs.Prelude.{◌≡◌, ◌⊎◌, ℕ, ◌+◌, ◌-◌, ◌^◌, min, List, [], ◌∷◌, ◌++◌, if◌then◌else◌, map}
 use Rattle.std.specs.List.{sum_by}
 use Rattle.ioc_ledger.specs.Counts.{Counts, counts}
-use Rattle.ioc_callback.specs.declared.once_list.OnceRequest.{OnceRequest}
+use Rattle.ioc_callback.specs.declared.once_queue.OnceRequest.{OnceRequest}
 
 -- The records that wait, in order of arrival; the counts of their ledger of tickets; and the number
 -- of requests that were dropped.

@@ -5,10 +5,10 @@
 //! scanOnce.
 #![tactic(auto)]
 
-pub mod once_list;
+pub mod once_queue;
 pub mod queue;
 pub mod queues;
 
-pub use once_list::{OnceList, OnceRequest};
+pub use once_queue::{OnceQueue, OnceRequest};
 pub use queue::Queue;
 pub use queues::Queues;

@@ -5,7 +5,7 @@ ghost use Rattle.ioc_dbcommon.specs.Steps.{raised, inherited, blocked, unblocked
 use crate::body::InputKind;
 use crate::condition::Condition;
 use crate::disabling::Disabling;
-use crate::kept_link::KeptLink;
+use crate::link_box::LinkBox;
 use crate::parts::short_in;
 use crate::scanning::Scanning;
 use ioc_alarms::Alarms;
@@ -30,9 +30,9 @@ pub struct Common {
     /// DISV, DISA, DISS and DISP.
     pub disabling: Disabling,
     /// SDIS.
-    pub disable_link: KeptLink,
+    pub disable_link: LinkBox,
     /// FLNK.
-    pub forward_link: KeptLink,
+    pub forward_link: LinkBox,
     /// PROC: the value last put to it. A put to it processes the record.
     pub process: u8,
     /// LCNT: how many requests in a row found the record active, at most 255.
@@ -205,8 +205,8 @@ impl Common {
             condition: Condition::new(),
             scanning: Scanning::new(),
             disabling: Disabling::new(),
-            disable_link: KeptLink::empty(),
-            forward_link: KeptLink::empty(),
+            disable_link: LinkBox::empty(),
+            forward_link: LinkBox::empty(),
             process: 0,
             lock_count: 0,
             active: false,

@@ -7,7 +7,7 @@ ghost use Rattle.ioc_dbcommon.specs.Drive.{new_drive, drive_link, drive_with_lin
 
 use crate::body::{Need, Output};
 use crate::condition::Condition;
-use crate::kept_link::KeptLink;
+use crate::link_box::LinkBox;
 use crate::link_field::LinkUse;
 use crate::parts::{ivoa_in, omsl_in};
 use ioc_fields::OwnField;
@@ -20,9 +20,9 @@ use std::alloc::{AllocError, Global};
 #[derive(Drop)]
 pub struct Drive {
     /// OUT.
-    pub output: KeptLink,
+    pub output: LinkBox,
     /// DOL.
-    pub desired: KeptLink,
+    pub desired: LinkBox,
     /// OMSL.
     pub mode: Omsl,
     /// IVOA.
@@ -36,8 +36,8 @@ impl Drive {
         ensures { result ≡ new_drive }
     {
         Drive {
-            output: KeptLink::empty(),
-            desired: KeptLink::empty(),
+            output: LinkBox::empty(),
+            desired: LinkBox::empty(),
             mode: Omsl::Supervisory,
             on_invalid: Ivoa::ContinueNormally,
         }
@@ -71,7 +71,7 @@ impl Drive {
         self.on_invalid = other.on_invalid;
     }
 
-    pub fn link(&self, field: OwnField) -> Option<&KeptLink>
+    pub fn link(&self, field: OwnField) -> Option<&LinkBox>
         ensures { option_copied result ≡ drive_link self.now.output self.now.desired field }
     {
         match field {
@@ -82,7 +82,7 @@ impl Drive {
     }
 
     #[tactic(auto, unfolding(crate::specs::Drive::drive_with_link))]
-    pub fn set_link(&mut self, field: OwnField, link: KeptLink)
+    pub fn set_link(&mut self, field: OwnField, link: LinkBox)
         ensures { self.new ≡ drive_with_link self.old field link }
     {
         match field {

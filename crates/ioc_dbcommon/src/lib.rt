@@ -3,14 +3,14 @@
 #![tactic(auto)]
 
 pub mod body;
+pub mod body_box;
 pub mod common;
 pub mod common_fields;
 pub mod condition;
 pub mod disabling;
 pub mod drive;
-pub mod kept;
-pub mod kept_link;
 pub mod laws;
+pub mod link_box;
 pub mod link_field;
 pub mod parts;
 pub mod raw;
@@ -18,13 +18,13 @@ pub mod scanning;
 pub mod source;
 
 pub use body::{Got, InputKind, Need, Output, Want};
+pub use body_box::{BodyBox, Fresh};
 pub use common::{Common, disable_kind};
 pub use condition::Condition;
 pub use disabling::Disabling;
 pub use drive::Drive;
-pub use kept::{Fresh, Kept};
-pub use kept_link::KeptLink;
 pub use laws::numbers_are_awaited_once;
+pub use link_box::LinkBox;
 pub use link_field::{FieldAddress, Lead, LinkField, LinkUse, StandingLink};
 pub use parts::{
     int64_in, ivoa_in, long_in, omsl_in, pini_in, priority_in, scan_in, severity_in, short_in,

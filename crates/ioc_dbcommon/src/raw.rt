@@ -4,12 +4,12 @@ ghost use Rattle.ioc_dbcommon.specs.Raw.{is_raw, raw_came, state_came, raw_const
 
 use crate::body::Got;
 use crate::condition::Condition;
-use crate::kept_link::KeptLink;
+use crate::link_box::LinkBox;
 use crate::parts::{ulong_in, ushort_in};
 use ioc_values::{Kind, Range, of_number};
 
 #[tactic(auto, unfolding(crate::specs::Raw::is_raw))]
-impl KeptLink {
+impl LinkBox {
     /// Returns whether the raw value is read or written through this link. It is if the link names
     /// a device, or if DTYP is `Raw Soft Channel`. Record Reference Manual, "Device Support for
     /// Soft Records".

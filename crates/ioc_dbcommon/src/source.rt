@@ -5,7 +5,7 @@ ghost use Rattle.ioc_dbcommon.specs.Source.{new_source, source_link, source_with
 ghost use Rattle.ioc_dbcommon.specs.Wants.{need_of, link_wanted};
 
 use crate::body::Need;
-use crate::kept_link::KeptLink;
+use crate::link_box::LinkBox;
 use crate::link_field::LinkUse;
 use ioc_fields::OwnField;
 use std::alloc::{AllocError, Global};
@@ -14,7 +14,7 @@ use std::alloc::{AllocError, Global};
 #[derive(Drop)]
 pub struct Source {
     /// INP.
-    pub input: KeptLink,
+    pub input: LinkBox,
 }
 
 impl Source {
@@ -24,7 +24,7 @@ impl Source {
         ensures { result ≡ new_source }
     {
         Source {
-            input: KeptLink::empty(),
+            input: LinkBox::empty(),
         }
     }
 
@@ -40,7 +40,7 @@ impl Source {
         Ok(Source { input })
     }
 
-    pub fn link(&self, field: OwnField) -> Option<&KeptLink>
+    pub fn link(&self, field: OwnField) -> Option<&LinkBox>
         ensures { option_copied result ≡ source_link self.now.input field }
     {
         match field {
@@ -50,7 +50,7 @@ impl Source {
     }
 
     #[tactic(auto, unfolding(crate::specs::Source::source_with_link))]
-    pub fn set_link(&mut self, field: OwnField, link: KeptLink)
+    pub fn set_link(&mut self, field: OwnField, link: LinkBox)
         ensures { self.new ≡ source_with_link self.old field link }
     {
         if let OwnField::Inp = field {

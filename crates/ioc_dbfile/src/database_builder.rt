@@ -6,13 +6,13 @@ ghost use Rattle.ioc_names.specs.NameTable.{no_names};
 
 use crate::database::Database;
 use crate::new_records::push_new;
+use ioc_dbparse::{BuildError, Builder};
 use ioc_fields::{FieldNo, RecordType, can_set, field};
 use ioc_links::is_record_name;
 use ioc_names::{Entered, Names, RecordNo};
 use ioc_record::{RecordKind, set_field};
-use ioc_dbparse::{BuildError, Builder};
-use rec_types::Record;
 use ioc_values::{BadDbKind, IocError, Name};
+use rec_types::Record;
 use std::alloc::{AllocError, Global};
 use std::marker::Model;
 

@@ -7,7 +7,7 @@ ghost use Rattle.ioc_dbfile.specs.Owners.{owner_of};
 ghost use Rattle.ioc_dbfile.specs.OwnerTable.{owner_in};
 
 use crate::owners::{Owners, owners_of};
-use ioc_dbcommon::{FieldAddress, KeptLink, Lead, LinkField};
+use ioc_dbcommon::{FieldAddress, Lead, LinkBox, LinkField};
 use ioc_fields::{FieldKind, FieldNo, RecordType, field, kind_of};
 use ioc_links::{Link, Target};
 use ioc_names::{Names, RecordNo};
@@ -81,7 +81,7 @@ fn link_one(
     };
     let link = found.get().link;
     let lead = leads_to(names, whole, number, &link);
-    let kept = KeptLink::new(alloc, LinkField { link, lead })?;
+    let kept = LinkBox::new(alloc, LinkField { link, lead })?;
     item.set_link(field, kept);
     Ok(())
 }

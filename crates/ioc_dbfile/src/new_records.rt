@@ -3,8 +3,8 @@ ghost use Rattle.std.specs.Prelude.{◌≡◌, ◌++◌, ◌∷◌, [], OnOk, On
 ghost use Rattle.ioc_fields.specs.declared.record_type.RecordType.{RecordType};
 
 use ioc_fields::RecordType;
-use rec_types::{Body, Record};
 use ioc_values::Name;
+use rec_types::{Body, Record};
 use std::alloc::{AllocError, Global};
 
 /// Records that are created from a type and a name.
@@ -37,7 +37,7 @@ pub fn push_new<R: NewRecord>(
     ensures ok { OnOk result (records.new.items ≡ records.old.items ++ R.created record_type name ∷ []) }
     ensures err { OnErr result (records.new.items ≡ records.old.items) }
 {
-    // Room is reserved first, because a push that can fail returns the record, which is large.
+    // ByteBuffer is reserved first, because a push that can fail returns the record, which is large.
     records.reserve(1)?;
     let record = R::create(alloc, record_type, name)?;
     records.push_reserved(record);

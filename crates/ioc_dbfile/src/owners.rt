@@ -6,12 +6,12 @@ ghost use Rattle.ioc_dbfile.specs.Owners.{names_device, asks_for, owner_of, devi
 ghost use Rattle.ioc_dbfile.specs.OwnerTable.{owner_in, or_else};
 
 use crate::device_name::DeviceName;
-use ioc_dbcommon::{KeptLink, Lead, LinkUse};
+use ioc_dbcommon::{Lead, LinkBox, LinkUse};
 use ioc_links::{Link, MAX_DEVICE_BYTES};
 use ioc_names::RecordNo;
 use ioc_record::RecordKind;
-use rec_types::Record;
 use ioc_values::Short;
+use rec_types::Record;
 use std::alloc::{AllocError, Global};
 use std::collections::HashMap;
 
@@ -88,7 +88,7 @@ impl Owners {
     }
 }
 
-fn leads_home(link: Option<&KeptLink>) -> bool
+fn leads_home(link: Option<&LinkBox>) -> bool
     ensures { result ≡ leads_home (option_copied link.entry) }
 {
     match link {

@@ -1,9 +1,9 @@
 -- The text of a token as contracts see it.
 use Rattle.std.specs.Prelude.{ℕ, List}
-use Rattle.ioc_dblex.specs.declared.escapes.Said.{Said}
-use Rattle.ioc_dblex.specs.declared.escapes.Said.TheVariants.{Written, Unescaped}
+use Rattle.ioc_dblex.specs.declared.escapes.TokenText.{TokenText}
+use Rattle.ioc_dblex.specs.declared.escapes.TokenText.TheVariants.{Written, Unescaped}
 
 -- The bytes of the text.
-abbrev pub said_bytes : Said → List ℕ
+abbrev pub said_bytes : TokenText → List ℕ
 said_bytes (Written bytes) = bytes.now
 said_bytes (Unescaped bytes) = bytes.items

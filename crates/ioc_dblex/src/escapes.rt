@@ -55,21 +55,21 @@ fn add_piece(text: &mut Vec<u8>, in_value: bool, escaped: bool, b: u8) -> Result
 
 /// The text of a token.
 #[derive(Drop)]
-pub enum Said<'a> {
+pub enum TokenText<'a> {
     /// The bytes as they are written.
     Written(&'a [u8]),
     /// The bytes with escapes replaced.
     Unescaped(Vec<u8>),
 }
 
-impl<'a> Said<'a> {
+impl<'a> TokenText<'a> {
     /// Returns the bytes.
     pub fn as_slice(&self) -> &[u8]
         ensures { result.now ≡ said_bytes self.now }
     {
         match self {
-            Said::Written(bytes) => bytes,
-            Said::Unescaped(bytes) => bytes.as_slice(),
+            TokenText::Written(bytes) => bytes,
+            TokenText::Unescaped(bytes) => bytes.as_slice(),
         }
     }
 }
@@ -84,13 +84,13 @@ pub fn read_escapes<'a>(
     alloc: Global,
     in_value: bool,
     bytes: &'a [u8],
-) -> Result<Said<'a>, AllocError>
+) -> Result<TokenText<'a>, AllocError>
     ensures { IfOk result (λ s. said_bytes s ≡ unescaped_from in_value false bytes.now) }
 {
     if lacks(b'\\', bytes) {
-        return Ok(Said::Written(bytes));
+        return Ok(TokenText::Written(bytes));
     }
-    Ok(Said::Unescaped(unescaped(alloc, in_value, bytes)?))
+    Ok(TokenText::Unescaped(unescaped(alloc, in_value, bytes)?))
 }
 
 /// Returns the bytes between double quotes with escapes replaced, in a field's value or in a name.

@@ -10,13 +10,13 @@
 #![tactic(auto)]
 
 mod bytes;
+pub mod cursor;
 pub mod escapes;
 mod expansion;
 pub mod laws;
 mod lexer;
 mod lines;
 pub mod macros;
-pub mod place;
 mod replacement;
 mod search;
 pub mod texts;
@@ -25,7 +25,7 @@ pub mod token_lines;
 pub mod tokens;
 
 pub use bytes::{escapes, skip_gap};
-pub use escapes::{Said, read_escapes, unescaped};
+pub use escapes::{TokenText, read_escapes, unescaped};
 pub use expansion::{MAX_BYTES, expand};
 pub use lexer::{behind_sign, is_fault, token_at};
 pub use macros::Macros;

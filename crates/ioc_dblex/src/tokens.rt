@@ -8,8 +8,8 @@ ghost use Rattle.ioc_dblex.specs.SeenLines.{TakesLine};
 ghost use Rattle.ioc_dblex.specs.SeenPlace.{tokens_of_place};
 ghost use Rattle.ioc_dblex.specs.SeenTexts.{expansion_of};
 
+use crate::cursor::Cursor;
 use crate::token_lines::Lines;
-use crate::place::Place;
 use crate::{End, Texts, Token, TokenKind, behind_sign, is_fault, skip_gap, token_at};
 use ioc_values::BadDbKind;
 use std::marker::Model;
@@ -17,7 +17,7 @@ use std::marker::Model;
 /// The remaining tokens. Each is made once, when it is taken.
 #[derive(Drop)]
 pub struct Tokens<'a> {
-    place: Place<'a>,
+    place: Cursor<'a>,
 }
 
 impl<'a> Model for Tokens<'a> {
@@ -45,7 +45,7 @@ fn next_line<'a>(lines: Lines<'a>) -> Option<(&'a [u8], Lines<'a>)>
 }
 
 /// Advances to the first byte that isn't a blank, on this line or on one after it.
-fn find<'a>(place: &mut Place<'a>)
+fn find<'a>(place: &mut Cursor<'a>)
     requires { place.old.line + length place.old.behind.lengths.now < 2 ^ 63 }
     ensures same { tokens_of_place place.new ≡ tokens_of_place place.old }
     ensures last { length place.new.rest.now ≡ 0 → length place.new.behind.lengths.now ≡ 0 }
@@ -80,7 +80,7 @@ fn end_token<'a>(end: End, line: u64) -> Option<Token<'a>>
 }
 
 /// Returns the next token and advances past it.
-fn advance<'a>(place: &mut Place<'a>) -> Option<Token<'a>>
+fn advance<'a>(place: &mut Cursor<'a>) -> Option<Token<'a>>
     requires { place.old.line + length place.old.behind.lengths.now < 2 ^ 63 }
     ensures takes { TakesToken (tokens_of_place place.old) (option_map seen result) (tokens_of_place place.new) }
     ensures room { place.new.line + length place.new.behind.lengths.now ≤ place.old.line + length place.old.behind.lengths.now }
@@ -100,7 +100,7 @@ fn advance<'a>(place: &mut Place<'a>) -> Option<Token<'a>>
 }
 
 /// Discards the remaining tokens.
-fn stop<'a>(place: &mut Place<'a>)
+fn stop<'a>(place: &mut Cursor<'a>)
     ensures tokens { tokens_of_place place.new ≡ [] }
     ensures line { place.new.line ≡ place.old.line }
     ensures behind { length place.new.behind.lengths.now ≡ 0 }
@@ -114,7 +114,7 @@ fn stop<'a>(place: &mut Place<'a>)
 }
 
 /// Advances past this sign if it is the next token. Returns whether it is.
-fn take_sign_at<'a>(b: u8, place: &mut Place<'a>) -> bool
+fn take_sign_at<'a>(b: u8, place: &mut Cursor<'a>) -> bool
     requires { place.old.line + length place.old.behind.lengths.now < 2 ^ 63 }
     ensures takes { (result, tokens_of_place place.new) ≡ takes_sign b (tokens_of_place place.old) }
     ensures room { place.new.line + length place.new.behind.lengths.now ≤ place.old.line + length place.old.behind.lengths.now }
@@ -138,7 +138,7 @@ impl<'a> Tokens<'a> {
             bytes: texts.bytes.as_slice(),
             lengths: texts.lengths.as_slice(),
         };
-        let place = Place {
+        let place = Cursor {
             line: 0,
             rest: &[],
             behind,

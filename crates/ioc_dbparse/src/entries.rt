@@ -5,8 +5,7 @@ ghost use Rattle.ioc_dblex.specs.SeenToken.{seen};
 
 use crate::builder::{BuildError, Builder};
 use crate::words::{expect, fault, is_sign_of, is_word, next_at, text_of, value_at};
-use ioc_dblex::Token;
-use ioc_dblex::Tokens;
+use ioc_dblex::{Token, Tokens};
 use ioc_fields::FieldNo;
 use ioc_names::RecordNo;
 use ioc_values::{BadDbKind, IocError};

@@ -4,8 +4,7 @@ ghost use Rattle.ioc_dbparse.specs.Statements.{Gives};
 
 use crate::builder::Builder;
 use crate::statements::fill;
-use ioc_dblex::{Macros, expand};
-use ioc_dblex::Tokens;
+use ioc_dblex::{Macros, Tokens, expand};
 use ioc_values::IocError;
 use std::alloc::Global;
 

@@ -10,8 +10,7 @@ use crate::words::{
     begins_record, expect, fault, is_sign_of, is_value, is_word, name_line, next_at, refused_word,
     sound, text_of, value_at,
 };
-use ioc_dblex::Token;
-use ioc_dblex::Tokens;
+use ioc_dblex::{Token, Tokens};
 use ioc_fields::RecordType;
 use ioc_names::RecordNo;
 use ioc_values::{BadDbKind, IocError};

@@ -6,8 +6,7 @@ ghost use Rattle.ioc_dblex.specs.SeenToken.{seen};
 ghost use Rattle.ioc_dblex.specs.SeenSaid.{said_bytes};
 ghost use Rattle.ioc_dbparse.specs.Statements.{Reads, at, sound, next_at, is_sign_of, expect, is_value, value_at, is_bareword, is_word, text_of, name_line, begins_record, is_left_out, refused_word};
 
-use ioc_dblex::{Token, TokenKind};
-use ioc_dblex::{Said, Tokens, read_escapes};
+use ioc_dblex::{Token, TokenKind, TokenText, Tokens, read_escapes};
 use ioc_values::{BadDbKind, DbFault, IocError};
 use std::alloc::{AllocError, Global};
 
@@ -121,7 +120,11 @@ pub fn is_word(word: &[u8], token: &Token<'_>) -> bool
 }
 
 /// Returns the text of a token, in the value of a field or in a name.
-pub fn text_of<'a>(alloc: Global, in_value: bool, token: &Token<'a>) -> Result<Said<'a>, AllocError>
+pub fn text_of<'a>(
+    alloc: Global,
+    in_value: bool,
+    token: &Token<'a>,
+) -> Result<TokenText<'a>, AllocError>
     ensures { IfOk result (λ s. said_bytes s ≡ text_of in_value (seen token.now)) }
 {
     read_escapes(alloc, in_value, token.text)

@@ -2,7 +2,7 @@
 use Rattle.std.proofs.Common.{◌≡◌, ℕ, zero, suc, List, [], ◌∷◌, refl, sym, subst, ⊎_elim}
 use mathlib.Core.Option.{some, some-injective, some-ne-none}
 use lib.ListN.{get_elem?}
-use Rattle.ioc_history.specs.declared.room.View.{View}
+use Rattle.ioc_history.specs.declared.cell.View.{View}
 use Rattle.ioc_history.specs.Key.{Key}
 use Rattle.ioc_history.specs.KeyLaws.{continues_self}
 use Rattle.ioc_history.specs.Line.{keeper, Fits, Holds, Kept}

@@ -11,7 +11,7 @@ use Rattle.ioc_events.specs.declared.event.Event.{Event}
 use Rattle.ioc_events.specs.declared.reply.Reply.{Reply}
 use Rattle.ioc_history.specs.Account.{DeskView}
 use Rattle.ioc_history.specs.Places.{IsNoPlace}
-use Rattle.ioc_set.specs.Held.{now_of}
+use Rattle.ioc_set.specs.SetState.{now_of}
 use Rattle.ioc_set.specs.NoCalls.{no_call}
 use Rattle.ioc_topology.specs.Change.{IsRefused}
 use Rattle.ioc_journaled_set.specs.Holding.{HeldView, numbers_of, IsSoundlyHeld, Serves, Tells}

@@ -9,18 +9,20 @@ ghost use Rattle.ioc_engine.specs.Cancelled.{WasCancelled, WasGivenUp, WasNotLiv
 use crate::engine::Engine;
 use ioc_device::Device;
 use ioc_events::Reply;
-use ioc_history::{Base, Desk, Receipt};
-use ioc_journaled_set::{Held, cancel_on};
+use ioc_history::{Desk, EngineName, Receipt};
+use ioc_journaled_set::{JournaledSet, cancel_on};
 use ioc_notify::NotifyId;
 use ioc_record::RecordKind;
+use ioc_set_store::EventBuffers;
 use ioc_topology::Locked;
 use ioc_values::IocError;
-use ioc_set_store::Workplace;
 use std::alloc::Global;
 use std::sync::Wait;
 
 // States the invariant of each of these sets. Does nothing.
-pub(crate) fn all_sound<K: RecordKind + Drop, B: Base<K>, D: Drop>(sets: &[Held<K, B, D>])
+pub(crate) fn all_sound<K: RecordKind + Drop, B: EngineName<K>, D: Drop>(
+    sets: &[JournaledSet<K, B, D>],
+)
     ensures { All (IsSoundlyHeld K.rules B.base) sets.now }
 {
     for set in sets {
@@ -28,7 +30,7 @@ pub(crate) fn all_sound<K: RecordKind + Drop, B: Base<K>, D: Drop>(sets: &[Held<
     }
 }
 
-impl<K: RecordKind + Drop, B: Base<K>, D: Device> Engine<K, B, D> {
+impl<K: RecordKind + Drop, B: EngineName<K>, D: Device> Engine<K, B, D> {
     // Refuses to cancel a put with notification that isn't live. Returns `None` if it is live;
     // nothing is done then.
     fn refuse_stale<R: Wait>(
@@ -60,7 +62,7 @@ impl<K: RecordKind + Drop, B: Base<K>, D: Device> Engine<K, B, D> {
         rt: &R,
         alloc: Global,
         desk: &mut Desk<K, B>,
-        workplace: &mut Workplace<K, D>,
+        buffers: &mut EventBuffers<K, D>,
         number: NotifyId,
         moment: u64,
     ) -> Result<Option<(Reply, Receipt<K, B>)>, IocError>
@@ -73,12 +75,12 @@ impl<K: RecordKind + Drop, B: Base<K>, D: Device> Engine<K, B, D> {
         let mut taken = self.sets.take_where(
             rt,
             alloc,
-            &|held: &Held<K, B, D>| { held.has_live(number) },
+            &|held: &JournaledSet<K, B, D>| { held.has_live(number) },
         )?;
         let sets = taken.sets.as_mut_slice();
         let mut puts = self.puts.lock(rt);
         let given = cancel_on(
-            rt, alloc, &self.book, desk, workplace, &mut puts, sets, number, moment,
+            rt, alloc, &self.book, desk, buffers, &mut puts, sets, number, moment,
         );
         drop(puts);
         all_sound(sets);
@@ -101,7 +103,7 @@ impl<K: RecordKind + Drop, B: Base<K>, D: Device> Engine<K, B, D> {
         rt: &R,
         alloc: Global,
         desk: &mut Desk<K, B>,
-        workplace: &mut Workplace<K, D>,
+        buffers: &mut EventBuffers<K, D>,
         number: NotifyId,
         moment: u64,
     ) -> Result<(Reply, Receipt<K, B>), IocError>
@@ -118,7 +120,7 @@ impl<K: RecordKind + Drop, B: Base<K>, D: Device> Engine<K, B, D> {
             if let Some(told) = self.refuse_stale(rt, alloc, desk, number, moment)? {
                 return Ok(told);
             }
-            if let Some(told) = self.give_up(rt, alloc, desk, workplace, number, moment)? {
+            if let Some(told) = self.give_up(rt, alloc, desk, buffers, number, moment)? {
                 return Ok(told);
             }
         }

@@ -10,17 +10,17 @@ ghost use Rattle.ioc_history.specs.Account.{IsAccount, calls, calls_by};
 ghost use Rattle.ioc_engine.specs.Served.{WasTold, WasServed, CallIsRefused};
 
 use crate::sending::OnceTickets;
+use ioc_callback::OnceQueue;
 use ioc_device::Device;
 use ioc_events::{Event, Reply};
 use ioc_fields::FieldNo;
-use ioc_history::{Base, Book, Desk, Receipt};
-use ioc_journaled_set::{AllPuts, Held};
+use ioc_history::{Desk, EngineName, Receipt, SharedJournal};
+use ioc_journaled_set::{JournaledSet, SharedNotifications};
 use ioc_names::RecordNo;
-use ioc_callback::OnceList;
 use ioc_record::RecordKind;
+use ioc_set_store::EventBuffers;
 use ioc_topology::{Directory, Locked};
 use ioc_values::{Finished, Input, IocError};
-use ioc_set_store::Workplace;
 use std::alloc::Global;
 use std::marker::Model;
 use std::sync::atomic::{AtomicBool, Ordering};
@@ -29,18 +29,18 @@ use std::sync::{Mutex, Wait};
 /// The records of a database in their lock sets, each set under its own lock, and the journal of
 /// all calls. Contracts see the number of records.
 #[derive(Drop)]
-pub struct Engine<K: RecordKind + Drop, B: Base<K>, D: Drop> {
-    pub(crate) sets: Directory<Held<K, B, D>>,
-    pub(crate) book: Book<K, B>,
+pub struct Engine<K: RecordKind + Drop, B: EngineName<K>, D: Drop> {
+    pub(crate) sets: Directory<JournaledSet<K, B, D>>,
+    pub(crate) book: SharedJournal<K, B>,
     // Locked while the lock of a set is held, and before the journal.
-    pub(crate) puts: Mutex<AllPuts<K, B>>,
+    pub(crate) puts: Mutex<SharedNotifications<K, B>>,
     // Locked while no other lock is held.
-    pub(crate) once: Mutex<OnceList<OnceTickets<K, B>>>,
+    pub(crate) once: Mutex<OnceQueue<OnceTickets<K, B>>>,
     // Set once, and never cleared.
     pub(crate) closed: AtomicBool,
 }
 
-impl<K: RecordKind + Drop, B: Base<K>, D: Drop> Model for Engine<K, B, D> {
+impl<K: RecordKind + Drop, B: EngineName<K>, D: Drop> Model for Engine<K, B, D> {
     ghost use Rattle.std.specs.Prelude.{ℕ};
 
     ghost Value = { ℕ };
@@ -48,14 +48,14 @@ impl<K: RecordKind + Drop, B: Base<K>, D: Drop> Model for Engine<K, B, D> {
     ghost view = { λ e. e.sets };
 }
 
-impl<K: RecordKind + Drop, B: Base<K>, D: Drop> Engine<K, B, D> {
+impl<K: RecordKind + Drop, B: EngineName<K>, D: Drop> Engine<K, B, D> {
     /// Creates an engine with these sets, the journal of its calls, the table of its puts with
     /// notification, and the list of its once requests.
     pub fn new(
-        sets: Directory<Held<K, B, D>>,
-        book: Book<K, B>,
-        puts: AllPuts<K, B>,
-        once: OnceList<OnceTickets<K, B>>,
+        sets: Directory<JournaledSet<K, B, D>>,
+        book: SharedJournal<K, B>,
+        puts: SharedNotifications<K, B>,
+        once: OnceQueue<OnceTickets<K, B>>,
     ) -> Self
         ensures { result ≡ sets }
     {
@@ -109,7 +109,7 @@ impl<K: RecordKind + Drop, B: Base<K>, D: Drop> Engine<K, B, D> {
     }
 }
 
-impl<K: RecordKind + Drop, B: Base<K>, D: Device> Engine<K, B, D> {
+impl<K: RecordKind + Drop, B: EngineName<K>, D: Device> Engine<K, B, D> {
     // Performs an event on the set of a record, and then takes what the event has sent. Inlined, as
     // are its callees up to the journal, so that each call knows its kind of event and the entry is
     // built in its place.
@@ -119,14 +119,14 @@ impl<K: RecordKind + Drop, B: Base<K>, D: Device> Engine<K, B, D> {
         rt: &R,
         alloc: Global,
         desk: &mut Desk<K, B>,
-        workplace: &mut Workplace<K, D>,
+        buffers: &mut EventBuffers<K, D>,
         number: RecordNo,
         event: &Event,
         moment: u64,
     ) -> Result<(Reply, Receipt<K, B>), IocError>
         requires ordinary { is_ordinary event.now ≡ true }
         requires names { names event.now ≡ number ∷ [] }
-        ensures served { IfOk result (λ x. WasServed D K.rules B.base D.gives number desk.old moment event.now x.0 desk.new (world_of workplace.new.store)) }
+        ensures served { IfOk result (λ x. WasServed D K.rules B.base D.gives number desk.old moment event.now x.0 desk.new (world_of buffers.new.store)) }
         ensures receipt { IfOk result (λ x. x.1 ≡ desk.new.seen) }
         ensures refused { IfErr result (CallIsRefused D K.rules B.base self.now number event.now) }
         ensures err { OnErr result (desk.new ≡ desk.old) }
@@ -140,11 +140,11 @@ impl<K: RecordKind + Drop, B: Base<K>, D: Device> Engine<K, B, D> {
             if held.has(number) {
                 held.is_sound();
                 let (reply, receipt) = held.serve(
-                    rt, alloc, &self.book, &self.puts, desk, workplace, event, moment,
+                    rt, alloc, &self.book, &self.puts, desk, buffers, event, moment,
                 )?;
                 held.is_sound();
                 drop(held);
-                self.do_sent(rt, workplace);
+                self.do_sent(rt, buffers);
                 return Ok((reply, receipt));
             }
         }
@@ -163,17 +163,17 @@ impl<K: RecordKind + Drop, B: Base<K>, D: Device> Engine<K, B, D> {
         rt: &R,
         alloc: Global,
         desk: &mut Desk<K, B>,
-        workplace: &mut Workplace<K, D>,
+        buffers: &mut EventBuffers<K, D>,
         number: RecordNo,
         moment: u64,
     ) -> Result<(Reply, Receipt<K, B>), IocError>
-        ensures served { IfOk result (λ x. WasServed D K.rules B.base D.gives number desk.old moment (Process number) x.0 desk.new (world_of workplace.new.store)) }
+        ensures served { IfOk result (λ x. WasServed D K.rules B.base D.gives number desk.old moment (Process number) x.0 desk.new (world_of buffers.new.store)) }
         ensures receipt { IfOk result (λ x. x.1 ≡ desk.new.seen) }
         ensures refused { IfErr result (CallIsRefused D K.rules B.base self.now number (Process number)) }
         ensures err { OnErr result (desk.new ≡ desk.old) }
     {
         let event = Event::Process(number);
-        self.serve(rt, alloc, desk, workplace, number, &event, moment)
+        self.serve(rt, alloc, desk, buffers, number, &event, moment)
     }
 
     /// Puts a value into a field, and processes the record if the field or the record asks for it.
@@ -190,19 +190,19 @@ impl<K: RecordKind + Drop, B: Base<K>, D: Device> Engine<K, B, D> {
         rt: &R,
         alloc: Global,
         desk: &mut Desk<K, B>,
-        workplace: &mut Workplace<K, D>,
+        buffers: &mut EventBuffers<K, D>,
         number: RecordNo,
         field: FieldNo,
         given: Input,
         moment: u64,
     ) -> Result<(Reply, Receipt<K, B>), IocError>
-        ensures served { IfOk result (λ x. WasServed D K.rules B.base D.gives number desk.old moment (Put number field given) x.0 desk.new (world_of workplace.new.store)) }
+        ensures served { IfOk result (λ x. WasServed D K.rules B.base D.gives number desk.old moment (Put number field given) x.0 desk.new (world_of buffers.new.store)) }
         ensures receipt { IfOk result (λ x. x.1 ≡ desk.new.seen) }
         ensures refused { IfErr result (CallIsRefused D K.rules B.base self.now number (Put number field given)) }
         ensures err { OnErr result (desk.new ≡ desk.old) }
     {
         let event = Event::Put(number, field, given);
-        self.serve(rt, alloc, desk, workplace, number, &event, moment)
+        self.serve(rt, alloc, desk, buffers, number, &event, moment)
     }
 
     /// Completes a record with the asynchronous answer of its device. `wait` is the number of the
@@ -219,19 +219,19 @@ impl<K: RecordKind + Drop, B: Base<K>, D: Device> Engine<K, B, D> {
         rt: &R,
         alloc: Global,
         desk: &mut Desk<K, B>,
-        workplace: &mut Workplace<K, D>,
+        buffers: &mut EventBuffers<K, D>,
         number: RecordNo,
         wait: u64,
         finished: Finished,
         moment: u64,
     ) -> Result<(Reply, Receipt<K, B>), IocError>
-        ensures served { IfOk result (λ x. WasServed D K.rules B.base D.gives number desk.old moment (Complete number wait finished) x.0 desk.new (world_of workplace.new.store)) }
+        ensures served { IfOk result (λ x. WasServed D K.rules B.base D.gives number desk.old moment (Complete number wait finished) x.0 desk.new (world_of buffers.new.store)) }
         ensures receipt { IfOk result (λ x. x.1 ≡ desk.new.seen) }
         ensures refused { IfErr result (CallIsRefused D K.rules B.base self.now number (Complete number wait finished)) }
         ensures err { OnErr result (desk.new ≡ desk.old) }
     {
         let event = Event::Complete(number, wait, finished);
-        self.serve(rt, alloc, desk, workplace, number, &event, moment)
+        self.serve(rt, alloc, desk, buffers, number, &event, moment)
     }
 
     /// Returns the text of a field.

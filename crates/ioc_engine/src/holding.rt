@@ -5,7 +5,7 @@ ghost use Rattle.ioc_ledger.specs.Requests.{no_counts};
 ghost use Rattle.crossbeam_utils.specs.Seq.{cell_view};
 ghost use Rattle.ioc_history.specs.Key.{Key, Has, record_keys};
 ghost use Rattle.ioc_history.specs.Line.{keeper};
-ghost use Rattle.ioc_history.specs.Held.{Holds};
+ghost use Rattle.ioc_history.specs.Covering.{Holds};
 ghost use Rattle.ioc_set_records.specs.Joined.{links_of, IsPart};
 ghost use Rattle.ioc_set_store.specs.Resting.{resting};
 ghost use Rattle.ioc_set.specs.Linking.{anew, AreCalm, NoneAwaits};
@@ -13,24 +13,23 @@ ghost use Rattle.ioc_history.specs.Account.{AreRecords};
 ghost use Rattle.ioc_journaled_set.specs.Holding.{KeepsDevices, held_view};
 ghost use Rattle.ioc_engine.specs.Loading.{IsSetOf, AreSetsFrom, AreOfPartsBelow};
 
-use ioc_history::Base;
-use ioc_journaled_set::Held;
-use ioc_history::{Cell, Keys, Token, pass};
-use ioc_set_records::Members;
+use ioc_history::{Cell, EngineName, KeyPass, Keys, pass};
+use ioc_journaled_set::JournaledSet;
 use ioc_record::RecordKind;
 use ioc_set::LockSet;
+use ioc_set_records::Members;
 use ioc_topology::{Directory, Locked};
 use std::alloc::{AllocError, Global};
 use std::marker::Brand;
 use std::mem;
 
 // A journaled set of these members, with a pass that owns the keys of `P`.
-fn hold_as<P: Keys, K: RecordKind, B: Base<K>, D>(
+fn hold_as<P: Keys, K: RecordKind, B: EngineName<K>, D>(
     alloc: Global,
     cell: &Cell,
-    master: &mut Token,
+    master: &mut KeyPass,
     members: Members<K, D>,
-) -> Held<K, B, D>
+) -> JournaledSet<K, B, D>
     requires table { (cell.now.table.shared.table_id ≡ B.table) × (master.old.table_id ≡ B.table) }
     requires master { cell_view master.old ≡ keeper [] (cell_view master.old).born }
     requires keys { P.keys ≡ record_keys (map.keys members.records) }
@@ -47,17 +46,17 @@ fn hold_as<P: Keys, K: RecordKind, B: Base<K>, D>(
 {
     let pass = pass::claim::<P>(cell, master);
     let set = LockSet::of(alloc, members);
-    Held::new(set, pass)
+    JournaledSet::new(set, pass)
 }
 
 /// A journaled set of these members, with a pass that owns the keys of their records and has seen
 /// no call.
-pub fn hold<K: RecordKind, B: Base<K>, D>(
+pub fn hold<K: RecordKind, B: EngineName<K>, D>(
     alloc: Global,
     cell: &Cell,
-    master: &mut Token,
+    master: &mut KeyPass,
     members: Members<K, D>,
-) -> Held<K, B, D>
+) -> JournaledSet<K, B, D>
     requires table { (cell.now.table.shared.table_id ≡ B.table) × (master.old.table_id ≡ B.table) }
     requires master { cell_view master.old ≡ keeper [] (cell_view master.old).born }
     requires fresh { (key : Key) → Has key (record_keys (map.keys members.records)) → Has key (cell_view master.old).born → ⊥ }
@@ -76,14 +75,14 @@ pub fn hold<K: RecordKind, B: Base<K>, D>(
 
 // A journaled set of the records of one part, with a pass that owns the keys of these records and
 // has seen no call.
-fn hold_part<K: RecordKind, B: Base<K>, D>(
+fn hold_part<K: RecordKind, B: EngineName<K>, D>(
     alloc: Global,
     cell: &Cell,
-    master: &mut Token,
+    master: &mut KeyPass,
     members: Members<K, D>,
     parts: &[usize],
     part: usize,
-) -> Held<K, B, D>
+) -> JournaledSet<K, B, D>
     requires table { (cell.now.table.shared.table_id ≡ B.table) × (master.old.table_id ≡ B.table) }
     requires master { cell_view master.old ≡ keeper [] (cell_view master.old).born }
     requires part { IsSetOf K.rules B.base B.had_device parts.now part members }
@@ -102,13 +101,13 @@ fn hold_part<K: RecordKind, B: Base<K>, D>(
 /// # Errors
 ///
 /// [`AllocError`] if allocation fails.
-pub fn hold_all<K: RecordKind + Drop, B: Base<K>, D: Drop>(
+pub fn hold_all<K: RecordKind + Drop, B: EngineName<K>, D: Drop>(
     alloc: Global,
     cell: &Cell,
-    master: &mut Token,
+    master: &mut KeyPass,
     sets: &mut [Members<K, D>],
     parts: &[usize],
-) -> Result<Directory<Held<K, B, D>>, AllocError>
+) -> Result<Directory<JournaledSet<K, B, D>>, AllocError>
     requires table { (cell.now.table.shared.table_id ≡ B.table) × (master.old.table_id ≡ B.table) }
     requires master { cell_view master.old ≡ keeper [] [] }
     requires parts { AreSetsFrom K.rules B.base B.had_device parts.now 0 sets.old }

@@ -9,13 +9,13 @@
 //! Developer's Guide, "Database Locking, Scanning, and Processing", lock sets; "iocInit".
 #![tactic(auto)]
 
-mod once_requests;
 mod cancelling;
 pub mod engine;
 pub mod holding;
 mod link_changes;
 pub mod loading;
 mod notifications;
+mod once_requests;
 pub mod opening;
 mod parts;
 pub mod report;
@@ -23,7 +23,7 @@ pub mod sending;
 pub mod starting;
 
 pub use engine::Engine;
-pub use ioc_journaled_set::{AllPuts, Held};
+pub use ioc_journaled_set::{JournaledSet, SharedNotifications};
 pub use loading::with_copies;
 pub use opening::new_cell;
 pub use report::{OnceTally, Report};

@@ -6,47 +6,47 @@ ghost use Rattle.ioc_journaled_set.specs.Holding.{numbers_of};
 ghost use Rattle.ioc_engine.specs.Linked.{other_of, WasLinked, LinkWasRefused};
 
 use crate::engine::Engine;
-use ioc_dbcommon::KeptLink;
+use ioc_dbcommon::LinkBox;
 use ioc_device::Device;
 use ioc_fields::FieldNo;
-use ioc_history::{Base, Desk};
-use ioc_journaled_set::{Changed, Held, change_link};
+use ioc_history::{Desk, EngineName};
+use ioc_journaled_set::{Changed, JournaledSet, change_link};
 use ioc_names::RecordNo;
 use ioc_record::RecordKind;
-use ioc_topology::{NewPlaces, all_sound, are_lent};
+use ioc_set_store::EventBuffers;
+use ioc_topology::{NewCells, all_sound, are_lent};
 use ioc_values::IocError;
-use ioc_set_store::Workplace;
 use std::alloc::Global;
 use std::sync::Wait;
 
-impl<K: RecordKind + Drop, B: Base<K>, D: Device> Engine<K, B, D> {
+impl<K: RecordKind + Drop, B: EngineName<K>, D: Device> Engine<K, B, D> {
     // Changes a link of a record of the first of these sets.
     fn change_lent<R: Wait>(
         &self,
         rt: &R,
         alloc: Global,
         desk: &mut Desk<K, B>,
-        workplace: &mut Workplace<K, D>,
-        first: &mut Held<K, B, D>,
-        second: &mut Held<K, B, D>,
-        spare: &mut Held<K, B, D>,
+        buffers: &mut EventBuffers<K, D>,
+        first: &mut JournaledSet<K, B, D>,
+        second: &mut JournaledSet<K, B, D>,
+        spare: &mut JournaledSet<K, B, D>,
         number: RecordNo,
         field: FieldNo,
-        link: KeptLink,
-        twin: KeptLink,
+        link: LinkBox,
+        base_link: LinkBox,
         moment: u64,
     ) -> Result<Changed<K, B>, IocError>
-        requires twin { twin ≡ link }
+        requires base_link { base_link ≡ link }
         requires lent { AreLent numbers_of number (other_of link) first.old second.old spare.old }
-        ensures changed { IfOk result (λ c. WasLinked D K.rules B.base number field link desk.old moment c.reply c.moved desk.new (world_of workplace.new.store)) }
+        ensures changed { IfOk result (λ c. WasLinked D K.rules B.base number field link desk.old moment c.reply c.moved desk.new (world_of buffers.new.store)) }
         ensures receipt { IfOk result (λ c. c.receipt ≡ desk.new.seen) }
         ensures refused { IfErr result (LinkWasRefused D K.rules B.base self.now number field link) }
         ensures err { OnErr result (desk.new ≡ desk.old) }
     {
         all_sound(first, second, spare);
         let changed = change_link(
-            rt, alloc, &self.book, desk, workplace, first, second, spare, number, field, link,
-            twin, moment,
+            rt, alloc, &self.book, desk, buffers, first, second, spare, number, field, link,
+            base_link, moment,
         );
         all_sound(first, second, spare);
         changed
@@ -54,7 +54,7 @@ impl<K: RecordKind + Drop, B: Base<K>, D: Device> Engine<K, B, D> {
 
     /// Changes a link of a record, under the topology guard and the locks of the sets that it
     /// concerns. The set of the record may part in two, or its part joins the set of the record
-    /// that the link leads to. Each record is found in its set afterwards. `link` and `twin` are
+    /// that the link leads to. Each record is found in its set afterwards. `link` and `base_link` are
     /// equal.
     ///
     /// # Errors
@@ -69,15 +69,15 @@ impl<K: RecordKind + Drop, B: Base<K>, D: Device> Engine<K, B, D> {
         rt: &R,
         alloc: Global,
         desk: &mut Desk<K, B>,
-        workplace: &mut Workplace<K, D>,
+        buffers: &mut EventBuffers<K, D>,
         number: RecordNo,
         field: FieldNo,
-        link: KeptLink,
-        twin: KeptLink,
+        link: LinkBox,
+        base_link: LinkBox,
         moment: u64,
     ) -> Result<Changed<K, B>, IocError>
-        requires twin { twin ≡ link }
-        ensures changed { IfOk result (λ c. WasLinked D K.rules B.base number field link desk.old moment c.reply c.moved desk.new (world_of workplace.new.store)) }
+        requires base_link { base_link ≡ link }
+        ensures changed { IfOk result (λ c. WasLinked D K.rules B.base number field link desk.old moment c.reply c.moved desk.new (world_of buffers.new.store)) }
         ensures receipt { IfOk result (λ c. c.receipt ≡ desk.new.seen) }
         ensures known { OnOk result (AreKnown self.now number (other_of link)) }
         ensures refused { IfErr result (LinkWasRefused D K.rules B.base self.now number field link) }
@@ -87,9 +87,9 @@ impl<K: RecordKind + Drop, B: Base<K>, D: Device> Engine<K, B, D> {
             return Err(IocError::Stopped);
         }
         let _guard = self.sets.guard_topology(rt);
-        let new = self.sets.new_places(rt, alloc)?;
+        let new = self.sets.new_cells(rt, alloc)?;
         self.relink(
-            rt, alloc, desk, workplace, &new, number, field, link, twin, moment,
+            rt, alloc, desk, buffers, &new, number, field, link, base_link, moment,
         )
     }
 
@@ -100,16 +100,16 @@ impl<K: RecordKind + Drop, B: Base<K>, D: Device> Engine<K, B, D> {
         rt: &R,
         alloc: Global,
         desk: &mut Desk<K, B>,
-        workplace: &mut Workplace<K, D>,
-        new: &NewPlaces<Held<K, B, D>>,
+        buffers: &mut EventBuffers<K, D>,
+        new: &NewCells<JournaledSet<K, B, D>>,
         number: RecordNo,
         field: FieldNo,
-        link: KeptLink,
-        twin: KeptLink,
+        link: LinkBox,
+        base_link: LinkBox,
         moment: u64,
     ) -> Result<Changed<K, B>, IocError>
-        requires twin { twin ≡ link }
-        ensures changed { IfOk result (λ c. WasLinked D K.rules B.base number field link desk.old moment c.reply c.moved desk.new (world_of workplace.new.store)) }
+        requires base_link { base_link ≡ link }
+        ensures changed { IfOk result (λ c. WasLinked D K.rules B.base number field link desk.old moment c.reply c.moved desk.new (world_of buffers.new.store)) }
         ensures receipt { IfOk result (λ c. c.receipt ≡ desk.new.seen) }
         ensures known { OnOk result (AreKnown self.now number (other_of link)) }
         ensures refused { IfErr result (LinkWasRefused D K.rules B.base self.now number field link) }
@@ -117,7 +117,7 @@ impl<K: RecordKind + Drop, B: Base<K>, D: Device> Engine<K, B, D> {
     {
         let other = link.record_named();
         for _ in rt.forever() {
-            let both = match self.sets.both_places(rt, new, number, &other) {
+            let both = match self.sets.link_cells(rt, new, number, &other) {
                 Ok(Some(both)) => both,
                 Ok(None) => continue,
                 Err(refused) => {
@@ -132,7 +132,7 @@ impl<K: RecordKind + Drop, B: Base<K>, D: Device> Engine<K, B, D> {
             let spare = &mut *spare_guard;
             if are_lent(first, second, spare, number, &other) {
                 let changed = self.change_lent(
-                    rt, alloc, desk, workplace, first, second, spare, number, field, link, twin,
+                    rt, alloc, desk, buffers, first, second, spare, number, field, link, base_link,
                     moment,
                 );
                 self.sets.settle_all(rt, &both, new, first, second, spare);

@@ -3,8 +3,8 @@ ghost use Rattle.std.specs.Prelude.{◌≡◌, None, drop, map, slice_index_or, 
 ghost use Rattle.std.specs.Vec.Iter.{into_iter_items};
 ghost use Rattle.ioc_engine.specs.Loading.{HaveDevices};
 
-use ioc_set_records::Loaded;
 use ioc_record::RecordKind;
+use ioc_set_records::Loaded;
 use std::alloc::{AllocError, Global};
 use std::vec::IntoIter;
 

@@ -11,17 +11,17 @@ use crate::engine::Engine;
 use ioc_device::Device;
 use ioc_events::Reply;
 use ioc_fields::FieldNo;
-use ioc_history::{Base, Desk, Receipt};
+use ioc_history::{Desk, EngineName, Receipt};
 use ioc_names::RecordNo;
 use ioc_notify::NotifyId;
 use ioc_record::RecordKind;
+use ioc_set_store::EventBuffers;
 use ioc_topology::Locked;
 use ioc_values::{Input, IocError};
-use ioc_set_store::Workplace;
 use std::alloc::Global;
 use std::sync::Wait;
 
-impl<K: RecordKind + Drop, B: Base<K>, D: Device> Engine<K, B, D> {
+impl<K: RecordKind + Drop, B: EngineName<K>, D: Device> Engine<K, B, D> {
     /// Puts a value into a field as [`Engine::put`] does, with a notification: the records that are
     /// processed for it become part of the put with notification, which ends when the last of them
     /// is done. Its number is in the reply. If the record awaits its device, the put waits for it.
@@ -39,13 +39,13 @@ impl<K: RecordKind + Drop, B: Base<K>, D: Device> Engine<K, B, D> {
         rt: &R,
         alloc: Global,
         desk: &mut Desk<K, B>,
-        workplace: &mut Workplace<K, D>,
+        buffers: &mut EventBuffers<K, D>,
         number: RecordNo,
         field: FieldNo,
         given: Input,
         moment: u64,
     ) -> Result<(Reply, Receipt<K, B>), IocError>
-        ensures served { IfOk result (λ x. (n : ℕ) × WasServed D K.rules B.base D.gives number desk.old moment (Notify number n field given) x.0 desk.new (world_of workplace.new.store)) }
+        ensures served { IfOk result (λ x. (n : ℕ) × WasServed D K.rules B.base D.gives number desk.old moment (Notify number n field given) x.0 desk.new (world_of buffers.new.store)) }
         ensures receipt { IfOk result (λ x. x.1 ≡ desk.new.seen) }
         ensures refused { IfErr result (λ error. (error ≡ QueueFull) ⊎ CallIsRefused D K.rules B.base self.now number (Put number field given) error) }
         ensures err { OnErr result (desk.new ≡ desk.old) }
@@ -59,12 +59,11 @@ impl<K: RecordKind + Drop, B: Base<K>, D: Device> Engine<K, B, D> {
             if held.has(number) {
                 held.is_sound();
                 let (reply, receipt) = held.put_notify(
-                    rt, alloc, &self.book, &self.puts, desk, workplace, number, field, given,
-                    moment,
+                    rt, alloc, &self.book, &self.puts, desk, buffers, number, field, given, moment,
                 )?;
                 held.is_sound();
                 drop(held);
-                self.do_sent(rt, workplace);
+                self.do_sent(rt, buffers);
                 return Ok((reply, receipt));
             }
         }

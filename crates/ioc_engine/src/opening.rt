@@ -3,7 +3,7 @@ ghost use Rattle.std.specs.Prelude.{◌≡◌, [], IfOk};
 ghost use Rattle.crossbeam_utils.specs.Seq.{cell_view};
 ghost use Rattle.ioc_history.specs.Line.{keeper};
 
-use ioc_history::{Cell, Token};
+use ioc_history::{Cell, KeyPass};
 use std::alloc::{AllocError, Global};
 
 /// Creates the cell of an engine that isn't started yet, and the keeper's pass, which has seen no
@@ -12,7 +12,7 @@ use std::alloc::{AllocError, Global};
 /// # Errors
 ///
 /// [`AllocError`] if allocation fails.
-pub fn new_cell(alloc: Global) -> Result<(Cell, Token), AllocError>
+pub fn new_cell(alloc: Global) -> Result<(Cell, KeyPass), AllocError>
     ensures table { IfOk result (λ x. x.1.table_id ≡ x.0.table.shared.table_id) }
     ensures master { IfOk result (λ x. cell_view x.1 ≡ keeper [] []) }
 {

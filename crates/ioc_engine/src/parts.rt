@@ -7,8 +7,8 @@ ghost use Rattle.ioc_values.specs.declared.error.IocError.TheVariants.{NoMemory,
 ghost use Rattle.ioc_engine.specs.Seen.{IsPartSeen};
 
 use crate::engine::Engine;
-use ioc_history::Base;
-use ioc_journaled_set::Held;
+use ioc_history::EngineName;
+use ioc_journaled_set::JournaledSet;
 use ioc_names::RecordNo;
 use ioc_record::RecordKind;
 use ioc_topology::Locked;
@@ -17,9 +17,9 @@ use std::alloc::{AllocError, Global};
 use std::sync::Wait;
 
 // Returns the numbers of a set's records.
-fn numbers_in<K: RecordKind + Drop, B: Base<K>, D: Drop>(
+fn numbers_in<K: RecordKind + Drop, B: EngineName<K>, D: Drop>(
     alloc: Global,
-    held: &Held<K, B, D>,
+    held: &JournaledSet<K, B, D>,
 ) -> Result<Vec<RecordNo>, AllocError>
     ensures { IfOk result (λ v. v.items ≡ numbers_of held.now) }
 {
@@ -49,7 +49,7 @@ fn mark_all(numbers: &[RecordNo], marks: &mut Vec<bool>)
     }
 }
 
-impl<K: RecordKind + Drop, B: Base<K>, D: Drop> Engine<K, B, D> {
+impl<K: RecordKind + Drop, B: EngineName<K>, D: Drop> Engine<K, B, D> {
     // Returns the numbers of the records of the set with this record.
     fn part_of<R: Wait>(
         &self,

@@ -8,11 +8,10 @@ ghost use Rattle.ioc_engine.specs.Once.{AreAllBack};
 
 use crate::cancelling::all_sound;
 use crate::engine::Engine;
-use ioc_history::{Base, Journal, Receipt};
+use ioc_callback::OnceQueue;
+use ioc_history::{Cell, EngineName, Journal, JournalEntry, Receipt};
+use ioc_journaled_set::JournaledSet;
 use ioc_ledger::Tally;
-use ioc_journaled_set::Held;
-use ioc_history::{Cell, JournalEntry};
-use ioc_callback::OnceList;
 use ioc_record::RecordKind;
 use ioc_set::linking::add_counts;
 use std::alloc::Global;
@@ -21,9 +20,9 @@ use std::sync::ledger::Ledger;
 
 /// What is left of an engine when it ends.
 #[derive(Drop)]
-pub struct Report<K: RecordKind + Drop, B: Base<K>, D: Drop> {
+pub struct Report<K: RecordKind + Drop, B: EngineName<K>, D: Drop> {
     /// The lock sets, each with its records and their devices.
-    pub sets: Vec<Held<K, B, D>>,
+    pub sets: Vec<JournaledSet<K, B, D>>,
     /// All calls, in one order.
     pub journal: Journal<K, B>,
     /// The cell that ties the passes of receipts and desks to the journal.
@@ -49,7 +48,7 @@ pub struct OnceTally {
 }
 
 // Drops the waiting requests and hands their tickets back.
-fn give_up_all<L: Ledger>(once: OnceList<L>) -> OnceTally
+fn give_up_all<L: Ledger>(once: OnceQueue<L>) -> OnceTally
     ensures begun { result.begun ≡ once.tickets.begun }
     ensures spent { result.spent ≡ once.tickets.spent }
     ensures back { AreAllBack result }
@@ -68,7 +67,9 @@ fn give_up_all<L: Ledger>(once: OnceList<L>) -> OnceTally
 }
 
 // Returns the counts of these sets together.
-fn counts_of<K: RecordKind + Drop, B: Base<K>, D: Drop>(sets: &[Held<K, B, D>]) -> Tally
+fn counts_of<K: RecordKind + Drop, B: EngineName<K>, D: Drop>(
+    sets: &[JournaledSet<K, B, D>],
+) -> Tally
     ensures { result ≡ counts_in sets.now }
 {
     let mut tally = Tally::default();
@@ -79,7 +80,7 @@ fn counts_of<K: RecordKind + Drop, B: Base<K>, D: Drop>(sets: &[Held<K, B, D>]) 
 }
 
 // States that each record of these sets has its device.
-fn all_keep_devices<K: RecordKind + Drop, B: Base<K>, D: Drop>(sets: &[Held<K, B, D>])
+fn all_keep_devices<K: RecordKind + Drop, B: EngineName<K>, D: Drop>(sets: &[JournaledSet<K, B, D>])
     ensures { All (λ h. KeepsDevices B.had_device h.set) sets.now }
 {
     for held in sets {
@@ -88,11 +89,11 @@ fn all_keep_devices<K: RecordKind + Drop, B: Base<K>, D: Drop>(sets: &[Held<K, B
 }
 
 // Moves the sets on to the list of all calls.
-fn tell_all<K: RecordKind + Drop, B: Base<K>, D: Drop, R: Wait>(
+fn tell_all<K: RecordKind + Drop, B: EngineName<K>, D: Drop, R: Wait>(
     rt: &R,
     cell: &Cell,
     journal: &mut Journal<K, B>,
-    sets: &mut [Held<K, B, D>],
+    sets: &mut [JournaledSet<K, B, D>],
 )
     requires table { cell.now.table.shared.table_id ≡ B.table }
     ensures sets { map (λ h. h.set) sets.new ≡ map (λ h. h.set) sets.old }
@@ -104,7 +105,7 @@ fn tell_all<K: RecordKind + Drop, B: Base<K>, D: Drop, R: Wait>(
     }
 }
 
-impl<K: RecordKind + Drop, B: Base<K>, D: Drop> Engine<K, B, D> {
+impl<K: RecordKind + Drop, B: EngineName<K>, D: Drop> Engine<K, B, D> {
     /// Ends the engine. Waits forever if a record is in no set.
     ///
     /// # Errors
@@ -146,7 +147,7 @@ impl<K: RecordKind + Drop, B: Base<K>, D: Drop> Engine<K, B, D> {
     }
 }
 
-impl<K: RecordKind + Drop, B: Base<K>, D: Drop> Report<K, B, D> {
+impl<K: RecordKind + Drop, B: EngineName<K>, D: Drop> Report<K, B, D> {
     /// Returns the counts of requests and of asynchronous answers of all sets together.
     pub fn tally(&self) -> Tally
         ensures { result ≡ counts_in self.now.sets.items }

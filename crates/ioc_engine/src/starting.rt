@@ -13,14 +13,13 @@ ghost use Rattle.ioc_engine.specs.declared.starting.StartError.TheVariants.{BadV
 use crate::engine::Engine;
 use crate::holding::hold_all;
 use crate::sending::OnceTickets;
+use ioc_callback::OnceQueue;
+use ioc_history::legal_laws::lists_leave_sound;
+use ioc_history::{Cell, EngineName, Journal, KeyPass, Limits, SharedJournal, pass};
+use ioc_journaled_set::{JournaledSet, SharedNotifications};
+use ioc_record::RecordKind;
 use ioc_set_records::loaded_laws::dealt_sets_are_parts;
 use ioc_set_records::{Loaded, deal, parts_of};
-use ioc_history::legal_laws::lists_leave_sound;
-use ioc_history::{Base, Book, Journal, Limits};
-use ioc_journaled_set::{AllPuts, Held};
-use ioc_history::{Cell, Token, pass};
-use ioc_callback::OnceList;
-use ioc_record::RecordKind;
 use ioc_topology::Directory;
 use std::alloc::{AllocError, Global};
 use std::sync::ledger::Blank;
@@ -55,12 +54,12 @@ fn are_at_rest<K: RecordKind, D>(all: &[Loaded<K, D>]) -> bool
 
 // Creates the table of puts with notification, whose pass gets their key, and the list of once
 // requests. Both are empty.
-fn new_lists<K: RecordKind, B: Base<K>>(
+fn new_lists<K: RecordKind, B: EngineName<K>>(
     alloc: Global,
     cell: &Cell,
-    master: &mut Token,
+    master: &mut KeyPass,
     tickets: Blank,
-) -> Result<(AllPuts<K, B>, OnceList<OnceTickets<K, B>>), AllocError>
+) -> Result<(SharedNotifications<K, B>, OnceQueue<OnceTickets<K, B>>), AllocError>
     requires table { (cell.now.table.shared.table_id ≡ B.table) × (master.old.table_id ≡ B.table) }
     requires master { cell_view master.old ≡ keeper [] (cell_view master.old).born }
     requires born { AreRecords (cell_view master.old).born }
@@ -71,8 +70,8 @@ fn new_lists<K: RecordKind, B: Base<K>>(
     ensures born { AreNoDesks (cell_view master.new).born }
 {
     let pass = pass::claim_key(cell, master, 2, 0);
-    let puts = AllPuts::new(alloc, pass)?;
-    let once = OnceList::new(alloc, tickets)?;
+    let puts = SharedNotifications::new(alloc, pass)?;
+    let once = OnceQueue::new(alloc, tickets)?;
     Ok((puts, once))
 }
 
@@ -108,18 +107,18 @@ fn startable_parts<K: RecordKind, D>(
 
 // Creates all that an engine has beside the journal: the sets of all parts, the table and the list.
 // The cell and the pass are passed by reference, so a failed allocation drops neither.
-fn holdings<K: RecordKind + Drop, B: Base<K>, D: Drop>(
+fn holdings<K: RecordKind + Drop, B: EngineName<K>, D: Drop>(
     alloc: Global,
     cell: &Cell,
-    master: &mut Token,
+    master: &mut KeyPass,
     tickets: Blank,
     all: Vec<Loaded<K, D>>,
     parts: &[usize],
 ) -> Result<
     (
-        Directory<Held<K, B, D>>,
-        AllPuts<K, B>,
-        OnceList<OnceTickets<K, B>>,
+        Directory<JournaledSet<K, B, D>>,
+        SharedNotifications<K, B>,
+        OnceQueue<OnceTickets<K, B>>,
     ),
     AllocError,
 >
@@ -153,10 +152,10 @@ fn holdings<K: RecordKind + Drop, B: Base<K>, D: Drop>(
 /// # Errors
 ///
 /// [`StartError`] if the engine can't be started.
-pub fn start<K: RecordKind + Drop, B: Base<K>, D: Drop>(
+pub fn start<K: RecordKind + Drop, B: EngineName<K>, D: Drop>(
     alloc: Global,
     cell: Cell,
-    master: Token,
+    master: KeyPass,
     blank: Blank,
     tickets: Blank,
     all: Vec<Loaded<K, D>>,
@@ -190,5 +189,5 @@ pub fn start<K: RecordKind + Drop, B: Base<K>, D: Drop>(
         return Err(StartError::NoMemory);
     };
     let journal = Journal::new(alloc, master, blank, limits);
-    Ok(Engine::new(directory, Book::new(cell, journal), puts, once))
+    Ok(Engine::new(directory, SharedJournal::new(cell, journal), puts, once))
 }

@@ -14,19 +14,19 @@ ghost use Rattle.ioc_process.specs.Runs.{ForAnswers};
 ghost use Rattle.ioc_events.specs.declared.event.Event.TheVariants.{Process, Put, Complete};
 ghost use Rattle.ioc_events.specs.Step.{processes, awaits, told, after_put, done_alone};
 ghost use Rattle.ioc_events.specs.Events.{Makes, reply_of};
-ghost use Rattle.ioc_events.specs.Told.{told_by};
+ghost use Rattle.ioc_events.specs.SetReply.{told_by};
 
 use crate::reply::Effect;
-use crate::told::Told;
+use crate::set_reply::SetReply;
 use ioc_dbcommon::Common;
 use ioc_fields::{FieldNo, OwnField, RecordType, is_process_passive};
 use ioc_ledger::{Outcome, Tally};
 use ioc_names::RecordNo;
 use ioc_process::outputs::is_proc;
 use ioc_process::process::{complete_record, request_record};
-use ioc_record::{PutFault, RecordKind, put_field, put_spelled};
 use ioc_process::scanning::rescan;
 use ioc_process::steps::{mark_put, mark_reprocess};
+use ioc_record::{PutFault, RecordKind, put_field, put_spelled};
 use ioc_store::frames::Frame;
 use ioc_store::store::Store;
 use ioc_values::{Finished, Input, IocError};
@@ -69,7 +69,7 @@ pub fn processes<K: RecordKind>(record: &K, field: FieldNo) -> bool
 }
 
 // Requests a record that exists, and returns the outcome.
-fn tell<S: Store>(
+fn request_present<S: Store>(
     store: &mut S,
     frames: &mut Vec<Frame>,
     number: RecordNo,
@@ -110,7 +110,7 @@ pub fn request<S: Store>(
     if !store.has(number) {
         return Err(PutFault::NoRecord);
     }
-    let outcome = tell(store, frames, number, tally);
+    let outcome = request_present(store, frames, number, tally);
     Ok(Some(outcome))
 }
 
@@ -133,7 +133,7 @@ fn put_into<S: Store>(
 }
 
 // Puts the value of a text into a field of a record that exists.
-fn spell_into<S: Store>(
+fn put_text_into<S: Store>(
     store: &mut S,
     number: RecordNo,
     field: FieldNo,
@@ -180,7 +180,7 @@ fn process_after_put<S: Store>(
         return Some(Outcome::Reprocess);
     }
     mark_put(store, number);
-    Some(tell(store, frames, number, tally))
+    Some(request_present(store, frames, number, tally))
 }
 
 /// Puts a value into a field, and processes the record if the field requires it.
@@ -191,7 +191,7 @@ pub fn put<S: Store>(
     field: FieldNo,
     given: Input,
     tally: &mut Tally,
-) -> Told
+) -> SetReply
     requires closed { IsClosed S.Record.rules (S.world store.old) }
     requires empty { frames.old.items ≡ [] }
     requires room { len (S.world store.old).records ≤ vec_capacity frames.old }
@@ -203,19 +203,19 @@ pub fn put<S: Store>(
     ensures room { vec_capacity frames.new ≡ vec_capacity frames.old }
 {
     if !store.has(number) {
-        return Told::Refused(IocError::NoRecord);
+        return SetReply::Refused(IocError::NoRecord);
     }
     match put_into(store, number, field, given) {
         Ok(()) => {
             rescan(store, number, field);
-            Told::of(Ok(process_after_put(store, frames, number, field, tally)))
+            SetReply::of(Ok(process_after_put(store, frames, number, field, tally)))
         }
-        Err(refused) => Told::Refused(refused),
+        Err(refused) => SetReply::Refused(refused),
     }
 }
 
 /// Puts the value of a text into a field, and processes the record if the field requires it.
-pub fn spell<S: Store>(
+pub fn put_text<S: Store>(
     store: &mut S,
     frames: &mut Vec<Frame>,
     number: RecordNo,
@@ -236,7 +236,7 @@ pub fn spell<S: Store>(
     if !store.has(number) {
         return Err(PutFault::NoRecord);
     }
-    match spell_into(store, number, field, text) {
+    match put_text_into(store, number, field, text) {
         Ok(()) => {
             rescan(store, number, field);
             Ok(process_after_put(store, frames, number, field, tally))
@@ -263,7 +263,7 @@ pub fn complete<S: Store>(
     wait: u64,
     finished: Finished,
     tally: &mut Tally,
-) -> Told
+) -> SetReply
     requires closed { IsClosed S.Record.rules (S.world store.old) }
     requires empty { frames.old.items ≡ [] }
     requires room { len (S.world store.old).records ≤ vec_capacity frames.old }
@@ -275,11 +275,11 @@ pub fn complete<S: Store>(
     ensures room { vec_capacity frames.new ≡ vec_capacity frames.old }
 {
     if !store.has(number) {
-        return Told::Refused(IocError::NoRecord);
+        return SetReply::Refused(IocError::NoRecord);
     }
     if !awaits(store.record(number).common(), wait) {
-        return Told::Refused(IocError::Stale);
+        return SetReply::Refused(IocError::Stale);
     }
     complete_record(store, frames, number, finished, tally);
-    Told::Plain
+    SetReply::Plain
 }

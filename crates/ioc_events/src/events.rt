@@ -13,11 +13,11 @@ ghost use Rattle.ioc_values.specs.declared.value.Finished.{Finished};
 ghost use Rattle.ioc_ledger.specs.Requests.{counted_started};
 ghost use Rattle.ioc_values.specs.Conversion.{input_of};
 ghost use Rattle.ioc_events.specs.Events.{Tells, reply_of, ends_unless, ends, Ends};
-ghost use Rattle.ioc_events.specs.Told.{told_by};
+ghost use Rattle.ioc_events.specs.SetReply.{told_by};
 
 use crate::reply::{Effect, Reply, is_refused};
+use crate::set_reply::SetReply;
 use crate::starting::start_all;
-use crate::told::Told;
 use crate::{alone, notify};
 use ioc_fields::{FieldNo, row_of};
 use ioc_ledger::Tally;
@@ -64,10 +64,10 @@ fn count_started<S: Store>(store: &S, start: usize, tally: &mut Tally)
 }
 
 // Returns whether the reply means that a completion was taken.
-fn is_done(told: &Told) -> bool
+fn is_done(told: &SetReply) -> bool
     ensures { (s wait : ℕ) (finished : Finished) → result ≡ completes (Complete s wait finished) (told_by told.now) }
 {
-    matches!(told, Told::Plain)
+    matches!(told, SetReply::Plain)
 }
 
 // Ends an event. Unless it was refused, waiting puts with notification start if they can. The calls
@@ -101,7 +101,7 @@ fn end_event<S: Store>(
     store: &mut S,
     frames: &mut Vec<Frame>,
     asked: usize,
-    reply: &Told,
+    reply: &SetReply,
     tally: &mut Tally,
 )
     requires closed { IsClosed S.Record.rules (S.world store.old) }
@@ -179,7 +179,7 @@ pub fn run_request<S: Store>(
     frames: &mut Vec<Frame>,
     number: RecordNo,
     tally: &mut Tally,
-) -> Told
+) -> SetReply
     requires closed { IsClosed S.Record.rules (S.world store.old) }
     requires empty { frames.old.items ≡ [] }
     requires room { len (S.world store.old).records ≤ vec_capacity frames.old }
@@ -191,7 +191,7 @@ pub fn run_request<S: Store>(
     ensures room { vec_capacity frames.new ≡ vec_capacity frames.old }
 {
     let effect = make_request(store, frames, number, tally);
-    Told::of(effect)
+    SetReply::of(effect)
 }
 
 /// Puts a value into a field. The record is processed if the field is PROC, or if the field is
@@ -210,7 +210,7 @@ pub fn run_put<S: Store>(
     field: FieldNo,
     given: Input,
     tally: &mut Tally,
-) -> Told
+) -> SetReply
     requires closed { IsClosed S.Record.rules (S.world store.old) }
     requires empty { frames.old.items ≡ [] }
     requires room { len (S.world store.old).records ≤ vec_capacity frames.old }
@@ -252,7 +252,7 @@ pub fn make_spelled_put<S: Store>(
     ensures room { vec_capacity frames.new ≡ vec_capacity frames.old }
 {
     let asked = store.asked();
-    let effect = alone::spell(store, frames, number, field, text, tally);
+    let effect = alone::put_text(store, frames, number, field, text, tally);
     end_effect(store, frames, asked, &effect, tally);
     effect
 }
@@ -273,7 +273,7 @@ pub fn run_complete<S: Store>(
     wait: u64,
     finished: Finished,
     tally: &mut Tally,
-) -> Told
+) -> SetReply
     requires closed { IsClosed S.Record.rules (S.world store.old) }
     requires empty { frames.old.items ≡ [] }
     requires room { len (S.world store.old).records ≤ vec_capacity frames.old }
@@ -310,7 +310,7 @@ pub fn run_notify<S: Store>(
     field: FieldNo,
     given: Input,
     tally: &mut Tally,
-) -> Told
+) -> SetReply
     requires closed { IsClosed S.Record.rules (S.world store.old) }
     requires empty { frames.old.items ≡ [] }
     requires room { len (S.world store.old).records ≤ vec_capacity frames.old }
@@ -338,7 +338,7 @@ pub fn run_cancel<S: Store>(
     frames: &mut Vec<Frame>,
     number: NotifyId,
     tally: &mut Tally,
-) -> Told
+) -> SetReply
     requires closed { IsClosed S.Record.rules (S.world store.old) }
     requires empty { frames.old.items ≡ [] }
     requires room { len (S.world store.old).records ≤ vec_capacity frames.old }

@@ -11,8 +11,8 @@ pub mod local;
 pub mod notification_rules;
 pub mod notify;
 pub mod reply;
+pub mod set_reply;
 pub mod starting;
-pub mod told;
 
 pub use event::{Entry, Event, KeptAnswers, SetEvent};
 pub use events::{
@@ -21,4 +21,4 @@ pub use events::{
 };
 pub use link_change::run_link;
 pub use reply::{Effect, Reply};
-pub use told::Told;
+pub use set_reply::SetReply;

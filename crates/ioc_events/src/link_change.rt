@@ -9,11 +9,11 @@ ghost use Rattle.ioc_events.specs.Step.{all_there, stepped};
 ghost use Rattle.ioc_store.specs.World.{Has, at, common_at, put};
 
 use crate::reply::Reply;
-use ioc_dbcommon::{KeptLink, LinkUse};
+use ioc_dbcommon::{LinkBox, LinkUse};
 use ioc_fields::FieldNo;
 use ioc_names::RecordNo;
-use ioc_record::{RecordKind, stops_put};
 use ioc_process::scanning::{device_of, rewire};
+use ioc_record::{RecordKind, stops_put};
 use ioc_store::store::Store;
 use ioc_values::IocError;
 
@@ -28,7 +28,7 @@ fn leads_within<S: Store>(store: &S, link: LinkUse) -> bool
 }
 
 // Sets a link field.
-fn set_link<S: Store>(store: &mut S, number: RecordNo, field: FieldNo, link: KeptLink)
+fn set_link<S: Store>(store: &mut S, number: RecordNo, field: FieldNo, link: LinkBox)
     requires { Has (S.world store.old) number }
     ensures world { S.world store.new ≡ put (S.world store.old) number (S.Record.rules.with_link (at S.Record.rules (S.world store.old) number) field link) }
     ensures given { S.given store.new ≡ S.given store.old }
@@ -45,7 +45,7 @@ fn set_link<S: Store>(store: &mut S, number: RecordNo, field: FieldNo, link: Kep
 /// [`IocError::PutDisabled`] in this order, if there is no such record or the link leads to none
 /// that exists, the field is no link field, or DISP forbids it. Nothing has changed then.
 #[tactic(auto, unfolding(crate::specs::Step::stepped, crate::specs::Step::done_alone, crate::specs::Step::done_there, crate::specs::Step::relinked))]
-pub fn run_link<S: Store>(store: &mut S, number: RecordNo, field: FieldNo, link: KeptLink) -> Reply
+pub fn run_link<S: Store>(store: &mut S, number: RecordNo, field: FieldNo, link: LinkBox) -> Reply
     ensures step { (answers : Answers) →
         stepped S.Record.rules answers (S.world store.old) (Link number field link) ≡ record { world = S.world store.new; reply = result; requests = None } }
     ensures given { S.given store.new ≡ S.given store.old }

@@ -11,16 +11,16 @@ ghost use Rattle.ioc_events.specs.Starting.{value_to_put, must_wait};
 ghost use Rattle.ioc_events.specs.declared.event.Event.TheVariants.{Notify, Cancel};
 ghost use Rattle.ioc_events.specs.Step.{begun_or_queued, done_alone};
 ghost use Rattle.ioc_events.specs.Events.{Makes};
-ghost use Rattle.ioc_events.specs.Told.{told_by};
+ghost use Rattle.ioc_events.specs.SetReply.{told_by};
 
+use crate::set_reply::SetReply;
 use crate::starting::start;
-use crate::told::Told;
 use ioc_fields::FieldNo;
 use ioc_ledger::Tally;
 use ioc_names::RecordNo;
 use ioc_notify::{NotifyId, Waiting};
-use ioc_record::{RecordKind, convert_for, test_put};
 use ioc_process::steps::common;
+use ioc_record::{RecordKind, convert_for, test_put};
 use ioc_store::frames::Frame;
 use ioc_store::store::Store;
 use ioc_values::{Input, IocError, Value};
@@ -67,7 +67,7 @@ fn begin_or_queue<S: Store>(
     requires empty { frames.old.items ≡ [] }
     requires room { len (S.world store.old).records ≤ vec_capacity frames.old }
     ensures done { ForAnswers (S.given store.new) (λ answers.
-        Makes (S.world store.new) (told_by (Told.Notify waiting.now.number)) tally.old tally.new (begun_or_queued S.Record.rules answers (S.world store.old) waiting.now)) }
+        Makes (S.world store.new) (told_by (SetReply.Notify waiting.now.number)) tally.old tally.new (begun_or_queued S.Record.rules answers (S.world store.old) waiting.now)) }
     ensures keeps { Keeps S.Record.rules (S.world store.old) (S.world store.new) }
     ensures given { Begins S.Device.gives (S.given store.old) (S.given store.new) }
     ensures empty { frames.new.items ≡ [] }
@@ -91,7 +91,7 @@ pub fn notify<S: Store>(
     field: FieldNo,
     given: Input,
     tally: &mut Tally,
-) -> Told
+) -> SetReply
     requires closed { IsClosed S.Record.rules (S.world store.old) }
     requires empty { frames.old.items ≡ [] }
     requires room { len (S.world store.old).records ≤ vec_capacity frames.old }
@@ -103,14 +103,14 @@ pub fn notify<S: Store>(
     ensures room { vec_capacity frames.new ≡ vec_capacity frames.old }
 {
     if !store.has(target) {
-        return Told::Refused(IocError::NoRecord);
+        return SetReply::Refused(IocError::NoRecord);
     }
     let value = match value_to_put(store.record(target), field, given) {
         Ok(value) => value,
-        Err(refused) => return Told::Refused(refused),
+        Err(refused) => return SetReply::Refused(refused),
     };
     if !store.has_place(number) {
-        return Told::Refused(IocError::QueueFull);
+        return SetReply::Refused(IocError::QueueFull);
     }
     let waiting = Waiting {
         number,
@@ -119,20 +119,20 @@ pub fn notify<S: Store>(
         value,
     };
     begin_or_queue(store, frames, &waiting, tally);
-    Told::Notify(number)
+    SetReply::Notify(number)
 }
 
 /// Cancels a put with notification: it is removed from all records and from the waiting list, and
 /// doesn't end.
-pub fn cancel<S: Store>(store: &mut S, number: NotifyId) -> Told
+pub fn cancel<S: Store>(store: &mut S, number: NotifyId) -> SetReply
     ensures done { (answers : Answers) →
         done_alone S.Record.rules answers (S.world store.old) (Cancel number) ≡ record { world = S.world store.new; reply = told_by result; requests = None } }
     ensures keeps { Keeps S.Record.rules (S.world store.old) (S.world store.new) }
     ensures given { S.given store.new ≡ S.given store.old }
 {
     if !store.is_live(number) {
-        return Told::Refused(IocError::Stale);
+        return SetReply::Refused(IocError::Stale);
     }
     store.cancel(number);
-    Told::Plain
+    SetReply::Plain
 }

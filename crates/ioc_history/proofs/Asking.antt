@@ -18,7 +18,7 @@ use Rattle.ioc_events.specs.Holding.{holders}
 use Rattle.ioc_events.specs.Step.{Stepped, refused, stepped, done_alone, done_there}
 use Rattle.ioc_history.specs.Key.{Key}
 use Rattle.ioc_history.specs.Legal.{done, map_of}
-use Rattle.ioc_history.specs.Held.{IsDone, IsOf, CancelsWithin, is_question, question_note}
+use Rattle.ioc_history.specs.Covering.{IsDone, IsOf, CancelsWithin, is_question, question_note}
 use Rattle.ioc_history.specs.EventLaws.{EventLaws}
 use Rattle.ioc_history.specs.Laws.{Asks}
 use Rattle.ioc_history.proofs.Doing.{one-more}

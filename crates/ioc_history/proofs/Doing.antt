@@ -19,7 +19,7 @@ use Rattle.ioc_events.specs.Step.{stepped, names}
 use Rattle.ioc_events.specs.StepRules.{KeepsRecords}
 use Rattle.ioc_history.specs.declared.entry.Note.{Note}
 use Rattle.ioc_history.specs.Legal.{entry_of, done, map_of, Fits, IsLegal, IsSound}
-use Rattle.ioc_history.specs.Held.{Holds, IsDone, IsOf, CancelsWithin}
+use Rattle.ioc_history.specs.Covering.{Holds, IsDone, IsOf, CancelsWithin}
 use Rattle.ioc_history.specs.EventLaws.{EventLaws}
 use Rattle.ioc_history.specs.Laws.{OneMore, HoldersMove, MovesAlike, BeginsSound, StaysSound}
 use Rattle.ioc_history.proofs.Basics.{not_both, not_true, same_option, is-none, waits-too, missing-names}

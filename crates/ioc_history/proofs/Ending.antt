@@ -14,7 +14,7 @@ use Rattle.ioc_events.specs.Holding.{IsCounted, IsHeld, by_a_record, in_a_waitin
 use Rattle.ioc_events.specs.Step.{stepped}
 use Rattle.ioc_history.specs.declared.entry.Note.{Note}
 use Rattle.ioc_history.specs.Legal.{entry_of, done, map_of, IsSound}
-use Rattle.ioc_history.specs.Held.{Holds, IsOf}
+use Rattle.ioc_history.specs.Covering.{Holds, IsOf}
 use Rattle.ioc_history.specs.Laws.{EndsOver, NobodyHas}
 use Rattle.ioc_history.specs.EventLaws.{EventLaws}
 use Rattle.ioc_history.proofs.Basics.{not_both, waits-too}

@@ -11,7 +11,7 @@ use Rattle.ioc_record.specs.Laws.{IsLawful}
 use Rattle.ioc_store.specs.World.{World, Has, at, freed, begun, begun_at, cancelled}
 use Rattle.ioc_store.specs.Freeing.{get-mapped, has-cancelled, at_cancelled-either}
 use Rattle.ioc_store.specs.StepFrames.{targets-set}
-use Rattle.ioc_history.specs.Held.{Holds}
+use Rattle.ioc_history.specs.Covering.{Holds}
 use Rattle.ioc_history.specs.Laws.{CancelIsHeld, BeginningIsHeld}
 use Rattle.ioc_history.proofs.Basics.{passes-there}
 

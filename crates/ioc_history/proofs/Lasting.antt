@@ -5,7 +5,7 @@ use Rattle.ioc_store.specs.World.{World}
 use Rattle.ioc_history.specs.declared.entry.Note.{Note}
 use Rattle.ioc_history.specs.Line.{Spares}
 use Rattle.ioc_history.specs.Legal.{AreLiveAlike, notifications_key, done, map_of, Fits, IsLegal}
-use Rattle.ioc_history.specs.Held.{Holds, AreSpared}
+use Rattle.ioc_history.specs.Covering.{Holds, AreSpared}
 use Rattle.ioc_history.specs.Laws.{Lasts, LiveLasts}
 use Rattle.ioc_history.proofs.Lists.{legal-right, map-join}
 

@@ -18,7 +18,7 @@ pub mod Placing
 mod Replaying
 mod Rescanning
 mod Rewiring
-mod Room
+mod FreePlaces
 mod Sharing
 mod Summing
 mod Uniting

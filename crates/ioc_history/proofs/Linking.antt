@@ -25,7 +25,7 @@ use Rattle.ioc_events.specs.StepRules.{by_itself, takes_link}
 use Rattle.ioc_history.specs.declared.entry.Note.{Note}
 use Rattle.ioc_history.specs.Key.{Key}
 use Rattle.ioc_history.specs.Legal.{done, map_of}
-use Rattle.ioc_history.specs.Held.{Holds, Cover, IsDone, IsOf, AreHalves, WaitsWithin}
+use Rattle.ioc_history.specs.Covering.{Holds, Cover, IsDone, IsOf, AreHalves, WaitsWithin}
 use Rattle.ioc_history.specs.LinkChange.{TakesLink, link_note}
 use Rattle.ioc_history.specs.Laws.{LinkParts, LinkJoins}
 use Rattle.ioc_history.proofs.Basics.{one-there}

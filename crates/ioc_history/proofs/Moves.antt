@@ -5,10 +5,10 @@ use lib.ListN.{get_elem?}
 use Rattle.crossbeam_utils.specs.Register.{Turns, Forks, Merges}
 use Rattle.atomic_table.proofs.Lists.{at_set, set_else}
 use Rattle.ioc_history.specs.declared.entry.Note.{Note}
-use Rattle.ioc_history.specs.declared.room.View.{View}
+use Rattle.ioc_history.specs.declared.cell.View.{View}
 use Rattle.ioc_history.specs.Key.{Key, Has, record_keys}
 use Rattle.ioc_history.specs.KeyLaws.{has_left, has_right, has_either, spares_append, spares_left, spares_right, continues_self}
-use Rattle.ioc_history.specs.Line.{Spares, Continues, Begins, keeper, holder, nobody, copied, claiming, claimed, owning, shown, took, learnt, added, given, TakenIn, Learnt, Appended, Fits, Holds, Kept}
+use Rattle.ioc_history.specs.Line.{Spares, Continues, Begins, keeper, holder, nobody, copied, claiming, claimed, owning, shown, took, learnt, added, given, TakenIn, Learnt, Appended, Fits, Holds, IsOneList}
 
 off : false ≡ true → ⊥
 off e = true≢false (sym e)
@@ -47,12 +47,12 @@ at_end (x ∷ xs) a b zero e = inl (e, λ h. omega arith)
 at_end (x ∷ xs) a b (suc j) e = ⊎_elim (λ t. let n = t.1 in inl (t.0, λ h. n (omega arith))) (λ t. inr (ap suc t.0, t.1)) (at_end xs a b j e)
 
 -- The rule is kept if a pass gets another view and the list may grow.
-kept_set : (words words' : List ℕ) (views : List View) (by : ℕ) (v w : View) (log : List Note) (h : Kept words views) → get_elem? views by ≡ some v
+kept_set : (words words' : List ℕ) (views : List View) (by : ℕ) (v w : View) (log : List Note) (h : IsOneList words views) → get_elem? views by ≡ some v
     → ((j : ℕ) (u : View) → j ≢ by → get_elem? views j ≡ some u → Fits h.log h.seat j u → Fits log h.seat j u)
     → Fits log h.seat by w
     → ((k : Key) → Holds w k → Holds v k)
     → (w.keeps ≡ true → (v.keeps ≡ true) × ((k : Key) → Has k v.born → Has k w.born))
-    → Kept words' (set views by w)
+    → IsOneList words' (set views by w)
 kept_set words words' views by v w log h at others mine owns keeps = record {
   seat = h.seat;
   log = log;
@@ -77,12 +77,12 @@ kept_set words words' views by v w log h at others mine owns keeps = record {
         (at_set views by i w a e)
 
 -- The rule is kept if a new pass is added whose keys no other pass owns.
-kept_snoc : (words : List ℕ) (views : List View) (new : View) (h : Kept words views)
+kept_snoc : (words : List ℕ) (views : List View) (new : View) (h : IsOneList words views)
     → new.keeps ≡ false
     → ((n : ℕ) → Fits h.log h.seat n new)
     → ((k : Key) (j : ℕ) (u : View) → get_elem? views j ≡ some u → Holds u k → Holds new k → ⊥)
     → ((k : Key) (j : ℕ) (u : View) → get_elem? views j ≡ some u → u.keeps ≡ true → Holds new k → Has k u.born)
-    → Kept words (views ++ new ∷ [])
+    → IsOneList words (views ++ new ∷ [])
 kept_snoc words views new h plain fits alone born = record {
   seat = h.seat;
   log = h.log;
@@ -98,7 +98,7 @@ kept_snoc words views new h plain fits alone born = record {
 }
 
 -- The rule is kept if a pass is split in two and each key goes to one of the halves.
-fork : (words : List ℕ) (views : List View) (by : ℕ) (v left right : View) (h : Kept words views) → get_elem? views by ≡ some v
+fork : (words : List ℕ) (views : List View) (by : ℕ) (v left right : View) (h : IsOneList words views) → get_elem? views by ≡ some v
     → Fits h.log h.seat by left
     → ((n : ℕ) → Fits h.log h.seat n right)
     → ((k : Key) → Holds left k → Holds v k)
@@ -106,7 +106,7 @@ fork : (words : List ℕ) (views : List View) (by : ℕ) (v left right : View) (
     → ((k : Key) → Holds left k → Holds right k → ⊥)
     → (left.keeps ≡ true → (v.keeps ≡ true) × ((k : Key) → Has k v.born → Has k left.born))
     → right.keeps ≡ false
-    → Kept words (set views by left ++ right ∷ [])
+    → IsOneList words (set views by left ++ right ∷ [])
 unfolding kept_set
 fork words views by v left right h at fl fr ol or apart keeps plain =
     let g = kept_set words words views by v left h.log h at (λ j u n e f. f) fl ol keeps in
@@ -130,7 +130,7 @@ fits_holder : (log : List Note) (seat n : ℕ) (seen : List Note) (ks : List Key
 fits_holder log seat n seen ks c = ((λ e. absurd (off e)), c, continues_none log, λ k a b. b)
 
 -- The steps of passes.
-pub begins : (words : List ℕ) → Kept words (keeper [] [] ∷ [])
+pub begins : (words : List ℕ) → IsOneList words (keeper [] [] ∷ [])
 begins words = record {
   seat = 0;
   log = [];
@@ -147,20 +147,20 @@ begins words = record {
     no zero v k e h = ⊎_elim (λ (a : ⊥). a) (λ (b : ⊥). b) (subst (λ (z : View). Holds z k) (sym (some-injective _ _ e)) h)
     no (suc by) v k e h = absurd (some-ne-none v (sym e))
 
-pub forks_again : (by : ℕ) (v : View) → Forks Kept by v v (copied v)
+pub forks_again : (by : ℕ) (v : View) → Forks IsOneList by v v (copied v)
 forks_again by v x views h at =
     let f = h.fits by v at in
     fork x views by v v (copied v) h at f (λ n. fits_holder h.log h.seat n v.seen [] (f.1.0, f.1.1, λ k a. absurd a))
     (λ k a. a) (λ k a. absurd (none_holds v.seen k a)) (λ k a b. none_holds v.seen k b) (λ e. (e, λ k a. a)) refl
 
-pub forks_whole : (by : ℕ) (v : View) → v.keeps ≡ false → Forks Kept by v nobody v
+pub forks_whole : (by : ℕ) (v : View) → v.keeps ≡ false → Forks IsOneList by v nobody v
 forks_whole by v plain x views h at =
     let f = h.fits by v at in
     fork x views by v nobody v h at (fits_holder h.log h.seat by [] [] (continues_none h.log)) (λ n. ((λ e. absurd (off (sym plain ∙ e))), f.1, f.2, f.3))
     (λ k a. absurd (none_holds [] k a)) (λ k a. a) (λ k a b. none_holds [] k a) (λ e. absurd (off e)) plain
 
 pub forks_parts : (by : ℕ) (v : View) (ks rest : List Key) → v.asks ≡ [] → ((k : Key) → Has k (ks ++ rest) → Has k v.owns) → ((k : Key) → Has k ks → Has k rest → ⊥)
-    → Forks Kept by v (owning rest v) (claimed ks v)
+    → Forks IsOneList by v (owning rest v) (claimed ks v)
 forks_parts by v ks rest none within apart x views h at =
     let f = h.fits by v at in
     let no : (k : Key) → Has k v.asks → ⊥ = λ k a. subst (Has k) none a in
@@ -172,10 +172,10 @@ forks_parts by v ks rest none within apart x views h at =
     (λ k a b. ⊎_elim (λ p. ⊎_elim (λ q. apart k q p) (λ (q : ⊥). q) b) (λ p. no k p) a)
     (λ e. (e, λ k a. a)) refl
 
-pub forks_rest : (by : ℕ) (v : View) → v.asks ≡ [] → Forks Kept by v (owning [] v) (given v)
+pub forks_rest : (by : ℕ) (v : View) → v.asks ≡ [] → Forks IsOneList by v (owning [] v) (given v)
 forks_rest by v none = forks_parts by v v.owns [] none (λ k a. subst (Has k) (append-nil v.owns) a) (λ k a b. b)
 
-pub forks_claims : (by : ℕ) (v : View) (ks : List Key) → v.keeps ≡ true → ((k : Key) → Has k ks → Has k v.born → ⊥) → Forks Kept by v (claiming ks v) (claimed ks v)
+pub forks_claims : (by : ℕ) (v : View) (ks : List Key) → v.keeps ≡ true → ((k : Key) → Has k ks → Has k v.born → ⊥) → Forks IsOneList by v (claiming ks v) (claimed ks v)
 unfolding kept_set
 forks_claims by v ks keeps fresh x views h at =
     let f = h.fits by v at in
@@ -196,7 +196,7 @@ forks_claims by v ks keeps fresh x views h at =
     (at_set views by j left u e))
     (λ (b : ⊥). absurd b) hr)
 
-pub merges_shows : (by : ℕ) (v : View) (other : ℕ) (w : View) → v.asks ≡ [] → w.asks ≡ [] → Merges Kept by v other w (shown v w) nobody
+pub merges_shows : (by : ℕ) (v : View) (other : ℕ) (w : View) → v.asks ≡ [] → w.asks ≡ [] → Merges IsOneList by v other w (shown v w) nobody
 merges_shows by v other w none none' x views h at apart there = record {
   seat = h.seat;
   log = h.log;
@@ -251,7 +251,7 @@ merges_shows by v other w none none' x views h at apart there = record {
         (at_set views by i both a t.1))
         (at_set (set views by both) other i nobody a e)
 
-pub turns_takes_in : (by : ℕ) (v : View) → v.keeps ≡ true → Turns Kept by v (λ x. x) TakenIn
+pub turns_takes_in : (by : ℕ) (v : View) → v.keeps ≡ true → Turns IsOneList by v (λ x. x) TakenIn
 turns_takes_in by v keeps x views h at =
     let f = h.fits by v at in
     let whole = (f.0 keeps).1 in (
@@ -263,7 +263,7 @@ turns_takes_in by v keeps x views h at =
       (refl, (f.2.0, whole ∙ f.2.1, f.2.2), (λ k a. h.born by by v v k at at keeps (inr a)), f.3),
     )
 
-pub turns_learns : (by : ℕ) (v : View) → v.keeps ≡ false → Turns Kept by v (λ x. x) Learnt
+pub turns_learns : (by : ℕ) (v : View) → v.keeps ≡ false → Turns IsOneList by v (λ x. x) Learnt
 turns_learns by v plain x views h at =
     let f = h.fits by v at in
     let l = begins_longer v.seen v.mark h.log f.1.0 f.2.0 f.1.1 f.2.1 (nat_le (length v.seen) (length v.mark)) refl in
@@ -278,7 +278,7 @@ turns_learns by v plain x views h at =
       (refl, (mid, l.0.1, λ k a. spares_left k mid rest (spared k a)), l.1),
     )
 
-pub turns_appends : (by : ℕ) (v : View) (n : Note) → v.keeps ≡ true → v.asks ≡ [] → ((k : Key) → Has k n.keys → Has k v.owns) → Turns Kept by v (λ x. x) (Appended n)
+pub turns_appends : (by : ℕ) (v : View) (n : Note) → v.keeps ≡ true → v.asks ≡ [] → ((k : Key) → Has k n.keys → Has k v.owns) → Turns IsOneList by v (λ x. x) (Appended n)
 turns_appends by v n keeps none owns x views h at =
     let f = h.fits by v at in
     let whole = (f.0 keeps).1 in

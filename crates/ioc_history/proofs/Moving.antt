@@ -11,7 +11,7 @@ use Rattle.ioc_store.specs.World.{World, Has, at, put}
 use Rattle.ioc_store.specs.Scanning.{device_of, rewired, with_link_changed}
 use Rattle.ioc_store.specs.Worlds.{at-put_same}
 use Rattle.ioc_history.specs.Legal.{map_of}
-use Rattle.ioc_history.specs.Held.{AreHalves, WaitsWithin}
+use Rattle.ioc_history.specs.Covering.{AreHalves, WaitsWithin}
 use Rattle.ioc_history.specs.LinkChange.{link_note}
 use Rattle.ioc_history.specs.Laws.{LinkMoves}
 use Rattle.ioc_history.specs.EventLaws.{EventLaws}

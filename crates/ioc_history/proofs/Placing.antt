@@ -11,7 +11,7 @@ use Rattle.ioc_record.specs.RecordRules.{RecordRules}
 use Rattle.ioc_store.specs.World.{World, Has, begun, begun_at, has_place}
 use Rattle.ioc_store.specs.Weights.{weight_of}
 use Rattle.ioc_events.specs.Holding.{how_many, one_if_has, holders, IsCounted}
-use Rattle.ioc_history.specs.Held.{Holds}
+use Rattle.ioc_history.specs.Covering.{Holds}
 use Rattle.ioc_history.specs.Laws.{PlaceForOneMore, HeldAreFewer}
 use Rattle.ioc_history.proofs.Basics.{not_both, not_true, is-none, nobody-waits, passes-there}
 use Rattle.ioc_history.proofs.Summing.{point, same-point, of-number, holders-least}

@@ -11,7 +11,7 @@ use Rattle.ioc_store.specs.World.{World, Has, IsClosed, Keeps, at}
 use Rattle.ioc_store.specs.ScanLaws.{rewired-either}
 use Rattle.ioc_process.specs.Keeping.{keeps_all, closed_on, moved-keeps}
 use Rattle.ioc_store.specs.Scanning.{rewired}
-use Rattle.ioc_history.specs.Held.{AreHalves, WaitsWithin}
+use Rattle.ioc_history.specs.Covering.{AreHalves, WaitsWithin}
 use Rattle.ioc_history.specs.Laws.{RescansApart}
 use Rattle.ioc_history.proofs.Rewiring.{set-at, landed, rewired-get, rewired-waiting}
 use Rattle.ioc_history.proofs.Sharing.{none-there, one-in, from-one}

@@ -7,7 +7,7 @@ use Rattle.ioc_notify.specs.Waits.{at_record}
 use Rattle.ioc_record.specs.RecordRules.{RecordRules, targets}
 use Rattle.ioc_record.specs.Laws.{IsLawful}
 use Rattle.ioc_store.specs.World.{World, Has, IsClosed, at}
-use Rattle.ioc_history.specs.Held.{Holds, AreHalves}
+use Rattle.ioc_history.specs.Covering.{Holds, AreHalves}
 use Rattle.ioc_history.specs.Laws.{Falls, Opens, Gathers, HoldsAll}
 use Rattle.ioc_history.proofs.Basics.{not_both, is-none, missing-names}
 

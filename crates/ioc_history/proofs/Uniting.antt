@@ -8,7 +8,7 @@ use Rattle.std.proofs.lemmas.List.Elements.{Contains-append_cases, filter-append
 use Rattle.ioc_notify.specs.declared.waiting_lists.Waiting.{Waiting}
 use Rattle.ioc_notify.specs.Waits.{at_record}
 use Rattle.ioc_store.specs.World.{World, Has}
-use Rattle.ioc_history.specs.Held.{AreHalves, WaitsWithin}
+use Rattle.ioc_history.specs.Covering.{AreHalves, WaitsWithin}
 use Rattle.ioc_history.proofs.Basics.{is-none, nobody-waits}
 use Rattle.ioc_history.proofs.Sharing.{none-there, there-as, one-in, turned, from-one}
 

@@ -11,7 +11,7 @@ use Rattle.ioc_events.specs.declared.event.Event.{Event}
 use Rattle.ioc_events.specs.declared.event.Event.TheVariants.{Notify}
 use Rattle.ioc_history.specs.declared.entry.JournalEntry.{JournalEntry}
 use Rattle.ioc_history.specs.declared.entry.Note.{Note}
-use Rattle.ioc_history.specs.declared.room.View.{View}
+use Rattle.ioc_history.specs.declared.cell.View.{View}
 use Rattle.ioc_history.specs.Key.{Key, Has}
 use Rattle.ioc_history.specs.Line.{holder, noted, Continues, Begins}
 use Rattle.ioc_history.specs.Legal.{IsLegal, IsSound, notifications_key}

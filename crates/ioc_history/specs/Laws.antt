@@ -22,7 +22,7 @@ use Rattle.ioc_events.specs.Starting.{NoneReady}
 use Rattle.ioc_events.specs.Step.{stepped, names}
 use Rattle.ioc_events.specs.StepRules.{Replay, KeepsRecords}
 use Rattle.ioc_history.specs.Legal.{IsLegal, IsSound, AreLiveAlike, notifications_key, entries_of, map_of}
-use Rattle.ioc_history.specs.Held.{Holds, AreSpared, IsDone, IsOf, Cover, AreHalves, WaitsWithin, is_question, question_note}
+use Rattle.ioc_history.specs.Covering.{Holds, AreSpared, IsDone, IsOf, Cover, AreHalves, WaitsWithin, is_question, question_note}
 use Rattle.ioc_history.specs.LinkChange.{TakesLink, link_note}
 
 module _ {R : Type 0} (k : RecordRules R) where

@@ -1,8 +1,8 @@
 pub mod Account
 pub mod DeskCode
 pub mod EventLaws
-pub mod Held
-pub mod Kept
+pub mod Covering
+pub mod Desks
 pub mod Key
 pub mod KeyLaws
 pub mod Laws

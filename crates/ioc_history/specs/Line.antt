@@ -7,7 +7,7 @@ use Rattle.ioc_events.specs.declared.event.Event.TheVariants.{Process}
 use Rattle.ioc_events.specs.declared.reply.Reply.TheVariants.{Plain}
 use Rattle.ioc_history.specs.declared.entry.JournalEntry.{JournalEntry}
 use Rattle.ioc_history.specs.declared.entry.Note.{Note}
-use Rattle.ioc_history.specs.declared.room.View.{View}
+use Rattle.ioc_history.specs.declared.cell.View.{View}
 use Rattle.ioc_history.specs.Key.{Key, Has}
 
 -- The name that no cell has.
@@ -102,7 +102,7 @@ Holds v k = Has k v.owns ⊎ Has k v.asks
 
 -- The rule of the cell. There is one list, each list that was seen is a beginning of it, and what
 -- follows has none of the keys of that pass. No two passes own the same key.
-pub record Kept (words : List ℕ) (views : List View) : Type 0 where
+pub record IsOneList (words : List ℕ) (views : List View) : Type 0 where
   pub seat : ℕ
   pub log : List Note
   pub fits : (by : ℕ) (v : View) → get_elem? views by ≡ some v → Fits log seat by v

@@ -3,9 +3,9 @@ ghost use Rattle.std.specs.Prelude.{◌≡◌};
 ghost use Rattle.ioc_history.specs.Line.{longer, Begins};
 ghost use Rattle.ioc_history.specs.Account.{IsAccount, calls, calls_by};
 
-use crate::base::Base;
+use crate::engine_name::EngineName;
 use crate::receipt::Receipt;
-use crate::{Cell, Token, pass};
+use crate::{Cell, KeyPass, pass};
 use ioc_record::RecordKind;
 use std::marker::{Model, PhantomData};
 use std::sync::Wait;
@@ -13,15 +13,15 @@ use std::sync::Wait;
 /// A caller of an engine. Contracts see its number, the number of its next call, and the beginning
 /// of the journal's list that it has seen.
 #[derive(Drop)]
-pub struct Desk<K: RecordKind, B: Base<K>> {
+pub struct Desk<K: RecordKind, B: EngineName<K>> {
     pub(crate) number: u64,
     pub(crate) next: u64,
-    pub(crate) pass: Token,
+    pub(crate) pass: KeyPass,
     pub(crate) of: PhantomData<B>,
     pub(crate) kind: PhantomData<K>,
 }
 
-impl<K: RecordKind, B: Base<K>> Model for Desk<K, B> {
+impl<K: RecordKind, B: EngineName<K>> Model for Desk<K, B> {
     ghost use Rattle.ioc_history.specs.Account.{DeskView};
     ghost use Rattle.ioc_history.specs.DeskCode.{desk_code};
 
@@ -31,14 +31,14 @@ impl<K: RecordKind, B: Base<K>> Model for Desk<K, B> {
 
     ghost use Rattle.crossbeam_utils.specs.Seq.{cell_view};
     ghost use Rattle.ioc_history.specs.Account.{desk_view};
-    ghost use Rattle.ioc_history.specs.Kept.{IsDesk};
+    ghost use Rattle.ioc_history.specs.Desks.{IsDesk};
 
     ghost view = { λ d. desk_view d.number d.next (cell_view d.pass).seen };
 
     ghost invariant = { λ d. IsDesk K.rules B.base B.table d.pass.table_id (cell_view d.pass) d.number d.next };
 }
 
-impl<K: RecordKind, B: Base<K>> Desk<K, B> {
+impl<K: RecordKind, B: EngineName<K>> Desk<K, B> {
     /// Moves on to the list of a receipt, if that is longer than the list that the desk has seen.
     /// Afterwards both lists are beginnings of the one that the desk knows.
     pub fn learn<R: Wait>(&mut self, rt: &R, cell: &Cell, receipt: &mut Receipt<K, B>)
@@ -51,7 +51,7 @@ impl<K: RecordKind, B: Base<K>> Desk<K, B> {
         ensures legal { IsAccount K.rules B.base self.new.seen }
         ensures receipt { receipt.new ≡ receipt.old }
     {
-        let copy = pass::again(cell, &mut receipt.pass);
+        let copy = pass::copy(cell, &mut receipt.pass);
         pass::learn(rt, cell, &mut self.pass, copy);
     }
 }

@@ -5,15 +5,15 @@ ghost use Rattle.ioc_history.specs.Line.{keeper, holder, Continues};
 ghost use Rattle.ioc_history.specs.Legal.{IsLegal, IsSound};
 ghost use Rattle.ioc_history.specs.Account.{IsAccount, IsHolder};
 
-use crate::base::Base;
-use crate::book::Book;
+use crate::engine_name::EngineName;
 use crate::journal::Journal;
-use crate::{Cell, Token, pass};
+use crate::shared_journal::SharedJournal;
+use crate::{Cell, KeyPass, pass};
 use ioc_record::RecordKind;
 use std::sync::Wait;
 
 // Moves a pass on to the whole list.
-fn tell<R: Wait>(rt: &R, cell: &Cell, master: &mut Token, set: &mut Token)
+fn learn_whole<R: Wait>(rt: &R, cell: &Cell, master: &mut KeyPass, set: &mut KeyPass)
     requires table { (master.old.table_id ≡ cell.now.table.shared.table_id) × (set.old.table_id ≡ master.old.table_id) }
     requires keeper { cell_view master.old ≡ keeper (cell_view master.old).seen (cell_view master.old).born }
     requires set { IsHolder (cell_view set.old) }
@@ -23,13 +23,13 @@ fn tell<R: Wait>(rt: &R, cell: &Cell, master: &mut Token, set: &mut Token)
 {
     let theirs = pass::whole(cell, set);
     pass::take_in(rt, cell, master, theirs);
-    *set = pass::rest(cell, master);
+    *set = pass::give_all(cell, master);
 }
 
-impl<K: RecordKind, B: Base<K>> Journal<K, B> {
+impl<K: RecordKind, B: EngineName<K>> Journal<K, B> {
     /// Moves the pass of a set on to the whole list, which continues from what the pass had seen
     /// without its keys.
-    pub fn tell_all<R: Wait>(&mut self, rt: &R, cell: &Cell, set: &mut Token)
+    pub fn tell_all<R: Wait>(&mut self, rt: &R, cell: &Cell, set: &mut KeyPass)
         requires table { (cell.now.table.shared.table_id ≡ B.table) × (set.old.table_id ≡ B.table) }
         requires set { IsHolder (cell_view set.old) }
         ensures set { (set.new.table_id ≡ set.old.table_id) × (cell_view set.new ≡ holder self.old.filled (cell_view set.old).owns) }
@@ -37,7 +37,7 @@ impl<K: RecordKind, B: Base<K>> Journal<K, B> {
         ensures legal { IsSound K.rules B.base × IsLegal K.rules B.base self.old.filled }
         ensures same { self.new ≡ self.old }
     {
-        tell(rt, cell, &mut self.pass, set);
+        learn_whole(rt, cell, &mut self.pass, set);
     }
 
     /// The world at the load is sound, and the list is legal from there on.
@@ -49,12 +49,12 @@ impl<K: RecordKind, B: Base<K>> Journal<K, B> {
     }
 }
 
-impl<K: RecordKind, B: Base<K>> Book<K, B> {
+impl<K: RecordKind, B: EngineName<K>> SharedJournal<K, B> {
     /// Returns the cell and the journal, without their lock.
     pub fn into_parts(self) -> (Cell, Journal<K, B>)
         ensures { result.0.table.shared.table_id ≡ B.table }
     {
-        let Book { cell, journal } = self;
+        let SharedJournal { cell, journal } = self;
         (cell, journal.into_inner())
     }
 }

@@ -4,10 +4,10 @@ ghost use Rattle.std.specs.Option.{option_map};
 ghost use Rattle.ioc_history.specs.Account.{journalled};
 ghost use Rattle.ioc_history.specs.Places.{AreAllowed, places_of, one_more_held, HoldsOne, HoldsNone};
 
-use crate::base::Base;
+use crate::JournalEntry;
+use crate::engine_name::EngineName;
 use crate::limits::Limits;
 use ioc_events::Entry;
-use crate::JournalEntry;
 use ioc_values::IocError;
 use std::alloc::Global;
 use std::marker::{Model, PhantomData};
@@ -17,12 +17,12 @@ use std::sync::ledger::{Blank, Book, Ledger, Share};
 pub const PLACES: u64 = u64::MAX;
 
 /// The ledger of the places that are held in an engine's journal.
-pub struct Places<K, B: Base<K>> {
+pub struct Places<K, B: EngineName<K>> {
     of: PhantomData<B>,
     kind: PhantomData<K>,
 }
 
-impl<K, B: Base<K>> Ledger for Places<K, B> {
+impl<K, B: EngineName<K>> Ledger for Places<K, B> {
     ghost name = { B.places };
 
     ghost parts = { 18446744073709551615 };
@@ -30,7 +30,7 @@ impl<K, B: Base<K>> Ledger for Places<K, B> {
 
 /// A held place of the journal, with memory reserved for its entry. It can't be dropped: it has to
 /// be filled or given back.
-pub struct Place<K, B: Base<K>> {
+pub struct Place<K, B: EngineName<K>> {
     share: Share<Places<K, B>>,
     ghost one: { (share.parts ≡ 1) × (share.amount ≡ 1) },
 }
@@ -38,7 +38,7 @@ pub struct Place<K, B: Base<K>> {
 /// Entries, with memory reserved for each held place. Contracts see the list of the entries, the
 /// number of held places, and the limit.
 #[derive(Drop)]
-pub struct Entries<K, B: Base<K>> {
+pub struct Entries<K, B: EngineName<K>> {
     items: Vec<JournalEntry>,
     held: u64,
     limit: u64,
@@ -46,7 +46,7 @@ pub struct Entries<K, B: Base<K>> {
     pool: Share<Places<K, B>>,
 }
 
-impl<K, B: Base<K>> Model for Entries<K, B> {
+impl<K, B: EngineName<K>> Model for Entries<K, B> {
     ghost use Rattle.ioc_history.specs.declared.entry.JournalEntry.{JournalEntry};
     ghost use Rattle.ioc_history.specs.Places.{PlacesOf};
     ghost use Rattle.ioc_history.specs.PlacesCode.{entries_code};
@@ -64,7 +64,7 @@ impl<K, B: Base<K>> Model for Entries<K, B> {
         × (vec_len e.items + e.held ≤ e.limit) × (e.limit ≤ 4194304) };
 }
 
-impl<K, B: Base<K>> Entries<K, B> {
+impl<K, B: EngineName<K>> Entries<K, B> {
     /// No entries and no held places. `blank` has [`PLACES`] parts.
     pub fn new(alloc: Global, blank: Blank, limits: Limits) -> Self
         requires name { blank.name ≡ B.places }

@@ -8,14 +8,14 @@ ghost use Rattle.ioc_values.specs.declared.error.IocError.TheVariants.{JournalFu
 ghost use Rattle.ioc_history.specs.Account.{AreNoDesks, AreRecords, IsHolder, MayFollow, BothMayFollow, MayBegin, Call, Added, AddedByBoth, AreMerged, calls, calls_by};
 ghost use Rattle.ioc_history.specs.Places.{AreAllowed, places, journal_of, one_more_held, one_more_desk, HoldsOne, HoldsNone};
 
-use crate::base::Base;
-use crate::dealing::{deal, take_over};
 use crate::desk::Desk;
+use crate::engine_name::EngineName;
 use crate::entries::{Entries, Place};
+use crate::key_division::{deal, take_over};
 use crate::limits::Limits;
 use crate::receipt::Receipt;
+use crate::{Cell, KeyPass, Keys, pass};
 use ioc_events::Entry;
-use crate::{Cell, Keys, Token, pass};
 use ioc_record::RecordKind;
 use ioc_values::IocError;
 use std::alloc::Global;
@@ -27,13 +27,13 @@ use std::sync::ledger::Blank;
 /// the keys that each call concerns, the number of held places, the limit, and the number of desks
 /// that were opened.
 #[derive(Drop)]
-pub struct Journal<K: RecordKind, B: Base<K>> {
+pub struct Journal<K: RecordKind, B: EngineName<K>> {
     pub(crate) entries: Entries<K, B>,
     desks: u64,
-    pub(crate) pass: Token,
+    pub(crate) pass: KeyPass,
 }
 
-impl<K: RecordKind, B: Base<K>> Model for Journal<K, B> {
+impl<K: RecordKind, B: EngineName<K>> Model for Journal<K, B> {
     ghost use Rattle.ioc_history.specs.declared.entry.Note.{Note};
     ghost use Rattle.ioc_history.specs.Places.{JournalOf};
     ghost use Rattle.ioc_history.specs.PlacesCode.{journal_code};
@@ -43,7 +43,7 @@ impl<K: RecordKind, B: Base<K>> Model for Journal<K, B> {
     ghost coded = { journal_code };
 
     ghost use Rattle.crossbeam_utils.specs.Seq.{cell_view};
-    ghost use Rattle.ioc_history.specs.Kept.{IsKept};
+    ghost use Rattle.ioc_history.specs.Desks.{IsKept};
     ghost use Rattle.ioc_history.specs.Places.{journal_of};
 
     ghost view = { λ j. journal_of (cell_view j.pass).seen j.entries.held j.entries.limit j.desks };
@@ -51,9 +51,9 @@ impl<K: RecordKind, B: Base<K>> Model for Journal<K, B> {
     ghost invariant = { λ j. IsKept K.rules B.base B.table j.pass.table_id (cell_view j.pass) j.entries.filled j.desks };
 }
 
-impl<K: RecordKind, B: Base<K>> Journal<K, B> {
+impl<K: RecordKind, B: EngineName<K>> Journal<K, B> {
     /// A journal without calls. The keeper's pass has created only keys of records.
-    pub fn new(alloc: Global, master: Token, blank: Blank, limits: Limits) -> Self
+    pub fn new(alloc: Global, master: KeyPass, blank: Blank, limits: Limits) -> Self
         requires table { master.table_id ≡ B.table }
         requires pass { cell_view master ≡ keeper [] (cell_view master).born }
         requires given { AreNoDesks (cell_view master).born }
@@ -130,7 +130,7 @@ impl<K: RecordKind, B: Base<K>> Journal<K, B> {
         rt: &R,
         cell: &Cell,
         place: Place<K, B>,
-        set: &mut Token,
+        set: &mut KeyPass,
         desk: &mut Desk<K, B>,
         entry: Entry,
     ) -> Receipt<K, B>
@@ -167,8 +167,8 @@ impl<K: RecordKind, B: Base<K>> Journal<K, B> {
         rt: &R,
         cell: &Cell,
         place: Place<K, B>,
-        one: &mut Token,
-        other: &mut Token,
+        one: &mut KeyPass,
+        other: &mut KeyPass,
         desk: &mut Desk<K, B>,
         entry: Entry,
     ) -> Receipt<K, B>
@@ -204,7 +204,7 @@ impl<K: RecordKind, B: Base<K>> Journal<K, B> {
     }
 
     /// Compares two passes: they have no key in common. Afterwards both know the whole list.
-    pub fn compare<R: Wait>(&mut self, rt: &R, cell: &Cell, one: &mut Token, other: &mut Token)
+    pub fn compare<R: Wait>(&mut self, rt: &R, cell: &Cell, one: &mut KeyPass, other: &mut KeyPass)
         requires table { (cell.now.table.shared.table_id ≡ B.table) × (one.old.table_id ≡ B.table) × (other.old.table_id ≡ B.table) }
         requires holders { IsHolder (cell_view one.old) × IsHolder (cell_view other.old) }
         ensures one { (one.new.table_id ≡ one.old.table_id) × (cell_view one.new ≡ holder self.old.filled (cell_view one.old).owns) }
@@ -219,7 +219,7 @@ impl<K: RecordKind, B: Base<K>> Journal<K, B> {
 
     /// Moves the keys of the second pass to the first. Afterwards the second owns nothing, and both
     /// know the whole list.
-    pub fn merge<R: Wait>(&mut self, rt: &R, cell: &Cell, one: &mut Token, other: &mut Token)
+    pub fn merge<R: Wait>(&mut self, rt: &R, cell: &Cell, one: &mut KeyPass, other: &mut KeyPass)
         requires table { (cell.now.table.shared.table_id ≡ B.table) × (one.old.table_id ≡ B.table) × (other.old.table_id ≡ B.table) }
         requires holders { IsHolder (cell_view one.old) × IsHolder (cell_view other.old) }
         ensures table { (one.new.table_id ≡ one.old.table_id) × (other.new.table_id ≡ other.old.table_id) }

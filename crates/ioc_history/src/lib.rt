@@ -18,28 +18,28 @@
 //! possible run of an engine with all records in one map.
 #![tactic(auto)]
 
-pub mod base;
-pub mod book;
-mod dealing;
+pub mod cell;
 pub mod desk;
 mod ending;
+pub mod engine_name;
 pub mod entries;
 pub mod entry;
 pub mod journal;
+mod key_division;
 pub mod legal_laws;
 pub mod limits;
 mod lookup;
 pub mod pass;
 pub mod receipt;
 pub mod relink;
-pub mod room;
+pub mod shared_journal;
 
-pub use base::Base;
-pub use book::Book;
+pub use cell::{Cell, CellName, KeyPass, Keys, NoteName};
 pub use desk::Desk;
+pub use engine_name::EngineName;
 pub use entries::{Entries, PLACES, Place, Places};
 pub use entry::JournalEntry;
 pub use journal::Journal;
 pub use limits::Limits;
 pub use receipt::Receipt;
-pub use room::{Cell, Keys, Room, Said, Token};
+pub use shared_journal::SharedJournal;

@@ -5,26 +5,26 @@ ghost use Rattle.crossbeam_utils.specs.Seq.{cell_view};
 ghost use Rattle.ioc_history.specs.Line.{keeper, Begins};
 ghost use Rattle.ioc_history.specs.Account.{calls, IsEntryOf};
 
-use crate::base::Base;
+use crate::engine_name::EngineName;
 use crate::journal::Journal;
 use crate::receipt::Receipt;
-use crate::{Cell, JournalEntry, Token, pass};
+use crate::{Cell, JournalEntry, KeyPass, pass};
 use ioc_record::RecordKind;
 use std::sync::Wait;
 
 // Compares a pass with the keeper's list, which begins with what the pass has seen.
-fn compare_one<R: Wait>(rt: &R, cell: &Cell, master: &mut Token, one: &mut Token)
+fn compare_one<R: Wait>(rt: &R, cell: &Cell, master: &mut KeyPass, one: &mut KeyPass)
     requires table { (master.old.table_id ≡ cell.now.table.shared.table_id) × (one.old.table_id ≡ master.old.table_id) }
     requires keeper { cell_view master.old ≡ keeper (cell_view master.old).seen (cell_view master.old).born }
     ensures keeper { (master.new.table_id ≡ master.old.table_id) × (cell_view master.new ≡ cell_view master.old) }
     ensures one { (one.new.table_id ≡ one.old.table_id) × (cell_view one.new ≡ cell_view one.old) }
     ensures begins { Begins (cell_view one.old).seen (cell_view master.old).seen }
 {
-    let copy = pass::again(cell, one);
+    let copy = pass::copy(cell, one);
     pass::take_in(rt, cell, master, copy);
 }
 
-impl<K: RecordKind, B: Base<K>> Journal<K, B> {
+impl<K: RecordKind, B: EngineName<K>> Journal<K, B> {
     /// Returns the number of calls. With the held places it is at most the limit.
     pub fn len(&self) -> usize
         ensures count { result ≡ length self.now.filled }

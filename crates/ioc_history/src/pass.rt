@@ -3,13 +3,13 @@ ghost use Rattle.std.specs.Prelude.{◌≡◌, ℕ, List, [], ◌∷◌, ◌++�
 ghost use Rattle.crossbeam_utils.specs.Register.{Forks, Turns};
 ghost use Rattle.crossbeam_utils.specs.Seq.{cell_view};
 ghost use Rattle.ioc_history.specs.Key.{Key, Has};
-ghost use Rattle.ioc_history.specs.Line.{keeper, holder, nobody, copied, claiming, claimed, owning, shown, took, longer, learnt, added, given, noted, Continues, Begins, Kept};
+ghost use Rattle.ioc_history.specs.Line.{keeper, holder, nobody, copied, claiming, claimed, owning, shown, took, longer, learnt, added, given, noted, Continues, Begins, IsOneList};
 
-use crate::entry::JournalEntry;
-use crate::room::{
-    Again, Appends, Cell, Claims, Keys, Learns, Parts, Rest, Said, Shows, TakesIn, Token, View,
-    Whole,
+use crate::cell::{
+    Again, Appends, Cell, Claims, KeyPass, Keys, Learns, NoteName, Parts, Rest, Shows, TakesIn,
+    View, Whole,
 };
+use crate::entry::JournalEntry;
 use atomic_table::Split;
 use crossbeam_utils::rule::Outcome;
 use std::marker::Brand;
@@ -17,9 +17,9 @@ use std::sync::Wait;
 
 // Splits the view of a pass in two and returns a new pass with the second half.
 #[inline(always)]
-fn cut<M: Split<View>>(cell: &Cell, pass: &mut Token) -> Token
+fn cut<M: Split<View>>(cell: &Cell, pass: &mut KeyPass) -> KeyPass
     requires table { pass.old.table_id ≡ cell.now.table.shared.table_id }
-    requires rule { Forks Kept pass.old.id (cell_view pass.old) (M.left (cell_view pass.old)) (M.right (cell_view pass.old)) }
+    requires rule { Forks IsOneList pass.old.id (cell_view pass.old) (M.left (cell_view pass.old)) (M.right (cell_view pass.old)) }
     ensures kept { (pass.new.table_id ≡ pass.old.table_id) × (cell_view pass.new ≡ M.left (cell_view pass.old)) }
     ensures given { (result.table_id ≡ pass.old.table_id) × (result.me.1 ≡ []) × (cell_view result ≡ M.right (cell_view pass.old)) }
 {
@@ -28,7 +28,7 @@ fn cut<M: Split<View>>(cell: &Cell, pass: &mut Token) -> Token
 
 // Joins another pass to a pass, so that the two can be compared.
 #[inline(always)]
-fn lay_beside(cell: &Cell, pass: &mut Token, other: Token)
+fn lay_beside(cell: &Cell, pass: &mut KeyPass, other: KeyPass)
     requires table { (pass.old.table_id ≡ cell.now.table.shared.table_id) × (other.table_id ≡ pass.old.table_id) × (other.me.1 ≡ []) }
     requires asks { ((cell_view pass.old).asks ≡ []) × ((cell_view other).asks ≡ []) }
     ensures { (pass.new.table_id ≡ pass.old.table_id) × (cell_view pass.new ≡ shown (cell_view pass.old) (cell_view other)) }
@@ -37,7 +37,7 @@ fn lay_beside(cell: &Cell, pass: &mut Token, other: Token)
 }
 
 /// Returns a new pass that has seen the same list and owns no key.
-pub fn again(cell: &Cell, pass: &mut Token) -> Token
+pub fn copy(cell: &Cell, pass: &mut KeyPass) -> KeyPass
     requires { pass.old.table_id ≡ cell.now.table.shared.table_id }
     ensures kept { (pass.new.table_id ≡ pass.old.table_id) × (cell_view pass.new ≡ cell_view pass.old) }
     ensures given { (result.table_id ≡ pass.old.table_id) × (result.me.1 ≡ []) × (cell_view result ≡ copied (cell_view pass.old)) }
@@ -46,7 +46,7 @@ pub fn again(cell: &Cell, pass: &mut Token) -> Token
 }
 
 /// Moves all that a pass knows and owns into a new pass.
-pub fn whole(cell: &Cell, pass: &mut Token) -> Token
+pub fn whole(cell: &Cell, pass: &mut KeyPass) -> KeyPass
     requires table { pass.old.table_id ≡ cell.now.table.shared.table_id }
     requires keeps { (cell_view pass.old).keeps ≡ false }
     ensures kept { (pass.new.table_id ≡ pass.old.table_id) × (cell_view pass.new ≡ nobody) }
@@ -56,7 +56,7 @@ pub fn whole(cell: &Cell, pass: &mut Token) -> Token
 }
 
 /// Creates new keys: the keeper's pass records them, and the returned pass owns them.
-pub fn claim<K: Keys>(cell: &Cell, master: &mut Token) -> Token
+pub fn claim<K: Keys>(cell: &Cell, master: &mut KeyPass) -> KeyPass
     requires table { master.old.table_id ≡ cell.now.table.shared.table_id }
     requires keeps { (cell_view master.old).keeps ≡ true }
     requires fresh { (k : Key) → Has k K.keys → Has k (cell_view master.old).born → ⊥ }
@@ -67,7 +67,7 @@ pub fn claim<K: Keys>(cell: &Cell, master: &mut Token) -> Token
 }
 
 /// Moves some of the keys to a new pass, which has seen the same list.
-pub fn part<K: Keys>(cell: &Cell, pass: &mut Token) -> Token
+pub fn part<K: Keys>(cell: &Cell, pass: &mut KeyPass) -> KeyPass
     requires table { pass.old.table_id ≡ cell.now.table.shared.table_id }
     requires asks { (cell_view pass.old).asks ≡ [] }
     requires within { (k : Key) → Has k (K.keys ++ K.rest) → Has k (cell_view pass.old).owns }
@@ -80,9 +80,9 @@ pub fn part<K: Keys>(cell: &Cell, pass: &mut Token) -> Token
 
 // Makes a step of one pass that the rule allows. The word of the cell stays as it is.
 #[inline(always)]
-fn step<O: Outcome<[u64; 1], View>, R: Wait>(rt: &R, cell: &Cell, pass: &mut Token)
+fn step<O: Outcome<[u64; 1], View>, R: Wait>(rt: &R, cell: &Cell, pass: &mut KeyPass)
     requires table { pass.old.table_id ≡ cell.now.table.shared.table_id }
-    requires rule { Turns Kept pass.old.id (cell_view pass.old) (λ x. x) O.then }
+    requires rule { Turns IsOneList pass.old.id (cell_view pass.old) (λ x. x) O.then }
     ensures table { pass.new.table_id ≡ pass.old.table_id }
     ensures rule { (word : List ℕ) × O.then (cell_view pass.old) word word (cell_view pass.new) }
 {
@@ -91,7 +91,7 @@ fn step<O: Outcome<[u64; 1], View>, R: Wait>(rt: &R, cell: &Cell, pass: &mut Tok
 
 /// Moves the keys of a pass into the keeper's. No note since what that pass had seen has any of its
 /// keys.
-pub fn take_in<R: Wait>(rt: &R, cell: &Cell, master: &mut Token, other: Token)
+pub fn take_in<R: Wait>(rt: &R, cell: &Cell, master: &mut KeyPass, other: KeyPass)
     requires table { (master.old.table_id ≡ cell.now.table.shared.table_id) × (other.table_id ≡ master.old.table_id) × (other.me.1 ≡ []) }
     requires keeps { ((cell_view master.old).keeps ≡ true) × ((cell_view master.old).mark ≡ []) × ((cell_view master.old).asks ≡ []) }
     requires other { ((cell_view other).keeps ≡ false) × ((cell_view other).asks ≡ []) }
@@ -105,7 +105,7 @@ pub fn take_in<R: Wait>(rt: &R, cell: &Cell, master: &mut Token, other: Token)
 }
 
 /// Moves a pass on to the longer of the lists that it and another pass have seen.
-pub fn learn<R: Wait>(rt: &R, cell: &Cell, pass: &mut Token, other: Token)
+pub fn learn<R: Wait>(rt: &R, cell: &Cell, pass: &mut KeyPass, other: KeyPass)
     requires table { (pass.old.table_id ≡ cell.now.table.shared.table_id) × (other.table_id ≡ pass.old.table_id) × (other.me.1 ≡ []) }
     requires pass { ((cell_view pass.old).keeps ≡ false) × ((cell_view pass.old).asks ≡ []) }
     requires other { ((cell_view other).keeps ≡ false) × ((cell_view other).owns ≡ []) × ((cell_view other).asks ≡ []) }
@@ -118,7 +118,7 @@ pub fn learn<R: Wait>(rt: &R, cell: &Cell, pass: &mut Token, other: Token)
 }
 
 /// Moves all keys to a new pass, which has seen the same list.
-pub fn rest(cell: &Cell, pass: &mut Token) -> Token
+pub fn give_all(cell: &Cell, pass: &mut KeyPass) -> KeyPass
     requires table { pass.old.table_id ≡ cell.now.table.shared.table_id }
     requires asks { (cell_view pass.old).asks ≡ [] }
     ensures kept { (pass.new.table_id ≡ pass.old.table_id) × (cell_view pass.new ≡ owning [] (cell_view pass.old)) }
@@ -128,7 +128,7 @@ pub fn rest(cell: &Cell, pass: &mut Token) -> Token
 }
 
 /// Adds a note to the list. The keeper's pass has to own all keys of the note.
-pub fn note_down<S: Said, R: Wait>(rt: &R, cell: &Cell, master: &mut Token)
+pub fn note_down<S: NoteName, R: Wait>(rt: &R, cell: &Cell, master: &mut KeyPass)
     requires table { master.old.table_id ≡ cell.now.table.shared.table_id }
     requires keeps { ((cell_view master.old).keeps ≡ true) × ((cell_view master.old).asks ≡ []) }
     requires owns { (k : Key) → Has k S.note.keys → Has k (cell_view master.old).owns }
@@ -137,14 +137,14 @@ pub fn note_down<S: Said, R: Wait>(rt: &R, cell: &Cell, master: &mut Token)
     step::<Appends<S>, R>(rt, cell, master);
 }
 
-fn append_as<K: Keys, S: Said, R: Wait>(
+fn append_as<K: Keys, S: NoteName, R: Wait>(
     rt: &R,
     cell: &Cell,
-    master: &mut Token,
-    set: &mut Token,
-    desk: &mut Token,
+    master: &mut KeyPass,
+    set: &mut KeyPass,
+    desk: &mut KeyPass,
     entry: &JournalEntry,
-) -> Token
+) -> KeyPass
     requires table { (master.old.table_id ≡ cell.now.table.shared.table_id) × (set.old.table_id ≡ master.old.table_id) × (desk.old.table_id ≡ master.old.table_id) }
     requires keeper { cell_view master.old ≡ keeper (cell_view master.old).seen (cell_view master.old).born }
     requires set { cell_view set.old ≡ holder (cell_view set.old).seen K.keys }
@@ -164,8 +164,8 @@ fn append_as<K: Keys, S: Said, R: Wait>(
     take_in(rt, cell, master, own);
     note_down::<S, R>(rt, cell, master);
     *set = part::<K>(cell, master);
-    *desk = rest(cell, master);
-    again(cell, master)
+    *desk = give_all(cell, master);
+    copy(cell, master)
 }
 
 /// Adds an entry to the list and returns the pass of its receipt. The caller holds the journal's
@@ -174,11 +174,11 @@ fn append_as<K: Keys, S: Said, R: Wait>(
 pub fn append<R: Wait>(
     rt: &R,
     cell: &Cell,
-    master: &mut Token,
-    set: &mut Token,
-    desk: &mut Token,
+    master: &mut KeyPass,
+    set: &mut KeyPass,
+    desk: &mut KeyPass,
     entry: &JournalEntry,
-) -> Token
+) -> KeyPass
     requires table { (master.old.table_id ≡ cell.now.table.shared.table_id) × (set.old.table_id ≡ master.old.table_id) × (desk.old.table_id ≡ master.old.table_id) }
     requires keeper { cell_view master.old ≡ keeper (cell_view master.old).seen (cell_view master.old).born }
     requires set { cell_view set.old ≡ holder (cell_view set.old).seen (cell_view set.old).owns }
@@ -194,7 +194,7 @@ pub fn append<R: Wait>(
     append_as::<Brand, Brand, R>(rt, cell, master, set, desk, entry)
 }
 
-fn claim_as<K: Keys>(cell: &Cell, master: &mut Token, kind: u64, number: u64) -> Token
+fn claim_as<K: Keys>(cell: &Cell, master: &mut KeyPass, kind: u64, number: u64) -> KeyPass
     requires table { master.old.table_id ≡ cell.now.table.shared.table_id }
     requires keeps { (cell_view master.old).keeps ≡ true }
     requires keys { K.keys ≡ (kind, number) ∷ [] }
@@ -207,7 +207,7 @@ fn claim_as<K: Keys>(cell: &Cell, master: &mut Token, kind: u64, number: u64) ->
 }
 
 /// Creates a new key and returns the pass that owns it, which knows the whole list.
-pub fn claim_key(cell: &Cell, master: &mut Token, kind: u64, number: u64) -> Token
+pub fn claim_key(cell: &Cell, master: &mut KeyPass, kind: u64, number: u64) -> KeyPass
     requires table { master.old.table_id ≡ cell.now.table.shared.table_id }
     requires keeps { (cell_view master.old).keeps ≡ true }
     requires fresh { Has (kind, number) (cell_view master.old).born → ⊥ }
@@ -220,9 +220,9 @@ pub fn claim_key(cell: &Cell, master: &mut Token, kind: u64, number: u64) -> Tok
 fn compare_as<K: Keys, R: Wait>(
     rt: &R,
     cell: &Cell,
-    master: &mut Token,
-    a: &mut Token,
-    b: &mut Token,
+    master: &mut KeyPass,
+    a: &mut KeyPass,
+    b: &mut KeyPass,
 )
     requires table { (master.old.table_id ≡ cell.now.table.shared.table_id) × (a.old.table_id ≡ master.old.table_id) × (b.old.table_id ≡ master.old.table_id) }
     requires keeper { cell_view master.old ≡ keeper (cell_view master.old).seen (cell_view master.old).born }
@@ -239,11 +239,11 @@ fn compare_as<K: Keys, R: Wait>(
     let own = whole(cell, b);
     take_in(rt, cell, master, own);
     *a = part::<K>(cell, master);
-    *b = rest(cell, master);
+    *b = give_all(cell, master);
 }
 
 /// Compares two passes: they have no key in common. Afterwards both know the whole list.
-pub fn compare<R: Wait>(rt: &R, cell: &Cell, master: &mut Token, a: &mut Token, b: &mut Token)
+pub fn compare<R: Wait>(rt: &R, cell: &Cell, master: &mut KeyPass, a: &mut KeyPass, b: &mut KeyPass)
     requires table { (master.old.table_id ≡ cell.now.table.shared.table_id) × (a.old.table_id ≡ master.old.table_id) × (b.old.table_id ≡ master.old.table_id) }
     requires keeper { cell_view master.old ≡ keeper (cell_view master.old).seen (cell_view master.old).born }
     requires a { cell_view a.old ≡ holder (cell_view a.old).seen (cell_view a.old).owns }

@@ -2,35 +2,35 @@
 ghost use Rattle.std.specs.Prelude.{◌≡◌, ◌+◌, length};
 ghost use Rattle.ioc_history.specs.Account.{IsAccount};
 
-use crate::base::Base;
-use crate::Token;
+use crate::KeyPass;
+use crate::engine_name::EngineName;
 use ioc_record::RecordKind;
 use std::marker::{Model, PhantomData};
 
 /// The trace of a call in the journal. Contracts see the journal's list up to that call.
 #[derive(Drop)]
-pub struct Receipt<K: RecordKind, B: Base<K>> {
+pub struct Receipt<K: RecordKind, B: EngineName<K>> {
     pub(crate) place: u64,
-    pub(crate) pass: Token,
+    pub(crate) pass: KeyPass,
     pub(crate) of: PhantomData<B>,
     pub(crate) kind: PhantomData<K>,
 }
 
-impl<K: RecordKind, B: Base<K>> Model for Receipt<K, B> {
+impl<K: RecordKind, B: EngineName<K>> Model for Receipt<K, B> {
     ghost use Rattle.std.specs.Prelude.{List};
     ghost use Rattle.ioc_history.specs.declared.entry.Note.{Note};
 
     ghost Value = { List Note };
 
     ghost use Rattle.crossbeam_utils.specs.Seq.{cell_view};
-    ghost use Rattle.ioc_history.specs.Kept.{IsReceipt};
+    ghost use Rattle.ioc_history.specs.Desks.{IsReceipt};
 
     ghost view = { λ r. (cell_view r.pass).seen };
 
     ghost invariant = { λ r. IsReceipt K.rules B.base B.table r.pass.table_id (cell_view r.pass) r.place };
 }
 
-impl<K: RecordKind, B: Base<K>> Receipt<K, B> {
+impl<K: RecordKind, B: EngineName<K>> Receipt<K, B> {
     /// Returns the place of the call in the journal's list, from 0 on.
     pub fn place(&self) -> u64
         ensures place { length self.now ≡ result + 1 }

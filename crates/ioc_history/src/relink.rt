@@ -4,21 +4,21 @@ ghost use Rattle.crossbeam_utils.specs.Seq.{cell_view};
 ghost use Rattle.ioc_history.specs.Key.{Key, Has};
 ghost use Rattle.ioc_history.specs.Line.{keeper, holder, Continues};
 
+use crate::cell::{Cell, KeyPass, Keys, NoteName};
 use crate::pass;
-use crate::room::{Cell, Keys, Said, Token};
 use std::sync::Wait;
 
 /// Adds a call that concerns the keys of two passes, and returns the pass of its receipt.
 /// Afterwards the first pass owns the keys of `K`, the second those of `L`, and all passes know the
 /// whole list.
-pub fn relink<K: Keys, L: Keys, S: Said, R: Wait>(
+pub fn relink<K: Keys, L: Keys, S: NoteName, R: Wait>(
     rt: &R,
     cell: &Cell,
-    master: &mut Token,
-    a: &mut Token,
-    b: &mut Token,
-    desk: &mut Token,
-) -> Token
+    master: &mut KeyPass,
+    a: &mut KeyPass,
+    b: &mut KeyPass,
+    desk: &mut KeyPass,
+) -> KeyPass
     requires table { (master.old.table_id ≡ cell.now.table.shared.table_id) × (a.old.table_id ≡ master.old.table_id) × (b.old.table_id ≡ master.old.table_id) × (desk.old.table_id ≡ master.old.table_id) }
     requires keeper { cell_view master.old ≡ keeper (cell_view master.old).seen (cell_view master.old).born }
     requires a { cell_view a.old ≡ holder (cell_view a.old).seen (cell_view a.old).owns }
@@ -46,6 +46,6 @@ pub fn relink<K: Keys, L: Keys, S: Said, R: Wait>(
     pass::note_down::<S, R>(rt, cell, master);
     *a = pass::part::<K>(cell, master);
     *b = pass::part::<L>(cell, master);
-    *desk = pass::rest(cell, master);
-    pass::again(cell, master)
+    *desk = pass::give_all(cell, master);
+    pass::copy(cell, master)
 }

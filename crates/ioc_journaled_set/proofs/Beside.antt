@@ -20,10 +20,10 @@ use Rattle.ioc_history.specs.Key.{Key, Has as Has_key}
 use Rattle.ioc_history.specs.KeyLaws.{has_left, has_right}
 use Rattle.ioc_history.specs.Line.{Continues, noted}
 use Rattle.ioc_history.specs.Legal.{IsLegal, IsSound, key_of, map_of, notifications_key}
-use Rattle.ioc_history.specs.Held.{Holds, Cover, CancelsWithin}
+use Rattle.ioc_history.specs.Covering.{Holds, Cover, CancelsWithin}
 use Rattle.ioc_history.specs.Laws.{Lasts, OneMore, HoldersMove, MovesAlike, HeldAlike, HeldAreFewer, HoldersAreFew, StaysSound, GoesOn}
 use Rattle.ioc_history.specs.Account.{journalled, BothMayFollow, AddedByBoth, puts_key}
-use Rattle.ioc_set.specs.Held.{Held, now_of, done_by}
+use Rattle.ioc_set.specs.SetState.{SetState, now_of, done_by}
 use Rattle.ioc_set.specs.Doing.{Does}
 use Rattle.ioc_journaled_set.specs.Puts.{AreMoved}
 use Rattle.ioc_journaled_set.proofs.Serving.{holds_on, live_then, records_then, waiting_then, noted_on, moved_on}
@@ -47,7 +47,7 @@ one_at_most false = omega arith
 pub once_live : {R : Type 0} (k : RecordRules R) (w : World R) → IsCounted k w → (n : ℕ) → lines_of n w.live ≤ 1
 once_live k w counted n = let lines = lines_are n w.live in let once = counted.counted.live n in let one = one_at_most (nat_lt 0 (holders k w n)) in omega (arith, lines, once, one)
 
-module _ {R D : Type 0} (k : RecordRules R) (gives : D → Ask → ℕ → Answer → D → Type 0) (h h' : Held R D) (moment : ℕ) (event : Event) (reply : Reply) (come_to : World R)
+module _ {R D : Type 0} (k : RecordRules R) (gives : D → Ask → ℕ → Answer → D → Type 0) (h h' : SetState R D) (moment : ℕ) (event : Event) (reply : Reply) (come_to : World R)
     (does : Does k gives h moment event reply h' come_to) (there : (n : ℕ) → Contains (names event) n → Has (now_of h) n)
     (lasts : Lasts k) (one_more : OneMore k) (moves : HoldersMove k) (alike : HeldAlike k)
     (base : World R) (seen also_seen : List Note) (owned : List Key) (covers : Cover owned (now_of h)) (holds : Holds k (map_of k base seen) (now_of h))

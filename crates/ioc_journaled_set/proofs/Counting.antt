@@ -9,7 +9,7 @@ use Rattle.ioc_dbcommon.specs.Links.{no_link}
 use Rattle.ioc_record.specs.RecordRules.{RecordRules}
 use Rattle.ioc_set_records.specs.Contents.{record_at}
 use Rattle.ioc_set_records.specs.Joined.{AreShared, HasLink, relinked}
-use Rattle.ioc_set.specs.Held.{Held}
+use Rattle.ioc_set.specs.SetState.{SetState}
 use Rattle.ioc_set.specs.Linking.{FallsApart}
 use Rattle.ioc_journaled_set.proofs.Dealing.{none_some, of_other}
 use Rattle.ioc_journaled_set.proofs.Keys.{key_there, keys_count, tie}
@@ -75,7 +75,7 @@ module _ {X : Type 0} where
 
 -- If the link of a record is removed, the part that stays with the record and the rest have as many
 -- records together as the set had.
-pub part_count : {R D : Type 0} (k : RecordRules R) (before stay rest : Held R D) (s : ℕ) (field : FieldNo) → HasLink k before.records s field → FallsApart before (relinked k before.records s field no_link) s stay rest
+pub part_count : {R D : Type 0} (k : RecordRules R) (before stay rest : SetState R D) (s : ℕ) (field : FieldNo) → HasLink k before.records s field → FallsApart before (relinked k before.records s field no_link) s stay rest
     → length (keys before.records) - length (keys rest.records) ≡ len stay.records
 part_count {R} k before stay rest s field has falls =
     let there : IsSome (get before.records s) = ap (λ (o : Option R). is_some o) has.1 in

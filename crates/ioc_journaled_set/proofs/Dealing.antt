@@ -9,16 +9,16 @@ use Rattle.ioc_record.specs.RecordRules.{RecordRules}
 use Rattle.ioc_set_records.specs.Joined.{AreShared}
 use Rattle.ioc_store.specs.World.{World}
 use Rattle.ioc_history.specs.declared.entry.Note.{Note}
-use Rattle.ioc_history.specs.declared.room.View.{View}
+use Rattle.ioc_history.specs.declared.cell.View.{View}
 use Rattle.ioc_history.specs.Key.{Key, Has, record_keys}
 use Rattle.ioc_history.specs.KeyLaws.{has_either, record_kind}
 use Rattle.ioc_history.specs.Line.{Continues, holder}
 use Rattle.ioc_history.specs.Legal.{IsLegal, IsSound, map_of}
-use Rattle.ioc_history.specs.Held.{Cover}
+use Rattle.ioc_history.specs.Covering.{Cover}
 use Rattle.ioc_history.specs.Laws.{GoesOn}
 use Rattle.ioc_history.specs.LinkChange.{link_note}
 use Rattle.ioc_history.specs.Account.{IsHolder, AreRecords, BothMayFollow, AddedByBoth}
-use Rattle.ioc_set.specs.Held.{Held, now_of}
+use Rattle.ioc_set.specs.SetState.{SetState, now_of}
 use Rattle.ioc_journaled_set.specs.Holding.{IsOwner}
 use Rattle.ioc_journaled_set.specs.LinkChanges.{keys_of, link_change}
 use Rattle.ioc_journaled_set.proofs.Keys.{key_there, there_key}
@@ -58,14 +58,14 @@ module _ {X : Type 0} (f g h : ℕ → Option X) (shared : AreShared f g h) (q :
   ]
 
 module _ {R D : Type 0} where
-  own_record : (h : Held R D) (key : Key) → Has key (keys_of h) → IsSome (get h.records key.1)
+  own_record : (h : SetState R D) (key : Key) → Has key (keys_of h) → IsSome (get h.records key.1)
   own_record h key has = key_there h.records key.1 (record_contains key (keys h.records) has)
 
-  as_record : (h : Held R D) (key : Key) → Has key (keys_of h) → (0, key.1) ≡ key
+  as_record : (h : SetState R D) (key : Key) → Has key (keys_of h) → (0, key.1) ≡ key
   as_record h key has = ap (λ (x : ℕ). (x, key.1)) (sym (record_kind key (keys h.records) has))
 
   -- The keys of two sets are owned if the key of each of their records is.
-  pub dealt_within : (stay rest : Held R D) (owns : List Key) → ((q : ℕ) → IsSome (get stay.records q) → Has (0, q) owns) → ((q : ℕ) → IsSome (get rest.records q) → Has (0, q) owns)
+  pub dealt_within : (stay rest : SetState R D) (owns : List Key) → ((q : ℕ) → IsSome (get stay.records q) → Has (0, q) owns) → ((q : ℕ) → IsSome (get rest.records q) → Has (0, q) owns)
       → (key : Key) → Has key (keys_of stay ++ keys_of rest) → Has key owns
   dealt_within stay rest owns one other key has =
       ⊎_elim
@@ -74,11 +74,11 @@ module _ {R D : Type 0} where
       (has_either key (keys_of stay) (keys_of rest) has)
 
   -- Sets without a common record have no common key.
-  pub dealt_apart : (stay rest : Held R D) → ((q : ℕ) → IsSome (get stay.records q) → IsSome (get rest.records q) → ⊥) → (key : Key) → Has key (keys_of stay) → Has key (keys_of rest) → ⊥
+  pub dealt_apart : (stay rest : SetState R D) → ((q : ℕ) → IsSome (get stay.records q) → IsSome (get rest.records q) → ⊥) → (key : Key) → Has key (keys_of stay) → Has key (keys_of rest) → ⊥
   dealt_apart stay rest apart key x y = apart key.1 (own_record stay key x) (own_record rest key y)
 
   -- A pass to which the keys of a set were assigned is the owner of its records.
-  pub dealt_owner : (table id : TableId) (v : View) (seen : List Note) (h : Held R D) → id ≡ table → v ≡ holder seen (keys_of h) → IsOwner table id v (now_of h)
+  pub dealt_owner : (table id : TableId) (v : View) (seen : List Note) (h : SetState R D) → id ≡ table → v ≡ holder seen (keys_of h) → IsOwner table id v (now_of h)
   dealt_owner table id v seen h same is = record {
     same = same;
     holder = subst (λ (x : View). IsHolder x) (sym is) refl;

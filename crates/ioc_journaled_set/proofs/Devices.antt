@@ -9,7 +9,7 @@ use Rattle.ioc_set_records.specs.Joined.{AreShared}
 use Rattle.ioc_store.specs.declared.call.Call.{Call}
 use Rattle.ioc_store.specs.Given.{DeviceGives, its_device, no_device, DevicesWork, no_call, and_then, with_device}
 use Rattle.ioc_store.specs.World.{Has}
-use Rattle.ioc_set.specs.Held.{Held, now_of}
+use Rattle.ioc_set.specs.SetState.{SetState, now_of}
 use Rattle.ioc_journaled_set.specs.Holding.{KeepsDevices}
 
 pub not_some : {A : Type 0} (o : Option A) → (IsSome o → ⊥) → o ≡ None
@@ -47,5 +47,5 @@ module _ {D : Type 0} {gives : D → Ask → ℕ → Answer → D → Type 0} wh
 
 module _ {R D : Type 0} (had : ℕ → Bool) where
   -- Each record keeps its device if no record was added and no device was added or removed.
-  pub keeps_on : (h h' : Held R D) → KeepsDevices had h → ((n : ℕ) → is_some (get h'.devices n) ≡ is_some (get h.devices n)) → ((n : ℕ) → Has (now_of h') n → Has (now_of h) n) → KeepsDevices had h'
+  pub keeps_on : (h h' : SetState R D) → KeepsDevices had h → ((n : ℕ) → is_some (get h'.devices n) ≡ is_some (get h.devices n)) → ((n : ℕ) → Has (now_of h') n → Has (now_of h) n) → KeepsDevices had h'
   keeps_on h h' keeps same only n has = same n ∙ keeps n (only n has)

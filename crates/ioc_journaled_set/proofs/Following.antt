@@ -11,18 +11,18 @@ use Rattle.ioc_record.specs.RecordRules.{RecordRules}
 use Rattle.ioc_store.specs.World.{World}
 use Rattle.ioc_store.specs.Freeing.{has-cancelled}
 use Rattle.ioc_history.specs.declared.entry.Note.{Note}
-use Rattle.ioc_history.specs.declared.room.View.{View}
+use Rattle.ioc_history.specs.declared.cell.View.{View}
 use Rattle.ioc_history.specs.Key.{Key, Has as Has_key}
 use Rattle.ioc_history.specs.KeyLaws.{has_left}
 use Rattle.ioc_history.specs.Line.{Continues, holder, noted}
 use Rattle.ioc_history.specs.Legal.{IsLegal, key_of, map_of, notifications_key}
 use Rattle.ioc_history.specs.Legal.{IsSound as IsSound-world}
-use Rattle.ioc_history.specs.Held.{Holds, Cover}
+use Rattle.ioc_history.specs.Covering.{Holds, Cover}
 use Rattle.ioc_history.specs.Laws.{Lasts, LiveLasts, GoesOn}
 use Rattle.ioc_history.proofs.Basics.{is-none}
 use Rattle.ioc_history.specs.Account.{journalled, calls, numbers_given, PutsAreKeyed, MayFollow, Added, puts_key}
 use Rattle.ioc_history.proofs.Numbers.{numbers_same}
-use Rattle.ioc_set.specs.Held.{Held, now_of}
+use Rattle.ioc_set.specs.SetState.{SetState, now_of}
 use Rattle.ioc_set.specs.Sound.{IsSound}
 use Rattle.ioc_journaled_set.specs.GiveUpLaws.{cancel_note, cancel_entry, ShareNone, IsHeldSoundly, IsGivenUpByAll, SetsGiveUp}
 use Rattle.ioc_journaled_set.specs.Passes.{Slot, view_in, AreTakenOver}
@@ -30,7 +30,7 @@ use Rattle.ioc_journaled_set.specs.Sets.{EachGivesUp, EachIsHeldBy, HaveAll}
 use Rattle.ioc_journaled_set.proofs.TakingOver.{continues_on}
 
 module _ {R : Type 0} (k : RecordRules R) (base : World R) where
-  -- Held records stay held in a longer list without their keys.
+  -- SetState records stay held in a longer list without their keys.
   holds_on : Lasts k → (v : World R) (seen log : List Note) (owned : List Key) → Cover owned v → Holds k (map_of k base seen) v → Continues seen owned log → IsLegal k base log → Holds k (map_of k base log) v
   holds_on lasts v seen log owned covers holds go legal =
       subst (λ (l : List Note). Holds k (map_of k base l) v) (sym go.1)
@@ -43,9 +43,9 @@ module _ {R : Type 0} (k : RecordRules R) (base : World R) where
       ap (λ (l : List Note). holders_of number (map_of k base l).live) go.1
       ∙ sym (lasts base seen go.0 (go.2 notifications_key key) (subst (λ (l : List Note). IsLegal k base l) go.1 legal) number)
 
-  module _ {D : Type 0} (lasts : Lasts k) (live_lasts : LiveLasts k) (law : SetsGiveUp D k) (table : TableId) (number moment : ℕ) (sets : List (Held R D)) (passes : List Slot) (before v : View)
+  module _ {D : Type 0} (lasts : Lasts k) (live_lasts : LiveLasts k) (law : SetsGiveUp D k) (table : TableId) (number moment : ℕ) (sets : List (SetState R D)) (passes : List Slot) (before v : View)
       (owner : before ≡ holder before.seen puts_key) (held : EachIsHeldBy k base table sets passes) (have : HaveAll k base number before.seen sets)
-      (sound : (i : ℕ) (d : Held R D) → i < length sets → IsSound k (get_or sets i d)) (beside : length passes ≡ length sets) (taken : AreTakenOver k base before passes v) where
+      (sound : (i : ℕ) (d : SetState R D) → i < length sets → IsSound k (get_or sets i d)) (beside : length passes ≡ length sets) (taken : AreTakenOver k base before passes v) where
     has_key : Has_key notifications_key before.owns
     has_key = subst (λ (x : View). Has_key notifications_key x.owns) (sym owner) (inl refl)
 
@@ -57,7 +57,7 @@ module _ {R : Type 0} (k : RecordRules R) (base : World R) where
         ((held i d None (omega (arith, lt, within))).covers q there) ((held j d None within).covers q also))
 
     -- The pass owns the keys of each set.
-    pub all_covered : (i : ℕ) (d : Held R D) → i < length sets → Cover v.owns (now_of (get_or sets i d))
+    pub all_covered : (i : ℕ) (d : SetState R D) → i < length sets → Cover v.owns (now_of (get_or sets i d))
     all_covered i d lt n there = (taken.taken i None (omega (arith, lt, beside))).owned (key_of n) ((held i d None lt).covers n there)
 
     pub puts_owned : Has_key notifications_key v.owns
@@ -66,7 +66,7 @@ module _ {R : Type 0} (k : RecordRules R) (base : World R) where
     -- In a list that continues without the keys of the pass, each set is still held, and the counts
     -- are unchanged.
     module _ (log : List Note) (goes : Continues v.seen v.owns log) (legal : IsLegal k base log) where
-      still_held : (i : ℕ) (d : Held R D) → i < length sets → Holds k (map_of k base log) (now_of (get_or sets i d))
+      still_held : (i : ℕ) (d : SetState R D) → i < length sets → Holds k (map_of k base log) (now_of (get_or sets i d))
       still_held i d lt =
           let one = taken.taken i None (omega (arith, lt, beside)) in
           let h = held i d None lt in
@@ -76,7 +76,7 @@ module _ {R : Type 0} (k : RecordRules R) (base : World R) where
       still_live : (other : ℕ) → holders_of other (map_of k base log).live ≡ holders_of other (map_of k base before.seen).live
       still_live other = lives_on live_lasts before.seen log before.owns has_key (continues_on before.seen v.seen log before.owns v.owns taken.goes_on goes taken.owned) legal other
 
-      held_soundly : (own : List Key) (h : Held R D) → Contains sets h → IsHeldSoundly k (map_of k base log) (v.owns ++ own) h
+      held_soundly : (own : List Key) (h : SetState R D) → Contains sets h → IsHeldSoundly k (map_of k base log) (v.owns ++ own) h
       held_soundly own h c = subst (IsHeldSoundly k (map_of k base log) (v.owns ++ own)) c.2 (record {
         sound = sound c.0 h c.1;
         holds = still_held c.0 h c.1;
@@ -95,7 +95,7 @@ module _ {R : Type 0} (k : RecordRules R) (base : World R) where
       known : IsGivenUpByAll k moment number sets (map_of k base log) (map_of k base longer)
       known = subst (λ (l : List Note). IsGivenUpByAll k moment number sets (map_of k base log) (map_of k base l)) (sym added.ends) (gone_on log added.goes_on added.legal added.sound added.desk added.call added.own).known
 
-      pub held_then : (after : List (Held R D)) → EachGivesUp k moment number sets after → (i : ℕ) (d : Held R D) → i < length sets → Holds k (map_of k base longer) (now_of (get_or after i d))
+      pub held_then : (after : List (SetState R D)) → EachGivesUp k moment number sets after → (i : ℕ) (d : SetState R D) → i < length sets → Holds k (map_of k base longer) (now_of (get_or after i d))
       held_then after gives i d lt = known.held (get_or sets i d) (get_or after i d) (i, lt, get_or_default sets i (get_or sets i d) d lt) (gives i d lt)
 
       pub nobody_then : holders_of number (map_of k base longer).live ≡ 0
@@ -110,12 +110,12 @@ module _ {R : Type 0} (k : RecordRules R) (base : World R) where
           (continues_on before.seen v.seen log before.owns v.owns taken.goes_on added.goes_on taken.owned) added.ends has_key keyed refl
 
     -- The sets have the same records after the cancel.
-    module _ (after : List (Held R D)) (gives : EachGivesUp k moment number sets after) (same : length after ≡ length sets) where
-      was_there : (i : ℕ) (d : Held R D) → i < length sets → (q : ℕ) → IsSome (get (get_or after i d).records q) → IsSome (get (get_or sets i d).records q)
+    module _ (after : List (SetState R D)) (gives : EachGivesUp k moment number sets after) (same : length after ≡ length sets) where
+      was_there : (i : ℕ) (d : SetState R D) → i < length sets → (q : ℕ) → IsSome (get (get_or after i d).records q) → IsSome (get (get_or sets i d).records q)
       was_there i d lt q there =
           sym (has-cancelled k number (now_of (get_or sets i d)) q) ∙ (sym (ap (λ rs. contains_key rs q) (gives i d lt).records) ∙ there)
 
-      pub covered_then : (i : ℕ) (d : Held R D) → i < length after → Cover v.owns (now_of (get_or after i d))
+      pub covered_then : (i : ℕ) (d : SetState R D) → i < length after → Cover v.owns (now_of (get_or after i d))
       covered_then i d lt n there = let within : i < length sets = omega (arith, lt, same) in all_covered i d within n (was_there i d within n there)
 
       pub share_none_then : AllPairs ShareNone after

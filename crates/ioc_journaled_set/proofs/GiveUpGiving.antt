@@ -32,10 +32,10 @@ use Rattle.ioc_events.specs.Step.{Stepped, stepped}
 use Rattle.ioc_history.specs.declared.entry.Note.{Note}
 use Rattle.ioc_history.specs.Key.{Key, Has as Has_key}
 use Rattle.ioc_history.specs.Legal.{key_of, notifications_key, done, map_of, Fits, IsLegal, IsUntouched}
-use Rattle.ioc_history.specs.Held.{Holds}
+use Rattle.ioc_history.specs.Covering.{Holds}
 use Rattle.ioc_history.specs.Laws.{StaysSound, CancelIsHeld, BeginningIsHeld, HeldAlike}
 use Rattle.ioc_history.proofs.Placing.{live-once}
-use Rattle.ioc_set.specs.Held.{Held, now_of, folded, done_by, held_after}
+use Rattle.ioc_set.specs.SetState.{SetState, now_of, folded, done_by, held_after}
 use Rattle.ioc_set.specs.Doing.{with_place}
 use Rattle.ioc_set.specs.Sound.{IsSound}
 use Rattle.ioc_journaled_set.specs.GiveUpLaws.{cancel_entry, cancel_note, ShareNone, holders_in_all, GivesUp, IsHeldSoundly, SetsGiveUp, CancelGivesUp, CameToNothing}
@@ -184,24 +184,24 @@ module _ {R : Type 0} (k : RecordRules R) where
     -- The cancel on held sets.
 
     module _ {D : Type 0} (cancels : CancelIsHeld k) (begins : BeginningIsHeld k) (alike : HeldAlike k) where
-      held-then : (m : World R) (h then : Held R D) → Holds k m (now_of h) → GivesUp k moment number h then → Holds k (given_up m) (now_of then)
+      held-then : (m : World R) (h then : SetState R D) → Holds k m (now_of h) → GivesUp k moment number h then → Holds k (given_up m) (now_of then)
       unfolding begun begun_at cancelled
       held-then m h then holds gives =
           alike (given_up m) (given_up (now_of h)) (now_of then) (cancels (begun_at moment m) (begun_at moment (now_of h)) number (begins m (now_of h) moment holds)) gives.records gives.waiting
 
     -- A record of a sound set that is part of the put with notification awaits its device.
-    pub set-active : {D : Type 0} (h : Held R D) → IsSound k h → AreActive k number (now_of h)
+    pub set-active : {D : Type 0} (h : SetState R D) → IsSound k h → AreActive k number (now_of h)
     set-active h sound q there has = (sound.settled.quiet.quiet q there).1 (sound.holders_await.records q there (subst (λ (o : Option ℕ). IsSome o) (sym has) refl))
 
-    module _ {D : Type 0} (m : World R) (sets : List (Held R D)) (known : (h : Held R D) → Contains sets h → IsHeldSoundly k m keys h) (pairs : AllPairs ShareNone sets)
+    module _ {D : Type 0} (m : World R) (sets : List (SetState R D)) (known : (h : SetState R D) → Contains sets h → IsHeldSoundly k m keys h) (pairs : AllPairs ShareNone sets)
         (all : holders_in_all number sets ≡ holders k m number) where
-      nobody-else : (r : ℕ) → ((h : Held R D) → Contains sets h → Has (now_of h) r → ⊥) → point k number m r ≡ 0
+      nobody-else : (r : ℕ) → ((h : SetState R D) → Contains sets h → Has (now_of h) r → ⊥) → point k number m r ≡ 0
       nobody-else r out = nobody-outside k number m sets (λ h c. (known h c).holds) (λ h c. (known h c).sound.counted) pairs all r out
 
       unkeyed : (r : ℕ) → (Has_key (key_of r) keys → ⊥) → point k number m r ≡ 0
       unkeyed r out = nobody-else r (λ h c there. out ((known h c).covers r there))
 
-      held-active : (h : Held R D) → Contains sets h → (q : ℕ) → Has (now_of h) q → (common_at k m q).notification ≡ Some number → (common_at k m q).active ≡ true
+      held-active : (h : SetState R D) → Contains sets h → (q : ℕ) → Has (now_of h) q → (common_at k m q).notification ≡ Some number → (common_at k m q).active ≡ true
       unfolding at
       held-active h c q there has =
           let same : unwrap_or (get m.records q) k.missing ≡ unwrap_or (get h.records q) k.missing = ap (λ (o : Option R). unwrap_or o k.missing) ((known h c).holds.records q there) in
@@ -244,20 +244,20 @@ module _ {R : Type 0} (k : RecordRules R) where
   -- The cancel on one set.
 
   module _ {D : Type 0} (lawful : IsLawful k) (number : ℕ) where
-    set-steps : (h : Held R D) (moment : ℕ) (answers : List Answer) → IsSound k h → is_live number h.live ≡ true
+    set-steps : (h : SetState R D) (moment : ℕ) (answers : List Answer) → IsSound k h → is_live number h.live ≡ true
         → stepped k (listed answers) (begun_at moment (now_of h)) (Cancel number) ≡ record { world = cancelled k number (begun_at moment (now_of h)); reply = Plain; requests = followed_by No_requests No_requests }
     unfolding begun begun_at
     set-steps h moment answers sound live =
         cancel-steps k (listed answers) (begun_at moment (now_of h)) number live
         (none-then k lawful number (begun_at moment (now_of h)) (begun-none k moment (now_of h) sound.none_ready) (begun-active k number moment (now_of h) (set-active lawful 0 0 moment number [] h sound)))
 
-    now-placed : (h : Held R D) → now_of (with_place h) ≡ now_of h
+    now-placed : (h : SetState R D) → now_of (with_place h) ≡ now_of h
     now-placed h = elim (nat_eq (length h.history) 64) as (λ b. now_of (cond b (folded h) h) ≡ now_of h) [
       | true ↦ refl
       | false ↦ refl
     ]
 
-    module _ (h after : Held R D) (moment : ℕ) where
+    module _ (h after : SetState R D) (moment : ℕ) where
       abbrev given : World R
       given = cancelled k number (begun_at moment (now_of h))
 
@@ -293,9 +293,9 @@ module _ {R : Type 0} (k : RecordRules R) where
       record {
         answer = sym does.answer ∙ plain;
         gives_up = subst (λ (m : ℕ). GivesUp k m number before after) does.moment (gives lawful number before after e.moment
-            (ap (λ (h : Held R D). h.records) does.after ∙ ap (λ (s : Stepped R). s.world.records) placed)
-            (ap (λ (h : Held R D). h.waiting) does.after ∙ ap (λ (s : Stepped R). s.world.waiting) placed)
-            (ap (λ (h : Held R D). h.live) does.after ∙ ap (λ (s : Stepped R). s.world.live) placed)
+            (ap (λ (h : SetState R D). h.records) does.after ∙ ap (λ (s : Stepped R). s.world.records) placed)
+            (ap (λ (h : SetState R D). h.waiting) does.after ∙ ap (λ (s : Stepped R). s.world.waiting) placed)
+            (ap (λ (h : SetState R D). h.live) does.after ∙ ap (λ (s : Stepped R). s.world.live) placed)
             (uncalled does.work (ap (λ (s : Stepped R). s.world.calls) is ∙ uncalled-here))
             (does.after ∙ ap (λ (entry : Entry). held_after k (with_place before) entry after.devices) (entry-is e number does.event silent plain)));
         nothing = nothing lawful number before after e.moment come_to

@@ -13,14 +13,14 @@ use Rattle.std.specs.FinMap.{contains_key}
 use Rattle.ioc_store.specs.World.{World}
 use Rattle.ioc_store.specs.Freeing.{has-cancelled}
 use Rattle.ioc_history.specs.declared.entry.Note.{Note}
-use Rattle.ioc_history.specs.declared.room.View.{View}
+use Rattle.ioc_history.specs.declared.cell.View.{View}
 use Rattle.ioc_history.specs.Key.{Key}
 use Rattle.ioc_history.specs.Account.{DeskView, AreRecords, AreNoDesks, Pass}
 use Rattle.ioc_journaled_set.specs.GiveUpLaws.{GivesUp}
 use Rattle.ioc_journaled_set.specs.Sets.{GaveUp, EachIsHeldBy, IsHeldBy}
 use Rattle.ioc_history.specs.Legal.{map_of}
-use Rattle.ioc_history.specs.Held.{Holds}
-use Rattle.ioc_set.specs.Held.{Held, now_of}
+use Rattle.ioc_history.specs.Covering.{Holds}
+use Rattle.ioc_set.specs.SetState.{SetState, now_of}
 use Rattle.ioc_journaled_set.specs.Holding.{HeldView, IsLent, IsOwner, KeepsDevices, held_view, seen_by}
 use Rattle.ioc_journaled_set.specs.GivingUp.{EachIsLent, sets_of, HeldGaveUp, AreSameSets}
 use Rattle.ioc_journaled_set.proofs.Dealing.{dealt_owner}
@@ -42,7 +42,7 @@ sets_push (x ∷ xs) y = ap (λ (l : List _). x.set ∷ l) (sets_push xs y)
 same_pass : {p q : Pass} → Some p ≡ Some q → p ≡ q
 same_pass is = cc
 
-pub set_at : {R D : Type 0} (xs : List (HeldView R D)) (i : ℕ) (d : HeldView R D) (e : Held R D) → i < length xs → get_or (sets_of xs) i e ≡ (get_or xs i d).set
+pub set_at : {R D : Type 0} (xs : List (HeldView R D)) (i : ℕ) (d : HeldView R D) (e : SetState R D) → i < length xs → get_or (sets_of xs) i e ≡ (get_or xs i d).set
 set_at [] i d e lt = absurd (omega (arith, lt))
 set_at (x ∷ xs) zero d e lt = refl
 set_at (x ∷ xs) (suc i) d e lt = set_at xs i d e (omega (arith, lt))
@@ -52,35 +52,35 @@ sets_long [] = refl
 sets_long (x ∷ xs) = ap suc (sets_long xs)
 
 module _ {R D : Type 0} (k : RecordRules R) (base : World R) (had : ℕ → Bool) (table : TableId) where
-  pub lent_more : (sets : List (Held R D)) (passes : List (Option Pass)) (h : Held R D) (s : Option Pass) → length passes ≡ length sets → EachIsLent k base had table sets passes → IsLent k base had table h s
+  pub lent_more : (sets : List (SetState R D)) (passes : List (Option Pass)) (h : SetState R D) (s : Option Pass) → length passes ≡ length sets → EachIsLent k base had table sets passes → IsLent k base had table h s
       → EachIsLent k base had table (sets ++ h ∷ []) (passes ++ s ∷ [])
   lent_more sets passes h s same each one i d e lt =
-      let P : ℕ → Type 0 = λ j. (d : Held R D) (e : Option Pass) → IsLent k base had table (get_or (sets ++ h ∷ []) j d) (get_or (passes ++ s ∷ []) j e) in
+      let P : ℕ → Type 0 = λ j. (d : SetState R D) (e : Option Pass) → IsLent k base had table (get_or (sets ++ h ∷ []) j d) (get_or (passes ++ s ∷ []) j e) in
       let all = length-append sets (h ∷ []) in
       below_more P (length sets)
       (λ j below d e. subst (λ (x : Option Pass). IsLent k base had table (get_or (sets ++ h ∷ []) j d) x) (sym (front passes (s ∷ []) j e (omega (arith, below, same))))
-      (subst (λ (x : Held R D). IsLent k base had table x (get_or passes j e)) (sym (front sets (h ∷ []) j d below)) (each j d e below)))
+      (subst (λ (x : SetState R D). IsLent k base had table x (get_or passes j e)) (sym (front sets (h ∷ []) j d below)) (each j d e below)))
       (λ d e. subst (λ (x : Option Pass). IsLent k base had table (get_or (sets ++ h ∷ []) (length sets) d) x) (sym (ap (λ (n : ℕ). get_or (passes ++ s ∷ []) n e) (sym same) ∙ last passes s e))
-      (subst (λ (x : Held R D). IsLent k base had table x s) (sym (last sets h d)) one)) i (omega (arith, lt, all)) d e
+      (subst (λ (x : SetState R D). IsLent k base had table x s) (sym (last sets h d)) one)) i (omega (arith, lt, all)) d e
 
-  pub has_devices : (h h' : Held R D) (slot : Option Pass) → IsLent k base had table h slot → h' ≡ h → KeepsDevices had h'
-  has_devices h h' slot lent same = subst (λ (x : Held R D). KeepsDevices had x) (sym same) lent.devices
+  pub has_devices : (h h' : SetState R D) (slot : Option Pass) → IsLent k base had table h slot → h' ≡ h → KeepsDevices had h'
+  has_devices h h' slot lent same = subst (λ (x : SetState R D). KeepsDevices had x) (sym same) lent.devices
 
-  pub owns_at : (h h' : Held R D) (slot : Option Pass) (own : Pass) → IsLent k base had table h slot → slot ≡ Some own → h' ≡ h
+  pub owns_at : (h h' : SetState R D) (slot : Option Pass) (own : Pass) → IsLent k base had table h slot → slot ≡ Some own → h' ≡ h
       → IsOwner table own.table_id (cell_view {V = View} own) (now_of h') × Holds k (map_of k base (cell_view {V = View} own).seen) (now_of h')
   owns_at h h' slot own lent is same =
       subst (λ (p : Pass). IsOwner table p.table_id (cell_view {V = View} p) (now_of h') × Holds k (map_of k base (cell_view {V = View} p).seen) (now_of h')) (same_pass (sym lent.there ∙ is))
-      (subst (λ (x : Held R D). IsOwner table lent.pass.table_id (cell_view {V = View} lent.pass) (now_of x) × Holds k (map_of k base (cell_view {V = View} lent.pass).seen) (now_of x)) (sym same) (lent.owner, lent.holds))
+      (subst (λ (x : SetState R D). IsOwner table lent.pass.table_id (cell_view {V = View} lent.pass) (now_of x) × Holds k (map_of k base (cell_view {V = View} lent.pass).seen) (now_of x)) (sym same) (lent.owner, lent.holds))
 
-  pub never_empty : (h : Held R D) (slot : Option Pass) → IsLent k base had table h slot → slot ≡ None → ⊥
+  pub never_empty : (h : SetState R D) (slot : Option Pass) → IsLent k base had table h slot → slot ≡ None → ⊥
   never_empty h slot lent none = let e : Some lent.pass ≡ None = sym lent.there ∙ none in cc
 
   -- After a call on all of them.
 
-  as_same : (sets sets_then : List (Held R D)) (passes passes_then : List (Option Pass)) → (sets_then ≡ sets) × (passes_then ≡ passes) → EachIsLent k base had table sets passes → EachIsLent k base had table sets_then passes_then
-  as_same sets sets_then passes passes_then same lent = subst (λ (l : List (Held R D)). EachIsLent k base had table l passes_then) (sym same.0) (subst (λ (l : List (Option Pass)). EachIsLent k base had table sets l) (sym same.1) lent)
+  as_same : (sets sets_then : List (SetState R D)) (passes passes_then : List (Option Pass)) → (sets_then ≡ sets) × (passes_then ≡ passes) → EachIsLent k base had table sets passes → EachIsLent k base had table sets_then passes_then
+  as_same sets sets_then passes passes_then same lent = subst (λ (l : List (SetState R D)). EachIsLent k base had table l passes_then) (sym same.0) (subst (λ (l : List (Option Pass)). EachIsLent k base had table sets l) (sym same.1) lent)
 
-  pub lent_of : (moment number : ℕ) (desk desk_then : DeskView) (sets sets_then : List (Held R D)) (passes passes_then : List (Option Pass)) (kept kept_then : View)
+  pub lent_of : (moment number : ℕ) (desk desk_then : DeskView) (sets sets_then : List (SetState R D)) (passes passes_then : List (Option Pass)) (kept kept_then : View)
       → GaveUp k base table moment number desk sets kept desk_then sets_then passes_then kept_then → length sets_then ≡ length sets → EachIsLent k base had table sets passes → EachIsLent k base had table sets_then passes_then
   lent_of moment number desk desk_then sets sets_then passes passes_then kept kept_then gu sets_are each i d e lt =
       let dealt = gu.dealt i d e lt in
@@ -95,17 +95,17 @@ module _ {R D : Type 0} (k : RecordRules R) (base : World R) (had : ℕ → Bool
             (λ n has. sym (has-cancelled k number (now_of (get_or sets i d)) n) ∙ (sym (ap (λ rs. contains_key rs n) gives.records) ∙ has));
       }
 
-  pub lent_then : {A E : Type 0} (Q S T : Type 0) (given : Result (Option A) E) (moment number : ℕ) (desk desk_then : DeskView) (sets sets_then : List (Held R D)) (passes passes_then : List (Option Pass)) (kept kept_then : View)
+  pub lent_then : {A E : Type 0} (Q S T : Type 0) (given : Result (Option A) E) (moment number : ℕ) (desk desk_then : DeskView) (sets sets_then : List (SetState R D)) (passes passes_then : List (Option Pass)) (kept kept_then : View)
       → IfOk given (λ o. IfSome o (λ _. GaveUp k base table moment number desk sets kept desk_then sets_then passes_then kept_then)) → IfOk given (λ o. IfNone o ((sets_then ≡ sets) × (passes_then ≡ passes) × Q × S × T)) → OnErr given ((sets_then ≡ sets) × (passes_then ≡ passes) × Q × S)
       → length sets_then ≡ length sets → EachIsLent k base had table sets passes → EachIsLent k base had table sets_then passes_then
   lent_then Q S T (Ok (Some r)) moment number desk desk_then sets sets_then passes passes_then kept kept_then gave missing refused sets_are lent = lent_of moment number desk desk_then sets sets_then passes passes_then kept kept_then gave sets_are lent
   lent_then Q S T (Ok None) moment number desk desk_then sets sets_then passes passes_then kept kept_then gave missing refused sets_are lent = as_same sets sets_then passes passes_then (missing.0, missing.1) lent
   lent_then Q S T (Err e) moment number desk desk_then sets sets_then passes passes_then kept kept_then gave missing refused sets_are lent = as_same sets sets_then passes passes_then (refused.0, refused.1) lent
 
-  abbrev AreBack : (held_then : List (HeldView R D)) (sets : List (Held R D)) (passes : List (Option Pass)) → Type 0
-  AreBack held_then sets passes = (i : ℕ) (d : HeldView R D) (e : Held R D) (f : Option Pass) → i < length held_then → get_or held_then i d ≡ held_view (get_or sets i e) (seen_by (get_or passes i f))
+  abbrev AreBack : (held_then : List (HeldView R D)) (sets : List (SetState R D)) (passes : List (Option Pass)) → Type 0
+  AreBack held_then sets passes = (i : ℕ) (d : HeldView R D) (e : SetState R D) (f : Option Pass) → i < length held_then → get_or held_then i d ≡ held_view (get_or sets i e) (seen_by (get_or passes i f))
 
-  gave_back : (moment number : ℕ) (desk desk_then : DeskView) (sets : List (Held R D)) (held_then : List (HeldView R D)) (sets_then : List (Held R D)) (passes_then : List (Option Pass)) (kept kept_then : View)
+  gave_back : (moment number : ℕ) (desk desk_then : DeskView) (sets : List (SetState R D)) (held_then : List (HeldView R D)) (sets_then : List (SetState R D)) (passes_then : List (Option Pass)) (kept kept_then : View)
       → GaveUp k base table moment number desk sets kept desk_then sets_then passes_then kept_then → AreBack held_then sets_then passes_then → length held_then ≡ length sets → length sets_then ≡ length sets
       → HeldGaveUp k base moment number desk sets kept desk_then held_then kept_then
   gave_back moment number desk desk_then sets held_then sets_then passes_then kept kept_then gu back long sets_are = record {
@@ -123,12 +123,12 @@ module _ {R D : Type 0} (k : RecordRules R) (base : World R) (had : ℕ → Bool
     none_began = gu.none_began;
   }
 
-  same_back : (sets : List (Held R D)) (held_then : List (HeldView R D)) (sets_then : List (Held R D)) (passes_then : List (Option Pass)) → sets_then ≡ sets → AreBack held_then sets_then passes_then → length held_then ≡ length sets → AreSameSets sets held_then
+  same_back : (sets : List (SetState R D)) (held_then : List (HeldView R D)) (sets_then : List (SetState R D)) (passes_then : List (Option Pass)) → sets_then ≡ sets → AreBack held_then sets_then passes_then → length held_then ≡ length sets → AreSameSets sets held_then
   same_back sets held_then sets_then passes_then same back long i d e lt =
       let then : i < length held_then = omega (arith, lt, long) in
-      ap (λ (v : HeldView R D). v.set) (back i e d None then) ∙ ap (λ (l : List (Held R D)). get_or l i d) same
+      ap (λ (v : HeldView R D). v.set) (back i e d None then) ∙ ap (λ (l : List (SetState R D)). get_or l i d) same
 
-  module _ {A E : Type 0} (moment number : ℕ) (desk desk_then : DeskView) (sets : List (Held R D)) (held_then : List (HeldView R D)) (sets_then : List (Held R D)) (passes_then : List (Option Pass)) (kept kept_then : View)
+  module _ {A E : Type 0} (moment number : ℕ) (desk desk_then : DeskView) (sets : List (SetState R D)) (held_then : List (HeldView R D)) (sets_then : List (SetState R D)) (passes_then : List (Option Pass)) (kept kept_then : View)
       (back : AreBack held_then sets_then passes_then) (long : length held_then ≡ length sets) (sets_are : length sets_then ≡ length sets) where
     pub gave_all : (given : Result (Option A) E) → IfOk given (λ o. IfSome o (λ _. GaveUp k base table moment number desk sets kept desk_then sets_then passes_then kept_then))
         → IfOk given (λ o. IfSome o (λ _. HeldGaveUp k base moment number desk sets kept desk_then held_then kept_then))
@@ -136,14 +136,14 @@ module _ {R D : Type 0} (k : RecordRules R) (base : World R) (had : ℕ → Bool
     gave_all (Ok None) gu = gu
     gave_all (Err e) gu = gu
 
-  pub missing_all : {A E : Type 0} (Q S T : Type 0) (given : Result (Option A) E) (sets : List (Held R D)) (held_then : List (HeldView R D)) (sets_then : List (Held R D)) (passes passes_then : List (Option Pass))
+  pub missing_all : {A E : Type 0} (Q S T : Type 0) (given : Result (Option A) E) (sets : List (SetState R D)) (held_then : List (HeldView R D)) (sets_then : List (SetState R D)) (passes passes_then : List (Option Pass))
       → AreBack held_then sets_then passes_then → length held_then ≡ length sets
       → IfOk given (λ o. IfNone o ((sets_then ≡ sets) × (passes_then ≡ passes) × Q × S × T)) → IfOk given (λ o. IfNone o (AreSameSets sets held_then × Q × S × T))
   missing_all Q S T (Ok (Some r)) sets held_then sets_then passes passes_then back long h = h
   missing_all Q S T (Ok None) sets held_then sets_then passes passes_then back long h = (same_back sets held_then sets_then passes_then h.0 back long, h.2, h.3, h.4)
   missing_all Q S T (Err e) sets held_then sets_then passes passes_then back long h = h
 
-  pub refused_all : {A E : Type 0} (Q S : Type 0) (given : Result (Option A) E) (sets : List (Held R D)) (held_then : List (HeldView R D)) (sets_then : List (Held R D)) (passes passes_then : List (Option Pass))
+  pub refused_all : {A E : Type 0} (Q S : Type 0) (given : Result (Option A) E) (sets : List (SetState R D)) (held_then : List (HeldView R D)) (sets_then : List (SetState R D)) (passes passes_then : List (Option Pass))
       → AreBack held_then sets_then passes_then → length held_then ≡ length sets
       → OnErr given ((sets_then ≡ sets) × (passes_then ≡ passes) × Q × S) → OnErr given (AreSameSets sets held_then × Q × S)
   refused_all Q S (Ok o) sets held_then sets_then passes passes_then back long h = h
@@ -153,7 +153,7 @@ no_desks : (owns : List Key) → AreRecords owns → AreNoDesks owns
 no_desks owns records key has desk = let record_key = records key has in absurd (omega (arith, record_key, desk))
 
 module _ {R D : Type 0} (k : RecordRules R) (base : World R) (had : ℕ → Bool) (table : TableId) where
-  pub held_by : (sets : List (Held R D)) (passes : List (Option Pass)) → EachIsLent k base had table sets passes → EachIsHeldBy k base table sets passes
+  pub held_by : (sets : List (SetState R D)) (passes : List (Option Pass)) → EachIsLent k base had table sets passes → EachIsHeldBy k base table sets passes
   held_by sets passes each i d e lt =
       let one = each i d e lt in
       subst (λ (s : Option Pass). IsHeldBy k base table (get_or sets i d) s) (sym one.there)

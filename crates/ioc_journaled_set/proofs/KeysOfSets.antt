@@ -10,8 +10,8 @@ use Rattle.std.proofs.lemmas.Map.Views.{Contains-from_any, list_any-from_Contain
 use Rattle.ioc_history.specs.Key.{Key, Has, record_keys}
 use Rattle.ioc_history.specs.KeyLaws.{has_either, record_kind}
 use Rattle.ioc_history.specs.Legal.{notifications_key}
-use Rattle.ioc_history.specs.Held.{Cover}
-use Rattle.ioc_set.specs.Held.{Held, now_of}
+use Rattle.ioc_history.specs.Covering.{Cover}
+use Rattle.ioc_set.specs.SetState.{SetState, now_of}
 use Rattle.ioc_journaled_set.specs.GiveUpLaws.{ShareNone}
 use Rattle.ioc_journaled_set.specs.Passes.{keys_of, is_key_of, other_keys}
 
@@ -66,7 +66,7 @@ not_both is isnt = cc
 none_some : {A : Type 0} (o : Option A) → o ≡ None → IsSome o → ⊥
 none_some {A = A} o none some = let h : false ≡ true = sym (ap (λ (p : Option A). is_some p) none) ∙ some in cc
 
-module _ {R D : Type 0} (h : Held R D) where
+module _ {R D : Type 0} (h : SetState R D) where
   -- A key of the set is that of one of its records.
   own_record : (key : Key) → Has key (keys_of h) → contains_key h.records key.1 ≡ true
   own_record key has = key_there h.records key.1 (record_contains key (keys h.records) has)
@@ -89,7 +89,7 @@ module _ {R D : Type 0} (h : Held R D) where
   own_apart owned key x y = not_both (is_own key x) (filter_has (λ (p : Key). not (is_key_of h p)) key owned y).1
 
   -- The other keys still include those of a set without a common record.
-  pub others_cover : (owned : List Key) (g : Held R D) → ShareNone h g → Cover owned (now_of g) → Cover (other_keys h owned) (now_of g)
+  pub others_cover : (owned : List Key) (g : SetState R D) → ShareNone h g → Cover owned (now_of g) → Cover (other_keys h owned) (now_of g)
   others_cover owned g shares covers n there =
       has_filter (λ (p : Key). not (is_key_of h p)) (0, n) owned (covers n there)
       (elim (contains_key h.records n) as (λ b. contains_key h.records n ≡ b → not b ≡ true) [

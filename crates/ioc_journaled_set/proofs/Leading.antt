@@ -12,17 +12,17 @@ use Rattle.ioc_store.specs.World.{World, begun_at, put}
 use Rattle.ioc_store.specs.Scanning.{device_of}
 use Rattle.ioc_store.specs.Worlds.{has-put, has-put_back}
 use Rattle.ioc_history.specs.declared.entry.Note.{Note}
-use Rattle.ioc_history.specs.declared.room.View.{View}
+use Rattle.ioc_history.specs.declared.cell.View.{View}
 use Rattle.ioc_history.specs.Key.{Key, Has as Has_key}
 use Rattle.ioc_history.specs.KeyLaws.{has_left, has_right}
 use Rattle.ioc_history.specs.Line.{Continues, holder}
 use Rattle.ioc_history.specs.Legal.{IsLegal, IsSound, key_of, map_of}
-use Rattle.ioc_history.specs.Held.{Holds, Cover}
+use Rattle.ioc_history.specs.Covering.{Holds, Cover}
 use Rattle.ioc_history.specs.Laws.{Lasts, GoesOn, StaysSound}
 use Rattle.ioc_history.specs.LinkChange.{TakesLink, link_note}
 use Rattle.ioc_journaled_set.specs.LinkLaws.{SetsLead, SetsMayBeOne}
 use Rattle.ioc_history.specs.Account.{AreKnown}
-use Rattle.ioc_set.specs.Held.{Held, now_of}
+use Rattle.ioc_set.specs.SetState.{SetState, now_of}
 use Rattle.ioc_set_store.specs.Resting.{resting}
 use Rattle.ioc_set.specs.Sound.{IsSound as IsSound-set}
 use Rattle.ioc_set.specs.Linking.{LeadsInto, MayBeOne}
@@ -33,7 +33,7 @@ use Rattle.ioc_journaled_set.proofs.Devices.{not_some, first_has, other_has}
 use Rattle.ioc_journaled_set.proofs.Parting.{rewired_back, begun_there, begun_back}
 use Rattle.ioc_journaled_set.proofs.Serving.{holds_on}
 
-abbrev AreOwned : {R D : Type 0} → Held R D → Type 0
+abbrev AreOwned : {R D : Type 0} → SetState R D → Type 0
 AreOwned h = (q : ℕ) → IsSome (get h.devices q) → IsSome (get h.records q)
 
 module _ {R : Type 0} (k : RecordRules R) (s q : ℕ) (rs : Records R) (r : R) (own : IsSome (get rs s)) where
@@ -46,7 +46,7 @@ module _ {R : Type 0} (k : RecordRules R) (s q : ℕ) (rs : Records R) (r : R) (
   unfolding put
   set_there has = has-put k (resting rs [] []) s q r has
 
-module _ {R D : Type 0} (k : RecordRules R) (before other after other_then rest : Held R D) (moment s : ℕ) (field : FieldNo) (link : LinkField) (come_to : World R) (takes : TakesLink k (now_of before) s field)
+module _ {R D : Type 0} (k : RecordRules R) (before other after other_then rest : SetState R D) (moment s : ℕ) (field : FieldNo) (link : LinkField) (come_to : World R) (takes : TakesLink k (now_of before) s field)
     (led : LeadsInto k before other moment s field link after other_then rest come_to) (apart : (q : ℕ) → IsSome (get before.records q) → get other.records q ≡ None) where
   abbrev freed : Records R
   freed = relinked k before.records s field no_link
@@ -94,7 +94,7 @@ module _ {R D : Type 0} (k : RecordRules R) (before other after other_then rest 
     left_behind : (q : ℕ) → IsSome (get rest.records q) → IsSome (get led.stay.devices q) → ⊥
     left_behind q at_rest has = elim (led.joins.devices q) [
       | inl p ↦
-          let there = subst (λ (o : Option D). IsSome o) (p.0 ∙ sym (ap (λ (h : Held R D). get h.devices q) led.then_anew)) has in
+          let there = subst (λ (o : Option D). IsSome o) (p.0 ∙ sym (ap (λ (h : SetState R D). get h.devices q) led.then_anew)) has in
           not_both (get freed) (get led.stay.records) (get rest.records) led.falls.shared q (⊎_elim (λ a. a) (λ b. absurd (none_some (get other.records q) (apart q (fell q at_rest)) b)) (led_back q (owned_then q there))) at_rest
       | inr p ↦ none_some (get led.stay.devices q) p.0 has
     ]
@@ -124,7 +124,7 @@ module _ {R D : Type 0} (k : RecordRules R) (before other after other_then rest 
     ]
 
     pub after_keeps : KeepsDevices had after
-    after_keeps q has = ap (λ (h : Held R D). is_some (get h.devices q)) led.then_anew ∙ both_have q (led_back q has)
+    after_keeps q has = ap (λ (h : SetState R D). is_some (get h.devices q)) led.then_anew ∙ both_have q (led_back q has)
 
   module _ (lasts : Lasts k) (sets_lead : SetsLead D k)
       (to : (t : ℕ) × (named_by (use_of link) ≡ t ∷ []) × IsSome (get other.records t)) (rest_sound : IsSound-set k rest)
@@ -147,12 +147,12 @@ holds_known k lasts base w old view log covers holds go legal is =
     subst (λ (x : View). Holds k (map_of k base x.seen) w) (sym is) (holds_on k lasts base w old.seen old.owns covers holds log go legal)
 
 -- Sets without a common key have no common record.
-pub sets_apart : {R D : Type 0} (one other : Held R D) (owned also : List Key) → Cover owned (now_of one) → Cover also (now_of other) → ((key : Key) → Has_key key owned → Has_key key also → ⊥)
+pub sets_apart : {R D : Type 0} (one other : SetState R D) (owned also : List Key) → Cover owned (now_of one) → Cover also (now_of other) → ((key : Key) → Has_key key owned → Has_key key also → ⊥)
     → (q : ℕ) → IsSome (get one.records q) → get other.records q ≡ None
 sets_apart one other owned also covers also_covers apart q has = not_some (get other.records q) (λ there. apart (key_of q) (covers q has) (also_covers q there))
 
 -- Two held sets without a common key may be joined, because the world that both know is sound.
-pub sets_may_be_one : {R D : Type 0} (k : RecordRules R) → Lasts k → StaysSound k → SetsMayBeOne D k → (base : World R) (one other : Held R D) → IsSound-set k one → IsSound-set k other
+pub sets_may_be_one : {R D : Type 0} (k : RecordRules R) → Lasts k → StaysSound k → SetsMayBeOne D k → (base : World R) (one other : SetState R D) → IsSound-set k one → IsSound-set k other
     → (v also one_then other_then : View) (log : List Note) → AreKnown k base v also log one_then other_then
     → Cover v.owns (now_of one) → Holds k (map_of k base v.seen) (now_of one) → Cover also.owns (now_of other) → Holds k (map_of k base also.seen) (now_of other)
     → ((key : Key) → Has_key key v.owns → Has_key key also.owns → ⊥) → MayBeOne one other

@@ -16,10 +16,10 @@ use Rattle.ioc_store.specs.World.{World, Has, IsClosed, at, begun, begun_at, put
 use Rattle.ioc_store.specs.Worlds.{has-put}
 use Rattle.ioc_store.specs.Scanning.{device_of, rewired}
 use Rattle.ioc_history.specs.Legal.{map_of}
-use Rattle.ioc_history.specs.Held.{AreHalves, Holds, WaitsWithin}
+use Rattle.ioc_history.specs.Covering.{AreHalves, Holds, WaitsWithin}
 use Rattle.ioc_history.specs.LinkChange.{link_note}
 use Rattle.ioc_history.specs.Laws.{LinkMoves, HeldAlike}
-use Rattle.ioc_set.specs.Held.{Held, now_of}
+use Rattle.ioc_set.specs.SetState.{SetState, now_of}
 use Rattle.ioc_set.specs.Doing.{with_kept}
 use Rattle.ioc_set.specs.Linking.{FallsApart, BecomeOne}
 use Rattle.ioc_journaled_set.specs.LinkLaws.{SetsLead}
@@ -41,7 +41,7 @@ none-waits n (x ∷ xs) apart =
 
 module _ {R D : Type 0} (k : RecordRules R) where
   -- The records with the link changed, as a world.
-  free-halves : (h stay rest : Held R D) (s : ℕ) (field : FieldNo) (link : LinkField) → FallsApart h (relinked k h.records s field link) s stay rest
+  free-halves : (h stay rest : SetState R D) (s : ℕ) (field : FieldNo) (link : LinkField) → FallsApart h (relinked k h.records s field link) s stay rest
       → AreHalves (put (now_of h) s (k.with_link (at k (now_of h) s) field link)) (now_of stay) (now_of rest)
   unfolding put at
   free-halves h stay rest s field link falls = record {
@@ -51,7 +51,7 @@ module _ {R D : Type 0} (k : RecordRules R) where
   }
 
   -- The waiting requests of each of two sets that are joined wait for records of that set.
-  module _ (stay other both other_then : Held R D) (moment s : ℕ) (field : FieldNo) (link : LinkField) (joins : BecomeOne stay other (relinked k stay.records s field link) both other_then)
+  module _ (stay other both other_then : SetState R D) (moment s : ℕ) (field : FieldNo) (link : LinkField) (joins : BecomeOne stay other (relinked k stay.records s field link) both other_then)
       (own : (x : Waiting) → Contains stay.waiting x → IsSome (get stay.records x.target)) (others_own : (x : Waiting) → Contains other.waiting x → IsSome (get other.records x.target)) where
     abbrev linked : World R
     linked = put (now_of stay) s (k.with_link (at k (now_of stay) s) field link)
@@ -107,11 +107,11 @@ module _ {R D : Type 0} (k : RecordRules R) where
         (λ d. both-second x.target (others_own x d))
         (Contains-append_cases stay.waiting other.waiting x (subst (λ (l : List Waiting). Contains l x) joins.waiting c))
 
-  begun-closed : (both : Held R D) (moment : ℕ) → IsClosed k (now_of both) → IsClosed k (begun_at moment (now_of both))
+  begun-closed : (both : SetState R D) (moment : ℕ) → IsClosed k (now_of both) → IsClosed k (begun_at moment (now_of both))
   unfolding at begun_at begun
   begun-closed both moment closed = record { closed = closed.closed }
 
-  other-there : (stay other both other_then : Held R D) (moment s : ℕ) (field : FieldNo) (link : LinkField) → BecomeOne stay other (relinked k stay.records s field link) both other_then
+  other-there : (stay other both other_then : SetState R D) (moment s : ℕ) (field : FieldNo) (link : LinkField) → BecomeOne stay other (relinked k stay.records s field link) both other_then
       → (q : ℕ) → IsSome (get other.records q) → Has (begun_at moment (now_of both)) q
   unfolding begun_at begun
   other-there stay other both other_then moment s field link joins q there = elim (joins.shared q) [
@@ -120,7 +120,7 @@ module _ {R D : Type 0} (k : RecordRules R) where
   ]
 
   -- The set is held once the change of the scan list is sent.
-  sent-held : HeldAlike k → (m : World R) (before both after : Held R D) (moment s : ℕ) (come_to : World R) → after.waiting ≡ both.waiting
+  sent-held : HeldAlike k → (m : World R) (before both after : SetState R D) (moment s : ℕ) (come_to : World R) → after.waiting ≡ both.waiting
       → with_kept after.records both.live both.waiting come_to ≡ rewired k (device_of k (record_at k before.records s)) (begun_at moment (now_of both)) s
       → Holds k m (rewired k (device_of k (at k (now_of before) s)) (begun_at moment (now_of both)) s) → Holds k m (now_of after)
   unfolding at begun_at begun
@@ -131,7 +131,7 @@ module _ {R D : Type 0} (k : RecordRules R) where
 
 pub sets-lead : {R : Type 0} (D : Type 0) (k : RecordRules R) → LinkMoves k → HeldAlike k → SetsLead D k
 sets-lead {R} D k moves alike base log before other after other_then rest come_to desk call moment s field link keys sound legal holds other_holds covers other_covers apart takes to led rest_sound =
-    let same : after.waiting ≡ led.both.waiting = ap (λ (x : Held R D). x.waiting) led.then_anew in
+    let same : after.waiting ≡ led.both.waiting = ap (λ (x : SetState R D). x.waiting) led.then_anew in
     let more = moves base (now_of before) (now_of other) (now_of led.stay) (now_of rest) (begun_at moment (now_of led.both)) log desk call moment s field no_link link keys sound legal holds other_holds covers other_covers
     (λ q has there. none_some (get other.records q) (apart q has) there) takes
     (λ t named. other-there k led.stay other led.both other_then moment s field link led.joins t

@@ -6,8 +6,8 @@ use Rattle.std.specs.FinMap.{empty, get, get-empty, keys}
 use Rattle.atomic_table.specs.Seated.{TableId}
 use Rattle.ioc_record.specs.RecordRules.{RecordRules, targets}
 use Rattle.ioc_store.specs.World.{World, Has, IsClosed, at}
-use Rattle.ioc_history.specs.Held.{Holds}
-use Rattle.ioc_set.specs.Held.{Held, nothing_held}
+use Rattle.ioc_history.specs.Covering.{Holds}
+use Rattle.ioc_set.specs.SetState.{SetState, nothing_held}
 use Rattle.ioc_set_store.specs.Resting.{resting}
 use Rattle.ioc_journaled_set.specs.Holding.{IsHeld}
 use Rattle.ioc_journaled_set.proofs.Keys.{no_keys}
@@ -29,15 +29,15 @@ module _ {R : Type 0} (k : RecordRules R) (missing : targets k k.missing ≡ [])
   unfolding at
   closed = record { closed = λ n target c. absurd (none_in target (subst (λ (l : List ℕ). Contains l target) (ap (λ (o : Option R). targets k (unwrap_or o k.missing)) (none_at R n) ∙ missing) c)) }
 
-  pub nothing_is_held : {D : Type 0} (base : World R) (had : ℕ → Bool) (table : TableId) (h : Held R D) → h ≡ nothing_held → IsHeld k base had table None h
-  nothing_is_held {D} base had table h is = subst (λ (x : Held R D). IsHeld k base had table None x) (sym is) (record {
+  pub nothing_is_held : {D : Type 0} (base : World R) (had : ℕ → Bool) (table : TableId) (h : SetState R D) → h ≡ nothing_held → IsHeld k base had table None h
+  nothing_is_held {D} base had table h is = subst (λ (x : SetState R D). IsHeld k base had table None x) (sym is) (record {
     owner = λ n has. nowhere R n has;
     holds = record { records = λ n has. absurd (nowhere R n has); waiting = λ n has. absurd (nowhere R n has); within = λ x c. absurd (none_in x c); shut = closed; apart = λ a n out has names. nowhere R n has };
     devices = λ n has. absurd (nowhere R n has);
   })
 
-pub no_numbers : {R D : Type 0} (h : Held R D) → h ≡ nothing_held → keys h.records ≡ []
-no_numbers {R} {D} h is = ap (λ (x : Held R D). keys x.records) is ∙ no_keys R
+pub no_numbers : {R D : Type 0} (h : SetState R D) → h ≡ nothing_held → keys h.records ≡ []
+no_numbers {R} {D} h is = ap (λ (x : SetState R D). keys x.records) is ∙ no_keys R
 
 -- A set without records is held as a part of any world.
 pub nothing_known : {R : Type 0} (k : RecordRules R) (m m' v : World R) → ((n : ℕ) → Has v n → ⊥) → Holds k m v → Holds k m' v

@@ -10,10 +10,10 @@ use Rattle.ioc_store.specs.ScanLaws.{rewired-either, moved-either}
 use Rattle.ioc_store.specs.Worlds.{sent_by}
 use Rattle.ioc_history.specs.Key.{Key}
 use Rattle.ioc_history.specs.Legal.{map_of}
-use Rattle.ioc_history.specs.Held.{Holds, Cover, AreHalves}
+use Rattle.ioc_history.specs.Covering.{Holds, Cover, AreHalves}
 use Rattle.ioc_history.specs.LinkChange.{TakesLink}
 use Rattle.ioc_history.specs.Laws.{LinkParts, HeldAlike}
-use Rattle.ioc_set.specs.Held.{Held, now_of}
+use Rattle.ioc_set.specs.SetState.{SetState, now_of}
 use Rattle.ioc_set.specs.Linking.{FallsApart, link_change_of}
 use Rattle.ioc_journaled_set.specs.LinkLaws.{SetsPart}
 
@@ -46,13 +46,13 @@ module _ {R : Type 0} (k : RecordRules R) where
   unfolding begun_at begun
   waiting-begun w moment = refl
 
-  module _ {D : Type 0} (h : Held R D) (moment s : ℕ) (field : FieldNo) (link : LinkField) where
+  module _ {D : Type 0} (h : SetState R D) (moment s : ℕ) (field : FieldNo) (link : LinkField) where
     changed-waiting : (link_change_of k h moment s field link).waiting ≡ h.waiting
     unfolding put
     changed-waiting = rewired-waiting (device_of k (at k (begun_at moment (now_of h)) s)) (put (begun_at moment (now_of h)) s (k.with_link (at k (begun_at moment (now_of h)) s) field link)) s
         ∙ waiting-begun (now_of h) moment
 
-    pub change-halves : (stay rest : Held R D) → FallsApart h (link_change_of k h moment s field link).records s stay rest → AreHalves (link_change_of k h moment s field link) (now_of stay) (now_of rest)
+    pub change-halves : (stay rest : SetState R D) → FallsApart h (link_change_of k h moment s field link).records s stay rest → AreHalves (link_change_of k h moment s field link) (now_of stay) (now_of rest)
     change-halves stay rest falls = record {
       records = falls.shared;
       first = record { waiting = λ n has. falls.waiting.same n has ∙ ap (at_record n) (sym changed-waiting); within = falls.waiting.own };

@@ -17,11 +17,11 @@ use Rattle.ioc_history.specs.Key.{Key}
 use Rattle.ioc_history.specs.KeyLaws.{has_left}
 use Rattle.ioc_history.specs.Line.{Continues}
 use Rattle.ioc_history.specs.Legal.{IsLegal, IsSound, key_of, map_of}
-use Rattle.ioc_history.specs.Held.{Holds, Cover}
+use Rattle.ioc_history.specs.Covering.{Holds, Cover}
 use Rattle.ioc_history.specs.Laws.{Lasts, GoesOn}
 use Rattle.ioc_history.specs.LinkChange.{TakesLink, link_note}
 use Rattle.ioc_journaled_set.specs.LinkLaws.{SetsPart}
-use Rattle.ioc_set.specs.Held.{Held, now_of}
+use Rattle.ioc_set.specs.SetState.{SetState, now_of}
 use Rattle.ioc_set.specs.Sound.{IsSound as IsSound-set}
 use Rattle.ioc_set.specs.Linking.{FallsApart, link_change_of}
 use Rattle.ioc_history.specs.Key.{Has as Has_key}
@@ -52,7 +52,7 @@ module _ {R : Type 0} (k : RecordRules R) where
   begun_back w moment n has = has
 
   -- A link field that may be put takes another link.
-  pub takes_link : {D : Type 0} (h : Held R D) (s : ℕ) (field : FieldNo) → HasLink k h.records s field → stops_put (common_at k (now_of h) s) field ≡ false → TakesLink k (now_of h) s field
+  pub takes_link : {D : Type 0} (h : SetState R D) (s : ℕ) (field : FieldNo) → HasLink k h.records s field → stops_put (common_at k (now_of h) s) field ≡ false → TakesLink k (now_of h) s field
   unfolding at
   takes_link h s field has allowed = record {
     there = ap (λ (o : Option R). is_some o) has.1;
@@ -60,7 +60,7 @@ module _ {R : Type 0} (k : RecordRules R) where
     allowed = allowed;
   }
 
-module _ {R D : Type 0} (k : RecordRules R) (before stay rest : Held R D) (moment s : ℕ) (field : FieldNo) (link : LinkField) (takes : TakesLink k (now_of before) s field)
+module _ {R D : Type 0} (k : RecordRules R) (before stay rest : SetState R D) (moment s : ℕ) (field : FieldNo) (link : LinkField) (takes : TakesLink k (now_of before) s field)
     (falls : FallsApart before (link_change_of k before moment s field link).records s stay rest) where
   abbrev begins : World R
   begins = begun_at moment (now_of before)

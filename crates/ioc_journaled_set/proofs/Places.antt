@@ -13,7 +13,7 @@ use Rattle.ioc_events.specs.Holding.{IsCounted}
 use Rattle.ioc_history.specs.declared.entry.Note.{Note}
 use Rattle.ioc_history.specs.Line.{Continues}
 use Rattle.ioc_history.specs.Legal.{IsLegal, IsSound, map_of}
-use Rattle.ioc_history.specs.Held.{Holds}
+use Rattle.ioc_history.specs.Covering.{Holds}
 use Rattle.ioc_history.specs.Laws.{LiveLasts, PlaceForOneMore, StaysSound}
 use Rattle.ioc_journaled_set.specs.Puts.{AreCounted}
 use Rattle.ioc_journaled_set.proofs.Counted.{counted_on}

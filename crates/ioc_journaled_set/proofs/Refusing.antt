@@ -18,10 +18,10 @@ use Rattle.ioc_history.specs.declared.entry.Note.{Note}
 use Rattle.ioc_history.specs.Key.{Key}
 use Rattle.ioc_history.specs.Line.{Continues, noted}
 use Rattle.ioc_history.specs.Legal.{AreLiveAlike, IsLegal, IsSound, IsUntouched, Fits, done, map_of}
-use Rattle.ioc_history.specs.Held.{Holds, Cover}
+use Rattle.ioc_history.specs.Covering.{Holds, Cover}
 use Rattle.ioc_history.specs.Laws.{Lasts, GoesOn, StaysSound}
 use Rattle.ioc_history.specs.Account.{journalled, MayFollow, Added}
-use Rattle.ioc_set.specs.Held.{Held, now_of}
+use Rattle.ioc_set.specs.SetState.{SetState, now_of}
 use Rattle.ioc_journaled_set.specs.LinkChanges.{IsKnown, link_refusal}
 use Rattle.ioc_journaled_set.proofs.Serving.{holds_on}
 
@@ -59,7 +59,7 @@ module _ {R : Type 0} (k : RecordRules R) where
       fourth {A = Stepped R} (contains_key w.records s) (all_there w (named_by (use_of link))) (is_some (k.link (at k w s) field)) (stops_put (common_at k w s) field) _ _ _ _ _ there all has stops
 
 -- A link field of a held set: its record is there, and the field is a link.
-module _ {R D : Type 0} (k : RecordRules R) (h : Held R D) (s : ℕ) (field : FieldNo) (has : HasLink k h.records s field) where
+module _ {R D : Type 0} (k : RecordRules R) (h : SetState R D) (s : ℕ) (field : FieldNo) (has : HasLink k h.records s field) where
   pub link_there : Has (now_of h) s
   link_there = ap (λ (o : Option R). is_some o) has.1
 

@@ -20,16 +20,16 @@ use Rattle.ioc_events.specs.Local.{AskAlike}
 use Rattle.ioc_events.specs.Step.{names, stepped}
 use Rattle.ioc_events.specs.StepRules.{Step, KeepsRecords}
 use Rattle.ioc_history.specs.declared.entry.Note.{Note}
-use Rattle.ioc_history.specs.declared.room.View.{View}
+use Rattle.ioc_history.specs.declared.cell.View.{View}
 use Rattle.ioc_history.specs.Key.{Key, Has as Has_key}
 use Rattle.ioc_history.specs.Line.{Continues, holder, noted}
 use Rattle.ioc_history.specs.KeyLaws.{has_left}
 use Rattle.ioc_history.specs.Legal.{AreLiveAlike, IsLegal, IsSound, key_of, notifications_key, map_of, done}
-use Rattle.ioc_history.specs.Held.{Holds, Cover, CancelsWithin, AreHeldAlike, IsOf, IsDone, question_note}
+use Rattle.ioc_history.specs.Covering.{Holds, Cover, CancelsWithin, AreHeldAlike, IsOf, IsDone, question_note}
 use Rattle.ioc_history.specs.Laws.{Lasts, OneMore, HoldersMove, MovesAlike, Asks, HeldAlike, GoesOn}
 use Rattle.ioc_history.specs.Account.{journalled, number_given, AreRecords, IsHolder, MayFollow, Added}
 use Rattle.ioc_journaled_set.specs.Holding.{IsOwner}
-use Rattle.ioc_set.specs.Held.{Held, NoneIsLive, now_of, folded, done_by, held_after}
+use Rattle.ioc_set.specs.SetState.{SetState, NoneIsLive, now_of, folded, done_by, held_after}
 use Rattle.ioc_set.specs.Doing.{is_ordinary, with_place, Does}
 
 pub one_there : {X : Type 0} (x y : X) → Contains (x ∷ []) y → x ≡ y
@@ -117,11 +117,11 @@ module _ {R : Type 0} (k : RecordRules R) where
     counted = record { counted = c.counted.counted; live = c.counted.live; waits_once = c.counted.waits_once };
   }
 
-  placed_now : {D : Type 0} (full : Bool) (h : Held R D) → now_of (cond full (folded h) h) ≡ now_of h
+  placed_now : {D : Type 0} (full : Bool) (h : SetState R D) → now_of (cond full (folded h) h) ≡ now_of h
   placed_now true h = refl
   placed_now false h = refl
 
-module _ {R D : Type 0} (k : RecordRules R) (gives : D → Ask → ℕ → Answer → D → Type 0) (h h' : Held R D) (moment : ℕ) (event : Event) (reply : Reply) (come_to : World R)
+module _ {R D : Type 0} (k : RecordRules R) (gives : D → Ask → ℕ → Answer → D → Type 0) (h h' : SetState R D) (moment : ℕ) (event : Event) (reply : Reply) (come_to : World R)
     (does : Does k gives h moment event reply h' come_to) (there : (n : ℕ) → Contains (names event) n → Has (now_of h) n) where
   abbrev e : Entry
   e = does.entry
@@ -145,7 +145,7 @@ module _ {R D : Type 0} (k : RecordRules R) (gives : D → Ask → ℕ → Answe
       λ i. record { moment = does.moment i; event = does.event i; answers = told i; reply = does.answer i }
 
   now_then : now_of h' ≡ now_of (held_after k (with_place h) e h'.devices)
-  now_then = ap (λ (z : Held R D). now_of z) does.after
+  now_then = ap (λ (z : SetState R D). now_of z) does.after
 
   pub records_then : (now_of h').records ≡ after.records
   records_then = ap (λ (w : World R). w.records) now_then ∙ ap (λ (w : World R). (done_by k w e).world.records) was_now

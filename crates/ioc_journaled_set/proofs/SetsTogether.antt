@@ -14,11 +14,11 @@ use Rattle.ioc_record.specs.RecordRules.{RecordRules}
 use Rattle.ioc_store.specs.World.{World}
 use Rattle.ioc_events.specs.Holding.{how_many, IsCounted}
 use Rattle.ioc_history.specs.Legal.{IsSound as IsSound-world}
-use Rattle.ioc_history.specs.Held.{Holds}
+use Rattle.ioc_history.specs.Covering.{Holds}
 use Rattle.ioc_history.proofs.Basics.{waits-too, passes-there}
 use Rattle.ioc_history.proofs.Placing.{there-counted, few-of, has-waiting, is-held-live, live-once, held-live}
 use Rattle.ioc_history.proofs.LiveFew.{numbers, number-there, entry-live}
-use Rattle.ioc_set.specs.Held.{Held, now_of}
+use Rattle.ioc_set.specs.SetState.{SetState, now_of}
 use Rattle.ioc_set.specs.Sound.{IsSound}
 use Rattle.ioc_set.specs.Linking.{MayBeOne}
 use Rattle.ioc_set_store.specs.Recounting.{together}
@@ -122,7 +122,7 @@ module _ (one : List Live) where
       fewer = let all = least other in omega (arith, all, second)
 
 module _ {R : Type 0} (D : Type 0) (k : RecordRules R) where
-  module _ (m : World R) (before other : Held R D) (sound : IsSound-world k m) (one : IsSound k before) (two : IsSound k other) (holds : Holds k m (now_of before)) (others : Holds k m (now_of other))
+  module _ (m : World R) (before other : SetState R D) (sound : IsSound-world k m) (one : IsSound k before) (two : IsSound k other) (holds : Holds k m (now_of before)) (others : Holds k m (now_of other))
       (disjoint : (q : ℕ) → IsSome (get before.records q) → get other.records q ≡ None) where
     waits-in-all : (v : World R) → Holds k m v → (x : Waiting) → Contains v.waiting x → Contains m.waiting x
     waits-in-all v h x c = waits-too v.waiting m.waiting x (sym (h.waiting x.target (h.within x c))) c

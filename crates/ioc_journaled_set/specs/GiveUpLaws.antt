@@ -17,9 +17,9 @@ use Rattle.ioc_history.specs.declared.entry.Note.{Note}
 use Rattle.ioc_history.specs.Key.{Key, Has as Has_key}
 use Rattle.ioc_history.specs.Legal.{IsLegal, map_of, notifications_key}
 use Rattle.ioc_history.specs.Legal.{IsSound as IsSound-world}
-use Rattle.ioc_history.specs.Held.{Holds, Cover}
+use Rattle.ioc_history.specs.Covering.{Holds, Cover}
 use Rattle.ioc_history.specs.Laws.{GoesOn}
-use Rattle.ioc_set.specs.Held.{Held, now_of, held_after}
+use Rattle.ioc_set.specs.SetState.{SetState, now_of, held_after}
 use Rattle.ioc_set.specs.Sound.{IsSound}
 use Rattle.ioc_set.specs.Doing.{Does, with_place}
 use Rattle.ioc_journaled_set.specs.Puts.{told_at}
@@ -33,11 +33,11 @@ abbrev pub cancel_note : (desk call moment number : ℕ) → List Key → Note
 cancel_note desk call moment number keys = record { entry = record { desk = desk; call = call; entry = cancel_entry moment number }; keys = keys }
 
 -- Holds if no record is in both sets.
-abbrev pub ShareNone : {R D : Type 0} → Held R D → Held R D → Type 0
+abbrev pub ShareNone : {R D : Type 0} → SetState R D → SetState R D → Type 0
 ShareNone one other = (q : ℕ) → IsSome (get one.records q) → get other.records q ≡ None
 
 -- The count of a put with notification in all these sets.
-abbrev pub holders_in_all : {R D : Type 0} → ℕ → List (Held R D) → ℕ
+abbrev pub holders_in_all : {R D : Type 0} → ℕ → List (SetState R D) → ℕ
 holders_in_all number sets = sum_by (λ h. holders_of number h.live) sets
 
 -- Holds if no device was called, nothing is sent and nothing has ended.
@@ -49,7 +49,7 @@ pub record CameToNothing {R : Type 0} (come_to : World R) : Type 0 where
 module _ {R D : Type 0} (k : RecordRules R) where
   -- A put with notification is canceled in a set, which is otherwise unchanged; the cancel, with
   -- its time stamp, is appended to the set's own history.
-  pub record GivesUp (moment number : ℕ) (before after : Held R D) : Type 0 where
+  pub record GivesUp (moment number : ℕ) (before after : SetState R D) : Type 0 where
     pub records : after.records ≡ (cancelled k number (now_of before)).records
     pub waiting : after.waiting ≡ (cancelled k number (now_of before)).waiting
     pub live : after.live ≡ (cancelled k number (now_of before)).live
@@ -57,20 +57,20 @@ module _ {R D : Type 0} (k : RecordRules R) where
     pub told : after ≡ held_after k (with_place before) (cancel_entry moment number) after.devices
 
   -- Holds if a set is sound and held, and these keys include those of its records.
-  pub record IsHeldSoundly (m : World R) (keys : List Key) (h : Held R D) : Type 0 where
+  pub record IsHeldSoundly (m : World R) (keys : List Key) (h : SetState R D) : Type 0 where
     pub sound : IsSound k h
     pub holds : Holds k m (now_of h)
     pub covers : Cover keys (now_of h)
 
   -- Each of the sets in which the put with notification is canceled is held in the world of all
   -- records then; no record is part of it, and the counts of all others are unchanged.
-  pub record IsGivenUpByAll (moment number : ℕ) (sets : List (Held R D)) (before after : World R) : Type 0 where
-    pub held : (h then : Held R D) → Contains sets h → GivesUp moment number h then → Holds k after (now_of then)
+  pub record IsGivenUpByAll (moment number : ℕ) (sets : List (SetState R D)) (before after : World R) : Type 0 where
+    pub held : (h then : SetState R D) → Contains sets h → GivesUp moment number h then → Holds k after (now_of then)
     pub nobody : holders_of number after.live ≡ 0
     pub others : (other : ℕ) → other ≢ number → holders_of other after.live ≡ holders_of other before.live
 
   -- The result of a cancel on a set.
-  pub record IsCancelled (moment number : ℕ) (before : Held R D) (reply : Reply) (after : Held R D) (come_to : World R) : Type 0 where
+  pub record IsCancelled (moment number : ℕ) (before : SetState R D) (reply : Reply) (after : SetState R D) (come_to : World R) : Type 0 where
     pub answer : reply ≡ Plain
     pub gives_up : GivesUp moment number before after
     pub nothing : CameToNothing come_to
@@ -78,7 +78,7 @@ module _ {R D : Type 0} (k : RecordRules R) where
   -- A cancel of a put with notification that is live on a sound set cancels it there and has no
   -- other effect.
   abbrev pub CancelGivesUp : (D → Ask → ℕ → Answer → D → Type 0) → Type 0
-  CancelGivesUp gives = (before after : Held R D) (moment number : ℕ) (reply : Reply) (come_to : World R)
+  CancelGivesUp gives = (before after : SetState R D) (moment number : ℕ) (reply : Reply) (come_to : World R)
       → IsSound k before → is_live number before.live ≡ true → Does k gives before moment (Cancel number) reply after come_to
       → IsCancelled moment number before reply after come_to
 
@@ -87,9 +87,9 @@ module _ {R : Type 0} (D : Type 0) (k : RecordRules R) where
   -- the world of all, canceling it in all of them is one event of all records. The note has the
   -- keys of all the sets and that of the puts with notification.
   abbrev pub SetsGiveUp : Type 0
-  SetsGiveUp = (base : World R) (log : List Note) (sets : List (Held R D)) (desk call moment number : ℕ) (keys : List Key)
+  SetsGiveUp = (base : World R) (log : List Note) (sets : List (SetState R D)) (desk call moment number : ℕ) (keys : List Key)
       → IsSound-world k base → IsLegal k base log
-      → ((h : Held R D) → Contains sets h → IsHeldSoundly k (map_of k base log) keys h) → AllPairs ShareNone sets
+      → ((h : SetState R D) → Contains sets h → IsHeldSoundly k (map_of k base log) keys h) → AllPairs ShareNone sets
       → holders_in_all number sets ≡ holders_of number (map_of k base log).live → holders_of number (map_of k base log).live ≢ 0
       → Has_key notifications_key keys
       → GoesOn k base log (cancel_note desk call moment number keys) (IsGivenUpByAll k moment number sets (map_of k base log))

@@ -15,35 +15,35 @@ use Rattle.ioc_journaled_set.specs.Sets.{AreItsSets}
 use Rattle.ioc_journaled_set.specs.Puts.{PutsView, told_at}
 use Rattle.ioc_record.specs.RecordRules.{RecordRules}
 use Rattle.ioc_store.specs.World.{World}
-use Rattle.ioc_history.specs.declared.room.View.{View}
+use Rattle.ioc_history.specs.declared.cell.View.{View}
 use Rattle.ioc_history.specs.Legal.{map_of}
-use Rattle.ioc_set.specs.Held.{Held}
+use Rattle.ioc_set.specs.SetState.{SetState}
 use Rattle.ioc_journaled_set.specs.Holding.{HeldView, IsLent}
 
 module _ {R D : Type 0} (k : RecordRules R) (base : World R) where
-  abbrev pub EachIsLent : (ℕ → Bool) → TableId → List (Held R D) → List (Option Pass) → Type 0
-  EachIsLent had table sets passes = (i : ℕ) (d : Held R D) (e : Option Pass) → i < length sets → IsLent k base had table (slice_index_or sets i d) (slice_index_or passes i e)
+  abbrev pub EachIsLent : (ℕ → Bool) → TableId → List (SetState R D) → List (Option Pass) → Type 0
+  EachIsLent had table sets passes = (i : ℕ) (d : SetState R D) (e : Option Pass) → i < length sets → IsLent k base had table (slice_index_or sets i d) (slice_index_or passes i e)
 
 -- The sets of these journaled sets.
-abbrev pub sets_of : {R D : Type 0} → List (HeldView R D) → List (Held R D)
+abbrev pub sets_of : {R D : Type 0} → List (HeldView R D) → List (SetState R D)
 sets_of held = map (λ (h : HeldView _ _). h.set) held
 
 -- Holds if no record is part of the put with notification, or some of its records aren't in these
 -- sets.
-abbrev pub HaveNotAll : {R D : Type 0} → ℕ → List Live → List (Held R D) → Type 0
+abbrev pub HaveNotAll : {R D : Type 0} → ℕ → List Live → List (SetState R D) → Type 0
 HaveNotAll number live sets = (holders_in number live ≡ 0) ⊎ (AreItsSets number (holders_in number live) sets → ⊥)
 
 -- Holds if these journaled sets have these sets, in order.
-abbrev pub AreSameSets : {R D : Type 0} → List (Held R D) → List (HeldView R D) → Type 0
-AreSameSets {R} {D} before after = (i : ℕ) (d : Held R D) (e : HeldView R D) → i < length before → (slice_index_or after i e).set ≡ slice_index_or before i d
+abbrev pub AreSameSets : {R D : Type 0} → List (SetState R D) → List (HeldView R D) → Type 0
+AreSameSets {R} {D} before after = (i : ℕ) (d : SetState R D) (e : HeldView R D) → i < length before → (slice_index_or after i e).set ≡ slice_index_or before i d
 
-module _ {R D : Type 0} (k : RecordRules R) (base : World R) (moment number : ℕ) (desk : DeskView) (before : List (Held R D)) where
+module _ {R D : Type 0} (k : RecordRules R) (base : World R) (moment number : ℕ) (desk : DeskView) (before : List (SetState R D)) where
   -- The put with notification is canceled in each of these journaled sets by one call of a desk,
   -- which is the last of the legal list that the desk, the sets and the table of the puts with
   -- notification have seen then. No record is part of it any more, the counts of all others are
   -- unchanged, and none has begun meanwhile.
   pub record HeldGaveUp (kept : View) (desk_then : DeskView) (after : List (HeldView R D)) (kept_then : View) : Type 0 where
-    pub gives_up : (i : ℕ) (d : Held R D) (e : HeldView R D) → i < length before → GivesUp k moment number (slice_index_or before i d) (slice_index_or after i e).set
+    pub gives_up : (i : ℕ) (d : SetState R D) (e : HeldView R D) → i < length before → GivesUp k moment number (slice_index_or before i d) (slice_index_or after i e).set
     pub call : Call k base desk (told_at moment (Cancel number) Plain) desk_then
     pub seen : (i : ℕ) (d : HeldView R D) → i < length after → (slice_index_or after i d).seen ≡ desk_then.seen
     pub keeps : kept_then ≡ holder desk_then.seen puts_key

@@ -14,23 +14,23 @@ use Rattle.ioc_events.specs.declared.event.Event.{Event}
 use Rattle.ioc_events.specs.declared.reply.Reply.{Reply}
 use Rattle.ioc_events.specs.Step.{stepped}
 use Rattle.ioc_history.specs.declared.entry.Note.{Note}
-use Rattle.ioc_history.specs.declared.room.View.{View}
+use Rattle.ioc_history.specs.declared.cell.View.{View}
 use Rattle.ioc_history.specs.Legal.{map_of}
-use Rattle.ioc_history.specs.Held.{Holds, Cover}
+use Rattle.ioc_history.specs.Covering.{Holds, Cover}
 use Rattle.ioc_values.specs.declared.error.IocError.{IocError}
 use Rattle.ioc_history.specs.Account.{Pass, DeskView, IsHolder, AreRecords, Call}
 use Rattle.ioc_history.specs.Places.{IsNoPlace}
-use Rattle.ioc_set.specs.Held.{Held, now_of}
+use Rattle.ioc_set.specs.SetState.{SetState, now_of}
 use Rattle.ioc_set.specs.Sound.{IsSound}
 use Rattle.ioc_set.specs.NoCalls.{no_call}
 use Rattle.ioc_set.specs.Doing.{Does}
 
 -- A set, and the beginning of the journal's list that its pass has seen.
 pub record HeldView (R D : Type 0) : Type 0 where
-  pub set : Held R D
+  pub set : SetState R D
   pub seen : List Note
 
-abbrev pub held_view : {R D : Type 0} → Held R D → List Note → HeldView R D
+abbrev pub held_view : {R D : Type 0} → SetState R D → List Note → HeldView R D
 held_view h seen = record { set = h; seen = seen }
 
 -- The numbers of the set's records.
@@ -38,7 +38,7 @@ abbrev pub numbers_of : {R D : Type 0} → HeldView R D → List ℕ
 numbers_of v = keys v.set.records
 
 -- Holds if exactly those of the set's records have a device that had one at the load.
-abbrev pub KeepsDevices : {R D : Type 0} → (ℕ → Bool) → Held R D → Type 0
+abbrev pub KeepsDevices : {R D : Type 0} → (ℕ → Bool) → SetState R D → Type 0
 KeepsDevices had h = (n : ℕ) → Has (now_of h) n → is_some (get h.devices n) ≡ had n
 
 -- The list that the pass has seen, which is empty without a pass.
@@ -54,20 +54,20 @@ pub record IsOwner {R : Type 0} (table id : TableId) (v : View) (w : World R) : 
 
 -- The errors of an event on the records of a set that isn't added to the journal: its record has no
 -- such field, the field can't be put, the journal has no place left, or allocation fails.
-abbrev pub IsNoCall : {R D : Type 0} → RecordRules R → Held R D → Event → IocError → Type 0
+abbrev pub IsNoCall : {R D : Type 0} → RecordRules R → SetState R D → Event → IocError → Type 0
 IsNoCall k h event error = (no_call k (now_of h) event ≡ Some error) ⊎ IsNoPlace error
 
 module _ {R D : Type 0} (k : RecordRules R) (base : World R) where
   -- The invariant of a journaled set: it has a pass for its records, the set is equal to the world
   -- of all records at its own records, and each record has its device.
-  pub record IsHeld (had : ℕ → Bool) (table : TableId) (pass : Option Pass) (h : Held R D) : Type 0 where
+  pub record IsHeld (had : ℕ → Bool) (table : TableId) (pass : Option Pass) (h : SetState R D) : Type 0 where
     pub owner : MatchOption pass ((n : ℕ) → Has (now_of h) n → ⊥) (λ (p : Pass). IsOwner table p.table_id (cell_view {V = View} p) (now_of h))
     pub holds : Holds k (map_of k base (seen_by pass)) (now_of h)
     pub devices : KeepsDevices had h
 
   -- Holds of a set that was taken from its journaled set, with the pass that owns the keys of its
   -- records.
-  pub record IsLent (had : ℕ → Bool) (table : TableId) (h : Held R D) (slot : Option Pass) : Type 0 where
+  pub record IsLent (had : ℕ → Bool) (table : TableId) (h : SetState R D) (slot : Option Pass) : Type 0 where
     pub pass : Pass
     pub there : slot ≡ Some pass
     pub owner : IsOwner table pass.table_id (cell_view {V = View} pass) (now_of h)

@@ -1,7 +1,7 @@
 pub mod Changing
 pub mod GiveUpLaws
 pub mod GivingUp
-pub mod HeldViewCode
+pub mod JournaledSetCode
 pub mod Holding
 pub mod LinkChanges
 pub mod LinkLaws

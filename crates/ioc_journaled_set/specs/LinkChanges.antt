@@ -16,7 +16,7 @@ use Rattle.ioc_history.specs.declared.entry.Note.{Note}
 use Rattle.ioc_history.specs.Key.{Key, record_keys}
 use Rattle.ioc_history.specs.Legal.{map_of}
 use Rattle.ioc_history.specs.Account.{DeskView, Call}
-use Rattle.ioc_set.specs.Held.{Held, now_of}
+use Rattle.ioc_set.specs.SetState.{SetState, now_of}
 use Rattle.ioc_set.specs.Doing.{with_kept}
 use Rattle.ioc_set.specs.Linking.{FallsApart, LeadsInto, link_change_of}
 use Rattle.ioc_journaled_set.specs.Holding.{HeldView}
@@ -30,7 +30,7 @@ abbrev pub link_refusal : (moment number : ℕ) → FieldNo → LinkField → En
 link_refusal moment number field link = record { moment = moment; event = Link number field link; answers = []; reply = Refused PutDisabled }
 
 -- The keys of a set's records.
-abbrev pub keys_of : {R D : Type 0} → Held R D → List Key
+abbrev pub keys_of : {R D : Type 0} → SetState R D → List Key
 keys_of h = record_keys (keys h.records)
 
 -- Holds if there is a record with this number after some calls, and so after all, because calls add

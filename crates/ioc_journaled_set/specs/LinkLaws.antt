@@ -11,10 +11,10 @@ use Rattle.ioc_history.specs.declared.entry.Note.{Note}
 use Rattle.ioc_history.specs.Key.{Key}
 use Rattle.ioc_history.specs.Legal.{IsLegal, map_of}
 use Rattle.ioc_history.specs.Legal.{IsSound as IsSound-world}
-use Rattle.ioc_history.specs.Held.{Holds, Cover}
+use Rattle.ioc_history.specs.Covering.{Holds, Cover}
 use Rattle.ioc_history.specs.LinkChange.{TakesLink, link_note}
 use Rattle.ioc_history.specs.Laws.{GoesOn}
-use Rattle.ioc_set.specs.Held.{Held, now_of}
+use Rattle.ioc_set.specs.SetState.{SetState, now_of}
 use Rattle.ioc_set.specs.Sound.{IsSound}
 use Rattle.ioc_set.specs.Linking.{FallsApart, LeadsInto, MayBeOne, link_change_of}
 
@@ -22,7 +22,7 @@ module _ {R : Type 0} (D : Type 0) (k : RecordRules R) where
   -- If a link of a held set is changed to a record of the set, or to none, both resulting sets are
   -- held.
   abbrev pub SetsPart : Type 0
-  SetsPart = (base : World R) (log : List Note) (before stay rest : Held R D) (desk call moment s : ℕ) (field : FieldNo) (link : LinkField) (keys : List Key)
+  SetsPart = (base : World R) (log : List Note) (before stay rest : SetState R D) (desk call moment s : ℕ) (field : FieldNo) (link : LinkField) (keys : List Key)
       → IsSound-world k base → IsLegal k base log → Holds k (map_of k base log) (now_of before) → Cover keys (now_of before)
       → TakesLink k (now_of before) s field → ((t : ℕ) → Contains (named_by (use_of link)) t → Has (now_of before) t)
       → FallsApart before (link_change_of k before moment s field link).records s stay rest → IsSound k stay → IsSound k rest
@@ -30,14 +30,14 @@ module _ {R : Type 0} (D : Type 0) (k : RecordRules R) where
 
   -- Two held sets without a common record may be joined.
   abbrev pub SetsMayBeOne : Type 0
-  SetsMayBeOne = (m : World R) (before other : Held R D) → IsSound-world k m → IsSound k before → IsSound k other
+  SetsMayBeOne = (m : World R) (before other : SetState R D) → IsSound-world k m → IsSound k before → IsSound k other
       → Holds k m (now_of before) → Holds k m (now_of other) → ((q : ℕ) → IsSome (get before.records q) → get other.records q ≡ None)
       → MayBeOne before other
 
   -- If a link of a held set is changed to a record of another held set, the resulting sets are
   -- held.
   abbrev pub SetsLead : Type 0
-  SetsLead = (base : World R) (log : List Note) (before other after other_then rest : Held R D) (come_to : World R) (desk call moment s : ℕ) (field : FieldNo) (link : LinkField) (keys : List Key)
+  SetsLead = (base : World R) (log : List Note) (before other after other_then rest : SetState R D) (come_to : World R) (desk call moment s : ℕ) (field : FieldNo) (link : LinkField) (keys : List Key)
       → IsSound-world k base → IsLegal k base log → Holds k (map_of k base log) (now_of before) → Holds k (map_of k base log) (now_of other)
       → Cover keys (now_of before) → Cover keys (now_of other)
       → ((q : ℕ) → IsSome (get before.records q) → get other.records q ≡ None)

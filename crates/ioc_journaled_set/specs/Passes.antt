@@ -7,12 +7,12 @@ use Rattle.crossbeam_utils.specs.Seq.{cell_view}
 use Rattle.ioc_record.specs.RecordRules.{RecordRules}
 use Rattle.ioc_store.specs.World.{World}
 use Rattle.ioc_history.specs.declared.entry.Note.{Note}
-use Rattle.ioc_history.specs.declared.room.View.{View}
+use Rattle.ioc_history.specs.declared.cell.View.{View}
 use Rattle.ioc_history.specs.Key.{Key, Has, record_keys}
 use Rattle.ioc_history.specs.Line.{holder, nobody, Continues}
 use Rattle.ioc_history.specs.Legal.{IsLegal, IsSound}
 use Rattle.ioc_history.specs.Account.{Pass, IsHolder, AreNoDesks}
-use Rattle.ioc_set.specs.Held.{Held}
+use Rattle.ioc_set.specs.SetState.{SetState}
 
 abbrev pub view_of : Pass → View
 view_of p = cell_view {V = View} p
@@ -58,18 +58,18 @@ pub record AreTakenOver {R : Type 0} (k : RecordRules R) (base : World R) (befor
 
 module _ {R D : Type 0} where
   -- The keys of a set's records.
-  abbrev pub keys_of : Held R D → List Key
+  abbrev pub keys_of : SetState R D → List Key
   keys_of h = record_keys (keys h.records)
 
-  abbrev pub is_key_of : Held R D → Key → Bool
+  abbrev pub is_key_of : SetState R D → Key → Bool
   is_key_of h key = (key.0 == 0) && contains_key h.records key.1
 
   -- Those of these keys that aren't of the set's records.
-  abbrev pub other_keys : Held R D → List Key → List Key
+  abbrev pub other_keys : SetState R D → List Key → List Key
   other_keys h owned = filter (λ (key : Key). not (is_key_of h key)) owned
 
   -- Holds if a pass is in the slot that owns the keys of the set's records and has seen this list.
-  pub record IsDealt (table : TableId) (seen : List Note) (h : Held R D) (slot : Slot) : Type 0 where
+  pub record IsDealt (table : TableId) (seen : List Note) (h : SetState R D) (slot : Slot) : Type 0 where
     pub pass : Pass
     pub there : slot ≡ Some pass
     pub same : pass.table_id ≡ table

@@ -17,7 +17,7 @@ use Rattle.ioc_events.specs.declared.reply.Reply.{Reply}
 use Rattle.ioc_events.specs.declared.reply.Reply.TheVariants.{Live as Live-reply, Refused}
 use Rattle.ioc_history.specs.Account.{DeskView, Call, Pass, puts_key, calls, numbers_given}
 use Rattle.ioc_history.specs.declared.entry.Note.{Note}
-use Rattle.ioc_history.specs.declared.room.View.{View}
+use Rattle.ioc_history.specs.declared.cell.View.{View}
 use Rattle.ioc_history.specs.Line.{holder}
 use Rattle.ioc_history.specs.Legal.{map_of}
 

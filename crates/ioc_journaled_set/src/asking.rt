@@ -8,10 +8,10 @@ ghost use Rattle.ioc_history.specs.Account.{Call, MayFollow, Added, number_given
 ghost use Rattle.ioc_history.specs.Places.{IsNoPlace};
 ghost use Rattle.ioc_journaled_set.specs.Puts.{puts_view, WasAsked, WasStale};
 
-use crate::puts::AllPuts;
+use crate::shared_notifications::SharedNotifications;
 use ioc_events::{Entry, Event, KeptAnswers, Reply};
 use ioc_history::legal_laws::{lists_leave_sound, live_lasts};
-use ioc_history::{Base, Book, Desk, Place, Receipt};
+use ioc_history::{Desk, EngineName, Place, Receipt, SharedJournal};
 use ioc_notify::NotifyId;
 use ioc_notify::table_laws::lines_tell_holders;
 use ioc_record::RecordKind;
@@ -19,7 +19,7 @@ use ioc_values::IocError;
 use std::alloc::Global;
 use std::sync::Wait;
 
-impl<K: RecordKind, B: Base<K>> AllPuts<K, B> {
+impl<K: RecordKind, B: EngineName<K>> SharedNotifications<K, B> {
     /// Returns whether the put with notification with this number is live.
     pub fn is_live(&self, number: NotifyId) -> bool
         ensures { result ≡ is_live number self.now.live }
@@ -31,7 +31,7 @@ impl<K: RecordKind, B: Base<K>> AllPuts<K, B> {
     fn keep_told<R: Wait>(
         &mut self,
         rt: &R,
-        book: &Book<K, B>,
+        book: &SharedJournal<K, B>,
         place: Place<K, B>,
         desk: &mut Desk<K, B>,
         entry: Entry,
@@ -57,7 +57,7 @@ impl<K: RecordKind, B: Base<K>> AllPuts<K, B> {
         &mut self,
         rt: &R,
         alloc: Global,
-        book: &Book<K, B>,
+        book: &SharedJournal<K, B>,
         desk: &mut Desk<K, B>,
         number: NotifyId,
         moment: u64,
@@ -94,7 +94,7 @@ impl<K: RecordKind, B: Base<K>> AllPuts<K, B> {
         &mut self,
         rt: &R,
         alloc: Global,
-        book: &Book<K, B>,
+        book: &SharedJournal<K, B>,
         desk: &mut Desk<K, B>,
         number: NotifyId,
         moment: u64,

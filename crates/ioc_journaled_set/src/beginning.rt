@@ -4,14 +4,14 @@ ghost use Rattle.ioc_values.specs.declared.error.IocError.TheVariants.{QueueFull
 ghost use Rattle.ioc_events.specs.declared.event.Event.TheVariants.{Put, Notify};
 ghost use Rattle.ioc_history.specs.Places.{IsNoPlace};
 ghost use Rattle.ioc_set_store.specs.SetStore.{world_of};
-ghost use Rattle.ioc_set.specs.Held.{now_of};
+ghost use Rattle.ioc_set.specs.SetState.{now_of};
 ghost use Rattle.ioc_set.specs.NoCalls.{no_call};
 ghost use Rattle.ioc_journaled_set.specs.Holding.{numbers_of, Serves, IsNoCall};
 ghost use Rattle.ioc_journaled_set.specs.Puts.{CanBegin};
 
-use crate::held::Held;
-use crate::puts::{AllPuts, keep_beside};
+use crate::journaled_set::JournaledSet;
 use crate::running::{Ran, run_counted};
+use crate::shared_notifications::{SharedNotifications, keep_beside};
 use ioc_device::Device;
 use ioc_events::event_rules::{events_keep_records, rules_are_steps};
 use ioc_events::{Event, Reply};
@@ -20,26 +20,26 @@ use ioc_history::legal_laws::{
     events_are_held, holders_move, holding_lasts, lists_leave_sound, live_lasts,
     one_more_has_a_place, parts_share_what_is_held,
 };
-use ioc_history::{Base, Book, Desk, Receipt};
+use ioc_history::{Desk, EngineName, Receipt, SharedJournal};
 use ioc_names::RecordNo;
 use ioc_notify::NotifyId;
 use ioc_notify::table_laws::lines_tell_holders;
 use ioc_record::RecordKind;
+use ioc_set_store::EventBuffers;
 use ioc_values::{Input, IocError};
-use ioc_set_store::Workplace;
 use std::alloc::Global;
 use std::sync::{Mutex, Wait};
 
-impl<K: RecordKind + Drop, B: Base<K>, D: Device> Held<K, B, D> {
+impl<K: RecordKind + Drop, B: EngineName<K>, D: Device> JournaledSet<K, B, D> {
     // Makes a put with notification on the set, under a number that may begin.
     fn begin_counted<R: Wait>(
         &mut self,
         rt: &R,
         alloc: Global,
-        book: &Book<K, B>,
-        all: &mut AllPuts<K, B>,
+        book: &SharedJournal<K, B>,
+        all: &mut SharedNotifications<K, B>,
         desk: &mut Desk<K, B>,
-        workplace: &mut Workplace<K, D>,
+        buffers: &mut EventBuffers<K, D>,
         notification: NotifyId,
         target: RecordNo,
         field: FieldNo,
@@ -49,7 +49,7 @@ impl<K: RecordKind + Drop, B: Base<K>, D: Device> Held<K, B, D> {
         requires there { Contains (numbers_of self.old) target }
         requires is_call { no_call K.rules (now_of self.old.set) (Notify target notification field given) ≡ None }
         requires can { CanBegin all.old notification }
-        ensures serves { IfOk result (λ x. Serves K.rules D.gives B.base self.old desk.old moment (Notify target notification field given) x.0 self.new desk.new (world_of workplace.new.store)) }
+        ensures serves { IfOk result (λ x. Serves K.rules D.gives B.base self.old desk.old moment (Notify target notification field given) x.0 self.new desk.new (world_of buffers.new.store)) }
         ensures receipt { IfOk result (λ x. x.1 ≡ desk.new.seen) }
         ensures last { OnOk result (all.new.last ≡ notification) }
         ensures refused { IfErr result IsNoPlace }
@@ -68,7 +68,7 @@ impl<K: RecordKind + Drop, B: Base<K>, D: Device> Held<K, B, D> {
         self.set.is_sound();
         all.is_counted();
         let event = Event::Notify(target, notification, field, given);
-        let ran = run_counted(rt, alloc, book, &mut self.set, workplace, &event, moment)?;
+        let ran = run_counted(rt, alloc, book, &mut self.set, buffers, &event, moment)?;
         self.set.puts_are_few();
         self.set.is_sound();
         let Some(mut pass) = self.pass.take() else {
@@ -96,7 +96,7 @@ impl<K: RecordKind + Drop, B: Base<K>, D: Device> Held<K, B, D> {
         Ok((reply, receipt))
     }
 
-    /// Puts a value into a field as [`Held::put`] does, with a notification, and adds the call to
+    /// Puts a value into a field as [`JournaledSet::put`] does, with a notification, and adds the call to
     /// the journal. The put with notification ends when all that it has caused is done. Its number
     /// is in the reply and is one more than the last number assigned. No other put with
     /// notification begins during the call.
@@ -113,17 +113,17 @@ impl<K: RecordKind + Drop, B: Base<K>, D: Device> Held<K, B, D> {
         &mut self,
         rt: &R,
         alloc: Global,
-        book: &Book<K, B>,
-        puts: &Mutex<AllPuts<K, B>>,
+        book: &SharedJournal<K, B>,
+        puts: &Mutex<SharedNotifications<K, B>>,
         desk: &mut Desk<K, B>,
-        workplace: &mut Workplace<K, D>,
+        buffers: &mut EventBuffers<K, D>,
         target: RecordNo,
         field: FieldNo,
         given: Input,
         moment: u64,
     ) -> Result<(Reply, Receipt<K, B>), IocError>
         requires there { Contains (numbers_of self.old) target }
-        ensures serves { IfOk result (λ x. (n : ℕ) × Serves K.rules D.gives B.base self.old desk.old moment (Notify target n field given) x.0 self.new desk.new (world_of workplace.new.store)) }
+        ensures serves { IfOk result (λ x. (n : ℕ) × Serves K.rules D.gives B.base self.old desk.old moment (Notify target n field given) x.0 self.new desk.new (world_of buffers.new.store)) }
         ensures receipt { IfOk result (λ x. x.1 ≡ desk.new.seen) }
         ensures refused { IfErr result (λ error. (error ≡ QueueFull) ⊎ IsNoCall K.rules self.old.set (Put target field given) error) }
         ensures err { OnErr result ((self.new ≡ self.old) × (desk.new ≡ desk.old)) }
@@ -136,7 +136,7 @@ impl<K: RecordKind + Drop, B: Base<K>, D: Device> Held<K, B, D> {
             return Err(IocError::QueueFull);
         };
         self.begin_counted(
-            rt, alloc, book, all, desk, workplace, number, target, field, *value, moment,
+            rt, alloc, book, all, desk, buffers, number, target, field, *value, moment,
         )
     }
 }

@@ -8,29 +8,29 @@ ghost use Rattle.ioc_set_records.specs.Joined.{HasLink};
 ghost use Rattle.ioc_store.specs.World.{common_at};
 ghost use Rattle.ioc_topology.specs.Change.{AreLent};
 ghost use Rattle.ioc_history.specs.Places.{IsNoPlace};
-ghost use Rattle.ioc_set.specs.Held.{now_of, folded};
+ghost use Rattle.ioc_set.specs.SetState.{now_of, folded};
 ghost use Rattle.ioc_set_store.specs.SetStore.{world_of};
 ghost use Rattle.ioc_journaled_set.specs.Holding.{HeldView, numbers_of};
 ghost use Rattle.ioc_journaled_set.specs.Changing.{size_of, KeepsLarger, KeepsLargest, FellApart, WasLed, Relinks};
 
-use ioc_dbcommon::KeptLink;
+use crate::JournaledSet;
+use ioc_dbcommon::LinkBox;
 use ioc_device::Device;
 use ioc_events::Reply;
 use ioc_fields::FieldNo;
-use crate::Held;
-use ioc_history::{Base, Book, Desk, Receipt};
+use ioc_history::{Desk, EngineName, Receipt, SharedJournal};
 use ioc_names::RecordNo;
 use ioc_record::RecordKind;
+use ioc_set_store::EventBuffers;
 use ioc_topology::Locked;
 use ioc_values::IocError;
-use ioc_set_store::Workplace;
 use std::alloc::Global;
 use std::mem;
 use std::sync::Wait;
 
 /// The result of a link change.
 #[derive(Drop)]
-pub struct Changed<K: RecordKind, B: Base<K>> {
+pub struct Changed<K: RecordKind, B: EngineName<K>> {
     /// The reply, as in the journal.
     pub reply: Reply,
     /// The receipt of the call.
@@ -41,7 +41,7 @@ pub struct Changed<K: RecordKind, B: Base<K>> {
 }
 
 // Returns the number of records of a set.
-fn size<K: RecordKind + Drop, B: Base<K>, D: Drop>(held: &Held<K, B, D>) -> usize
+fn size<K: RecordKind + Drop, B: EngineName<K>, D: Drop>(held: &JournaledSet<K, B, D>) -> usize
     ensures size { result ≡ size_of held.now }
     ensures few { result < 2 ^ 63 }
 {
@@ -51,9 +51,9 @@ fn size<K: RecordKind + Drop, B: Base<K>, D: Drop>(held: &Held<K, B, D>) -> usiz
 
 // Leaves the larger of two parts of a set in the first place, and returns the number of records of
 // the smaller one.
-fn keep_larger<K: RecordKind + Drop, B: Base<K>, D: Drop>(
-    first: &mut Held<K, B, D>,
-    spare: &mut Held<K, B, D>,
+fn keep_larger<K: RecordKind + Drop, B: EngineName<K>, D: Drop>(
+    first: &mut JournaledSet<K, B, D>,
+    spare: &mut JournaledSet<K, B, D>,
 ) -> usize
     ensures { KeepsLarger first.old spare.old first.new spare.new result }
 {
@@ -70,10 +70,10 @@ fn keep_larger<K: RecordKind + Drop, B: Base<K>, D: Drop>(
 // two sets before the change. Unless the part is the largest of the three, the joined set goes to
 // the second place, where the other set was, and the rest to the first. Returns the number of
 // records that were moved.
-fn keep_largest<K: RecordKind + Drop, B: Base<K>, D: Drop>(
-    first: &mut Held<K, B, D>,
-    second: &mut Held<K, B, D>,
-    spare: &mut Held<K, B, D>,
+fn keep_largest<K: RecordKind + Drop, B: EngineName<K>, D: Drop>(
+    first: &mut JournaledSet<K, B, D>,
+    second: &mut JournaledSet<K, B, D>,
+    spare: &mut JournaledSet<K, B, D>,
     before: usize,
     other: usize,
 ) -> usize
@@ -90,32 +90,32 @@ fn keep_largest<K: RecordKind + Drop, B: Base<K>, D: Drop>(
 }
 
 // Changes a link of a record of the first set to a record of that set, or to none.
-fn part_first<K: RecordKind + Drop, B: Base<K>, D: Device, R: Wait>(
+fn part_first<K: RecordKind + Drop, B: EngineName<K>, D: Device, R: Wait>(
     rt: &R,
     alloc: Global,
-    book: &Book<K, B>,
+    book: &SharedJournal<K, B>,
     desk: &mut Desk<K, B>,
-    workplace: &mut Workplace<K, D>,
-    first: &mut Held<K, B, D>,
-    spare: &mut Held<K, B, D>,
+    buffers: &mut EventBuffers<K, D>,
+    first: &mut JournaledSet<K, B, D>,
+    spare: &mut JournaledSet<K, B, D>,
     number: RecordNo,
     field: FieldNo,
-    link: KeptLink,
-    twin: KeptLink,
+    link: LinkBox,
+    base_link: LinkBox,
     moment: u64,
 ) -> Result<Changed<K, B>, IocError>
-    requires twin { twin ≡ link }
+    requires base_link { base_link ≡ link }
     requires field { HasLink K.rules first.old.set.records number field }
     requires allowed { stops_put (common_at K.rules (now_of first.old.set) number) field ≡ false }
     requires within { (t : ℕ) → Contains (named_by (use_of link)) t → IsSome (get first.old.set.records t) }
-    ensures parts { (second : HeldView K D) → IfOk result (λ c. FellApart K.rules B.base first.old second spare.old desk.old moment number field link c.reply c.moved first.new second spare.new desk.new (world_of workplace.new.store)) }
+    ensures parts { (second : HeldView K D) → IfOk result (λ c. FellApart K.rules B.base first.old second spare.old desk.old moment number field link c.reply c.moved first.new second spare.new desk.new (world_of buffers.new.store)) }
     ensures receipt { IfOk result (λ c. c.receipt ≡ desk.new.seen) }
     ensures refused { IfErr result IsNoPlace }
     ensures kept { OnErr result ((folded first.new.set ≡ folded first.old.set) × (spare.new ≡ spare.old)) }
     ensures desk { OnErr result (desk.new ≡ desk.old) }
 {
     let (rest, receipt) = first.part(
-        rt, alloc, book, desk, workplace, number, field, link, twin, moment,
+        rt, alloc, book, desk, buffers, number, field, link, base_link, moment,
     )?;
     *spare = rest;
     let moved = keep_larger(first, spare);
@@ -127,26 +127,26 @@ fn part_first<K: RecordKind + Drop, B: Base<K>, D: Device, R: Wait>(
 }
 
 // Changes a link of a record of the first set to a record of the second.
-fn lead_first<K: RecordKind + Drop, B: Base<K>, D: Device, R: Wait>(
+fn lead_first<K: RecordKind + Drop, B: EngineName<K>, D: Device, R: Wait>(
     rt: &R,
     alloc: Global,
-    book: &Book<K, B>,
+    book: &SharedJournal<K, B>,
     desk: &mut Desk<K, B>,
-    workplace: &mut Workplace<K, D>,
-    first: &mut Held<K, B, D>,
-    second: &mut Held<K, B, D>,
-    spare: &mut Held<K, B, D>,
+    buffers: &mut EventBuffers<K, D>,
+    first: &mut JournaledSet<K, B, D>,
+    second: &mut JournaledSet<K, B, D>,
+    spare: &mut JournaledSet<K, B, D>,
     number: RecordNo,
     field: FieldNo,
-    link: KeptLink,
-    twin: KeptLink,
+    link: LinkBox,
+    base_link: LinkBox,
     moment: u64,
 ) -> Result<Changed<K, B>, IocError>
-    requires twin { twin ≡ link }
+    requires base_link { base_link ≡ link }
     requires field { HasLink K.rules first.old.set.records number field }
     requires allowed { stops_put (common_at K.rules (now_of first.old.set) number) field ≡ false }
     requires to { (t : ℕ) × (named_by (use_of link) ≡ t ∷ []) × IsSome (get second.old.set.records t) }
-    ensures leads { IfOk result (λ c. WasLed K.rules B.base first.old second.old spare.old desk.old moment number field link c.reply c.moved first.new second.new spare.new desk.new (world_of workplace.new.store)) }
+    ensures leads { IfOk result (λ c. WasLed K.rules B.base first.old second.old spare.old desk.old moment number field link c.reply c.moved first.new second.new spare.new desk.new (world_of buffers.new.store)) }
     ensures receipt { IfOk result (λ c. c.receipt ≡ desk.new.seen) }
     ensures refused { IfErr result IsNoPlace }
     ensures kept { OnErr result ((folded first.new.set ≡ folded first.old.set) × (second.new.set ≡ second.old.set) × (spare.new ≡ spare.old)) }
@@ -155,7 +155,7 @@ fn lead_first<K: RecordKind + Drop, B: Base<K>, D: Device, R: Wait>(
     let before = size(first);
     let other = size(second);
     let (rest, receipt) = first.lead_into(
-        rt, alloc, book, desk, workplace, second, number, field, link, twin, moment,
+        rt, alloc, book, desk, buffers, second, number, field, link, base_link, moment,
     )?;
     *spare = rest;
     let moved = keep_largest(first, second, spare, before, other);
@@ -169,7 +169,7 @@ fn lead_first<K: RecordKind + Drop, B: Base<K>, D: Device, R: Wait>(
 /// Changes a link of a record of the first set, and adds the change to the journal. If the link
 /// leads to a record of the first set then, or to none, this set may part in two; otherwise the
 /// record's part joins the second set, and the rest is a set of its own. The larger part of a set
-/// keeps its place. `link` and `twin` are equal.
+/// keeps its place. `link` and `base_link` are equal.
 ///
 /// # Errors
 ///
@@ -177,24 +177,24 @@ fn lead_first<K: RecordKind + Drop, B: Base<K>, D: Device, R: Wait>(
 /// [`IocError::JournalFull`] if the journal has no place left, and [`IocError::NoMemory`] if
 /// allocation fails; nothing has changed then, except that the history may be forgotten. If DISP
 /// forbids the change, the refusal is a reply, which is added to the journal.
-pub fn change_link<K: RecordKind + Drop, B: Base<K>, D: Device, R: Wait>(
+pub fn change_link<K: RecordKind + Drop, B: EngineName<K>, D: Device, R: Wait>(
     rt: &R,
     alloc: Global,
-    book: &Book<K, B>,
+    book: &SharedJournal<K, B>,
     desk: &mut Desk<K, B>,
-    workplace: &mut Workplace<K, D>,
-    first: &mut Held<K, B, D>,
-    second: &mut Held<K, B, D>,
-    spare: &mut Held<K, B, D>,
+    buffers: &mut EventBuffers<K, D>,
+    first: &mut JournaledSet<K, B, D>,
+    second: &mut JournaledSet<K, B, D>,
+    spare: &mut JournaledSet<K, B, D>,
     number: RecordNo,
     field: FieldNo,
-    link: KeptLink,
-    twin: KeptLink,
+    link: LinkBox,
+    base_link: LinkBox,
     moment: u64,
 ) -> Result<Changed<K, B>, IocError>
-    requires twin { twin ≡ link }
+    requires base_link { base_link ≡ link }
     requires lent { AreLent numbers_of number (record_named (use_of link)) first.old second.old spare.old }
-    ensures relinks { IfOk result (λ c. Relinks K.rules B.base first.old second.old spare.old desk.old moment number field link c.reply c.moved first.new second.new spare.new desk.new (world_of workplace.new.store)) }
+    ensures relinks { IfOk result (λ c. Relinks K.rules B.base first.old second.old spare.old desk.old moment number field link c.reply c.moved first.new second.new spare.new desk.new (world_of buffers.new.store)) }
     ensures receipt { IfOk result (λ c. c.receipt ≡ desk.new.seen) }
     ensures refused { IfErr result (λ error. IsNoPlace error ⊎ ((error ≡ NoField) × (HasLink K.rules first.old.set.records number field → ⊥))) }
     ensures kept { OnErr result ((folded first.new.set ≡ folded first.old.set) × (second.new.set ≡ second.old.set) × (spare.new ≡ spare.old)) }
@@ -224,12 +224,13 @@ pub fn change_link<K: RecordKind + Drop, B: Base<K>, D: Device, R: Wait>(
     }
     if first.set.leads_within(&link) {
         let changed = part_first(
-            rt, alloc, book, desk, workplace, first, spare, number, field, link, twin, moment,
+            rt, alloc, book, desk, buffers, first, spare, number, field, link, base_link, moment,
         )?;
         return Ok(changed);
     }
     let changed = lead_first(
-        rt, alloc, book, desk, workplace, first, second, spare, number, field, link, twin, moment,
+        rt, alloc, book, desk, buffers, first, second, spare, number, field, link, base_link,
+        moment,
     )?;
     Ok(changed)
 }

@@ -2,24 +2,23 @@
 ghost use Rattle.std.specs.Prelude.{◌≡◌, ℕ, IsSome};
 ghost use Rattle.ioc_events.specs.declared.event.Event.TheVariants.{Get};
 ghost use Rattle.ioc_events.specs.Step.{stepped};
-ghost use Rattle.ioc_set.specs.Held.{now_of};
+ghost use Rattle.ioc_set.specs.SetState.{now_of};
 ghost use Rattle.ioc_store.specs.Given.{Answers};
 ghost use Rattle.std.specs.FinMap.{get};
 ghost use Rattle.crossbeam_utils.specs.Seq.{cell_view};
 ghost use Rattle.ioc_history.specs.Legal.{map_of};
 
-use crate::held::Held;
+use crate::journaled_set::JournaledSet;
 use ioc_events::Reply;
 use ioc_fields::FieldNo;
 use ioc_history::legal_laws::holding_lasts;
-use ioc_history::{Base, Journal};
+use ioc_history::{Cell, EngineName, Journal};
 use ioc_ledger::Tally;
-use ioc_history::Cell;
 use ioc_names::RecordNo;
 use ioc_record::RecordKind;
 use std::sync::Wait;
 
-impl<K: RecordKind, B: Base<K>, D> Held<K, B, D> {
+impl<K: RecordKind, B: EngineName<K>, D> JournaledSet<K, B, D> {
     /// Returns the counts of the set's requests, and of asynchronous answers.
     pub fn tally(&self) -> Tally
         ensures { result ≡ self.now.set.tally }

@@ -3,7 +3,9 @@
 ghost use Rattle.ioc_journaled_set.specs.GiveUpLaws.{SetsGiveUp, CancelGivesUp};
 
 use ioc_device::Device;
-use ioc_history::legal_laws::{changes_of_all_are_held, lists_leave_sound, parts_share_what_is_held};
+use ioc_history::legal_laws::{
+    changes_of_all_are_held, lists_leave_sound, parts_share_what_is_held,
+};
 use ioc_record::RecordKind;
 
 /// If a put with notification has as many records in some held sets without a common record as

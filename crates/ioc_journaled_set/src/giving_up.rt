@@ -8,37 +8,36 @@ ghost use Rattle.ioc_history.specs.Legal.{map_of};
 ghost use Rattle.ioc_history.specs.Places.{IsNoPlace};
 ghost use Rattle.std.specs.Vec.{vec_len, vec_capacity};
 ghost use Rattle.crossbeam_utils.specs.Seq.{cell_view};
-ghost use Rattle.ioc_set.specs.Held.{Held as SetHeld};
+ghost use Rattle.ioc_set.specs.SetState.{SetState};
 ghost use Rattle.ioc_journaled_set.specs.Holding.{HeldView, held_view, seen_by};
 ghost use Rattle.ioc_journaled_set.specs.Sets.{AreItsSets};
 ghost use Rattle.ioc_journaled_set.specs.GivingUp.{EachIsLent, HaveNotAll, sets_of, AreSameSets, HeldGaveUp, GaveUpOn};
 ghost use Rattle.ioc_history.specs.Account.{puts_key, Pass};
 
 use crate::together::giving_up::give_up_all;
+use crate::{JournaledSet, SharedNotifications};
 use ioc_device::Device;
 use ioc_events::Reply;
-use crate::{AllPuts, Held};
-use ioc_history::{Base, Book, Desk, Receipt};
-use ioc_history::{Cell, Token};
-use ioc_notify::{Live, NotifyId};
+use ioc_history::{Cell, Desk, EngineName, KeyPass, Receipt, SharedJournal};
 use ioc_notify::table_laws::lines_tell_holders;
+use ioc_notify::{Live, NotifyId};
 use ioc_record::RecordKind;
 use ioc_set::LockSet;
+use ioc_set_store::EventBuffers;
 use ioc_topology::Locked;
 use ioc_values::IocError;
-use ioc_set_store::Workplace;
 use std::alloc::Global;
 use std::mem;
 use std::sync::Wait;
 
 // Separates each of these journaled sets from its pass, into reserved memory.
-fn lend_all<K: RecordKind + Drop, B: Base<K>, D: Drop>(
+fn lend_all<K: RecordKind + Drop, B: EngineName<K>, D: Drop>(
     alloc: Global,
     cell: &Cell,
-    keeper: &mut Token,
-    held: &mut [Held<K, B, D>],
+    keeper: &mut KeyPass,
+    held: &mut [JournaledSet<K, B, D>],
     sets: &mut Vec<LockSet<K, D>>,
-    passes: &mut Vec<Option<Token>>,
+    passes: &mut Vec<Option<KeyPass>>,
 )
     requires table { (keeper.old.table_id ≡ B.table) × (cell.now.table.shared.table_id ≡ B.table) }
     requires room { (length held.old ≤ vec_capacity sets.old) × (length held.old ≤ vec_capacity passes.old) }
@@ -49,7 +48,7 @@ fn lend_all<K: RecordKind + Drop, B: Base<K>, D: Drop>(
     ensures lent { EachIsLent K.rules B.base B.had_device B.table sets.new.items passes.new.items }
 {
     for i in 0..held.len() {
-        let one = mem::replace(&mut held[i], Held::empty(alloc));
+        let one = mem::replace(&mut held[i], JournaledSet::empty(alloc));
         let (set, own) = one.into_parts(cell, keeper);
         sets.push_reserved(set);
         passes.push_reserved(Some(own));
@@ -57,15 +56,15 @@ fn lend_all<K: RecordKind + Drop, B: Base<K>, D: Drop>(
 }
 
 // Puts sets and passes together again.
-fn take_back_all<K: RecordKind + Drop, B: Base<K>, D: Drop>(
+fn take_back_all<K: RecordKind + Drop, B: EngineName<K>, D: Drop>(
     alloc: Global,
-    held: &mut [Held<K, B, D>],
+    held: &mut [JournaledSet<K, B, D>],
     sets: &mut [LockSet<K, D>],
-    passes: &mut [Option<Token>],
+    passes: &mut [Option<KeyPass>],
 )
     requires count { (length sets.old ≡ length held.old) × (length passes.old ≡ length held.old) }
     requires lent { EachIsLent K.rules B.base B.had_device B.table sets.old passes.old }
-    ensures { (i : ℕ) (d : HeldView K D) (e : SetHeld K D) (f : Option Pass) → i < length held.new →
+    ensures { (i : ℕ) (d : HeldView K D) (e : SetState K D) (f : Option Pass) → i < length held.new →
         slice_index_or held.new i d ≡ held_view (slice_index_or sets.old i e) (seen_by (slice_index_or passes.old i f)) }
 {
     for i in 0..held.len() {
@@ -73,22 +72,22 @@ fn take_back_all<K: RecordKind + Drop, B: Base<K>, D: Drop>(
         let Some(own) = passes[i].take() else {
             unreachable!();
         };
-        held[i] = Held::new(set, own);
+        held[i] = JournaledSet::new(set, own);
     }
 }
 
 // Cancels a put with notification on sets that were separated from their passes, if they have all
 // its `total` records. Then puts sets and passes together again.
-fn give_up_lent<K: RecordKind + Drop, B: Base<K>, D: Device, R: Wait>(
+fn give_up_lent<K: RecordKind + Drop, B: EngineName<K>, D: Device, R: Wait>(
     rt: &R,
     alloc: Global,
-    book: &Book<K, B>,
+    book: &SharedJournal<K, B>,
     desk: &mut Desk<K, B>,
-    workplace: &mut Workplace<K, D>,
-    keeper: &mut Token,
-    held: &mut [Held<K, B, D>],
+    buffers: &mut EventBuffers<K, D>,
+    keeper: &mut KeyPass,
+    held: &mut [JournaledSet<K, B, D>],
     sets: &mut [LockSet<K, D>],
-    passes: &mut [Option<Token>],
+    passes: &mut [Option<KeyPass>],
     number: NotifyId,
     total: u64,
     moment: u64,
@@ -106,7 +105,7 @@ fn give_up_lent<K: RecordKind + Drop, B: Base<K>, D: Device, R: Wait>(
     ensures err { OnErr result (AreSameSets sets.old held.new × (keeper.new ≡ keeper.old) × (desk.new ≡ desk.old)) }
 {
     let given = give_up_all(
-        rt, alloc, book, desk, workplace, keeper, sets, passes, number, total, moment,
+        rt, alloc, book, desk, buffers, keeper, sets, passes, number, total, moment,
     );
     take_back_all(alloc, held, sets, passes);
     given
@@ -119,14 +118,14 @@ fn give_up_lent<K: RecordKind + Drop, B: Base<K>, D: Device, R: Wait>(
 ///
 /// [`IocError::JournalFull`] if the journal has no place left. [`IocError::NoMemory`] if allocation
 /// fails. Nothing has changed then.
-pub fn cancel_on<K: RecordKind + Drop, B: Base<K>, D: Device, R: Wait>(
+pub fn cancel_on<K: RecordKind + Drop, B: EngineName<K>, D: Device, R: Wait>(
     rt: &R,
     alloc: Global,
-    book: &Book<K, B>,
+    book: &SharedJournal<K, B>,
     desk: &mut Desk<K, B>,
-    workplace: &mut Workplace<K, D>,
-    all: &mut AllPuts<K, B>,
-    held: &mut [Held<K, B, D>],
+    buffers: &mut EventBuffers<K, D>,
+    all: &mut SharedNotifications<K, B>,
+    held: &mut [JournaledSet<K, B, D>],
     number: NotifyId,
     moment: u64,
 ) -> Result<Option<(Reply, Receipt<K, B>)>, IocError>
@@ -157,7 +156,7 @@ pub fn cancel_on<K: RecordKind + Drop, B: Base<K>, D: Device, R: Wait>(
         alloc,
         book,
         desk,
-        workplace,
+        buffers,
         &mut all.pass,
         held,
         sets.as_mut_slice(),

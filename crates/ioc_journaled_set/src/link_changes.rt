@@ -13,39 +13,38 @@ ghost use Rattle.ioc_history.specs.Key.{Key, Has};
 ghost use Rattle.ioc_history.specs.Line.{holder};
 ghost use Rattle.ioc_history.specs.Account.{IsHolder, AreRecords, BothMayFollow, Call, AddedByBoth};
 ghost use Rattle.ioc_history.specs.Places.{IsNoPlace};
-ghost use Rattle.ioc_set.specs.Held.{now_of, folded};
+ghost use Rattle.ioc_set.specs.SetState.{now_of, folded};
 ghost use Rattle.ioc_set.specs.Linking.{MayBeOne};
 ghost use Rattle.ioc_set_store.specs.SetStore.{world_of};
 ghost use Rattle.ioc_journaled_set.specs.LinkChanges.{link_change, keys_of, IsKnown, Refuses, Parts, Leads};
 
-use crate::held::Held;
+use crate::journaled_set::JournaledSet;
 use crate::link_laws::{held_sets_may_be_one, led_sets_are_held, parted_sets_are_held};
-use ioc_dbcommon::{KeptLink, LinkField};
+use ioc_dbcommon::{LinkBox, LinkField};
 use ioc_device::Device;
 use ioc_events::{Entry, Event, KeptAnswers, Reply};
 use ioc_fields::FieldNo;
 use ioc_history::legal_laws::{holding_lasts, lists_leave_sound};
-use ioc_history::{Base, Book, Desk, Place, Receipt};
-use ioc_history::{Keys, Token, pass};
+use ioc_history::{Desk, EngineName, KeyPass, Keys, Place, Receipt, SharedJournal, pass};
 use ioc_names::RecordNo;
 use ioc_record::RecordKind;
 use ioc_set::LockSet;
+use ioc_set_store::EventBuffers;
 use ioc_values::IocError;
-use ioc_set_store::Workplace;
 use std::alloc::Global;
 use std::marker::{Brand, PhantomData};
 use std::sync::Wait;
 
 // Adds a link change to the journal, and assigns the keys of the records to the passes of the two
 // sets after it.
-fn keep_change<P: Keys, K: RecordKind, B: Base<K>, D, R: Wait>(
+fn keep_change<P: Keys, K: RecordKind, B: EngineName<K>, D, R: Wait>(
     rt: &R,
     alloc: Global,
-    book: &Book<K, B>,
+    book: &SharedJournal<K, B>,
     place: Place<K, B>,
     desk: &mut Desk<K, B>,
-    one: &mut Token,
-    other: &mut Token,
+    one: &mut KeyPass,
+    other: &mut KeyPass,
     stay: &LockSet<K, D>,
     rest: &LockSet<K, D>,
     number: RecordNo,
@@ -77,11 +76,11 @@ fn keep_change<P: Keys, K: RecordKind, B: Base<K>, D, R: Wait>(
     book.append_two::<P, R>(rt, place, one, other, desk, entry)
 }
 
-impl<K: RecordKind + Drop, B: Base<K>, D: Device> Held<K, B, D> {
+impl<K: RecordKind + Drop, B: EngineName<K>, D: Device> JournaledSet<K, B, D> {
     /// Changes a link of a record to a record of this set, or to none, and adds the change to the
     /// journal. The set keeps the record's part, and the records that no link connects with it any
     /// more are returned as a journaled set of their own, which may be without records. Live puts
-    /// with notification go with their records; see [`LockSet::part`]. `link` and `twin` are equal.
+    /// with notification go with their records; see [`LockSet::part`]. `link` and `base_link` are equal.
     ///
     /// # Errors
     ///
@@ -91,20 +90,20 @@ impl<K: RecordKind + Drop, B: Base<K>, D: Device> Held<K, B, D> {
         &mut self,
         rt: &R,
         alloc: Global,
-        book: &Book<K, B>,
+        book: &SharedJournal<K, B>,
         desk: &mut Desk<K, B>,
-        workplace: &mut Workplace<K, D>,
+        buffers: &mut EventBuffers<K, D>,
         number: RecordNo,
         field: FieldNo,
-        link: KeptLink,
-        twin: KeptLink,
+        link: LinkBox,
+        base_link: LinkBox,
         moment: u64,
-    ) -> Result<(Held<K, B, D>, Receipt<K, B>), IocError>
-        requires twin { twin ≡ link }
+    ) -> Result<(JournaledSet<K, B, D>, Receipt<K, B>), IocError>
+        requires base_link { base_link ≡ link }
         requires field { HasLink K.rules self.old.set.records number field }
         requires allowed { stops_put (common_at K.rules (now_of self.old.set) number) field ≡ false }
         requires within { (t : ℕ) → Contains (named_by (use_of link)) t → IsSome (get self.old.set.records t) }
-        ensures parts { IfOk result (λ x. Parts K.rules B.base self.old desk.old moment number field link self.new x.0 desk.new (world_of workplace.new.store)) }
+        ensures parts { IfOk result (λ x. Parts K.rules B.base self.old desk.old moment number field link self.new x.0 desk.new (world_of buffers.new.store)) }
         ensures receipt { IfOk result (λ x. x.1 ≡ desk.new.seen) }
         ensures refused { IfErr result IsNoPlace }
         ensures set { OnErr result (folded self.new.set ≡ folded self.old.set) }
@@ -117,7 +116,7 @@ impl<K: RecordKind + Drop, B: Base<K>, D: Device> Held<K, B, D> {
         let place = book.reserve(rt)?;
         let rest = match self
             .set
-            .part(workplace, alloc, number, field, link, twin, moment)
+            .part(buffers, alloc, number, field, link, base_link, moment)
         {
             Ok(rest) => rest,
             Err(_refused) => {
@@ -132,13 +131,13 @@ impl<K: RecordKind + Drop, B: Base<K>, D: Device> Held<K, B, D> {
         let Some(mut pass) = self.pass.take() else {
             unreachable!();
         };
-        let mut other = pass::again(book.cell(), &mut pass);
+        let mut other = pass::copy(book.cell(), &mut pass);
         let receipt = keep_change::<Brand, K, B, D, R>(
             rt, alloc, book, place, desk, &mut pass, &mut other, &self.set, &rest, number, field,
             chosen, moment,
         );
         self.pass = Some(pass);
-        let rest = Held {
+        let rest = JournaledSet {
             set: rest,
             pass: Some(other),
             of: PhantomData,
@@ -148,7 +147,12 @@ impl<K: RecordKind + Drop, B: Base<K>, D: Device> Held<K, B, D> {
 
     // Compares two journaled sets with records: they have no record in common and may be joined.
     // Afterwards both have seen the same list.
-    fn compare<R: Wait>(&mut self, rt: &R, book: &Book<K, B>, other: &mut Held<K, B, D>)
+    fn compare<R: Wait>(
+        &mut self,
+        rt: &R,
+        book: &SharedJournal<K, B>,
+        other: &mut JournaledSet<K, B, D>,
+    )
         requires one { (n : ℕ) × IsSome (get self.old.set.records n) }
         requires other { (n : ℕ) × IsSome (get other.old.set.records n) }
         ensures apart { (q : ℕ) → IsSome (get self.old.set.records q) → get other.old.set.records q ≡ None }
@@ -175,7 +179,7 @@ impl<K: RecordKind + Drop, B: Base<K>, D: Device> Held<K, B, D> {
     /// that set, and adds the change to the journal. The records of this set that only the old link
     /// connected with the record are returned as a journaled set of their own, which may be without
     /// records; the other set is left without records. Live puts with notification go with their
-    /// records; see [`LockSet::lead_into`]. `link` and `twin` are equal.
+    /// records; see [`LockSet::lead_into`]. `link` and `base_link` are equal.
     ///
     /// # Errors
     ///
@@ -185,21 +189,21 @@ impl<K: RecordKind + Drop, B: Base<K>, D: Device> Held<K, B, D> {
         &mut self,
         rt: &R,
         alloc: Global,
-        book: &Book<K, B>,
+        book: &SharedJournal<K, B>,
         desk: &mut Desk<K, B>,
-        workplace: &mut Workplace<K, D>,
-        other: &mut Held<K, B, D>,
+        buffers: &mut EventBuffers<K, D>,
+        other: &mut JournaledSet<K, B, D>,
         number: RecordNo,
         field: FieldNo,
-        link: KeptLink,
-        twin: KeptLink,
+        link: LinkBox,
+        base_link: LinkBox,
         moment: u64,
-    ) -> Result<(Held<K, B, D>, Receipt<K, B>), IocError>
-        requires twin { twin ≡ link }
+    ) -> Result<(JournaledSet<K, B, D>, Receipt<K, B>), IocError>
+        requires base_link { base_link ≡ link }
         requires field { HasLink K.rules self.old.set.records number field }
         requires allowed { stops_put (common_at K.rules (now_of self.old.set) number) field ≡ false }
         requires to { (t : ℕ) × (named_by (use_of link) ≡ t ∷ []) × IsSome (get other.old.set.records t) }
-        ensures leads { IfOk result (λ x. Leads K.rules B.base self.old other.old desk.old moment number field link self.new other.new x.0 desk.new (world_of workplace.new.store)) }
+        ensures leads { IfOk result (λ x. Leads K.rules B.base self.old other.old desk.old moment number field link self.new other.new x.0 desk.new (world_of buffers.new.store)) }
         ensures receipt { IfOk result (λ x. x.1 ≡ desk.new.seen) }
         ensures refused { IfErr result IsNoPlace }
         ensures set { OnErr result ((folded self.new.set ≡ folded self.old.set) × (other.new.set ≡ other.old.set)) }
@@ -214,12 +218,12 @@ impl<K: RecordKind + Drop, B: Base<K>, D: Device> Held<K, B, D> {
         let place = book.reserve(rt)?;
         let rest = match self.set.lead_into(
             &mut other.set,
-            workplace,
+            buffers,
             alloc,
             number,
             field,
             link,
-            twin,
+            base_link,
             moment,
         ) {
             Ok(rest) => rest,
@@ -253,7 +257,7 @@ impl<K: RecordKind + Drop, B: Base<K>, D: Device> Held<K, B, D> {
             moment,
         );
         self.pass = Some(pass);
-        let rest = Held {
+        let rest = JournaledSet {
             set: rest,
             pass: Some(beside),
             of: PhantomData,
@@ -272,7 +276,7 @@ impl<K: RecordKind + Drop, B: Base<K>, D: Device> Held<K, B, D> {
         &mut self,
         rt: &R,
         alloc: Global,
-        book: &Book<K, B>,
+        book: &SharedJournal<K, B>,
         desk: &mut Desk<K, B>,
         number: RecordNo,
         field: FieldNo,

@@ -1,6 +1,6 @@
 //! Journaled sets under the locks of a directory.
-use crate::held::Held;
-use ioc_history::Base;
+use crate::journaled_set::JournaledSet;
+use ioc_history::EngineName;
 use ioc_names::RecordNo;
 use ioc_record::RecordKind;
 use ioc_set::LockSet;
@@ -8,7 +8,7 @@ use ioc_topology::Locked;
 use std::alloc::Global;
 use std::marker::PhantomData;
 
-impl<K: RecordKind + Drop, B: Base<K>, D: Drop> Locked for Held<K, B, D> {
+impl<K: RecordKind + Drop, B: EngineName<K>, D: Drop> Locked for JournaledSet<K, B, D> {
     ghost use Rattle.ioc_journaled_set.specs.Holding.{IsSoundlyHeld, numbers_of};
 
     ghost numbers = { λ h. numbers_of h };
@@ -16,7 +16,7 @@ impl<K: RecordKind + Drop, B: Base<K>, D: Drop> Locked for Held<K, B, D> {
     ghost sound = { λ h. IsSoundlyHeld K.rules B.base h };
 
     fn empty(alloc: Global) -> Self {
-        Held {
+        JournaledSet {
             set: LockSet::empty(alloc),
             pass: None,
             of: PhantomData,

@@ -1,27 +1,27 @@
 //! Performs the event of a call on a set.
 ghost use Rattle.std.specs.Prelude.{◌≡◌, true, IfOk, IfErr, OnErr};
 ghost use Rattle.ioc_store.specs.Given.{answers_of};
-ghost use Rattle.ioc_events.specs.Told.{told_by};
+ghost use Rattle.ioc_events.specs.SetReply.{told_by};
 ghost use Rattle.ioc_history.specs.Places.{IsNoPlace};
 ghost use Rattle.ioc_set_store.specs.SetStore.{world_of};
 ghost use Rattle.ioc_set.specs.Doing.{Does, is_done_on_sets};
 
 use ioc_device::Device;
-use ioc_events::{Entry, Event, KeptAnswers, Reply, Told};
-use ioc_history::{Base, Book, Place};
+use ioc_events::{Entry, Event, KeptAnswers, Reply, SetReply};
+use ioc_history::{EngineName, Place, SharedJournal};
 use ioc_notify::Live;
 use ioc_record::RecordKind;
 use ioc_set::LockSet;
+use ioc_set_store::EventBuffers;
+use ioc_set_store::event_buffers::kept_answers;
 use ioc_values::IocError;
-use ioc_set_store::Workplace;
-use ioc_set_store::workplace::kept_answers;
 use std::alloc::{AllocError, Global};
 use std::mem;
 use std::sync::Wait;
 
 /// The result of an event that was done on a set with live puts with notification, and isn't in the
 /// journal yet. Its place has to be filled.
-pub(crate) struct Ran<K: RecordKind, B: Base<K>> {
+pub(crate) struct Ran<K: RecordKind, B: EngineName<K>> {
     /// The held place of the event.
     pub place: Place<K, B>,
     /// The puts with notification that were live on the set before the event.
@@ -32,29 +32,29 @@ pub(crate) struct Ran<K: RecordKind, B: Base<K>> {
 
 // Performs an event on a set. If allocation fails, nothing has changed.
 #[inline(always)]
-fn do_in<K: RecordKind + Drop, D: Device>(
+fn do_on_set<K: RecordKind + Drop, D: Device>(
     set: &mut LockSet<K, D>,
-    workplace: &mut Workplace<K, D>,
+    buffers: &mut EventBuffers<K, D>,
     alloc: Global,
     event: &Event,
     moment: u64,
-) -> Result<Told, AllocError>
+) -> Result<SetReply, AllocError>
     requires done_here { is_done_on_sets event.now ≡ true }
-    ensures ok { IfOk result (λ told. Does K.rules D.gives set.old moment event.now (told_by told) set.new (world_of workplace.new.store)) }
+    ensures ok { IfOk result (λ told. Does K.rules D.gives set.old moment event.now (told_by told) set.new (world_of buffers.new.store)) }
     ensures err { OnErr result (set.new ≡ set.old) }
 {
     match event {
-        Event::Process(number) => set.request(workplace, alloc, *number, moment),
+        Event::Process(number) => set.request(buffers, alloc, *number, moment),
         Event::Put(number, field, given) => {
-            set.put(workplace, alloc, *number, *field, *given, moment)
+            set.put(buffers, alloc, *number, *field, *given, moment)
         }
         Event::Complete(number, wait, finished) => {
-            set.complete(workplace, alloc, *number, *wait, *finished, moment)
+            set.complete(buffers, alloc, *number, *wait, *finished, moment)
         }
         Event::Notify(target, number, field, given) => {
-            set.put_notify(workplace, alloc, *number, *target, *field, *given, moment)
+            set.put_notify(buffers, alloc, *number, *target, *field, *given, moment)
         }
-        Event::Cancel(number) => set.cancel(workplace, alloc, *number, moment),
+        Event::Cancel(number) => set.cancel(buffers, alloc, *number, moment),
         _ => unreachable!(),
     }
 }
@@ -66,25 +66,25 @@ fn do_in<K: RecordKind + Drop, D: Device>(
 ///
 /// [`AllocError`] if allocation fails; nothing has changed then.
 #[inline(always)]
-pub(crate) fn run_in<K: RecordKind + Drop, D: Device>(
+pub(crate) fn run_with_answers<K: RecordKind + Drop, D: Device>(
     set: &mut LockSet<K, D>,
-    workplace: &mut Workplace<K, D>,
+    buffers: &mut EventBuffers<K, D>,
     alloc: Global,
     event: &Event,
     moment: u64,
 ) -> Result<(Reply, KeptAnswers), AllocError>
     requires done_here { is_done_on_sets event.now ≡ true }
-    ensures ok { IfOk result (λ done. Does K.rules D.gives set.old moment event.now done.0 set.new (world_of workplace.new.store)) }
-    ensures answers { IfOk result (λ done. done.1 ≡ answers_of (world_of workplace.new.store).calls) }
+    ensures ok { IfOk result (λ done. Does K.rules D.gives set.old moment event.now done.0 set.new (world_of buffers.new.store)) }
+    ensures answers { IfOk result (λ done. done.1 ≡ answers_of (world_of buffers.new.store).calls) }
     ensures err { OnErr result (set.new ≡ set.old) }
 {
     // Reserved before the event, because nothing may be refused after it, and kept for the next
     // one.
-    let mut spare = mem::replace(&mut workplace.journal_spare, Vec::new(alloc));
+    let mut spare = mem::replace(&mut buffers.journal_spare, Vec::new(alloc));
     spare.reserve(256)?;
-    let told = do_in(set, workplace, alloc, event, moment)?;
-    let answers = kept_answers(&workplace.store.event.calls, &mut spare, alloc);
-    workplace.journal_spare = spare;
+    let told = do_on_set(set, buffers, alloc, event, moment)?;
+    let answers = kept_answers(&buffers.store.event.calls, &mut spare, alloc);
+    buffers.journal_spare = spare;
     Ok((told.reply(), answers))
 }
 
@@ -95,18 +95,18 @@ pub(crate) fn run_in<K: RecordKind + Drop, D: Device>(
 ///
 /// [`IocError::JournalFull`] if the journal has no place left. [`IocError::NoMemory`] if allocation
 /// fails. Nothing has changed then.
-pub(crate) fn run_counted<K: RecordKind + Drop, B: Base<K>, D: Device, R: Wait>(
+pub(crate) fn run_counted<K: RecordKind + Drop, B: EngineName<K>, D: Device, R: Wait>(
     rt: &R,
     alloc: Global,
-    book: &Book<K, B>,
+    book: &SharedJournal<K, B>,
     set: &mut LockSet<K, D>,
-    workplace: &mut Workplace<K, D>,
+    buffers: &mut EventBuffers<K, D>,
     event: &Event,
     moment: u64,
 ) -> Result<Ran<K, B>, IocError>
     requires done_here { is_done_on_sets event.now ≡ true }
-    ensures does { IfOk result (λ ran. Does K.rules D.gives set.old moment event.now ran.reply set.new (world_of workplace.new.store)) }
-    ensures entry { IfOk result (λ ran. ran.entry ≡ record { moment = moment; event = event.now; answers = answers_of (world_of workplace.new.store).calls; reply = ran.reply }) }
+    ensures does { IfOk result (λ ran. Does K.rules D.gives set.old moment event.now ran.reply set.new (world_of buffers.new.store)) }
+    ensures entry { IfOk result (λ ran. ran.entry ≡ record { moment = moment; event = event.now; answers = answers_of (world_of buffers.new.store).calls; reply = ran.reply }) }
     ensures before { IfOk result (λ ran. ran.before.items ≡ set.old.live) }
     ensures refused { IfErr result IsNoPlace }
     ensures err { OnErr result (set.new ≡ set.old) }
@@ -115,7 +115,7 @@ pub(crate) fn run_counted<K: RecordKind + Drop, B: Base<K>, D: Device, R: Wait>(
         return Err(IocError::NoMemory);
     };
     let place = book.reserve(rt)?;
-    let (reply, answers) = match run_in(set, workplace, alloc, event, moment) {
+    let (reply, answers) = match run_with_answers(set, buffers, alloc, event, moment) {
         Ok(done) => done,
         Err(_refused) => {
             book.give_back(rt, place);

@@ -10,9 +10,9 @@ ghost use Rattle.ioc_main.specs.declared.command.Command.TheVariants.{Sets};
 ghost use Rattle.ioc_main.specs.Coming.{Stands};
 
 use crate::replay::Replay;
-use crate::session::{Replies, Said, Session};
-use ioc_device::Answer;
+use crate::session::{PendingOutput, Replies, Session};
 use crate::{Command, ended_line, split_before, words_of_put};
+use ioc_device::Answer;
 use ioc_values::Finished;
 use std::alloc::AllocError;
 
@@ -72,7 +72,11 @@ impl Replay {
 
     // Carries out a command and appends its reply.
     #[tactic(auto, unfolding(crate::specs::Replay::carried_out), using(crate::proofs::Getting::said_shortly, crate::proofs::Getting::stands_before, crate::proofs::Getting::stands_alone))]
-    fn carry_out(&mut self, command: &Command<'_>, said: &mut Said) -> Result<(), AllocError>
+    fn carry_out(
+        &mut self,
+        command: &Command<'_>,
+        said: &mut PendingOutput,
+    ) -> Result<(), AllocError>
         requires room { length said.old.replies + 256 ≤ 4096 }
         requires none { said.old.more.items ≡ [] }
         ensures names { self.new.names ≡ self.old.names }
@@ -112,7 +116,7 @@ impl Replay {
     // Carries out a line of any kind, and returns whether nothing is printed for it. Not inlined,
     // so that nothing is cleared for it if the line is a put.
     #[inline(never)]
-    fn do_any(&mut self, line: &[u8], said: &mut Said) -> Result<bool, AllocError>
+    fn do_any(&mut self, line: &[u8], said: &mut PendingOutput) -> Result<bool, AllocError>
         requires room { length said.old.replies + 256 ≤ 4096 }
         requires none { said.old.more.items ≡ [] }
         ensures silent { IfOk result (λ silent. silent ≡ is_silent (command_of line.now)) }
@@ -130,7 +134,7 @@ impl Replay {
     // first bytes, because most lines with a value are puts.
     #[inline(always)]
     #[tactic(auto, using(crate::proofs::Telling::put_speaks, crate::proofs::Getting::said_shortly, crate::proofs::Getting::stands_before, crate::proofs::Getting::stands_alone))]
-    fn do_line(&mut self, line: &[u8], said: &mut Said) -> Result<bool, AllocError>
+    fn do_line(&mut self, line: &[u8], said: &mut PendingOutput) -> Result<bool, AllocError>
         requires room { length said.old.replies + 256 ≤ 4096 }
         requires none { said.old.more.items ≡ [] }
         ensures silent { IfOk result (λ silent. silent ≡ is_silent (command_of line.now)) }
@@ -203,7 +207,7 @@ impl Session for Replay {
     /// Answers a line, then serves the waiting requests, and reports the puts with notification
     /// that have ended since.
     #[tactic(auto, unfolding(crate::specs::Replay::answered))]
-    fn answer(&mut self, line: &[u8], said: &mut Said) -> Result<(), AllocError> {
+    fn answer(&mut self, line: &[u8], said: &mut PendingOutput) -> Result<(), AllocError> {
         let silent = self.do_line(line, said)?;
         if !silent {
             self.attend(&mut said.more)?;

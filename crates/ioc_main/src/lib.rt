@@ -29,4 +29,4 @@ pub use parts::{cut_at, split_before};
 pub use replay::Replay;
 pub use reply_line::{LineReply, say_effect, say_refusal, say_reply};
 pub use runs::run;
-pub use session::{Said, Session};
+pub use session::{PendingOutput, Session};

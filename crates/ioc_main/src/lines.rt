@@ -5,20 +5,20 @@ ghost use Rattle.ioc_main.specs.Script.{lines_of, cut};
 ghost use Rattle.ioc_main.specs.Coming.{still, to_come};
 ghost use Rattle.ioc_main.specs.Written.{Writes, WritesPart, StopsLine, StopsScript};
 
-use crate::fault::{LineFault, ScriptFault, WriteFault};
-use crate::session::{Said, Session};
-use crate::writing::write_text;
 use crate::cut_at;
-use ioc_values::Room;
+use crate::fault::{LineFault, ScriptFault, WriteFault};
+use crate::session::{PendingOutput, Session};
+use crate::writing::write_text;
+use ioc_values::ByteBuffer;
 use std::alloc::Global;
 use std::io::{Read, Write};
 
 // The beginning of the current line, long enough to recognize that the line is too long.
-type Line = Room<1025>;
+type Line = ByteBuffer<1025>;
 
 // Writes the pending replies. Not inlined, because after most lines nothing is written.
 #[inline(never)]
-fn write_said<W: Write>(said: &mut Said, out: &mut W) -> Result<(), WriteFault>
+fn write_said<W: Write>(said: &mut PendingOutput, out: &mut W) -> Result<(), WriteFault>
     ensures ok { OnOk result (Appends (W.contents out.old) (W.contents out.new) (said.old.replies ++ said.old.more.items)) }
     ensures empty { OnOk result (said.new.replies ≡ []) }
     ensures none { OnOk result (said.new.more.items ≡ []) }
@@ -31,7 +31,7 @@ fn write_said<W: Write>(said: &mut Said, out: &mut W) -> Result<(), WriteFault>
 }
 
 // Writes the pending replies if there is no room for the reply to another line.
-fn make_room<W: Write>(said: &mut Said, out: &mut W) -> Result<(), WriteFault>
+fn make_room<W: Write>(said: &mut PendingOutput, out: &mut W) -> Result<(), WriteFault>
     ensures ok { OnOk result (Writes (W.contents out.old) (said.old.replies ++ said.old.more.items) (W.contents out.new) said.new.replies) }
     ensures room { OnOk result (length said.new.replies + 256 ≤ 4096) }
     ensures none { OnOk result (said.new.more.items ≡ []) }
@@ -47,7 +47,7 @@ fn make_room<W: Write>(said: &mut Said, out: &mut W) -> Result<(), WriteFault>
 // written, and nothing of the line.
 fn say<S: Session, W: Write>(
     session: &mut S,
-    said: &mut Said,
+    said: &mut PendingOutput,
     out: &mut W,
     line: &[u8],
 ) -> Result<(), LineFault>
@@ -75,7 +75,7 @@ fn say<S: Session, W: Write>(
 fn end_line<S: Session, W: Write>(
     session: &mut S,
     line: &mut Line,
-    said: &mut Said,
+    said: &mut PendingOutput,
     out: &mut W,
     last: &[u8],
 ) -> Result<(), LineFault>
@@ -98,7 +98,7 @@ fn end_line<S: Session, W: Write>(
 fn feed<S: Session, W: Write>(
     session: &mut S,
     line: &mut Line,
-    said: &mut Said,
+    said: &mut PendingOutput,
     out: &mut W,
     piece: &[u8],
 ) -> Result<(), LineFault>
@@ -126,7 +126,7 @@ fn feed<S: Session, W: Write>(
 fn answer_rest<S: Session, W: Write>(
     session: &mut S,
     line: &mut Line,
-    said: &mut Said,
+    said: &mut PendingOutput,
     out: &mut W,
 ) -> Result<(), LineFault>
     requires room { length said.old.replies + 256 ≤ 4096 }
@@ -146,7 +146,7 @@ fn answer_rest<S: Session, W: Write>(
 fn finish<S: Session, W: Write>(
     session: &mut S,
     line: &mut Line,
-    said: &mut Said,
+    said: &mut PendingOutput,
     out: &mut W,
 ) -> Result<(), LineFault>
     requires room { length said.old.replies + 256 ≤ 4096 }
@@ -160,7 +160,7 @@ fn finish<S: Session, W: Write>(
 }
 
 // Writes the pending replies after a failed read, and returns the fault.
-fn stop<W: Write>(said: &mut Said, out: &mut W) -> ScriptFault
+fn stop<W: Write>(said: &mut PendingOutput, out: &mut W) -> ScriptFault
     requires { said.old.more.items ≡ [] }
     ensures { (text : List ℕ) → StopsScript result (W.contents out.old) (said.old.replies ++ text) (W.contents out.new) }
 {
@@ -187,7 +187,7 @@ pub fn run_script<S: Session, R: Read + Drop, W: Write>(
     ensures err { IfErr result (λ fault. IfSome (R.remaining script) (λ text. StopsScript fault (W.contents out.old) (S.transcript session.old (lines_of text)) (W.contents out.new))) }
 {
     let mut line = Line::new();
-    let mut said = Said::new(alloc);
+    let mut said = PendingOutput::new(alloc);
     let mut buffer = [0u8; 512];
     for _ in 0..u64::MAX {
         match script.read(&mut buffer) {

@@ -17,17 +17,17 @@ ghost use Rattle.ioc_main.specs.Sets.{sets_line};
 use crate::fields::{channel, relink};
 use crate::session::Replies;
 use crate::sets::say_sets;
+use crate::{count_line, say_effect, say_refusal, say_reply, tally_line};
 use ioc_device::Answer;
 use ioc_fields::FieldNo;
-use ioc_sim::{Machine, event_list, interrupt_list};
 use ioc_names::Names;
 use ioc_notify::NotifyId;
 use ioc_record::add_text;
 use ioc_scan::{ListName, Period};
-use crate::{count_line, say_effect, say_refusal, say_reply, tally_line};
+use ioc_sim::{Machine, event_list, interrupt_list};
 use ioc_store::Store;
-use rec_types::Record;
 use ioc_values::{Finished, Input, IocError, Text, Value};
+use rec_types::Record;
 use std::alloc::{AllocError, Global};
 
 /// A loaded database on which a script works.

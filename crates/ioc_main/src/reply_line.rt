@@ -7,11 +7,11 @@ ghost use Rattle.ioc_main.specs.Replies.{outcome_words, live_words, reply_words}
 use crate::counts::notify_line;
 use ioc_events::{Effect, Reply};
 use ioc_ledger::Outcome;
-use ioc_values::{IocError, Room};
+use ioc_values::{ByteBuffer, IocError};
 
 /// A line with numbers, with its line feed. The longest is that of the counts of requests, of at
 /// most 20 digits each.
-pub type LineReply = Room<256>;
+pub type LineReply = ByteBuffer<256>;
 
 /// Returns the words for the outcome of a request.
 #[tactic(auto, unfolding(crate::specs::Replies::outcome_words))]
@@ -35,7 +35,7 @@ fn live_words(live: bool) -> &'static str
 }
 
 // Appends a line of words.
-fn say_words<const CAP: usize>(out: &mut Room<CAP>, words: &[u8])
+fn say_words<const CAP: usize>(out: &mut ByteBuffer<CAP>, words: &[u8])
     requires { length out.old + length words.now < CAP }
     ensures { out.new ≡ out.old ++ words.now ++ 10 ∷ [] }
 {
@@ -45,7 +45,7 @@ fn say_words<const CAP: usize>(out: &mut Room<CAP>, words: &[u8])
 
 /// Appends the line of a reply, with its line feed. There must be room for 256 bytes.
 #[tactic(auto, using(crate::proofs::Words::outcome_short, crate::proofs::Words::live_short, crate::proofs::Words::refusal_short))]
-pub fn say_reply<const CAP: usize>(out: &mut Room<CAP>, reply: &Reply)
+pub fn say_reply<const CAP: usize>(out: &mut ByteBuffer<CAP>, reply: &Reply)
     requires { length out.old + 256 ≤ CAP }
     ensures { out.new ≡ out.old ++ reply_words reply.now ++ 10 ∷ [] }
 {
@@ -64,7 +64,7 @@ pub fn say_reply<const CAP: usize>(out: &mut Room<CAP>, reply: &Reply)
 
 // Appends the line of an outcome. Each outcome has its own copy, of a length that is known.
 #[tactic(auto, unfolding(crate::specs::Replies::outcome_words))]
-fn say_outcome<const CAP: usize>(out: &mut Room<CAP>, outcome: Outcome)
+fn say_outcome<const CAP: usize>(out: &mut ByteBuffer<CAP>, outcome: Outcome)
     requires { length out.old + 256 ≤ CAP }
     ensures { out.new ≡ out.old ++ outcome_words outcome ++ 10 ∷ [] }
 {
@@ -79,7 +79,7 @@ fn say_outcome<const CAP: usize>(out: &mut Room<CAP>, outcome: Outcome)
 /// Appends the line of the effect of a request or a put, with its line feed. There must be room for
 /// 256 bytes.
 #[tactic(auto, using(crate::proofs::Words::outcome_short))]
-pub fn say_effect<const CAP: usize>(out: &mut Room<CAP>, effect: &Effect)
+pub fn say_effect<const CAP: usize>(out: &mut ByteBuffer<CAP>, effect: &Effect)
     requires { length out.old + 256 ≤ CAP }
     ensures { out.new ≡ out.old ++ reply_words (reply_of effect.now) ++ 10 ∷ [] }
 {
@@ -93,7 +93,7 @@ pub fn say_effect<const CAP: usize>(out: &mut Room<CAP>, effect: &Effect)
 /// Appends the line of a refusal, with its line feed. There must be room for 256 bytes.
 #[inline(never)]
 #[tactic(auto, using(crate::proofs::Words::refusal_short))]
-pub fn say_refusal<const CAP: usize>(out: &mut Room<CAP>, refused: IocError)
+pub fn say_refusal<const CAP: usize>(out: &mut ByteBuffer<CAP>, refused: IocError)
     requires { length out.old + 256 ≤ CAP }
     ensures { out.new ≡ out.old ++ refusal_words refused ++ 10 ∷ [] }
 {

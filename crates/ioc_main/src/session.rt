@@ -3,27 +3,27 @@ ghost use Rattle.std.specs.Prelude.{◌≡◌, ◌↔◌, ◌≤◌, ◌+◌, �
 ghost use Rattle.ioc_main.specs.Script.{cut};
 ghost use Rattle.ioc_main.specs.Coming.{still, Stands};
 
-use ioc_values::Room;
+use ioc_values::ByteBuffer;
 use std::alloc::{AllocError, Global};
 
 /// The lines of replies that are written at once.
-pub type Replies = Room<4096>;
+pub type Replies = ByteBuffer<4096>;
 
 /// The pending replies, which aren't written yet: the lines of replies, and what follows the last
 /// of them.
 #[derive(Drop)]
-pub struct Said {
+pub struct PendingOutput {
     pub replies: Replies,
     pub more: Vec<u8>,
 }
 
-impl Said {
+impl PendingOutput {
     /// No pending replies.
     pub fn new(alloc: Global) -> Self
         ensures replies { result.replies ≡ [] }
         ensures more { result.more.items ≡ [] }
     {
-        Said {
+        PendingOutput {
             replies: Replies::new(),
             more: Vec::new(alloc),
         }
@@ -59,7 +59,7 @@ pub trait Session {
     ///
     /// [`AllocError`] if allocation fails. The replies that were pending before are still to be
     /// written, and the session must not be used any more.
-    fn answer(&mut self, line: &[u8], said: &mut Said) -> Result<(), AllocError>
+    fn answer(&mut self, line: &[u8], said: &mut PendingOutput) -> Result<(), AllocError>
         requires room { length said.old.replies + 256 ≤ 4096 }
         requires none { said.old.more.items ≡ [] }
         ensures ok { OnOk result ((lines : List (List ℕ)) → still said.old.replies (transcript self.old) (line.now ∷ lines) ≡ still (said.new.replies ++ said.new.more.items) (transcript self.new) lines) }

@@ -8,9 +8,9 @@ ghost use Rattle.ioc_sim.specs.SeenMachine.{machine_of};
 ghost use Rattle.ioc_main.specs.Sets.{name_at, part_words, first_words, parts_words, sets_line};
 
 use ioc_graph::followers;
-use ioc_sim::{Machine, Scripted};
 use ioc_names::RecordNo;
 use ioc_record::RecordKind;
+use ioc_sim::{Machine, Scripted};
 use ioc_store::{OneMap, Store};
 use rec_types::Record;
 use std::alloc::{AllocError, Global};

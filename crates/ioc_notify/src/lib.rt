@@ -6,12 +6,12 @@
 
 pub mod laws;
 pub mod live_numbers;
+pub mod notification_counts;
 pub mod notify_id;
-pub mod put_table;
 pub mod table_laws;
 pub mod waiting_lists;
 
 pub use live_numbers::{Live, LiveNumbers};
+pub use notification_counts::{NotificationCounts, holders_by};
 pub use notify_id::NotifyId;
-pub use put_table::{PutTable, holders_by};
 pub use waiting_lists::{Waiting, WaitingLists};

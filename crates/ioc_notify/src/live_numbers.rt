@@ -77,19 +77,19 @@ impl LiveNumbers {
     }
 
     /// Adds a record to the put with notification with this number, if it is live.
-    pub fn gain(&mut self, number: NotifyId)
+    pub fn add_holder(&mut self, number: NotifyId)
         ensures { self.new ≡ record self.old { live = gained number self.old.live } }
     {
-        gain(&mut self.items, number);
+        add_holder(&mut self.items, number);
     }
 
     /// Removes a record or waiting list from the put with notification with this number. Returns
     /// whether that was the last one; it has ended then, and is no longer live.
-    pub fn lose(&mut self, number: NotifyId) -> bool
+    pub fn remove_holder(&mut self, number: NotifyId) -> bool
         ensures ended { result ≡ is_at_its_last number self.old.live }
         ensures lost { self.new ≡ record self.old { live = lost number self.old.live } }
     {
-        lose(&mut self.items, number)
+        remove_holder(&mut self.items, number)
     }
 
     /// Cancels the put with notification with this number. Returns whether it was live.
@@ -102,7 +102,7 @@ impl LiveNumbers {
 }
 
 // Adds a record to the put with notification with this number.
-fn gain(items: &mut Vec<Live>, number: NotifyId)
+fn add_holder(items: &mut Vec<Live>, number: NotifyId)
     ensures live { items.new.items ≡ gained number items.old.items }
     ensures room { vec_capacity items.new ≡ vec_capacity items.old }
 {
@@ -116,7 +116,7 @@ fn gain(items: &mut Vec<Live>, number: NotifyId)
 }
 
 // Removes a record or waiting list from it. Returns whether that was the last one.
-fn lose(items: &mut Vec<Live>, number: NotifyId) -> bool
+fn remove_holder(items: &mut Vec<Live>, number: NotifyId) -> bool
     ensures ended { result ≡ is_at_its_last number items.old.items }
     ensures lost { items.new.items ≡ lost number items.old.items }
     ensures room { vec_capacity items.new ≡ vec_capacity items.old }

@@ -22,7 +22,7 @@ use Rattle.ioc_record.specs.Values.{read_as}
 use Rattle.ioc_record.specs.RecordRules.{RecordRules}
 use Rattle.ioc_record.specs.Laws.{IsLawful}
 use Rattle.ioc_store.specs.declared.frames.Frame.{Frame}
-use Rattle.ioc_store.specs.declared.frames.Place.TheVariants.{ReadingDisable, Following, FollowingEach, Writing, Reading as Reading-place}
+use Rattle.ioc_store.specs.declared.frames.ResumePoint.TheVariants.{ReadingDisable, Following, FollowingEach, Writing, Reading as Reading-place}
 use Rattle.ioc_process.specs.Frames.{Ended, Calls}
 use Rattle.ioc_store.specs.World.{World, Has, at, common_at, put, changed, sent, idle, Stays, Keeps, IsClosed}
 use Rattle.ioc_store.specs.Marks.{is_put_down, put_down, put_mark_passed, at_rest, is_disabled, resumed}

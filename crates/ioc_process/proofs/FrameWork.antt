@@ -1,7 +1,7 @@
 -- The work that is left in the frames, as a number that decreases with each turn.
 use Rattle.std.proofs.Common.{◌≡◌, ℕ, zero, suc, ◌+◌, ◌-◌, ◌*◌, ◌<◌, ◌≤◌, List, [], ◌∷◌, length, refl, arith}
 use Rattle.std.proofs.Math.Nat.{mul-le-mul_right}
-use Rattle.ioc_store.specs.declared.frames.Place.{Place}
+use Rattle.ioc_store.specs.declared.frames.ResumePoint.{ResumePoint}
 use Rattle.ioc_store.specs.declared.frames.Frame.{Frame}
 use Rattle.ioc_process.specs.Frames.{Turn, Ended, Calls, next_of, calls_left, turn_left, calls, most_of_request}
 use Rattle.ioc_store.specs.declared.frames.Next.{Next}
@@ -19,7 +19,7 @@ cost-pos zero = omega arith
 cost-pos (suc i) = omega arith
 
 -- The number of turns of a body that resumes at this point.
-abbrev pub place_work : ℕ → Place → ℕ
+abbrev pub place_work : ℕ → ResumePoint → ℕ
 place_work i place = 1 + calls_left place * (cost i + 1)
 
 abbrev pub frames_work : ℕ → List Frame → ℕ

@@ -14,8 +14,8 @@ use Rattle.ioc_store.specs.World.{World, Has, at, common_at, changed, put, sent}
 use Rattle.ioc_store.specs.declared.outbox.OutboxItem.TheVariants.{Once}
 use Rattle.ioc_store.specs.Worlds.{at-put_same, has-put}
 use Rattle.ioc_process.specs.Looks.{Opens, Opened}
-use Rattle.ioc_process.specs.declared.looks.Opening.{Opening}
-use Rattle.ioc_process.specs.declared.looks.Opening.TheVariants.{ReadsDisable, Disabled, ReadsLink, ReadsDevice, Took, PutsOut}
+use Rattle.ioc_process.specs.declared.fast_path.IdleStart.{IdleStart}
+use Rattle.ioc_process.specs.declared.fast_path.IdleStart.TheVariants.{ReadsDisable, Disabled, ReadsLink, ReadsDevice, Took, PutsOut}
 
 twice : {X : Type 0} (b : Bool) (q r o : Option X) → cond b q (cond b r o) ≡ cond b q o
 twice true q r o = refl
@@ -48,7 +48,7 @@ module _ {R : Type 0} (k : RecordRules R) where
   unfolding changed
   changed_still w n f r is = ap (put w n) (is ∙ changed_at w n f)
 
-  pub opened : (w : World R) (n : ℕ) (o : Opening) (written : Output) (r : R) (after : World R) → Opens k (at k (changed k w n unblocked) n) o written r → after ≡ put w n r
+  pub opened : (w : World R) (n : ℕ) (o : IdleStart) (written : Output) (r : R) (after : World R) → Opens k (at k (changed k w n unblocked) n) o written r → after ≡ put w n r
       → Opened k (changed k w n unblocked) n o written after
   opened w n ReadsDisable written r after is there = (there ∙ changed_still w n unblocked r is.0, is.1)
   opened w n Disabled written r after is there = (there ∙ changed_still w n unblocked r is.0, is.1, is.2)

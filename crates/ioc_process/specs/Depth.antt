@@ -72,8 +72,8 @@ module _ {R : Type 0} (k : RecordRules R) where
     pub fewer : (w : World R) (s : ℕ) → idle k w < bound → idle k (ask w s).world ≤ idle k w
 
   -- Few enough records are idle, counting record `s` as active.
-  abbrev pub Room : ℕ → World R → ℕ → Type 0
-  Room bound w s = idle k w < bound + one_if_not (common_at k w s).active
+  abbrev pub FewIdle : ℕ → World R → ℕ → Type 0
+  FewIdle bound w s = idle k w < bound + one_if_not (common_at k w s).active
 
   -- No more records are idle after an input, and its record is as active as it was, unless its
   -- device answers later.
@@ -93,7 +93,7 @@ module _ {R : Type 0} (k : RecordRules R) where
   pub stays_on : {w mid after : World R} {s : ℕ} → Stays k w s mid → Stays k mid s after → Stays k w s after
   stays_on one two = let a = one.fewer in let b = two.fewer in record { fewer = omega arith; active = two.active ∙ one.active }
 
-  pub room_on : (bound : ℕ) (w mid : World R) (s : ℕ) → Room bound w s → Stays k w s mid → Room bound mid s
+  pub room_on : (bound : ℕ) (w mid : World R) (s : ℕ) → FewIdle bound w s → Stays k w s mid → FewIdle bound mid s
   room_on bound w mid s room one = omega (arith, room, one.fewer, ap one_if_not one.active)
 
 module _ {R : Type 0} (k : RecordRules R) (lawful : IsLawful k) where
@@ -103,7 +103,7 @@ module _ {R : Type 0} (k : RecordRules R) (lawful : IsLawful k) where
     active = ap (λ (c : Common). c.active) (common_at-changed k lawful w s f) ∙ same;
   }
 
-  room-active : (bound : ℕ) (w : World R) (s : ℕ) → Room k bound w s → idle k (changed k w s (with_active true)) < bound
+  room-active : (bound : ℕ) (w : World R) (s : ℕ) → FewIdle k bound w s → idle k (changed k w s (with_active true)) < bound
   room-active bound w s room = omega (arith, room, idle-changed k lawful w s (with_active true))
 
   pub inherits-stays : (w : World R) (s : ℕ) (t : StandingLink) → Stays k w s (inherits k w s t)
@@ -288,7 +288,7 @@ module _ {R : Type 0} (k : RecordRules R) (lawful : IsLawful k) where
         let level = passed_on-idle (changed k w t (put_mark_passed by_put)) s t ∙ idle-kept k lawful w t (put_mark_passed by_put) (passed-active by_put _) in
         rw (asks.same (passed_on k (changed k w t (put_mark_passed by_put)) s t) t (omega (arith, level, room))) refl
 
-    pub caused-stays : (w : World R) (s t : ℕ) → Room k bound w s → Stays k w s (caused k ask w s t).world
+    pub caused-stays : (w : World R) (s t : ℕ) → FewIdle k bound w s → Stays k w s (caused k ask w s t).world
     unfolding caused
     caused-stays w s t room =
         let before = (common_at k w s).active in
@@ -299,11 +299,11 @@ module _ {R : Type 0} (k : RecordRules R) (lawful : IsLawful k) where
           active = ap (λ (c : Common). c.active) (common_at-changed k lawful done.world s (with_active before));
         }
 
-    caused-same : (w : World R) (s t : ℕ) → Room k bound w s → caused k ask w s t ≡ caused k other w s t
+    caused-same : (w : World R) (s t : ℕ) → FewIdle k bound w s → caused k ask w s t ≡ caused k other w s t
     unfolding caused
     caused-same w s t room = rw (asked-same _ s t (room-active bound w s room)) refl
 
-    pub followed-stays : (w : World R) (s : ℕ) (link : LinkUse) → Room k bound w s → Stays k w s (followed k ask w s link).world
+    pub followed-stays : (w : World R) (s : ℕ) (link : LinkUse) → FewIdle k bound w s → Stays k w s (followed k ask w s link).world
     unfolding followed
     followed-stays w s (Standing t) room =
         elim (is_passive (common_at k w t.number)) as (λ b. Stays k w s (cond {A = Done R} b (caused k ask w s t.number) (record { world = w; requests = None })).world) [
@@ -314,14 +314,14 @@ module _ {R : Type 0} (k : RecordRules R) (lawful : IsLawful k) where
     followed-stays w s OwnDevice room = stays_here k w s
     followed-stays w s Absent room = stays_here k w s
 
-    followed-same : (w : World R) (s : ℕ) (link : LinkUse) → Room k bound w s → followed k ask w s link ≡ followed k other w s link
+    followed-same : (w : World R) (s : ℕ) (link : LinkUse) → FewIdle k bound w s → followed k ask w s link ≡ followed k other w s link
     unfolding followed
     followed-same w s (Standing t) room = rw (caused-same w s t.number room) refl
     followed-same w s Unused room = refl
     followed-same w s OwnDevice room = refl
     followed-same w s Absent room = refl
 
-    prepared-stays : (w : World R) (s : ℕ) (t : StandingLink) → Room k bound w s → Stays k w s (prepared k ask w s t).world
+    prepared-stays : (w : World R) (s : ℕ) (t : StandingLink) → FewIdle k bound w s → Stays k w s (prepared k ask w s t).world
     unfolding prepared
     prepared-stays w s t room =
         elim (requests_first k w t) as (λ b. Stays k w s (cond {A = Done R} b (caused k ask w s t.number) (record { world = w; requests = None })).world) [
@@ -329,37 +329,37 @@ module _ {R : Type 0} (k : RecordRules R) (lawful : IsLawful k) where
           | false ↦ stays_here k w s
         ]
 
-    prepared-same : (w : World R) (s : ℕ) (t : StandingLink) → Room k bound w s → prepared k ask w s t ≡ prepared k other w s t
+    prepared-same : (w : World R) (s : ℕ) (t : StandingLink) → FewIdle k bound w s → prepared k ask w s t ≡ prepared k other w s t
     unfolding prepared
     prepared-same w s t room = rw (caused-same w s t.number room) refl
 
-    pub read_record-stays : (kind : R → InputKind) (w : World R) (s : ℕ) (t : StandingLink) → Room k bound w s → Stays k w s (read_record k ask kind w s t).world
+    pub read_record-stays : (kind : R → InputKind) (w : World R) (s : ℕ) (t : StandingLink) → FewIdle k bound w s → Stays k w s (read_record k ask kind w s t).world
     unfolding read_record read_at
     read_record-stays kind w s t room = stays_on k (prepared-stays w s t room) (value_came-stays _ s t _)
 
-    read_record-same : (kind : R → InputKind) (w : World R) (s : ℕ) (t : StandingLink) → Room k bound w s → read_record k ask kind w s t ≡ read_record k other kind w s t
+    read_record-same : (kind : R → InputKind) (w : World R) (s : ℕ) (t : StandingLink) → FewIdle k bound w s → read_record k ask kind w s t ≡ read_record k other kind w s t
     unfolding read_record read_at
     read_record-same kind w s t room = rw (prepared-same w s t room) refl
 
-    pub read_link-stays : (kind : R → InputKind) (w : World R) (s : ℕ) (link : LinkUse) → Room k bound w s → Stays k w s (read_link k ask kind w s link).world
+    pub read_link-stays : (kind : R → InputKind) (w : World R) (s : ℕ) (link : LinkUse) → FewIdle k bound w s → Stays k w s (read_link k ask kind w s link).world
     unfolding read_link
     read_link-stays kind w s (Standing t) room = read_record-stays kind w s t room
     read_link-stays kind w s Unused room = stays_here k w s
     read_link-stays kind w s OwnDevice room = faulted-stays w s
     read_link-stays kind w s Absent room = faulted-stays w s
 
-    read_link-same : (kind : R → InputKind) (w : World R) (s : ℕ) (link : LinkUse) → Room k bound w s → read_link k ask kind w s link ≡ read_link k other kind w s link
+    read_link-same : (kind : R → InputKind) (w : World R) (s : ℕ) (link : LinkUse) → FewIdle k bound w s → read_link k ask kind w s link ≡ read_link k other kind w s link
     unfolding read_link
     read_link-same kind w s (Standing t) room = read_record-same kind w s t room
     read_link-same kind w s Unused room = refl
     read_link-same kind w s OwnDevice room = refl
     read_link-same kind w s Absent room = refl
 
-    calls-stays : (w : World R) (s : ℕ) (t : StandingLink) (b : Bool) → Room k bound w s → Stays k w s (cond {A = Done R} b (caused k ask w s t.number) (record { world = w; requests = None })).world
+    calls-stays : (w : World R) (s : ℕ) (t : StandingLink) (b : Bool) → FewIdle k bound w s → Stays k w s (cond {A = Done R} b (caused k ask w s t.number) (record { world = w; requests = None })).world
     calls-stays w s t true room = caused-stays w s t.number room
     calls-stays w s t false room = stays_here k w s
 
-    after_writing-stays : (done : Written R) (s : ℕ) (t : StandingLink) → Room k bound done.world s → Stays k done.world s (after_writing k ask done s t).world
+    after_writing-stays : (done : Written R) (s : ℕ) (t : StandingLink) → FewIdle k bound done.world s → Stays k done.world s (after_writing k ask done s t).world
     unfolding after_writing
     after_writing-stays done s t room =
         elim done.stored as (λ b. Stays k done.world s (cond {A = Done R} b
@@ -369,32 +369,32 @@ module _ {R : Type 0} (k : RecordRules R) (lawful : IsLawful k) where
           | false ↦ faulted-stays done.world s
         ]
 
-    after_writing-same : (done : Written R) (s : ℕ) (t : StandingLink) → Room k bound done.world s → after_writing k ask done s t ≡ after_writing k other done s t
+    after_writing-same : (done : Written R) (s : ℕ) (t : StandingLink) → FewIdle k bound done.world s → after_writing k ask done s t ≡ after_writing k other done s t
     unfolding after_writing
     after_writing-same done s t room = rw (caused-same done.world s t.number room) refl
 
-    pub write_link-stays : (w : World R) (s : ℕ) (link : LinkUse) (v : Value) → Room k bound w s → Stays k w s (write_link k ask w s link v).world
+    pub write_link-stays : (w : World R) (s : ℕ) (link : LinkUse) (v : Value) → FewIdle k bound w s → Stays k w s (write_link k ask w s link v).world
     unfolding write_link
     write_link-stays w s (Standing t) v room = let first = wrote-stays w s t v in stays_on k first (after_writing-stays _ s t (room_on k bound w _ s room first))
     write_link-stays w s Unused v room = stays_here k w s
     write_link-stays w s OwnDevice v room = faulted-stays w s
     write_link-stays w s Absent v room = faulted-stays w s
 
-    write_link-same : (w : World R) (s : ℕ) (link : LinkUse) (v : Value) → Room k bound w s → write_link k ask w s link v ≡ write_link k other w s link v
+    write_link-same : (w : World R) (s : ℕ) (link : LinkUse) (v : Value) → FewIdle k bound w s → write_link k ask w s link v ≡ write_link k other w s link v
     unfolding write_link
     write_link-same w s (Standing t) v room = after_writing-same _ s t (room_on k bound w _ s room (wrote-stays w s t v))
     write_link-same w s Unused v room = refl
     write_link-same w s OwnDevice v room = refl
     write_link-same w s Absent v room = refl
 
-    pub followed_each-stays : (slots : List Slot) (w : World R) (s : ℕ) → Room k bound w s → Stays k w s (followed_each k ask w s slots).world
+    pub followed_each-stays : (slots : List Slot) (w : World R) (s : ℕ) → FewIdle k bound w s → Stays k w s (followed_each k ask w s slots).world
     unfolding followed_each
     followed_each-stays [] w s room = stays_here k w s
     followed_each-stays (slot ∷ slots) w s room =
         let first = followed-stays w s (link_at k w s slot) room in
         stays_on k first (followed_each-stays slots _ s (room_on k bound w _ s room first))
 
-    followed_each-same : (slots : List Slot) (w : World R) (s : ℕ) → Room k bound w s → followed_each k ask w s slots ≡ followed_each k other w s slots
+    followed_each-same : (slots : List Slot) (w : World R) (s : ℕ) → FewIdle k bound w s → followed_each k ask w s slots ≡ followed_each k other w s slots
     unfolding followed_each
     followed_each-same [] w s room = refl
     followed_each-same (slot ∷ slots) w s room =
@@ -409,7 +409,7 @@ module _ {R : Type 0} (k : RecordRules R) (lawful : IsLawful k) where
       unfolding ready_world
       ready_idle = omega (arith, room-shown w s, ap one_if_not inactive)
 
-      ready_room : Room k bound ready_world s
+      ready_room : FewIdle k bound ready_world s
       unfolding ready_world
       ready_room = omega (arith, ready_idle, ap one_if_not (shown-active w s), small)
 
@@ -492,19 +492,19 @@ module _ {R : Type 0} (k : RecordRules R) (lawful : IsLawful k) where
       ]
 
   module _ (answers : Answers) (bound : ℕ) (ask other : World R → ℕ → Done R) (asks : Asks k bound ask other) where
-    pub input-reads : (w : World R) (s : ℕ) (want : Want) → Room k bound w s → Reads k w s (input k answers ask w s want)
+    pub input-reads : (w : World R) (s : ℕ) (want : Want) → FewIdle k bound w s → Reads k w s (input k answers ask w s want)
     unfolding input
     input-reads w s NoInput room = reads w s _ (stays_here k w s)
     input-reads w s (ReadLink link) room = reads w s _ (read_link-stays bound ask other asks k.input_kind w s link room)
     input-reads w s Device room = read_device-reads answers w s
 
-    input-same : (w : World R) (s : ℕ) (want : Want) → Room k bound w s → input k answers ask w s want ≡ input k answers other w s want
+    input-same : (w : World R) (s : ℕ) (want : Want) → FewIdle k bound w s → input k answers ask w s want ≡ input k answers other w s want
     unfolding input
     input-same w s NoInput room = refl
     input-same w s (ReadLink link) room = ap (λ (r : Read R). as_input r) (read_link-same bound ask other asks k.input_kind w s link room)
     input-same w s Device room = refl
 
-    pub put_out-outs : (w : World R) (s : ℕ) (output : Output) → Room k bound w s → Outs k w s (put_out k answers ask w s output)
+    pub put_out-outs : (w : World R) (s : ℕ) (output : Output) → FewIdle k bound w s → Outs k w s (put_out k answers ask w s output)
     unfolding put_out
     put_out-outs w s NoOutput room = outs w s _ (stays_here k w s)
     put_out-outs w s (WriteLink link v) room = outs w s _ (write_link-stays bound ask other asks w s link v room)
@@ -512,7 +512,7 @@ module _ {R : Type 0} (k : RecordRules R) (lawful : IsLawful k) where
     put_out-outs w s (FollowLinks links) room = outs w s _ (followed_each-stays bound ask other asks (chosen_links links) w s room)
     put_out-outs w s (PostEvent name) room = outs w s _ (sent-stays (Post name) w s)
 
-    put_out-same : (w : World R) (s : ℕ) (output : Output) → Room k bound w s → put_out k answers ask w s output ≡ put_out k answers other w s output
+    put_out-same : (w : World R) (s : ℕ) (output : Output) → FewIdle k bound w s → put_out k answers ask w s output ≡ put_out k answers other w s output
     unfolding put_out
     put_out-same w s NoOutput room = refl
     put_out-same w s (WriteLink link v) room = ap (λ (d : Done R). record { world = d.world; requests = d.requests; goes_on = true }) (write_link-same bound ask other asks w s link v room)
@@ -532,7 +532,7 @@ module _ {R : Type 0} (k : RecordRules R) (lawful : IsLawful k) where
       unfolding taken_world
       taken_inactive = (taken-stays w s got).active ∙ inactive
 
-      taken_room : Room k bound taken_world s
+      taken_room : FewIdle k bound taken_world s
       taken_room = omega (arith, taken_small, ap one_if_not taken_inactive)
 
       pub completed-fewer : idle k (completed k answers ask w s got).world ≤ idle k w
@@ -576,7 +576,7 @@ module _ {R : Type 0} (k : RecordRules R) (lawful : IsLawful k) where
     body-same : (w : World R) (s : ℕ) → (common_at k w s).active ≡ false → idle k w ≤ bound → body k answers ask w s ≡ body k answers other w s
     unfolding body
     body-same w s inactive room =
-        let free : Room k bound w s = omega (arith, room, ap one_if_not inactive) in
+        let free : FewIdle k bound w s = omega (arith, room, ap one_if_not inactive) in
         let rest = (after_reading w s _ inactive room (input-reads w s (k.begin (at k w s)) free)).1 in
         rw (← input-same w s (k.begin (at k w s)) free, rest) refl
 
@@ -601,7 +601,7 @@ module _ {R : Type 0} (k : RecordRules R) (lawful : IsLawful k) where
       unfolding begun_world
       begun_stays = stays-changed w s unblocked refl
 
-      begun_room : Room k bound begun_world s
+      begun_room : FewIdle k bound begun_world s
       begun_room = omega (arith, begun_stays.fewer, small, ap one_if_not (begun_stays.active ∙ inactive))
 
       begun_read : LinkUse → Read R
@@ -676,7 +676,7 @@ module _ {R : Type 0} (k : RecordRules R) (lawful : IsLawful k) where
     request-asks bound = record { same = λ w s _. refl; fewer = λ w s _. request-fewer w s }
 
     module _ (w : World R) (s : ℕ) where
-      free : Room k (idle k w + 1) w s
+      free : FewIdle k (idle k w + 1) w s
       free = omega arith
 
       pub stays-caused : (t : ℕ) → Stays k w s (caused k (request k answers) w s t).world

@@ -11,8 +11,8 @@ use Rattle.ioc_fields.specs.Names.{all_slots}
 use Rattle.ioc_fields.specs.declared.field_no.Slot.{Slot}
 use Rattle.ioc_dbcommon.specs.Steps.{with_active, disable_kind}
 use Rattle.ioc_record.specs.RecordRules.{RecordRules}
-use Rattle.ioc_store.specs.declared.frames.Place.{Place}
-use Rattle.ioc_store.specs.declared.frames.Place.TheVariants.{ReadingDisable, Reading as Reading-place, Writing, FollowingEach, Following}
+use Rattle.ioc_store.specs.declared.frames.ResumePoint.{ResumePoint}
+use Rattle.ioc_store.specs.declared.frames.ResumePoint.TheVariants.{ReadingDisable, Reading as Reading-place, Writing, FollowingEach, Following}
 use Rattle.ioc_store.specs.declared.frames.Frame.{Frame}
 use Rattle.ioc_store.specs.declared.frames.Next.{Next}
 use Rattle.ioc_store.specs.declared.frames.Next.TheVariants.{Requests as Requests-next, Ends}
@@ -69,7 +69,7 @@ calls (Calls frame) = 1
 
 -- The largest number of requests that a body still makes when it resumes at this point: sixteen
 -- links and the forward link at most.
-abbrev pub calls_left : Place → ℕ
+abbrev pub calls_left : ResumePoint → ℕ
 calls_left (ReadingDisable t) = 18
 calls_left (Reading-place t) = 17
 calls_left (Writing target) = 1
@@ -127,7 +127,7 @@ module _ {R : Type 0} (k : RecordRules R) (answers : Answers) where
       record { world = rest.world; requests = followed_by done.requests rest.requests }
 
   -- Record `s` resumes at this point.
-  unfoldable pub went_on : World R → ℕ → Place → Ran R
+  unfoldable pub went_on : World R → ℕ → ResumePoint → Ran R
   went_on w s (ReadingDisable t) =
       let read = read_at k (λ _. disable_kind) (changed k w s (with_active false)) s t in
       judged k answers (request k answers) (disable_came k read.world s read.came) s

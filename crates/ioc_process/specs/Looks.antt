@@ -13,10 +13,10 @@ use Rattle.ioc_record.specs.RecordRules.{RecordRules}
 use Rattle.ioc_store.specs.Marks.{at_rest, is_disabled}
 use Rattle.ioc_store.specs.Rests.{rested}
 use Rattle.ioc_store.specs.World.{World, at, common_at, changed, put}
-use Rattle.ioc_process.specs.declared.looks.Opening.{Opening}
-use Rattle.ioc_process.specs.declared.looks.Shown.{Shown}
-use Rattle.ioc_process.specs.declared.looks.Shown.TheVariants.{Named, Done, Rests}
-use Rattle.ioc_process.specs.declared.looks.Opening.TheVariants.{ReadsDisable, Disabled, ReadsLink, ReadsDevice, Took, PutsOut}
+use Rattle.ioc_process.specs.declared.fast_path.IdleStart.{IdleStart}
+use Rattle.ioc_process.specs.declared.fast_path.Shown.{Shown}
+use Rattle.ioc_process.specs.declared.fast_path.Shown.TheVariants.{Named, Done, Rests}
+use Rattle.ioc_process.specs.declared.fast_path.IdleStart.TheVariants.{ReadsDisable, Disabled, ReadsLink, ReadsDevice, Took, PutsOut}
 
 module _ {R : Type 0} (k : RecordRules R) where
   -- Holds if SDIS is no link, the record isn't disabled, and its body needs this first.
@@ -26,7 +26,7 @@ module _ {R : Type 0} (k : RecordRules R) where
     pub needs : need_of (k.begin r) ≡ need
 
   -- A record that was found idle, by its state: what it is afterwards, and its output.
-  abbrev pub Opens : R → Opening → Output → R → Type 0
+  abbrev pub Opens : R → IdleStart → Output → R → Type 0
   Opens r ReadsDisable written after = (after ≡ r) × (is_unused (use_of (k.common r).disable_link) ≡ false)
   Opens r Disabled written after = (after ≡ r) × (is_unused (use_of (k.common r).disable_link) ≡ true) × (is_disabled (k.common r) ≡ true)
   Opens r ReadsLink written after = (after ≡ r) × Begins r need.Link
@@ -35,7 +35,7 @@ module _ {R : Type 0} (k : RecordRules R) where
   Opens r PutsOut written after = (after ≡ k.taken r got.Nothing) × Begins r need.Nothing × (written ≡ k.output r got.Nothing)
 
   -- Record `s` that was found idle, by its state: the world afterwards, and the output.
-  abbrev pub Opened : World R → ℕ → Opening → Output → World R → Type 0
+  abbrev pub Opened : World R → ℕ → IdleStart → Output → World R → Type 0
   Opened w s ReadsDisable written after = (after ≡ w) × (is_unused (use_of (common_at k w s).disable_link) ≡ false)
   Opened w s Disabled written after = (after ≡ w) × (is_unused (use_of (common_at k w s).disable_link) ≡ true) × (is_disabled (common_at k w s) ≡ true)
   Opened w s ReadsLink written after = (after ≡ w) × Begins (at k w s) need.Link

@@ -36,7 +36,7 @@ use Rattle.ioc_process.specs.Processing.{Done, Reading, PutOut, caused, followed
 use Rattle.ioc_store.specs.Rests.{rested, disable_came}
 use Rattle.ioc_process.specs.Rules.{Inherits, from_itself, from_another, Takes, that_converts, that_does_not, Receives, a_value, a_bad_value, a_fault, not_yet, Puts, that_fits, that_does_not_fit, Acknowledges, written, written_badly, not_written_yet, Gives, next, asked_too_often, no_more_numbers, Requested, while_active, while_idle, Causes, meanwhile_active, unused, absent, no_such_device, as_it_stands, after_request, Writes, to_nothing, to_absent, to_no_device, in_vain, alone, and_requests, Follows, to_record, to_scanned, nowhere, FollowsEach, no_more, one_more, PutsOut, nothing, to_link, to_device, to_links, as_event, Gets, no_input, of_device, Finishes, forward, Proceeds, at_once, kept_waiting, Runs, Disables, by_value, not_given, not_read, Rests, for_good, once_more, while_disabled, Asks, for_later, straight_away, Reads, Resumes, at_last, of_link}
 use Rattle.ioc_store.specs.Worlds.{idle-changed, idle-kept, one_of_two}
-use Rattle.ioc_process.specs.Depth.{passed-active, stays-changed, stays_on, stays-read_link, disable_came-stays, Room, room_on, room-shown, shown-active, taken-stays, wrote-stays, stays-followed, outs-put_out, reads-input, request-rule, passed_on-idle}
+use Rattle.ioc_process.specs.Depth.{passed-active, stays-changed, stays_on, stays-read_link, disable_came-stays, FewIdle, room_on, room-shown, shown-active, taken-stays, wrote-stays, stays-followed, outs-put_out, reads-input, request-rule, passed_on-idle}
 use Rattle.ioc_process.specs.RulesAlone.{followed_by-none}
 use Rattle.ioc_store.specs.Given.{Answers}
 use Rattle.ioc_store.specs.Notifying.{passed_on, notified}
@@ -166,7 +166,7 @@ module _ {R : Type 0} (k : RecordRules R) (lawful : IsLawful k) (answers : Answe
   abbrev Space : ℕ → World R → ℕ → Type 0
   Space bound w s = idle k w + cond (common_at k w s).active 1 0 ≤ bound
 
-  space_room : (bound : ℕ) (w : World R) (s : ℕ) → Space bound w s → Room k bound w s
+  space_room : (bound : ℕ) (w : World R) (s : ℕ) → Space bound w s → FewIdle k bound w s
   space_room bound w s space = omega (arith, space, one_of_two (common_at k w s).active)
 
   module _ (bound : ℕ) (asks : (w : World R) (s : ℕ) → idle k w < bound → Requested k answers w s (ask w s).world (ask w s).requests) where
@@ -183,11 +183,11 @@ module _ {R : Type 0} (k : RecordRules R) (lawful : IsLawful k) (answers : Answe
           | false ↦ λ is. straight_away is (asks _ t (omega (arith, level, few)))
         ] refl
 
-    caused-allowed : (w : World R) (s t : ℕ) → Room k bound w s → Causes k answers w s t (caused k ask w s t).world (caused k ask w s t).requests
+    caused-allowed : (w : World R) (s t : ℕ) → FewIdle k bound w s → Causes k answers w s t (caused k ask w s t).world (caused k ask w s t).requests
     unfolding caused
     caused-allowed w s t room = meanwhile_active (asked-allowed (changed k w s (with_active true)) s t (omega (arith, room, idle-changed k lawful w s (with_active true))))
 
-    followed-allowed : (w : World R) (s : ℕ) (link : LinkUse) → Room k bound w s → Follows k answers w s link (followed k ask w s link).world (followed k ask w s link).requests
+    followed-allowed : (w : World R) (s : ℕ) (link : LinkUse) → FewIdle k bound w s → Follows k answers w s link (followed k ask w s link).world (followed k ask w s link).requests
     unfolding followed
     followed-allowed w s (Standing t) room =
         elim (is_passive (common_at k w t.number)) as (λ b. is_passive (common_at k w t.number) ≡ b →
@@ -200,7 +200,7 @@ module _ {R : Type 0} (k : RecordRules R) (lawful : IsLawful k) (answers : Answe
     followed-allowed w s OwnDevice room = nowhere (λ t is. cc)
     followed-allowed w s Absent room = nowhere (λ t is. cc)
 
-    read_record-allowed : (kind : R → InputKind) (w : World R) (s : ℕ) (t : StandingLink) → Room k bound w s
+    read_record-allowed : (kind : R → InputKind) (w : World R) (s : ℕ) (t : StandingLink) → FewIdle k bound w s
         → Reads k answers kind w s (Standing t) (read_record k ask kind w s t).world (read_record k ask kind w s t).came (read_record k ask kind w s t).requests
     unfolding read_record read_at prepared
     read_record-allowed kind w s t room =
@@ -212,7 +212,7 @@ module _ {R : Type 0} (k : RecordRules R) (lawful : IsLawful k) (answers : Answe
           | false ↦ λ plain. as_it_stands plain (takes-allowed k kind w s t)
         ] refl
 
-    read_link-allowed : (kind : R → InputKind) (w : World R) (s : ℕ) (link : LinkUse) → Room k bound w s
+    read_link-allowed : (kind : R → InputKind) (w : World R) (s : ℕ) (link : LinkUse) → FewIdle k bound w s
         → Reads k answers kind w s link (read_link k ask kind w s link).world (read_link k ask kind w s link).came (read_link k ask kind w s link).requests
     unfolding read_link faulted
     read_link-allowed kind w s (Standing t) room = read_record-allowed kind w s t room
@@ -220,21 +220,21 @@ module _ {R : Type 0} (k : RecordRules R) (lawful : IsLawful k) (answers : Answe
     read_link-allowed kind w s OwnDevice room = no_such_device
     read_link-allowed kind w s Absent room = absent
 
-    input-allowed : (w : World R) (s : ℕ) (want : Want) → Room k bound w s
+    input-allowed : (w : World R) (s : ℕ) (want : Want) → FewIdle k bound w s
         → Gets k answers w s want (input k answers ask w s want).world (input k answers ask w s want).came (input k answers ask w s want).requests
     unfolding input
     input-allowed w s NoInput room = no_input
     input-allowed w s (ReadLink link) room = of_link (read_link-allowed k.input_kind w s link room)
     input-allowed w s ReadDevice room = device-allowed w s
 
-    followed_each-allowed : (slots : List Slot) (w : World R) (s : ℕ) → Room k bound w s → FollowsEach k answers w s slots (followed_each k ask w s slots).world (followed_each k ask w s slots).requests
+    followed_each-allowed : (slots : List Slot) (w : World R) (s : ℕ) → FewIdle k bound w s → FollowsEach k answers w s slots (followed_each k ask w s slots).world (followed_each k ask w s slots).requests
     unfolding followed_each
     followed_each-allowed [] w s room = no_more
     followed_each-allowed (slot ∷ slots) w s room =
         one_more (followed-allowed w s (link_at k w s slot) room)
         (followed_each-allowed slots _ s (room_on k bound w _ s room (stays-followed k lawful answers w s (link_at k w s slot))))
 
-    after_writing-allowed : (w v : World R) (s : ℕ) (t : StandingLink) (x : Value) (stored : Bool) → Puts k w t x v stored → Room k bound (handed_on k v s t) s
+    after_writing-allowed : (w v : World R) (s : ℕ) (t : StandingLink) (x : Value) (stored : Bool) → Puts k w t x v stored → FewIdle k bound (handed_on k v s t) s
         → let done = after_writing k ask (record { world = handed_on k v s t; stored = stored }) s t in Writes k answers w s (Standing t) x done.world done.requests
     unfolding after_writing faulted
     after_writing-allowed w v s t x false p room = in_vain p
@@ -247,7 +247,7 @@ module _ {R : Type 0} (k : RecordRules R) (lawful : IsLawful k) (answers : Answe
           | false ↦ λ none. alone p none
         ] refl
 
-    write_link-allowed : (w : World R) (s : ℕ) (link : LinkUse) (x : Value) → Room k bound w s → Writes k answers w s link x (write_link k ask w s link x).world (write_link k ask w s link x).requests
+    write_link-allowed : (w : World R) (s : ℕ) (link : LinkUse) (x : Value) → FewIdle k bound w s → Writes k answers w s link x (write_link k ask w s link x).world (write_link k ask w s link x).requests
     unfolding write_link faulted wrote
     write_link-allowed w s (Standing t) x room =
         after_writing-allowed w _ s t x _ (stored-allowed k w t x (put_untested k (at k w t.number) t.field (InputValue x)) refl) (room_on k bound w _ s room (wrote-stays k lawful w s t x))
@@ -255,7 +255,7 @@ module _ {R : Type 0} (k : RecordRules R) (lawful : IsLawful k) (answers : Answe
     write_link-allowed w s OwnDevice x room = to_no_device
     write_link-allowed w s Absent x room = to_absent
 
-    put_out-allowed : (w : World R) (s : ℕ) (output : Output) → Room k bound w s
+    put_out-allowed : (w : World R) (s : ℕ) (output : Output) → FewIdle k bound w s
         → PutsOut k answers w s output (put_out k answers ask w s output).world (put_out k answers ask w s output).goes_on (put_out k answers ask w s output).requests
     unfolding put_out
     put_out-allowed w s NoOutput room = nothing

@@ -14,13 +14,13 @@ ghost use Rattle.ioc_store.specs.Rests.{disable_came};
 ghost use Rattle.ioc_process.specs.Frames.{Ended, after_disable, after_turn, turn_of, Opens, most_calls, most_of_request, Turns};
 
 use crate::inputs::{fault_link, read_value};
+use crate::notifying::release_notification;
 use crate::reading::begin_body;
+use crate::steps::{common, disable, is_disabled, passes_on, set_active, take_disable_input};
 use ioc_dbcommon::{LinkUse, StandingLink, disable_kind};
 use ioc_ledger::Outcome;
 use ioc_names::RecordNo;
-use crate::notifying::tell;
-use crate::steps::{common, disable, is_disabled, passes_on, set_active, take_disable_input};
-use ioc_store::frames::{Frame, Next, Place};
+use ioc_store::frames::{Frame, Next, ResumePoint};
 use ioc_store::store::Store;
 
 /// Begins a request by reading SDIS. It is not inlined, since few records use SDIS.
@@ -55,7 +55,7 @@ pub fn leave_alone<S: Store>(store: &mut S, number: RecordNo) -> Next
     ensures turns { Turns S.Record.rules (S.world store.old) (S.world store.new) 0 most_calls (Ended Disabled) }
     ensures ends { result ≡ Ends Disabled }
 {
-    tell(store, number);
+    release_notification(store, number);
     disable(store, number);
     Next::Ends(Outcome::Disabled)
 }
@@ -130,7 +130,7 @@ fn begin_disable<S: Store>(
         set_active(store, number, true);
         frames.push_reserved(Frame {
             source: number,
-            place: Place::ReadingDisable(target),
+            place: ResumePoint::ReadingDisable(target),
         });
         Next::Requests
     } else {

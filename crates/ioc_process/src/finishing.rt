@@ -10,19 +10,19 @@ ghost use Rattle.ioc_dbcommon.specs.declared.link_field.LinkUse.TheVariants.{Sta
 ghost use Rattle.ioc_process.specs.Processing.{processed, request, completed, faulted, finished, after_output, put_out, write_link, wrote, after_writing, followed_each};
 ghost use Rattle.ioc_process.specs.Frames.{then_finished, remaining, after_turn, turn_of, Opens, Turns};
 
+use crate::fast_path::finish_fast;
 use crate::inputs::fault_link;
 use crate::outputs::{
     Written, is_chosen, link_at, passive_record, passive_target, write_device, write_value,
 };
+use crate::steps::{finish_request, raise, set_active, take};
 use ioc_dbcommon::{Got, LinkUse, Output, StandingLink};
 use ioc_fields::Slot;
 use ioc_ledger::Outcome;
 use ioc_menus::{Severity, Status};
 use ioc_names::RecordNo;
 use ioc_record::RecordKind;
-use crate::looks::show_on;
-use crate::steps::{raise, rest, set_active, take};
-use ioc_store::frames::{Frame, Next, Place};
+use ioc_store::frames::{Frame, Next, ResumePoint};
 use ioc_store::outbox::OutboxItem;
 use ioc_store::store::Store;
 use ioc_values::Value;
@@ -41,7 +41,7 @@ pub fn finish<S: Store>(store: &mut S, frames: &mut Vec<Frame>, number: RecordNo
     ensures opens { Opens frames.old.items frames.new.items result }
     ensures room { vec_capacity frames.new ≡ vec_capacity frames.old }
 {
-    let Some(named) = show_on(store, number) else {
+    let Some(named) = finish_fast(store, number) else {
         return Next::Ends(Outcome::Processed);
     };
     match passive_record(store, Some(named)) {
@@ -49,12 +49,12 @@ pub fn finish<S: Store>(store: &mut S, frames: &mut Vec<Frame>, number: RecordNo
             set_active(store, number, true);
             frames.push_reserved(Frame {
                 source: number,
-                place: Place::Following(target),
+                place: ResumePoint::Following(target),
             });
             Next::Requests
         }
         None => {
-            rest(store, number);
+            finish_request(store, number);
             Next::Ends(Outcome::Processed)
         }
     }
@@ -105,7 +105,7 @@ pub fn write_record<S: Store>(
             set_active(store, number, true);
             frames.push_reserved(Frame {
                 source: number,
-                place: Place::Writing(called),
+                place: ResumePoint::Writing(called),
             });
             Next::Requests
         }
@@ -168,7 +168,7 @@ pub fn follow_each<S: Store>(
                 set_active(store, number, true);
                 frames.push_reserved(Frame {
                     source: number,
-                    place: Place::FollowingEach(links, target, next),
+                    place: ResumePoint::FollowingEach(links, target, next),
                 });
                 return Next::Requests;
             }

@@ -64,7 +64,7 @@ pub fn pass_notification<S: Store>(store: &mut S, source: RecordNo, target: Reco
 // Removes a record from this put with notification.
 #[tactic(auto, unfolding(ioc_store::specs::Notifying::notified_as))]
 #[inline(never)]
-fn tell_of<S: Store>(store: &mut S, number: RecordNo, notification: NotifyId)
+fn release_notification_of<S: Store>(store: &mut S, number: RecordNo, notification: NotifyId)
     requires { Has (S.world store.old) number }
     ensures world { S.world store.new ≡ notified_as S.Record.rules (S.world store.old) number (Some notification) }
     ensures given { S.given store.new ≡ S.given store.old }
@@ -76,12 +76,12 @@ fn tell_of<S: Store>(store: &mut S, number: RecordNo, notification: NotifyId)
 /// Removes a record from its put with notification, if it has one.
 #[tactic(auto, unfolding(ioc_store::specs::Notifying::notified, ioc_store::specs::Notifying::notified_as))]
 #[inline(always)]
-pub fn tell<S: Store>(store: &mut S, number: RecordNo)
+pub fn release_notification<S: Store>(store: &mut S, number: RecordNo)
     requires { Has (S.world store.old) number }
     ensures world { S.world store.new ≡ notified S.Record.rules (S.world store.old) number }
     ensures given { S.given store.new ≡ S.given store.old }
 {
     if let Some(notification) = common(store, number).notification {
-        tell_of(store, number, notification);
+        release_notification_of(store, number, notification);
     }
 }

@@ -10,14 +10,14 @@ ghost use Rattle.ioc_store.specs.Links.{is_chosen, is_proc, link_at, passive_nam
 ghost use Rattle.ioc_process.specs.Processing.{stored_at, wrote, acknowledged, write_device};
 
 use crate::inputs::can_ask;
+use crate::scanning::rescan;
+use crate::steps::{hand_on, passes_on, passive, raise, wait};
 use ioc_dbcommon::{LinkUse, StandingLink};
 use ioc_device::{Answer, Ask};
 use ioc_fields::{CommonField, FieldNo, OwnField, Slot};
 use ioc_menus::{Severity, Status};
 use ioc_names::RecordNo;
 use ioc_record::{RecordKind, put_untested};
-use crate::scanning::rescan;
-use crate::steps::{hand_on, passes_on, passive, raise, wait};
 use ioc_store::store::Store;
 use ioc_values::{Input, IocError, Value};
 

@@ -10,12 +10,12 @@ ghost use Rattle.ioc_process.specs.Frames.{after_reading, after_turn, turn_of, O
 
 use crate::finishing::{finish_body, take_fault};
 use crate::inputs::{ask_device, read_value};
+use crate::steps::{need, passes_on, set_active, wanted_link};
 use ioc_dbcommon::{Got, LinkUse, Need, StandingLink};
 use ioc_ledger::Outcome;
 use ioc_names::RecordNo;
 use ioc_record::RecordKind;
-use crate::steps::{need, passes_on, set_active, wanted_link};
-use ioc_store::frames::{Frame, Next, Place};
+use ioc_store::frames::{Frame, Next, ResumePoint};
 use ioc_store::store::Store;
 
 /// Begins the body of a record.
@@ -133,7 +133,7 @@ fn begin_target<S: Store>(
         set_active(store, number, true);
         frames.push_reserved(Frame {
             source: number,
-            place: Place::Reading(target),
+            place: ResumePoint::Reading(target),
         });
         Next::Requests
     } else {

@@ -5,7 +5,7 @@ ghost use Rattle.ioc_store.specs.Scanning.{places_record, text_in, device_of, mo
 ghost use Rattle.ioc_store.specs.World.{Has};
 
 use crate::steps::{common, renumber_change};
-use ioc_dbcommon::KeptLink;
+use ioc_dbcommon::LinkBox;
 use ioc_fields::{CommonField, FieldNo, OwnField};
 use ioc_links::MAX_DEVICE_BYTES;
 use ioc_names::RecordNo;
@@ -26,7 +26,7 @@ fn places_record(field: FieldNo) -> bool
 }
 
 // Returns the text of the device link in a field; empty if there is none.
-fn text_in(link: Option<&KeptLink>) -> Short<MAX_DEVICE_BYTES>
+fn text_in(link: Option<&LinkBox>) -> Short<MAX_DEVICE_BYTES>
     ensures { result ≡ text_in (option_copied link.entry) }
 {
     match link {
@@ -58,7 +58,7 @@ fn move_record<S: Store>(store: &mut S, number: RecordNo)
 {
     let last = common(store, number).last_change;
     if last == u64::MAX {
-        store.lose();
+        store.count_dropped();
         return;
     }
     let scanning = common(store, number).scanning;

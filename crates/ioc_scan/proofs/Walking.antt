@@ -14,10 +14,10 @@ use Rattle.std.proofs.lemmas.Map.Keys.{sorted_head, sorted_tail}
 use Rattle.std.proofs.lemmas.Map.Views.{tells_apart}
 use Rattle.ioc_scan.specs.contracts.position.PositionOrd.TheImpl as order_of
 use Rattle.ioc_scan.specs.declared.list_name.ListName.{ListName}
-use Rattle.ioc_scan.specs.declared.list_name.Place.{Place}
+use Rattle.ioc_scan.specs.declared.list_name.Placement.{Placement}
 use Rattle.ioc_scan.specs.declared.position.Position.{Position}
 use Rattle.ioc_scan.specs.declared.position.Listed.{Listed}
-use Rattle.ioc_scan.specs.declared.position.Entry.{Entry}
+use Rattle.ioc_scan.specs.declared.position.ListEntry.{ListEntry}
 use Rattle.ioc_scan.specs.Positions.{position, listed, new_entry, entry_of}
 use Rattle.ioc_scan.specs.Scanned.{Scanned}
 use Rattle.ioc_scan.specs.Members.{StandsAt, Agree}
@@ -48,23 +48,23 @@ found_by q (e ∷ es) = ap (cond (eq_by_cmp cmp q e.0) (Some e.1)) (found_by q e
 
 -- Holds if one of these entries' records is at the position. The first of them is that of record
 -- `n`.
-abbrev Stands : ℕ → List Entry → Position → Listed → Type 0
+abbrev Stands : ℕ → List ListEntry → Position → Listed → Type 0
 Stands n es k x = (i : ℕ) × (n + i ≡ x.number) × ((entry_of es i).place ≡ Some (record { list = k.list; phase = k.phase; priority = x.priority })) × ((entry_of es i).order ≡ k.order)
 
-abbrev Here : Option Place → ℕ → ℕ → Position → Listed → Type 0
-Here o order n k x = (p : Place) × (o ≡ Some p) × (k ≡ position p order) × (listed n p ≡ x)
+abbrev Here : Option Placement → ℕ → ℕ → Position → Listed → Type 0
+Here o order n k x = (p : Placement) × (o ≡ Some p) × (k ≡ position p order) × (listed n p ≡ x)
 
-found_first : (b : Bool) (p : Place) (order n : ℕ) (k : Position) (x : Listed) (rest : Option Listed)
+found_first : (b : Bool) (p : Placement) (order n : ℕ) (k : Position) (x : Listed) (rest : Option Listed)
     → eq_by_cmp cmp k (position p order) ≡ b → cond b (Some (listed n p)) rest ≡ Some x → Here (Some p) order n k x ⊎ (rest ≡ Some x)
 found_first true p order n k x rest t e = inl (p, refl, tells_apart exact k (position p order) t, let s : listed n p ≡ x = cc in s)
 found_first false p order n k x rest t e = inr e
 
-found_in : (o : Option Place) (order n : ℕ) (k : Position) (x : Listed) (rest : List (Position × Listed))
+found_in : (o : Option Placement) (order n : ℕ) (k : Position) (x : Listed) (rest : List (Position × Listed))
     → find cmp k (standing_by n o order ++ rest) ≡ Some x → Here o order n k x ⊎ (find cmp k rest ≡ Some x)
 found_in None order n k x rest e = inr e
 found_in (Some p) order n k x rest e = found_first (eq_by_cmp cmp k (position p order)) p order n k x (find cmp k rest) refl e
 
-first_stands : (e : Entry) (es : List Entry) (n : ℕ) (k : Position) (x : Listed) → Here e.place e.order n k x → Stands n (e ∷ es) k x
+first_stands : (e : ListEntry) (es : List ListEntry) (n : ℕ) (k : Position) (x : Listed) → Here e.place e.order n k x → Stands n (e ∷ es) k x
 first_stands e es n k x h = (
   zero,
   (let s : x.number ≡ n = ap (λ (v : Listed). v.number) (sym h.3) in omega arith),
@@ -72,7 +72,7 @@ first_stands e es n k x h = (
   ap (λ (v : Position). v.order) (sym h.2),
 )
 
-found : (n : ℕ) (es : List Entry) (k : Position) (x : Listed) → find cmp k (all_standing n es) ≡ Some x → Stands n es k x
+found : (n : ℕ) (es : List ListEntry) (k : Position) (x : Listed) → find cmp k (all_standing n es) ≡ Some x → Stands n es k x
 found n [] k x e = cc
 found n (v ∷ es) k x e =
     ⊎_elim
@@ -88,22 +88,22 @@ later_there : (b : Bool) (x : Listed) (rest : Option Listed) → rest ≢ None �
 later_there true x rest h = λ n. cc
 later_there false x rest h = h
 
-found_at_once : (o : Option Place) (order n : ℕ) (k : Position) (p : Place) (rest : List (Position × Listed))
+found_at_once : (o : Option Placement) (order n : ℕ) (k : Position) (p : Placement) (rest : List (Position × Listed))
     → o ≡ Some p → position p order ≡ k → find cmp k (standing_by n o order ++ rest) ≢ None
 found_at_once None order n k p rest e is = cc
 found_at_once (Some q) order n k p rest e is =
     let same : q ≡ p = cc in
     first_there (eq_by_cmp cmp k (position q order)) (listed n q) (find cmp k rest)
-    (ap (eq_by_cmp cmp k) (ap (λ (v : Place). position v order) same ∙ is) ∙ itself k)
+    (ap (eq_by_cmp cmp k) (ap (λ (v : Placement). position v order) same ∙ is) ∙ itself k)
 
-found_later : (o : Option Place) (order n : ℕ) (k : Position) (rest : List (Position × Listed)) → find cmp k rest ≢ None → find cmp k (standing_by n o order ++ rest) ≢ None
+found_later : (o : Option Placement) (order n : ℕ) (k : Position) (rest : List (Position × Listed)) → find cmp k rest ≢ None → find cmp k (standing_by n o order ++ rest) ≢ None
 found_later None order n k rest h = h
 found_later (Some p) order n k rest h = later_there (eq_by_cmp cmp k (position p order)) (listed n p) (find cmp k rest) h
 
 abbrev at_order : Position → ℕ → Position
 at_order k order = record { list = k.list; phase = k.phase; order = order }
 
-there : (n : ℕ) (es : List Entry) (i : ℕ) (k : Position) (x : Listed)
+there : (n : ℕ) (es : List ListEntry) (i : ℕ) (k : Position) (x : Listed)
     → (entry_of es i).place ≡ Some (record { list = k.list; phase = k.phase; priority = x.priority }) → (entry_of es i).order ≡ k.order → find cmp k (all_standing n es) ≢ None
 there n [] i k x e o = cc
 there n (v ∷ es) zero k x e o =
@@ -115,7 +115,7 @@ either_way None None f h = refl
 either_way None (Some x) f h = absurd (h x refl refl)
 either_way (Some x) g f h = sym (f x refl)
 
-module _ (es : List Entry) (last : ℕ) (m : BTreeMap Position Listed) (list : ListName) (agree : Agree es last m) (ordered : IsOrdered order_of.ghosts.cmp m) where
+module _ (es : List ListEntry) (last : ℕ) (m : BTreeMap Position Listed) (list : ListName) (agree : Agree es last m) (ordered : IsOrdered order_of.ghosts.cmp m) where
   abbrev all : List (Position × Listed)
   all = all_standing 0 es
 
@@ -145,7 +145,7 @@ on_ok : {T E : Type 0} (r : Result T E) (P Q : Type 0) → OnOk r P → (P → Q
 on_ok r P Q p f = elim r as (λ v. OnOk v P → OnOk v Q) [ Ok x ↦ f | Err e ↦ λ q. tt ] p
 
 -- What is written of a list into an empty buffer is its walk.
-pub written_walk : {X E : Type 0} (r : Result X E) (v : Scanned) (es : List Entry) (last : ℕ) (m : BTreeMap Position Listed) (list : ListName) (before after : List Listed)
+pub written_walk : {X E : Type 0} (r : Result X E) (v : Scanned) (es : List ListEntry) (last : ℕ) (m : BTreeMap Position Listed) (list : ListName) (before after : List Listed)
     → Agree es last m → IsOrdered order_of.ghosts.cmp m → record { entries = es; last = last } ≡ v → before ≡ [] → OnOk r (after ≡ before ++ standing list m.entries) → OnOk r (after ≡ walked v list)
 written_walk r v es last m list before after agree ordered is none ok =
     on_ok r (after ≡ before ++ standing list m.entries) (after ≡ walked v list) ok

@@ -18,10 +18,10 @@ use Rattle.std.proofs.lemmas.Map.Entries.{lookup-filter-keys, place_from_lookup,
 use Rattle.std.proofs.lemmas.Map.Views.{tells_apart}
 use Rattle.ioc_scan.specs.contracts.position.PositionOrd.TheImpl as order_of
 use Rattle.ioc_scan.specs.declared.list_name.ListName.{ListName}
-use Rattle.ioc_scan.specs.declared.list_name.Place.{Place}
+use Rattle.ioc_scan.specs.declared.list_name.Placement.{Placement}
 use Rattle.ioc_scan.specs.declared.position.Position.{Position}
 use Rattle.ioc_scan.specs.declared.position.Listed.{Listed}
-use Rattle.ioc_scan.specs.declared.position.Entry.{Entry}
+use Rattle.ioc_scan.specs.declared.position.ListEntry.{ListEntry}
 use Rattle.ioc_scan.specs.Positions.{entry_of}
 use Rattle.ioc_scan.specs.Scanned.{Scanned, IsOn, Precedes, InPhaseOrder}
 use Rattle.ioc_scan.specs.Members.{StandsAt, Agree}
@@ -40,11 +40,11 @@ of_some : {K X : Type 0} (o : Option (K × X)) (x : X) → option_map (λ e. e.1
 of_some None x e = cc
 of_some (Some y) x e = (y.0, let s : y.1 ≡ x = cc in ap (λ v. Some (y.0, v)) s)
 
-same_phase : (o : Option Place) (p : Place) (k : Position) (x : Listed) → o ≡ Some p → o ≡ Some (record { list = k.list; phase = k.phase; priority = x.priority }) → p.phase ≡ k.phase
+same_phase : (o : Option Placement) (p : Placement) (k : Position) (x : Listed) → o ≡ Some p → o ≡ Some (record { list = k.list; phase = k.phase; priority = x.priority }) → p.phase ≡ k.phase
 same_phase None p k x e f = cc
-same_phase (Some v) p k x e f = let a : v ≡ p = cc in let b : v ≡ record { list = k.list; phase = k.phase; priority = x.priority } = cc in sym (ap (λ (w : Place). w.phase) a) ∙ ap (λ (w : Place). w.phase) b
+same_phase (Some v) p k x e f = let a : v ≡ p = cc in let b : v ≡ record { list = k.list; phase = k.phase; priority = x.priority } = cc in sym (ap (λ (w : Placement). w.phase) a) ∙ ap (λ (w : Placement). w.phase) b
 
-module _ (es : List Entry) (last : ℕ) (m : BTreeMap Position Listed) (list : ListName) (agree : Agree es last m) (ordered : IsOrdered order_of.ghosts.cmp m) where
+module _ (es : List ListEntry) (last : ℕ) (m : BTreeMap Position Listed) (list : ListName) (agree : Agree es last m) (ordered : IsOrdered order_of.ghosts.cmp m) where
   abbrev part : List (Position × Listed)
   part = entries_between order_of.ghosts.cmp (Included (low list)) (Included (high list)) m.entries
 
@@ -123,7 +123,7 @@ on_ok (Ok x) P Q p f = f p
 on_ok (Err e) P Q p f = tt
 
 -- What is written of a list into an empty buffer is the list, in phase order.
-pub written : {T E : Type 0} (r : Result T E) (v : Scanned) (es : List Entry) (last : ℕ) (m : BTreeMap Position Listed) (list : ListName) (before after : List Listed)
+pub written : {T E : Type 0} (r : Result T E) (v : Scanned) (es : List ListEntry) (last : ℕ) (m : BTreeMap Position Listed) (list : ListName) (before after : List Listed)
     → Agree es last m → IsOrdered order_of.ghosts.cmp m → record { entries = es; last = last } ≡ v → before ≡ [] → OnOk r (after ≡ before ++ standing list m.entries) → OnOk r (InPhaseOrder v list after)
 written r v es last m list before after agree ordered is none ok =
     on_ok r (after ≡ before ++ standing list m.entries) (InPhaseOrder v list after) ok

@@ -1,6 +1,6 @@
 -- Changes of records' places, in the order of arrival.
 use Rattle.std.specs.Prelude.{◌≡◌, ℕ, ◌<◌, ◌≤◌, Option, List, [], ◌∷◌, length, All}
-use Rattle.ioc_scan.specs.declared.list_name.Place.{Place}
+use Rattle.ioc_scan.specs.declared.list_name.Placement.{Placement}
 use Rattle.ioc_scan.specs.Positions.{entry_of}
 use Rattle.ioc_scan.specs.Scanned.{Scanned, changed, place_of}
 
@@ -8,7 +8,7 @@ use Rattle.ioc_scan.specs.Scanned.{Scanned, changed, place_of}
 pub record Change : Type 0 where
   pub member : ℕ
   pub number : ℕ
-  pub place : Option Place
+  pub place : Option Placement
 
 -- The lists after these changes, in the order of arrival.
 abbrev pub after_changes : Scanned → List Change → Scanned

@@ -3,19 +3,19 @@ use Rattle.std.specs.Prelude.{◌≡◌, ◌↔◌, ℕ, ◌<◌, ◌≤◌, ◌
 use Rattle.std.specs.Ordering.{eq_by_cmp}
 use Rattle.std.specs.BTreeMap.{BTreeMap, get}
 use Rattle.ioc_scan.specs.contracts.position.PositionOrd.TheImpl as order_of
-use Rattle.ioc_scan.specs.declared.list_name.Place.{Place}
+use Rattle.ioc_scan.specs.declared.list_name.Placement.{Placement}
 use Rattle.ioc_scan.specs.declared.position.Position.{Position}
 use Rattle.ioc_scan.specs.declared.position.Listed.{Listed}
-use Rattle.ioc_scan.specs.declared.position.Entry.{Entry}
+use Rattle.ioc_scan.specs.declared.position.ListEntry.{ListEntry}
 use Rattle.ioc_scan.specs.Positions.{position, listed, entry_of}
 
 -- Whether this is the position of a record with this place.
-abbrev pub is_at_place : Option Place → ℕ → Position → Bool
+abbrev pub is_at_place : Option Placement → ℕ → Position → Bool
 is_at_place None order k = false
 is_at_place (Some p) order k = eq_by_cmp order_of.ghosts.cmp (position p order) k
 
 -- The list member for a record at this place.
-abbrev pub listed_at : ℕ → Option Place → Option Listed
+abbrev pub listed_at : ℕ → Option Placement → Option Listed
 listed_at number place = option_map (λ p. listed number p) place
 
 -- Holds if the number is a possible PHAS.
@@ -23,16 +23,16 @@ abbrev pub IsPhase : ℤ → Type 0
 IsPhase phase = (negsuc 32767 ≤ℤ phase) × (phase ≤ℤ pos 32767)
 
 -- Holds if the record is at this position by its entry.
-abbrev pub StandsAt : (ℕ → Entry) → Position → Listed → Type 0
+abbrev pub StandsAt : (ℕ → ListEntry) → Position → Listed → Type 0
 StandsAt entry k x = ((entry x.number).place ≡ Some (record { list = k.list; phase = k.phase; priority = x.priority })) × ((entry x.number).order ≡ k.order)
 
 -- Holds if each position has exactly the record that is there by the entries, and no order number
 -- is above the last one assigned.
-pub record Agrees (entry : ℕ → Entry) (last : ℕ) (at : Position → Option Listed) : Type 0 where
+pub record Agrees (entry : ℕ → ListEntry) (last : ℕ) (at : Position → Option Listed) : Type 0 where
   pub stands : (k : Position) (x : Listed) → (at k ≡ Some x) ↔ StandsAt entry k x
   pub given : (n : ℕ) → (entry n).order ≤ last
   pub fits : last < 2 ^ 64
-  pub phases : (n : ℕ) (p : Place) → (entry n).place ≡ Some p → IsPhase p.phase
+  pub phases : (n : ℕ) (p : Placement) → (entry n).place ≡ Some p → IsPhase p.phase
 
-abbrev pub Agree : List Entry → ℕ → BTreeMap Position Listed → Type 0
+abbrev pub Agree : List ListEntry → ℕ → BTreeMap Position Listed → Type 0
 Agree entries last members = Agrees (entry_of entries) last (get order_of.ghosts.cmp members)

@@ -9,8 +9,8 @@ pub mod position;
 pub mod scan_lists;
 pub mod word;
 
-pub use list_name::{ListName, Place};
+pub use list_name::{ListName, Placement};
 pub use period::Period;
-pub use position::{Entry, Listed};
+pub use position::{ListEntry, Listed};
 pub use scan_lists::ScanLists;
 pub use word::Word;

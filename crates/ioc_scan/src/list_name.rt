@@ -23,7 +23,7 @@ pub enum ListName {
 
 /// The place of a record: its list, PHAS, and PRIO.
 #[derive(Clone, Copy, PartialEq, Eq)]
-pub struct Place {
+pub struct Placement {
     pub list: ListName,
     /// PHAS. Lower ones are processed first.
     pub phase: i16,

@@ -1,7 +1,7 @@
 //! The positions of records on their lists.
 ghost use Rattle.std.specs.Prelude.{◌≡◌};
 
-use crate::list_name::{ListName, Place};
+use crate::list_name::{ListName, Placement};
 use ioc_menus::Priority;
 use ioc_names::RecordNo;
 
@@ -18,7 +18,7 @@ impl Position {
     ghost use Rattle.ioc_scan.specs.Positions.{position};
 
     /// Returns the position of a place, added with this order number.
-    pub fn of(place: &Place, order: u64) -> Self
+    pub fn of(place: &Placement, order: u64) -> Self
         ensures { result ≡ position place.now order }
     {
         Position {
@@ -40,7 +40,7 @@ impl Listed {
     ghost use Rattle.ioc_scan.specs.Positions.{listed};
 
     /// Creates the list member for a record at this place.
-    pub fn of(number: RecordNo, place: &Place) -> Self
+    pub fn of(number: RecordNo, place: &Placement) -> Self
         ensures { result ≡ listed number place.now }
     {
         Listed {
@@ -52,23 +52,23 @@ impl Listed {
 
 /// The entry of a record in the scan lists.
 #[derive(Clone, Copy, PartialEq, Eq)]
-pub struct Entry {
+pub struct ListEntry {
     /// The highest number of the changes that were applied, or 0 before the first one.
     pub number: u64,
     /// The record's place, if it is on a list.
-    pub place: Option<Place>,
+    pub place: Option<Placement>,
     /// The order number with which it was added there.
     pub order: u64,
 }
 
-impl Entry {
+impl ListEntry {
     ghost use Rattle.ioc_scan.specs.Positions.{new_entry};
 
     /// Creates the entry of a record before its first change. It is on no list.
     pub fn new() -> Self
         ensures { result ≡ new_entry }
     {
-        Entry {
+        ListEntry {
             number: 0,
             place: None,
             order: 0,

@@ -9,8 +9,8 @@ ghost use Rattle.ioc_scan.specs.Standing.{standing};
 ghost use Rattle.ioc_scan.specs.Walked.{walked};
 ghost use Rattle.ioc_scan.specs.Members.{is_at_place, listed_at, IsPhase};
 
-use crate::list_name::{ListName, Place};
-use crate::position::{Entry, Listed, Position};
+use crate::list_name::{ListName, Placement};
+use crate::position::{ListEntry, Listed, Position};
 use ioc_names::RecordNo;
 use std::alloc::{AllocError, Global};
 use std::collections::BTreeMap;
@@ -20,7 +20,7 @@ use std::marker::Model;
 /// Records with equal PHAS are in the order of adding.
 #[derive(Drop)]
 pub struct ScanLists {
-    entries: Vec<Entry>,
+    entries: Vec<ListEntry>,
     members: BTreeMap<Position, Listed>,
     last: u64,
 }
@@ -46,7 +46,7 @@ impl ScanLists {
         ensures { IfOk result (λ s. s ≡ new_lists count) }
     {
         let mut entries = Vec::new(alloc);
-        entries.resize(count, Entry::new())?;
+        entries.resize(count, ListEntry::new())?;
         Ok(ScanLists {
             entries,
             members: BTreeMap::new(alloc),
@@ -80,7 +80,7 @@ impl ScanLists {
         &mut self,
         member: RecordNo,
         number: u64,
-        place: Option<Place>,
+        place: Option<Placement>,
     ) -> Result<(), AllocError>
         requires known { member < length self.old.entries }
         requires room { self.old.last < 2 ^ 64 - 1 }
@@ -95,7 +95,7 @@ impl ScanLists {
         let order = self.last + 1;
         put_on(&mut self.members, member, &place, order)?;
         take_off(&mut self.members, &before.place, before.order);
-        self.entries[member.index()] = Entry {
+        self.entries[member.index()] = ListEntry {
             number,
             place,
             order,
@@ -111,7 +111,7 @@ impl ScanLists {
     /// # Errors
     ///
     /// [`AllocError`] if allocation fails; nothing has changed then.
-    pub fn add(&mut self, member: RecordNo, place: Place) -> Result<(), AllocError>
+    pub fn add(&mut self, member: RecordNo, place: Placement) -> Result<(), AllocError>
         requires known { member < length self.old.entries }
         requires room { self.old.last < 2 ^ 64 - 1 }
         ensures ok { OnOk result (self.new ≡ placed self.old member (Some place)) }
@@ -177,7 +177,7 @@ fn copy_list(
 fn put_on(
     members: &mut BTreeMap<Position, Listed>,
     member: RecordNo,
-    place: &Option<Place>,
+    place: &Option<Placement>,
     order: u64,
 ) -> Result<(), AllocError>
     ensures ok { OnOk result ((k : Position) → get order_of.ghosts.cmp members.new k ≡ cond (is_at_place place.now order k) (listed_at member place.now) (get order_of.ghosts.cmp members.old k)) }
@@ -198,7 +198,7 @@ fn put_on(
 }
 
 // Removes the record at the place, if there is one, from its list.
-fn take_off(members: &mut BTreeMap<Position, Listed>, place: &Option<Place>, order: u64)
+fn take_off(members: &mut BTreeMap<Position, Listed>, place: &Option<Placement>, order: u64)
     ensures { (k : Position) → get order_of.ghosts.cmp members.new k ≡ cond (is_at_place place.now order k) None (get order_of.ghosts.cmp members.old k) }
 {
     if let Some(place) = place {

@@ -5,7 +5,7 @@ use Rattle.ioc_record.specs.RecordRules.{RecordRules}
 use Rattle.ioc_set_records.specs.Contents.{Records, Contents, AreLike, RecordsAreLikeTheirBase, record_at}
 use Rattle.ioc_events.specs.declared.event.Entry.{Entry}
 use Rattle.ioc_set_store.specs.Puts.{Puts, no_puts, AreNone, HasBegun, begun_with}
-use Rattle.ioc_set.specs.Held.{folded}
+use Rattle.ioc_set.specs.SetState.{folded}
 use Rattle.ioc_set.specs.Doing.{held_by}
 use Rattle.ioc_set.specs.Linking.{anew}
 

@@ -16,7 +16,7 @@ use Rattle.ioc_store.specs.World.{World, Has, IsClosed, at, common_at}
 use Rattle.ioc_events.specs.StepRules.{at_the_end}
 use Rattle.ioc_events.specs.Holding.{IsCounted, IsHeld, by_a_record}
 use Rattle.ioc_set.specs.Awaiting.{awaited}
-use Rattle.ioc_set.specs.Held.{Held, now_of}
+use Rattle.ioc_set.specs.SetState.{SetState, now_of}
 use Rattle.ioc_set_store.specs.Resting.{resting}
 use Rattle.ioc_set.specs.Linking.{anew, AreCalm}
 use Rattle.ioc_set.specs.Sound.{IsSound, CountsAddUp}
@@ -28,7 +28,7 @@ none_in x c = let l = c.1 in omega arith
 module _ {R : Type 0} (k : RecordRules R) where
   -- Lemmas about the records of a sound set.
 
-  module _ (live : (w : World R) (n : ℕ) → IsCounted k w → (is_live n w.live ≡ true) ↔ IsHeld k w n) {D : Type 0} (h : Held R D) (sound : IsSound k h) (none : h.live ≡ []) where
+  module _ (live : (w : World R) (n : ℕ) → IsCounted k w → (is_live n w.live ≡ true) ↔ IsHeld k w n) {D : Type 0} (h : SetState R D) (sound : IsSound k h) (none : h.live ≡ []) where
     none_has : (n : ℕ) → Has (now_of h) n → (o : Option ℕ) → (common_at k (now_of h) n).notification ≡ o → o ≡ None
     none_has n there None is = refl
     none_has n there (Some number) is =

@@ -16,11 +16,11 @@ use Rattle.ioc_events.specs.declared.event.Event.{Event}
 use Rattle.ioc_events.specs.declared.event.Event.TheVariants.{Get, Process, Put, Complete, Link, Notify, Cancel, IsLive}
 use Rattle.ioc_events.specs.declared.event.Entry.{Entry}
 use Rattle.ioc_events.specs.declared.event.SetEvent.{SetEvent}
-use Rattle.ioc_events.specs.Told.{event_by}
+use Rattle.ioc_events.specs.SetReply.{event_by}
 use Rattle.ioc_events.specs.Step.{is_link_change}
 use Rattle.ioc_set_store.specs.declared.set_store.SetStore.{SetStore}
 use Rattle.ioc_set_store.specs.SetStore.{world_of}
-use Rattle.ioc_set.specs.Held.{Held, now_of, folded, done_by, held_after}
+use Rattle.ioc_set.specs.SetState.{SetState, now_of, folded, done_by, held_after}
 use Rattle.ioc_set_store.specs.Resting.{resting}
 use Rattle.ioc_set.specs.Sound.{IsSound, TellsOf}
 use Rattle.ioc_set_store.specs.Puts.{Puts}
@@ -47,24 +47,24 @@ below_full : (n : ℕ) → (n == 64) ≡ false → n ≤ 64 → n < 64
 below_full n e l = grind (arith, nat_tests)
 
 module _ {R D : Type 0} where
-  abbrev placed : Bool → Held R D → Held R D
+  abbrev placed : Bool → SetState R D → SetState R D
   placed full h = cond full (folded h) h
 
-  placed_now : (full : Bool) (h : Held R D) → now_of (placed full h) ≡ now_of h
+  placed_now : (full : Bool) (h : SetState R D) → now_of (placed full h) ≡ now_of h
   placed_now true h = refl
   placed_now false h = refl
 
-  placed_devices : (full : Bool) (h : Held R D) → (placed full h).devices ≡ h.devices
+  placed_devices : (full : Bool) (h : SetState R D) → (placed full h).devices ≡ h.devices
   placed_devices true h = refl
   placed_devices false h = refl
 
-  placed_short : (full : Bool) (h : Held R D) → (length h.history == 64) ≡ full → length h.history ≤ 64 → length (placed full h).history < 64
+  placed_short : (full : Bool) (h : SetState R D) → (length h.history == 64) ≡ full → length h.history ≤ 64 → length (placed full h).history < 64
   placed_short true h is short = omega arith
   placed_short false h is short = below_full (length h.history) is short
 
   -- Making a place for one more event keeps the current state.
-  pub now_kept : (h h' : Held R D) → h' ≡ with_place h → now_of h' ≡ now_of h
-  now_kept h h' is = ap (λ (z : Held R D). now_of z) is ∙ placed_now (length h.history == 64) h
+  pub now_kept : (h h' : SetState R D) → h' ≡ with_place h → now_of h' ≡ now_of h
+  now_kept h h' is = ap (λ (z : SetState R D). now_of z) is ∙ placed_now (length h.history == 64) h
 
   -- The state of a set doesn't depend on the reserved room.
   pub same_held : (c : Contents R D) (p q : Puts) (b t : Tally) (entries : List Entry) → q.live ≡ p.live → q.waiting ≡ p.waiting → q.base_live ≡ p.base_live → q.base_waiting ≡ p.base_waiting
@@ -80,7 +80,7 @@ module _ {R D : Type 0} where
   }
 
   module _ (k : RecordRules R) where
-    placed_sound : ((h : Held R D) → IsSound k h → IsSound k (folded h)) → (full : Bool) (h : Held R D) → IsSound k h → IsSound k (placed full h)
+    placed_sound : ((h : SetState R D) → IsSound k h → IsSound k (folded h)) → (full : Bool) (h : SetState R D) → IsSound k h → IsSound k (placed full h)
     placed_sound fold true h sound = fold h sound
     placed_sound fold false h sound = sound
 
@@ -98,7 +98,7 @@ module _ {R D : Type 0} where
         let same : record { records = w.records; devices = after.devices; base = before.base } ≡ after = λ i. record { records = sym rs i; devices = after.devices; base = sym base i } in
         subst (λ (c : Contents R D). RecordsAreLikeTheirBase k c) same (alike before after live waiting moment w keeps rs base like)
 
-    module _ (gives : D → Ask → ℕ → Answer → D → Type 0) (h : Held R D) (before : Contents R D) (was : Puts) (b t : Tally) (entries : List Entry) (held : held_by before was b t entries ≡ with_place h)
+    module _ (gives : D → Ask → ℕ → Answer → D → Type 0) (h : SetState R D) (before : Contents R D) (was : Puts) (b t : Tally) (entries : List Entry) (held : held_by before was b t entries ≡ with_place h)
         (entry : Entry) (after : Contents R D) (is : Puts) (counts : Tally) (store : SetStore R D) (did : Did k gives before was t entry after is counts store) (done_here : is_done_on_sets entry.event ≡ true)
         (grown : List Entry) (grows : grown ≡ entries ++ entry ∷ []) where
       same_after : held_by after is b counts grown ≡ held_after k (held_by before was b t entries) entry after.devices
@@ -115,26 +115,26 @@ module _ {R D : Type 0} where
       tells : TellsOf k (held_by before was b t entries) entry
       tells = record { no_link_change = no_link entry.event done_here; reply = did.reply; answers = did.answers }
 
-      pub sound_then : ((h : Held R D) (entry : Entry) (devices : Devices D) → IsSound k h → length h.history < 64 → TellsOf k h entry → IsSound k (held_after k h entry devices))
-          → ((h : Held R D) → IsSound k h → IsSound k (folded h)) → IsSound k h → IsSound k (held_by after is b counts grown)
+      pub sound_then : ((h : SetState R D) (entry : Entry) (devices : Devices D) → IsSound k h → length h.history < 64 → TellsOf k h entry → IsSound k (held_after k h entry devices))
+          → ((h : SetState R D) → IsSound k h → IsSound k (folded h)) → IsSound k h → IsSound k (held_by after is b counts grown)
       sound_then event fold sound =
           let full = length h.history == 64 in
-          let ready = subst (λ (z : Held R D). IsSound k z) (sym held) (placed_sound fold full h sound) in
-          let short = subst (λ (z : Held R D). length z.history < 64) (sym held) (placed_short full h refl sound.short) in
-          subst (λ (z : Held R D). IsSound k z) (sym same_after) (event (held_by before was b t entries) entry after.devices ready short tells)
+          let ready = subst (λ (z : SetState R D). IsSound k z) (sym held) (placed_sound fold full h sound) in
+          let short = subst (λ (z : SetState R D). length z.history < 64) (sym held) (placed_short full h refl sound.short) in
+          subst (λ (z : SetState R D). IsSound k z) (sym same_after) (event (held_by before was b t entries) entry after.devices ready short tells)
 
       pub does : (moment : ℕ) (event : Event) → entry.moment ≡ moment → entry.event ≡ event → Does k gives h moment event entry.reply (held_by after is b counts grown) (world_of store)
       does moment event at_moment is_event =
           let full = length h.history == 64 in
-          let now : now_of (held_by before was b t entries) ≡ now_of h = ap (λ (z : Held R D). now_of z) held ∙ placed_now full h in
-          let devices : before.devices ≡ h.devices = ap (λ (z : Held R D). z.devices) held ∙ placed_devices full h in
+          let now : now_of (held_by before was b t entries) ≡ now_of h = ap (λ (z : SetState R D). now_of z) held ∙ placed_now full h in
+          let devices : before.devices ≡ h.devices = ap (λ (z : SetState R D). z.devices) held ∙ placed_devices full h in
           record {
             entry = entry;
             moment = at_moment;
             event = is_event;
             answer = refl;
-            tells = subst (λ (z : Held R D). TellsOf k z entry) held tells;
-            after = same_after ∙ ap (λ (z : Held R D). held_after k z entry after.devices) held;
+            tells = subst (λ (z : SetState R D). TellsOf k z entry) held tells;
+            after = same_after ∙ ap (λ (z : SetState R D). held_after k z entry after.devices) held;
             work =
                 subst (λ (m : ℕ). DevicesWork gives (get h.devices) m (done_by k (now_of h) entry).world.calls (get after.devices)) at_moment
                 (subst (λ (w : World R). DevicesWork gives (get h.devices) entry.moment (done_by k w entry).world.calls (get after.devices)) now

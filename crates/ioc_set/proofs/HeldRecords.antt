@@ -26,7 +26,7 @@ use Rattle.ioc_events.specs.StepRules.{at_the_end}
 use Rattle.ioc_events.specs.Starting.{is_ready}
 use Rattle.ioc_events.specs.Holding.{IsCounted, IsHeld, by_a_record, in_a_waiting_list, HoldersCounted, holders, how_many, one_if_has}
 use Rattle.ioc_set.specs.Awaiting.{awaited}
-use Rattle.ioc_set.specs.Held.{Held, NoneIsLive, now_of}
+use Rattle.ioc_set.specs.SetState.{SetState, NoneIsLive, now_of}
 use Rattle.ioc_set_store.specs.Resting.{resting}
 use Rattle.ioc_set.specs.Linking.{anew, AreHeld, MayBeOne}
 use Rattle.ioc_set_store.specs.Recounting.{own_waiting, together, AreLive, WaitsGoAlong}
@@ -48,7 +48,7 @@ never_ready true active noted is = ap (λ (a : Bool). not a && not noted) (is re
 module _ {R : Type 0} (k : RecordRules R) where
   -- Lemmas about the records of a sound set.
 
-  module _ {D : Type 0} (h : Held R D) (sound : IsSound k h) where
+  module _ {D : Type 0} (h : SetState R D) (sound : IsSound k h) where
     pub sound_held : AreHeld k h.records h.live h.waiting
     unfolding at
     sound_held = record { quiet = λ n there. sound.settled.quiet.quiet n there; holders_await = sound.holders_await; counted = sound.counted.counted }
@@ -227,7 +227,7 @@ module _ {R : Type 0} (k : RecordRules R) where
         (λ item. subst (λ (x : World R). StaysHeld w.records x.records) (sent_by item (changed k w s change_numbered)) (numbered-stays w s there counted)) (itself-stays w counted))
 
 -- Two sets on which none is live may become one.
-pub none_may : {R D : Type 0} (h other : Held R D) → NoneIsLive h → NoneIsLive other → MayBeOne h other
+pub none_may : {R D : Type 0} (h other : SetState R D) → NoneIsLive h → NoneIsLive other → MayBeOne h other
 none_may h other none other_none =
     let no : ℕ = length (together [] []) in
     let live : length (together h.live other.live) ≡ no = ap (λ (l : List Live). length (together l other.live)) none.0 ∙ ap (λ (l : List Live). length (together [] l)) other_none.0 in

@@ -16,7 +16,7 @@ use Rattle.ioc_set_records.specs.Contents.{Records, record_at}
 use Rattle.ioc_set_records.specs.Joined.{AreShared, relinked}
 use Rattle.ioc_store.specs.World.{at}
 use Rattle.ioc_events.specs.Holding.{IsHeld, by_a_record, in_a_waiting_list, HoldersCounted, how_many}
-use Rattle.ioc_set.specs.Held.{Held, now_of}
+use Rattle.ioc_set.specs.SetState.{SetState, now_of}
 use Rattle.ioc_set_store.specs.Resting.{resting}
 use Rattle.ioc_set.specs.Linking.{AreHeld, MayBeOne}
 use Rattle.ioc_set_store.specs.Recounting.{together, AreLive, WaitsGoAlong}
@@ -178,7 +178,7 @@ fewer-case n stay before other only once other_once false true is is_before =
 fewer-case n stay before other only once other_once false false is is_before =
     omega (arith, together-count n stay other false is, together-count n before other false is_before, dead n stay is)
 
-module _ {R D : Type 0} (k : RecordRules R) (before other stay : Held R D) (may : MayBeOne before other) (within : Within k before.records stay.records) (along : WaitsGoAlong before.waiting stay.records stay.waiting)
+module _ {R D : Type 0} (k : RecordRules R) (before other stay : SetState R D) (may : MayBeOne before other) (within : Within k before.records stay.records) (along : WaitsGoAlong before.waiting stay.records stay.waiting)
     (live : AreLive k before.records before.waiting before.live) (holder : (n : ℕ) → is_live n stay.live ≡ true → IsHeld k (now_of stay) n)
     (once : (n : ℕ) → lives n stay.live ≤ 1) (other_once : (n : ℕ) → lives n other.live ≤ 1) (waits_once : (n : ℕ) → how_many (λ (x : Waiting). x.number) n stay.waiting ≤ 1) where
   waited : (x : Waiting) → Contains stay.waiting x → Contains before.waiting x

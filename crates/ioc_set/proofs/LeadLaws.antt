@@ -15,7 +15,7 @@ use Rattle.ioc_set_records.specs.Contents.{Records, record_at}
 use Rattle.ioc_set_records.specs.Joined.{AreShared, HasLink, HasFreeLink, relinked}
 use Rattle.ioc_store.specs.World.{World, at, begun_at}
 use Rattle.ioc_store.specs.Scanning.{device_of, rewired}
-use Rattle.ioc_set.specs.Held.{Held, NoneIsLive, now_of, folded}
+use Rattle.ioc_set.specs.SetState.{SetState, NoneIsLive, now_of, folded}
 use Rattle.ioc_set.specs.Doing.{with_kept}
 use Rattle.ioc_set.specs.Linking.{anew, FallsApart, MayBeOne, BecomeOne, LeadsInto}
 use Rattle.ioc_set.specs.Sound.{IsSound}
@@ -81,16 +81,16 @@ module _ {R : Type 0} (k : RecordRules R) where
       let some : IsSome (get (relinked k stay s field link) s) = ap (λ (o : Option R). is_some o) here in
       subst (λ (o : Option R). IsSome o) (one-is both (relinked k stay s field link) others shared s some) some
 
-module _ {R D : Type 0} (k : RecordRules R) (h other begun stay both rest after other_then : Held R D) (moment s : ℕ) (field : FieldNo) (none link : LinkField) (is_begun : begun ≡ folded h) (is_none : none ≡ no_link) where
+module _ {R D : Type 0} (k : RecordRules R) (h other begun stay both rest after other_then : SetState R D) (moment s : ℕ) (field : FieldNo) (none link : LinkField) (is_begun : begun ≡ folded h) (is_none : none ≡ no_link) where
   apart : FallsApart begun (relinked k begun.records s field none) s stay rest → FallsApart h (relinked k h.records s field no_link) s stay rest
   apart falls =
-      let now = subst (λ (x : Held R D). FallsApart x (relinked k x.records s field none) s stay rest) is_begun falls in
+      let now = subst (λ (x : SetState R D). FallsApart x (relinked k x.records s field none) s stay rest) is_begun falls in
       let free = subst (λ (l : LinkField). FallsApart (folded h) (relinked k h.records s field l) s stay rest) is_none now in
       record { shared = free.shared; devices = free.devices; own = free.own; waiting = free.waiting; rest_waiting = free.rest_waiting; none_live = free.none_live; stays = free.stays; leaves = free.leaves; few = free.few; together = free.together }
 
   device_before : (before : List ℕ) → before ≡ device_of k (at k (now_of begun) s) → before ≡ device_of k (record_at k h.records s)
   unfolding at
-  device_before before is = is ∙ ap (λ (x : Held R D). device_of k (record_at k x.records s)) is_begun
+  device_before before is = is ∙ ap (λ (x : SetState R D). device_of k (record_at k x.records s)) is_begun
 
   pub leads : FallsApart begun (relinked k begun.records s field none) s stay rest → BecomeOne stay other (relinked k stay.records s field link) both other_then → IsSound k both
       → (before : List ℕ) → before ≡ device_of k (at k (now_of begun) s) → (come_to : World R) → with_kept after.records both.live both.waiting come_to ≡ rewired k before (begun_at moment (now_of both)) s
@@ -110,7 +110,7 @@ module _ {R D : Type 0} (k : RecordRules R) (h other begun stay both rest after 
     pub none_stays : NoneIsLive begun → NoneIsLive stay
     none_stays dead = (falls.none_live dead).0
 
-    few_live : (x : Held R D) → IsSound k x → (n : ℕ) → how_many (λ (l : Live). l.number) n x.live ≤ 1
+    few_live : (x : SetState R D) → IsSound k x → (n : ℕ) → how_many (λ (l : Live). l.number) n x.live ≤ 1
     unfolding holders
     few_live x sound n = subst (λ (a : ℕ). a ≤ 1) (sym (sound.counted.counted.live n)) (few-one (nat_lt 0 (holders k (now_of x) n)))
 

@@ -19,7 +19,7 @@ use Rattle.ioc_events.specs.Holding.{HoldersCounted}
 use Rattle.ioc_set.specs.Awaiting.{awaited}
 use Rattle.ioc_set_store.specs.Puts.{Puts, AreNone, HasBegun, begun_with}
 use Rattle.ioc_set_store.specs.Recounting.{own_waiting, AreLive}
-use Rattle.ioc_set.specs.Held.{Held, now_of}
+use Rattle.ioc_set.specs.SetState.{SetState, now_of}
 use Rattle.ioc_set_store.specs.Resting.{resting}
 use Rattle.ioc_set.specs.Doing.{held_by}
 use Rattle.ioc_set.specs.Linking.{anew, added, AreCalm, AreHeld, FallsApart, BecomeOne, less_awaited, awaited_alone}
@@ -88,7 +88,7 @@ module _ {R D : Type 0} (k : RecordRules R) where
   pub folded_holds : (before after : Contents R D) (p q : Puts) (b b' t : Tally) (entries entries' : List Entry) → after ≡ record before { base = before.records } → q ≡ begun_with p → b' ≡ t → entries' ≡ []
       → IsSound k (held_by before p b t entries) → IsSound k (held_by after q b' t entries') × RecordsAreLikeTheirBase k after
   folded_holds before after p q b b' t entries entries' is puts same none sound = (
-    subst (λ (h : Held R D). IsSound k h) (sym (begun_folded before after p q b b' t entries entries' is puts same none)) (sound_folded k (held_by before p b t entries) sound),
+    subst (λ (h : SetState R D). IsSound k h) (sym (begun_folded before after p q b b' t entries entries' is puts same none)) (sound_folded k (held_by before p b t entries) sound),
     own_base k after (ap (λ (c : Contents R D). c.base) is ∙ sym (ap (λ (c : Contents R D). c.records) is)),
   )
 
@@ -98,7 +98,7 @@ module _ {R D : Type 0} (k : RecordRules R) where
     pub anew_holds : (c : Contents R D) (p : Puts) (b t : Tally) (entries : List Entry) → HasBegun p → c.base ≡ c.records → b ≡ t → entries ≡ [] → IsPart (links_of k c.records) → AreHeld k c.records p.live p.waiting
         → len c.records < 2 ^ 63 → CountsAddUp t (awaited k c.records) → IsSound k (held_by c p b t entries) × RecordsAreLikeTheirBase k c
     anew_holds c p b t entries begun base same none part held few add_up = (
-      subst (λ (h : Held R D). IsSound k h) (sym (begun_anew c p b t entries begun base same none)) (sound c.records c.devices p.live p.waiting t part held few add_up),
+      subst (λ (h : SetState R D). IsSound k h) (sym (begun_anew c p b t entries begun base same none)) (sound c.records c.devices p.live p.waiting t part held few add_up),
       own_base k c base,
     )
 
@@ -106,13 +106,13 @@ module _ {R D : Type 0} (k : RecordRules R) where
       → (c : Contents R D) (p : Puts) (b t : Tally) (entries : List Entry) → WereNone p → c.base ≡ c.records → b ≡ t → entries ≡ [] → IsPart (links_of k c.records) → AreCalm k c.records → len c.records < 2 ^ 63 → CountsAddUp t (awaited k c.records)
       → IsSound k (held_by c p b t entries) × RecordsAreLikeTheirBase k c
   calm_holds sound c p b t entries puts base same none part calm few add_up = (
-    subst (λ (h : Held R D). IsSound k h) (sym (none_anew c p b t entries puts base same none)) (sound c.records c.devices t part calm few add_up),
+    subst (λ (h : SetState R D). IsSound k h) (sym (none_anew c p b t entries puts base same none)) (sound c.records c.devices t part calm few add_up),
     own_base k c base,
   )
 
   -- Lemmas about a set that is divided, and about two that become one.
 
-  pub fell_apart : (s : ℕ) (field : FieldNo) (link : LinkField) (h : Held R D) (was stay rest : Contents R D) (whole p q : Puts) (count : ℕ) (b t u v : Tally) (entries rest_entries : List Entry)
+  pub fell_apart : (s : ℕ) (field : FieldNo) (link : LinkField) (h : SetState R D) (was stay rest : Contents R D) (whole p q : Puts) (count : ℕ) (b t u v : Tally) (entries rest_entries : List Entry)
       → was.records ≡ h.records → was.devices ≡ h.devices → t ≡ less_awaited h.tally count → whole.live ≡ h.live → whole.waiting ≡ h.waiting
       → AreShared (get (relinked k was.records s field link)) (get stay.records) (get rest.records) → AreShared (get was.devices) (get stay.devices) (get rest.devices) → IsSome (get stay.records s)
       → p.waiting ≡ own_waiting stay.records whole.waiting → q.waiting ≡ own_waiting rest.records whole.waiting → (AreNone whole → AreNone p) → (AreNone whole → AreNone q)
@@ -138,7 +138,7 @@ module _ {R D : Type 0} (k : RecordRules R) where
         together = ap (λ (x : Tally). added x v) counts ∙ ap (λ (x : Tally). added (less_awaited h.tally count) x) alone ∙ together;
       }
 
-  pub became_one : (s : ℕ) (field : FieldNo) (link : LinkField) (h o : Held R D) (was others both left : Contents R D) (one two p q : Puts) (t u sum : Tally) (none : Tally) (entries other_entries : List Entry)
+  pub became_one : (s : ℕ) (field : FieldNo) (link : LinkField) (h o : SetState R D) (was others both left : Contents R D) (one two p q : Puts) (t u sum : Tally) (none : Tally) (entries other_entries : List Entry)
       → was.records ≡ h.records → was.devices ≡ h.devices → t ≡ h.tally → one.live ≡ h.live → one.waiting ≡ h.waiting
       → others.records ≡ o.records → others.devices ≡ o.devices → u ≡ o.tally → two.live ≡ o.live → two.waiting ≡ o.waiting
       → AreShared (get both.records) (get (relinked k was.records s field link)) (get others.records) → AreShared (get both.devices) (get was.devices) (get others.devices)
@@ -166,6 +166,6 @@ module _ {R D : Type 0} (k : RecordRules R) where
       alike_after k c after [] [] moment (rewired k before (begun_at moment (resting c.records [] [])) s)
       (rewired-keeps k lawful before (begun_at moment (resting c.records [] [])) s (has_begun c.records [] [] moment s there)) is base like
 
-  pub record_now : (h : Held R D) (n : ℕ) → record_at k h.records n ≡ at k (now_of h) n
+  pub record_now : (h : SetState R D) (n : ℕ) → record_at k h.records n ≡ at k (now_of h) n
   unfolding at
   record_now h n = refl

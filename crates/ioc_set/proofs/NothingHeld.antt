@@ -16,7 +16,7 @@ use Rattle.ioc_events.specs.StepRules.{at_the_end}
 use Rattle.ioc_events.specs.Holding.{IsCounted, HoldersAwait, holders, one_if_has}
 use Rattle.ioc_set.specs.Awaiting.{one_if_awaits, awaited}
 use Rattle.ioc_set_store.specs.Puts.{Puts, no_puts}
-use Rattle.ioc_set.specs.Held.{Held, nothing_held}
+use Rattle.ioc_set.specs.SetState.{SetState, nothing_held}
 use Rattle.ioc_set_store.specs.Resting.{resting}
 use Rattle.ioc_set.specs.Sound.{IsSound, CountsAddUp}
 use Rattle.ioc_set.specs.Doing.{held_by}
@@ -118,7 +118,7 @@ module _ {R D : Type 0} (k : RecordRules R) (missing : targets k k.missing ≡ [
         base = record { records = (none i).base; live = puts.1.0 i; waiting = puts.1.1 i; tally = same i };
         history = forgotten i;
       } in
-      subst (λ (h : Held R D). IsSound k h) (sym is) (sound t counts)
+      subst (λ (h : SetState R D). IsSound k h) (sym is) (sound t counts)
 
   pub like_anew : (c : Contents R D) → c ≡ nothing → RecordsAreLikeTheirBase k c
   like_anew c none = subst (λ (m : Contents R D). RecordsAreLikeTheirBase k m) (sym none) (λ q there. absurd (nowhere R q there))

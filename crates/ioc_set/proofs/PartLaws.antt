@@ -13,7 +13,7 @@ use Rattle.ioc_set_records.specs.Contents.{Records, Devices}
 use Rattle.ioc_set_records.specs.Joined.{AreShared, relinked}
 use Rattle.ioc_store.specs.World.{World, Has, Keeps, at, begun, begun_at, put}
 use Rattle.ioc_store.specs.Scanning.{device_of, rewired}
-use Rattle.ioc_set.specs.Held.{Held, now_of}
+use Rattle.ioc_set.specs.SetState.{SetState, now_of}
 use Rattle.ioc_set_store.specs.Resting.{resting}
 use Rattle.ioc_set.specs.Doing.{with_kept}
 use Rattle.ioc_set.specs.Linking.{anew, added, FallsApart, link_change_of}
@@ -23,7 +23,7 @@ use Rattle.ioc_set.proofs.Rescans.{rewired-keeps, own_record, rescanned_left, re
 has_records : {R : Type 0} (w : World R) (n : ℕ) → Has w n → IsSome (get w.records n)
 has_records w n there = there
 
-module _ {R D : Type 0} (k : RecordRules R) (h : Held R D) (moment s : ℕ) (field : FieldNo) (link : LinkField) where
+module _ {R D : Type 0} (k : RecordRules R) (h : SetState R D) (moment s : ℕ) (field : FieldNo) (link : LinkField) where
   -- The records with the link set, and the device link before.
   abbrev linked : Records R
   linked = relinked k h.records s field link
@@ -38,7 +38,7 @@ module _ {R D : Type 0} (k : RecordRules R) (h : Held R D) (moment s : ℕ) (fie
   unfolding at put begun_at begun
   changes = refl
 
-  module _ (lawful : IsLawful k) (stay rest after : Held R D) (falls : FallsApart h linked s stay rest) (before : List ℕ) (is_before : before ≡ device) (come_to : World R)
+  module _ (lawful : IsLawful k) (stay rest after : SetState R D) (falls : FallsApart h linked s stay rest) (before : List ℕ) (is_before : before ≡ device) (come_to : World R)
       (left : with_kept after.records stay.live stay.waiting come_to ≡ rewired k before (begun_at moment (now_of stay)) s) (held : after ≡ anew after.records stay.devices stay.live stay.waiting stay.tally) where
     sends : with_kept after.records stay.live stay.waiting come_to ≡ rewired k device (begun_at moment (now_of stay)) s
     sends = left ∙ ap (λ (d : List ℕ). rewired k d (begun_at moment (now_of stay)) s) is_before
@@ -58,10 +58,10 @@ module _ {R D : Type 0} (k : RecordRules R) (h : Held R D) (moment s : ℕ) (fie
     there_before n there = was_begun stay.records stay.live stay.waiting moment n (keeps.only n (subst (λ (x : Records R). IsSome (get x n)) records_then there))
 
     waiting_then : after.waiting ≡ stay.waiting
-    waiting_then = ap (λ (x : Held R D). x.waiting) held
+    waiting_then = ap (λ (x : SetState R D). x.waiting) held
 
     devices_then : after.devices ≡ stay.devices
-    devices_then = ap (λ (x : Held R D). x.devices) held
+    devices_then = ap (λ (x : SetState R D). x.devices) held
 
     pub parts : FallsApart h changed.records s after rest
     parts = record {
@@ -76,15 +76,15 @@ module _ {R D : Type 0} (k : RecordRules R) (h : Held R D) (moment s : ℕ) (fie
         own = λ x c. there_then x.target (falls.waiting.own x (subst (λ (l : List Waiting). Contains l x) waiting_then c));
       };
       rest_waiting = falls.rest_waiting;
-      none_live = λ none. let both = falls.none_live none in ((ap (λ (x : Held R D). x.live) held ∙ both.0.0, waiting_then ∙ both.0.1), both.1);
+      none_live = λ none. let both = falls.none_live none in ((ap (λ (x : SetState R D). x.live) held ∙ both.0.0, waiting_then ∙ both.0.1), both.1);
       stays =
           held ∙ ap (λ (x : Devices D). anew after.records x stay.live stay.waiting stay.tally) (sym devices_then)
-          ∙ ap (λ (l : List Live). anew after.records after.devices l stay.waiting stay.tally) (sym (ap (λ (x : Held R D). x.live) held))
+          ∙ ap (λ (l : List Live). anew after.records after.devices l stay.waiting stay.tally) (sym (ap (λ (x : SetState R D). x.live) held))
           ∙ ap (λ (l : List Waiting). anew after.records after.devices after.live l stay.tally) (sym waiting_then)
-          ∙ ap (λ (x : Held R D). anew after.records after.devices after.live after.waiting x.tally) falls.stays;
+          ∙ ap (λ (x : SetState R D). anew after.records after.devices after.live after.waiting x.tally) falls.stays;
       leaves = falls.leaves;
       few = falls.few;
-      together = ap (λ (x : Held R D). added x.tally rest.tally) held ∙ falls.together;
+      together = ap (λ (x : SetState R D). added x.tally rest.tally) held ∙ falls.together;
     }
 
     pub comes_to : with_kept changed.records h.live h.waiting come_to ≡ changed

@@ -23,7 +23,7 @@ use Rattle.ioc_events.specs.StepRules.{Step, Replay, at_the_end, and_then}
 use Rattle.ioc_events.specs.Starting.{NoneReady, is_ready}
 use Rattle.ioc_events.specs.Holding.{IsCounted, HoldersAwait, holders}
 use Rattle.ioc_set.specs.Awaiting.{awaited, one_if_completes}
-use Rattle.ioc_set.specs.Held.{Held, now_of, before_of, done_by, counted_on, held_after, folded}
+use Rattle.ioc_set.specs.SetState.{SetState, now_of, before_of, done_by, counted_on, held_after, folded}
 use Rattle.ioc_set_store.specs.Resting.{resting}
 use Rattle.ioc_set.specs.Sound.{IsSound, TellsOf}
 use Rattle.ioc_set.proofs.Counts.{AnswersAddUp, answers_same, answers_then}
@@ -156,7 +156,7 @@ module _ {R : Type 0} (k : RecordRules R) where
         (up : (t : Tally) (requests : Requests) → Fits t → AddsUp t → AddsUp (counted t requests))
         (awaitings : (answers : Answers) (w after : World R) (event : Event) (reply : Reply) (requests : Requests) → Step k answers w event after reply requests → IsSettled k w
         → awaited k after.records + one_if_completes event reply ≡ awaited k w.records + later_among (calls_since w after))
-        {D : Type 0} (h : Held R D) where
+        {D : Type 0} (h : SetState R D) where
       pub sound_after : (entry : Entry) (devices : Devices D) → IsSound k h → length h.history < 64 → TellsOf k h entry → IsSound k (held_after k h entry devices)
       sound_after entry devices sound room tells =
           let given = listed entry.answers in
@@ -198,7 +198,7 @@ module _ {R : Type 0} (k : RecordRules R) where
           }
 
   -- The invariant after the history is cleared.
-  pub sound_folded : {D : Type 0} (h : Held R D) → IsSound k h → IsSound k (folded h)
+  pub sound_folded : {D : Type 0} (h : SetState R D) → IsSound k h → IsSound k (folded h)
   sound_folded h sound = record {
     part = sound.part;
     settled = sound.settled;

@@ -14,7 +14,7 @@ use Rattle.ioc_events.specs.declared.reply.Reply.TheVariants.{Notify as Notify-r
 use Rattle.ioc_events.specs.Step.{stepped}
 use Rattle.ioc_events.specs.StepRules.{Step, Replay, at_the_end, and_then}
 use Rattle.ioc_events.specs.Holding.{IsCounted}
-use Rattle.ioc_set.specs.Held.{Held, NoneIsLive, now_of, done_by}
+use Rattle.ioc_set.specs.SetState.{SetState, NoneIsLive, now_of, done_by}
 use Rattle.ioc_set.specs.Sound.{IsSound}
 use Rattle.ioc_set_store.specs.Puts.{is_put_with_notification}
 use Rattle.ioc_set.specs.Doing.{is_ordinary, with_place, Does}
@@ -34,7 +34,7 @@ module _ {R D : Type 0} (k : RecordRules R) (gives : D → Ask → ℕ → Answe
     (allowed : (answers : Answers) (w : World R) (event : Event) → Step k answers w event (stepped k answers w event).world (stepped k answers w event).reply (stepped k answers w event).requests)
     (stays : (w after : World R) (entry : Entry) → Replay k w (entry ∷ []) after → IsCounted k w → w.live ≡ [] → ((n : ℕ) → entry.reply ≢ Notify-reply n) → (after.live ≡ []) × (after.waiting ≡ []))
     (begin : (answers : Answers) (w after : World R) (event : Event) (reply : Reply) (requests : Requests) (n : ℕ) → Step k answers w event after reply requests → reply ≡ Notify-reply n → is_put_with_notification event ≡ true) where
-  pub stays_without : (h after : Held R D) (moment : ℕ) (event : Event) (reply : Reply) (come_to : World R) → Does k gives h moment event reply after come_to → is_ordinary event ≡ true → IsSound k h → NoneIsLive h → NoneIsLive after
+  pub stays_without : (h after : SetState R D) (moment : ℕ) (event : Event) (reply : Reply) (come_to : World R) → Does k gives h moment event reply after come_to → is_ordinary event ≡ true → IsSound k h → NoneIsLive h → NoneIsLive after
   stays_without h after moment event reply come_to does ordinary sound none =
       let e = does.entry in
       let answers = listed e.answers in
@@ -47,6 +47,6 @@ module _ {R D : Type 0} (k : RecordRules R) (gives : D → Ask → ℕ → Answe
       let step = subst (λ (r : Reply). Step k answers w e.event done.world r done.requests) replied (allowed answers w e.event) in
       let left = stays (now_of h) done.world e (and_then step used at_the_end) sound.counted none.0
       (λ n is. ordinary_alone e.event ours (begin answers w done.world e.event e.reply done.requests n step is)) in (
-        ap (λ (z : Held R D). z.live) does.after ∙ ap (λ (v : World R). (done_by k v e).world.live) same ∙ left.0,
-        ap (λ (z : Held R D). z.waiting) does.after ∙ ap (λ (v : World R). (done_by k v e).world.waiting) same ∙ left.1,
+        ap (λ (z : SetState R D). z.live) does.after ∙ ap (λ (v : World R). (done_by k v e).world.live) same ∙ left.0,
+        ap (λ (z : SetState R D). z.waiting) does.after ∙ ap (λ (v : World R). (done_by k v e).world.waiting) same ∙ left.1,
       )

@@ -21,7 +21,7 @@ use Rattle.ioc_events.specs.Step.{tallied}
 use Rattle.ioc_set_store.specs.declared.set_store.SetStore.{SetStore}
 use Rattle.ioc_set_store.specs.SetStore.{world_of}
 use Rattle.ioc_set_store.specs.Puts.{Puts, now_with}
-use Rattle.ioc_set.specs.Held.{Held, now_of, folded, done_by, held_after}
+use Rattle.ioc_set.specs.SetState.{SetState, now_of, folded, done_by, held_after}
 use Rattle.ioc_set_store.specs.Resting.{resting}
 use Rattle.ioc_set.specs.Sound.{TellsOf}
 
@@ -42,7 +42,7 @@ is_done_on_sets (Cancel number) = true
 is_done_on_sets _ = false
 
 -- The state of a set with these records, puts with notification, counts and history.
-abbrev pub held_by : {R D : Type 0} → Contents R D → Puts → Tally → Tally → List Entry → Held R D
+abbrev pub held_by : {R D : Type 0} → Contents R D → Puts → Tally → Tally → List Entry → SetState R D
 held_by c puts before counts entries = record {
   records = c.records;
   devices = c.devices;
@@ -55,7 +55,7 @@ held_by c puts before counts entries = record {
 
 -- The set with a place for one more event in its history, which is cleared first if it has 64
 -- entries.
-abbrev pub with_place : {R D : Type 0} → Held R D → Held R D
+abbrev pub with_place : {R D : Type 0} → SetState R D → SetState R D
 with_place h = if length h.history == 64 then folded h else h
 
 -- The state of an event with these records.
@@ -71,7 +71,7 @@ module _ {R D : Type 0} (k : RecordRules R) (gives : D → Ask → ℕ → Answe
   -- An event with this time stamp is done on a set and appended to its history: the set afterwards,
   -- the reply, and the state of the event beside what the set keeps. Each device that was called
   -- gave its answer by its own relation, in the order of the calls.
-  pub record Does (held : Held R D) (at_moment : ℕ) (done : Event) (reply : Reply) (held_then : Held R D) (come_to : World R) : Type 0 where
+  pub record Does (held : SetState R D) (at_moment : ℕ) (done : Event) (reply : Reply) (held_then : SetState R D) (come_to : World R) : Type 0 where
     pub entry : Entry
     pub moment : entry.moment ≡ at_moment
     pub event : entry.event ≡ done

@@ -1,8 +1,8 @@
 pub mod Awaiting
-pub mod Held
+pub mod SetState
 pub mod Sound
 pub mod Doing
-pub mod HeldCode
-pub mod Kept
+pub mod SetStateCode
+pub mod SetEntry
 pub mod Linking
 pub mod NoCalls

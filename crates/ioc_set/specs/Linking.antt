@@ -18,7 +18,7 @@ use Rattle.ioc_set_records.specs.Joined.{AreShared, relinked}
 use Rattle.ioc_store.specs.World.{World, begun_at}
 use Rattle.ioc_store.specs.Scanning.{device_of, rewired, with_link_changed}
 use Rattle.ioc_events.specs.Holding.{HoldersAwait, HoldersCounted}
-use Rattle.ioc_set.specs.Held.{Held, NoneIsLive, now_of, nothing_held}
+use Rattle.ioc_set.specs.SetState.{SetState, NoneIsLive, now_of, nothing_held}
 use Rattle.ioc_set_store.specs.Resting.{resting}
 use Rattle.ioc_set.specs.Doing.{with_kept}
 use Rattle.ioc_set_store.specs.Recounting.{WaitsGoAlong, together}
@@ -26,7 +26,7 @@ use Rattle.ioc_set.specs.Sound.{IsSound}
 
 -- The set with these records, devices, puts with notification and counts, and with an empty
 -- history.
-abbrev pub anew : {R D : Type 0} → Records R → Devices D → List Live → List Waiting → Tally → Held R D
+abbrev pub anew : {R D : Type 0} → Records R → Devices D → List Live → List Waiting → Tally → SetState R D
 anew rs ds live waiting counts = record {
   records = rs;
   devices = ds;
@@ -81,7 +81,7 @@ module _ {R : Type 0} (k : RecordRules R) where
     pub counted : HoldersCounted k (resting rs live waiting)
 
   -- The effect of a link change with this time stamp on the state of a set.
-  abbrev pub link_change_of : {D : Type 0} → Held R D → ℕ → ℕ → FieldNo → LinkField → World R
+  abbrev pub link_change_of : {D : Type 0} → SetState R D → ℕ → ℕ → FieldNo → LinkField → World R
   link_change_of h moment s field link = with_link_changed k (begun_at moment (now_of h)) s field link
 
 module _ {R D : Type 0} where
@@ -90,7 +90,7 @@ module _ {R D : Type 0} where
   -- waits for. The set with the record of this number keeps the counts, except for the answers that
   -- the records of the rest still await: the rest counts these, and nothing else. Both together
   -- have the former counts.
-  pub record FallsApart (before : Held R D) (changed : Records R) (number : ℕ) (stay rest : Held R D) : Type 0 where
+  pub record FallsApart (before : SetState R D) (changed : Records R) (number : ℕ) (stay rest : SetState R D) : Type 0 where
     pub shared : AreShared (get changed) (get stay.records) (get rest.records)
     pub devices : AreShared (get before.devices) (get stay.devices) (get rest.devices)
     pub own : IsSome (get stay.records number)
@@ -104,7 +104,7 @@ module _ {R D : Type 0} where
 
   -- Two sets may become one: each waiting put waits for a record of its set, none waits in both,
   -- and the live and the waiting ones of both fit into one set.
-  pub record MayBeOne (before other : Held R D) : Type 0 where
+  pub record MayBeOne (before other : SetState R D) : Type 0 where
     pub own : (x : Waiting) → Contains before.waiting x → IsSome (get before.records x.target)
     pub others_own : (x : Waiting) → Contains other.waiting x → IsSome (get other.records x.target)
     pub apart : (x y : Waiting) → Contains before.waiting x → Contains other.waiting y → x.number ≢ y.number
@@ -114,7 +114,7 @@ module _ {R D : Type 0} where
   -- Two sets become one with an empty history: it has these records, which are those of the first
   -- set with a link changed and those of the other, the devices of both, the puts that wait in the
   -- first followed by those in the other, and the counts of both. The other set is empty then.
-  pub record BecomeOne (before other : Held R D) (changed : Records R) (both other_then : Held R D) : Type 0 where
+  pub record BecomeOne (before other : SetState R D) (changed : Records R) (both other_then : SetState R D) : Type 0 where
     pub shared : AreShared (get both.records) (get changed) (get other.records)
     pub devices : AreShared (get both.devices) (get before.devices) (get other.devices)
     pub waiting : both.waiting ≡ before.waiting ++ other.waiting
@@ -126,9 +126,9 @@ module _ {R D : Type 0} where
   -- place, the first set is divided into what stays with the record and the rest; what stays, with
   -- the new link, and the other set become one; and then a change of the record's scan list is sent
   -- if its device link differs.
-  pub record LeadsInto (k : RecordRules R) (before other : Held R D) (moment number : ℕ) (field : FieldNo) (link : LinkField) (after other_then rest : Held R D) (come_to : World R) : Type 0 where
-    pub stay : Held R D
-    pub both : Held R D
+  pub record LeadsInto (k : RecordRules R) (before other : SetState R D) (moment number : ℕ) (field : FieldNo) (link : LinkField) (after other_then rest : SetState R D) (come_to : World R) : Type 0 where
+    pub stay : SetState R D
+    pub both : SetState R D
     pub falls : FallsApart before (relinked k before.records number field no_link) number stay rest
     pub joins : BecomeOne stay other (relinked k stay.records number field link) both other_then
     pub sound : IsSound k both

@@ -16,7 +16,7 @@ use Rattle.ioc_events.specs.StepRules.{Replay}
 use Rattle.ioc_events.specs.Starting.{NoneReady}
 use Rattle.ioc_events.specs.Holding.{IsCounted, HoldersAwait}
 use Rattle.ioc_set.specs.Awaiting.{awaited}
-use Rattle.ioc_set.specs.Held.{Held, now_of, before_of, done_by, counted_on}
+use Rattle.ioc_set.specs.SetState.{SetState, now_of, before_of, done_by, counted_on}
 
 -- The begun requests are those processed, disabled, active or marked for reprocessing, and the
 -- calls that are answered later are those completed and those still awaited, which are this many.
@@ -30,7 +30,7 @@ pub record CountsAddUp (t : Tally) (still_awaited : ℕ) : Type 0 where
 module _ {R D : Type 0} (k : RecordRules R) where
   -- The events of the history, one after another, lead from the state before them to the current
   -- one.
-  pub record LeadsHere (h : Held R D) : Type 0 where
+  pub record LeadsHere (h : SetState R D) : Type 0 where
     pub after : World R
     pub replay : Replay k (before_of h.base) h.history after
     pub records : after.records ≡ h.records
@@ -43,7 +43,7 @@ module _ {R D : Type 0} (k : RecordRules R) where
   -- counts; the begun requests are those processed, disabled, active or marked for reprocessing;
   -- and the calls that are answered later are those completed and those that the records still
   -- await.
-  pub record IsSound (h : Held R D) : Type 0 where
+  pub record IsSound (h : SetState R D) : Type 0 where
     pub part : IsPart (links_of k h.records)
     pub settled : IsSettled k (now_of h)
     pub none_ready : NoneReady k (now_of h)
@@ -56,7 +56,7 @@ module _ {R D : Type 0} (k : RecordRules R) where
 
   -- An entry describes what its event did on the set: all its answers were used, and its reply was
   -- given.
-  pub record TellsOf (h : Held R D) (entry : Entry) : Type 0 where
+  pub record TellsOf (h : SetState R D) (entry : Entry) : Type 0 where
     pub no_link_change : is_link_change entry.event ≡ false
     pub reply : (done_by k (now_of h) entry).reply ≡ entry.reply
     pub answers : answers_of (done_by k (now_of h) entry).world.calls ≡ entry.answers

@@ -4,8 +4,8 @@ ghost use Rattle.ioc_set.specs.Awaiting.{awaited};
 ghost use Rattle.ioc_set.specs.Linking.{less_awaited, awaited_alone};
 
 use ioc_ledger::Tally;
-use ioc_set_records::Members;
 use ioc_record::RecordKind;
+use ioc_set_records::Members;
 
 /// Returns the number of these records that await a completion.
 pub fn count_awaited<K: RecordKind, D>(members: &Members<K, D>) -> u64

@@ -4,23 +4,23 @@ ghost use Rattle.ioc_events.specs.declared.event.Event.TheVariants.{Process, Put
 ghost use Rattle.ioc_set_records.specs.Contents.{RecordsAreLikeTheirBase};
 ghost use Rattle.ioc_set_store.specs.SetStore.{world_of};
 ghost use Rattle.ioc_set.specs.Doing.{Does, held_by, with_place};
-ghost use Rattle.ioc_events.specs.Told.{event_by, told_by};
+ghost use Rattle.ioc_events.specs.SetReply.{event_by, told_by};
 
-use crate::kept::Kept;
 use crate::laws::{events_leave_sound, held_records_are_sound};
 use crate::linking::begin_anew;
 use crate::lock_set::LockSet;
-use crate::running::run_on;
+use crate::running::run_set_event;
+use crate::set_entry::SetEntry;
 use ioc_device::Device;
-use ioc_events::{SetEvent, Told};
+use ioc_events::{SetEvent, SetReply};
 use ioc_fields::FieldNo;
 use ioc_ledger::Tally;
-use ioc_set_records::Members;
 use ioc_names::RecordNo;
 use ioc_notify::NotifyId;
 use ioc_record::RecordKind;
+use ioc_set_records::Members;
+use ioc_set_store::{EventBuffers, LivePuts};
 use ioc_values::{Finished, Input};
-use ioc_set_store::{LivePuts, Workplace};
 use std::alloc::{AllocError, Global};
 
 // Makes a place for one more event in the history, which is cleared first if it is full.
@@ -30,7 +30,7 @@ fn make_place<K: RecordKind, D>(
     puts: &mut LivePuts,
     tally: &Tally,
     base_tally: &mut Tally,
-    history: &mut Vec<Kept>,
+    history: &mut Vec<SetEntry>,
 ) -> Result<(), AllocError>
     requires like { RecordsAreLikeTheirBase K.rules members.old }
     requires fits { length puts.old.waiting ≤ 256 }
@@ -53,11 +53,11 @@ impl<K: RecordKind + Drop, D: Device> LockSet<K, D> {
     #[inline(always)]
     fn do_event(
         &mut self,
-        place: &mut Workplace<K, D>,
+        place: &mut EventBuffers<K, D>,
         alloc: Global,
         event: &SetEvent,
         moment: u64,
-    ) -> Result<Told, AllocError>
+    ) -> Result<SetReply, AllocError>
         ensures ok { IfOk result (λ told. Does K.rules D.gives self.old moment (event_by event.now) (told_by told) self.new (world_of place.new.store)) }
         ensures err { OnErr result (self.new ≡ self.old) }
     {
@@ -73,7 +73,7 @@ impl<K: RecordKind + Drop, D: Device> LockSet<K, D> {
             &mut self.base_tally,
             &mut self.history,
         )?;
-        let kept = run_on(
+        let kept = run_set_event(
             place,
             &mut self.members,
             &mut self.puts,
@@ -95,11 +95,11 @@ impl<K: RecordKind + Drop, D: Device> LockSet<K, D> {
     /// [`IocError::NoRecord`], if there is no such record.
     pub fn request(
         &mut self,
-        place: &mut Workplace<K, D>,
+        place: &mut EventBuffers<K, D>,
         alloc: Global,
         number: RecordNo,
         moment: u64,
-    ) -> Result<Told, AllocError>
+    ) -> Result<SetReply, AllocError>
         ensures ok { IfOk result (λ told. Does K.rules D.gives self.old moment (Process number) (told_by told) self.new (world_of place.new.store)) }
         ensures err { OnErr result (self.new ≡ self.old) }
     {
@@ -118,13 +118,13 @@ impl<K: RecordKind + Drop, D: Device> LockSet<K, D> {
     /// record or field, the field can't be put, DISP forbids it, or the value doesn't convert.
     pub fn put(
         &mut self,
-        place: &mut Workplace<K, D>,
+        place: &mut EventBuffers<K, D>,
         alloc: Global,
         number: RecordNo,
         field: FieldNo,
         given: Input,
         moment: u64,
-    ) -> Result<Told, AllocError>
+    ) -> Result<SetReply, AllocError>
         ensures ok { IfOk result (λ told. Does K.rules D.gives self.old moment (Put number field given) (told_by told) self.new (world_of place.new.store)) }
         ensures err { OnErr result (self.new ≡ self.old) }
     {
@@ -141,13 +141,13 @@ impl<K: RecordKind + Drop, D: Device> LockSet<K, D> {
     /// if it doesn't await the completion with this number.
     pub fn complete(
         &mut self,
-        place: &mut Workplace<K, D>,
+        place: &mut EventBuffers<K, D>,
         alloc: Global,
         number: RecordNo,
         wait: u64,
         finished: Finished,
         moment: u64,
-    ) -> Result<Told, AllocError>
+    ) -> Result<SetReply, AllocError>
         ensures ok { IfOk result (λ told. Does K.rules D.gives self.old moment (Complete number wait finished) (told_by told) self.new (world_of place.new.store)) }
         ensures err { OnErr result (self.new ≡ self.old) }
     {
@@ -163,7 +163,7 @@ impl<K: RecordKind + Drop, D: Device> LockSet<K, D> {
     /// records that are processed for the put, and ends with the last of them. If the record is
     /// active, is part of a put with notification or has one waiting, the put waits; it is tested
     /// and its value converted immediately. The caller assigns each number to one put.
-    /// [`Workplace::ended`] returns those that end by an event.
+    /// [`EventBuffers::ended`] returns those that end by an event.
     ///
     /// # Errors
     ///
@@ -172,14 +172,14 @@ impl<K: RecordKind + Drop, D: Device> LockSet<K, D> {
     /// with this number is live.
     pub fn put_notify(
         &mut self,
-        place: &mut Workplace<K, D>,
+        place: &mut EventBuffers<K, D>,
         alloc: Global,
         notification: NotifyId,
         number: RecordNo,
         field: FieldNo,
         given: Input,
         moment: u64,
-    ) -> Result<Told, AllocError>
+    ) -> Result<SetReply, AllocError>
         ensures ok { IfOk result (λ told. Does K.rules D.gives self.old moment (Notify number notification field given) (told_by told) self.new (world_of place.new.store)) }
         ensures err { OnErr result (self.new ≡ self.old) }
     {
@@ -196,11 +196,11 @@ impl<K: RecordKind + Drop, D: Device> LockSet<K, D> {
     /// [`IocError::Stale`], if it isn't live on the set.
     pub fn cancel(
         &mut self,
-        place: &mut Workplace<K, D>,
+        place: &mut EventBuffers<K, D>,
         alloc: Global,
         notification: NotifyId,
         moment: u64,
-    ) -> Result<Told, AllocError>
+    ) -> Result<SetReply, AllocError>
         ensures ok { IfOk result (λ told. Does K.rules D.gives self.old moment (Cancel notification) (told_by told) self.new (world_of place.new.store)) }
         ensures err { OnErr result (self.new ≡ self.old) }
     {

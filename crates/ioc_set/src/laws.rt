@@ -24,7 +24,7 @@ ghost use Rattle.ioc_set_records.specs.Contents.{Records, Devices};
 ghost use Rattle.ioc_set_records.specs.Joined.{links_of, IsPart, HasLink};
 ghost use Rattle.ioc_events.specs.declared.event.Entry.{Entry};
 ghost use Rattle.ioc_set.specs.Awaiting.{awaited};
-ghost use Rattle.ioc_set.specs.Held.{Held, NoneIsLive, now_of, folded, held_after};
+ghost use Rattle.ioc_set.specs.SetState.{SetState, NoneIsLive, now_of, folded, held_after};
 ghost use Rattle.ioc_set.specs.Doing.{is_ordinary, Does};
 ghost use Rattle.ioc_set.specs.Linking.{anew, AreCalm, AreHeld, MayBeOne};
 ghost use Rattle.ioc_set_store.specs.Recounting.{AreLive};
@@ -44,9 +44,9 @@ use ioc_record::RecordKind;
 /// After any event except a link change is done on a sound lock set and appended to its history,
 /// the set is sound. It also is after its history is cleared.
 pub fn events_leave_sound<K: RecordKind, D>()
-    ensures event { (h : Held K D) (entry : Entry) (devices : Devices D) → IsSound K.rules h → length h.history < 64 → TellsOf K.rules h entry →
+    ensures event { (h : SetState K D) (entry : Entry) (devices : Devices D) → IsSound K.rules h → length h.history < 64 → TellsOf K.rules h entry →
         IsSound K.rules (held_after K.rules h entry devices) }
-    ensures folded { (h : Held K D) → IsSound K.rules h → IsSound K.rules (folded h) }
+    ensures folded { (h : SetState K D) → IsSound K.rules h → IsSound K.rules (folded h) }
 {
     events_keep_links::<K>();
     events_leave_settled::<K>();
@@ -72,7 +72,7 @@ pub fn none_live_stays_so<K: RecordKind>()
 
 /// If no put with notification is live on a set, none is after a request, a put or a completion.
 pub fn sets_stay_without_puts<K: RecordKind, D: Device>()
-    ensures { (h after : Held K D) (moment : ℕ) (event : Event) (reply : Reply) (come_to : World K) → Does K.rules D.gives h moment event reply after come_to →
+    ensures { (h after : SetState K D) (moment : ℕ) (event : Event) (reply : Reply) (come_to : World K) → Does K.rules D.gives h moment event reply after come_to →
         is_ordinary event ≡ true → IsSound K.rules h → NoneIsLive h → NoneIsLive after }
 {
     rules_are_steps::<K>();
@@ -89,7 +89,7 @@ pub fn notifications_begin_by_notify<K: RecordKind>()
 /// If no put with notification is live, each record of a sound set is calm. Calm records that are
 /// one part and fewer than 2^63 make a sound set with an empty history.
 pub fn calm_records_are_sound<K: RecordKind, D>()
-    ensures calm { (h : Held K D) → IsSound K.rules h → h.live ≡ [] → AreCalm K.rules h.records }
+    ensures calm { (h : SetState K D) → IsSound K.rules h → h.live ≡ [] → AreCalm K.rules h.records }
     ensures sound { (rs : Records K) (ds : Devices D) (counts : Tally) → IsPart (links_of K.rules rs) → AreCalm K.rules rs → len rs < 2 ^ 63 →
         CountsAddUp counts (awaited K.rules rs) → IsSound K.rules (anew rs ds [] [] counts) }
 {
@@ -101,13 +101,13 @@ pub fn calm_records_are_sound<K: RecordKind, D>()
 /// that are held with such puts, are one part and fewer than 2^63 make a sound set with an empty
 /// history. Two sets on which none is live may become one.
 pub fn held_records_are_sound<K: RecordKind, D>()
-    ensures held { (h : Held K D) → IsSound K.rules h → AreHeld K.rules h.records h.live h.waiting }
-    ensures live { (h : Held K D) → IsSound K.rules h → AreLive K.rules h.records h.waiting h.live }
-    ensures holder { (h : Held K D) (n : ℕ) → IsSound K.rules h → is_live n h.live ≡ true → IsHeld K.rules (now_of h) n }
-    ensures fewer { (h : Held K D) → IsSound K.rules h → length h.waiting ≤ length h.live }
+    ensures held { (h : SetState K D) → IsSound K.rules h → AreHeld K.rules h.records h.live h.waiting }
+    ensures live { (h : SetState K D) → IsSound K.rules h → AreLive K.rules h.records h.waiting h.live }
+    ensures holder { (h : SetState K D) (n : ℕ) → IsSound K.rules h → is_live n h.live ≡ true → IsHeld K.rules (now_of h) n }
+    ensures fewer { (h : SetState K D) → IsSound K.rules h → length h.waiting ≤ length h.live }
     ensures sound { (rs : Records K) (ds : Devices D) (live : List Live) (waiting : List Waiting) (counts : Tally) → IsPart (links_of K.rules rs) →
         AreHeld K.rules rs live waiting → len rs < 2 ^ 63 → CountsAddUp counts (awaited K.rules rs) → IsSound K.rules (anew rs ds live waiting counts) }
-    ensures may_be_one { (h other : Held K D) → NoneIsLive h → NoneIsLive other → MayBeOne h other }
+    ensures may_be_one { (h other : SetState K D) → NoneIsLive h → NoneIsLive other → MayBeOne h other }
 {
     events_count_holders::<K>();
 }

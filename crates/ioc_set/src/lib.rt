@@ -4,13 +4,13 @@
 mod awaited;
 pub mod awaiting_laws;
 mod events;
-pub mod kept;
 pub mod laws;
 mod link_changes;
 pub mod linking;
 pub mod lock_set;
 mod no_calls;
 pub mod running;
+pub mod set_entry;
 
 pub use laws::{
     calm_records_are_sound, events_leave_sound, held_records_are_sound, link_changes_are_events,

@@ -5,7 +5,7 @@ ghost use Rattle.ioc_dbcommon.specs.Links.{use_of, named_by};
 ghost use Rattle.ioc_store.specs.Scanning.{rewired};
 ghost use Rattle.ioc_store.specs.World.{Has, begun_at};
 ghost use Rattle.ioc_set_records.specs.Joined.{HasLink, HasFreeLink, relinked};
-ghost use Rattle.ioc_set.specs.Held.{NoneIsLive, now_of, folded};
+ghost use Rattle.ioc_set.specs.SetState.{NoneIsLive, now_of, folded};
 ghost use Rattle.ioc_set.specs.Linking.{anew, FallsApart, MayBeOne, BecomeOne, LeadsInto, link_change_of};
 ghost use Rattle.ioc_set_store.specs.SetStore.{world_of};
 ghost use Rattle.ioc_set.specs.Doing.{with_kept};
@@ -14,17 +14,17 @@ use crate::awaited::take_awaited;
 use crate::laws::held_records_are_sound;
 use crate::linking::{add_counts, begin_anew, rescan_on};
 use crate::lock_set::LockSet;
-use ioc_dbcommon::KeptLink;
+use ioc_dbcommon::LinkBox;
 use ioc_device::Device;
 use ioc_fields::FieldNo;
 use ioc_ledger::Tally;
 use ioc_links::MAX_DEVICE_BYTES;
-use ioc_set_records::Room;
 use ioc_names::RecordNo;
 use ioc_record::RecordKind;
-use ioc_values::Short;
+use ioc_set_records::JoinBuffers;
 use ioc_set_store::live_puts::{PutsRoom, joined_puts, own_puts};
-use ioc_set_store::{LivePuts, Workplace};
+use ioc_set_store::{EventBuffers, LivePuts};
+use ioc_values::Short;
 use std::alloc::{AllocError, Global};
 
 impl<K: RecordKind + Drop, D: Drop> LockSet<K, D> {
@@ -33,7 +33,7 @@ impl<K: RecordKind + Drop, D: Drop> LockSet<K, D> {
     /// set of their own, which may be empty and which counts the answers that they still await.
     /// Each record stays part of its put with notification, each waiting put stays with its record,
     /// and the parts of each are recounted in both sets. Nothing is sent yet: see
-    /// [`LockSet::rescan`]. `link` and `twin` must be equal.
+    /// [`LockSet::rescan`]. `link` and `base_link` must be equal.
     ///
     /// # Errors
     ///
@@ -44,10 +44,10 @@ impl<K: RecordKind + Drop, D: Drop> LockSet<K, D> {
         alloc: Global,
         number: RecordNo,
         field: FieldNo,
-        link: KeptLink,
-        twin: KeptLink,
+        link: LinkBox,
+        base_link: LinkBox,
     ) -> Result<LockSet<K, D>, AllocError>
-        requires twin { twin ≡ link }
+        requires base_link { base_link ≡ link }
         requires field { HasLink K.rules self.old.records number field }
         requires within { (t : ℕ) → Contains (named_by (use_of link)) t → IsSome (map.get self.old.records t) }
         ensures apart { IfOk result (λ rest. FallsApart self.old (relinked K.rules self.old.records number field link) number self.new rest) }
@@ -65,7 +65,7 @@ impl<K: RecordKind + Drop, D: Drop> LockSet<K, D> {
         );
         let stay_room = self.puts.room(alloc)?;
         let rest_room = self.puts.room(alloc)?;
-        let rest = self.members.part(alloc, number, field, link, twin)?;
+        let rest = self.members.part(alloc, number, field, link, base_link)?;
         self.members.are_few();
         rest.are_few();
         let rest_puts = own_puts(&rest, &self.puts, rest_room, alloc);
@@ -89,23 +89,23 @@ impl<K: RecordKind + Drop, D: Drop> LockSet<K, D> {
     /// empty then. Each record stays part of its put with notification, the puts that wait in the
     /// other set come behind those that wait here, and the parts of each are recounted, for which
     /// memory was reserved before too, if any is live. No put may wait in both, and the live ones
-    /// must fit into one set. Nothing is sent yet: see [`LockSet::rescan`]. `link` and `twin` must
+    /// must fit into one set. Nothing is sent yet: see [`LockSet::rescan`]. `link` and `base_link` must
     /// be equal.
     pub fn unite(
         &mut self,
         alloc: Global,
-        room: Room<K, D>,
+        room: JoinBuffers<K, D>,
         puts_room: Option<PutsRoom>,
         other: &mut LockSet<K, D>,
         number: RecordNo,
         field: FieldNo,
-        link: KeptLink,
-        twin: KeptLink,
+        link: LinkBox,
+        base_link: LinkBox,
     )
         requires one { MayBeOne self.old other.old }
         requires puts_room { puts_room ≡ None → NoneIsLive self.old × NoneIsLive other.old }
         requires room { map.len self.old.records + map.len other.old.records ≤ room.count }
-        requires twin { twin ≡ link }
+        requires base_link { base_link ≡ link }
         requires apart { (q : ℕ) → IsSome (map.get self.old.records q) → map.get other.old.records q ≡ None }
         requires free { HasFreeLink K.rules self.old.records number field }
         requires to { (t : ℕ) × (named_by (use_of link) ≡ t ∷ []) × IsSome (map.get other.old.records t) }
@@ -129,7 +129,7 @@ impl<K: RecordKind + Drop, D: Drop> LockSet<K, D> {
             &mut other.history,
         );
         self.members
-            .join_in(room, &mut other.members, number, field, link, twin);
+            .join_in(room, &mut other.members, number, field, link, base_link);
         self.members.are_few();
         let puts = joined_puts(&self.members, &self.puts, &other.puts, puts_room, alloc);
         self.puts = puts;
@@ -146,7 +146,7 @@ impl<K: RecordKind + Drop, D: Device> LockSet<K, D> {
     /// link is no longer `before`. The history is cleared.
     pub fn rescan(
         &mut self,
-        place: &mut Workplace<K, D>,
+        place: &mut EventBuffers<K, D>,
         number: RecordNo,
         before: Short<MAX_DEVICE_BYTES>,
         moment: u64,
@@ -171,7 +171,7 @@ impl<K: RecordKind + Drop, D: Device> LockSet<K, D> {
     /// Changes a link of a record, which leads nowhere then, or to a record of this set. The set
     /// keeps the part of the record and the counts. The records that no link joins to it any more
     /// are returned as a set of their own, which may be empty. Live puts with notification stay
-    /// with their records, as described at [`LockSet::split`]. `link` and `twin` must be equal.
+    /// with their records, as described at [`LockSet::split`]. `link` and `base_link` must be equal.
     ///
     /// # Errors
     ///
@@ -179,15 +179,15 @@ impl<K: RecordKind + Drop, D: Device> LockSet<K, D> {
     /// cleared.
     pub fn part(
         &mut self,
-        place: &mut Workplace<K, D>,
+        place: &mut EventBuffers<K, D>,
         alloc: Global,
         number: RecordNo,
         field: FieldNo,
-        link: KeptLink,
-        twin: KeptLink,
+        link: LinkBox,
+        base_link: LinkBox,
         moment: u64,
     ) -> Result<LockSet<K, D>, AllocError>
-        requires twin { twin ≡ link }
+        requires base_link { base_link ≡ link }
         requires field { HasLink K.rules self.old.records number field }
         requires within { (t : ℕ) → Contains (named_by (use_of link)) t → IsSome (map.get self.old.records t) }
         ensures apart { IfOk result (λ rest. FallsApart self.old (link_change_of K.rules self.old moment number field link).records number self.new rest) }
@@ -195,7 +195,7 @@ impl<K: RecordKind + Drop, D: Device> LockSet<K, D> {
         ensures err { OnErr result (self.new ≡ folded self.old) }
     {
         let before = self.device_text(number);
-        let rest = self.split(alloc, number, field, link, twin)?;
+        let rest = self.split(alloc, number, field, link, base_link)?;
         self.rescan(place, number, before, moment);
         Ok(rest)
     }
@@ -205,7 +205,7 @@ impl<K: RecordKind + Drop, D: Device> LockSet<K, D> {
     /// set that only this link had joined to that record are returned as a set of their own, which
     /// may be empty. Live puts with notification stay with their records, as described at
     /// [`LockSet::split`] and [`LockSet::unite`]; no put may wait in both sets, and the live ones
-    /// must fit into one. All memory is allocated before anything changes. `link` and `twin` must
+    /// must fit into one. All memory is allocated before anything changes. `link` and `base_link` must
     /// be equal.
     ///
     /// # Errors
@@ -215,16 +215,16 @@ impl<K: RecordKind + Drop, D: Device> LockSet<K, D> {
     pub fn lead_into(
         &mut self,
         other: &mut LockSet<K, D>,
-        place: &mut Workplace<K, D>,
+        place: &mut EventBuffers<K, D>,
         alloc: Global,
         number: RecordNo,
         field: FieldNo,
-        link: KeptLink,
-        twin: KeptLink,
+        link: LinkBox,
+        base_link: LinkBox,
         moment: u64,
     ) -> Result<LockSet<K, D>, AllocError>
         requires one { MayBeOne self.old other.old }
-        requires twin { twin ≡ link }
+        requires base_link { base_link ≡ link }
         requires apart { (q : ℕ) → IsSome (map.get self.old.records q) → map.get other.old.records q ≡ None }
         requires field { HasLink K.rules self.old.records number field }
         requires to { (t : ℕ) × (named_by (use_of link) ≡ t ∷ []) × IsSome (map.get other.old.records t) }
@@ -237,12 +237,14 @@ impl<K: RecordKind + Drop, D: Device> LockSet<K, D> {
         self.is_sound();
         other.is_sound();
         self.fold();
-        let room = Room::new(alloc, self.len() + other.len())?;
+        let room = JoinBuffers::new(alloc, self.len() + other.len())?;
         let puts_room = self.puts_room_with(other, alloc)?;
         let before = self.device_text(number);
-        let rest = self.split(alloc, number, field, KeptLink::empty(), KeptLink::empty())?;
+        let rest = self.split(alloc, number, field, LinkBox::empty(), LinkBox::empty())?;
         self.is_sound();
-        self.unite(alloc, room, puts_room, other, number, field, link, twin);
+        self.unite(
+            alloc, room, puts_room, other, number, field, link, base_link,
+        );
         self.is_sound();
         self.rescan(place, number, before, moment);
         Ok(rest)

@@ -10,16 +10,16 @@ ghost use Rattle.ioc_set.specs.Linking.{added};
 ghost use Rattle.ioc_set_store.specs.Puts.{begun_with};
 ghost use Rattle.ioc_set_store.specs.SetStore.{world_of};
 
-use crate::kept::Kept;
+use crate::set_entry::SetEntry;
 use ioc_device::Device;
 use ioc_ledger::Tally;
 use ioc_links::MAX_DEVICE_BYTES;
-use ioc_set_records::Members;
 use ioc_names::RecordNo;
-use ioc_record::RecordKind;
 use ioc_process::scanning::rewire;
+use ioc_record::RecordKind;
+use ioc_set_records::Members;
+use ioc_set_store::{EventBuffers, LivePuts};
 use ioc_values::Short;
-use ioc_set_store::{LivePuts, Workplace};
 use std::mem;
 
 /// Clears the history of a set, so that each record equals its base and the puts with notification
@@ -30,7 +30,7 @@ pub fn begin_anew<K: RecordKind, D>(
     puts: &mut LivePuts,
     tally: &Tally,
     base_tally: &mut Tally,
-    history: &mut Vec<Kept>,
+    history: &mut Vec<SetEntry>,
 )
     requires like { RecordsAreLikeTheirBase K.rules members.old }
     requires fits { length puts.old.waiting ≤ 256 }
@@ -62,7 +62,7 @@ pub fn add_counts(tally: &mut Tally, other: &Tally)
 /// Sends a change of the scan list of a record, if the text of its device link is no longer
 /// `before`.
 pub fn rescan_on<K: RecordKind + Drop, D: Device>(
-    place: &mut Workplace<K, D>,
+    place: &mut EventBuffers<K, D>,
     members: &mut Members<K, D>,
     moment: u64,
     number: RecordNo,

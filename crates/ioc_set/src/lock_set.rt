@@ -15,29 +15,29 @@ ghost use Rattle.ioc_record.specs.Values.{stops_put};
 ghost use Rattle.ioc_store.specs.World.{Has, at, common_at};
 ghost use Rattle.ioc_set_records.specs.Contents.{RecordsAreLikeTheirBase};
 ghost use Rattle.ioc_set_records.specs.Joined.{links_of, IsPart, HasLink};
-ghost use Rattle.ioc_set.specs.Held.{NoneIsLive, now_of, nothing_held, folded};
+ghost use Rattle.ioc_set.specs.SetState.{NoneIsLive, now_of, nothing_held, folded};
 ghost use Rattle.ioc_set_store.specs.Resting.{resting};
 ghost use Rattle.ioc_set.specs.Linking.{anew, AreCalm, NoneAwaits};
 ghost use Rattle.ioc_set.specs.Sound.{IsSound};
 ghost use Rattle.ioc_set.specs.Doing.{held_by};
 
-use crate::kept::Kept;
 use crate::laws::{calm_records_are_sound, held_records_are_sound};
 use crate::linking::begin_anew;
 use crate::no_calls::{why_not_put, why_not_shown};
-use ioc_dbcommon::KeptLink;
+use crate::set_entry::SetEntry;
+use ioc_dbcommon::LinkBox;
 use ioc_events::{Event, Reply};
 use ioc_fields::{FieldNo, row_of};
 use ioc_ledger::Tally;
 use ioc_links::MAX_DEVICE_BYTES;
-use ioc_set_records::Members;
 use ioc_names::RecordNo;
 use ioc_notify::{Live, NotifyId};
-use ioc_record::{RecordKind, stops_put, text_of};
 use ioc_process::scanning::device_of;
-use ioc_values::{IocError, Short};
+use ioc_record::{RecordKind, stops_put, text_of};
+use ioc_set_records::Members;
 use ioc_set_store::LivePuts;
 use ioc_set_store::live_puts::PutsRoom;
+use ioc_values::{IocError, Short};
 use std::alloc::{AllocError, Global};
 use std::marker::Model;
 
@@ -50,14 +50,14 @@ pub struct LockSet<K: RecordKind, D> {
     pub(crate) tally: Tally,
     // The counts before the first event of the history.
     pub(crate) base_tally: Tally,
-    pub(crate) history: Vec<Kept>,
+    pub(crate) history: Vec<SetEntry>,
 }
 
 impl<K: RecordKind, D> Model for LockSet<K, D> {
-    ghost use Rattle.ioc_set.specs.Held.{Held};
-    ghost use Rattle.ioc_set.specs.HeldCode.{held_code};
+    ghost use Rattle.ioc_set.specs.SetState.{SetState};
+    ghost use Rattle.ioc_set.specs.SetStateCode.{held_code};
 
-    ghost Value = { Held K D };
+    ghost Value = { SetState K D };
 
     ghost coded = { held_code K.code D.code };
 
@@ -252,14 +252,14 @@ impl<K: RecordKind, D> LockSet<K, D> {
     }
 
     /// Returns whether the link names no record outside this set.
-    pub fn leads_within(&self, link: &KeptLink) -> bool
+    pub fn leads_within(&self, link: &LinkBox) -> bool
         ensures { IsTrue result ↔ ((t : ℕ) → Contains (named_by (use_of link.now)) t → IsSome (map.get self.now.records t)) }
     {
         self.members.leads_within(link)
     }
 
     /// Returns whether the link names a record of this set.
-    pub fn leads_into(&self, link: &KeptLink) -> bool
+    pub fn leads_into(&self, link: &LinkBox) -> bool
         ensures { IsTrue result ↔ ((t : ℕ) × (named_by (use_of link.now) ≡ t ∷ []) × IsSome (map.get self.now.records t)) }
     {
         self.members.leads_into(link)

@@ -10,19 +10,19 @@ ghost use Rattle.ioc_events.specs.Holding.{IsCounted};
 ghost use Rattle.ioc_set_store.specs.Resting.{resting};
 ghost use Rattle.ioc_set_store.specs.Puts.{is_put_with_notification};
 ghost use Rattle.ioc_set.specs.Doing.{Did};
-ghost use Rattle.ioc_events.specs.Told.{event_by, told_by};
+ghost use Rattle.ioc_events.specs.SetReply.{event_by, told_by};
 
-use crate::kept::Kept;
 use crate::laws::{none_live_stays_so, notifications_begin_by_notify};
+use crate::set_entry::SetEntry;
 use ioc_device::Device;
 use ioc_events::event_rules::rules_are_steps;
-use ioc_events::{SetEvent, Told, run_cancel, run_complete, run_notify, run_put, run_request};
+use ioc_events::{SetEvent, SetReply, run_cancel, run_complete, run_notify, run_put, run_request};
 use ioc_ledger::Tally;
-use ioc_set_records::Members;
 use ioc_record::RecordKind;
+use ioc_set_records::Members;
+use ioc_set_store::event_buffers::kept_answers;
+use ioc_set_store::{EventBuffers, LivePuts};
 use ioc_store::{Frame, Store};
-use ioc_set_store::workplace::kept_answers;
-use ioc_set_store::{LivePuts, Workplace};
 use std::alloc::Global;
 use std::mem;
 
@@ -34,7 +34,7 @@ pub fn run_event<S: Store>(
     frames: &mut Vec<Frame>,
     event: &SetEvent,
     tally: &mut Tally,
-) -> Told
+) -> SetReply
     requires closed { IsClosed S.Record.rules (S.world store.old) }
     requires empty { frames.old.items ≡ [] }
     requires room { len (S.world store.old).records ≤ vec_capacity frames.old }
@@ -63,15 +63,15 @@ pub fn run_event<S: Store>(
 /// entry. There must be room for the frames and the answers, and for a put with notification, if it
 /// is one.
 #[inline(always)]
-pub fn run_on<K: RecordKind + Drop, D: Device>(
-    place: &mut Workplace<K, D>,
+pub fn run_set_event<K: RecordKind + Drop, D: Device>(
+    place: &mut EventBuffers<K, D>,
     members: &mut Members<K, D>,
     puts: &mut LivePuts,
     moment: u64,
     event: &SetEvent,
     tally: &mut Tally,
     alloc: Global,
-) -> Kept
+) -> SetEntry
     requires counted { IsCounted K.rules (resting members.old.records puts.old.live puts.old.waiting) }
     requires puts { is_put_with_notification (event_by event.now) ≡ true → puts.old.has_room ≡ true }
     requires frames { len members.old.records ≤ vec_capacity place.old.frames }
@@ -93,5 +93,5 @@ pub fn run_on<K: RecordKind + Drop, D: Device>(
     puts.take_back(&mut place.store.event.notifications);
     mem::swap(members, &mut place.store.members);
     members.devices_are_owned();
-    Kept::new(moment, event, answers, told)
+    SetEntry::new(moment, event, answers, told)
 }

@@ -5,14 +5,14 @@ ghost use Rattle.ioc_set_records.specs.Edges.{slots_relinked};
 
 use crate::marks::relink;
 use crate::slots::Slot;
-use ioc_dbcommon::KeptLink;
+use ioc_dbcommon::LinkBox;
 use ioc_fields::FieldNo;
 use ioc_record::RecordKind;
 use std::alloc::{AllocError, Global};
 
 /// Memory for the records of two sets that become one.
 #[derive(Drop)]
-pub struct Room<K, D> {
+pub struct JoinBuffers<K, D> {
     slots: Vec<Slot<K, D>>,
     changed: Vec<usize>,
     pub count: usize,
@@ -22,7 +22,7 @@ pub struct Room<K, D> {
     pub ghost places_fit: { count ≤ vec_capacity changed },
 }
 
-impl<K: Drop, D: Drop> Room<K, D> {
+impl<K: Drop, D: Drop> JoinBuffers<K, D> {
     /// Reserves room for `count` records.
     ///
     /// # Errors
@@ -33,7 +33,7 @@ impl<K: Drop, D: Drop> Room<K, D> {
     {
         let slots = Vec::with_capacity(alloc, count)?;
         let changed = Vec::with_capacity(alloc, count)?;
-        Ok(Room {
+        Ok(JoinBuffers {
             slots,
             changed,
             count,
@@ -51,7 +51,7 @@ fn sort<K, D>(slots: &mut Vec<Slot<K, D>>)
 }
 
 /// Moves the slots of another set here, and sets a link of the record at a place, and of its base.
-/// `link` and `twin` must be equal.
+/// `link` and `base_link` must be equal.
 ///
 /// # Errors
 ///
@@ -61,11 +61,11 @@ pub fn join_slots<K: RecordKind, D>(
     other: &mut Vec<Slot<K, D>>,
     place: usize,
     field: FieldNo,
-    link: KeptLink,
-    twin: KeptLink,
+    link: LinkBox,
+    base_link: LinkBox,
 ) -> Result<(), AllocError>
     requires there { place < length slots.old.items }
-    requires twin { twin ≡ link }
+    requires base_link { base_link ≡ link }
     ensures permutation { OnOk result (IsPermutation (slots_relinked K.rules slots.old.items place field link ++ other.old.items) slots.new.items) }
     ensures sorted { OnOk result (IsNonDecreasingBy (λ s. s.number) slots.new.items) }
     ensures emptied { OnOk result (other.new.items ≡ []) }
@@ -73,7 +73,7 @@ pub fn join_slots<K: RecordKind, D>(
     ensures full { OnErr result (vec_capacity slots.old < length slots.old.items + length other.old.items) }
 {
     slots.append(other)?;
-    relink(&mut slots[place], field, link, twin);
+    relink(&mut slots[place], field, link, base_link);
     sort(slots);
     Ok(())
 }
@@ -81,7 +81,7 @@ pub fn join_slots<K: RecordKind, D>(
 /// Moves slots and the list of changed ones to the larger memory of `room`. No slot may be marked
 /// as changed.
 pub fn move_in<K: Drop, D: Drop>(
-    room: Room<K, D>,
+    room: JoinBuffers<K, D>,
     slots: &mut Vec<Slot<K, D>>,
     changed: &mut Vec<usize>,
 )
@@ -91,7 +91,7 @@ pub fn move_in<K: Drop, D: Drop>(
     ensures slots_fit { room.count ≤ vec_capacity slots.new }
     ensures places_fit { room.count ≤ vec_capacity changed.new }
 {
-    let Room {
+    let JoinBuffers {
         slots: mut roomy,
         changed: places,
         ..
@@ -109,17 +109,17 @@ pub fn join_with_room<K: RecordKind, D>(
     other: &mut Vec<Slot<K, D>>,
     place: usize,
     field: FieldNo,
-    link: KeptLink,
-    twin: KeptLink,
+    link: LinkBox,
+    base_link: LinkBox,
 )
     requires there { place < length slots.old.items }
-    requires twin { twin ≡ link }
+    requires base_link { base_link ≡ link }
     requires room { length slots.old.items + length other.old.items ≤ vec_capacity slots.old }
     ensures permutation { IsPermutation (slots_relinked K.rules slots.old.items place field link ++ other.old.items) slots.new.items }
     ensures sorted { IsNonDecreasingBy (λ s. s.number) slots.new.items }
     ensures emptied { other.new.items ≡ [] }
 {
-    if join_slots(slots, other, place, field, link, twin).is_err() {
+    if join_slots(slots, other, place, field, link, base_link).is_err() {
         unreachable!()
     }
 }

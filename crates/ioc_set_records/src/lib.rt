@@ -25,7 +25,7 @@ pub mod parts;
 pub mod slots;
 
 pub use changing::Change;
-pub use joining::Room;
+pub use joining::JoinBuffers;
 pub use loaded::{Loaded, deal};
 pub use members::Members;
 pub use parts::parts_of;

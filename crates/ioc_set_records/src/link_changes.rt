@@ -5,12 +5,12 @@ ghost use Rattle.ioc_dbcommon.specs.Links.{use_of, named_by};
 ghost use Rattle.ioc_set_records.specs.Contents.{nothing};
 ghost use Rattle.ioc_set_records.specs.Joined.{links_of, IsPart, HasLink, HasFreeLink, AreShared, relinked};
 
-use crate::joining::{Room, join_slots, join_with_room, move_in};
+use crate::joining::{JoinBuffers, join_slots, join_with_room, move_in};
 use crate::marks::fold_slots;
 use crate::members::Members;
 use crate::parting::part_slots;
 use crate::slots::place_of;
-use ioc_dbcommon::KeptLink;
+use ioc_dbcommon::LinkBox;
 use ioc_fields::FieldNo;
 use ioc_names::RecordNo;
 use ioc_record::RecordKind;
@@ -20,7 +20,7 @@ impl<K: RecordKind + Drop, D: Drop> Members<K, D> {
     /// Sets a link of a record to nowhere, or to a record of this set. The set keeps the part of
     /// the record. The records that no link joins to it any more are returned with their devices:
     /// they are one part too, or none. Each record equals its base before and after, so the base
-    /// gets an equal link, `twin`. The cost is nearly proportional to the number of records and
+    /// gets an equal link, `base_link`. The cost is nearly proportional to the number of records and
     /// links.
     ///
     /// # Errors
@@ -31,11 +31,11 @@ impl<K: RecordKind + Drop, D: Drop> Members<K, D> {
         alloc: Global,
         number: RecordNo,
         field: FieldNo,
-        link: KeptLink,
-        twin: KeptLink,
+        link: LinkBox,
+        base_link: LinkBox,
     ) -> Result<Members<K, D>, AllocError>
         requires folded { self.old.base ≡ self.old.records }
-        requires twin { twin ≡ link }
+        requires base_link { base_link ≡ link }
         requires one_part { IsPart (links_of K.rules self.old.records) }
         requires field { HasLink K.rules self.old.records number field }
         requires within { (t : ℕ) → Contains (named_by (use_of link)) t → IsSome (map.get self.old.records t) }
@@ -56,7 +56,7 @@ impl<K: RecordKind + Drop, D: Drop> Members<K, D> {
         let Some(place) = place_of(&self.slots, self.latest, number) else {
             unreachable!()
         };
-        let (rest, places) = part_slots(alloc, &mut self.slots, place, field, link, twin)?;
+        let (rest, places) = part_slots(alloc, &mut self.slots, place, field, link, base_link)?;
         Ok(Members {
             slots: rest,
             changed: places,
@@ -68,7 +68,7 @@ impl<K: RecordKind + Drop, D: Drop> Members<K, D> {
 impl<K: RecordKind, D> Members<K, D> {
     /// Sets a link of a record, which led nowhere, to a record of another set, and takes over that
     /// set with its devices; the other set has no records then. Each record equals its base before
-    /// and after, so the base gets an equal link, `twin`. The cost is n log n for n records in
+    /// and after, so the base gets an equal link, `base_link`. The cost is n log n for n records in
     /// both.
     ///
     /// # Errors
@@ -79,12 +79,12 @@ impl<K: RecordKind, D> Members<K, D> {
         other: &mut Members<K, D>,
         number: RecordNo,
         field: FieldNo,
-        link: KeptLink,
-        twin: KeptLink,
+        link: LinkBox,
+        base_link: LinkBox,
     ) -> Result<(), AllocError>
         requires folded { self.old.base ≡ self.old.records }
         requires other_folded { other.old.base ≡ other.old.records }
-        requires twin { twin ≡ link }
+        requires base_link { base_link ≡ link }
         requires apart { (q : ℕ) → IsSome (map.get self.old.records q) → map.get other.old.records q ≡ None }
         requires one_part { IsPart (links_of K.rules self.old.records) }
         requires other_part { IsPart (links_of K.rules other.old.records) }
@@ -106,7 +106,14 @@ impl<K: RecordKind, D> Members<K, D> {
             unreachable!()
         };
         self.changed.reserve(self.slots.len() + other.slots.len())?;
-        join_slots(&mut self.slots, &mut other.slots, place, field, link, twin)?;
+        join_slots(
+            &mut self.slots,
+            &mut other.slots,
+            place,
+            field,
+            link,
+            base_link,
+        )?;
         Ok(())
     }
 }
@@ -116,17 +123,17 @@ impl<K: RecordKind + Drop, D: Drop> Members<K, D> {
     /// can't fail.
     pub fn join_in(
         &mut self,
-        room: Room<K, D>,
+        room: JoinBuffers<K, D>,
         other: &mut Members<K, D>,
         number: RecordNo,
         field: FieldNo,
-        link: KeptLink,
-        twin: KeptLink,
+        link: LinkBox,
+        base_link: LinkBox,
     )
         requires room { map.len self.old.records + map.len other.old.records ≤ room.count }
         requires folded { self.old.base ≡ self.old.records }
         requires other_folded { other.old.base ≡ other.old.records }
-        requires twin { twin ≡ link }
+        requires base_link { base_link ≡ link }
         requires apart { (q : ℕ) → IsSome (map.get self.old.records q) → map.get other.old.records q ≡ None }
         requires one_part { IsPart (links_of K.rules self.old.records) }
         requires other_part { IsPart (links_of K.rules other.old.records) }
@@ -144,6 +151,13 @@ impl<K: RecordKind + Drop, D: Drop> Members<K, D> {
             unreachable!()
         };
         move_in(room, &mut self.slots, &mut self.changed);
-        join_with_room(&mut self.slots, &mut other.slots, place, field, link, twin);
+        join_with_room(
+            &mut self.slots,
+            &mut other.slots,
+            place,
+            field,
+            link,
+            base_link,
+        );
     }
 }

@@ -10,7 +10,7 @@ ghost use Rattle.ioc_set_records.specs.Joined.{links_of, IsClosed};
 ghost use Rattle.ioc_set_records.specs.Slots.{AreAscending, numbers_of, records_of};
 
 use crate::slots::Slot;
-use ioc_dbcommon::{KeptLink, LinkUse};
+use ioc_dbcommon::{LinkBox, LinkUse};
 use ioc_fields::{FieldNo, name_of};
 use ioc_graph::{Edge, parts};
 use ioc_names::RecordNo;
@@ -21,7 +21,7 @@ use std::alloc::{AllocError, Global};
 fn add_link(
     edges: &mut Vec<Edge>,
     number: RecordNo,
-    link: Option<&KeptLink>,
+    link: Option<&LinkBox>,
 ) -> Result<(), AllocError>
     ensures { OnOk result (edges.new.items ≡ edges.old.items ++ edges_from number (named_by_field (option_copied link.entry))) }
 {
@@ -69,7 +69,7 @@ fn add_links_with<K: RecordKind>(
     number: RecordNo,
     fields: &K,
     changed: FieldNo,
-    link: &KeptLink,
+    link: &LinkBox,
 ) -> Result<(), AllocError>
     requires { is_some (K.rules.link fields.now changed) ≡ true }
     ensures { OnOk result (edges.new.items ≡ edges.old.items ++ edges_from number (targets K.rules (K.rules.with_link fields.now changed link.now))) }
@@ -90,7 +90,7 @@ fn edges_with<K: RecordKind, D>(
     slots: &[Slot<K, D>],
     place: usize,
     changed: FieldNo,
-    link: &KeptLink,
+    link: &LinkBox,
 ) -> Result<Vec<Edge>, AllocError>
     requires { (s : Slot K D) → place < length slots.now → s ≡ slice_index_or slots.now place s → is_some (K.rules.link s.fields changed) ≡ true }
     ensures { IfOk result (λ edges. edges.items ≡ edges_in K.rules (slots_relinked K.rules slots.now place changed link.now)) }
@@ -145,7 +145,7 @@ pub fn parts_with<K: RecordKind, D>(
     slots: &[Slot<K, D>],
     place: usize,
     changed: FieldNo,
-    link: &KeptLink,
+    link: &LinkBox,
 ) -> Result<Vec<usize>, AllocError>
     requires ascending { AreAscending slots.now }
     requires field { (s : Slot K D) → place < length slots.now → s ≡ slice_index_or slots.now place s → is_some (K.rules.link s.fields changed) ≡ true }

@@ -5,7 +5,7 @@ ghost use Rattle.ioc_set_records.specs.Edges.{slot_relinked};
 ghost use Rattle.ioc_set_records.specs.Twins.{AreTracked, AllLikeTheirBases, slot_folded, slots_marked};
 
 use crate::slots::Slot;
-use ioc_dbcommon::KeptLink;
+use ioc_dbcommon::LinkBox;
 use ioc_fields::FieldNo;
 use ioc_record::RecordKind;
 
@@ -59,12 +59,12 @@ pub fn fold_slots<K: RecordKind, D>(slots: &mut Vec<Slot<K, D>>, changed: &mut V
 pub fn relink<K: RecordKind, D>(
     slot: &mut Slot<K, D>,
     field: FieldNo,
-    link: KeptLink,
-    twin: KeptLink,
+    link: LinkBox,
+    base_link: LinkBox,
 )
-    requires { twin ≡ link }
+    requires { base_link ≡ link }
     ensures { slot.new ≡ slot_relinked K.rules slot.old field link }
 {
     slot.fields.set_link(field, link);
-    slot.base.set_link(field, twin);
+    slot.base.set_link(field, base_link);
 }

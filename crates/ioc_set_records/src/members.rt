@@ -13,7 +13,7 @@ use crate::changing::{Change, change_slots};
 use crate::connected::are_one_part;
 use crate::marks::{fold_slots, list_all, mark};
 use crate::slots::{Slot, are_apart, place_of, seek};
-use ioc_dbcommon::KeptLink;
+use ioc_dbcommon::LinkBox;
 use ioc_device::{Answer, Ask, Device, answer_of};
 use ioc_fields::FieldNo;
 use ioc_names::RecordNo;
@@ -144,7 +144,7 @@ impl<K, D> Members<K, D> {
     }
 
     /// Returns whether the link names no record outside this set.
-    pub fn leads_within(&self, link: &KeptLink) -> bool
+    pub fn leads_within(&self, link: &LinkBox) -> bool
         ensures { IsTrue result ↔ ((t : ℕ) → Contains (named_by (use_of link.now)) t → IsSome (map.get self.now.records t)) }
     {
         match link.record_named() {
@@ -154,7 +154,7 @@ impl<K, D> Members<K, D> {
     }
 
     /// Returns whether the link names a record of this set.
-    pub fn leads_into(&self, link: &KeptLink) -> bool
+    pub fn leads_into(&self, link: &LinkBox) -> bool
         ensures { IsTrue result ↔ ((t : ℕ) × (named_by (use_of link.now) ≡ t ∷ []) × IsSome (map.get self.now.records t)) }
     {
         match link.record_named() {

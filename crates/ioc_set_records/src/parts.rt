@@ -4,9 +4,9 @@ ghost use Rattle.ioc_set_records.specs.Joined.{IsClosed};
 ghost use Rattle.ioc_set_records.specs.Linked.{links_in, AreParts};
 ghost use Rattle.ioc_set_records.specs.LoadedEdges.{AreEdges};
 
+use crate::links::add_links;
 use crate::loaded::Loaded;
 use ioc_graph::{Edge, are_below, parts_of_all};
-use crate::links::add_links;
 use ioc_names::RecordNo;
 use ioc_record::RecordKind;
 use std::alloc::{AllocError, Global};

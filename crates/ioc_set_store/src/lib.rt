@@ -2,12 +2,12 @@
 #![tactic(auto)]
 
 pub mod attached;
+pub mod event_buffers;
 pub mod live_puts;
 mod recount;
 pub mod set_store;
-pub mod workplace;
 
 pub use attached::Attached;
+pub use event_buffers::EventBuffers;
 pub use live_puts::LivePuts;
 pub use set_store::SetStore;
-pub use workplace::Workplace;

@@ -4,7 +4,7 @@ ghost use Rattle.std.specs.FinMap.{len};
 ghost use Rattle.std.specs.Vec.{vec_capacity};
 ghost use Rattle.ioc_notify.specs.Living.{is_live};
 ghost use Rattle.ioc_events.specs.Holding.{how_many, HoldersCounted};
-ghost use Rattle.ioc_events.specs.Told.{event_by};
+ghost use Rattle.ioc_events.specs.SetReply.{event_by};
 ghost use Rattle.ioc_set_store.specs.Resting.{resting};
 ghost use Rattle.ioc_set_store.specs.Puts.{no_puts, now_with, begun_with, AreNone, HasBegun, is_put_with_notification};
 ghost use Rattle.ioc_set_store.specs.Recounting.{begun_each, own_waiting, together, AreBegun, AreLive};
@@ -14,9 +14,9 @@ use crate::recount::{
     queue_own,
 };
 use ioc_events::SetEvent;
-use ioc_set_records::Members;
 use ioc_notify::{Live, NotifyId, Waiting};
 use ioc_record::RecordKind;
+use ioc_set_records::Members;
 use ioc_store::notifications::Notifications;
 use std::alloc::{AllocError, Global};
 use std::marker::Model;

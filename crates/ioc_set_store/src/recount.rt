@@ -4,9 +4,9 @@ ghost use Rattle.std.specs.FinMap.{entries};
 ghost use Rattle.std.specs.Vec.{vec_capacity};
 ghost use Rattle.ioc_set_store.specs.Recounting.{begun_each, gained_by, gained_each, lost_each, own_waiting};
 
-use ioc_set_records::Members;
 use ioc_notify::{Live, Waiting};
 use ioc_record::RecordKind;
+use ioc_set_records::Members;
 use ioc_store::notifications::Notifications;
 
 /// Begins those of these that aren't live yet.

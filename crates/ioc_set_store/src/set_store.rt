@@ -5,10 +5,10 @@ ghost use Rattle.std.specs.Vec.{vec_capacity};
 
 use crate::attached::Attached;
 use ioc_device::{Answer, Ask, Device};
-use ioc_set_records::{Change, Members};
 use ioc_names::RecordNo;
 use ioc_notify::{NotifyId, Waiting};
 use ioc_record::RecordKind;
+use ioc_set_records::{Change, Members};
 use ioc_store::{Call, EventStore, Frame, OutboxItem, Store};
 use std::alloc::{AllocError, Global};
 
@@ -121,8 +121,8 @@ impl<K: RecordKind + Drop, D: Device> Store for SetStore<K, D> {
         self.event.outbox.send(item);
     }
 
-    fn lose(&mut self) {
-        self.event.outbox.lose();
+    fn count_dropped(&mut self) {
+        self.event.outbox.count_dropped();
     }
 
     #[tactic(auto, unfolding(ioc_store::specs::World::taken_on))]

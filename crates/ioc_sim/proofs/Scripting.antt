@@ -10,7 +10,7 @@ use Rattle.ioc_store.specs.OneMapLaws.{device-set}
 use Rattle.ioc_device.specs.declared.Answer.{Answer}
 use Rattle.ioc_store.specs.declared.call.Call.{Call}
 use Rattle.ioc_store.specs.Given.{Given, Accords, with_device, DeviceGives, its_device, no_device, DevicesWork, no_call, and_then, Begins}
-use Rattle.ioc_sim.specs.Machine.{Machine, Told, queued_at, Queued, TakesAnswer, next_answer, times_asked, left_after, answers_from}
+use Rattle.ioc_sim.specs.Machine.{Machine, MachineReply, queued_at, Queued, TakesAnswer, next_answer, times_asked, left_after, answers_from}
 
 drop-drop1 : (n : ℕ) (answers : List Answer) → drop n (drop 1 answers) ≡ drop (suc n) answers
 drop-drop1 zero [] = refl
@@ -106,16 +106,16 @@ item_there (z ∷ zs) (suc n) x y within is same = item_there zs n x y (omega (a
 -- An answer is queued for the device at a place, if there is one.
 module _ {R : Type 0} (m : Machine R) (items : List (Option (List Answer))) (n place : ℕ) (answer : Answer) (same : place ≡ n) (queued : m.queued ≡ device_at items) where
   pub queue_there : (before after : List Answer) → place < length items → slice_get items place ≡ Some (Some before) → after ≡ before ++ answer ∷ []
-      → (let told : Told R = record { machine = record m { queued = device_at (set items place (Some after)) }; reply = Plain } in told ≡ queued_at m n answer (device_at items n))
+      → (let told : MachineReply R = record { machine = record m { queued = device_at (set items place (Some after)) }; reply = Plain } in told ≡ queued_at m n answer (device_at items n))
   queue_there before after within is longer =
       let own : device_at items n ≡ Some before = rw (← same, is) refl in
       let devices : device_at (set items place (Some after)) ≡ with_device m.queued n (before ++ answer ∷ []) =
       device-set items place after within ∙ ap (λ (d : Queued). with_device d place after) (sym queued) ∙ ap (λ (i : ℕ). with_device m.queued i after) same ∙ ap (with_device m.queued n) longer
       in
-      rw own (ap (λ (d : Queued). let told : Told R = record { machine = record m { queued = d }; reply = Plain } in told) devices)
+      rw own (ap (λ (d : Queued). let told : MachineReply R = record { machine = record m { queued = d }; reply = Plain } in told) devices)
 
   pub queue_none : slice_get items place ≡ Some Nothing_
-      → (let told : Told R = record { machine = record m { queued = device_at (set items place Nothing_) }; reply = Refused NoField } in told ≡ queued_at m n answer (device_at items n))
+      → (let told : MachineReply R = record { machine = record m { queued = device_at (set items place Nothing_) }; reply = Refused NoField } in told ≡ queued_at m n answer (device_at items n))
   queue_none is =
       let own : device_at items n ≡ Nothing_ = rw (← same, is) refl in
-      rw (own, set_same items place Nothing_ is) (ap (λ (d : Queued). let told : Told R = record { machine = record m { queued = d }; reply = Refused NoField } in told) (sym queued))
+      rw (own, set_same items place Nothing_ is) (ap (λ (d : Queued). let told : MachineReply R = record { machine = record m { queued = d }; reply = Refused NoField } in told) (sym queued))

@@ -9,7 +9,7 @@ use Rattle.std.proofs.lemmas.List.{nil_from_length}
 use Rattle.ioc_scan.specs.contracts.position.PositionOrd.TheImpl as order_of
 use Rattle.ioc_scan.specs.Standing.{standing}
 use Rattle.ioc_scan.specs.declared.list_name.ListName.TheVariants.{Start}
-use Rattle.ioc_scan.specs.declared.list_name.Place.{Place}
+use Rattle.ioc_scan.specs.declared.list_name.Placement.{Placement}
 use Rattle.ioc_scan.specs.declared.position.Position.{Position}
 use Rattle.ioc_scan.specs.declared.position.Listed.{Listed}
 use Rattle.ioc_scan.specs.Positions.{new_entry}
@@ -35,7 +35,7 @@ none_walked count =
     ap (λ (es : List (Position × Listed)). standing Start (entries (from_entries {R = order_of.ghosts.cmp} es))) (none_stand count 0)
     ∙ ap (standing Start) (none_entered {X = Listed} order_of.ghosts.cmp)
 
-unmoved : (s : Scanned) (n : ℕ) (place : Option Place) → is_some place ≡ false → added s n place ≡ s
+unmoved : (s : Scanned) (n : ℕ) (place : Option Placement) → is_some place ≡ false → added s n place ≡ s
 unmoved s n Nothing_ is = refl
 unmoved s n (Some place) is = absurd cc
 

@@ -5,7 +5,7 @@ use Rattle.std.specs.Prelude.{None as Nothing_}
 use Rattle.ioc_menus.specs.declared.pini.Pini.{Pini}
 use Rattle.ioc_menus.specs.declared.pini.Pini.TheVariants.{Yes, No}
 use Rattle.ioc_scan.specs.declared.list_name.ListName.TheVariants.{Start}
-use Rattle.ioc_scan.specs.declared.list_name.Place.{Place}
+use Rattle.ioc_scan.specs.declared.list_name.Placement.{Placement}
 use Rattle.ioc_scan.specs.declared.position.Listed.{Listed}
 use Rattle.ioc_scan.specs.Scanned.{Scanned, new_lists, placed}
 use Rattle.ioc_scan.specs.Walked.{walked}
@@ -17,18 +17,18 @@ use Rattle.ioc_sim.specs.declared.first_lists.Occasion.TheVariants.{Scanning as 
 use Rattle.ioc_sim.specs.Scanner.{place_by}
 
 -- The lists with record `n` added in its place, if it has one.
-abbrev pub added : Scanned → ℕ → Option Place → Scanned
+abbrev pub added : Scanned → ℕ → Option Placement → Scanned
 added s n Nothing_ = s
 added s n (Some place) = placed s n (Some place)
 
 -- The place of a record with this PINI on the list of those that are processed once at the start.
-abbrev pub start_place : Scanning → Pini → Option Place
+abbrev pub start_place : Scanning → Pini → Option Placement
 start_place s Yes = Some (record { list = Start; phase = s.phase; priority = s.priority })
 start_place s No = Nothing_
 
 module _ {R : Type 0} (k : RecordRules R) where
   -- The place of a record on a list for an occasion.
-  abbrev pub place_of : Occasion → R → Option Place
+  abbrev pub place_of : Occasion → R → Option Placement
   place_of When-scanned r = place_by (k.common r).scanning (device_of k r)
   place_of When-starting r = start_place (k.common r).scanning (k.common r).scanning.at_start
 

@@ -80,16 +80,16 @@ pub record Machine (R : Type 0) : Type 0 where
   pub ended : List ℕ
 
 -- The machine after a call, and the reply.
-pub record Told (R : Type 0) : Type 0 where
+pub record MachineReply (R : Type 0) : Type 0 where
   pub machine : Machine R
   pub reply : Reply
 
 -- A refusal, which changes nothing.
-abbrev pub refused : {R : Type 0} → Machine R → IocError → Told R
+abbrev pub refused : {R : Type 0} → Machine R → IocError → MachineReply R
 refused m e = record { machine = m; reply = Refused e }
 
 -- The machine with an answer queued for the device of record `n`, behind the answers that it has.
-abbrev pub queued_at : {R : Type 0} → Machine R → ℕ → Answer → Option (List Answer) → Told R
+abbrev pub queued_at : {R : Type 0} → Machine R → ℕ → Answer → Option (List Answer) → MachineReply R
 queued_at m n answer Nothing_ = refused m NoField
 queued_at m n answer (Some answers) = record { machine = record m { queued = with_device m.queued n (answers ++ answer ∷ []) }; reply = Plain }
 
@@ -114,7 +114,7 @@ abbrev pub with_none_ended : {R : Type 0} → Machine R → Machine R
 with_none_ended m = record m { ended = [] }
 
 -- The machine with the next number used up, unless the put with notification was refused.
-abbrev pub with_number : {R : Type 0} → Told R → Told R
+abbrev pub with_number : {R : Type 0} → MachineReply R → MachineReply R
 with_number told = record told { machine = record told.machine { next = if is_refusal told.reply then told.machine.next else more told.machine.next } }
 
 -- A machine, and a number that is returned to the caller.
@@ -137,7 +137,7 @@ module _ {R : Type 0} (k : RecordRules R) where
   first_queue r = if owns_device k r then Some [] else Nothing_
 
   -- An event, without what it sent.
-  unfoldable pub stepped_on : Machine R → Event → Told R
+  unfoldable pub stepped_on : Machine R → Event → MachineReply R
   stepped_on m event =
       let step = stepped k (answers_from m.queued) (begun m.world) event in
       record {
@@ -154,15 +154,15 @@ module _ {R : Type 0} (k : RecordRules R) where
       }
 
   -- An event, with what it sent.
-  abbrev pub done : Machine R → Event → Told R
+  abbrev pub done : Machine R → Event → MachineReply R
   done m event = let told = stepped_on m event in record { machine = with_sent told.machine; reply = told.reply }
 
   -- A put with notification, under the next number.
-  abbrev pub notified : Machine R → ℕ → FieldNo → Input → Told R
+  abbrev pub notified : Machine R → ℕ → FieldNo → Input → MachineReply R
   notified m n field given = with_number (done m (Notify n m.next field given))
 
   -- The cancel of a put with notification.
-  abbrev pub given_up : Machine R → ℕ → Told R
+  abbrev pub given_up : Machine R → ℕ → MachineReply R
   given_up m number = done m (Cancel number)
 
   -- Requests of these records, each in its own event.

@@ -7,7 +7,7 @@ use Rattle.ioc_callback.specs.declared.queues.Queues.{Queues}
 use Rattle.ioc_callback.specs.Serving.{callbacks, with_callback, with_once, with_dropped}
 use Rattle.ioc_scan.specs.declared.list_name.ListName.{ListName}
 use Rattle.ioc_scan.specs.declared.list_name.ListName.TheVariants.{Event, Interrupt}
-use Rattle.ioc_scan.specs.declared.list_name.Place.{Place}
+use Rattle.ioc_scan.specs.declared.list_name.Placement.{Placement}
 use Rattle.ioc_scan.specs.declared.position.Listed.{Listed}
 use Rattle.ioc_scan.specs.Places.{event_word, given_word}
 use Rattle.ioc_scan.specs.Lists.{list_of}
@@ -30,7 +30,7 @@ abbrev pub device_link : List ℕ → Option (List ℕ)
 device_link text = if length text == 0 then Nothing_ else Some text
 
 -- The place of a record by SCAN, PHAS, EVNT and PRIO, and the text of its device link.
-abbrev pub place_by : Scanning → List ℕ → Option Place
+abbrev pub place_by : Scanning → List ℕ → Option Placement
 place_by s device = option_map (λ list. record { list = list; phase = s.phase; priority = s.priority }) (list_of s.scan s.event (device_link device))
 
 -- Whether the callback queue of this record's priority has room. It holds 2,000 requests.

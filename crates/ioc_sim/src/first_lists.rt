@@ -9,11 +9,11 @@ use ioc_dbcommon::Scanning as ScanFields;
 use ioc_links::MAX_DEVICE_BYTES;
 use ioc_menus::{Pini, Scan};
 use ioc_names::RecordNo;
-use ioc_record::RecordKind;
-use ioc_scan::{ListName, Listed, Place, ScanLists};
 use ioc_process::scanning::device_of;
-use rec_types::Record;
+use ioc_record::RecordKind;
+use ioc_scan::{ListName, Listed, Placement, ScanLists};
 use ioc_values::Short;
+use rec_types::Record;
 use std::alloc::{AllocError, Global};
 
 /// The occasion on which the records of a list are processed.
@@ -27,7 +27,7 @@ pub enum Occasion {
 
 /// Returns the place on a scan list of a record with these fields and this text of its device link,
 /// which is empty if it has none.
-pub fn place_by(fields: &ScanFields, device: Short<MAX_DEVICE_BYTES>) -> Option<Place>
+pub fn place_by(fields: &ScanFields, device: Short<MAX_DEVICE_BYTES>) -> Option<Placement>
     ensures { result ≡ place_by fields.now device }
 {
     let device = if device.as_slice().is_empty() {
@@ -36,7 +36,7 @@ pub fn place_by(fields: &ScanFields, device: Short<MAX_DEVICE_BYTES>) -> Option<
         Some(device)
     };
     let list = ListName::of(fields.scan, fields.event, device)?;
-    Some(Place {
+    Some(Placement {
         list,
         phase: fields.phase,
         priority: fields.priority,
@@ -44,11 +44,11 @@ pub fn place_by(fields: &ScanFields, device: Short<MAX_DEVICE_BYTES>) -> Option<
 }
 
 // Returns the place of a record on the list of those that are processed once at the start.
-fn start_place(fields: &ScanFields) -> Option<Place>
+fn start_place(fields: &ScanFields) -> Option<Placement>
     ensures { result ≡ start_place fields.now fields.now.at_start }
 {
     match fields.at_start {
-        Pini::Yes => Some(Place {
+        Pini::Yes => Some(Placement {
             list: ListName::Start,
             phase: fields.phase,
             priority: fields.priority,
@@ -58,7 +58,7 @@ fn start_place(fields: &ScanFields) -> Option<Place>
 }
 
 // Returns the place of a record on a list for this occasion.
-fn place_of(item: &Record, occasion: Occasion) -> Option<Place>
+fn place_of(item: &Record, occasion: Occasion) -> Option<Placement>
     ensures { result ≡ place_of record_rules occasion item.now }
 {
     let fields = &item.common().scanning;

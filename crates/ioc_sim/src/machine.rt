@@ -16,7 +16,7 @@ use crate::leads::lead_among;
 use crate::scanner::Scanner;
 use crate::scripted::Scripted;
 use crate::settled::{event_keeps_count, event_leaves_settled};
-use ioc_dbcommon::{KeptLink, LinkField};
+use ioc_dbcommon::{LinkBox, LinkField};
 use ioc_dbfile::{Owners, owners_of, owns_device};
 use ioc_events::{
     Effect, Reply, make_request, make_spelled_put, run_cancel, run_complete, run_link, run_notify,
@@ -27,8 +27,8 @@ use ioc_links::Link;
 use ioc_names::{Names, RecordNo};
 use ioc_notify::NotifyId;
 use ioc_store::{EventStore, Frame, OneMap};
-use rec_types::Record;
 use ioc_values::{Finished, Input};
+use rec_types::Record;
 use std::alloc::{AllocError, Global};
 
 /// A database with devices whose answers are queued, the counts of requests, scan lists, and
@@ -44,7 +44,7 @@ pub struct Machine {
     pub(crate) owners: Owners,
     // The number of the next put with notification.
     pub(crate) next: u64,
-    // The puts with notification that have ended since this was last cleared. Room for all that can
+    // The puts with notification that have ended since this was last cleared. ByteBuffer for all that can
     // be live at once is reserved at the load.
     pub(crate) ended: Vec<NotifyId>,
     pub(crate) alloc: Global,
@@ -81,7 +81,7 @@ fn scanner_of(alloc: Global, records: &[Record]) -> Result<Scanner, AllocError>
 
 // Pairs a value with the value of a result. It is generic because dropping the parts of a machine
 // one by one is slow to prove.
-fn both<T: Drop, U>(first: T, second: Result<U, AllocError>) -> Result<(T, U), AllocError>
+fn with_first<T: Drop, U>(first: T, second: Result<U, AllocError>) -> Result<(T, U), AllocError>
     ensures { IfOk result (λ x. (x.0 ≡ first) × (second ≡ Ok x.1)) }
 {
     let second = second?;
@@ -103,7 +103,7 @@ fn map_of(
     let event = EventStore::new(alloc)?;
     let map = OneMap::new(records, devices, event);
     let room = map.frames(alloc);
-    both(map, room)
+    with_first(map, room)
 }
 
 impl Machine {
@@ -124,9 +124,9 @@ impl Machine {
         let ended = Vec::with_capacity(alloc, 256)?;
         let scanner = scanner_of(alloc, records.as_slice())?;
         let owners = owners_of(alloc, records.as_slice());
-        let places = both(scanner, owners)?;
+        let places = with_first(scanner, owners)?;
         let map = map_of(alloc, records);
-        let parts = both(places, map)?;
+        let parts = with_first(places, map)?;
         let ((scanner, owners), (map, frames)) = parts;
         Ok(Machine {
             map,
@@ -153,7 +153,7 @@ impl Machine {
         let starters = starters(alloc, records.as_slice())?;
         let mut machine = Machine::loaded(alloc, records)?;
         let requested = machine.request_each(starters.as_slice());
-        let parts = both(machine, requested)?;
+        let parts = with_first(machine, requested)?;
         Ok(parts.0)
     }
 
@@ -225,7 +225,7 @@ impl Machine {
     }
 
     // Changes a link, without taking what the event sends.
-    fn relink(&mut self, number: RecordNo, field: FieldNo, link: KeptLink) -> Reply
+    fn relink(&mut self, number: RecordNo, field: FieldNo, link: LinkBox) -> Reply
         ensures machine { machine_of self.new ≡ (stepped_on record_rules (machine_of self.old) (Link_event number field link)).machine }
         ensures reply { result ≡ (stepped_on record_rules (machine_of self.old) (Link_event number field link)).reply }
     {
@@ -377,7 +377,7 @@ impl Machine {
         ensures reply { IfOk result (λ reply. reply ≡ (done record_rules (machine_of self.old) (Link_event number field (field_of_link record_rules names.now (machine_of self.old).owner (machine_of self.old).world number link.now))).reply) }
     {
         let lead = lead_among(names, &self.map, &self.owners, number, link);
-        let kept = KeptLink::new(self.alloc, LinkField { link: *link, lead })?;
+        let kept = LinkBox::new(self.alloc, LinkField { link: *link, lead })?;
         let reply = self.relink(number, field, kept);
         self.send()?;
         Ok(reply)

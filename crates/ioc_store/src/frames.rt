@@ -9,7 +9,7 @@ use ioc_names::RecordNo;
 /// The point at which the body of a record resumes once the request that it made is done. There is
 /// one case for each way in which a body waits, with the requested record.
 #[derive(Clone, Copy, PartialEq, Eq, Debug)]
-pub enum Place {
+pub enum ResumePoint {
     /// The request of the record reads SDIS through this link.
     ReadingDisable(StandingLink),
     /// The body reads this link.
@@ -23,17 +23,17 @@ pub enum Place {
     Following(RecordNo),
 }
 
-impl Place {
+impl ResumePoint {
     /// Returns the requested record.
     #[inline(always)]
     pub fn requested(&self) -> RecordNo
         ensures { result ≡ requested_at self.now }
     {
         match self {
-            Place::ReadingDisable(target) | Place::Reading(target) => target.number,
-            Place::Writing(target)
-            | Place::FollowingEach(_, target, _)
-            | Place::Following(target) => *target,
+            ResumePoint::ReadingDisable(target) | ResumePoint::Reading(target) => target.number,
+            ResumePoint::Writing(target)
+            | ResumePoint::FollowingEach(_, target, _)
+            | ResumePoint::Following(target) => *target,
         }
     }
 }
@@ -42,7 +42,7 @@ impl Place {
 #[derive(Clone, Copy, PartialEq, Eq, Debug)]
 pub struct Frame {
     pub source: RecordNo,
-    pub place: Place,
+    pub place: ResumePoint,
 }
 
 /// What to do next after a record has begun or resumed.

@@ -150,7 +150,7 @@ impl Notifications {
         ensures ended { self.new.ended.items ≡ self.old.ended.items }
         ensures waiting { self.new.waiting ≡ self.old.waiting }
     {
-        self.live.gain(number);
+        self.live.add_holder(number);
     }
 
     /// Counts one record less that is part of this put with notification, which ends with the last
@@ -160,7 +160,7 @@ impl Notifications {
         ensures ended { self.new.ended.items ≡ if is_at_its_last number self.old.live.live then self.old.ended.items ++ number ∷ [] else self.old.ended.items }
         ensures waiting { self.new.waiting ≡ self.old.waiting }
     {
-        if self.live.lose(number) {
+        if self.live.remove_holder(number) {
             self.ended.push_reserved(number);
         }
     }

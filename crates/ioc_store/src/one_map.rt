@@ -164,8 +164,8 @@ impl<K: RecordKind, D: Device> Store for OneMap<K, D> {
         self.event.outbox.send(item);
     }
 
-    fn lose(&mut self) {
-        self.event.outbox.lose();
+    fn count_dropped(&mut self) {
+        self.event.outbox.remove_holder();
     }
 
     #[tactic(auto, unfolding(crate::specs::World::taken_on))]

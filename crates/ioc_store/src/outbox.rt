@@ -69,12 +69,12 @@ impl Outbox {
         if self.items.len() < 256 {
             self.items.push_reserved(item);
         } else {
-            self.lose();
+            self.remove_holder();
         }
     }
 
     /// Counts an item as dropped.
-    pub fn lose(&mut self)
+    pub fn count_dropped(&mut self)
         ensures items { items_of self.new ≡ items_of self.old }
         ensures dropped { self.new.dropped ≡ more self.old.dropped }
     {

@@ -60,7 +60,7 @@ pub trait Store {
         ensures given { given self.new ≡ given self.old };
 
     /// Counts an item as dropped.
-    fn lose(&mut self)
+    fn count_dropped(&mut self)
         ensures world { world self.new ≡ lost (world self.old) }
         ensures given { given self.new ≡ given self.old };
 

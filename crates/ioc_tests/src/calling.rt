@@ -5,12 +5,12 @@ use ioc_device::Device;
 use ioc_engine::Engine;
 use ioc_events::Reply;
 use ioc_fields::{CommonField, FieldNo, OwnField};
-use ioc_history::{Base, Desk, Receipt};
+use ioc_history::{Desk, EngineName, Receipt};
 use ioc_names::RecordNo;
 use ioc_notify::NotifyId;
 use ioc_record::RecordKind;
+use ioc_set_store::EventBuffers;
 use ioc_values::{Finished, Input, IocError, Value};
-use ioc_set_store::Workplace;
 use std::alloc::Global;
 use std::sync::Wait;
 
@@ -46,30 +46,30 @@ pub enum Call {
 /// The reply to a call, its place in the journal, and the number of records that it moved to other
 /// sets.
 #[derive(Clone, Copy)]
-pub struct Told {
+pub struct Answered {
     pub reply: Reply,
     pub place: u64,
     pub moved: usize,
 }
 
 /// Opens a desk of an engine, and creates buffers for its events.
-pub fn seat<K: RecordKind + Drop, B: Base<K>, D: Device, R: Wait>(
+pub fn seat<K: RecordKind + Drop, B: EngineName<K>, D: Device, R: Wait>(
     rt: &R,
     alloc: Global,
     engine: &Engine<K, B, D>,
-) -> Option<(Desk<K, B>, Workplace<K, D>)> {
+) -> Option<(Desk<K, B>, EventBuffers<K, D>)> {
     let Ok(desk) = engine.open_desk(rt) else {
         return None;
     };
-    let Ok(place) = Workplace::new(alloc) else {
+    let Ok(place) = EventBuffers::new(alloc) else {
         return None;
     };
     Some((desk, place))
 }
 
 // Returns the outcome of a call that moves no records.
-fn told_by<K: RecordKind, B: Base<K>>(reply: Reply, receipt: &Receipt<K, B>) -> Told {
-    Told {
+fn told_by<K: RecordKind, B: EngineName<K>>(reply: Reply, receipt: &Receipt<K, B>) -> Answered {
+    Answered {
         reply,
         place: receipt.place(),
         moved: 0,
@@ -77,16 +77,16 @@ fn told_by<K: RecordKind, B: Base<K>>(reply: Reply, receipt: &Receipt<K, B>) -> 
 }
 
 // Puts a text into a field.
-fn put<K: RecordKind + Drop, B: Base<K>, D: Device, R: Wait>(
+fn put<K: RecordKind + Drop, B: EngineName<K>, D: Device, R: Wait>(
     rt: &R,
     alloc: Global,
     engine: &Engine<K, B, D>,
     desk: &mut Desk<K, B>,
-    place: &mut Workplace<K, D>,
+    place: &mut EventBuffers<K, D>,
     number: usize,
     field: FieldNo,
     text: &[u8],
-) -> Result<Told, IocError> {
+) -> Result<Answered, IocError> {
     let given = Input::from_text(text);
     let (reply, receipt) = engine.put(
         rt,
@@ -102,43 +102,43 @@ fn put<K: RecordKind + Drop, B: Base<K>, D: Device, R: Wait>(
 }
 
 // Gets a field.
-fn get<K: RecordKind + Drop, B: Base<K>, D: Device, R: Wait>(
+fn get<K: RecordKind + Drop, B: EngineName<K>, D: Device, R: Wait>(
     rt: &R,
     alloc: Global,
     engine: &Engine<K, B, D>,
     desk: &mut Desk<K, B>,
     number: usize,
     field: FieldNo,
-) -> Result<Told, IocError> {
+) -> Result<Answered, IocError> {
     let (reply, receipt) = engine.get(rt, alloc, desk, RecordNo::new(number), field, 1)?;
     Ok(told_by(reply, &receipt))
 }
 
 // Requests a record.
-fn process<K: RecordKind + Drop, B: Base<K>, D: Device, R: Wait>(
+fn process<K: RecordKind + Drop, B: EngineName<K>, D: Device, R: Wait>(
     rt: &R,
     alloc: Global,
     engine: &Engine<K, B, D>,
     desk: &mut Desk<K, B>,
-    place: &mut Workplace<K, D>,
+    place: &mut EventBuffers<K, D>,
     number: usize,
-) -> Result<Told, IocError> {
+) -> Result<Answered, IocError> {
     let (reply, receipt) = engine.process(rt, alloc, desk, place, RecordNo::new(number), 1)?;
     Ok(told_by(reply, &receipt))
 }
 
 // Changes FLNK of a record.
-fn set_link<K: RecordKind + Drop, B: Base<K>, D: Device, R: Wait>(
+fn set_link<K: RecordKind + Drop, B: EngineName<K>, D: Device, R: Wait>(
     rt: &R,
     alloc: Global,
     engine: &Engine<K, B, D>,
     desk: &mut Desk<K, B>,
-    place: &mut Workplace<K, D>,
+    place: &mut EventBuffers<K, D>,
     number: usize,
     target: Option<usize>,
-) -> Result<Told, IocError> {
+) -> Result<Answered, IocError> {
     let link = link_to(alloc, target)?;
-    let twin = link.copy(alloc)?;
+    let base_link = link.copy(alloc)?;
     let changed = engine.set_link(
         rt,
         alloc,
@@ -147,10 +147,10 @@ fn set_link<K: RecordKind + Drop, B: Base<K>, D: Device, R: Wait>(
         RecordNo::new(number),
         FLNK,
         link,
-        twin,
+        base_link,
         1,
     )?;
-    Ok(Told {
+    Ok(Answered {
         reply: changed.reply,
         place: changed.receipt.place(),
         moved: changed.moved,
@@ -158,15 +158,15 @@ fn set_link<K: RecordKind + Drop, B: Base<K>, D: Device, R: Wait>(
 }
 
 // Puts a text into VAL, with notification.
-fn put_notify<K: RecordKind + Drop, B: Base<K>, D: Device, R: Wait>(
+fn put_notify<K: RecordKind + Drop, B: EngineName<K>, D: Device, R: Wait>(
     rt: &R,
     alloc: Global,
     engine: &Engine<K, B, D>,
     desk: &mut Desk<K, B>,
-    place: &mut Workplace<K, D>,
+    place: &mut EventBuffers<K, D>,
     number: usize,
     text: &[u8],
-) -> Result<Told, IocError> {
+) -> Result<Answered, IocError> {
     let given = Input::from_text(text);
     let (reply, receipt) = engine.put_notify(
         rt,
@@ -182,42 +182,42 @@ fn put_notify<K: RecordKind + Drop, B: Base<K>, D: Device, R: Wait>(
 }
 
 // Cancels a put with notification.
-fn cancel<K: RecordKind + Drop, B: Base<K>, D: Device, R: Wait>(
+fn cancel<K: RecordKind + Drop, B: EngineName<K>, D: Device, R: Wait>(
     rt: &R,
     alloc: Global,
     engine: &Engine<K, B, D>,
     desk: &mut Desk<K, B>,
-    place: &mut Workplace<K, D>,
+    place: &mut EventBuffers<K, D>,
     number: u64,
-) -> Result<Told, IocError> {
+) -> Result<Answered, IocError> {
     let number = NotifyId::new(number);
     let (reply, receipt) = engine.cancel(rt, alloc, desk, place, number, 1)?;
     Ok(told_by(reply, &receipt))
 }
 
 // Asks whether a put with notification is live.
-fn live<K: RecordKind + Drop, B: Base<K>, D: Device, R: Wait>(
+fn live<K: RecordKind + Drop, B: EngineName<K>, D: Device, R: Wait>(
     rt: &R,
     alloc: Global,
     engine: &Engine<K, B, D>,
     desk: &mut Desk<K, B>,
     number: u64,
-) -> Result<Told, IocError> {
+) -> Result<Answered, IocError> {
     let (reply, receipt) = engine.live(rt, alloc, desk, NotifyId::new(number), 1)?;
     Ok(told_by(reply, &receipt))
 }
 
 // Completes a record.
-fn complete<K: RecordKind + Drop, B: Base<K>, D: Device, R: Wait>(
+fn complete<K: RecordKind + Drop, B: EngineName<K>, D: Device, R: Wait>(
     rt: &R,
     alloc: Global,
     engine: &Engine<K, B, D>,
     desk: &mut Desk<K, B>,
-    place: &mut Workplace<K, D>,
+    place: &mut EventBuffers<K, D>,
     number: usize,
     wait: u64,
     value: i32,
-) -> Result<Told, IocError> {
+) -> Result<Answered, IocError> {
     let given = Finished::Done(Value::Long(value));
     let (reply, receipt) = engine.complete(
         rt,
@@ -233,14 +233,14 @@ fn complete<K: RecordKind + Drop, B: Base<K>, D: Device, R: Wait>(
 }
 
 /// Makes a call.
-pub fn make<K: RecordKind + Drop, B: Base<K>, D: Device, R: Wait>(
+pub fn make<K: RecordKind + Drop, B: EngineName<K>, D: Device, R: Wait>(
     rt: &R,
     alloc: Global,
     engine: &Engine<K, B, D>,
     desk: &mut Desk<K, B>,
-    place: &mut Workplace<K, D>,
+    place: &mut EventBuffers<K, D>,
     call: Call,
-) -> Result<Told, IocError> {
+) -> Result<Answered, IocError> {
     match call {
         Call::Put(number, field, text) => {
             put(rt, alloc, engine, desk, place, number, field, text)

@@ -5,7 +5,7 @@ ghost use Rattle.ioc_tests.specs.declared.numbers.Numbers.{Numbers};
 
 use crate::numbers::Numbers;
 use ioc_names::RecordNo;
-use ioc_topology::{Directory, Lent};
+use ioc_topology::{Directory, LinkSets};
 use ioc_values::IocError;
 use std::alloc::{AllocError, Global};
 use std::sync::Wait;
@@ -64,7 +64,7 @@ fn join_sets(
 }
 
 // Moves all records of the second set to the first.
-fn join_lent(lent: &mut Lent<Numbers, ()>) -> Result<(), AllocError> {
+fn join_lent(lent: &mut LinkSets<Numbers, ()>) -> Result<(), AllocError> {
     lent.first.list.append(&mut lent.second.list)
 }
 
@@ -87,7 +87,7 @@ fn part_set(
 }
 
 // Moves a record from the first set to the spare one.
-fn part_lent(lent: &mut Lent<Numbers, ()>, one: usize) -> Result<(), AllocError> {
+fn part_lent(lent: &mut LinkSets<Numbers, ()>, one: usize) -> Result<(), AllocError> {
     lent.spare.list.push(one)?;
     lent.first.list.retain(|number| *number != one);
     Ok(())

@@ -2,7 +2,7 @@
 use crate::calling::{Call, VAL, make, seat};
 use ioc_device::Device;
 use ioc_engine::Engine;
-use ioc_history::Base;
+use ioc_history::EngineName;
 use ioc_record::RecordKind;
 use std::alloc::{AllocError, Global};
 use std::fmt::Write;
@@ -40,7 +40,7 @@ fn call_of(seed: u64) -> Call {
 }
 
 // Makes the calls of one thread, and returns how many were answered.
-fn calls<K: RecordKind + Drop, B: Base<K>, D: Device, R: Wait>(
+fn calls<K: RecordKind + Drop, B: EngineName<K>, D: Device, R: Wait>(
     rt: &R,
     alloc: Global,
     engine: &Engine<K, B, D>,
@@ -63,7 +63,7 @@ fn calls<K: RecordKind + Drop, B: Base<K>, D: Device, R: Wait>(
 /// Makes the calls of eight threads, and returns how many were answered.
 pub fn eight<
     K: RecordKind + Drop + Send + Sync,
-    B: Base<K> + Send + Sync,
+    B: EngineName<K> + Send + Sync,
     D: Device + Send + Sync,
     R: Threads + Wait + Sync,
 >(rt: &R, alloc: Global, engine: &Engine<K, B, D>) -> usize {

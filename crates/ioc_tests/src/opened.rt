@@ -1,17 +1,17 @@
 //! The parts of engines: devices, records and links.
 ghost use Rattle.std.specs.Prelude.{◌≡◌, All, IfOk};
 
-use ioc_dbcommon::{FieldAddress, KeptLink, Lead, LinkField};
+use ioc_dbcommon::{FieldAddress, Lead, LinkBox, LinkField};
 use ioc_dbfile::{Database, load};
 use ioc_dblex::Macros;
-use ioc_set_records::Loaded;
 use ioc_device::{Answer, Device};
 use ioc_engine::with_copies;
 use ioc_fields::{FieldNo, OwnField};
 use ioc_links::{LinkKind, parse};
 use ioc_names::RecordNo;
-use rec_types::Record;
+use ioc_set_records::Loaded;
 use ioc_values::{IocError, Value};
+use rec_types::Record;
 use std::alloc::{AllocError, Global};
 use std::sync::Arc;
 use std::sync::atomic::{AtomicU64, Ordering};
@@ -84,16 +84,16 @@ pub fn loaded(
 }
 
 /// Returns a link to VAL of a record, or an empty one.
-pub fn link_to(alloc: Global, target: Option<usize>) -> Result<KeptLink, AllocError> {
+pub fn link_to(alloc: Global, target: Option<usize>) -> Result<LinkBox, AllocError> {
     let Some(target) = target else {
-        return Ok(KeptLink::empty());
+        return Ok(LinkBox::empty());
     };
     let Ok(link) = parse(LinkKind::NoDevice, b"next") else {
-        return Ok(KeptLink::empty());
+        return Ok(LinkBox::empty());
     };
     let lead = Lead::Field(FieldAddress {
         number: RecordNo::new(target),
         field: FieldNo::Own(OwnField::Val),
     });
-    KeptLink::new(alloc, LinkField { link, lead })
+    LinkBox::new(alloc, LinkField { link, lead })
 }

@@ -8,15 +8,14 @@ ghost use Rattle.ioc_engine.specs.Loading.{loaded_world, have_device};
 use crate::eight::eight;
 use crate::opened::{Sensor, loaded, seen};
 use crate::steps::{Step, follow};
-use ioc_set_records::Loaded;
 use ioc_device::Device;
 use ioc_engine::{Engine, new_cell, start};
-use ioc_history::{Base, Limits, PLACES};
-use ioc_history::{Cell, Token};
+use ioc_history::{Cell, EngineName, KeyPass, Limits, PLACES};
 use ioc_record::RecordKind;
+use ioc_set_records::Loaded;
 use ioc_topology::Locked;
-use rec_types::Record;
 use ioc_values::IocError;
+use rec_types::Record;
 use std::alloc::Global;
 use std::marker::Brand;
 use std::sync::Wait;
@@ -52,7 +51,7 @@ pub struct Ended {
 
 // Makes calls once the first flag is raised, then raises the second. Returns the number of calls
 // with the expected reply.
-fn follow_then<K: RecordKind + Drop, B: Base<K>, D: Device, R: Wait>(
+fn follow_then<K: RecordKind + Drop, B: EngineName<K>, D: Device, R: Wait>(
     rt: &R,
     alloc: Global,
     engine: &Engine<K, B, D>,
@@ -69,7 +68,7 @@ fn follow_then<K: RecordKind + Drop, B: Base<K>, D: Device, R: Wait>(
 // Returns the number of calls with the expected reply.
 fn done<
     K: RecordKind + Drop + Send + Sync,
-    B: Base<K> + Send + Sync,
+    B: EngineName<K> + Send + Sync,
     D: Device + Send + Sync,
     R: Threads + Wait + Sync,
 >(rt: &R, alloc: Global, engine: &Engine<K, B, D>, work: Work<'_>) -> usize {
@@ -93,7 +92,7 @@ fn done<
 }
 
 // Ends an engine, and returns the numbers of its sets and of their records.
-fn end<K: RecordKind + Drop, B: Base<K>, D: Device, R: Wait>(
+fn end<K: RecordKind + Drop, B: EngineName<K>, D: Device, R: Wait>(
     rt: &R,
     alloc: Global,
     engine: Engine<K, B, D>,
@@ -111,14 +110,14 @@ fn end<K: RecordKind + Drop, B: Base<K>, D: Device, R: Wait>(
 // Runs an engine of any name, and returns the result, or `None` if it can't be started.
 fn run<
     K: RecordKind + Drop + Send + Sync,
-    B: Base<K> + Send + Sync,
+    B: EngineName<K> + Send + Sync,
     D: Device + Send + Sync,
     R: Threads + Wait + Sync,
 >(
     rt: &R,
     alloc: Global,
     cell: Cell,
-    master: Token,
+    master: KeyPass,
     blank: Blank,
     tickets: Blank,
     all: Vec<Loaded<K, D>>,

@@ -1,14 +1,14 @@
 //! The calls of one desk as lists of steps, each with its expected result.
-use crate::calling::{Call, Told, make, seat};
+use crate::calling::{Answered, Call, make, seat};
 use ioc_device::Device;
 use ioc_engine::Engine;
 use ioc_events::Reply;
-use ioc_history::{Base, Desk};
+use ioc_history::{Desk, EngineName};
 use ioc_ledger::Outcome;
 use ioc_notify::NotifyId;
 use ioc_record::{FieldText, RecordKind};
+use ioc_set_store::EventBuffers;
 use ioc_values::IocError;
-use ioc_set_store::Workplace;
 use std::alloc::Global;
 use std::sync::Wait;
 
@@ -57,7 +57,7 @@ fn reply(says: Says) -> Reply {
 }
 
 // Returns whether the reply is the expected one.
-fn is_as_wanted(told: &Told, wanted: Wanted) -> bool {
+fn is_as_wanted(told: &Answered, wanted: Wanted) -> bool {
     match wanted {
         Wanted::Answered => true,
         Wanted::Says(says) => told.reply == reply(says),
@@ -68,7 +68,7 @@ fn is_as_wanted(told: &Told, wanted: Wanted) -> bool {
 }
 
 // Returns whether a call has the expected result.
-fn is_met(told: Result<Told, IocError>, wanted: Wanted) -> bool {
+fn is_met(told: Result<Answered, IocError>, wanted: Wanted) -> bool {
     match (told, wanted) {
         (Ok(told), wanted) => is_as_wanted(&told, wanted),
         (Err(error), Wanted::Fails(expected)) => error == expected,
@@ -77,7 +77,7 @@ fn is_met(told: Result<Told, IocError>, wanted: Wanted) -> bool {
 }
 
 // Returns whether an engine has this many parts, each of one record, in order.
-fn are_alone<K: RecordKind + Drop, B: Base<K>, D: Device, R: Wait>(
+fn are_alone<K: RecordKind + Drop, B: EngineName<K>, D: Device, R: Wait>(
     rt: &R,
     alloc: Global,
     engine: &Engine<K, B, D>,
@@ -96,12 +96,12 @@ fn are_alone<K: RecordKind + Drop, B: Base<K>, D: Device, R: Wait>(
 }
 
 // Carries out a step, and returns whether it has the expected result.
-fn holds<K: RecordKind + Drop, B: Base<K>, D: Device, R: Wait>(
+fn holds<K: RecordKind + Drop, B: EngineName<K>, D: Device, R: Wait>(
     rt: &R,
     alloc: Global,
     engine: &Engine<K, B, D>,
     desk: &mut Desk<K, B>,
-    place: &mut Workplace<K, D>,
+    place: &mut EventBuffers<K, D>,
     step: Step,
 ) -> bool {
     match step {
@@ -112,7 +112,7 @@ fn holds<K: RecordKind + Drop, B: Base<K>, D: Device, R: Wait>(
 
 /// Carries out steps with a desk of their own, up to the first with another result. Returns the
 /// number of steps with the expected result.
-pub fn follow<K: RecordKind + Drop, B: Base<K>, D: Device, R: Wait>(
+pub fn follow<K: RecordKind + Drop, B: EngineName<K>, D: Device, R: Wait>(
     rt: &R,
     alloc: Global,
     engine: &Engine<K, B, D>,

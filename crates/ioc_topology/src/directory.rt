@@ -21,7 +21,7 @@ const NOWHERE: u64 = u64::MAX;
 
 /// A cell with its key.
 #[derive(Drop)]
-pub struct Place<S: Locked> {
+pub struct KeyedCell<S: Locked> {
     pub(crate) key: usize,
     pub(crate) cell: Cell<S>,
 }
@@ -111,7 +111,7 @@ impl<S: Locked> Directory<S> {
         &self,
         rt: &impl Wait,
         number: RecordNo,
-    ) -> Result<Option<Place<S>>, IocError>
+    ) -> Result<Option<KeyedCell<S>>, IocError>
         ensures known { OnOk result (number < self.now) }
         ensures refused { IfErr result (IsRefused self.now number) }
     {
@@ -120,7 +120,7 @@ impl<S: Locked> Directory<S> {
         };
         let key = home.load(Ordering::SeqCst) as usize;
         match self.cell_at(rt, key) {
-            Some(cell) => Ok(Some(Place { key, cell })),
+            Some(cell) => Ok(Some(KeyedCell { key, cell })),
             None => Ok(None),
         }
     }

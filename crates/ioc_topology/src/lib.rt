@@ -8,14 +8,14 @@
 
 pub mod directory;
 mod gather;
-pub mod lent;
+pub mod link_cells;
+pub mod link_sets;
 pub mod locked;
-pub mod places;
 mod relink;
 pub mod taken;
 
-pub use directory::{Directory, Place};
-pub use lent::Lent;
+pub use directory::{Directory, KeyedCell};
+pub use link_cells::{LinkCells, NewCells, all_sound, are_lent};
+pub use link_sets::LinkSets;
 pub use locked::Locked;
-pub use places::{BothPlaces, NewPlaces, all_sound, are_lent};
 pub use taken::Taken;

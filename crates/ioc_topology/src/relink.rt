@@ -4,9 +4,9 @@ ghost use Rattle.std.specs.Fn.{FnOnceReturnsAtMut, FnOnceTakesAtMut};
 ghost use Rattle.ioc_topology.specs.Change.{AreKnown, AreLent, AreSound, LinkIsRefused};
 
 use crate::directory::Directory;
-use crate::lent::Lent;
+use crate::link_cells::{all_sound, are_lent};
+use crate::link_sets::LinkSets;
 use crate::locked::Locked;
-use crate::places::{all_sound, are_lent};
 use ioc_names::RecordNo;
 use ioc_values::IocError;
 use std::alloc::Global;
@@ -24,7 +24,7 @@ impl<S: Locked> Directory<S> {
     ///
     /// [`IocError::NoRecord`] if the directory was made for fewer records. [`IocError::NoMemory`]
     /// if allocation fails. Nothing has changed then.
-    pub fn relink<T, A: Drop, F: FnOnce(&mut Lent<S, A>) -> T, R: Wait>(
+    pub fn relink<T, A: Drop, F: FnOnce(&mut LinkSets<S, A>) -> T, R: Wait>(
         &self,
         rt: &R,
         alloc: Global,
@@ -33,19 +33,19 @@ impl<S: Locked> Directory<S> {
         along: A,
         work: F,
     ) -> (Result<T, IocError>, A)
-        requires { (l : Lent S A) → AreLent S.numbers number other l.first l.second l.spare → AreSound S.sound l.first l.second l.spare → l.along ≡ along → FnOnceTakesAtMut F.FnOnce work l }
-        ensures answer { IfOk result.0 (λ r. (l : Lent S A) × (m : Lent S A) × AreLent S.numbers number other l.first l.second l.spare × AreSound S.sound l.first l.second l.spare × (l.along ≡ along)
+        requires { (l : LinkSets S A) → AreLent S.numbers number other l.first l.second l.spare → AreSound S.sound l.first l.second l.spare → l.along ≡ along → FnOnceTakesAtMut F.FnOnce work l }
+        ensures answer { IfOk result.0 (λ r. (l : LinkSets S A) × (m : LinkSets S A) × AreLent S.numbers number other l.first l.second l.spare × AreSound S.sound l.first l.second l.spare × (l.along ≡ along)
             × FnOnceReturnsAtMut F.FnOnce work l r m × AreSound S.sound m.first m.second m.spare × (result.1 ≡ m.along)) }
         ensures known { OnOk result.0 (AreKnown self.now number other) }
         ensures refused { IfErr result.0 (LinkIsRefused self.now number other) }
         ensures kept { OnErr result.0 (result.1 ≡ along) }
     {
         let _guard = self.guard_topology(rt);
-        let Ok(new) = self.new_places(rt, alloc) else {
+        let Ok(new) = self.new_cells(rt, alloc) else {
             return (Err(IocError::NoMemory), along);
         };
         for _ in rt.forever() {
-            let both = match self.both_places(rt, &new, number, &other) {
+            let both = match self.link_cells(rt, &new, number, &other) {
                 Ok(Some(both)) => both,
                 Ok(None) => continue,
                 Err(refused) => {
@@ -69,7 +69,7 @@ impl<S: Locked> Directory<S> {
 }
 
 // Calls `work` with three sets and the value of the caller.
-fn lend<S: Locked, T, A: Drop, F: FnOnce(&mut Lent<S, A>) -> T>(
+fn lend<S: Locked, T, A: Drop, F: FnOnce(&mut LinkSets<S, A>) -> T>(
     first: &mut S,
     second: &mut S,
     spare: &mut S,
@@ -84,7 +84,7 @@ fn lend<S: Locked, T, A: Drop, F: FnOnce(&mut Lent<S, A>) -> T>(
         (record { first = first.new; second = second.new; spare = spare.new; along = result.1 }) }
 {
     all_sound(first, second, spare);
-    let mut lent = Lent {
+    let mut lent = LinkSets {
         first: mem::replace(first, S::empty(alloc)),
         second: mem::replace(second, S::empty(alloc)),
         spare: mem::replace(spare, S::empty(alloc)),

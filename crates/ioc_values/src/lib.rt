@@ -1,21 +1,21 @@
 //! Values of fields, their conversions, and the errors of the engine's calls.
 #![tactic(auto)]
 
+pub mod byte_buffer;
 pub mod conversion;
 pub mod error;
 pub mod input;
 pub mod kind;
 pub mod number;
-pub mod room;
 pub mod short;
 pub mod trim;
 pub mod value;
 
+pub use byte_buffer::ByteBuffer;
 pub use conversion::{convert, of_number};
 pub use error::{BadDbKind, DbFault, IocError};
 pub use input::{Input, convert_input, convert_text, spelled_number};
 pub use kind::{Kind, Range};
-pub use room::Room;
 pub use short::{
     FieldName, MAX_FIELD_NAME_BYTES, MAX_NAME_BYTES, MAX_TEXT_BYTES, Name, Short, Text,
 };

@@ -13,7 +13,7 @@ use Rattle.ioc_dbcommon.specs.declared.body.InputKind.TheVariants as input
 use Rattle.ioc_dbcommon.specs.declared.body.Output.TheVariants.{NoOutput}
 use Rattle.ioc_dbcommon.specs.Raw.{is_raw, raw_came, state_came, raw_constant, state_constant}
 use Rattle.ioc_dbcommon.specs.Source.{new_source, source_link, source_with_link, source_begin}
-use Rattle.ioc_record.specs.BodyRules.{BodyRules, Held}
+use Rattle.ioc_record.specs.BodyRules.{BodyRules, BodyState}
 use Rattle.rec_binary.specs.declared.bi.Bi.{Bi}
 use Rattle.rec_binary.specs.declared.two_state.TwoState.{TwoState}
 use Rattle.rec_binary.specs.TwoState.{new_two_state, two_state_get, two_state_stored, tested}
@@ -23,18 +23,18 @@ use Rattle.rec_binary.specs.TwoState.{new_two_state, two_state_get, two_state_st
 unfoldable pub new_bi : Bi
 new_bi = record { states = new_two_state; source = new_source }
 
-abbrev pub states_stored : Held Bi → OwnField → Value → Held Bi
+abbrev pub states_stored : BodyState Bi → OwnField → Value → BodyState Bi
 states_stored h field v = record h { body = record h.body { states = two_state_stored h.body.states field v } }
 
 -- The fields with a converted value stored. VAL clears UDF.
-unfoldable pub bi_stored : Held Bi → OwnField → Value → Held Bi
+unfoldable pub bi_stored : BodyState Bi → OwnField → Value → BodyState Bi
 bi_stored h Val v = let stored = states_stored h Val v in record stored { condition = record h.condition { undefined = 0 } }
 bi_stored h field v = states_stored h field v
 
 -- ---- The body
 
 -- The kind of the input: that of RVAL if the raw value is read, else that of VAL.
-unfoldable pub bi_kind : Held Bi → InputKind
+unfoldable pub bi_kind : BodyState Bi → InputKind
 bi_kind h = if is_raw h.body.source.input.link h.condition then input.Number range.ULong else input.Number range.UShort
 
 -- The bits of the number that are in MASK, if MASK isn't 0.
@@ -43,7 +43,7 @@ masked mask raw = if mask == 0 then raw else bit_and raw mask
 
 -- The fields with a value's masked bits in RVAL. VAL is 0 if these are 0 and else 1, and UDF is
 -- cleared.
-unfoldable pub raw_taken : Held Bi → ℕ → Held Bi
+unfoldable pub raw_taken : BodyState Bi → ℕ → BodyState Bi
 raw_taken h raw =
     let bits = masked h.body.states.mask raw in
     record {
@@ -52,35 +52,35 @@ raw_taken h raw =
     }
 
 -- The fields with a number stored in RVAL in this way, if there is one.
-abbrev pub raw_taken_if : Held Bi → Option ℕ → Held Bi
+abbrev pub raw_taken_if : BodyState Bi → Option ℕ → BodyState Bi
 raw_taken_if h None = h
 raw_taken_if h (Some raw) = raw_taken h raw
 
 -- The fields with a number stored in VAL and UDF cleared, if there is one.
-abbrev pub state_taken_if : Held Bi → Option ℕ → Held Bi
+abbrev pub state_taken_if : BodyState Bi → Option ℕ → BodyState Bi
 state_taken_if h None = h
 state_taken_if h (Some state) = record {
   body = record h.body { states = record h.body.states { value = state } };
   condition = record h.condition { undefined = 0 };
 }
 
-abbrev pub came : Held Bi → Got → Held Bi
+abbrev pub came : BodyState Bi → Got → BodyState Bi
 came h got =
     if is_raw h.body.source.input.link h.condition then raw_taken_if h (raw_came got h.body.states.raw)
     else state_taken_if h (state_came got h.body.states.value)
 
 -- The fields with the alarms of the states raised. A defined value above 1 isn't a state and has no
 -- alarm.
-abbrev pub states_tested : Held TwoState → Held TwoState
+abbrev pub states_tested : BodyState TwoState → BodyState TwoState
 states_tested h = if h.condition.undefined == 0 && nat_lt 1 h.body.value then h else tested h
 
 -- The fields of a bi with the alarms of the states raised.
-unfoldable pub bi_tested : Held Bi → Held Bi
+unfoldable pub bi_tested : BodyState Bi → BodyState Bi
 bi_tested h =
     let t = states_tested (record { body = h.body.states; condition = h.condition }) in
     record { body = record h.body { states = t.body }; condition = t.condition }
 
-unfoldable pub bi_taken : Held Bi → Got → Held Bi
+unfoldable pub bi_taken : BodyState Bi → Got → BodyState Bi
 bi_taken h got = bi_tested (came h got)
 
 -- ---- The load
@@ -91,20 +91,20 @@ bi_constant_kind Inp = Some (input.Number range.ULong)
 bi_constant_kind _ = None
 
 -- The fields with a constant put into RVAL, if it fits.
-abbrev pub raw_put : Held Bi → ℤ → Held Bi
+abbrev pub raw_put : BodyState Bi → ℤ → BodyState Bi
 raw_put h z = record h { body = record h.body { states = record h.body.states { raw = unwrap_or (raw_constant z) h.body.states.raw } } }
 
 -- The fields with a constant INP put. It goes into RVAL if the raw value is read, and UDF stays the
 -- same; otherwise it goes into VAL, which clears UDF, if it is at most 65535.
-abbrev pub constant_put : Held Bi → ℤ → Held Bi
+abbrev pub constant_put : BodyState Bi → ℤ → BodyState Bi
 constant_put h z = if is_raw h.body.source.input.link h.condition then raw_put h z else state_taken_if h (state_constant z)
 
-abbrev pub link_put : Held Bi → Link → Held Bi
+abbrev pub link_put : BodyState Bi → Link → BodyState Bi
 link_put h (Constant z) = constant_put h z
 link_put h _ = h
 
 -- The fields after the end of a load: a constant is put, and LALM becomes VAL.
-unfoldable pub bi_loaded : Held Bi → Held Bi
+unfoldable pub bi_loaded : BodyState Bi → BodyState Bi
 bi_loaded h =
     let c = link_put h h.body.source.input.link in
     record c { body = record c.body { states = record c.body.states { last_alarmed = c.body.states.value } } }

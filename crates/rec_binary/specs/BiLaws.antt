@@ -20,7 +20,7 @@ use Rattle.ioc_record.specs.Values.{field_sort, sort_in}
 use Rattle.ioc_dbcommon.specs.Parts.{severity_back}
 use Rattle.ioc_dbcommon.specs.Raw.{is_raw, raw_came, state_came, state_constant}
 use Rattle.ioc_dbcommon.specs.Source.{new_source, source_link, source_set_here, source_set_there, source_set_others, source_set_twice, source_begin_leads}
-use Rattle.ioc_record.specs.BodyRules.{Held}
+use Rattle.ioc_record.specs.BodyRules.{BodyState}
 use Rattle.ioc_record.specs.BodyLaws.{IsLawfulBody, IsNewBody}
 use Rattle.rec_binary.specs.declared.bi.Bi.{Bi}
 use Rattle.rec_binary.specs.TwoState.{new_two_state, two_state_get, two_state_stored}
@@ -28,38 +28,38 @@ use Rattle.rec_binary.specs.Bi.{bi, new_bi, bi_stored, raw_taken, raw_taken_if, 
 
 -- ---- Links: INP stays
 
-stored-source : (h : Held Bi) (f : OwnField) (v : Value) → (bi_stored h f v).body.source ≡ h.body.source
+stored-source : (h : BodyState Bi) (f : OwnField) (v : Value) → (bi_stored h f v).body.source ≡ h.body.source
 unfolding bi_stored
 stored-source h Val v = refl
 stored-source h _ v = refl
 
-either-source : (b : Bool) (x y : Held Bi) (s : Source) → x.body.source ≡ s → y.body.source ≡ s → (cond b x y).body.source ≡ s
+either-source : (b : Bool) (x y : BodyState Bi) (s : Source) → x.body.source ≡ s → y.body.source ≡ s → (cond b x y).body.source ≡ s
 either-source true x y s of_x of_y = of_x
 either-source false x y s of_x of_y = of_y
 
-raw_taken-source : (h : Held Bi) (o : Option ℕ) → (raw_taken_if h o).body.source ≡ h.body.source
+raw_taken-source : (h : BodyState Bi) (o : Option ℕ) → (raw_taken_if h o).body.source ≡ h.body.source
 unfolding raw_taken
 raw_taken-source h None = refl
 raw_taken-source h (Some raw) = refl
 
-state_taken-source : (h : Held Bi) (o : Option ℕ) → (state_taken_if h o).body.source ≡ h.body.source
+state_taken-source : (h : BodyState Bi) (o : Option ℕ) → (state_taken_if h o).body.source ≡ h.body.source
 state_taken-source h None = refl
 state_taken-source h (Some state) = refl
 
-taken-source : (h : Held Bi) (got : Got) → (bi_taken h got).body.source ≡ h.body.source
+taken-source : (h : BodyState Bi) (got : Got) → (bi_taken h got).body.source ≡ h.body.source
 unfolding bi_taken bi_tested
 taken-source h got =
     let raw = raw_came got h.body.states.raw in
     let state = state_came got h.body.states.value in
     either-source (is_raw h.body.source.input.link h.condition) (raw_taken_if h raw) (state_taken_if h state) h.body.source (raw_taken-source h raw) (state_taken-source h state)
 
-link_put-source : (h : Held Bi) (l : Link) → (link_put h l).body.source ≡ h.body.source
+link_put-source : (h : BodyState Bi) (l : Link) → (link_put h l).body.source ≡ h.body.source
 link_put-source h (Constant z) =
     let state = state_constant z in
     either-source (is_raw h.body.source.input.link h.condition) (raw_put h z) (state_taken_if h state) h.body.source refl (state_taken-source h state)
 link_put-source h _ = refl
 
-loaded-source : (h : Held Bi) → (bi_loaded h).body.source ≡ h.body.source
+loaded-source : (h : BodyState Bi) → (bi_loaded h).body.source ≡ h.body.source
 unfolding bi_loaded
 loaded-source h = link_put-source h h.body.source.input.link
 
@@ -75,7 +75,7 @@ missing-links _ = refl
 
 -- ---- Values
 
-reads_back : (h : Held Bi) (f : OwnField) (v : Value) → can_put Bi-type (Own f) ≡ true → IsValueOf (sort_in h.body.states.names (kind_of Bi-type (Own f))) v → two_state_get (bi_stored h f v).body.states f ≡ Some v
+reads_back : (h : BodyState Bi) (f : OwnField) (v : Value) → can_put Bi-type (Own f) ≡ true → IsValueOf (sort_in h.body.states.names (kind_of Bi-type (Own f))) v → two_state_get (bi_stored h f v).body.states f ≡ Some v
 unfolding row_of own_row bi_row two_state_row bi_stored two_state_get two_state_stored field_sort
 reads_back h Val v can is = rw is.1 refl
 reads_back h Rval v can is = rw is.1 refl

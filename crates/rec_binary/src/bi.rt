@@ -1,12 +1,12 @@
 //! The type bi.
 ghost use Rattle.std.specs.Prelude.{◌≡◌};
-ghost use Rattle.ioc_record.specs.BodyRules.{Held};
+ghost use Rattle.ioc_record.specs.BodyRules.{BodyState};
 ghost use Rattle.ioc_record.specs.BodyLaws.{IsNewBody};
 ghost use Rattle.rec_binary.specs.Bi.{bi, new_bi, raw_taken, bi_tested, constant_put, raw_taken_if, state_taken_if};
 
 use crate::two_state::TwoState;
 use ioc_dbcommon::{
-    Condition, Fresh, Got, InputKind, KeptLink, LinkUse, Need, Output, Source, raw_came,
+    Condition, Fresh, Got, InputKind, LinkBox, LinkUse, Need, Output, Source, raw_came,
     raw_constant, state_came, state_constant,
 };
 use ioc_fields::{OwnField, RecordType};
@@ -114,11 +114,11 @@ impl RecordBody for Bi {
         RecordType::Bi
     }
 
-    fn link(&self, field: OwnField) -> Option<&KeptLink> {
+    fn link(&self, field: OwnField) -> Option<&LinkBox> {
         self.source.link(field)
     }
 
-    fn set_link(&mut self, field: OwnField, link: KeptLink) {
+    fn set_link(&mut self, field: OwnField, link: LinkBox) {
         self.source.set_link(field, link);
     }
 

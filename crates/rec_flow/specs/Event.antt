@@ -8,7 +8,7 @@ use Rattle.ioc_dbcommon.specs.declared.body.Got.TheVariants as got
 use Rattle.ioc_dbcommon.specs.declared.body.Output.{Output}
 use Rattle.ioc_dbcommon.specs.declared.body.Output.TheVariants.{PostEvent}
 use Rattle.ioc_dbcommon.specs.Source.{source_link, source_with_link, source_begin}
-use Rattle.ioc_record.specs.BodyRules.{BodyRules, Held}
+use Rattle.ioc_record.specs.BodyRules.{BodyRules, BodyState}
 use Rattle.rec_text.specs.declared.text_input.TextInput.{TextInput}
 use Rattle.rec_text.specs.TextInput.{new_text_input, text_input_get, text_input_stored, text_constant_kind, constant_put}
 use Rattle.rec_flow.specs.declared.event.Event.{Event}
@@ -19,28 +19,28 @@ unfoldable pub new_event : Event
 new_event = record { text = new_text_input }
 
 -- The text input with the condition.
-abbrev pub inner : Held Event → Held TextInput
+abbrev pub inner : BodyState Event → BodyState TextInput
 inner h = record { body = h.body.text; condition = h.condition }
 
-abbrev pub outer : Held TextInput → Held Event
+abbrev pub outer : BodyState TextInput → BodyState Event
 outer h = record { body = record { text = h.body }; condition = h.condition }
 
 -- ---- The body
 
 -- The fields after the input. A text is stored in VAL, and UDF becomes 0, also without a text.
 -- After a fault everything stays the same.
-unfoldable pub event_taken : Held Event → Got → Held Event
+unfoldable pub event_taken : BodyState Event → Got → BodyState Event
 event_taken h (got.Value v) = outer (text_input_stored (inner h) Val v)
 event_taken h got.Nothing = record h { condition = record h.condition { undefined = 0 } }
 event_taken h got.Fault = h
 
 -- Posts the event that VAL names.
-unfoldable pub event_output : Held Event → Got → Output
+unfoldable pub event_output : BodyState Event → Got → Output
 event_output h got = PostEvent (event_taken h got).body.text.value
 
 -- ---- The load
 
-unfoldable pub event_loaded : Held Event → Held Event
+unfoldable pub event_loaded : BodyState Event → BodyState Event
 event_loaded h = outer (constant_put (inner h) h.body.text.source.input.link)
 
 -- ---- All of it

@@ -16,18 +16,18 @@ use Rattle.ioc_dbcommon.specs.declared.body.Got.TheVariants as got
 use Rattle.ioc_dbcommon.specs.Links.{no_link, use_of, named_by_field}
 use Rattle.ioc_record.specs.Values.{field_sort, sort_in}
 use Rattle.ioc_dbcommon.specs.Source.{new_source, source_link, source_set_here, source_set_there, source_set_others, source_set_twice, source_begin_leads}
-use Rattle.ioc_record.specs.BodyRules.{Held}
+use Rattle.ioc_record.specs.BodyRules.{BodyState}
 use Rattle.ioc_record.specs.BodyLaws.{IsLawfulBody, IsNewBody}
 use Rattle.rec_text.specs.TextInput.{new_text_input, text_input_get, text_input_stored, stored-source, put-source}
 use Rattle.rec_flow.specs.declared.event.Event.{Event}
 use Rattle.rec_flow.specs.Event.{event, new_event, inner, event_taken, event_output, event_loaded}
 
-taken-source : (h : Held Event) (got : Got) → (event_taken h got).body.text.source ≡ h.body.text.source
+taken-source : (h : BodyState Event) (got : Got) → (event_taken h got).body.text.source ≡ h.body.text.source
 unfolding event_taken
 taken-source h (got.Value v) = stored-source (inner h) Val v
 taken-source h _ = refl
 
-loaded-source : (h : Held Event) → (event_loaded h).body.text.source ≡ h.body.text.source
+loaded-source : (h : BodyState Event) → (event_loaded h).body.text.source ≡ h.body.text.source
 unfolding event_loaded
 loaded-source h = put-source (inner h) h.body.text.source.input.link
 
@@ -41,7 +41,7 @@ unfolding new_event new_text_input new_source use_of
 missing-links Inp = refl
 missing-links _ = refl
 
-reads_back : (h : Held Event) (f : OwnField) (v : Value) → can_put Event-type (Own f) ≡ true → IsValueOf (sort_in [] (kind_of Event-type (Own f))) v
+reads_back : (h : BodyState Event) (f : OwnField) (v : Value) → can_put Event-type (Own f) ≡ true → IsValueOf (sort_in [] (kind_of Event-type (Own f))) v
     → text_input_get (text_input_stored (inner h) f v).body f ≡ Some v
 unfolding row_of own_row text_input_row text_row text_input_get text_input_stored field_sort
 reads_back h Val v can is = rw is.1 refl

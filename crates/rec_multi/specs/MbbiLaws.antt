@@ -18,7 +18,7 @@ use Rattle.ioc_dbcommon.specs.Links.{no_link, use_of, named_by_field}
 use Rattle.ioc_record.specs.Values.{sort_in}
 use Rattle.ioc_dbcommon.specs.Raw.{is_raw, raw_came, state_came, state_constant}
 use Rattle.ioc_dbcommon.specs.Source.{new_source, source_link, source_set_here, source_set_there, source_set_others, source_set_twice, source_begin_leads}
-use Rattle.ioc_record.specs.BodyRules.{Held}
+use Rattle.ioc_record.specs.BodyRules.{BodyState}
 use Rattle.ioc_record.specs.BodyLaws.{IsLawfulBody, IsNewBody}
 use Rattle.ioc_record.specs.ByRow.{can_put_by, default_by}
 use Rattle.rec_multi.specs.MultiState.{new_multi_state, multi_get, multi_reads_back, multi_defaults, IsValueBy}
@@ -27,38 +27,38 @@ use Rattle.rec_multi.specs.declared.mbbi.Mbbi.{Mbbi}
 
 -- ---- Links: INP stays
 
-stored-source : (h : Held Mbbi) (f : OwnField) (v : Value) → (mbbi_stored h f v).body.source ≡ h.body.source
+stored-source : (h : BodyState Mbbi) (f : OwnField) (v : Value) → (mbbi_stored h f v).body.source ≡ h.body.source
 unfolding mbbi_stored
 stored-source h Val v = refl
 stored-source h _ v = refl
 
-either-source : (b : Bool) (x y : Held Mbbi) (s : Source) → x.body.source ≡ s → y.body.source ≡ s → (cond b x y).body.source ≡ s
+either-source : (b : Bool) (x y : BodyState Mbbi) (s : Source) → x.body.source ≡ s → y.body.source ≡ s → (cond b x y).body.source ≡ s
 either-source true x y s of_x of_y = of_x
 either-source false x y s of_x of_y = of_y
 
-raw_taken-source : (h : Held Mbbi) (o : Option ℕ) → (raw_taken_if h o).body.source ≡ h.body.source
+raw_taken-source : (h : BodyState Mbbi) (o : Option ℕ) → (raw_taken_if h o).body.source ≡ h.body.source
 unfolding raw_taken
 raw_taken-source h None = refl
 raw_taken-source h (Some raw) = refl
 
-state_taken-source : (h : Held Mbbi) (o : Option ℕ) → (state_taken_if h o).body.source ≡ h.body.source
+state_taken-source : (h : BodyState Mbbi) (o : Option ℕ) → (state_taken_if h o).body.source ≡ h.body.source
 state_taken-source h None = refl
 state_taken-source h (Some state) = refl
 
-taken-source : (h : Held Mbbi) (got : Got) → (mbbi_taken h got).body.source ≡ h.body.source
+taken-source : (h : BodyState Mbbi) (got : Got) → (mbbi_taken h got).body.source ≡ h.body.source
 unfolding mbbi_taken
 taken-source h got =
     let raw = raw_came got h.body.states.raw in
     let state = state_came got h.body.states.value in
     either-source (is_raw h.body.source.input.link h.condition) (raw_taken_if h raw) (state_taken_if h state) h.body.source (raw_taken-source h raw) (state_taken-source h state)
 
-link_put-source : (h : Held Mbbi) (l : Link) → (link_put h l).body.source ≡ h.body.source
+link_put-source : (h : BodyState Mbbi) (l : Link) → (link_put h l).body.source ≡ h.body.source
 link_put-source h (Constant z) =
     let state = state_constant z in
     either-source (is_raw h.body.source.input.link h.condition) (raw_put h z) (state_taken_if h state) h.body.source refl (state_taken-source h state)
 link_put-source h _ = refl
 
-loaded-source : (h : Held Mbbi) → (mbbi_loaded h).body.source ≡ h.body.source
+loaded-source : (h : BodyState Mbbi) → (mbbi_loaded h).body.source ≡ h.body.source
 unfolding mbbi_loaded
 loaded-source h = link_put-source (mask_made h) h.body.source.input.link
 
@@ -74,13 +74,13 @@ missing-links _ = refl
 
 -- ---- Values
 
-reads_back_by : (h : Held Mbbi) (texts : List (List ℕ)) (f : OwnField) (v : Value) → can_put_by (mbbi_row f) → IsValueBy texts (mbbi_row f) v → multi_get (mbbi_stored h f v).body.states f ≡ Some v
+reads_back_by : (h : BodyState Mbbi) (texts : List (List ℕ)) (f : OwnField) (v : Value) → can_put_by (mbbi_row f) → IsValueBy texts (mbbi_row f) v → multi_get (mbbi_stored h f v).body.states f ≡ Some v
 unfolding mbbi_row mbbi_stored
 reads_back_by h texts Inp v can is = cc
 reads_back_by h texts Val v can is = multi_reads_back h.body.states texts Val v can is
 reads_back_by h texts f v can is = multi_reads_back h.body.states texts f v can is
 
-reads_back : (h : Held Mbbi) (f : OwnField) (v : Value) → can_put Mbbi-type (Own f) ≡ true → IsValueOf (sort_in h.body.states.states.texts (kind_of Mbbi-type (Own f))) v → multi_get (mbbi_stored h f v).body.states f ≡ Some v
+reads_back : (h : BodyState Mbbi) (f : OwnField) (v : Value) → can_put Mbbi-type (Own f) ≡ true → IsValueOf (sort_in h.body.states.states.texts (kind_of Mbbi-type (Own f))) v → multi_get (mbbi_stored h f v).body.states f ≡ Some v
 unfolding row_of own_row
 reads_back h f v can is = reads_back_by h h.body.states.states.texts f v can is
 

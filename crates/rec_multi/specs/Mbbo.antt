@@ -19,7 +19,7 @@ use Rattle.ioc_dbcommon.specs.declared.body.Output.TheVariants.{NoOutput}
 use Rattle.ioc_dbcommon.specs.Parts.{ushort_in}
 use Rattle.ioc_dbcommon.specs.Raw.{is_raw}
 use Rattle.ioc_dbcommon.specs.Drive.{new_drive, drive_link, drive_with_link, drive_get, drive_stored, drive_begin, sets, drives, written}
-use Rattle.ioc_record.specs.BodyRules.{BodyRules, Held}
+use Rattle.ioc_record.specs.BodyRules.{BodyRules, BodyState}
 use Rattle.rec_multi.specs.Bits.{shifted_left}
 use Rattle.rec_multi.specs.States.{are_defined}
 use Rattle.rec_multi.specs.MultiState.{new_multi_state, multi_get, multi_stored, tested, masked}
@@ -38,7 +38,7 @@ mbbo_get b Ivoa = drive_get b.drive Ivoa
 mbbo_get b field = multi_get b.states field
 
 -- The fields with a converted value stored. VAL clears UDF.
-unfoldable pub mbbo_stored : Held Mbbo → OwnField → Value → Held Mbbo
+unfoldable pub mbbo_stored : BodyState Mbbo → OwnField → Value → BodyState Mbbo
 mbbo_stored h Val v = record { body = record h.body { states = multi_stored h.body.states Val v }; condition = record h.condition { undefined = 0 } }
 mbbo_stored h Ivov v = record h { body = record h.body { invalid_value = unwrap_or (ushort_in v) h.body.invalid_value } }
 mbbo_stored h Omsl v = record h { body = record h.body { drive = drive_stored h.body.drive Omsl v } }
@@ -72,35 +72,35 @@ converted b = shifted_if b (number_of b.states)
 
 -- The fields after the input. A value is stored in VAL, clears UDF, and is converted. Without a
 -- value a defined VAL is converted, and after a fault everything stays the same.
-abbrev pub came : Held Mbbo → Got → Held Mbbo
+abbrev pub came : BodyState Mbbo → Got → BodyState Mbbo
 came h (got.Value v) = record { body = converted (with_value h.body (unwrap_or (ushort_in v) h.body.states.value)); condition = record h.condition { undefined = 0 } }
 came h got.Nothing = if h.condition.undefined == 0 then record h { body = converted h.body } else h
 came h got.Fault = h
 
 -- The fields with the alarms of the states raised.
-abbrev pub alarmed : Held Mbbo → Held Mbbo
+abbrev pub alarmed : BodyState Mbbo → BodyState Mbbo
 alarmed h =
     let t = tested (record { body = h.body.states; condition = h.condition }) in
     record { body = record h.body { states = t.body }; condition = t.condition }
 
-unfoldable pub worked : Held Mbbo → Got → Held Mbbo
+unfoldable pub worked : BodyState Mbbo → Got → BodyState Mbbo
 worked h got = alarmed (came h got)
 
 -- The fields with VAL set to IVOV, if IVOA says so. It is converted whatever the input was.
-unfoldable pub settled : Held Mbbo → Held Mbbo
+unfoldable pub settled : BodyState Mbbo → BodyState Mbbo
 settled h = if sets h.body.drive.on_invalid h.condition then record h { body = converted (with_value h.body h.body.invalid_value) } else h
 
-unfoldable pub mbbo_taken : Held Mbbo → Got → Held Mbbo
+unfoldable pub mbbo_taken : BodyState Mbbo → Got → BodyState Mbbo
 mbbo_taken h got = settled (worked h got)
 
 -- The driven value: RVAL masked by MASK if the raw value is written, else VAL.
 unfoldable pub driven_value : Mbbo → Condition → Value
 driven_value b c = if is_raw b.drive.output.link c then value.ULong (bit_and b.states.raw b.states.mask) else value.UShort b.states.value
 
-abbrev pub driven : Held Mbbo → Output
+abbrev pub driven : BodyState Mbbo → Output
 driven h = if drives h.body.drive.on_invalid h.condition then written h.body.drive.output (driven_value h.body h.condition) else NoOutput
 
-unfoldable pub mbbo_output : Held Mbbo → Got → Output
+unfoldable pub mbbo_output : BodyState Mbbo → Got → Output
 mbbo_output h got = driven (mbbo_taken h got)
 
 -- ---- The load
@@ -111,20 +111,20 @@ mbbo_constant_kind Dol = Some mbbo_kind
 mbbo_constant_kind _ = None
 
 -- The fields with VAL set to a value, if there is one.
-abbrev pub value_if : Held Mbbo → Option Value → Held Mbbo
+abbrev pub value_if : BodyState Mbbo → Option Value → BodyState Mbbo
 value_if h None = h
 value_if h (Some v) = record { body = with_value h.body (unwrap_or (ushort_in v) h.body.states.value); condition = record h.condition { undefined = 0 } }
 
 -- The fields with a constant DOL put into VAL, which clears UDF.
-abbrev pub link_put : Held Mbbo → Link → Held Mbbo
+abbrev pub link_put : BodyState Mbbo → Link → BodyState Mbbo
 link_put h (Constant z) = value_if h (of_number (Numbers range.UShort) z)
 link_put h _ = h
 
-abbrev pub mask_made : Held Mbbo → Held Mbbo
+abbrev pub mask_made : BodyState Mbbo → BodyState Mbbo
 mask_made h = record h { body = record h.body { states = masked h.body.states } }
 
 -- The fields after the end of a load: MASK is set, a constant is put, and LALM becomes VAL.
-unfoldable pub mbbo_loaded : Held Mbbo → Held Mbbo
+unfoldable pub mbbo_loaded : BodyState Mbbo → BodyState Mbbo
 mbbo_loaded h =
     let c = link_put (mask_made h) h.body.drive.desired.link in
     record c { body = record c.body { states = record c.body.states { last_alarmed = c.body.states.value } } }

@@ -24,7 +24,7 @@ use Rattle.ioc_dbcommon.specs.declared.body.Output.TheVariants.{NoOutput, WriteL
 use Rattle.ioc_dbcommon.specs.Links.{no_link, use_of, named_by_field}
 use Rattle.ioc_record.specs.Values.{field_sort, sort_in}
 use Rattle.ioc_dbcommon.specs.Drive.{new_drive, drive_link, drive_with_link, drive_get, drive_stored, drives, sets, written, drive_stored-output, drive_stored-desired, omsl_reads_back, ivoa_reads_back, begin_leads, written_leads, drive_set_here, drive_set_there, drive_set_others, drive_set_twice, drive_set_values}
-use Rattle.ioc_record.specs.BodyRules.{Held}
+use Rattle.ioc_record.specs.BodyRules.{BodyState}
 use Rattle.ioc_record.specs.BodyLaws.{IsLawfulBody, IsNewBody}
 use Rattle.ioc_record.specs.ByRow.{can_put_by, default_by}
 use Rattle.rec_multi.specs.States.{states_get}
@@ -41,7 +41,7 @@ links d = drive_link d.output d.desired
 stored_drive-links : (d : Drive) (f : OwnField) (v : Value) → links (drive_stored d f v) ≡ links d
 stored_drive-links d f v = ap (λ l. drive_link l (drive_stored d f v).desired) (drive_stored-output d f v) ∙ ap (drive_link d.output) (drive_stored-desired d f v)
 
-stored-links : (h : Held Mbbo) (f : OwnField) (v : Value) → links (mbbo_stored h f v).body.drive ≡ links h.body.drive
+stored-links : (h : BodyState Mbbo) (f : OwnField) (v : Value) → links (mbbo_stored h f v).body.drive ≡ links h.body.drive
 unfolding mbbo_stored
 stored-links h Omsl v = stored_drive-links h.body.drive Omsl v
 stored-links h Ivoa v = stored_drive-links h.body.drive Ivoa v
@@ -55,36 +55,36 @@ converted-drive : (b : Mbbo) → (converted b).drive ≡ b.drive
 unfolding converted
 converted-drive b = shifted_if-drive b (number_of b.states)
 
-either-drive : (b : Bool) (x y : Held Mbbo) (d : Drive) → x.body.drive ≡ d → y.body.drive ≡ d → (cond b x y).body.drive ≡ d
+either-drive : (b : Bool) (x y : BodyState Mbbo) (d : Drive) → x.body.drive ≡ d → y.body.drive ≡ d → (cond b x y).body.drive ≡ d
 either-drive true x y d of_x of_y = of_x
 either-drive false x y d of_x of_y = of_y
 
-came-drive : (h : Held Mbbo) (got : Got) → (came h got).body.drive ≡ h.body.drive
+came-drive : (h : BodyState Mbbo) (got : Got) → (came h got).body.drive ≡ h.body.drive
 came-drive h (got.Value v) = converted-drive _
 came-drive h got.Nothing = either-drive (nat_eq h.condition.undefined 0) (record h { body = converted h.body }) h h.body.drive (converted-drive h.body) refl
 came-drive h got.Fault = refl
 
-worked-drive : (h : Held Mbbo) (got : Got) → (worked h got).body.drive ≡ h.body.drive
+worked-drive : (h : BodyState Mbbo) (got : Got) → (worked h got).body.drive ≡ h.body.drive
 unfolding worked
 worked-drive h got = came-drive h got
 
-settled-drive : (h : Held Mbbo) → (settled h).body.drive ≡ h.body.drive
+settled-drive : (h : BodyState Mbbo) → (settled h).body.drive ≡ h.body.drive
 unfolding settled
 settled-drive h = either-drive (sets h.body.drive.on_invalid h.condition) (record h { body = converted (with_value h.body h.body.invalid_value) }) h h.body.drive (converted-drive _) refl
 
-taken-drive : (h : Held Mbbo) (got : Got) → (mbbo_taken h got).body.drive ≡ h.body.drive
+taken-drive : (h : BodyState Mbbo) (got : Got) → (mbbo_taken h got).body.drive ≡ h.body.drive
 unfolding mbbo_taken
 taken-drive h got = settled-drive (worked h got) ∙ worked-drive h got
 
-value_if-drive : (h : Held Mbbo) (o : Option Value) → (value_if h o).body.drive ≡ h.body.drive
+value_if-drive : (h : BodyState Mbbo) (o : Option Value) → (value_if h o).body.drive ≡ h.body.drive
 value_if-drive h None = refl
 value_if-drive h (Some v) = refl
 
-put-drive : (h : Held Mbbo) (l : Link) → (link_put h l).body.drive ≡ h.body.drive
+put-drive : (h : BodyState Mbbo) (l : Link) → (link_put h l).body.drive ≡ h.body.drive
 put-drive h (Constant z) = value_if-drive h (of_number (Numbers range.UShort) z)
 put-drive h _ = refl
 
-loaded-drive : (h : Held Mbbo) → (mbbo_loaded h).body.drive ≡ h.body.drive
+loaded-drive : (h : BodyState Mbbo) → (mbbo_loaded h).body.drive ≡ h.body.drive
 unfolding mbbo_loaded
 loaded-drive h = put-drive (mask_made h) h.body.drive.desired.link
 
@@ -100,7 +100,7 @@ missing-links _ = refl
 
 -- ---- Values
 
-reads_back_by : (h : Held Mbbo) (texts : List (List ℕ)) (f : OwnField) (v : Value) → can_put_by (mbbo_row f) → IsValueBy texts (mbbo_row f) v → mbbo_get (mbbo_stored h f v).body f ≡ Some v
+reads_back_by : (h : BodyState Mbbo) (texts : List (List ℕ)) (f : OwnField) (v : Value) → can_put_by (mbbo_row f) → IsValueBy texts (mbbo_row f) v → mbbo_get (mbbo_stored h f v).body f ≡ Some v
 unfolding mbbo_row output_row mbbo_get mbbo_stored field_sort
 reads_back_by h texts Ivov v can is = rw is.1 refl
 reads_back_by h texts Omsl v can is = omsl_reads_back h.body.drive v is
@@ -109,7 +109,7 @@ reads_back_by h texts Out v can is = cc
 reads_back_by h texts Dol v can is = cc
 reads_back_by h texts f v can is = multi_reads_back h.body.states texts f v can is
 
-reads_back : (h : Held Mbbo) (f : OwnField) (v : Value) → can_put Mbbo-type (Own f) ≡ true → IsValueOf (sort_in h.body.states.states.texts (kind_of Mbbo-type (Own f))) v → mbbo_get (mbbo_stored h f v).body f ≡ Some v
+reads_back : (h : BodyState Mbbo) (f : OwnField) (v : Value) → can_put Mbbo-type (Own f) ≡ true → IsValueOf (sort_in h.body.states.states.texts (kind_of Mbbo-type (Own f))) v → mbbo_get (mbbo_stored h f v).body f ≡ Some v
 unfolding row_of own_row
 reads_back h f v can is = reads_back_by h h.body.states.states.texts f v can is
 
@@ -125,7 +125,7 @@ driven_leads : (b : Bool) (out : LinkField) (x v : Value) (t : StandingLink) →
 driven_leads true out x v t is = written_leads out x v t is
 driven_leads false out x v t is = cc
 
-output_leads : (h : Held Mbbo) (got : Got) (t : StandingLink) (v : Value) → mbbo_output h got ≡ WriteLink (Standing t) v → use_of h.body.drive.output ≡ Standing t
+output_leads : (h : BodyState Mbbo) (got : Got) (t : StandingLink) (v : Value) → mbbo_output h got ≡ WriteLink (Standing t) v → use_of h.body.drive.output ≡ Standing t
 unfolding mbbo_output
 output_leads h got t v is =
     let d = mbbo_taken h got in

@@ -18,7 +18,7 @@ use Rattle.ioc_fields.specs.Defaults.{zero_of}
 use Rattle.ioc_dbcommon.specs.Condition.{raised}
 use Rattle.ioc_record.specs.Values.{field_sort, sort_in}
 use Rattle.ioc_dbcommon.specs.Parts.{ulong_in, ushort_in, state_in, severity_in, severity_back}
-use Rattle.ioc_record.specs.BodyRules.{Held}
+use Rattle.ioc_record.specs.BodyRules.{BodyState}
 use Rattle.ioc_record.specs.ByRow.{can_put_by, default_by}
 use Rattle.rec_multi.specs.Bits.{made_mask}
 use Rattle.rec_multi.specs.States.{new_states, states_get, states_stored, severity_in_state, value_reads_back, text_reads_back, severity_reads_back, new_values, new_texts, new_severities}
@@ -64,14 +64,14 @@ unfoldable pub severity_of : MultiState → Severity
 severity_of t = severity_in_state t.states t.value t.unknown_severity
 
 -- The fields with COS raised, if the state has changed.
-unfoldable pub changed : Held MultiState → Held MultiState
+unfoldable pub changed : BodyState MultiState → BodyState MultiState
 changed h =
     if h.body.value == h.body.last_alarmed then h
     else record { body = record h.body { last_alarmed = h.body.value }; condition = raised status.Cos h.body.change_severity h.condition }
 
 -- The fields with the alarm of an undefined value raised, or else those of the state and of a
 -- change.
-unfoldable pub tested : Held MultiState → Held MultiState
+unfoldable pub tested : BodyState MultiState → BodyState MultiState
 tested h =
     if h.condition.undefined == 0 then changed (record h { condition = raised status.State (severity_of h.body) h.condition })
     else record h { condition = raised status.Udf h.condition.undefined_severity h.condition }

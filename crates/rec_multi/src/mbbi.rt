@@ -1,13 +1,13 @@
 //! The type mbbi.
 ghost use Rattle.std.specs.Prelude.{◌≡◌};
-ghost use Rattle.ioc_record.specs.BodyRules.{Held};
+ghost use Rattle.ioc_record.specs.BodyRules.{BodyState};
 ghost use Rattle.ioc_record.specs.BodyLaws.{IsNewBody};
 ghost use Rattle.rec_multi.specs.Mbbi.{mbbi, new_mbbi, state_of, raw_taken, constant_put, raw_taken_if, state_taken_if};
 
 use crate::bits::shifted_right;
 use crate::multi_state::MultiState;
 use ioc_dbcommon::{
-    Condition, Fresh, Got, InputKind, KeptLink, LinkUse, Need, Output, Source, raw_came,
+    Condition, Fresh, Got, InputKind, LinkBox, LinkUse, Need, Output, Source, raw_came,
     raw_constant, state_came, state_constant,
 };
 use ioc_fields::{OwnField, RecordType};
@@ -116,11 +116,11 @@ impl RecordBody for Mbbi {
         RecordType::Mbbi
     }
 
-    fn link(&self, field: OwnField) -> Option<&KeptLink> {
+    fn link(&self, field: OwnField) -> Option<&LinkBox> {
         self.source.link(field)
     }
 
-    fn set_link(&mut self, field: OwnField, link: KeptLink) {
+    fn set_link(&mut self, field: OwnField, link: LinkBox) {
         self.source.set_link(field, link);
     }
 

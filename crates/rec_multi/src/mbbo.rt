@@ -1,13 +1,13 @@
 //! The type mbbo.
 ghost use Rattle.std.specs.Prelude.{◌≡◌};
-ghost use Rattle.ioc_record.specs.BodyRules.{Held};
+ghost use Rattle.ioc_record.specs.BodyRules.{BodyState};
 ghost use Rattle.ioc_record.specs.BodyLaws.{IsNewBody};
 ghost use Rattle.rec_multi.specs.Mbbo.{mbbo, new_mbbo, number_of, converted, came, worked, driven_value};
 
 use crate::bits::shifted_left;
 use crate::multi_state::MultiState;
 use ioc_dbcommon::{
-    Condition, Drive, Fresh, Got, InputKind, KeptLink, LinkUse, Need, Output, ushort_in,
+    Condition, Drive, Fresh, Got, InputKind, LinkBox, LinkUse, Need, Output, ushort_in,
 };
 use ioc_fields::{OwnField, RecordType};
 use ioc_links::Link;
@@ -125,11 +125,11 @@ impl RecordBody for Mbbo {
         RecordType::Mbbo
     }
 
-    fn link(&self, field: OwnField) -> Option<&KeptLink> {
+    fn link(&self, field: OwnField) -> Option<&LinkBox> {
         self.drive.link(field)
     }
 
-    fn set_link(&mut self, field: OwnField, link: KeptLink) {
+    fn set_link(&mut self, field: OwnField, link: LinkBox) {
         self.drive.set_link(field, link);
     }
 

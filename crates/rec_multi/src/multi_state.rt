@@ -1,6 +1,6 @@
 //! The fields that mbbi and mbbo share, and their alarms.
 ghost use Rattle.std.specs.Prelude.{◌≡◌};
-ghost use Rattle.ioc_record.specs.BodyRules.{Held};
+ghost use Rattle.ioc_record.specs.BodyRules.{BodyState};
 ghost use Rattle.rec_multi.specs.MultiState.{new_multi_state, multi_get, multi_stored, severity_of, changed, tested, masked};
 
 use crate::bits::made_mask;

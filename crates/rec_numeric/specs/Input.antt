@@ -13,7 +13,7 @@ use Rattle.ioc_dbcommon.specs.declared.body.InputKind.{InputKind}
 use Rattle.ioc_dbcommon.specs.declared.body.InputKind.TheVariants as input
 use Rattle.ioc_dbcommon.specs.declared.body.Output.TheVariants.{NoOutput}
 use Rattle.ioc_dbcommon.specs.Source.{new_source, source_link, source_with_link, source_begin}
-use Rattle.ioc_record.specs.BodyRules.{BodyRules, Held}
+use Rattle.ioc_record.specs.BodyRules.{BodyRules, BodyState}
 use Rattle.rec_numeric.specs.Number.{NumberRules, long_number, int64_number}
 use Rattle.rec_numeric.specs.Numeric.{new_numeric, numeric_get, numeric_stored, tested}
 use Rattle.rec_numeric.specs.declared.input.NumericInput.{NumericInput}
@@ -23,29 +23,29 @@ use Rattle.rec_numeric.specs.declared.input.NumericInput.{NumericInput}
 unfoldable pub new_input : {N : Type 0} → NumberRules N → NumericInput N
 new_input k = record { numbers = new_numeric k; source = new_source }
 
-abbrev pub numbers_stored : {N : Type 0} → NumberRules N → Held (NumericInput N) → OwnField → Value → Held (NumericInput N)
+abbrev pub numbers_stored : {N : Type 0} → NumberRules N → BodyState (NumericInput N) → OwnField → Value → BodyState (NumericInput N)
 numbers_stored k h field v = record h { body = record h.body { numbers = numeric_stored k h.body.numbers field v } }
 
 -- The fields with a converted value stored. VAL clears UDF.
-unfoldable pub input_stored : {N : Type 0} → NumberRules N → Held (NumericInput N) → OwnField → Value → Held (NumericInput N)
+unfoldable pub input_stored : {N : Type 0} → NumberRules N → BodyState (NumericInput N) → OwnField → Value → BodyState (NumericInput N)
 input_stored k h Val v = let stored = numbers_stored k h Val v in record stored { condition = record h.condition { undefined = 0 } }
 input_stored k h field v = numbers_stored k h field v
 
 -- ---- The body
 
 -- The fields with the alarms of the number raised.
-abbrev pub alarmed : {N : Type 0} → (N → ℤ) → Held (NumericInput N) → Held (NumericInput N)
+abbrev pub alarmed : {N : Type 0} → (N → ℤ) → BodyState (NumericInput N) → BodyState (NumericInput N)
 alarmed whole h =
     let t = tested whole (record { body = h.body.numbers; condition = h.condition }) in
     record { body = record h.body { numbers = t.body }; condition = t.condition }
 
 -- The fields after the input. A value is stored in VAL and clears UDF; without a value, and after a
 -- fault, both stay the same.
-abbrev pub came : {N : Type 0} → NumberRules N → Held (NumericInput N) → Got → Held (NumericInput N)
+abbrev pub came : {N : Type 0} → NumberRules N → BodyState (NumericInput N) → Got → BodyState (NumericInput N)
 came k h (got.Value v) = input_stored k h Val v
 came k h _ = h
 
-unfoldable pub input_taken : {N : Type 0} → NumberRules N → (N → ℤ) → Held (NumericInput N) → Got → Held (NumericInput N)
+unfoldable pub input_taken : {N : Type 0} → NumberRules N → (N → ℤ) → BodyState (NumericInput N) → Got → BodyState (NumericInput N)
 input_taken k whole h got = alarmed whole (came k h got)
 
 -- ---- The load
@@ -56,20 +56,20 @@ input_constant_kind k Inp = Some (input.Number k.range)
 input_constant_kind k _ = None
 
 -- The fields with VAL set to a value, if there is one.
-abbrev pub stored_if : {N : Type 0} → NumberRules N → Held (NumericInput N) → Option Value → Held (NumericInput N)
+abbrev pub stored_if : {N : Type 0} → NumberRules N → BodyState (NumericInput N) → Option Value → BodyState (NumericInput N)
 stored_if k h None = h
 stored_if k h (Some v) = input_stored k h Val v
 
 -- The fields with a constant INP put into VAL.
-abbrev pub constant_put : {N : Type 0} → NumberRules N → Held (NumericInput N) → Link → Held (NumericInput N)
+abbrev pub constant_put : {N : Type 0} → NumberRules N → BodyState (NumericInput N) → Link → BodyState (NumericInput N)
 constant_put k h (Constant z) = stored_if k h (of_number (Numbers k.range) z)
 constant_put k h _ = h
 
 -- The fields with LALM set to VAL.
-abbrev pub settled : {N : Type 0} → Held (NumericInput N) → Held (NumericInput N)
+abbrev pub settled : {N : Type 0} → BodyState (NumericInput N) → BodyState (NumericInput N)
 settled h = record h { body = record h.body { numbers = record h.body.numbers { last_alarmed = h.body.numbers.value } } }
 
-unfoldable pub input_loaded : {N : Type 0} → NumberRules N → Held (NumericInput N) → Held (NumericInput N)
+unfoldable pub input_loaded : {N : Type 0} → NumberRules N → BodyState (NumericInput N) → BodyState (NumericInput N)
 input_loaded k h = settled (constant_put k h h.body.source.input.link)
 
 -- ---- All of it

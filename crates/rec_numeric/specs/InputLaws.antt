@@ -19,7 +19,7 @@ use Rattle.ioc_dbcommon.specs.declared.body.Got.TheVariants as got
 use Rattle.ioc_dbcommon.specs.Links.{no_link, use_of, named_by_field}
 use Rattle.ioc_record.specs.Values.{sort_in}
 use Rattle.ioc_dbcommon.specs.Source.{new_source, source_link, source_set_here, source_set_there, source_set_others, source_set_twice, source_begin_leads}
-use Rattle.ioc_record.specs.BodyRules.{Held}
+use Rattle.ioc_record.specs.BodyRules.{BodyState}
 use Rattle.ioc_record.specs.BodyLaws.{IsLawfulBody, IsNewBody}
 use Rattle.ioc_record.specs.ByRow.{can_put_by, default_by, is_link_by}
 use Rattle.rec_numeric.specs.Number.{NumberRules, long_number, int64_number}
@@ -36,28 +36,28 @@ links_by input range _ = refl
 
 module _ {N : Type 0} (k : NumberRules N) (whole : N → ℤ) (lawful : IsLawfulNumber k) where
   -- Neither the body nor a store changes INP.
-  stored-source : (h : Held (NumericInput N)) (f : OwnField) (v : Value) → (input_stored k h f v).body.source ≡ h.body.source
+  stored-source : (h : BodyState (NumericInput N)) (f : OwnField) (v : Value) → (input_stored k h f v).body.source ≡ h.body.source
   unfolding input_stored
   stored-source h Val v = refl
   stored-source h _ v = refl
 
-  came-source : (h : Held (NumericInput N)) (got : Got) → (came k h got).body.source ≡ h.body.source
+  came-source : (h : BodyState (NumericInput N)) (got : Got) → (came k h got).body.source ≡ h.body.source
   came-source h (got.Value v) = stored-source h Val v
   came-source h _ = refl
 
-  taken-source : (h : Held (NumericInput N)) (got : Got) → (input_taken k whole h got).body.source ≡ h.body.source
+  taken-source : (h : BodyState (NumericInput N)) (got : Got) → (input_taken k whole h got).body.source ≡ h.body.source
   unfolding input_taken
   taken-source h got = came-source h got
 
-  stored_if-source : (h : Held (NumericInput N)) (o : Option Value) → (stored_if k h o).body.source ≡ h.body.source
+  stored_if-source : (h : BodyState (NumericInput N)) (o : Option Value) → (stored_if k h o).body.source ≡ h.body.source
   stored_if-source h None = refl
   stored_if-source h (Some v) = stored-source h Val v
 
-  put-source : (h : Held (NumericInput N)) (l : Link) → (constant_put k h l).body.source ≡ h.body.source
+  put-source : (h : BodyState (NumericInput N)) (l : Link) → (constant_put k h l).body.source ≡ h.body.source
   put-source h (Constant z) = stored_if-source h (of_number (Numbers k.range) z)
   put-source h _ = refl
 
-  loaded-source : (h : Held (NumericInput N)) → (input_loaded k h).body.source ≡ h.body.source
+  loaded-source : (h : BodyState (NumericInput N)) → (input_loaded k h).body.source ≡ h.body.source
   unfolding input_loaded
   loaded-source h = put-source h h.body.source.input.link
 
@@ -70,13 +70,13 @@ module _ {N : Type 0} (k : NumberRules N) (whole : N → ℤ) (lawful : IsLawful
   missing-links Inp = refl
   missing-links _ = refl
 
-  reads_back_by : (h : Held (NumericInput N)) (f : OwnField) (v : Value) → can_put_by (numeric_input_row k.range f) → IsValueBy (numeric_input_row k.range f) v → numeric_get k (input_stored k h f v).body.numbers f ≡ Some v
+  reads_back_by : (h : BodyState (NumericInput N)) (f : OwnField) (v : Value) → can_put_by (numeric_input_row k.range f) → IsValueBy (numeric_input_row k.range f) v → numeric_get k (input_stored k h f v).body.numbers f ≡ Some v
   unfolding numeric_input_row input_stored
   reads_back_by h Inp v can is = cc
   reads_back_by h Val v can is = numeric_reads_back k lawful h.body.numbers Val v can is
   reads_back_by h f v can is = numeric_reads_back k lawful h.body.numbers f v can is
 
-  reads_back : (h : Held (NumericInput N)) (f : OwnField) (v : Value) → can_put k.input_type (Own f) ≡ true → IsValueOf (sort_in [] (kind_of k.input_type (Own f))) v → numeric_get k (input_stored k h f v).body.numbers f ≡ Some v
+  reads_back : (h : BodyState (NumericInput N)) (f : OwnField) (v : Value) → can_put k.input_type (Own f) ≡ true → IsValueOf (sort_in [] (kind_of k.input_type (Own f))) v → numeric_get k (input_stored k h f v).body.numbers f ≡ Some v
   unfolding row_of
   reads_back h f v can is = reads_back_by h f v (subst can_put_by (lawful.input_row f) can) (subst (λ r. IsValueBy r v) (lawful.input_row f) is)
 

@@ -14,7 +14,7 @@ use Rattle.ioc_dbcommon.specs.declared.body.InputKind.TheVariants as input
 use Rattle.ioc_dbcommon.specs.declared.body.Output.{Output}
 use Rattle.ioc_dbcommon.specs.declared.body.Output.TheVariants.{NoOutput}
 use Rattle.ioc_dbcommon.specs.Drive.{new_drive, drive_link, drive_with_link, drive_get, drive_stored, drive_begin, sets, drives, written}
-use Rattle.ioc_record.specs.BodyRules.{BodyRules, Held}
+use Rattle.ioc_record.specs.BodyRules.{BodyRules, BodyState}
 use Rattle.rec_numeric.specs.Number.{NumberRules, long_number, int64_number}
 use Rattle.rec_numeric.specs.Numeric.{new_numeric, numeric_get, numeric_stored, tested}
 use Rattle.rec_numeric.specs.declared.output.NumericOutput.{NumericOutput}
@@ -32,11 +32,11 @@ output_get k b Omsl = drive_get b.drive Omsl
 output_get k b Ivoa = drive_get b.drive Ivoa
 output_get k b field = numeric_get k b.numbers field
 
-abbrev pub numbers_stored : {N : Type 0} → NumberRules N → Held (NumericOutput N) → OwnField → Value → Held (NumericOutput N)
+abbrev pub numbers_stored : {N : Type 0} → NumberRules N → BodyState (NumericOutput N) → OwnField → Value → BodyState (NumericOutput N)
 numbers_stored k h field v = record h { body = record h.body { numbers = numeric_stored k h.body.numbers field v } }
 
 -- The fields with a converted value stored. VAL clears UDF.
-unfoldable pub output_stored : {N : Type 0} → NumberRules N → Held (NumericOutput N) → OwnField → Value → Held (NumericOutput N)
+unfoldable pub output_stored : {N : Type 0} → NumberRules N → BodyState (NumericOutput N) → OwnField → Value → BodyState (NumericOutput N)
 output_stored k h Val v = let stored = numbers_stored k h Val v in record stored { condition = record h.condition { undefined = 0 } }
 output_stored k h Drvh v = record h { body = record h.body { drive_high = unwrap_or (k.in_value v) h.body.drive_high } }
 output_stored k h Drvl v = record h { body = record h.body { drive_low = unwrap_or (k.in_value v) h.body.drive_low } }
@@ -60,41 +60,41 @@ unfoldable pub limited_value : {N : Type 0} → (N → ℤ) → NumericOutput N 
 limited_value whole b =
     if int_lt (whole b.drive_low) (whole b.drive_high) then within whole b.numbers.value b.drive_low b.drive_high else b.numbers.value
 
-abbrev pub limited : {N : Type 0} → (N → ℤ) → Held (NumericOutput N) → Held (NumericOutput N)
+abbrev pub limited : {N : Type 0} → (N → ℤ) → BodyState (NumericOutput N) → BodyState (NumericOutput N)
 limited whole h = record h { body = with_value h.body (limited_value whole h.body) }
 
 -- The fields with a value stored in VAL, which clears UDF.
-abbrev pub given : {N : Type 0} → NumberRules N → Held (NumericOutput N) → Value → Held (NumericOutput N)
+abbrev pub given : {N : Type 0} → NumberRules N → BodyState (NumericOutput N) → Value → BodyState (NumericOutput N)
 given k h v = record { body = with_value h.body (unwrap_or (k.in_value v) h.body.numbers.value); condition = record h.condition { undefined = 0 } }
 
 -- The fields after the input. A value is stored in VAL, which is kept within the drive limits, also
 -- without a value. After a fault everything stays the same.
-abbrev pub came : {N : Type 0} → NumberRules N → (N → ℤ) → Held (NumericOutput N) → Got → Held (NumericOutput N)
+abbrev pub came : {N : Type 0} → NumberRules N → (N → ℤ) → BodyState (NumericOutput N) → Got → BodyState (NumericOutput N)
 came k whole h (got.Value v) = limited whole (given k h v)
 came k whole h got.Nothing = limited whole h
 came k whole h got.Fault = h
 
 -- The fields with the alarms of the number raised.
-abbrev pub alarmed : {N : Type 0} → (N → ℤ) → Held (NumericOutput N) → Held (NumericOutput N)
+abbrev pub alarmed : {N : Type 0} → (N → ℤ) → BodyState (NumericOutput N) → BodyState (NumericOutput N)
 alarmed whole h =
     let t = tested whole (record { body = h.body.numbers; condition = h.condition }) in
     record { body = record h.body { numbers = t.body }; condition = t.condition }
 
-unfoldable pub worked : {N : Type 0} → NumberRules N → (N → ℤ) → Held (NumericOutput N) → Got → Held (NumericOutput N)
+unfoldable pub worked : {N : Type 0} → NumberRules N → (N → ℤ) → BodyState (NumericOutput N) → Got → BodyState (NumericOutput N)
 worked k whole h got = alarmed whole (came k whole h got)
 
 -- The fields with VAL set to IVOV, unlimited, if IVOA says so.
-unfoldable pub settled : {N : Type 0} → Held (NumericOutput N) → Held (NumericOutput N)
+unfoldable pub settled : {N : Type 0} → BodyState (NumericOutput N) → BodyState (NumericOutput N)
 settled h = if sets h.body.drive.on_invalid h.condition then record h { body = with_value h.body h.body.invalid_value } else h
 
-unfoldable pub output_taken : {N : Type 0} → NumberRules N → (N → ℤ) → Held (NumericOutput N) → Got → Held (NumericOutput N)
+unfoldable pub output_taken : {N : Type 0} → NumberRules N → (N → ℤ) → BodyState (NumericOutput N) → Got → BodyState (NumericOutput N)
 output_taken k whole h got = settled (worked k whole h got)
 
 -- The output of VAL, unless IVOA says that nothing is driven.
-abbrev pub driven : {N : Type 0} → NumberRules N → Held (NumericOutput N) → Output
+abbrev pub driven : {N : Type 0} → NumberRules N → BodyState (NumericOutput N) → Output
 driven k h = if drives h.body.drive.on_invalid h.condition then written h.body.drive.output (k.value h.body.numbers.value) else NoOutput
 
-unfoldable pub output_driven : {N : Type 0} → NumberRules N → (N → ℤ) → Held (NumericOutput N) → Got → Output
+unfoldable pub output_driven : {N : Type 0} → NumberRules N → (N → ℤ) → BodyState (NumericOutput N) → Got → Output
 output_driven k whole h got = driven k (output_taken k whole h got)
 
 -- ---- The load
@@ -105,20 +105,20 @@ output_constant_kind k Dol = Some (input.Number k.range)
 output_constant_kind k _ = None
 
 -- The fields with VAL set to a value, if there is one.
-abbrev pub stored_if : {N : Type 0} → NumberRules N → Held (NumericOutput N) → Option Value → Held (NumericOutput N)
+abbrev pub stored_if : {N : Type 0} → NumberRules N → BodyState (NumericOutput N) → Option Value → BodyState (NumericOutput N)
 stored_if k h None = h
 stored_if k h (Some v) = output_stored k h Val v
 
 -- The fields with a constant DOL put into VAL.
-abbrev pub constant_put : {N : Type 0} → NumberRules N → Held (NumericOutput N) → Link → Held (NumericOutput N)
+abbrev pub constant_put : {N : Type 0} → NumberRules N → BodyState (NumericOutput N) → Link → BodyState (NumericOutput N)
 constant_put k h (Constant z) = stored_if k h (of_number (Numbers k.range) z)
 constant_put k h _ = h
 
 -- The fields with LALM set to VAL.
-abbrev pub last_alarmed : {N : Type 0} → Held (NumericOutput N) → Held (NumericOutput N)
+abbrev pub last_alarmed : {N : Type 0} → BodyState (NumericOutput N) → BodyState (NumericOutput N)
 last_alarmed h = record h { body = record h.body { numbers = record h.body.numbers { last_alarmed = h.body.numbers.value } } }
 
-unfoldable pub output_loaded : {N : Type 0} → NumberRules N → Held (NumericOutput N) → Held (NumericOutput N)
+unfoldable pub output_loaded : {N : Type 0} → NumberRules N → BodyState (NumericOutput N) → BodyState (NumericOutput N)
 output_loaded k h = last_alarmed (constant_put k h h.body.drive.desired.link)
 
 -- ---- All of it

@@ -23,7 +23,7 @@ use Rattle.ioc_dbcommon.specs.declared.body.Output.TheVariants.{NoOutput, WriteL
 use Rattle.ioc_dbcommon.specs.Links.{no_link, use_of, named_by_field}
 use Rattle.ioc_record.specs.Values.{field_sort, sort_in}
 use Rattle.ioc_dbcommon.specs.Drive.{new_drive, drive_link, drive_with_link, drive_get, drive_stored, drives, sets, written, drive_stored-output, drive_stored-desired, omsl_reads_back, ivoa_reads_back, begin_leads, written_leads, drive_set_here, drive_set_there, drive_set_others, drive_set_twice, drive_set_values}
-use Rattle.ioc_record.specs.BodyRules.{Held}
+use Rattle.ioc_record.specs.BodyRules.{BodyState}
 use Rattle.ioc_record.specs.BodyLaws.{IsLawfulBody, IsNewBody}
 use Rattle.ioc_record.specs.ByRow.{can_put_by, default_by, is_link_by}
 use Rattle.rec_numeric.specs.Number.{NumberRules, long_number, int64_number}
@@ -47,39 +47,39 @@ stored_drive-links d f v = ap (λ l. drive_link l (drive_stored d f v).desired) 
 
 module _ {N : Type 0} (k : NumberRules N) (whole : N → ℤ) (lawful : IsLawfulNumber k) where
   -- Neither the body nor a store changes the links.
-  stored-links : (h : Held (NumericOutput N)) (f : OwnField) (v : Value) → links (output_stored k h f v).body.drive ≡ links h.body.drive
+  stored-links : (h : BodyState (NumericOutput N)) (f : OwnField) (v : Value) → links (output_stored k h f v).body.drive ≡ links h.body.drive
   unfolding output_stored
   stored-links h Omsl v = stored_drive-links h.body.drive Omsl v
   stored-links h Ivoa v = stored_drive-links h.body.drive Ivoa v
   stored-links h _ v = refl
 
-  worked-drive : (h : Held (NumericOutput N)) (got : Got) → (worked k whole h got).body.drive ≡ h.body.drive
+  worked-drive : (h : BodyState (NumericOutput N)) (got : Got) → (worked k whole h got).body.drive ≡ h.body.drive
   unfolding worked
   worked-drive h (got.Value v) = refl
   worked-drive h _ = refl
 
-  either-drive : (b : Bool) (x y : Held (NumericOutput N)) (d : Drive) → x.body.drive ≡ d → y.body.drive ≡ d → (cond b x y).body.drive ≡ d
+  either-drive : (b : Bool) (x y : BodyState (NumericOutput N)) (d : Drive) → x.body.drive ≡ d → y.body.drive ≡ d → (cond b x y).body.drive ≡ d
   either-drive true x y d of_x of_y = of_x
   either-drive false x y d of_x of_y = of_y
 
-  settled-drive : (h : Held (NumericOutput N)) → (settled h).body.drive ≡ h.body.drive
+  settled-drive : (h : BodyState (NumericOutput N)) → (settled h).body.drive ≡ h.body.drive
   unfolding settled
   settled-drive h = either-drive (sets h.body.drive.on_invalid h.condition) (record h { body = with_value h.body h.body.invalid_value }) h h.body.drive refl refl
 
-  taken-drive : (h : Held (NumericOutput N)) (got : Got) → (output_taken k whole h got).body.drive ≡ h.body.drive
+  taken-drive : (h : BodyState (NumericOutput N)) (got : Got) → (output_taken k whole h got).body.drive ≡ h.body.drive
   unfolding output_taken
   taken-drive h got = settled-drive (worked k whole h got) ∙ worked-drive h got
 
-  stored_if-drive : (h : Held (NumericOutput N)) (o : Option Value) → (stored_if k h o).body.drive ≡ h.body.drive
+  stored_if-drive : (h : BodyState (NumericOutput N)) (o : Option Value) → (stored_if k h o).body.drive ≡ h.body.drive
   unfolding output_stored
   stored_if-drive h None = refl
   stored_if-drive h (Some v) = refl
 
-  put-drive : (h : Held (NumericOutput N)) (l : Link) → (constant_put k h l).body.drive ≡ h.body.drive
+  put-drive : (h : BodyState (NumericOutput N)) (l : Link) → (constant_put k h l).body.drive ≡ h.body.drive
   put-drive h (Constant z) = stored_if-drive h (of_number (Numbers k.range) z)
   put-drive h _ = refl
 
-  loaded-drive : (h : Held (NumericOutput N)) → (output_loaded k h).body.drive ≡ h.body.drive
+  loaded-drive : (h : BodyState (NumericOutput N)) → (output_loaded k h).body.drive ≡ h.body.drive
   unfolding output_loaded
   loaded-drive h = put-drive h h.body.drive.desired.link
 
@@ -93,7 +93,7 @@ module _ {N : Type 0} (k : NumberRules N) (whole : N → ℤ) (lawful : IsLawful
   missing-links _ = refl
 
   -- A value that is put reads back.
-  reads_back_by : (h : Held (NumericOutput N)) (f : OwnField) (v : Value) → can_put_by (numeric_output_row k.range f) → IsValueBy (numeric_output_row k.range f) v → output_get k (output_stored k h f v).body f ≡ Some v
+  reads_back_by : (h : BodyState (NumericOutput N)) (f : OwnField) (v : Value) → can_put_by (numeric_output_row k.range f) → IsValueBy (numeric_output_row k.range f) v → output_get k (output_stored k h f v).body f ≡ Some v
   unfolding numeric_output_row output_row output_get output_stored field_sort
   reads_back_by h Drvh v can is = number_shown k lawful v h.body.drive_high is
   reads_back_by h Drvl v can is = number_shown k lawful v h.body.drive_low is
@@ -104,7 +104,7 @@ module _ {N : Type 0} (k : NumberRules N) (whole : N → ℤ) (lawful : IsLawful
   reads_back_by h Dol v can is = cc
   reads_back_by h f v can is = numeric_reads_back k lawful h.body.numbers f v can is
 
-  reads_back : (h : Held (NumericOutput N)) (f : OwnField) (v : Value) → can_put k.output_type (Own f) ≡ true → IsValueOf (sort_in [] (kind_of k.output_type (Own f))) v → output_get k (output_stored k h f v).body f ≡ Some v
+  reads_back : (h : BodyState (NumericOutput N)) (f : OwnField) (v : Value) → can_put k.output_type (Own f) ≡ true → IsValueOf (sort_in [] (kind_of k.output_type (Own f))) v → output_get k (output_stored k h f v).body f ≡ Some v
   unfolding row_of
   reads_back h f v can is = reads_back_by h f v (subst can_put_by (lawful.output_row f) can) (subst (λ r. IsValueBy r v) (lawful.output_row f) is)
 
@@ -119,7 +119,7 @@ module _ {N : Type 0} (k : NumberRules N) (whole : N → ℤ) (lawful : IsLawful
   driven_leads true out x v t is = written_leads out x v t is
   driven_leads false out x v t is = cc
 
-  output_leads : (h : Held (NumericOutput N)) (got : Got) (t : StandingLink) (v : Value) → output_driven k whole h got ≡ WriteLink (Standing t) v → use_of h.body.drive.output ≡ Standing t
+  output_leads : (h : BodyState (NumericOutput N)) (got : Got) (t : StandingLink) (v : Value) → output_driven k whole h got ≡ WriteLink (Standing t) v → use_of h.body.drive.output ≡ Standing t
   unfolding output_driven
   output_leads h got t v is =
       let d = output_taken k whole h got in

@@ -7,7 +7,7 @@ ghost use Rattle.rec_numeric.specs.Input.{numeric_input, new_input};
 
 use crate::number::Number;
 use crate::numeric::Numeric;
-use ioc_dbcommon::{Condition, Fresh, Got, InputKind, KeptLink, LinkUse, Need, Output, Source};
+use ioc_dbcommon::{Condition, Fresh, Got, InputKind, LinkBox, LinkUse, Need, Output, Source};
 use ioc_fields::{OwnField, RecordType};
 use ioc_links::Link;
 use ioc_record::RecordBody;
@@ -89,11 +89,11 @@ impl<N: Number> RecordBody for NumericInput<N> {
         N::input_type()
     }
 
-    fn link(&self, field: OwnField) -> Option<&KeptLink> {
+    fn link(&self, field: OwnField) -> Option<&LinkBox> {
         self.source.link(field)
     }
 
-    fn set_link(&mut self, field: OwnField, link: KeptLink) {
+    fn set_link(&mut self, field: OwnField, link: LinkBox) {
         self.source.set_link(field, link);
     }
 

@@ -2,13 +2,13 @@
 ghost use Rattle.std.specs.Prelude.{◌≡◌, is_some};
 ghost use Rattle.ioc_values.specs.Conversion.{value_in};
 ghost use Rattle.ioc_record.specs.BodyRules.{number_stored};
-ghost use Rattle.ioc_record.specs.BodyRules.{Held};
+ghost use Rattle.ioc_record.specs.BodyRules.{BodyState};
 ghost use Rattle.ioc_record.specs.BodyLaws.{IsNewBody};
 ghost use Rattle.rec_numeric.specs.Output.{numeric_output, new_output, within, limited_value, worked};
 
 use crate::number::Number;
 use crate::numeric::Numeric;
-use ioc_dbcommon::{Condition, Drive, Fresh, Got, InputKind, KeptLink, LinkUse, Need, Output};
+use ioc_dbcommon::{Condition, Drive, Fresh, Got, InputKind, LinkBox, LinkUse, Need, Output};
 use ioc_fields::{OwnField, RecordType};
 use ioc_links::Link;
 use ioc_record::RecordBody;
@@ -142,11 +142,11 @@ impl<N: Number> RecordBody for NumericOutput<N> {
         N::output_type()
     }
 
-    fn link(&self, field: OwnField) -> Option<&KeptLink> {
+    fn link(&self, field: OwnField) -> Option<&LinkBox> {
         self.drive.link(field)
     }
 
-    fn set_link(&mut self, field: OwnField, link: KeptLink) {
+    fn set_link(&mut self, field: OwnField, link: LinkBox) {
         self.drive.set_link(field, link);
     }
 

@@ -6,7 +6,7 @@ use Rattle.ioc_dbcommon.specs.declared.body.InputKind.TheVariants as input
 use Rattle.ioc_dbcommon.specs.declared.body.Output.TheVariants.{NoOutput}
 use Rattle.ioc_dbcommon.specs.Condition.{undefined_tested}
 use Rattle.ioc_dbcommon.specs.Source.{source_link, source_with_link, source_begin}
-use Rattle.ioc_record.specs.BodyRules.{BodyRules, Held}
+use Rattle.ioc_record.specs.BodyRules.{BodyRules, BodyState}
 use Rattle.rec_text.specs.declared.text_input.TextInput.{TextInput}
 use Rattle.rec_text.specs.TextInput.{new_text_input, text_input_get, text_input_stored, came, text_constant_kind, constant_put}
 use Rattle.rec_text.specs.declared.stringin.Stringin.{Stringin}
@@ -17,22 +17,22 @@ unfoldable pub new_stringin : Stringin
 new_stringin = record { text = new_text_input }
 
 -- The text input with the condition.
-abbrev pub inner : Held Stringin → Held TextInput
+abbrev pub inner : BodyState Stringin → BodyState TextInput
 inner h = record { body = h.body.text; condition = h.condition }
 
-abbrev pub outer : Held TextInput → Held Stringin
+abbrev pub outer : BodyState TextInput → BodyState Stringin
 outer h = record { body = record { text = h.body }; condition = h.condition }
 
 -- ---- The body
 
 -- The fields after the input. A text is stored in VAL, and then the alarm of an undefined value is
 -- tested.
-unfoldable pub stringin_taken : Held Stringin → Got → Held Stringin
+unfoldable pub stringin_taken : BodyState Stringin → Got → BodyState Stringin
 stringin_taken h got = let c = came (inner h) got in outer (record c { condition = undefined_tested c.condition })
 
 -- ---- The load
 
-unfoldable pub stringin_loaded : Held Stringin → Held Stringin
+unfoldable pub stringin_loaded : BodyState Stringin → BodyState Stringin
 stringin_loaded h = outer (constant_put (inner h) h.body.text.source.input.link)
 
 -- ---- All of it

@@ -15,17 +15,17 @@ use Rattle.ioc_dbcommon.specs.declared.body.Got.{Got}
 use Rattle.ioc_dbcommon.specs.Links.{no_link, use_of, named_by_field}
 use Rattle.ioc_record.specs.Values.{field_sort, sort_in}
 use Rattle.ioc_dbcommon.specs.Source.{new_source, source_link, source_set_here, source_set_there, source_set_others, source_set_twice, source_begin_leads}
-use Rattle.ioc_record.specs.BodyRules.{Held}
+use Rattle.ioc_record.specs.BodyRules.{BodyState}
 use Rattle.ioc_record.specs.BodyLaws.{IsLawfulBody, IsNewBody}
 use Rattle.rec_text.specs.TextInput.{new_text_input, text_input_get, text_input_stored, stored-source, came-source, put-source}
 use Rattle.rec_text.specs.declared.stringin.Stringin.{Stringin}
 use Rattle.rec_text.specs.Stringin.{stringin, new_stringin, inner, stringin_taken, stringin_loaded}
 
-taken-source : (h : Held Stringin) (got : Got) → (stringin_taken h got).body.text.source ≡ h.body.text.source
+taken-source : (h : BodyState Stringin) (got : Got) → (stringin_taken h got).body.text.source ≡ h.body.text.source
 unfolding stringin_taken
 taken-source h got = came-source (inner h) got
 
-loaded-source : (h : Held Stringin) → (stringin_loaded h).body.text.source ≡ h.body.text.source
+loaded-source : (h : BodyState Stringin) → (stringin_loaded h).body.text.source ≡ h.body.text.source
 unfolding stringin_loaded
 loaded-source h = put-source (inner h) h.body.text.source.input.link
 
@@ -39,7 +39,7 @@ unfolding new_stringin new_text_input new_source use_of
 missing-links Inp = refl
 missing-links _ = refl
 
-reads_back : (h : Held Stringin) (f : OwnField) (v : Value) → can_put Stringin-type (Own f) ≡ true → IsValueOf (sort_in [] (kind_of Stringin-type (Own f))) v
+reads_back : (h : BodyState Stringin) (f : OwnField) (v : Value) → can_put Stringin-type (Own f) ≡ true → IsValueOf (sort_in [] (kind_of Stringin-type (Own f))) v
     → text_input_get (text_input_stored (inner h) f v).body f ≡ Some v
 unfolding row_of own_row text_input_row text_row text_input_get text_input_stored field_sort
 reads_back h Val v can is = rw is.1 refl

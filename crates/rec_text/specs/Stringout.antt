@@ -17,7 +17,7 @@ use Rattle.ioc_dbcommon.specs.declared.body.Output.TheVariants.{NoOutput}
 use Rattle.ioc_dbcommon.specs.Condition.{undefined_tested}
 use Rattle.ioc_dbcommon.specs.Parts.{text_in}
 use Rattle.ioc_dbcommon.specs.Drive.{new_drive, drive_link, drive_with_link, drive_get, drive_stored, drive_begin, sets, drives, written}
-use Rattle.ioc_record.specs.BodyRules.{BodyRules, Held}
+use Rattle.ioc_record.specs.BodyRules.{BodyRules, BodyState}
 use Rattle.rec_text.specs.declared.stringout.Stringout.{Stringout}
 
 -- ---- Fields
@@ -31,10 +31,10 @@ stringout_get b Ivov = Some (value.Text b.invalid_value)
 stringout_get b field = drive_get b.drive field
 
 -- The fields with VAL set to a text, which clears UDF.
-abbrev pub value_set : Held Stringout → Value → Held Stringout
+abbrev pub value_set : BodyState Stringout → Value → BodyState Stringout
 value_set h v = record { body = record h.body { value = unwrap_or (text_in v) h.body.value }; condition = record h.condition { undefined = 0 } }
 
-unfoldable pub stringout_stored : Held Stringout → OwnField → Value → Held Stringout
+unfoldable pub stringout_stored : BodyState Stringout → OwnField → Value → BodyState Stringout
 stringout_stored h Val v = value_set h v
 stringout_stored h Ivov v = record h { body = record h.body { invalid_value = unwrap_or (text_in v) h.body.invalid_value } }
 stringout_stored h field v = record h { body = record h.body { drive = drive_stored h.body.drive field v } }
@@ -42,25 +42,25 @@ stringout_stored h field v = record h { body = record h.body { drive = drive_sto
 -- ---- The body
 
 -- The fields after the input. A text is stored in VAL and clears UDF.
-abbrev pub came : Held Stringout → Got → Held Stringout
+abbrev pub came : BodyState Stringout → Got → BodyState Stringout
 came h (got.Value v) = value_set h v
 came h _ = h
 
 -- The fields after the input, with the alarm of an undefined value tested.
-unfoldable pub worked : Held Stringout → Got → Held Stringout
+unfoldable pub worked : BodyState Stringout → Got → BodyState Stringout
 worked h got = let c = came h got in record c { condition = undefined_tested c.condition }
 
 -- The fields with VAL set to IVOV, if IVOA says so.
-unfoldable pub settled : Held Stringout → Held Stringout
+unfoldable pub settled : BodyState Stringout → BodyState Stringout
 settled h = if sets h.body.drive.on_invalid h.condition then record h { body = record h.body { value = h.body.invalid_value } } else h
 
-unfoldable pub stringout_taken : Held Stringout → Got → Held Stringout
+unfoldable pub stringout_taken : BodyState Stringout → Got → BodyState Stringout
 stringout_taken h got = settled (worked h got)
 
-abbrev pub driven : Held Stringout → Output
+abbrev pub driven : BodyState Stringout → Output
 driven h = if drives h.body.drive.on_invalid h.condition then written h.body.drive.output (value.Text h.body.value) else NoOutput
 
-unfoldable pub stringout_output : Held Stringout → Got → Output
+unfoldable pub stringout_output : BodyState Stringout → Got → Output
 stringout_output h got = driven (stringout_taken h got)
 
 -- ---- The load
@@ -70,16 +70,16 @@ abbrev pub stringout_constant_kind : OwnField → Option InputKind
 stringout_constant_kind Dol = Some input.Text
 stringout_constant_kind _ = None
 
-abbrev pub value_if : Held Stringout → Option Value → Held Stringout
+abbrev pub value_if : BodyState Stringout → Option Value → BodyState Stringout
 value_if h None = h
 value_if h (Some v) = value_set h v
 
 -- The fields with a constant DOL put into VAL as its decimal text.
-abbrev pub constant_put : Held Stringout → Link → Held Stringout
+abbrev pub constant_put : BodyState Stringout → Link → BodyState Stringout
 constant_put h (Constant z) = value_if h (of_number Texts z)
 constant_put h _ = h
 
-unfoldable pub stringout_loaded : Held Stringout → Held Stringout
+unfoldable pub stringout_loaded : BodyState Stringout → BodyState Stringout
 stringout_loaded h = constant_put h h.body.drive.desired.link
 
 -- ---- All of it

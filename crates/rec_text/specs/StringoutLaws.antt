@@ -24,54 +24,54 @@ use Rattle.ioc_dbcommon.specs.declared.body.Output.TheVariants.{NoOutput, WriteL
 use Rattle.ioc_dbcommon.specs.Links.{no_link, use_of, named_by_field}
 use Rattle.ioc_record.specs.Values.{field_sort, sort_in}
 use Rattle.ioc_dbcommon.specs.Drive.{new_drive, drive_link, drive_with_link, drive_get, drives, sets, written, drive_stored-output, drive_stored-desired, omsl_reads_back, ivoa_reads_back, begin_leads, written_leads, drive_set_here, drive_set_there, drive_set_others, drive_set_twice, drive_set_values}
-use Rattle.ioc_record.specs.BodyRules.{Held}
+use Rattle.ioc_record.specs.BodyRules.{BodyState}
 use Rattle.ioc_record.specs.BodyLaws.{IsLawfulBody, IsNewBody}
 use Rattle.rec_text.specs.declared.stringout.Stringout.{Stringout}
 use Rattle.rec_text.specs.Stringout.{stringout, new_stringout, stringout_get, stringout_stored, came, worked, settled, stringout_taken, stringout_output, value_if, constant_put, stringout_loaded}
 
 -- ---- Links
 
-stored-output : (h : Held Stringout) (f : OwnField) (v : Value) → (stringout_stored h f v).body.drive.output ≡ h.body.drive.output
+stored-output : (h : BodyState Stringout) (f : OwnField) (v : Value) → (stringout_stored h f v).body.drive.output ≡ h.body.drive.output
 unfolding stringout_stored
 stored-output h Val v = refl
 stored-output h Ivov v = refl
 stored-output h f v = drive_stored-output h.body.drive f v
 
-stored-desired : (h : Held Stringout) (f : OwnField) (v : Value) → (stringout_stored h f v).body.drive.desired ≡ h.body.drive.desired
+stored-desired : (h : BodyState Stringout) (f : OwnField) (v : Value) → (stringout_stored h f v).body.drive.desired ≡ h.body.drive.desired
 unfolding stringout_stored
 stored-desired h Val v = refl
 stored-desired h Ivov v = refl
 stored-desired h f v = drive_stored-desired h.body.drive f v
 
-came-drive : (h : Held Stringout) (got : Got) → (came h got).body.drive ≡ h.body.drive
+came-drive : (h : BodyState Stringout) (got : Got) → (came h got).body.drive ≡ h.body.drive
 came-drive h (got.Value v) = refl
 came-drive h _ = refl
 
-worked-drive : (h : Held Stringout) (got : Got) → (worked h got).body.drive ≡ h.body.drive
+worked-drive : (h : BodyState Stringout) (got : Got) → (worked h got).body.drive ≡ h.body.drive
 unfolding worked
 worked-drive h got = came-drive h got
 
-either-drive : (h : Held Stringout) (b : Bool) → (cond b (record h { body = record h.body { value = h.body.invalid_value } }) h).body.drive ≡ h.body.drive
+either-drive : (h : BodyState Stringout) (b : Bool) → (cond b (record h { body = record h.body { value = h.body.invalid_value } }) h).body.drive ≡ h.body.drive
 either-drive h true = refl
 either-drive h false = refl
 
-settled-drive : (h : Held Stringout) → (settled h).body.drive ≡ h.body.drive
+settled-drive : (h : BodyState Stringout) → (settled h).body.drive ≡ h.body.drive
 unfolding settled
 settled-drive h = either-drive h (sets h.body.drive.on_invalid h.condition)
 
-taken-drive : (h : Held Stringout) (got : Got) → (stringout_taken h got).body.drive ≡ h.body.drive
+taken-drive : (h : BodyState Stringout) (got : Got) → (stringout_taken h got).body.drive ≡ h.body.drive
 unfolding stringout_taken
 taken-drive h got = settled-drive (worked h got) ∙ worked-drive h got
 
-value_if-drive : (h : Held Stringout) (o : Option Value) → (value_if h o).body.drive ≡ h.body.drive
+value_if-drive : (h : BodyState Stringout) (o : Option Value) → (value_if h o).body.drive ≡ h.body.drive
 value_if-drive h None = refl
 value_if-drive h (Some v) = refl
 
-put-drive : (h : Held Stringout) (l : Link) → (constant_put h l).body.drive ≡ h.body.drive
+put-drive : (h : BodyState Stringout) (l : Link) → (constant_put h l).body.drive ≡ h.body.drive
 put-drive h (Constant z) = value_if-drive h (of_number Texts z)
 put-drive h _ = refl
 
-loaded-drive : (h : Held Stringout) → (stringout_loaded h).body.drive ≡ h.body.drive
+loaded-drive : (h : BodyState Stringout) → (stringout_loaded h).body.drive ≡ h.body.drive
 unfolding stringout_loaded
 loaded-drive h = put-drive h h.body.drive.desired.link
 
@@ -91,7 +91,7 @@ missing-links _ = refl
 
 -- ---- Values
 
-reads_back : (h : Held Stringout) (f : OwnField) (v : Value) → can_put Stringout-type (Own f) ≡ true → IsValueOf (sort_in [] (kind_of Stringout-type (Own f))) v
+reads_back : (h : BodyState Stringout) (f : OwnField) (v : Value) → can_put Stringout-type (Own f) ≡ true → IsValueOf (sort_in [] (kind_of Stringout-type (Own f))) v
     → stringout_get (stringout_stored h f v).body f ≡ Some v
 unfolding row_of own_row stringout_row output_row text_row stringout_get stringout_stored field_sort
 reads_back h Val v can is = rw is.1 refl
@@ -112,7 +112,7 @@ driven_leads : (b : Bool) (out : LinkField) (x v : Value) (t : StandingLink) →
 driven_leads true out x v t is = written_leads out x v t is
 driven_leads false out x v t is = cc
 
-output_leads : (h : Held Stringout) (got : Got) (t : StandingLink) (v : Value) → stringout_output h got ≡ WriteLink (Standing t) v → use_of h.body.drive.output ≡ Standing t
+output_leads : (h : BodyState Stringout) (got : Got) (t : StandingLink) (v : Value) → stringout_output h got ≡ WriteLink (Standing t) v → use_of h.body.drive.output ≡ Standing t
 unfolding stringout_output
 output_leads h got t v is =
     let d = stringout_taken h got in

@@ -15,7 +15,7 @@ use Rattle.ioc_dbcommon.specs.declared.body.InputKind.{InputKind}
 use Rattle.ioc_dbcommon.specs.declared.body.InputKind.TheVariants as input
 use Rattle.ioc_dbcommon.specs.Parts.{text_in}
 use Rattle.ioc_dbcommon.specs.Source.{new_source}
-use Rattle.ioc_record.specs.BodyRules.{Held}
+use Rattle.ioc_record.specs.BodyRules.{BodyState}
 use Rattle.rec_text.specs.declared.text_input.TextInput.{TextInput}
 
 -- The fields of a new record, which are empty.
@@ -27,13 +27,13 @@ text_input_get b Val = Some (value.Text b.value)
 text_input_get b _ = None
 
 -- The fields with a converted value stored. VAL clears UDF.
-unfoldable pub text_input_stored : Held TextInput → OwnField → Value → Held TextInput
+unfoldable pub text_input_stored : BodyState TextInput → OwnField → Value → BodyState TextInput
 text_input_stored h Val v = record { body = record h.body { value = unwrap_or (text_in v) h.body.value }; condition = record h.condition { undefined = 0 } }
 text_input_stored h _ v = h
 
 -- The fields after the input. A text is stored in VAL and clears UDF; without one, and after a
 -- fault, both stay the same.
-abbrev pub came : Held TextInput → Got → Held TextInput
+abbrev pub came : BodyState TextInput → Got → BodyState TextInput
 came h (got.Value v) = text_input_stored h Val v
 came h _ = h
 
@@ -43,30 +43,30 @@ text_constant_kind Inp = Some input.Text
 text_constant_kind _ = None
 
 -- The fields with VAL set to a value, if there is one.
-abbrev pub stored_if : Held TextInput → Option Value → Held TextInput
+abbrev pub stored_if : BodyState TextInput → Option Value → BodyState TextInput
 stored_if h None = h
 stored_if h (Some v) = text_input_stored h Val v
 
 -- The fields with a constant INP put into VAL as its decimal text.
-abbrev pub constant_put : Held TextInput → Link → Held TextInput
+abbrev pub constant_put : BodyState TextInput → Link → BodyState TextInput
 constant_put h (Constant z) = stored_if h (of_number Texts z)
 constant_put h _ = h
 
 -- ---- Laws: INP stays
 
-pub stored-source : (h : Held TextInput) (f : OwnField) (v : Value) → (text_input_stored h f v).body.source ≡ h.body.source
+pub stored-source : (h : BodyState TextInput) (f : OwnField) (v : Value) → (text_input_stored h f v).body.source ≡ h.body.source
 unfolding text_input_stored
 stored-source h Val v = refl
 stored-source h _ v = refl
 
-pub came-source : (h : Held TextInput) (got : Got) → (came h got).body.source ≡ h.body.source
+pub came-source : (h : BodyState TextInput) (got : Got) → (came h got).body.source ≡ h.body.source
 came-source h (got.Value v) = stored-source h Val v
 came-source h _ = refl
 
-stored_if-source : (h : Held TextInput) (o : Option Value) → (stored_if h o).body.source ≡ h.body.source
+stored_if-source : (h : BodyState TextInput) (o : Option Value) → (stored_if h o).body.source ≡ h.body.source
 stored_if-source h None = refl
 stored_if-source h (Some v) = stored-source h Val v
 
-pub put-source : (h : Held TextInput) (l : Link) → (constant_put h l).body.source ≡ h.body.source
+pub put-source : (h : BodyState TextInput) (l : Link) → (constant_put h l).body.source ≡ h.body.source
 put-source h (Constant z) = stored_if-source h (of_number Texts z)
 put-source h _ = refl

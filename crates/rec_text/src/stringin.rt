@@ -4,7 +4,7 @@ ghost use Rattle.ioc_record.specs.BodyLaws.{IsNewBody};
 ghost use Rattle.rec_text.specs.Stringin.{stringin, new_stringin};
 
 use crate::text_input::TextInput;
-use ioc_dbcommon::{Condition, Fresh, Got, InputKind, KeptLink, LinkUse, Need, Output};
+use ioc_dbcommon::{Condition, Fresh, Got, InputKind, LinkBox, LinkUse, Need, Output};
 use ioc_fields::{OwnField, RecordType};
 use ioc_record::RecordBody;
 use ioc_values::{Text, Value};
@@ -51,11 +51,11 @@ impl RecordBody for Stringin {
         RecordType::Stringin
     }
 
-    fn link(&self, field: OwnField) -> Option<&KeptLink> {
+    fn link(&self, field: OwnField) -> Option<&LinkBox> {
         self.text.source.link(field)
     }
 
-    fn set_link(&mut self, field: OwnField, link: KeptLink) {
+    fn set_link(&mut self, field: OwnField, link: LinkBox) {
         self.text.source.set_link(field, link);
     }
 

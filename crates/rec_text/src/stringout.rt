@@ -1,11 +1,11 @@
 //! The type stringout.
 ghost use Rattle.std.specs.Prelude.{◌≡◌};
-ghost use Rattle.ioc_record.specs.BodyRules.{Held};
+ghost use Rattle.ioc_record.specs.BodyRules.{BodyState};
 ghost use Rattle.ioc_record.specs.BodyLaws.{IsNewBody};
 ghost use Rattle.rec_text.specs.Stringout.{stringout, new_stringout, worked};
 
 use ioc_dbcommon::{
-    Condition, Drive, Fresh, Got, InputKind, KeptLink, LinkUse, Need, Output, text_in,
+    Condition, Drive, Fresh, Got, InputKind, LinkBox, LinkUse, Need, Output, text_in,
 };
 use ioc_fields::{OwnField, RecordType};
 use ioc_links::Link;
@@ -72,11 +72,11 @@ impl RecordBody for Stringout {
         RecordType::Stringout
     }
 
-    fn link(&self, field: OwnField) -> Option<&KeptLink> {
+    fn link(&self, field: OwnField) -> Option<&LinkBox> {
         self.drive.link(field)
     }
 
-    fn set_link(&mut self, field: OwnField, link: KeptLink) {
+    fn set_link(&mut self, field: OwnField, link: LinkBox) {
         self.drive.set_link(field, link);
     }
 

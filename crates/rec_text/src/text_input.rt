@@ -1,6 +1,6 @@
 //! The fields of the types that read a text.
 ghost use Rattle.std.specs.Prelude.{◌≡◌, IfOk};
-ghost use Rattle.ioc_record.specs.BodyRules.{Held};
+ghost use Rattle.ioc_record.specs.BodyRules.{BodyState};
 ghost use Rattle.rec_text.specs.TextInput.{new_text_input, text_input_get, text_input_stored, came, constant_put};
 
 use ioc_dbcommon::{Condition, Got, Source, text_in};

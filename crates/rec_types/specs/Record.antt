@@ -14,7 +14,7 @@ use Rattle.ioc_dbcommon.specs.declared.body.Output.{Output}
 use Rattle.ioc_record.specs.declared.record.Record.{Record as Whole}
 use Rattle.ioc_record.specs.RecordRules.{RecordRules}
 use Rattle.ioc_record.specs.Whole.{whole, new_record as new_whole}
-use Rattle.ioc_record.specs.BodyRules.{BodyRules, Held}
+use Rattle.ioc_record.specs.BodyRules.{BodyRules, BodyState}
 use Rattle.rec_numeric.specs.declared.input.NumericInput.{NumericInput}
 use Rattle.rec_numeric.specs.declared.output.NumericOutput.{NumericOutput}
 use Rattle.rec_numeric.specs.Number.{long_number, int64_number}
@@ -78,10 +78,10 @@ typed (Fanout b) = record { Of = Fanout-fields; rules = fanout; it = b; back = F
 typed (Event b) = record { Of = Event-fields; rules = event; it = b; back = Event }
 
 -- The fields with the condition of the record.
-abbrev pub held : (b : Body) → Condition → Held (typed b).Of
+abbrev pub held : (b : Body) → Condition → BodyState (typed b).Of
 held b c = record { body = (typed b).it; condition = c }
 
-abbrev pub left : {T : Type 0} → (T → Body) → Held T → Held Body
+abbrev pub left : {T : Type 0} → (T → Body) → BodyState T → BodyState Body
 left back h = record { body = back h.body; condition = h.condition }
 
 -- The rules of all types are those of each type. The last line covers every type except the first.
@@ -105,7 +105,7 @@ abbrev pub get : Body → OwnField → Option Value
 get (Longin b) f = longin.get b f
 get b f = (typed b).rules.get (typed b).it f
 
-abbrev pub stored : Body → Condition → OwnField → Value → Held Body
+abbrev pub stored : Body → Condition → OwnField → Value → BodyState Body
 stored (Longin b) c f v = left Longin (longin.stored (record { body = b; condition = c }) f v)
 stored b c f v = left (typed b).back ((typed b).rules.stored (held b c) f v)
 
@@ -117,7 +117,7 @@ abbrev pub input_kind : Body → Condition → InputKind
 input_kind (Longin b) c = longin.input_kind (record { body = b; condition = c })
 input_kind b c = (typed b).rules.input_kind (held b c)
 
-abbrev pub taken : Body → Condition → Got → Held Body
+abbrev pub taken : Body → Condition → Got → BodyState Body
 taken (Longin b) c got = left Longin (longin.taken (record { body = b; condition = c }) got)
 taken b c got = left (typed b).back ((typed b).rules.taken (held b c) got)
 
@@ -129,7 +129,7 @@ abbrev pub constant_kind : Body → Condition → OwnField → Option InputKind
 constant_kind (Longin b) c f = longin.constant_kind (record { body = b; condition = c }) f
 constant_kind b c f = (typed b).rules.constant_kind (held b c) f
 
-abbrev pub loaded : Body → Condition → Held Body
+abbrev pub loaded : Body → Condition → BodyState Body
 loaded (Longin b) c = left Longin (longin.loaded (record { body = b; condition = c }))
 loaded b c = left (typed b).back ((typed b).rules.loaded (held b c))
 

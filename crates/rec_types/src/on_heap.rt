@@ -4,19 +4,19 @@ ghost use Rattle.ioc_dbcommon.specs.Wants.{puts_out};
 ghost use Rattle.ioc_values.specs.Conversion.{value_in};
 ghost use Rattle.ioc_record.specs.BodyRules.{number_stored};
 
-use ioc_dbcommon::{Condition, Got, Kept, KeptLink, Output};
+use ioc_dbcommon::{BodyBox, Condition, Got, LinkBox, Output};
 use ioc_fields::OwnField;
 use ioc_record::RecordBody;
 use ioc_values::{Range, Value};
 
-pub fn set_link<B: RecordBody>(kept: &mut Kept<B>, field: OwnField, link: KeptLink)
+pub fn set_link<B: RecordBody>(kept: &mut BodyBox<B>, field: OwnField, link: LinkBox)
     ensures { kept.new ≡ B.rules.with_link kept.old field link }
 {
     kept.get_mut().set_link(field, link);
 }
 
 pub fn store<B: RecordBody>(
-    kept: &mut Kept<B>,
+    kept: &mut BodyBox<B>,
     condition: &mut Condition,
     field: OwnField,
     value: Value,
@@ -28,7 +28,7 @@ pub fn store<B: RecordBody>(
 }
 
 pub fn store_number<B: RecordBody>(
-    kept: &mut Kept<B>,
+    kept: &mut BodyBox<B>,
     condition: &mut Condition,
     field: OwnField,
     range: Range,
@@ -42,7 +42,7 @@ pub fn store_number<B: RecordBody>(
 }
 
 pub fn take<B: RecordBody>(
-    kept: &mut Kept<B>,
+    kept: &mut BodyBox<B>,
     condition: &mut Condition,
     got: &Got,
     output: &mut Output,
@@ -55,14 +55,14 @@ pub fn take<B: RecordBody>(
     kept.get_mut().take(condition, got, output)
 }
 
-pub fn load<B: RecordBody>(kept: &mut Kept<B>, condition: &mut Condition)
+pub fn load<B: RecordBody>(kept: &mut BodyBox<B>, condition: &mut Condition)
     ensures { record { body = kept.new; condition = condition.new }
         ≡ B.rules.loaded (record { body = kept.old; condition = condition.old }) }
 {
     kept.get_mut().load(condition);
 }
 
-pub fn copy_from<B: RecordBody>(kept: &mut Kept<B>, other: &Kept<B>)
+pub fn copy_from<B: RecordBody>(kept: &mut BodyBox<B>, other: &BodyBox<B>)
     requires same_type { B.rules.record_type kept.old ≡ B.rules.record_type other.now }
     requires same_links { B.rules.link kept.old ≡ B.rules.link other.now }
     ensures { kept.new ≡ other.now }

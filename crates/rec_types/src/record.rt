@@ -2,7 +2,7 @@
 ghost use Rattle.std.specs.Prelude.{◌≡◌, IfOk};
 
 use crate::on_heap;
-use ioc_dbcommon::{Condition, Got, InputKind, Kept, KeptLink, LinkUse, Need, Output};
+use ioc_dbcommon::{BodyBox, Condition, Got, InputKind, LinkBox, LinkUse, Need, Output};
 use ioc_fields::{OwnField, RecordType};
 use ioc_record::RecordBody;
 use ioc_values::{Range, Text, Value};
@@ -18,16 +18,16 @@ use std::alloc::{AllocError, Global};
 #[derive(Drop)]
 pub enum Body {
     Longin(Longin),
-    Longout(Kept<Longout>),
-    Int64in(Kept<Int64in>),
-    Int64out(Kept<Int64out>),
-    Bi(Kept<Bi>),
-    Bo(Kept<Bo>),
-    Mbbi(Kept<Mbbi>),
-    Mbbo(Kept<Mbbo>),
+    Longout(BodyBox<Longout>),
+    Int64in(BodyBox<Int64in>),
+    Int64out(BodyBox<Int64out>),
+    Bi(BodyBox<Bi>),
+    Bo(BodyBox<Bo>),
+    Mbbi(BodyBox<Mbbi>),
+    Mbbo(BodyBox<Mbbo>),
     Stringin(Stringin),
-    Stringout(Kept<Stringout>),
-    Fanout(Kept<Fanout>),
+    Stringout(BodyBox<Stringout>),
+    Fanout(BodyBox<Fanout>),
     Event(Event),
 }
 
@@ -103,11 +103,14 @@ macro_rules! work {
 }
 
 // Copies the body to a new place on the heap.
-fn copy_kept<B: RecordBody + Drop>(alloc: Global, kept: &Kept<B>) -> Result<Kept<B>, AllocError>
+fn copy_kept<B: RecordBody + Drop>(
+    alloc: Global,
+    kept: &BodyBox<B>,
+) -> Result<BodyBox<B>, AllocError>
     ensures { IfOk result (λ copy. copy ≡ kept.now) }
 {
     let body = kept.get().copy(alloc)?;
-    Kept::new(alloc, body)
+    BodyBox::new(alloc, body)
 }
 
 impl Body {
@@ -119,16 +122,16 @@ impl Body {
     {
         Ok(match record_type {
             RecordType::Longin => Body::Longin(Longin::new()),
-            RecordType::Longout => Body::Longout(Kept::<Longout>::fresh(alloc)?),
-            RecordType::Int64in => Body::Int64in(Kept::<Int64in>::fresh(alloc)?),
-            RecordType::Int64out => Body::Int64out(Kept::<Int64out>::fresh(alloc)?),
-            RecordType::Bi => Body::Bi(Kept::<Bi>::fresh(alloc)?),
-            RecordType::Bo => Body::Bo(Kept::<Bo>::fresh(alloc)?),
-            RecordType::Mbbi => Body::Mbbi(Kept::<Mbbi>::fresh(alloc)?),
-            RecordType::Mbbo => Body::Mbbo(Kept::<Mbbo>::fresh(alloc)?),
+            RecordType::Longout => Body::Longout(BodyBox::<Longout>::fresh(alloc)?),
+            RecordType::Int64in => Body::Int64in(BodyBox::<Int64in>::fresh(alloc)?),
+            RecordType::Int64out => Body::Int64out(BodyBox::<Int64out>::fresh(alloc)?),
+            RecordType::Bi => Body::Bi(BodyBox::<Bi>::fresh(alloc)?),
+            RecordType::Bo => Body::Bo(BodyBox::<Bo>::fresh(alloc)?),
+            RecordType::Mbbi => Body::Mbbi(BodyBox::<Mbbi>::fresh(alloc)?),
+            RecordType::Mbbo => Body::Mbbo(BodyBox::<Mbbo>::fresh(alloc)?),
             RecordType::Stringin => Body::Stringin(Stringin::new()),
-            RecordType::Stringout => Body::Stringout(Kept::<Stringout>::fresh(alloc)?),
-            RecordType::Fanout => Body::Fanout(Kept::<Fanout>::fresh(alloc)?),
+            RecordType::Stringout => Body::Stringout(BodyBox::<Stringout>::fresh(alloc)?),
+            RecordType::Fanout => Body::Fanout(BodyBox::<Fanout>::fresh(alloc)?),
             RecordType::Event => Body::Event(Event::new()),
         })
     }
@@ -146,11 +149,11 @@ impl RecordBody for Body {
         ask!(self, body => body.record_type())
     }
 
-    fn link(&self, field: OwnField) -> Option<&KeptLink> {
+    fn link(&self, field: OwnField) -> Option<&LinkBox> {
         ask!(self, body => body.link(field))
     }
 
-    fn set_link(&mut self, field: OwnField, link: KeptLink) {
+    fn set_link(&mut self, field: OwnField, link: LinkBox) {
         work!(self, body => body.set_link(field, link), on_heap::set_link(body, field, link))
     }
 

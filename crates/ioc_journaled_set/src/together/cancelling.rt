@@ -1,7 +1,7 @@
 //! Cancels a put with notification on several sets, one after another.
 ghost use Rattle.std.specs.Prelude.{◌≡◌, ◌<◌, ℕ, true, length, slice_index_or, OnOk, OnErr};
 ghost use Rattle.ioc_notify.specs.Living.{is_live};
-ghost use Rattle.ioc_set.specs.Held.{Held};
+ghost use Rattle.ioc_set.specs.SetState.{SetState};
 ghost use Rattle.ioc_set_store.specs.SetStore.{world_of};
 ghost use Rattle.ioc_journaled_set.specs.GiveUpLaws.{GivesUp, CameToNothing};
 ghost use Rattle.ioc_journaled_set.specs.Sets.{EachGivesUp};
@@ -11,7 +11,7 @@ use ioc_device::Device;
 use ioc_notify::NotifyId;
 use ioc_record::RecordKind;
 use ioc_set::LockSet;
-use ioc_set_store::Workplace;
+use ioc_set_store::EventBuffers;
 use std::alloc::{AllocError, Global};
 use std::sync::Wait;
 
@@ -19,19 +19,19 @@ use std::sync::Wait;
 fn cancel_at_last<K: RecordKind + Drop, D: Device, R: Wait>(
     rt: &R,
     alloc: Global,
-    workplace: &mut Workplace<K, D>,
+    buffers: &mut EventBuffers<K, D>,
     set: &mut LockSet<K, D>,
     number: NotifyId,
     moment: u64,
 )
     requires live { is_live number set.old.live ≡ true }
     ensures gives_up { GivesUp K.rules moment number set.old set.new }
-    ensures nothing { CameToNothing (world_of workplace.new.store) }
+    ensures nothing { CameToNothing (world_of buffers.new.store) }
 {
     cancels_leave_nobody::<K, D>();
     for _ in rt.forever() {
         set.is_sound();
-        if let Ok(_reply) = set.cancel(workplace, alloc, number, moment) {
+        if let Ok(_reply) = set.cancel(buffers, alloc, number, moment) {
             return;
         }
     }
@@ -48,12 +48,12 @@ fn cancel_at_last<K: RecordKind + Drop, D: Device, R: Wait>(
 pub fn cancel_all<K: RecordKind + Drop, D: Device, R: Wait>(
     rt: &R,
     alloc: Global,
-    workplace: &mut Workplace<K, D>,
+    buffers: &mut EventBuffers<K, D>,
     sets: &mut [LockSet<K, D>],
     number: NotifyId,
     moment: u64,
 ) -> Result<(), AllocError>
-    requires live { (i : ℕ) (d : Held K D) → i < length sets.old → is_live number (slice_index_or sets.old i d).live ≡ true }
+    requires live { (i : ℕ) (d : SetState K D) → i < length sets.old → is_live number (slice_index_or sets.old i d).live ≡ true }
     ensures ok { OnOk result (EachGivesUp K.rules moment number sets.old sets.new) }
     ensures err { OnErr result (sets.new ≡ sets.old) }
 {
@@ -63,9 +63,9 @@ pub fn cancel_all<K: RecordKind + Drop, D: Device, R: Wait>(
     }
     let first = &mut sets[0];
     first.is_sound();
-    first.cancel(workplace, alloc, number, moment)?;
+    first.cancel(buffers, alloc, number, moment)?;
     for i in 1..sets.len() {
-        cancel_at_last(rt, alloc, workplace, &mut sets[i], number, moment);
+        cancel_at_last(rt, alloc, buffers, &mut sets[i], number, moment);
     }
     Ok(())
 }

@@ -5,8 +5,7 @@ ghost use Rattle.ioc_notify.specs.Living.{is_live};
 ghost use Rattle.ioc_journaled_set.specs.GiveUpLaws.{holders_in_all};
 ghost use Rattle.ioc_journaled_set.specs.Sets.{IsLiveOnEach};
 
-use ioc_notify::NotifyId;
-use ioc_notify::holders_by;
+use ioc_notify::{NotifyId, holders_by};
 use ioc_record::RecordKind;
 use ioc_set::LockSet;
 

@@ -6,7 +6,7 @@ ghost use Rattle.ioc_history.specs.Line.{holder};
 ghost use Rattle.ioc_notify.specs.Living.{holders_of};
 ghost use Rattle.ioc_history.specs.Legal.{map_of};
 ghost use Rattle.ioc_history.specs.Places.{IsNoPlace};
-ghost use Rattle.ioc_set.specs.Held.{Held};
+ghost use Rattle.ioc_set.specs.SetState.{SetState};
 ghost use Rattle.ioc_set.specs.Sound.{IsSound};
 ghost use Rattle.ioc_journaled_set.specs.Sets.{AreItsSets, EachIsHeldBy, HaveAll, GaveUp};
 ghost use Rattle.ioc_history.specs.Account.{puts_key};
@@ -19,19 +19,18 @@ use crate::together::merging::merge_all;
 use ioc_device::Device;
 use ioc_events::{Entry, Event, KeptAnswers, Reply};
 use ioc_history::legal_laws::{holding_lasts, live_lasts};
-use ioc_history::{Base, Book, Desk, Receipt};
-use ioc_history::Token;
+use ioc_history::{Desk, EngineName, KeyPass, Receipt, SharedJournal};
 use ioc_notify::NotifyId;
 use ioc_record::RecordKind;
 use ioc_set::LockSet;
+use ioc_set_store::EventBuffers;
 use ioc_values::IocError;
-use ioc_set_store::Workplace;
 use std::alloc::Global;
 use std::sync::Wait;
 
 // States the invariant of each of these sets. Does nothing.
 fn all_sound<K: RecordKind, D>(sets: &[LockSet<K, D>])
-    ensures { (i : ℕ) (d : Held K D) → i < length sets.now → IsSound K.rules (slice_index_or sets.now i d) }
+    ensures { (i : ℕ) (d : SetState K D) → i < length sets.now → IsSound K.rules (slice_index_or sets.now i d) }
 {
     for set in sets {
         set.is_sound();
@@ -47,15 +46,15 @@ fn all_sound<K: RecordKind, D>(sets: &[LockSet<K, D>])
 /// [`IocError::JournalFull`] if the journal has no place left. [`IocError::NoMemory`] if allocation
 /// fails. Nothing has changed then. Once it is canceled in one of the sets, a failed allocation is
 /// repeated until it succeeds.
-pub fn give_up<K: RecordKind + Drop, B: Base<K>, D: Device, R: Wait>(
+pub fn give_up<K: RecordKind + Drop, B: EngineName<K>, D: Device, R: Wait>(
     rt: &R,
     alloc: Global,
-    book: &Book<K, B>,
+    book: &SharedJournal<K, B>,
     desk: &mut Desk<K, B>,
-    workplace: &mut Workplace<K, D>,
-    keeper: &mut Token,
+    buffers: &mut EventBuffers<K, D>,
+    keeper: &mut KeyPass,
     sets: &mut [LockSet<K, D>],
-    passes: &mut [Option<Token>],
+    passes: &mut [Option<KeyPass>],
     number: NotifyId,
     moment: u64,
 ) -> Result<Receipt<K, B>, IocError>
@@ -74,7 +73,7 @@ pub fn give_up<K: RecordKind + Drop, B: Base<K>, D: Device, R: Wait>(
     live_lasts::<K>();
     all_sound(sets);
     let place = book.reserve(rt)?;
-    if let Err(_refused) = cancel_all(rt, alloc, workplace, sets, number, moment) {
+    if let Err(_refused) = cancel_all(rt, alloc, buffers, sets, number, moment) {
         book.give_back(rt, place);
         return Err(IocError::NoMemory);
     }
@@ -96,15 +95,15 @@ pub fn give_up<K: RecordKind + Drop, B: Base<K>, D: Device, R: Wait>(
 /// # Errors
 ///
 /// Those of [`give_up`].
-pub fn give_up_all<K: RecordKind + Drop, B: Base<K>, D: Device, R: Wait>(
+pub fn give_up_all<K: RecordKind + Drop, B: EngineName<K>, D: Device, R: Wait>(
     rt: &R,
     alloc: Global,
-    book: &Book<K, B>,
+    book: &SharedJournal<K, B>,
     desk: &mut Desk<K, B>,
-    workplace: &mut Workplace<K, D>,
-    keeper: &mut Token,
+    buffers: &mut EventBuffers<K, D>,
+    keeper: &mut KeyPass,
     sets: &mut [LockSet<K, D>],
-    passes: &mut [Option<Token>],
+    passes: &mut [Option<KeyPass>],
     number: NotifyId,
     total: u64,
     moment: u64,
@@ -128,7 +127,7 @@ pub fn give_up_all<K: RecordKind + Drop, B: Base<K>, D: Device, R: Wait>(
         return Ok(None);
     }
     let receipt = give_up(
-        rt, alloc, book, desk, workplace, keeper, sets, passes, number, moment,
+        rt, alloc, book, desk, buffers, keeper, sets, passes, number, moment,
     )?;
     Ok(Some(receipt))
 }

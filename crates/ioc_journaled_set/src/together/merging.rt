@@ -3,17 +3,16 @@ ghost use Rattle.std.specs.Prelude.{All};
 ghost use Rattle.crossbeam_utils.specs.Seq.{cell_view};
 ghost use Rattle.ioc_journaled_set.specs.Passes.{IsPassOf, IsPassIn, AreTakenOver};
 
-use ioc_history::{Base, Book};
-use ioc_history::Token;
+use ioc_history::{EngineName, KeyPass, SharedJournal};
 use ioc_record::RecordKind;
 use std::sync::Wait;
 
 /// Moves the keys of all these passes to `keeper`, and takes the passes.
-pub fn merge_all<K: RecordKind, B: Base<K>, R: Wait>(
+pub fn merge_all<K: RecordKind, B: EngineName<K>, R: Wait>(
     rt: &R,
-    book: &Book<K, B>,
-    keeper: &mut Token,
-    passes: &mut [Option<Token>],
+    book: &SharedJournal<K, B>,
+    keeper: &mut KeyPass,
+    passes: &mut [Option<KeyPass>],
 )
     requires keeper { IsPassOf B.table keeper.old }
     requires passes { All (IsPassIn B.table) passes.old }

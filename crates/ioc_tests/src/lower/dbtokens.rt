@@ -1,6 +1,5 @@
 //! Tokens and their lines, by examples of the database grammar.
-use ioc_dblex::{Macros, TokenKind, expand};
-use ioc_dblex::{Tokens, unescaped};
+use ioc_dblex::{Macros, TokenKind, Tokens, expand, unescaped};
 use ioc_values::BadDbKind;
 use std::alloc::Global;
 

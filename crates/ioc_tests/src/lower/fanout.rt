@@ -3,7 +3,7 @@ use crate::lower::steps::Step::{
     Begin, Converts, Copied, Has, Load, Put, PutRefused, Set, SetRefused, Stands, Take, Test,
 };
 use crate::lower::steps::{Came, Does, Step, Wants, follow};
-use ioc_dbcommon::{InputKind, Kept};
+use ioc_dbcommon::{BodyBox, InputKind};
 use ioc_fields::{FieldNo, OwnField, Slot};
 use ioc_links::Mode;
 use ioc_record::RecordBody;
@@ -111,7 +111,7 @@ fn links_chosen(rt: HostRuntime) {
 
 #[test]
 fn on_the_heap(rt: HostRuntime) -> Result<(), Fail> {
-    let mut kept = Kept::<Fanout>::fresh(rt.alloc())?;
+    let mut kept = BodyBox::<Fanout>::fresh(rt.alloc())?;
     kept.get_mut().number = 7;
     assert!(rt; kept.get().get(OwnField::Seln) == Some(Value::UShort(7)));
     Ok(())

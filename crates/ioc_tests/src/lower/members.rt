@@ -6,9 +6,9 @@ use crate::lower::sets::{
     part,
 };
 use ioc_device::Device;
-use ioc_set_records::Members;
 use ioc_names::RecordNo;
 use ioc_record::{Record, RecordKind};
+use ioc_set_records::Members;
 use rec_numeric::Longin;
 use std::alloc::{AllocError, Global};
 use std::mem;

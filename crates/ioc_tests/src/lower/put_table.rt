@@ -1,8 +1,7 @@
 //! The table of the puts with notification of many sets.
 ghost use Rattle.std.specs.Prelude.{◌≡◌, ◌∷◌, []};
 
-use ioc_notify::{Live, NotifyId};
-use ioc_notify::PutTable;
+use ioc_notify::{Live, NotificationCounts, NotifyId};
 use std::alloc::{AllocError, Global};
 use std::test::Fail;
 
@@ -17,7 +16,7 @@ fn one(number: u64, holders: u64) -> [Live; 1]
 }
 
 // Returns whether its number is taken while a set has it, and another number is free.
-fn is_taken(table: &PutTable) -> bool {
+fn is_taken(table: &NotificationCounts) -> bool {
     let seven = NotifyId::new(7);
     let eight = NotifyId::new(8);
     let is_seven = table.is_live(seven) && !table.has_place(seven);
@@ -29,7 +28,7 @@ fn is_taken(table: &PutTable) -> bool {
 // live without both.
 fn lives_until_the_last(alloc: Global) -> Result<[bool; 3], AllocError> {
     let seven = NotifyId::new(7);
-    let mut table = PutTable::new(alloc);
+    let mut table = NotificationCounts::new(alloc);
     table.reserve(2)?;
     table.add_on(&one(7, 2));
     table.add_on(&one(7, 1));

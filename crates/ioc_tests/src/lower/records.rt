@@ -5,7 +5,7 @@ use crate::lower::steps::Step::{
     Do, Has, Load, MayPut, Put, PutByLink, PutRefused, Raised, Set, SetRefused, Shows, Test,
 };
 use crate::lower::steps::{BLOCK, SHOW, Step};
-use ioc_dbcommon::{InputKind, KeptLink, LinkField, LinkUse, disable_kind};
+use ioc_dbcommon::{InputKind, LinkBox, LinkField, LinkUse, disable_kind};
 use ioc_links::Mode;
 use ioc_menus::{Severity, Status};
 use ioc_record::convert_to;
@@ -218,7 +218,7 @@ fn are_made() -> bool {
     let text = Value::Text(Text::cut(b"-1"));
     let made = [
         LinkField::empty().in_use() == LinkUse::Unused,
-        KeptLink::empty().get() == LinkField::empty(),
+        LinkBox::empty().get() == LinkField::empty(),
         disable_kind() == InputKind::Number(Range::Short),
         convert_to(Value::Long(-1), ushort) == Err(IocError::BadValue),
         convert_to(Value::Long(-1), InputKind::Text) == Ok(text),

@@ -1,7 +1,7 @@
 //! Scan lists, by lists of steps.
 use ioc_menus::{Priority, Scan};
 use ioc_names::RecordNo;
-use ioc_scan::{ListName, Listed, Place, ScanLists};
+use ioc_scan::{ListName, Listed, Placement, ScanLists};
 use ioc_values::{Short, Text};
 use std::test::Fail;
 
@@ -92,12 +92,12 @@ fn list_of(fields: Fields) -> Option<ListName> {
     }
 }
 
-fn place_of(fields: Fields) -> Option<Place> {
+fn place_of(fields: Fields) -> Option<Placement> {
     let phase = match fields {
         Fields::EverySecond(phase) => phase,
         _ => 0,
     };
-    Some(Place {
+    Some(Placement {
         list: list_of(fields)?,
         phase,
         priority: Priority::Medium,
@@ -105,7 +105,7 @@ fn place_of(fields: Fields) -> Option<Place> {
 }
 
 // Applies a change if the record exists and a number of adding is left.
-fn change(lists: &mut ScanLists, member: usize, number: u64, place: Option<Place>) -> bool {
+fn change(lists: &mut ScanLists, member: usize, number: u64, place: Option<Placement>) -> bool {
     if member >= lists.len() || !lists.can_change() {
         return false;
     }
@@ -114,7 +114,7 @@ fn change(lists: &mut ScanLists, member: usize, number: u64, place: Option<Place
 
 // Adds a record with a place, or removes one without, if the record exists and a number of adding
 // is left.
-fn put(lists: &mut ScanLists, member: usize, place: Option<Place>) -> bool {
+fn put(lists: &mut ScanLists, member: usize, place: Option<Placement>) -> bool {
     if member >= lists.len() || !lists.can_change() {
         return false;
     }

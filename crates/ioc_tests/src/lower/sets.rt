@@ -4,13 +4,13 @@ ghost use Rattle.std.specs.FinMap as map;
 ghost use Rattle.ioc_dbcommon.specs.Links.{use_of, named_by};
 ghost use Rattle.ioc_set_records.specs.Joined.{links_of, IsPart, HasLink, HasFreeLink};
 
-use ioc_dbcommon::{FieldAddress, KeptLink, Lead, LinkField};
+use ioc_dbcommon::{FieldAddress, Lead, LinkBox, LinkField};
 use ioc_device::{Answer, Ask, Device};
 use ioc_fields::{CommonField, FieldNo, OwnField};
 use ioc_links::{LinkKind, parse};
-use ioc_set_records::{Change, Members};
 use ioc_names::RecordNo;
 use ioc_record::{Record, RecordKind};
+use ioc_set_records::{Change, Members};
 use ioc_values::{Name, Value};
 use rec_numeric::Longin;
 use std::alloc::{AllocError, Global};
@@ -57,23 +57,23 @@ impl<K: RecordKind> Change<K> for Cut {
     ghost changed = { λ _ item. K.rules.with_link item (Common Flnk) no_link };
 
     fn apply(&self, item: &mut K) {
-        item.set_link(LINK, KeptLink::empty());
+        item.set_link(LINK, LinkBox::empty());
     }
 }
 
 // Returns a link to VAL of a record, or an empty one.
-fn link_to(alloc: Global, target: Option<usize>) -> Result<KeptLink, AllocError> {
+fn link_to(alloc: Global, target: Option<usize>) -> Result<LinkBox, AllocError> {
     let Some(target) = target else {
-        return Ok(KeptLink::empty());
+        return Ok(LinkBox::empty());
     };
     let Ok(link) = parse(LinkKind::NoDevice, b"next") else {
-        return Ok(KeptLink::empty());
+        return Ok(LinkBox::empty());
     };
     let lead = Lead::Field(FieldAddress {
         number: RecordNo::new(target),
         field: FieldNo::Own(OwnField::Val),
     });
-    KeptLink::new(alloc, LinkField { link, lead })
+    LinkBox::new(alloc, LinkField { link, lead })
 }
 
 /// Adds a record with this number, a link to the target, and its device. Returns `false` if the
@@ -164,7 +164,7 @@ fn may_part<K: RecordKind, D: Device>(
     set: &Members<K, D>,
     number: RecordNo,
     field: FieldNo,
-    link: &KeptLink,
+    link: &LinkBox,
 ) -> Result<bool, AllocError>
     ensures folded { IfOk result (λ may. IsTrue may → set.now.base ≡ set.now.records) }
     ensures one_part { IfOk result (λ may. IsTrue may → IsPart (links_of K.rules set.now.records)) }
@@ -190,8 +190,8 @@ pub fn part<K: RecordKind + Drop, D: Device>(
     if !may_part(alloc, set, number, LINK, &link)? {
         return Ok(false);
     }
-    let twin = link.copy(alloc)?;
-    *rest = set.part(alloc, number, LINK, link, twin)?;
+    let base_link = link.copy(alloc)?;
+    *rest = set.part(alloc, number, LINK, link, base_link)?;
     Ok(true)
 }
 
@@ -202,7 +202,7 @@ fn may_join<K: RecordKind, D: Device>(
     other: &Members<K, D>,
     number: RecordNo,
     field: FieldNo,
-    link: &KeptLink,
+    link: &LinkBox,
 ) -> Result<bool, AllocError>
     ensures folded { IfOk result (λ may. IsTrue may → (set.now.base ≡ set.now.records) × (other.now.base ≡ other.now.records)) }
     ensures apart { IfOk result (λ may. IsTrue may → (q : ℕ) → IsSome (map.get set.now.records q) → map.get other.now.records q ≡ None) }
@@ -232,8 +232,8 @@ pub fn join<K: RecordKind, D: Device>(
     if !may_join(alloc, set, other, number, LINK, &link)? {
         return Ok(false);
     }
-    let twin = link.copy(alloc)?;
-    set.join(other, number, LINK, link, twin)?;
+    let base_link = link.copy(alloc)?;
+    set.join(other, number, LINK, link, base_link)?;
     Ok(true)
 }
 

@@ -2,7 +2,7 @@
 //! of a type, because a list is far cheaper to prove than a function.
 use crate::lower::acts::{Act, is_done};
 use ioc_dbcommon::{
-    FieldAddress, Fresh, Got, InputKind, KeptLink, Lead, LinkUse, Need, Output, StandingLink,
+    FieldAddress, Fresh, Got, InputKind, Lead, LinkBox, LinkUse, Need, Output, StandingLink,
 };
 use ioc_fields::{CommonField, FieldNo, OwnField, field};
 use ioc_links::Mode;
@@ -131,7 +131,7 @@ fn lead_on<K: RecordKind>(alloc: Global, item: &mut K, field: FieldNo, lead: Lea
     };
     let mut link = kept.get();
     link.lead = lead;
-    match KeptLink::new(alloc, link) {
+    match LinkBox::new(alloc, link) {
         Ok(kept) => {
             item.set_link(field, kept);
             true

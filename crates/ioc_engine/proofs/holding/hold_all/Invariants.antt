@@ -8,8 +8,8 @@ use Rattle.ioc_engine.proofs.holding.hold_all.Given as goal
 abbrev pub invariant-loop-part : goal.invariant-loop-part
 invariant-loop-part g l = record {
   count : l.directory ≡ length l.parts;
-  table : l.master.table_id ≡ g.B.Room.table;
+  table : l.master.table_id ≡ g.B.CellName.table;
   master : cell_view l.master ≡ keeper [] (cell_view l.master).born;
   born : AreOfPartsBelow l.parts l.part (cell_view l.master).born;
-  left : AreSetsFrom g.K.RecordKind.rules g.B.Base.base g.B.Base.had_device l.parts l.part l.sets;
+  left : AreSetsFrom g.K.RecordKind.rules g.B.EngineName.base g.B.EngineName.had_device l.parts l.part l.sets;
 }

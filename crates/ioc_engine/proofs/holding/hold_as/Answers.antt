@@ -1,12 +1,12 @@
 use Rattle.std.proofs.Common.{List, [], refl, sym, ◌∙◌, subst}
 use Rattle.std.specs.FinMap.{keys}
 use Rattle.crossbeam_utils.specs.Seq.{cell_view}
-use Rattle.ioc_history.specs.declared.room.View.{View}
+use Rattle.ioc_history.specs.declared.cell.View.{View}
 use Rattle.ioc_history.specs.Key.{Key, Has}
 use Rattle.ioc_history.specs.KeyLaws.{record_kind}
-use Rattle.ioc_history.specs.Held.{Cover}
+use Rattle.ioc_history.specs.Covering.{Cover}
 use Rattle.ioc_history.specs.Account.{IsHolder, AreRecords}
-use Rattle.ioc_set.specs.Held.{Held, now_of}
+use Rattle.ioc_set.specs.SetState.{SetState, now_of}
 use Rattle.ioc_set_store.specs.Resting.{resting}
 use Rattle.ioc_journaled_set.specs.Holding.{IsOwner, KeepsDevices}
 use Rattle.ioc_engine.proofs.Keys.{contains_record, there_key}
@@ -16,7 +16,7 @@ pub claim-pass-requires-clause-fresh : goal.claim-pass-requires-clause-fresh
 claim-pass-requires-clause-fresh g c = λ key has. c.requires.fresh key (subst (λ (l : List Key). Has key l) c.requires.keys has)
 
 pub new-requires-clause-devices : goal.new-requires-clause-devices
-new-requires-clause-devices g c = subst (λ (h : Held g.row.K.Denot g.row.D.Denot). KeepsDevices g.B.Base.had_device h) (sym c.of-set.ensures) c.requires.devices
+new-requires-clause-devices g c = subst (λ (h : SetState g.row.K.Denot g.row.D.Denot). KeepsDevices g.B.EngineName.had_device h) (sym c.of-set.ensures) c.requires.devices
 
 pub new-requires-clause-owner : goal.new-requires-clause-owner
 new-requires-clause-owner g c =
@@ -24,7 +24,7 @@ new-requires-clause-owner g c =
     let given = c.claim-pass.ensures.given in
     let is = given.2 in
     let same = sym c.requires.keys in
-    subst (λ (h : Held g.row.K.Denot g.row.D.Denot). IsOwner g.B.Room.table c.claim-pass.result.table_id (cell_view c.claim-pass.result) (now_of h)) (sym c.of-set.ensures)
+    subst (λ (h : SetState g.row.K.Denot g.row.D.Denot). IsOwner g.B.CellName.table c.claim-pass.result.table_id (cell_view c.claim-pass.result) (now_of h)) (sym c.of-set.ensures)
     (record {
       same = given.0 ∙ c.requires.table.1;
       holder = subst (λ (x : View). IsHolder x) (sym is) refl;

@@ -5,7 +5,7 @@ use Rattle.ioc_engine.proofs.report.all_keep_devices.Goals as goal
 
 pub loop-held-preserved : goal.loop-held-preserved
 loop-held-preserved g c = λ i d lt.
-    let had = g.B.Base.had_device in
+    let had = g.B.EngineName.had_device in
     let sets = c.args.sets.now in
     let index = c.loop-held.held-index in
     let within : index < length sets = search rules in

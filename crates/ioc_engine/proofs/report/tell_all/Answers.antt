@@ -10,7 +10,7 @@ use Rattle.ioc_engine.proofs.report.tell_all.Goals as goal
 pub loop-place-preserved : goal.loop-place-preserved
 loop-place-preserved g c =
     let k = g.K.RecordKind.rules in
-    let base = g.B.Base.base in
+    let base = g.B.EngineName.base in
     let within : c.loop-place.place < length c.loop-place.sets = omega arith in
     record {
       sets = map-set_same (λ (h : HeldView g.row.K.Denot g.row.D.Denot). h.set) c.loop-place.sets c.loop-place.place c.learn_all.new.self c.index-sets-place.result c.learn_all.ensures.set ∙ c.loop-place.invariant.sets;

@@ -8,6 +8,6 @@ use Rattle.ioc_engine.proofs.report.tell_all.Given as goal
 abbrev pub invariant-loop-place : goal.invariant-loop-place
 invariant-loop-place g l = record {
   sets : map (λ (h : HeldView g.row.K.Denot g.row.D.Denot). h.set) l.sets ≡ map (λ (h : HeldView g.row.K.Denot g.row.D.Denot). h.set) l.fn.sets;
-  told : (i : ℕ) (d : HeldView g.row.K.Denot g.row.D.Denot) → i < l.place → IsAsTold g.K.RecordKind.rules g.B.Base.base l.fn.journal.filled (slice_index_or l.sets i d);
+  told : (i : ℕ) (d : HeldView g.row.K.Denot g.row.D.Denot) → i < l.place → IsAsTold g.K.RecordKind.rules g.B.EngineName.base l.fn.journal.filled (slice_index_or l.sets i d);
   journal : l.journal ≡ l.fn.journal;
 }

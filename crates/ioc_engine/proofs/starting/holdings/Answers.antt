@@ -12,8 +12,8 @@ deal-requires-clause-below g c = c.requires.parts.below
 pub hold_all-requires-clause-parts : goal.hold_all-requires-clause-parts
 hold_all-requires-clause-parts g c =
     let k = g.K.RecordKind.rules in
-    let base = g.B.Base.base in
-    let had = g.B.Base.had_device in
+    let base = g.B.EngineName.base in
+    let had = g.B.EngineName.had_device in
     let all = c.args.all.items in
     let parts = c.args.parts.now in
     let sets = c.in_ok-sets.sets.items in

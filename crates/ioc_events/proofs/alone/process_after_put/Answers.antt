@@ -69,7 +69,7 @@ returns-clause-after g c = λ answers begins.
     let w = g.S.Store.world c.args.store.now in
     let s = c.args.number in
     rw (after_put-idle k answers w s c.args.field (ap (λ r. processes k r c.args.field) (sym c.record.ensures) ∙ sym c.processes.ensures ∙ c.if-not-processes.false)
-    (ap (λ (it : Common). it.active) (ap k.common (sym c.record-2.ensures) ∙ sym c.common.ensures) ∙ c.if-common.false)) (rw c.mark_put.ensures.world at (c.tell.ensures.told answers begins))
+    (ap (λ (it : Common). it.active) (ap k.common (sym c.record-2.ensures) ∙ sym c.common.ensures) ∙ c.if-common.false)) (rw c.mark_put.ensures.world at (c.request_present.ensures.told answers begins))
 
 pub returns-clause-keeps : goal.returns-clause-keeps
 returns-clause-keeps g c =
@@ -77,7 +77,7 @@ returns-clause-keeps g c =
     let lawful = g.met.S.Record.RecordKind.lawful in
     let w = g.S.Store.world c.args.store.now in
     let s = c.args.number in
-    keeps_on k (keeps-changed k lawful w s c.requires.there (with_put_mark true) (λ it. (refl, refl))) (rw c.mark_put.ensures.world at c.tell.ensures.keeps)
+    keeps_on k (keeps-changed k lawful w s c.requires.there (with_put_mark true) (λ it. (refl, refl))) (rw c.mark_put.ensures.world at c.request_present.ensures.keeps)
 
 pub returns-clause-given : goal.returns-clause-given
-returns-clause-given g c = rw c.mark_put.ensures.given at c.tell.ensures.given
+returns-clause-given g c = rw c.mark_put.ensures.given at c.request_present.ensures.given

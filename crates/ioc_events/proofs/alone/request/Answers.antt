@@ -10,7 +10,7 @@ returns-then-not-has-clause-done g c = λ answers begins.
 
 pub returns-clause-done : goal.returns-clause-done
 returns-clause-done g c = λ answers begins.
-    rw (step-process g.S.Record.RecordKind.rules answers (g.S.Store.world c.args.store.now) c.args.number (sym c.has.ensures ∙ c.if-not-has.false)) (c.tell-outcome.ensures.told answers begins)
+    rw (step-process g.S.Record.RecordKind.rules answers (g.S.Store.world c.args.store.now) c.args.number (sym c.has.ensures ∙ c.if-not-has.false)) (c.request_present-outcome.ensures.told answers begins)
 
 pub returns-then-not-has-clause-given : goal.returns-then-not-has-clause-given
 returns-then-not-has-clause-given g c = begins_same refl

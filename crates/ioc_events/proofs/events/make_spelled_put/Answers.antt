@@ -7,17 +7,17 @@ use Rattle.ioc_events.proofs.Stepping.{tells-event}
 use Rattle.ioc_events.proofs.events.make_spelled_put.Goals as goal
 
 pub end_effect-requires-clause-closed : goal.end_effect-requires-clause-closed
-end_effect-requires-clause-closed g c = closed_on g.S.Record.RecordKind.rules g.met.S.Record.RecordKind.lawful c.spell-effect.ensures.keeps c.requires.closed
+end_effect-requires-clause-closed g c = closed_on g.S.Record.RecordKind.rules g.met.S.Record.RecordKind.lawful c.put_text-effect.ensures.keeps c.requires.closed
 
 pub end_effect-requires-clause-room : goal.end_effect-requires-clause-room
-end_effect-requires-clause-room g c = rw (c.spell-effect.ensures.keeps.count, c.spell-effect.ensures.room) c.requires.room
+end_effect-requires-clause-room g c = rw (c.put_text-effect.ensures.keeps.count, c.put_text-effect.ensures.room) c.requires.room
 
 pub returns-clause-step : goal.returns-clause-step
 returns-clause-step g c = λ answers begins.
-    tells-event g.S.Record.RecordKind.rules answers _ _ _ (Put c.args.number c.args.field (input_of c.args.text.now)) _ _ _ _ _ _ c.asked-asked.ensures (c.spell-effect.ensures.done answers (accords_before c.end_effect.ensures.given begins)) refl (c.end_effect.ensures.ends answers begins) refl
+    tells-event g.S.Record.RecordKind.rules answers _ _ _ (Put c.args.number c.args.field (input_of c.args.text.now)) _ _ _ _ _ _ c.asked-asked.ensures (c.put_text-effect.ensures.done answers (accords_before c.end_effect.ensures.given begins)) refl (c.end_effect.ensures.ends answers begins) refl
 
 pub returns-clause-keeps : goal.returns-clause-keeps
-returns-clause-keeps g c = keeps_on g.S.Record.RecordKind.rules c.spell-effect.ensures.keeps c.end_effect.ensures.keeps
+returns-clause-keeps g c = keeps_on g.S.Record.RecordKind.rules c.put_text-effect.ensures.keeps c.end_effect.ensures.keeps
 
 pub returns-clause-given : goal.returns-clause-given
-returns-clause-given g c = begins_on c.spell-effect.ensures.given c.end_effect.ensures.given
+returns-clause-given g c = begins_on c.put_text-effect.ensures.given c.end_effect.ensures.given

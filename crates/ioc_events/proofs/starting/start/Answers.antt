@@ -22,17 +22,17 @@ returns-then-not-processes-clause-started g c = λ answers begins.
     let x = c.args.waiting.now in
     counts-told k g.met.S.Record.RecordKind.lawful answers (g.S.Store.world c.args.store.now) _ x c.args.tally.now
     (rw (← c.take_and_store.ensures.world) (ap (λ r. processes k r x.field) (sym c.record.ensures) ∙ sym c.processes.ensures ∙ c.if-not-processes.true))
-    (rw (← c.take_and_store.ensures.world) c.tell.ensures.world)
+    (rw (← c.take_and_store.ensures.world) c.request_present.ensures.world)
 
 pub returns-then-not-processes-clause-keeps : goal.returns-then-not-processes-clause-keeps
 returns-then-not-processes-clause-keeps g c =
     let k = g.S.Record.RecordKind.rules in
     let lawful = g.met.S.Record.RecordKind.lawful in
     let taken = taken-keeps k lawful (g.S.Store.world c.args.store.now) c.args.waiting.now c.requires.there in
-    rw (c.tell.ensures.world, c.take_and_store.ensures.world) (keeps_on k taken (notified-keeps k lawful _ c.args.waiting.now.target (taken.has _ c.requires.there)))
+    rw (c.request_present.ensures.world, c.take_and_store.ensures.world) (keeps_on k taken (notified-keeps k lawful _ c.args.waiting.now.target (taken.has _ c.requires.there)))
 
 pub returns-then-not-processes-clause-given : goal.returns-then-not-processes-clause-given
-returns-then-not-processes-clause-given g c = begins_same (c.tell.ensures.given ∙ c.take_and_store.ensures.given)
+returns-then-not-processes-clause-given g c = begins_same (c.request_present.ensures.given ∙ c.take_and_store.ensures.given)
 
 pub request_record-outcome-requires-clause-there : goal.request_record-outcome-requires-clause-there
 request_record-outcome-requires-clause-there g c =

@@ -6,5 +6,5 @@ use Rattle.ioc_history.proofs.pass.append.Given as goal
 abbrev pub ghosts-append_as-K-Keys : goal.ghosts-append_as-K-Keys
 ghosts-append_as-K-Keys g a = record { keys = (cell_view a.set.now).owns; rest = (cell_view a.desk.now).owns }
 
-abbrev pub ghosts-append_as-S-Said : goal.ghosts-append_as-S-Said
-ghosts-append_as-S-Said g a = record { note = noted a.entry.now ((cell_view a.set.now).owns ++ (cell_view a.desk.now).owns) }
+abbrev pub ghosts-append_as-S-NoteName : goal.ghosts-append_as-S-NoteName
+ghosts-append_as-S-NoteName g a = record { note = noted a.entry.now ((cell_view a.set.now).owns ++ (cell_view a.desk.now).owns) }

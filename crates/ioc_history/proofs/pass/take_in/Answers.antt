@@ -1,6 +1,6 @@
 use Rattle.std.proofs.Common.{ap, ◌∙◌, subst}
 use Rattle.crossbeam_utils.specs.Seq.{cell_view}
-use Rattle.ioc_history.specs.declared.room.View.{View}
+use Rattle.ioc_history.specs.declared.cell.View.{View}
 use Rattle.ioc_history.specs.Line.{TakenIn}
 use Rattle.ioc_history.proofs.Moves.{turns_takes_in}
 use Rattle.ioc_history.proofs.pass.take_in.Goals as goal

@@ -14,7 +14,7 @@ false_true e = cc
 pub refuse_link-requires-clause-known : goal.refuse_link-requires-clause-known
 refuse_link-requires-clause-known g c =
     let k = g.K.RecordKind.rules in
-    let base = g.B.Base.base in
+    let base = g.B.EngineName.base in
     let known = lent_known k base c.args.number c.args.first.now c.args.second.now c.args.spare.now c.is_sound.ensures c.is_sound-then-forbids.ensures (use_of c.args.link) c.requires.lent in
     subst (λ (l : LinkField). (t : ℕ) → Contains (named_by (use_of l)) t → IsKnown k base t) (sym c.get.ensures) known
 

@@ -1,9 +1,9 @@
 use Rattle.std.proofs.Common.{◌<◌, List, Option, refl, ap, ◌∙◌, subst, length, get_or, arith}
 use Rattle.std.specs.Option.{IfSome}
 use Rattle.crossbeam_utils.specs.Seq.{cell_view}
-use Rattle.ioc_history.specs.declared.room.View.{View}
+use Rattle.ioc_history.specs.declared.cell.View.{View}
 use Rattle.ioc_notify.specs.Counts.{holders_in}
-use Rattle.ioc_set.specs.Held.{Held}
+use Rattle.ioc_set.specs.SetState.{SetState}
 use Rattle.ioc_journaled_set.specs.GiveUpLaws.{GivesUp}
 use Rattle.ioc_journaled_set.specs.Puts.{PutsView}
 use Rattle.ioc_journaled_set.specs.GivingUp.{HeldGaveUp, sets_of}
@@ -13,7 +13,7 @@ use Rattle.ioc_journaled_set.proofs.giving_up.cancel_on.Goals as goal
 pub returns-in-Ok-Some-clause-gave_up : goal.returns-in-Ok-Some-clause-gave_up
 returns-in-Ok-Some-clause-gave_up g c =
     let k = g.K.RecordKind.rules in
-    let base = g.B.Base.base in
+    let base = g.B.EngineName.base in
     let held = c.args.held.now in
     let then = c.give_up_lent-given.new.held in
     let number = c.args.number in
@@ -23,14 +23,14 @@ returns-in-Ok-Some-clause-gave_up g c =
     let sets = c.as_mut_slice.ensures.value ∙ c.lend_all.ensures.sets in
     let one = subst (λ (o : Option _). IfSome o (λ _. HeldGaveUp k base c.args.moment number c.args.desk.now c.as_mut_slice.result.now (cell_view c.lend_all.new.keeper) c.give_up_lent-given.new.desk then (cell_view c.give_up_lent-given.new.keeper)))
     c.in-Ok-Some.field-0-is c.in-Ok-Some.ensures.gave_up in
-    let gu = subst (λ (l : List (Held g.row.K.Denot g.row.D.Denot)). HeldGaveUp k base c.args.moment number c.args.desk.now l (cell_view c.lend_all.new.keeper) c.give_up_lent-given.new.desk then (cell_view c.give_up_lent-given.new.keeper)) sets one in
+    let gu = subst (λ (l : List (SetState g.row.K.Denot g.row.D.Denot)). HeldGaveUp k base c.args.moment number c.args.desk.now l (cell_view c.lend_all.new.keeper) c.give_up_lent-given.new.desk then (cell_view c.give_up_lent-given.new.keeper)) sets one in
     let was = ap (λ (v : PutsView). v.live) c.all.view_is in
     let tells = c.holders-total.ensures ∙ c.lines_tell_holders.ensures.holders table number (c.is_table.ensures.once number) in
     record {
       answer = refl;
       gives_up = λ i d e lt.
           let here : i < length (sets_of held) = let many = sets_long held in omega (arith, lt, many) in
-          subst (λ (h : Held g.row.K.Denot g.row.D.Denot). GivesUp k moment number h (get_or then i e).set) (set_at held i d d.set lt) (gu.gives_up i d.set e here);
+          subst (λ (h : SetState g.row.K.Denot g.row.D.Denot). GivesUp k moment number h (get_or then i e).set) (set_at held i d d.set lt) (gu.gives_up i d.set e here);
       call = gu.call;
       seen = gu.seen;
       puts_seen = ap (λ (v : View). v.seen) gu.keeps;

@@ -1,6 +1,6 @@
 use Rattle.std.proofs.Common.{◌≡◌, ◌≢◌, ◌<◌, ◌++◌, ◌∷◌, [], List, Option, Some, sym, ap, ◌∙◌, subst, length, get_or, take, get_or-set_other, length-append, arith, rules}
 use Rattle.std.proofs.lemmas.List.{take_more}
-use Rattle.ioc_set.specs.Held.{Held}
+use Rattle.ioc_set.specs.SetState.{SetState}
 use Rattle.ioc_journaled_set.specs.Holding.{HeldView}
 use Rattle.ioc_journaled_set.specs.GivingUp.{EachIsLent, sets_of}
 use Rattle.ioc_journaled_set.proofs.GivingUp.{lent_more, sets_push}
@@ -10,8 +10,8 @@ use Rattle.ioc_journaled_set.proofs.giving_up.lend_all.Goals as goal
 pub loop-i-preserved : goal.loop-i-preserved
 loop-i-preserved g c =
     let k = g.K.RecordKind.rules in
-    let base = g.B.Base.base in
-    let table = g.B.Room.table in
+    let base = g.B.EngineName.base in
+    let table = g.B.CellName.table in
     let i = c.loop-i.i in
     let old = c.args.held.now in
     let d = c.index-held-i.result in
@@ -33,12 +33,12 @@ loop-i-preserved g c =
       table = e.keeper.0 ∙ inv.table;
       view = e.keeper.1 ∙ inv.view;
       room = (omega (arith, inv.room.0, c.push_reserved.ensures.capacity), omega (arith, inv.room.1, c.push_reserved-in-loop-i.ensures.capacity));
-      sets = sets ∙ ap (λ (l : List (Held g.row.K.Denot g.row.D.Denot)). l ++ set ∷ []) inv.sets ∙ ap (λ (x : Held g.row.K.Denot g.row.D.Denot). sets_of (take i old) ++ x ∷ []) set_is
+      sets = sets ∙ ap (λ (l : List (SetState g.row.K.Denot g.row.D.Denot)). l ++ set ∷ []) inv.sets ∙ ap (λ (x : SetState g.row.K.Denot g.row.D.Denot). sets_of (take i old) ++ x ∷ []) set_is
           ∙ sym (sets_push (take i old) (get_or old i d)) ∙ ap (λ (l : List (HeldView g.row.K.Denot g.row.D.Denot)). sets_of l) (sym (take_more old i d within));
       count = (omega (arith, inv.count.0, c.push_reserved.ensures.len), omega (arith, inv.count.1, c.push_reserved-in-loop-i.ensures.len));
       lengths = (omega (arith, before, many, sets_long), omega (arith, before, others, passes_long));
-      lent = subst (λ (l : List (Held g.row.K.Denot g.row.D.Denot)). EachIsLent k base g.B.Base.had_device table l c.push_reserved-in-loop-i.new.self.items) (sym sets)
-          (subst (λ (l : List (Option Pass)). EachIsLent k base g.B.Base.had_device table (c.loop-i.sets.items ++ set ∷ []) l) (sym passes)
-          (lent_more k base g.B.Base.had_device table c.loop-i.sets.items c.loop-i.passes.items set (Some own) (before.1 ∙ sym before.0) inv.lent e.lent));
+      lent = subst (λ (l : List (SetState g.row.K.Denot g.row.D.Denot)). EachIsLent k base g.B.EngineName.had_device table l c.push_reserved-in-loop-i.new.self.items) (sym sets)
+          (subst (λ (l : List (Option Pass)). EachIsLent k base g.B.EngineName.had_device table (c.loop-i.sets.items ++ set ∷ []) l) (sym passes)
+          (lent_more k base g.B.EngineName.had_device table c.loop-i.sets.items c.loop-i.passes.items set (Some own) (before.1 ∙ sym before.0) inv.lent e.lent));
       rest = λ j d le. let apart : j ≢ i = omega arith in get_or-set_other c.loop-i.held i j c.replace-one.new.dest d apart ∙ inv.rest j d (omega arith);
     }

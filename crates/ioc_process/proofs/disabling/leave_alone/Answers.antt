@@ -14,7 +14,7 @@ returns-clause-turn g c = λ answers.
     let k = g.S.Record.RecordKind.rules in
     let lawful = g.met.S.Record.RecordKind.lawful in
     let w = g.S.Store.world c.args.store.now in
-    rw (c.disable.ensures.world, c.tell.ensures.world) (judged-off k lawful answers w c.args.number c.requires.off)
+    rw (c.disable.ensures.world, c.release_notification.ensures.world) (judged-off k lawful answers w c.args.number c.requires.off)
 
 pub returns-clause-turns : goal.returns-clause-turns
 returns-clause-turns g c =
@@ -23,9 +23,9 @@ returns-clause-turns g c =
     let w = g.S.Store.world c.args.store.now in
     let s = c.args.number in
     let told = notified-keeps k lawful w s c.requires.there in
-    rw (c.disable.ensures.world, c.tell.ensures.world) (turns_ended k (keeps_on k told (keeps-changed k lawful (notified k w s) s (told.has s c.requires.there) disabled disabled-links))
+    rw (c.disable.ensures.world, c.release_notification.ensures.world) (turns_ended k (keeps_on k told (keeps-changed k lawful (notified k w s) s (told.has s c.requires.there) disabled disabled-links))
     (omega (arith, notified-idle k lawful w s, (stays-changed k lawful (notified k w s) s disabled (disabled-active _)).fewer)) Disabled)
 
 pub disable-requires : goal.disable-requires
 disable-requires g c =
-    rw c.tell.ensures.world ((notified-keeps g.S.Record.RecordKind.rules g.met.S.Record.RecordKind.lawful (g.S.Store.world c.args.store.now) c.args.number c.requires.there).has _ c.requires.there)
+    rw c.release_notification.ensures.world ((notified-keeps g.S.Record.RecordKind.rules g.met.S.Record.RecordKind.lawful (g.S.Store.world c.args.store.now) c.args.number c.requires.there).has _ c.requires.there)

@@ -68,7 +68,7 @@ returns-in-None-clause-turn g c = λ answers.
     let lawful = g.met.S.Record.RecordKind.lawful in
     let w = g.S.Store.world c.args.store.now in
     let s = c.args.number in
-    rw (c.rest.ensures.world, c.in-Some.ensures.world)
+    rw (c.finish_request.ensures.world, c.in-Some.ensures.world)
     (finished-ends k lawful answers w s (ap (λ (o : Option ℕ). passive_record k (ready k lawful w s) o) (sym c.in-Some.ensures.named) ∙ rw c.in-Some.ensures.world at (sym c.passive_record.ensures ∙ c.in-None.is)))
 
 pub returns-in-None-clause-turns : goal.returns-in-None-clause-turns
@@ -78,7 +78,7 @@ returns-in-None-clause-turns g c =
     let w = g.S.Store.world c.args.store.now in
     let s = c.args.number in
     let first = ready-keeps k lawful w s c.requires.there in
-    rw (c.rest.ensures.world, c.in-Some.ensures.world)
+    rw (c.finish_request.ensures.world, c.in-Some.ensures.world)
     (turns_ended k (keeps_on k first (rested-keeps k lawful _ s (first.has _ c.requires.there))) (omega (arith, ready-ended k lawful w s c.requires.is_idle)) Processed)
 
 pub returns-in_default-clause-turn : goal.returns-in_default-clause-turn

@@ -35,7 +35,7 @@ begin_with_disable-requires-clause-there g c =
     let lawful = g.met.S.Record.RecordKind.lawful in
     let w = g.S.Store.world c.args.store.now in
     let s = c.args.number in
-    let is = rw c.in-ReadsDisable.is at c.open.ensures.opened in
+    let is = rw c.in-ReadsDisable.is at c.begin_fast.ensures.opened in
     rw is.0 ((ready-keeps k lawful w s c.requires.there).has _ c.requires.there)
 
 pub begin_with_disable-requires-clause-closed : goal.begin_with_disable-requires-clause-closed
@@ -44,7 +44,7 @@ begin_with_disable-requires-clause-closed g c =
     let lawful = g.met.S.Record.RecordKind.lawful in
     let w = g.S.Store.world c.args.store.now in
     let s = c.args.number in
-    let is = rw c.in-ReadsDisable.is at c.open.ensures.opened in
+    let is = rw c.in-ReadsDisable.is at c.begin_fast.ensures.opened in
     rw is.0 (closed_on k lawful (ready-keeps k lawful w s c.requires.there) c.requires.closed)
 
 pub begin_with_disable-requires-clause-is_idle : goal.begin_with_disable-requires-clause-is_idle
@@ -53,7 +53,7 @@ begin_with_disable-requires-clause-is_idle g c =
     let lawful = g.met.S.Record.RecordKind.lawful in
     let w = g.S.Store.world c.args.store.now in
     let s = c.args.number in
-    let is = rw c.in-ReadsDisable.is at c.open.ensures.opened in
+    let is = rw c.in-ReadsDisable.is at c.begin_fast.ensures.opened in
     rw is.0 ((stays-changed k lawful w s unblocked refl).active ∙ c.requires.is_idle)
 
 pub returns-in-ReadsDisable-clause-turn : goal.returns-in-ReadsDisable-clause-turn
@@ -62,12 +62,12 @@ returns-in-ReadsDisable-clause-turn g c = λ answers begins.
     let lawful = g.met.S.Record.RecordKind.lawful in
     let w = g.S.Store.world c.args.store.now in
     let s = c.args.number in
-    let is = rw c.in-ReadsDisable.is at c.open.ensures.opened in
+    let is = rw c.in-ReadsDisable.is at c.begin_fast.ensures.opened in
     begun-reads k lawful answers w _ s _ is.0 refl ∙ c.begin_with_disable.ensures.turn answers begins
 
 pub returns-in-ReadsDisable-clause-given : goal.returns-in-ReadsDisable-clause-given
 returns-in-ReadsDisable-clause-given g c =
-    rw c.open.ensures.given at c.begin_with_disable.ensures.given
+    rw c.begin_fast.ensures.given at c.begin_with_disable.ensures.given
 
 pub returns-in-ReadsDisable-clause-turns : goal.returns-in-ReadsDisable-clause-turns
 returns-in-ReadsDisable-clause-turns g c =
@@ -75,7 +75,7 @@ returns-in-ReadsDisable-clause-turns g c =
     let lawful = g.met.S.Record.RecordKind.lawful in
     let w = g.S.Store.world c.args.store.now in
     let s = c.args.number in
-    let is = rw c.in-ReadsDisable.is at c.open.ensures.opened in
+    let is = rw c.in-ReadsDisable.is at c.begin_fast.ensures.opened in
     turns_on k (ready-keeps k lawful w s c.requires.there) (omega (arith, (stays-changed k lawful w s unblocked refl).fewer)) (omega arith) (rw is.0 at c.begin_with_disable.ensures.turns)
 
 pub begin_wanted-requires-clause-there : goal.begin_wanted-requires-clause-there
@@ -84,7 +84,7 @@ begin_wanted-requires-clause-there g c =
     let lawful = g.met.S.Record.RecordKind.lawful in
     let w = g.S.Store.world c.args.store.now in
     let s = c.args.number in
-    let is = rw c.in-ReadsLink.is at c.open.ensures.opened in
+    let is = rw c.in-ReadsLink.is at c.begin_fast.ensures.opened in
     rw is.0 ((ready-keeps k lawful w s c.requires.there).has _ c.requires.there)
 
 pub begin_wanted-requires-clause-closed : goal.begin_wanted-requires-clause-closed
@@ -93,7 +93,7 @@ begin_wanted-requires-clause-closed g c =
     let lawful = g.met.S.Record.RecordKind.lawful in
     let w = g.S.Store.world c.args.store.now in
     let s = c.args.number in
-    let is = rw c.in-ReadsLink.is at c.open.ensures.opened in
+    let is = rw c.in-ReadsLink.is at c.begin_fast.ensures.opened in
     rw is.0 (closed_on k lawful (ready-keeps k lawful w s c.requires.there) c.requires.closed)
 
 pub begin_wanted-requires-clause-is_idle : goal.begin_wanted-requires-clause-is_idle
@@ -102,7 +102,7 @@ begin_wanted-requires-clause-is_idle g c =
     let lawful = g.met.S.Record.RecordKind.lawful in
     let w = g.S.Store.world c.args.store.now in
     let s = c.args.number in
-    let is = rw c.in-ReadsLink.is at c.open.ensures.opened in
+    let is = rw c.in-ReadsLink.is at c.begin_fast.ensures.opened in
     rw is.0 ((stays-changed k lawful w s unblocked refl).active ∙ c.requires.is_idle)
 
 pub begin_wanted-requires-clause-wants : goal.begin_wanted-requires-clause-wants
@@ -111,7 +111,7 @@ begin_wanted-requires-clause-wants g c =
     let lawful = g.met.S.Record.RecordKind.lawful in
     let w = g.S.Store.world c.args.store.now in
     let s = c.args.number in
-    let is = rw c.in-ReadsLink.is at c.open.ensures.opened in
+    let is = rw c.in-ReadsLink.is at c.begin_fast.ensures.opened in
     rw is.0 is.1.needs
 
 pub returns-in-ReadsLink-clause-turn : goal.returns-in-ReadsLink-clause-turn
@@ -120,12 +120,12 @@ returns-in-ReadsLink-clause-turn g c = λ answers begins.
     let lawful = g.met.S.Record.RecordKind.lawful in
     let w = g.S.Store.world c.args.store.now in
     let s = c.args.number in
-    let is = rw c.in-ReadsLink.is at c.open.ensures.opened in
+    let is = rw c.in-ReadsLink.is at c.begin_fast.ensures.opened in
     begun-judged k lawful answers w (ready k lawful w s) s refl is.1.unused ∙ judged-on k lawful answers (ready k lawful w s) s is.1.on ∙ rw is.0 at (c.begin_wanted.ensures.turn answers begins)
 
 pub returns-in-ReadsLink-clause-given : goal.returns-in-ReadsLink-clause-given
 returns-in-ReadsLink-clause-given g c =
-    rw c.open.ensures.given at c.begin_wanted.ensures.given
+    rw c.begin_fast.ensures.given at c.begin_wanted.ensures.given
 
 pub returns-in-ReadsLink-clause-turns : goal.returns-in-ReadsLink-clause-turns
 returns-in-ReadsLink-clause-turns g c =
@@ -133,7 +133,7 @@ returns-in-ReadsLink-clause-turns g c =
     let lawful = g.met.S.Record.RecordKind.lawful in
     let w = g.S.Store.world c.args.store.now in
     let s = c.args.number in
-    let is = rw c.in-ReadsLink.is at c.open.ensures.opened in
+    let is = rw c.in-ReadsLink.is at c.begin_fast.ensures.opened in
     turns_on k (ready-keeps k lawful w s c.requires.there) (omega (arith, (stays-changed k lawful w s unblocked refl).fewer)) (omega arith) (rw is.0 at c.begin_wanted.ensures.turns)
 
 pub begin_asking-requires-clause-there : goal.begin_asking-requires-clause-there
@@ -142,7 +142,7 @@ begin_asking-requires-clause-there g c =
     let lawful = g.met.S.Record.RecordKind.lawful in
     let w = g.S.Store.world c.args.store.now in
     let s = c.args.number in
-    let is = rw c.in-ReadsDevice.is at c.open.ensures.opened in
+    let is = rw c.in-ReadsDevice.is at c.begin_fast.ensures.opened in
     rw is.0 ((ready-keeps k lawful w s c.requires.there).has _ c.requires.there)
 
 pub begin_asking-requires-clause-closed : goal.begin_asking-requires-clause-closed
@@ -151,7 +151,7 @@ begin_asking-requires-clause-closed g c =
     let lawful = g.met.S.Record.RecordKind.lawful in
     let w = g.S.Store.world c.args.store.now in
     let s = c.args.number in
-    let is = rw c.in-ReadsDevice.is at c.open.ensures.opened in
+    let is = rw c.in-ReadsDevice.is at c.begin_fast.ensures.opened in
     rw is.0 (closed_on k lawful (ready-keeps k lawful w s c.requires.there) c.requires.closed)
 
 pub begin_asking-requires-clause-is_idle : goal.begin_asking-requires-clause-is_idle
@@ -160,7 +160,7 @@ begin_asking-requires-clause-is_idle g c =
     let lawful = g.met.S.Record.RecordKind.lawful in
     let w = g.S.Store.world c.args.store.now in
     let s = c.args.number in
-    let is = rw c.in-ReadsDevice.is at c.open.ensures.opened in
+    let is = rw c.in-ReadsDevice.is at c.begin_fast.ensures.opened in
     rw is.0 ((stays-changed k lawful w s unblocked refl).active ∙ c.requires.is_idle)
 
 pub begin_asking-requires-clause-wants : goal.begin_asking-requires-clause-wants
@@ -169,7 +169,7 @@ begin_asking-requires-clause-wants g c =
     let lawful = g.met.S.Record.RecordKind.lawful in
     let w = g.S.Store.world c.args.store.now in
     let s = c.args.number in
-    let is = rw c.in-ReadsDevice.is at c.open.ensures.opened in
+    let is = rw c.in-ReadsDevice.is at c.begin_fast.ensures.opened in
     rw is.0 is.1.needs
 
 pub returns-in-ReadsDevice-clause-turn : goal.returns-in-ReadsDevice-clause-turn
@@ -178,12 +178,12 @@ returns-in-ReadsDevice-clause-turn g c = λ answers begins.
     let lawful = g.met.S.Record.RecordKind.lawful in
     let w = g.S.Store.world c.args.store.now in
     let s = c.args.number in
-    let is = rw c.in-ReadsDevice.is at c.open.ensures.opened in
+    let is = rw c.in-ReadsDevice.is at c.begin_fast.ensures.opened in
     begun-judged k lawful answers w (ready k lawful w s) s refl is.1.unused ∙ judged-on k lawful answers (ready k lawful w s) s is.1.on ∙ rw is.0 at (c.begin_asking.ensures.turn answers begins)
 
 pub returns-in-ReadsDevice-clause-given : goal.returns-in-ReadsDevice-clause-given
 returns-in-ReadsDevice-clause-given g c =
-    rw c.open.ensures.given at c.begin_asking.ensures.given
+    rw c.begin_fast.ensures.given at c.begin_asking.ensures.given
 
 pub returns-in-ReadsDevice-clause-turns : goal.returns-in-ReadsDevice-clause-turns
 returns-in-ReadsDevice-clause-turns g c =
@@ -191,7 +191,7 @@ returns-in-ReadsDevice-clause-turns g c =
     let lawful = g.met.S.Record.RecordKind.lawful in
     let w = g.S.Store.world c.args.store.now in
     let s = c.args.number in
-    let is = rw c.in-ReadsDevice.is at c.open.ensures.opened in
+    let is = rw c.in-ReadsDevice.is at c.begin_fast.ensures.opened in
     turns_on k (ready-keeps k lawful w s c.requires.there) (omega (arith, (stays-changed k lawful w s unblocked refl).fewer)) (omega arith) (rw is.0 at c.begin_asking.ensures.turns)
 
 pub leave_alone-requires-clause-there : goal.leave_alone-requires-clause-there
@@ -200,7 +200,7 @@ leave_alone-requires-clause-there g c =
     let lawful = g.met.S.Record.RecordKind.lawful in
     let w = g.S.Store.world c.args.store.now in
     let s = c.args.number in
-    let is = rw c.in-Disabled.is at c.open.ensures.opened in
+    let is = rw c.in-Disabled.is at c.begin_fast.ensures.opened in
     rw is.0 ((ready-keeps k lawful w s c.requires.there).has _ c.requires.there)
 
 pub leave_alone-requires-clause-off : goal.leave_alone-requires-clause-off
@@ -209,7 +209,7 @@ leave_alone-requires-clause-off g c =
     let lawful = g.met.S.Record.RecordKind.lawful in
     let w = g.S.Store.world c.args.store.now in
     let s = c.args.number in
-    let is = rw c.in-Disabled.is at c.open.ensures.opened in
+    let is = rw c.in-Disabled.is at c.begin_fast.ensures.opened in
     rw is.0 is.2
 
 pub returns-in-Disabled-clause-turn : goal.returns-in-Disabled-clause-turn
@@ -218,12 +218,12 @@ returns-in-Disabled-clause-turn g c = λ answers begins.
     let lawful = g.met.S.Record.RecordKind.lawful in
     let w = g.S.Store.world c.args.store.now in
     let s = c.args.number in
-    let is = rw c.in-Disabled.is at c.open.ensures.opened in
+    let is = rw c.in-Disabled.is at c.begin_fast.ensures.opened in
     begun-judged k lawful answers w (ready k lawful w s) s refl is.1 ∙ rw c.leave_alone.ensures.ends (rw is.0 at (c.leave_alone.ensures.turn answers))
 
 pub returns-in-Disabled-clause-given : goal.returns-in-Disabled-clause-given
 returns-in-Disabled-clause-given g c =
-    begins_same (c.leave_alone.ensures.given ∙ c.open.ensures.given)
+    begins_same (c.leave_alone.ensures.given ∙ c.begin_fast.ensures.given)
 
 pub returns-in-Disabled-clause-turns : goal.returns-in-Disabled-clause-turns
 returns-in-Disabled-clause-turns g c =
@@ -231,7 +231,7 @@ returns-in-Disabled-clause-turns g c =
     let lawful = g.met.S.Record.RecordKind.lawful in
     let w = g.S.Store.world c.args.store.now in
     let s = c.args.number in
-    let is = rw c.in-Disabled.is at c.open.ensures.opened in
+    let is = rw c.in-Disabled.is at c.begin_fast.ensures.opened in
     rw c.leave_alone.ensures.ends (turns_on k (ready-keeps k lawful w s c.requires.there) (omega (arith, (stays-changed k lawful w s unblocked refl).fewer)) (omega arith) (rw is.0 at c.leave_alone.ensures.turns))
 
 pub finish-requires-clause-there : goal.finish-requires-clause-there
@@ -240,7 +240,7 @@ finish-requires-clause-there g c =
     let lawful = g.met.S.Record.RecordKind.lawful in
     let w = g.S.Store.world c.args.store.now in
     let s = c.args.number in
-    let is = rw c.in-Took.is at c.open.ensures.opened in
+    let is = rw c.in-Took.is at c.begin_fast.ensures.opened in
     rw is.0 ((took-keeps k lawful w s c.requires.there).has _ ((ready-keeps k lawful w s c.requires.there).has _ c.requires.there))
 
 pub finish-requires-clause-closed : goal.finish-requires-clause-closed
@@ -249,7 +249,7 @@ finish-requires-clause-closed g c =
     let lawful = g.met.S.Record.RecordKind.lawful in
     let w = g.S.Store.world c.args.store.now in
     let s = c.args.number in
-    let is = rw c.in-Took.is at c.open.ensures.opened in
+    let is = rw c.in-Took.is at c.begin_fast.ensures.opened in
     rw is.0 (closed_on k lawful (took-keeps k lawful w s c.requires.there) (closed_on k lawful (ready-keeps k lawful w s c.requires.there) c.requires.closed))
 
 pub finish-requires-clause-is_idle : goal.finish-requires-clause-is_idle
@@ -258,7 +258,7 @@ finish-requires-clause-is_idle g c =
     let lawful = g.met.S.Record.RecordKind.lawful in
     let w = g.S.Store.world c.args.store.now in
     let s = c.args.number in
-    let is = rw c.in-Took.is at c.open.ensures.opened in
+    let is = rw c.in-Took.is at c.begin_fast.ensures.opened in
     rw is.0 ((taken-stays k lawful (ready k lawful w s) s got.Nothing).active ∙ (stays-changed k lawful w s unblocked refl).active ∙ c.requires.is_idle)
 
 pub returns-in-Took-clause-turn : goal.returns-in-Took-clause-turn
@@ -267,14 +267,14 @@ returns-in-Took-clause-turn g c = λ answers begins.
     let lawful = g.met.S.Record.RecordKind.lawful in
     let w = g.S.Store.world c.args.store.now in
     let s = c.args.number in
-    let is = rw c.in-Took.is at c.open.ensures.opened in
+    let is = rw c.in-Took.is at c.begin_fast.ensures.opened in
     begun-judged k lawful answers w (ready k lawful w s) s refl is.1.unused ∙ judged-on k lawful answers (ready k lawful w s) s is.1.on
     ∙ ap (λ d. processed d) (body-nothing k lawful answers (ready k lawful w s) s is.1.needs)
     ∙ completed-nothing k lawful answers (ready k lawful w s) s got.Nothing is.2 (rw is.0 at (c.finish.ensures.turn answers))
 
 pub returns-in-Took-clause-given : goal.returns-in-Took-clause-given
 returns-in-Took-clause-given g c =
-    begins_same (c.finish.ensures.given ∙ c.open.ensures.given)
+    begins_same (c.finish.ensures.given ∙ c.begin_fast.ensures.given)
 
 pub returns-in-Took-clause-turns : goal.returns-in-Took-clause-turns
 returns-in-Took-clause-turns g c =
@@ -282,7 +282,7 @@ returns-in-Took-clause-turns g c =
     let lawful = g.met.S.Record.RecordKind.lawful in
     let w = g.S.Store.world c.args.store.now in
     let s = c.args.number in
-    let is = rw c.in-Took.is at c.open.ensures.opened in
+    let is = rw c.in-Took.is at c.begin_fast.ensures.opened in
     turns_on k (keeps_on k (ready-keeps k lawful w s c.requires.there) (took-keeps k lawful w s c.requires.there))
     (omega (arith, (stays-changed k lawful w s unblocked refl).fewer, (taken-stays k lawful (ready k lawful w s) s got.Nothing).fewer)) (omega arith) (rw is.0 at c.finish.ensures.turns)
 
@@ -292,7 +292,7 @@ put_out-requires-clause-there g c =
     let lawful = g.met.S.Record.RecordKind.lawful in
     let w = g.S.Store.world c.args.store.now in
     let s = c.args.number in
-    let is = rw c.in-PutsOut.is at c.open.ensures.opened in
+    let is = rw c.in-PutsOut.is at c.begin_fast.ensures.opened in
     rw is.0 ((took-keeps k lawful w s c.requires.there).has _ ((ready-keeps k lawful w s c.requires.there).has _ c.requires.there))
 
 pub put_out-requires-clause-closed : goal.put_out-requires-clause-closed
@@ -301,7 +301,7 @@ put_out-requires-clause-closed g c =
     let lawful = g.met.S.Record.RecordKind.lawful in
     let w = g.S.Store.world c.args.store.now in
     let s = c.args.number in
-    let is = rw c.in-PutsOut.is at c.open.ensures.opened in
+    let is = rw c.in-PutsOut.is at c.begin_fast.ensures.opened in
     rw is.0 (closed_on k lawful (took-keeps k lawful w s c.requires.there) (closed_on k lawful (ready-keeps k lawful w s c.requires.there) c.requires.closed))
 
 pub put_out-requires-clause-is_idle : goal.put_out-requires-clause-is_idle
@@ -310,7 +310,7 @@ put_out-requires-clause-is_idle g c =
     let lawful = g.met.S.Record.RecordKind.lawful in
     let w = g.S.Store.world c.args.store.now in
     let s = c.args.number in
-    let is = rw c.in-PutsOut.is at c.open.ensures.opened in
+    let is = rw c.in-PutsOut.is at c.begin_fast.ensures.opened in
     rw is.0 ((taken-stays k lawful (ready k lawful w s) s got.Nothing).active ∙ (stays-changed k lawful w s unblocked refl).active ∙ c.requires.is_idle)
 
 pub put_out-requires-clause-standing : goal.put_out-requires-clause-standing
@@ -319,7 +319,7 @@ put_out-requires-clause-standing g c = λ t v wanted.
     let lawful = g.met.S.Record.RecordKind.lawful in
     let w = g.S.Store.world c.args.store.now in
     let s = c.args.number in
-    let is = rw c.in-PutsOut.is at c.open.ensures.opened in
+    let is = rw c.in-PutsOut.is at c.begin_fast.ensures.opened in
     let closed = closed_on k lawful (ready-keeps k lawful w s c.requires.there) c.requires.closed in
     rw is.0 ((took-keeps k lawful w s c.requires.there).has _ (output_stands k lawful (ready k lawful w s) s got.Nothing closed t v (sym is.2 ∙ wanted)))
 
@@ -329,14 +329,14 @@ returns-in-PutsOut-clause-turn g c = λ answers begins.
     let lawful = g.met.S.Record.RecordKind.lawful in
     let w = g.S.Store.world c.args.store.now in
     let s = c.args.number in
-    let is = rw c.in-PutsOut.is at c.open.ensures.opened in
+    let is = rw c.in-PutsOut.is at c.begin_fast.ensures.opened in
     begun-judged k lawful answers w (ready k lawful w s) s refl is.1.unused ∙ judged-on k lawful answers (ready k lawful w s) s is.1.on
     ∙ ap (λ d. processed d) (body-nothing k lawful answers (ready k lawful w s) s is.1.needs)
     ∙ completed-taken k lawful answers (ready k lawful w s) s got.Nothing _ (sym is.2) (rw is.0 at (c.put_out.ensures.turn answers begins))
 
 pub returns-in-PutsOut-clause-given : goal.returns-in-PutsOut-clause-given
 returns-in-PutsOut-clause-given g c =
-    rw c.open.ensures.given at c.put_out.ensures.given
+    rw c.begin_fast.ensures.given at c.put_out.ensures.given
 
 pub returns-in-PutsOut-clause-turns : goal.returns-in-PutsOut-clause-turns
 returns-in-PutsOut-clause-turns g c =
@@ -344,6 +344,6 @@ returns-in-PutsOut-clause-turns g c =
     let lawful = g.met.S.Record.RecordKind.lawful in
     let w = g.S.Store.world c.args.store.now in
     let s = c.args.number in
-    let is = rw c.in-PutsOut.is at c.open.ensures.opened in
+    let is = rw c.in-PutsOut.is at c.begin_fast.ensures.opened in
     turns_on k (keeps_on k (ready-keeps k lawful w s c.requires.there) (took-keeps k lawful w s c.requires.there))
     (omega (arith, (stays-changed k lawful w s unblocked refl).fewer, (taken-stays k lawful (ready k lawful w s) s got.Nothing).fewer)) (omega arith) (rw is.0 at c.put_out.ensures.turns)

@@ -208,10 +208,10 @@ rest-requires g c =
 pub returns-in-Following-clause-turn : goal.returns-in-Following-clause-turn
 unfolding went_on after_turn
 returns-in-Following-clause-turn g c = λ answers begins.
-    rw (c.in-Following.is, c.rest.ensures.world, c.set_active-in-Following.ensures.world) refl
+    rw (c.in-Following.is, c.finish_request.ensures.world, c.set_active-in-Following.ensures.world) refl
 
 pub returns-in-Following-clause-given : goal.returns-in-Following-clause-given
-returns-in-Following-clause-given g c = begins_same (c.rest.ensures.given ∙ c.set_active-in-Following.ensures.given)
+returns-in-Following-clause-given g c = begins_same (c.finish_request.ensures.given ∙ c.set_active-in-Following.ensures.given)
 
 pub returns-in-Following-clause-turns : goal.returns-in-Following-clause-turns
 returns-in-Following-clause-turns g c =
@@ -219,5 +219,5 @@ returns-in-Following-clause-turns g c =
     let lawful = g.met.S.Record.RecordKind.lawful in
     let w = g.S.Store.world c.args.store.now in
     let first = keeps-active k lawful w c.args.frame.source c.requires.stands.source_there true in
-    rw (c.rest.ensures.world, c.set_active-in-Following.ensures.world)
+    rw (c.finish_request.ensures.world, c.set_active-in-Following.ensures.world)
     (turns_ended k (keeps_on k first (rested-keeps k lawful _ c.args.frame.source (first.has _ c.requires.stands.source_there))) (omega (arith, twice-rested k lawful w c.args.frame.source)) Processed)

@@ -8,8 +8,8 @@ use Rattle.ioc_journaled_set.specs.Holding.{numbers_of}
 use Rattle.ioc_engine.specs.Linked.{other_of, WasLinked, LinkWasRefused}
 use Rattle.ioc_engine.proofs.engine.Engine.relink.Goals as goal
 
-pub change_lent-changed-requires-clause-twin : goal.change_lent-changed-requires-clause-twin
-change_lent-changed-requires-clause-twin g c = c.loop.invariant.1.1 ∙ c.requires.twin ∙ sym c.loop.invariant.1.0
+pub change_lent-changed-requires-clause-base_link : goal.change_lent-changed-requires-clause-base_link
+change_lent-changed-requires-clause-base_link g c = c.loop.invariant.1.1 ∙ c.requires.base_link ∙ sym c.loop.invariant.1.0
 
 pub change_lent-changed-requires-clause-lent : goal.change_lent-changed-requires-clause-lent
 change_lent-changed-requires-clause-lent g c =
@@ -22,11 +22,11 @@ change_lent-changed-requires-clause-lent g c =
 pub returns-then-are_lent-clause-changed : goal.returns-then-are_lent-clause-changed
 returns-then-are_lent-clause-changed g c =
     let then = c.change_lent-changed.new in
-    subst (λ (l : LinkField). IfOk c.change_lent-changed.result (λ x. WasLinked g.row.D.Denot g.K.RecordKind.rules g.B.Base.base c.args.number c.args.field l c.args.desk.now c.args.moment x.reply x.moved then.desk (world_of then.workplace.store))) c.loop.invariant.1.0
-    (subst (λ (d : DeskView). IfOk c.change_lent-changed.result (λ x. WasLinked g.row.D.Denot g.K.RecordKind.rules g.B.Base.base c.args.number c.args.field c.loop.link d c.args.moment x.reply x.moved then.desk (world_of then.workplace.store))) c.loop.invariant.0
+    subst (λ (l : LinkField). IfOk c.change_lent-changed.result (λ x. WasLinked g.row.D.Denot g.K.RecordKind.rules g.B.EngineName.base c.args.number c.args.field l c.args.desk.now c.args.moment x.reply x.moved then.desk (world_of then.buffers.store))) c.loop.invariant.1.0
+    (subst (λ (d : DeskView). IfOk c.change_lent-changed.result (λ x. WasLinked g.row.D.Denot g.K.RecordKind.rules g.B.EngineName.base c.args.number c.args.field c.loop.link d c.args.moment x.reply x.moved then.desk (world_of then.buffers.store))) c.loop.invariant.0
     c.change_lent-changed.ensures.changed)
 
 pub returns-then-are_lent-clause-refused : goal.returns-then-are_lent-clause-refused
 returns-then-are_lent-clause-refused g c =
-    subst (λ (l : LinkField). IfErr c.change_lent-changed.result (LinkWasRefused g.row.D.Denot g.K.RecordKind.rules g.B.Base.base c.args.self.now c.args.number c.args.field l)) c.loop.invariant.1.0
+    subst (λ (l : LinkField). IfErr c.change_lent-changed.result (LinkWasRefused g.row.D.Denot g.K.RecordKind.rules g.B.EngineName.base c.args.self.now c.args.number c.args.field l)) c.loop.invariant.1.0
     c.change_lent-changed.ensures.refused

@@ -5,7 +5,7 @@ use Rattle.std.specs.Prelude.{slice_get}
 use Rattle.crossbeam_utils.specs.Seq.{cell_view}
 use Rattle.ioc_history.specs.declared.entry.JournalEntry.{JournalEntry}
 use Rattle.ioc_history.specs.declared.entry.Note.{Note}
-use Rattle.ioc_history.specs.declared.room.View.{View}
+use Rattle.ioc_history.specs.declared.cell.View.{View}
 use Rattle.ioc_history.specs.Key.{Key, Has}
 use Rattle.ioc_history.specs.Line.{keeper, holder, noted}
 use Rattle.ioc_history.specs.KeyLaws.{has_left, has_right, has_either}
@@ -13,7 +13,7 @@ use Rattle.ioc_history.specs.Account.{DeskView, desk_view, desk_key, journalled,
 use Rattle.ioc_history.specs.Places.{PlacesOf, JournalOf}
 use Rattle.ioc_history.proofs.Calls.{calls-append, length-calls, below_other, no_longer, counted}
 use Rattle.ioc_history.proofs.Adding.{account_then, below_then, called}
-use Rattle.ioc_history.proofs.Room.{as_many, stands, is_added}
+use Rattle.ioc_history.proofs.FreePlaces.{as_many, stands, is_added}
 use Rattle.ioc_history.proofs.journal.Journal.append_two.Goals as goal
 
 pub unreachable-requires : goal.unreachable-requires
@@ -49,7 +49,7 @@ invariant_of-result g c =
       same = e.receipt.0 ∙ i.same;
       holds = e.receipt.2 ∙ ap (λ l. holder l []) (sym told);
       ends = ap length seen ∙ omega (arith, length-append log (noted (journalled n next c.args.entry) (owns ++ own) ∷ []), length-calls log, ap length i.items_are, c.len-index.ensures.count);
-      account = subst (IsAccount k g.B.Base.base) (sym seen) (account_then k g.B.Base.base log (cell_view c.desk.inside.pass).seen n next c.args.entry owns own (ap (λ (v : View). v.owns) d.holds) i.account e.goes_on.2 d.below leads (cell_view c.args.other.now).seen (cell_view c.args.other.now).owns e.goes_on.1 (λ key has. has_left key owns own (has_right key (cell_view c.args.one.now).owns (cell_view c.args.other.now).owns has)) c.requires.begins);
+      account = subst (IsAccount k g.B.EngineName.base) (sym seen) (account_then k g.B.EngineName.base log (cell_view c.desk.inside.pass).seen n next c.args.entry owns own (ap (λ (v : View). v.owns) d.holds) i.account e.goes_on.2 d.below leads (cell_view c.args.other.now).seen (cell_view c.args.other.now).owns e.goes_on.1 (λ key has. has_left key owns own (has_right key (cell_view c.args.one.now).owns (cell_view c.args.other.now).owns has)) c.requires.begins);
     }
 
 pub invariant_of-self : goal.invariant_of-self
@@ -77,7 +77,7 @@ invariant_of-self g c =
       keeps = e.keeper.1 ∙ ap₂ keeper (sym told) (sym born);
       items_are = ap (λ (p : PlacesOf JournalEntry). p.filled) c.fill.ensures.filled ∙ (ap (λ l. l ++ made ∷ []) i.items_are ∙ (sym (calls-append log (noted made (owns ++ own) ∷ [])) ∙ ap calls (sym seen)));
       sound = i.sound;
-      account = subst (IsAccount k g.B.Base.base) (sym seen) (account_then k g.B.Base.base log (cell_view c.desk.inside.pass).seen n next c.args.entry owns own (ap (λ (v : View). v.owns) d.holds) i.account e.goes_on.2 d.below leads (cell_view c.args.other.now).seen (cell_view c.args.other.now).owns e.goes_on.1 (λ key has. has_left key owns own (has_right key (cell_view c.args.one.now).owns (cell_view c.args.other.now).owns has)) c.requires.begins);
+      account = subst (IsAccount k g.B.EngineName.base) (sym seen) (account_then k g.B.EngineName.base log (cell_view c.desk.inside.pass).seen n next c.args.entry owns own (ap (λ (v : View). v.owns) d.holds) i.account e.goes_on.2 d.below leads (cell_view c.args.other.now).seen (cell_view c.args.other.now).owns e.goes_on.1 (λ key has. has_left key owns own (has_right key (cell_view c.args.one.now).owns (cell_view c.args.other.now).owns has)) c.requires.begins);
       given = λ key has kind. i.given key (subst (Has key) born has) kind;
       new_desk = λ m le. subst (λ l. Below m 0 (calls l)) (sym seen) (below_other log made (owns ++ own) m (λ same. omega arith) (i.new_desk m le));
     }
@@ -102,9 +102,9 @@ invariant_of-desk g c =
     record {
       same = e.desk.0 ∙ d.same;
       holds = e.desk.1 ∙ ap₂ holder (sym told) (ap (λ (v : View). v.owns) d.holds);
-      below = subst (λ l. Below n (next + 1) (calls l)) (sym seen) (below_then k g.B.Base.base log (cell_view c.desk.inside.pass).seen n next c.args.entry owns own (ap (λ (v : View). v.owns) d.holds) i.account e.goes_on.2 d.below leads (cell_view c.args.other.now).seen (cell_view c.args.other.now).owns e.goes_on.1 (λ key has. has_left key owns own (has_right key (cell_view c.args.one.now).owns (cell_view c.args.other.now).owns has)) c.requires.begins);
+      below = subst (λ l. Below n (next + 1) (calls l)) (sym seen) (below_then k g.B.EngineName.base log (cell_view c.desk.inside.pass).seen n next c.args.entry owns own (ap (λ (v : View). v.owns) d.holds) i.account e.goes_on.2 d.below leads (cell_view c.args.other.now).seen (cell_view c.args.other.now).owns e.goes_on.1 (λ key has. has_left key owns own (has_right key (cell_view c.args.one.now).owns (cell_view c.args.other.now).owns has)) c.requires.begins);
       count = subst (λ (l : List Note). next + 1 ≤ length l) (sym seen) (counted (cell_view c.desk.inside.pass).seen log own (noted (journalled n next c.args.entry) (owns ++ own)) next d.count e.goes_on.2);
-      account = subst (IsAccount k g.B.Base.base) (sym seen) (account_then k g.B.Base.base log (cell_view c.desk.inside.pass).seen n next c.args.entry owns own (ap (λ (v : View). v.owns) d.holds) i.account e.goes_on.2 d.below leads (cell_view c.args.other.now).seen (cell_view c.args.other.now).owns e.goes_on.1 (λ key has. has_left key owns own (has_right key (cell_view c.args.one.now).owns (cell_view c.args.other.now).owns has)) c.requires.begins);
+      account = subst (IsAccount k g.B.EngineName.base) (sym seen) (account_then k g.B.EngineName.base log (cell_view c.desk.inside.pass).seen n next c.args.entry owns own (ap (λ (v : View). v.owns) d.holds) i.account e.goes_on.2 d.below leads (cell_view c.args.other.now).seen (cell_view c.args.other.now).owns e.goes_on.1 (λ key has. has_left key owns own (has_right key (cell_view c.args.one.now).owns (cell_view c.args.other.now).owns has)) c.requires.begins);
     }
 
 pub returns-clause-call : goal.returns-clause-call
@@ -123,8 +123,8 @@ returns-clause-call g c =
     (sym (ap (λ (p : PlacesOf JournalEntry). slice_get p.filled c.len-index.result) c.fill.ensures.filled) ∙ (sym c.at.ensures ∙ ap (option_map (λ (e : Bor JournalEntry). e.now)) c.in-Some.is)) in
     let noted_so = ap (λ (m : JournalEntry). log ++ noted m (owns ++ own) ∷ []) is_made in
     let seen = ap (λ (v : View). v.seen) e.desk.1 ∙ (ap (λ (v : View). v.seen) e.keeper.1 ∙ noted_so) in
-    subst (λ (v : DeskView). Call k g.B.Base.base v c.args.entry (desk_view n (next + 1) (cell_view c.deal-pass.new.desk).seen)) c.desk.view_is
-    (subst (λ (l : List Note). Call k g.B.Base.base (desk_view n next (cell_view c.desk.inside.pass).seen) c.args.entry (desk_view n (next + 1) l)) (sym seen) (called k g.B.Base.base log (cell_view c.desk.inside.pass).seen n next c.args.entry owns own (ap (λ (v : View). v.owns) d.holds) i.account e.goes_on.2 d.below leads (cell_view c.args.other.now).seen (cell_view c.args.other.now).owns e.goes_on.1 (λ key has. has_left key owns own (has_right key (cell_view c.args.one.now).owns (cell_view c.args.other.now).owns has)) c.requires.begins))
+    subst (λ (v : DeskView). Call k g.B.EngineName.base v c.args.entry (desk_view n (next + 1) (cell_view c.deal-pass.new.desk).seen)) c.desk.view_is
+    (subst (λ (l : List Note). Call k g.B.EngineName.base (desk_view n next (cell_view c.desk.inside.pass).seen) c.args.entry (desk_view n (next + 1) l)) (sym seen) (called k g.B.EngineName.base log (cell_view c.desk.inside.pass).seen n next c.args.entry owns own (ap (λ (v : View). v.owns) d.holds) i.account e.goes_on.2 d.below leads (cell_view c.args.other.now).seen (cell_view c.args.other.now).owns e.goes_on.1 (λ key has. has_left key owns own (has_right key (cell_view c.args.one.now).owns (cell_view c.args.other.now).owns has)) c.requires.begins))
 
 pub returns-clause-added : goal.returns-clause-added
 returns-clause-added g c =
@@ -138,7 +138,7 @@ returns-clause-added g c =
     let is_made = is_added c.self.inside.entries.filled (journalled n next c.args.entry) c.len-index.result c.in-Some.made.now c.len-index.ensures.count
     (sym (ap (λ (p : PlacesOf JournalEntry). slice_get p.filled c.len-index.result) c.fill.ensures.filled) ∙ (sym c.at.ensures ∙ ap (option_map (λ (e : Bor JournalEntry). e.now)) c.in-Some.is)) in
     let noted_so = ap (λ (m : JournalEntry). log ++ noted m (owns ++ own) ∷ []) is_made in
-    subst (λ (l : List Note). AddedByBoth g.K.RecordKind.rules g.B.Base.base (cell_view c.args.one.now).seen (cell_view c.args.one.now).owns (cell_view c.args.other.now).seen (cell_view c.args.other.now).owns c.args.entry l (cell_view c.deal-pass.new.master).seen) (ap (λ (j : JournalOf Note). j.filled) c.self.view_is)
+    subst (λ (l : List Note). AddedByBoth g.K.RecordKind.rules g.B.EngineName.base (cell_view c.args.one.now).seen (cell_view c.args.one.now).owns (cell_view c.args.other.now).seen (cell_view c.args.other.now).owns c.args.entry l (cell_view c.deal-pass.new.master).seen) (ap (λ (j : JournalOf Note). j.filled) c.self.view_is)
     (record {
       desk = c.desk.inside.number;
       call = c.desk.inside.next;

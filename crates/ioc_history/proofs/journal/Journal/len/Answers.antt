@@ -2,7 +2,7 @@ use Rattle.std.proofs.Common.{◌≤◌, ◌+◌, length, ap, ◌∙◌, subst, 
 use Rattle.crossbeam_utils.specs.Seq.{cell_view}
 use Rattle.ioc_history.specs.declared.entry.Note.{Note}
 use Rattle.ioc_history.specs.Places.{JournalOf}
-use Rattle.ioc_history.proofs.Room.{as_many}
+use Rattle.ioc_history.proofs.FreePlaces.{as_many}
 use Rattle.ioc_history.proofs.journal.Journal.len.Goals as goal
 
 pub returns-clause-count : goal.returns-clause-count

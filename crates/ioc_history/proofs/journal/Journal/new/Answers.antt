@@ -1,7 +1,7 @@
 use Rattle.std.proofs.Common.{sym, ap, ◌∙◌, subst, arith}
 use Rattle.crossbeam_utils.specs.Seq.{cell_view}
 use Rattle.ioc_history.specs.declared.entry.JournalEntry.{JournalEntry}
-use Rattle.ioc_history.specs.declared.room.View.{View}
+use Rattle.ioc_history.specs.declared.cell.View.{View}
 use Rattle.ioc_history.specs.Line.{keeper}
 use Rattle.ioc_history.specs.Account.{calls, Below, IsAccount}
 use Rattle.ioc_history.specs.Places.{PlacesOf}
@@ -16,7 +16,7 @@ invariant_of-result g c =
       keeps = is ∙ ap (λ l. keeper l (cell_view c.args.master).born) (sym seen);
       items_are = ap (λ (p : PlacesOf JournalEntry). p.filled) c.new.ensures ∙ ap calls (sym seen);
       sound = c.requires.sound;
-      account = subst (IsAccount g.K.RecordKind.rules g.B.Base.base) (sym seen) (record { legal = tt; rising = tt; keyed = tt; numbers = λ i j d lt within. absurd (let none : ⊥ = omega (arith, within) in none); puts_keyed = tt });
+      account = subst (IsAccount g.K.RecordKind.rules g.B.EngineName.base) (sym seen) (record { legal = tt; rising = tt; keyed = tt; numbers = λ i j d lt within. absurd (let none : ⊥ = omega (arith, within) in none); puts_keyed = tt });
       given = λ key has kind. absurd (c.requires.given key has kind);
       new_desk = λ m le. subst (λ l. Below m 0 (calls l)) (sym seen) tt;
     }

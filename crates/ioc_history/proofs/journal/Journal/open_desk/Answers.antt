@@ -1,7 +1,7 @@
 use Rattle.std.proofs.Common.{◌≡◌, ◌<◌, [], ◌∷◌, refl, sym, ap, ap₂, ◌∙◌, subst, ⊎_elim, arith}
 use Rattle.crossbeam_utils.specs.Seq.{cell_view}
 use Rattle.ioc_history.specs.declared.entry.Note.{Note}
-use Rattle.ioc_history.specs.declared.room.View.{View}
+use Rattle.ioc_history.specs.declared.cell.View.{View}
 use Rattle.ioc_history.specs.Key.{Key, Has}
 use Rattle.ioc_history.specs.Line.{keeper, claiming}
 use Rattle.ioc_history.specs.Account.{desk_key, calls, calls_by, Below, IsAccount}
@@ -25,7 +25,7 @@ invariant_of-self g c =
       keeps = is ∙ ap₂ keeper (sym seen) (sym born);
       items_are = i.items_are ∙ ap calls (sym seen);
       sound = i.sound;
-      account = subst (IsAccount g.K.RecordKind.rules g.B.Base.base) (sym seen) i.account;
+      account = subst (IsAccount g.K.RecordKind.rules g.B.EngineName.base) (sym seen) i.account;
       given = λ k has kind.
           ⊎_elim (λ (same : desk_key d ≡ k). let n = ap (λ (p : Key). p.1) same in omega arith)
           (λ (was : Has k (cell_view c.self.inside.pass).born). let lt = i.given k was kind in omega arith) (subst (Has k) born has);

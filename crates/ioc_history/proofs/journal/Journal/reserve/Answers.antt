@@ -3,7 +3,7 @@ use Rattle.std.specs.Prelude.{IfOk, IfErr}
 use Rattle.crossbeam_utils.specs.Seq.{cell_view}
 use Rattle.ioc_history.specs.declared.entry.Note.{Note}
 use Rattle.ioc_history.specs.Places.{JournalOf, places, places_of, HoldsOne, HoldsNone}
-use Rattle.ioc_history.proofs.Room.{if_one, if_none}
+use Rattle.ioc_history.proofs.FreePlaces.{if_one, if_none}
 use Rattle.ioc_history.proofs.journal.Journal.reserve.Goals as goal
 
 pub returns-clause-held : goal.returns-clause-held

@@ -3,8 +3,8 @@ use Rattle.std.specs.Prelude.{slice_index_or}
 use Rattle.ioc_history.specs.Key.{Has}
 use Rattle.ioc_history.specs.Line.{holder}
 use Rattle.ioc_history.specs.Legal.{notifications_key}
-use Rattle.ioc_history.specs.Held.{Cover}
-use Rattle.ioc_set.specs.Held.{Held, now_of}
+use Rattle.ioc_history.specs.Covering.{Cover}
+use Rattle.ioc_set.specs.SetState.{SetState, now_of}
 use Rattle.ioc_journaled_set.specs.Passes.{Slot, view_of, keys_of, other_keys, IsDealt}
 use Rattle.ioc_history.specs.Account.{puts_key}
 use Rattle.ioc_journaled_set.proofs.together.dealing.deal_all.Given as goal
@@ -14,8 +14,8 @@ invariant-loop-i g l = record {
   table : l.keeper.table_id ≡ l.fn.keeper.table_id;
   holds : view_of l.keeper ≡ holder (view_of l.fn.keeper).seen (view_of l.keeper).owns;
   key : Has notifications_key (view_of l.keeper).owns;
-  covers : (j : ℕ) (d : Held g.row.K.Denot g.row.D.Denot) → l.i ≤ j → j < length l.sets → Cover (view_of l.keeper).owns (now_of (slice_index_or l.sets j d));
-  dealt : (j : ℕ) (d : Held g.row.K.Denot g.row.D.Denot) (e : Slot) → j < l.i → IsDealt l.fn.keeper.table_id (view_of l.fn.keeper).seen (slice_index_or l.sets j d) (slice_index_or l.passes j e);
+  covers : (j : ℕ) (d : SetState g.row.K.Denot g.row.D.Denot) → l.i ≤ j → j < length l.sets → Cover (view_of l.keeper).owns (now_of (slice_index_or l.sets j d));
+  dealt : (j : ℕ) (d : SetState g.row.K.Denot g.row.D.Denot) (e : Slot) → j < l.i → IsDealt l.fn.keeper.table_id (view_of l.fn.keeper).seen (slice_index_or l.sets j d) (slice_index_or l.passes j e);
 }
 
 abbrev pub ghosts-give_records : goal.ghosts-give_records

@@ -1,5 +1,5 @@
 use Rattle.std.proofs.Common.{ℕ, ◌<◌, length, get_or, subst, ◌∙◌, below_more, rules}
-use Rattle.ioc_set.specs.Held.{Held}
+use Rattle.ioc_set.specs.SetState.{SetState}
 use Rattle.ioc_set.specs.Sound.{IsSound}
 use Rattle.std.proofs.lemmas.List.{get_or_default}
 use Rattle.ioc_journaled_set.proofs.together.giving_up.all_sound.Goals as goal
@@ -10,6 +10,6 @@ loop-set-preserved g c = λ i d lt.
     let sets = c.args.sets.now in
     let index = c.loop-set.set-index in
     let within : index < length sets = search rules in
-    let P : ℕ → Type 0 = λ j. (e : Held g.row.K.Denot g.row.D.Denot) → IsSound k (get_or sets j e) in
+    let P : ℕ → Type 0 = λ j. (e : SetState g.row.K.Denot g.row.D.Denot) → IsSound k (get_or sets j e) in
     below_more P index (λ j below e. c.loop-set.invariant j e below)
-    (λ e. subst (λ (h : Held g.row.K.Denot g.row.D.Denot). IsSound k h) (c.set-item.is ∙ get_or_default sets index c.set-item.result e within) c.is_sound.ensures) i lt d
+    (λ e. subst (λ (h : SetState g.row.K.Denot g.row.D.Denot). IsSound k h) (c.set-item.is ∙ get_or_default sets index c.set-item.result e within) c.is_sound.ensures) i lt d

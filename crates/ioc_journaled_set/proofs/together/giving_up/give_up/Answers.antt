@@ -5,13 +5,13 @@ use Rattle.ioc_device.specs.declared.Answer.{Answer}
 use Rattle.ioc_events.specs.declared.event.Event.TheVariants.{Cancel}
 use Rattle.ioc_events.specs.declared.reply.Reply.TheVariants.{Plain}
 use Rattle.ioc_history.specs.declared.entry.Note.{Note}
-use Rattle.ioc_history.specs.declared.room.View.{View}
+use Rattle.ioc_history.specs.declared.cell.View.{View}
 use Rattle.ioc_history.specs.Key.{Has as Has_key}
 use Rattle.ioc_history.specs.Line.{holder}
 use Rattle.ioc_history.specs.Legal.{notifications_key}
-use Rattle.ioc_history.specs.Held.{Cover}
+use Rattle.ioc_history.specs.Covering.{Cover}
 use Rattle.ioc_history.specs.Account.{MayFollow, Call, Added, puts_key}
-use Rattle.ioc_set.specs.Held.{now_of, nothing_held}
+use Rattle.ioc_set.specs.SetState.{now_of, nothing_held}
 use Rattle.ioc_journaled_set.specs.Passes.{IsDealt}
 use Rattle.ioc_journaled_set.proofs.Following.{may_follow, puts_owned, covered_then, share_none_then, held_then, nobody_then, others_then, none_began_then}
 use Rattle.ioc_journaled_set.proofs.together.giving_up.give_up.Goals as goal
@@ -21,31 +21,31 @@ merge_all-requires-clause-passes g c = λ i d lt. (c.requires.held i nothing_hel
 
 pub append-receipt-requires-clause-follows : goal.append-receipt-requires-clause-follows
 append-receipt-requires-clause-follows g c =
-    subst (λ (a : List Answer). MayFollow g.K.RecordKind.rules g.B.Base.base (cell_view c.merge_all.new.keeper).seen (cell_view c.merge_all.new.keeper).owns (record { moment = c.args.moment; event = Cancel c.args.number; answers = a; reply = Plain })) (sym (c.new-2.ensures ∙ c.new.ensures.items))
-    (may_follow g.K.RecordKind.rules g.B.Base.base c.holding_lasts.ensures c.live_lasts.ensures c.cancelled_sets_are_held.ensures g.B.Room.table c.args.number c.args.moment c.args.sets.now c.args.passes.now (cell_view c.args.keeper.now) (cell_view c.merge_all.new.keeper)
+    subst (λ (a : List Answer). MayFollow g.K.RecordKind.rules g.B.EngineName.base (cell_view c.merge_all.new.keeper).seen (cell_view c.merge_all.new.keeper).owns (record { moment = c.args.moment; event = Cancel c.args.number; answers = a; reply = Plain })) (sym (c.new-2.ensures ∙ c.new.ensures.items))
+    (may_follow g.K.RecordKind.rules g.B.EngineName.base c.holding_lasts.ensures c.live_lasts.ensures c.cancelled_sets_are_held.ensures g.B.CellName.table c.args.number c.args.moment c.args.sets.now c.args.passes.now (cell_view c.args.keeper.now) (cell_view c.merge_all.new.keeper)
     c.requires.keeper.1 c.requires.held c.requires.have c.all_sound.ensures c.requires.beside c.merge_all.ensures.merged)
 
 pub deal_all-requires-clause-there : goal.deal_all-requires-clause-there
 deal_all-requires-clause-there g c = subst (λ (x : View). Has_key notifications_key x.owns) (sym c.append-receipt.ensures.set.1)
-    (puts_owned g.K.RecordKind.rules g.B.Base.base c.holding_lasts.ensures c.live_lasts.ensures c.cancelled_sets_are_held.ensures g.B.Room.table c.args.number c.args.moment c.args.sets.now c.args.passes.now (cell_view c.args.keeper.now) (cell_view c.merge_all.new.keeper)
+    (puts_owned g.K.RecordKind.rules g.B.EngineName.base c.holding_lasts.ensures c.live_lasts.ensures c.cancelled_sets_are_held.ensures g.B.CellName.table c.args.number c.args.moment c.args.sets.now c.args.passes.now (cell_view c.args.keeper.now) (cell_view c.merge_all.new.keeper)
     c.requires.keeper.1 c.requires.held c.requires.have c.all_sound.ensures c.requires.beside c.merge_all.ensures.merged)
 
 pub deal_all-requires-clause-covers : goal.deal_all-requires-clause-covers
 deal_all-requires-clause-covers g c = λ i d lt. subst (λ (x : View). Cover x.owns (now_of (get_or c.cancel_all.new.sets i d))) (sym c.append-receipt.ensures.set.1)
-    (covered_then g.K.RecordKind.rules g.B.Base.base c.holding_lasts.ensures c.live_lasts.ensures c.cancelled_sets_are_held.ensures g.B.Room.table c.args.number c.args.moment c.args.sets.now c.args.passes.now (cell_view c.args.keeper.now) (cell_view c.merge_all.new.keeper)
+    (covered_then g.K.RecordKind.rules g.B.EngineName.base c.holding_lasts.ensures c.live_lasts.ensures c.cancelled_sets_are_held.ensures g.B.CellName.table c.args.number c.args.moment c.args.sets.now c.args.passes.now (cell_view c.args.keeper.now) (cell_view c.merge_all.new.keeper)
     c.requires.keeper.1 c.requires.held c.requires.have c.all_sound.ensures c.requires.beside c.merge_all.ensures.merged
     c.cancel_all.new.sets c.in_default.ensures.ok c.cancel_all.auto.sets i d lt)
 
 pub deal_all-requires-clause-apart : goal.deal_all-requires-clause-apart
 deal_all-requires-clause-apart g c =
-    share_none_then g.K.RecordKind.rules g.B.Base.base c.holding_lasts.ensures c.live_lasts.ensures c.cancelled_sets_are_held.ensures g.B.Room.table c.args.number c.args.moment c.args.sets.now c.args.passes.now (cell_view c.args.keeper.now) (cell_view c.merge_all.new.keeper)
+    share_none_then g.K.RecordKind.rules g.B.EngineName.base c.holding_lasts.ensures c.live_lasts.ensures c.cancelled_sets_are_held.ensures g.B.CellName.table c.args.number c.args.moment c.args.sets.now c.args.passes.now (cell_view c.args.keeper.now) (cell_view c.merge_all.new.keeper)
     c.requires.keeper.1 c.requires.held c.requires.have c.all_sound.ensures c.requires.beside c.merge_all.ensures.merged
     c.cancel_all.new.sets c.in_default.ensures.ok c.cancel_all.auto.sets
 
 pub returns-clause-gave_up : goal.returns-clause-gave_up
 returns-clause-gave_up g c =
     let k = g.K.RecordKind.rules in
-    let base = g.B.Base.base in
+    let base = g.B.EngineName.base in
     let after = c.cancel_all.new.sets in
     let longer = c.append-receipt.new.desk.seen in
     let seen = ap (λ (v : View). v.seen) c.append-receipt.ensures.set.1 in
@@ -58,17 +58,17 @@ returns-clause-gave_up g c =
       call = subst (λ (a : List Answer). Call k base c.args.desk.now (record { moment = c.args.moment; event = Cancel c.args.number; answers = a; reply = Plain }) c.append-receipt.new.desk) none c.append-receipt.ensures.call;
       dealt = λ i d e lt. subst (λ (t : TableId). IsDealt t longer (get_or after i d) (get_or c.deal_all.new.passes i e)) table
           (subst (λ (l : List Note). IsDealt c.append-receipt.new.set.table_id l (get_or after i d) (get_or c.deal_all.new.passes i e)) seen (c.deal_all.ensures.dealt i d e lt));
-      holds = λ i d lt. held_then g.K.RecordKind.rules g.B.Base.base c.holding_lasts.ensures c.live_lasts.ensures c.cancelled_sets_are_held.ensures g.B.Room.table c.args.number c.args.moment c.args.sets.now c.args.passes.now (cell_view c.args.keeper.now) (cell_view c.merge_all.new.keeper)
+      holds = λ i d lt. held_then g.K.RecordKind.rules g.B.EngineName.base c.holding_lasts.ensures c.live_lasts.ensures c.cancelled_sets_are_held.ensures g.B.CellName.table c.args.number c.args.moment c.args.sets.now c.args.passes.now (cell_view c.args.keeper.now) (cell_view c.merge_all.new.keeper)
           c.requires.keeper.1 c.requires.held c.requires.have c.all_sound.ensures c.requires.beside c.merge_all.ensures.merged
           log longer added after c.in_default.ensures.ok i d (let same = c.cancel_all.auto.sets in omega (arith, lt, same));
       keeps = c.deal_all.ensures.keeper.1 ∙ ap (λ (l : List Note). holder l puts_key) seen;
-      nobody = nobody_then g.K.RecordKind.rules g.B.Base.base c.holding_lasts.ensures c.live_lasts.ensures c.cancelled_sets_are_held.ensures g.B.Room.table c.args.number c.args.moment c.args.sets.now c.args.passes.now (cell_view c.args.keeper.now) (cell_view c.merge_all.new.keeper)
+      nobody = nobody_then g.K.RecordKind.rules g.B.EngineName.base c.holding_lasts.ensures c.live_lasts.ensures c.cancelled_sets_are_held.ensures g.B.CellName.table c.args.number c.args.moment c.args.sets.now c.args.passes.now (cell_view c.args.keeper.now) (cell_view c.merge_all.new.keeper)
           c.requires.keeper.1 c.requires.held c.requires.have c.all_sound.ensures c.requires.beside c.merge_all.ensures.merged
           log longer added;
-      others = others_then g.K.RecordKind.rules g.B.Base.base c.holding_lasts.ensures c.live_lasts.ensures c.cancelled_sets_are_held.ensures g.B.Room.table c.args.number c.args.moment c.args.sets.now c.args.passes.now (cell_view c.args.keeper.now) (cell_view c.merge_all.new.keeper)
+      others = others_then g.K.RecordKind.rules g.B.EngineName.base c.holding_lasts.ensures c.live_lasts.ensures c.cancelled_sets_are_held.ensures g.B.CellName.table c.args.number c.args.moment c.args.sets.now c.args.passes.now (cell_view c.args.keeper.now) (cell_view c.merge_all.new.keeper)
           c.requires.keeper.1 c.requires.held c.requires.have c.all_sound.ensures c.requires.beside c.merge_all.ensures.merged
           log longer added;
-      none_began = none_began_then g.K.RecordKind.rules g.B.Base.base c.holding_lasts.ensures c.live_lasts.ensures c.cancelled_sets_are_held.ensures g.B.Room.table c.args.number c.args.moment c.args.sets.now c.args.passes.now (cell_view c.args.keeper.now) (cell_view c.merge_all.new.keeper)
+      none_began = none_began_then g.K.RecordKind.rules g.B.EngineName.base c.holding_lasts.ensures c.live_lasts.ensures c.cancelled_sets_are_held.ensures g.B.CellName.table c.args.number c.args.moment c.args.sets.now c.args.passes.now (cell_view c.args.keeper.now) (cell_view c.merge_all.new.keeper)
           c.requires.keeper.1 c.requires.held c.requires.have c.all_sound.ensures c.requires.beside c.merge_all.ensures.merged
           log longer added c.append-receipt.ensures.call.legal.puts_keyed;
     }

@@ -1,7 +1,7 @@
 use Rattle.std.proofs.Common.{◌≡◌, ◌+◌, ◌<◌, None, cond, refl, sym, ap, ◌∙◌, subst, length, set, arith}
 use Rattle.std.specs.BTreeMap.{get}
 use Rattle.ioc_scan.specs.contracts.position.PositionOrd.TheImpl as order_of
-use Rattle.ioc_scan.specs.declared.position.Entry.{Entry}
+use Rattle.ioc_scan.specs.declared.position.ListEntry.{ListEntry}
 use Rattle.ioc_scan.specs.Positions.{entry_of}
 use Rattle.ioc_scan.specs.Members.{Agree, is_at_place}
 use Rattle.ioc_scan.specs.Scanned.{Scanned}
@@ -14,7 +14,7 @@ invariant_of-self-2 c =
     let last = c.self.inside.last in
     let r = c.args.member in
     let before = c.index-2.result.now in
-    let e : Entry = record { number = c.args.number; place = c.args.place; order = last + 1 } in
+    let e : ListEntry = record { number = c.args.number; place = c.args.place; order = last + 1 } in
     let same : length es ≡ length c.args.self.now.entries = ap (λ (s : Scanned). length s.entries) c.self.view_is in
     let last_same : last ≡ c.args.self.now.last = ap (λ (s : Scanned). s.last) c.self.view_is in
     let l : r < length es = omega (arith, c.requires.known) in

@@ -3,7 +3,7 @@ use Rattle.std.specs.Prelude.{IsSome, is_some}
 use Rattle.std.specs.FinMap.{get}
 use Rattle.ioc_set_records.specs.Contents.{Records}
 use Rattle.ioc_set_records.specs.Joined.{HasLink}
-use Rattle.ioc_set.specs.Held.{Held}
+use Rattle.ioc_set.specs.SetState.{SetState}
 use Rattle.ioc_set_store.specs.SetStore.{world_of}
 use Rattle.ioc_set.proofs.LeadLaws.{names_none, stays-apart, is-free, both-have, leads, none_stays, still_may}
 use Rattle.ioc_set.proofs.lock_set.LockSet.lead_into.Goals as goal
@@ -13,7 +13,7 @@ split-requires-clause-within g c t named = absurd (names_none c.empty.result c.e
 
 pub unite-requires-clause-apart : goal.unite-requires-clause-apart
 unite-requires-clause-apart g c =
-    let same : c.fold.new.self.records ≡ c.args.self.now.records = ap (λ (h : Held g.row.K.Denot g.row.D.Denot). h.records) c.fold.ensures in
+    let same : c.fold.new.self.records ≡ c.args.self.now.records = ap (λ (h : SetState g.row.K.Denot g.row.D.Denot). h.records) c.fold.ensures in
     stays-apart g.K.RecordKind.rules c.fold.new.self.records c.split.new.self.records c.in_ok-rest.rest.records c.args.number c.args.field c.empty.result c.in_ok-rest.ensures.apart.shared c.args.other.now.records
     (subst (λ (rs : Records g.row.K.Denot). IsSome (get rs c.args.number)) (sym same) (ap is_some c.requires.field.1))
     (λ q some. c.requires.apart q (subst (λ (rs : Records g.row.K.Denot). IsSome (get rs q)) same some))
@@ -21,7 +21,7 @@ unite-requires-clause-apart g c =
 pub unite-requires-clause-free : goal.unite-requires-clause-free
 unite-requires-clause-free g c =
     let k = g.K.RecordKind.rules in
-    let same : c.fold.new.self.records ≡ c.args.self.now.records = ap (λ (h : Held g.row.K.Denot g.row.D.Denot). h.records) c.fold.ensures in
+    let same : c.fold.new.self.records ≡ c.args.self.now.records = ap (λ (h : SetState g.row.K.Denot g.row.D.Denot). h.records) c.fold.ensures in
     is-free k c.fold.new.self.records c.split.new.self.records c.in_ok-rest.rest.records c.args.number c.args.field c.empty.result c.in_ok-rest.ensures.apart.shared g.met.K.RecordKind.lawful
     (subst (λ (rs : Records g.row.K.Denot). HasLink k rs c.args.number c.args.field) (sym same) c.requires.field) c.in_ok-rest.ensures.apart.own c.empty.ensures
 

@@ -6,7 +6,7 @@ use Rattle.ioc_notify.specs.declared.waiting_lists.Waiting.{Waiting}
 use Rattle.ioc_set_records.specs.Contents.{Contents, Records}
 use Rattle.ioc_store.specs.World.{World, begun_at}
 use Rattle.ioc_store.specs.Scanning.{rewired}
-use Rattle.ioc_set.specs.Held.{Held}
+use Rattle.ioc_set.specs.SetState.{SetState}
 use Rattle.ioc_set_store.specs.Resting.{resting}
 use Rattle.ioc_set_store.specs.Puts.{Puts}
 use Rattle.ioc_set.specs.Linking.{AreHeld}
@@ -22,7 +22,7 @@ use Rattle.ioc_set.proofs.lock_set.LockSet.rescan.Goals as goal
 pub begin_anew-requires : goal.begin_anew-requires
 begin_anew-requires g c =
     let inside = c.self.inside in
-    let there = subst (λ (h : Held g.row.K.Denot g.row.D.Denot). IsSome (get h.records c.args.number)) (sym c.self.view_is) c.requires.there in
+    let there = subst (λ (h : SetState g.row.K.Denot g.row.D.Denot). IsSome (get h.records c.args.number)) (sym c.self.view_is) c.requires.there in
     let few = c.are_few.ensures in
     let fewer = c.held_records_are_sound.ensures.fewer (held_by inside.members inside.puts inside.base_tally inside.tally inside.history.items) c.self.invariant.0 in
     record {
@@ -36,7 +36,7 @@ invariant_of-self g c =
     let k = g.K.RecordKind.rules in
     let lawful = g.met.K.RecordKind.lawful in
     let inside = c.self.inside in
-    let there = subst (λ (h : Held g.row.K.Denot g.row.D.Denot). IsSome (get h.records c.args.number)) (sym c.self.view_is) c.requires.there in
+    let there = subst (λ (h : SetState g.row.K.Denot g.row.D.Denot). IsSome (get h.records c.args.number)) (sym c.self.view_is) c.requires.there in
     let held = c.held_records_are_sound.ensures.held (held_by inside.members inside.puts inside.base_tally inside.tally inside.history.items) c.self.invariant.0 in
     let anew = ap (λ (m : Contents g.row.K.Denot g.row.D.Denot). m.records) c.begin_anew.ensures.members in
     let is = anew ∙ ap (λ (w : World g.row.K.Denot). w.records) c.rescan_on.ensures.left in
@@ -60,4 +60,4 @@ returns-clause-left g c =
     let anew = ap (λ (m : Contents g.row.K.Denot g.row.D.Denot). m.records) c.begin_anew.ensures.members in
     ap (λ (rs : Records g.row.K.Denot). with_kept rs before.live before.waiting (world_of c.rescan_on.new.place.store)) anew
     ∙ rewired_beside k c.args.moment c.args.number c.args.before before.live before.waiting inside.members.records c.rescan_on.new.members.records (world_of c.rescan_on.new.place.store) c.rescan_on.ensures.left
-    ∙ ap (λ (h : Held g.row.K.Denot g.row.D.Denot). rewired k c.args.before (begun_at c.args.moment (resting h.records before.live before.waiting)) c.args.number) c.self.view_is
+    ∙ ap (λ (h : SetState g.row.K.Denot g.row.D.Denot). rewired k c.args.before (begun_at c.args.moment (resting h.records before.live before.waiting)) c.args.number) c.self.view_is

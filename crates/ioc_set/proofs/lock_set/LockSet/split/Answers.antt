@@ -4,7 +4,7 @@ use Rattle.std.specs.FinMap.{get}
 use Rattle.ioc_set_records.specs.Contents.{Records, Contents}
 use Rattle.ioc_ledger.specs.declared.tally.Tally.{Tally}
 use Rattle.ioc_set.specs.Awaiting.{awaited}
-use Rattle.ioc_set.specs.Held.{Held}
+use Rattle.ioc_set.specs.SetState.{SetState}
 use Rattle.ioc_set.specs.Linking.{added, less_awaited, awaited_alone}
 use Rattle.ioc_set.specs.Sound.{CountsAddUp}
 use Rattle.ioc_set_store.specs.Puts.{Puts}
@@ -39,7 +39,7 @@ own_puts-rest_puts-requires-clause-live g c =
     let begun = c.begin_anew.new.members.records in
     let puts = c.begin_anew.new.puts in
     let anew : begun ≡ inside.members.records = ap (λ (m : Contents g.row.K.Denot g.row.D.Denot). m.records) c.begin_anew.ensures.members in
-    let there = subst (λ (rs : Records g.row.K.Denot). IsSome (get rs c.args.number)) (sym (anew ∙ ap (λ (h : Held g.row.K.Denot g.row.D.Denot). h.records) c.self.view_is)) (ap is_some c.requires.field.1) in
+    let there = subst (λ (rs : Records g.row.K.Denot). IsSome (get rs c.args.number)) (sym (anew ∙ ap (λ (h : SetState g.row.K.Denot g.row.D.Denot). h.records) c.self.view_is)) (ap is_some c.requires.field.1) in
     let live = begun_live k inside.members.records begun inside.puts puts anew c.begin_anew.ensures.puts (c.held_records_are_sound.ensures.live whole c.self.invariant.0) in
     let within = rest_within k lawful c.args.number c.args.field c.args.link begun c.part.new.self.records c.in_ok-rest.rest.records there c.in_ok-rest.ensures.shared in
     part_live k begun c.in_ok-rest.rest.records puts.waiting puts.live within live
@@ -69,7 +69,7 @@ own_puts-stay_puts-requires-clause-live g c =
     let begun = c.begin_anew.new.members.records in
     let puts = c.begin_anew.new.puts in
     let anew : begun ≡ inside.members.records = ap (λ (m : Contents g.row.K.Denot g.row.D.Denot). m.records) c.begin_anew.ensures.members in
-    let there = subst (λ (rs : Records g.row.K.Denot). IsSome (get rs c.args.number)) (sym (anew ∙ ap (λ (h : Held g.row.K.Denot g.row.D.Denot). h.records) c.self.view_is)) (ap is_some c.requires.field.1) in
+    let there = subst (λ (rs : Records g.row.K.Denot). IsSome (get rs c.args.number)) (sym (anew ∙ ap (λ (h : SetState g.row.K.Denot g.row.D.Denot). h.records) c.self.view_is)) (ap is_some c.requires.field.1) in
     let live = begun_live k inside.members.records begun inside.puts puts anew c.begin_anew.ensures.puts (c.held_records_are_sound.ensures.live whole c.self.invariant.0) in
     let within = stay_within k lawful c.args.number c.args.field c.args.link begun c.part.new.self.records c.in_ok-rest.rest.records there c.in_ok-rest.ensures.shared in
     part_live k begun c.part.new.self.records puts.waiting puts.live within live
@@ -99,7 +99,7 @@ invariant_of-result g c =
     let begun = c.begin_anew.new.members.records in
     let puts = c.begin_anew.new.puts in
     let anew : begun ≡ inside.members.records = ap (λ (m : Contents g.row.K.Denot g.row.D.Denot). m.records) c.begin_anew.ensures.members in
-    let there = subst (λ (rs : Records g.row.K.Denot). IsSome (get rs c.args.number)) (sym (anew ∙ ap (λ (h : Held g.row.K.Denot g.row.D.Denot). h.records) c.self.view_is)) (ap is_some c.requires.field.1) in
+    let there = subst (λ (rs : Records g.row.K.Denot). IsSome (get rs c.args.number)) (sym (anew ∙ ap (λ (h : SetState g.row.K.Denot g.row.D.Denot). h.records) c.self.view_is)) (ap is_some c.requires.field.1) in
     let held = begun_held k inside.members.records begun inside.puts puts anew c.begin_anew.ensures.puts (c.held_records_are_sound.ensures.held whole c.self.invariant.0) in
     let within = rest_within k lawful c.args.number c.args.field c.args.link begun c.part.new.self.records c.in_ok-rest.rest.records there c.in_ok-rest.ensures.shared in
     let own = c.own_puts-rest_puts in
@@ -119,7 +119,7 @@ invariant_of-self-2 g c =
     let begun = c.begin_anew.new.members.records in
     let puts = c.begin_anew.new.puts in
     let anew : begun ≡ inside.members.records = ap (λ (m : Contents g.row.K.Denot g.row.D.Denot). m.records) c.begin_anew.ensures.members in
-    let there = subst (λ (rs : Records g.row.K.Denot). IsSome (get rs c.args.number)) (sym (anew ∙ ap (λ (h : Held g.row.K.Denot g.row.D.Denot). h.records) c.self.view_is)) (ap is_some c.requires.field.1) in
+    let there = subst (λ (rs : Records g.row.K.Denot). IsSome (get rs c.args.number)) (sym (anew ∙ ap (λ (h : SetState g.row.K.Denot g.row.D.Denot). h.records) c.self.view_is)) (ap is_some c.requires.field.1) in
     let held = begun_held k inside.members.records begun inside.puts puts anew c.begin_anew.ensures.puts (c.held_records_are_sound.ensures.held whole c.self.invariant.0) in
     let within = stay_within k lawful c.args.number c.args.field c.args.link begun c.part.new.self.records c.in_ok-rest.rest.records there c.in_ok-rest.ensures.shared in
     let own = c.own_puts-stay_puts in
@@ -139,22 +139,22 @@ returns-clause-apart g c =
     let lawful = g.met.K.RecordKind.lawful in
     let begun = c.begin_anew.new.members.records in
     let anew : begun ≡ inside.members.records = ap (λ (m : Contents g.row.K.Denot g.row.D.Denot). m.records) c.begin_anew.ensures.members in
-    let there = subst (λ (rs : Records g.row.K.Denot). IsSome (get rs c.args.number)) (sym (anew ∙ ap (λ (h : Held g.row.K.Denot g.row.D.Denot). h.records) c.self.view_is)) (ap is_some c.requires.field.1) in
+    let there = subst (λ (rs : Records g.row.K.Denot). IsSome (get rs c.args.number)) (sym (anew ∙ ap (λ (h : SetState g.row.K.Denot g.row.D.Denot). h.records) c.self.view_is)) (ap is_some c.requires.field.1) in
     let parts : awaited k inside.members.records ≡ awaited k c.part.new.self.records + awaited k c.in_ok-rest.rest.records =
     ap (awaited k) (sym anew) ∙ awaited-parted k lawful begun c.part.new.self.records c.in_ok-rest.rest.records c.args.number c.args.field c.args.link there c.in_ok-rest.ensures.shared in
     let count = awaited k c.in_ok-rest.rest.records in
     let few : count < 2 ^ 63 = omega (arith, awaited-few k c.in_ok-rest.rest.records, c.are_few-3.ensures) in
-    let was : inside.tally ≡ c.args.self.now.tally = ap (λ (h : Held g.row.K.Denot g.row.D.Denot). h.tally) c.self.view_is in
+    let was : inside.tally ≡ c.args.self.now.tally = ap (λ (h : SetState g.row.K.Denot g.row.D.Denot). h.tally) c.self.view_is in
     let together = parts_add_up inside.tally (awaited k inside.members.records) (awaited k c.part.new.self.records) count c.self.invariant.0.counts parts in
     let stay = c.own_puts-stay_puts in
     let rest = c.own_puts-rest_puts in
     fell_apart k c.args.number c.args.field c.args.link c.args.self.now c.begin_anew.new.members c.part.new.self c.in_ok-rest.rest c.begin_anew.new.puts stay.result rest.result count
     c.take_awaited-rest_tally.new.tally c.take_awaited-rest_tally.new.tally c.take_awaited-rest_tally.result c.take_awaited-rest_tally.result c.begin_anew.new.history.items c.new.result.items
-    (ap (λ (m : Contents g.row.K.Denot g.row.D.Denot). m.records) c.begin_anew.ensures.members ∙ ap (λ (h : Held g.row.K.Denot g.row.D.Denot). h.records) c.self.view_is)
-    (ap (λ (m : Contents g.row.K.Denot g.row.D.Denot). m.devices) c.begin_anew.ensures.members ∙ ap (λ (h : Held g.row.K.Denot g.row.D.Denot). h.devices) c.self.view_is)
+    (ap (λ (m : Contents g.row.K.Denot g.row.D.Denot). m.records) c.begin_anew.ensures.members ∙ ap (λ (h : SetState g.row.K.Denot g.row.D.Denot). h.records) c.self.view_is)
+    (ap (λ (m : Contents g.row.K.Denot g.row.D.Denot). m.devices) c.begin_anew.ensures.members ∙ ap (λ (h : SetState g.row.K.Denot g.row.D.Denot). h.devices) c.self.view_is)
     (c.take_awaited-rest_tally.ensures.stays ∙ ap (λ (t : Tally). less_awaited t count) was)
-    (ap (λ (p : Puts). p.live) c.begin_anew.ensures.puts ∙ ap (λ (h : Held g.row.K.Denot g.row.D.Denot). h.live) c.self.view_is)
-    (ap (λ (p : Puts). p.waiting) c.begin_anew.ensures.puts ∙ ap (λ (h : Held g.row.K.Denot g.row.D.Denot). h.waiting) c.self.view_is)
+    (ap (λ (p : Puts). p.live) c.begin_anew.ensures.puts ∙ ap (λ (h : SetState g.row.K.Denot g.row.D.Denot). h.live) c.self.view_is)
+    (ap (λ (p : Puts). p.waiting) c.begin_anew.ensures.puts ∙ ap (λ (h : SetState g.row.K.Denot g.row.D.Denot). h.waiting) c.self.view_is)
     c.in_ok-rest.ensures.shared c.in_ok-rest.ensures.devices c.in_ok-rest.ensures.own
     stay.ensures.waiting rest.ensures.waiting stay.ensures.none rest.ensures.none
     stay.ensures.begun c.in_ok-rest.ensures.base refl c.begin_anew.ensures.history

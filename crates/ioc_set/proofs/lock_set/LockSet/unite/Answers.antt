@@ -5,7 +5,7 @@ use Rattle.ioc_ledger.specs.Requests.{no_counts}
 use Rattle.ioc_ledger.specs.declared.tally.Tally.{Tally}
 use Rattle.ioc_notify.specs.declared.waiting_lists.Waiting.{Waiting}
 use Rattle.ioc_set_records.specs.Contents.{Records, Contents}
-use Rattle.ioc_set.specs.Held.{Held}
+use Rattle.ioc_set.specs.SetState.{SetState}
 use Rattle.ioc_set_store.specs.Puts.{Puts}
 use Rattle.ioc_set.specs.Sound.{CountsAddUp}
 use Rattle.ioc_set.specs.Doing.{held_by}
@@ -30,11 +30,11 @@ joined_puts-puts-requires-clause-live g c =
     let others = c.begin_anew-2.new.members.records in
     let anew : begun ≡ one.members.records = ap (λ (m : Contents g.row.K.Denot g.row.D.Denot). m.records) c.begin_anew.ensures.members in
     let others_anew : others ≡ two.members.records = ap (λ (m : Contents g.row.K.Denot g.row.D.Denot). m.records) c.begin_anew-2.ensures.members in
-    let is = anew ∙ ap (λ (h : Held g.row.K.Denot g.row.D.Denot). h.records) c.self.view_is in
-    let other_is = others_anew ∙ ap (λ (h : Held g.row.K.Denot g.row.D.Denot). h.records) c.other.view_is in
+    let is = anew ∙ ap (λ (h : SetState g.row.K.Denot g.row.D.Denot). h.records) c.self.view_is in
+    let other_is = others_anew ∙ ap (λ (h : SetState g.row.K.Denot g.row.D.Denot). h.records) c.other.view_is in
     let there = subst (λ (rs : Records g.row.K.Denot). IsSome (get rs c.args.number)) (sym is) (ap is_some c.requires.free.1) in
-    let waits = ap (λ (p : Puts). p.waiting) c.begin_anew.ensures.puts ∙ ap (λ (h : Held g.row.K.Denot g.row.D.Denot). h.waiting) c.self.view_is in
-    let other_waits = ap (λ (p : Puts). p.waiting) c.begin_anew-2.ensures.puts ∙ ap (λ (h : Held g.row.K.Denot g.row.D.Denot). h.waiting) c.other.view_is in
+    let waits = ap (λ (p : Puts). p.waiting) c.begin_anew.ensures.puts ∙ ap (λ (h : SetState g.row.K.Denot g.row.D.Denot). h.waiting) c.self.view_is in
+    let other_waits = ap (λ (p : Puts). p.waiting) c.begin_anew-2.ensures.puts ∙ ap (λ (h : SetState g.row.K.Denot g.row.D.Denot). h.waiting) c.other.view_is in
     let live = begun_live k one.members.records begun one.puts c.begin_anew.new.puts anew c.begin_anew.ensures.puts (c.held_records_are_sound.ensures.live whole c.self.invariant.0) in
     let other_live = begun_live k two.members.records others two.puts c.begin_anew-2.new.puts others_anew c.begin_anew-2.ensures.puts (c.held_records_are_sound.ensures.live other c.other.invariant.0) in
     joined_live k lawful begun others c.join_in.new.self.records c.args.number c.args.field c.args.link there c.join_in.ensures.shared
@@ -52,11 +52,11 @@ joined_puts-puts-requires-clause-once g c =
     let others = c.begin_anew-2.new.members.records in
     let anew : begun ≡ one.members.records = ap (λ (m : Contents g.row.K.Denot g.row.D.Denot). m.records) c.begin_anew.ensures.members in
     let others_anew : others ≡ two.members.records = ap (λ (m : Contents g.row.K.Denot g.row.D.Denot). m.records) c.begin_anew-2.ensures.members in
-    let is = anew ∙ ap (λ (h : Held g.row.K.Denot g.row.D.Denot). h.records) c.self.view_is in
-    let other_is = others_anew ∙ ap (λ (h : Held g.row.K.Denot g.row.D.Denot). h.records) c.other.view_is in
+    let is = anew ∙ ap (λ (h : SetState g.row.K.Denot g.row.D.Denot). h.records) c.self.view_is in
+    let other_is = others_anew ∙ ap (λ (h : SetState g.row.K.Denot g.row.D.Denot). h.records) c.other.view_is in
     let there = subst (λ (rs : Records g.row.K.Denot). IsSome (get rs c.args.number)) (sym is) (ap is_some c.requires.free.1) in
-    let waits = ap (λ (p : Puts). p.waiting) c.begin_anew.ensures.puts ∙ ap (λ (h : Held g.row.K.Denot g.row.D.Denot). h.waiting) c.self.view_is in
-    let other_waits = ap (λ (p : Puts). p.waiting) c.begin_anew-2.ensures.puts ∙ ap (λ (h : Held g.row.K.Denot g.row.D.Denot). h.waiting) c.other.view_is in
+    let waits = ap (λ (p : Puts). p.waiting) c.begin_anew.ensures.puts ∙ ap (λ (h : SetState g.row.K.Denot g.row.D.Denot). h.waiting) c.self.view_is in
+    let other_waits = ap (λ (p : Puts). p.waiting) c.begin_anew-2.ensures.puts ∙ ap (λ (h : SetState g.row.K.Denot g.row.D.Denot). h.waiting) c.other.view_is in
     let held = begun_held k one.members.records begun one.puts c.begin_anew.new.puts anew c.begin_anew.ensures.puts (c.held_records_are_sound.ensures.held whole c.self.invariant.0) in
     let other_held = begun_held k two.members.records others two.puts c.begin_anew-2.new.puts others_anew c.begin_anew-2.ensures.puts (c.held_records_are_sound.ensures.held other c.other.invariant.0) in
     joined_once c.begin_anew.new.puts.waiting c.begin_anew-2.new.puts.waiting
@@ -75,11 +75,11 @@ invariant_of-self g c =
     let others = c.begin_anew-2.new.members.records in
     let anew : begun ≡ one.members.records = ap (λ (m : Contents g.row.K.Denot g.row.D.Denot). m.records) c.begin_anew.ensures.members in
     let others_anew : others ≡ two.members.records = ap (λ (m : Contents g.row.K.Denot g.row.D.Denot). m.records) c.begin_anew-2.ensures.members in
-    let is = anew ∙ ap (λ (h : Held g.row.K.Denot g.row.D.Denot). h.records) c.self.view_is in
-    let other_is = others_anew ∙ ap (λ (h : Held g.row.K.Denot g.row.D.Denot). h.records) c.other.view_is in
+    let is = anew ∙ ap (λ (h : SetState g.row.K.Denot g.row.D.Denot). h.records) c.self.view_is in
+    let other_is = others_anew ∙ ap (λ (h : SetState g.row.K.Denot g.row.D.Denot). h.records) c.other.view_is in
     let there = subst (λ (rs : Records g.row.K.Denot). IsSome (get rs c.args.number)) (sym is) (ap is_some c.requires.free.1) in
-    let waits = ap (λ (p : Puts). p.waiting) c.begin_anew.ensures.puts ∙ ap (λ (h : Held g.row.K.Denot g.row.D.Denot). h.waiting) c.self.view_is in
-    let other_waits = ap (λ (p : Puts). p.waiting) c.begin_anew-2.ensures.puts ∙ ap (λ (h : Held g.row.K.Denot g.row.D.Denot). h.waiting) c.other.view_is in
+    let waits = ap (λ (p : Puts). p.waiting) c.begin_anew.ensures.puts ∙ ap (λ (h : SetState g.row.K.Denot g.row.D.Denot). h.waiting) c.self.view_is in
+    let other_waits = ap (λ (p : Puts). p.waiting) c.begin_anew-2.ensures.puts ∙ ap (λ (h : SetState g.row.K.Denot g.row.D.Denot). h.waiting) c.other.view_is in
     let held = begun_held k one.members.records begun one.puts c.begin_anew.new.puts anew c.begin_anew.ensures.puts (c.held_records_are_sound.ensures.held whole c.self.invariant.0) in
     let other_held = begun_held k two.members.records others two.puts c.begin_anew-2.new.puts others_anew c.begin_anew-2.ensures.puts (c.held_records_are_sound.ensures.held other c.other.invariant.0) in
     let joined = c.joined_puts-puts in
@@ -121,15 +121,15 @@ returns g c =
     let joined = c.joined_puts-puts in
     became_one g.K.RecordKind.rules c.args.number c.args.field c.args.link c.args.self.now c.args.other.now c.begin_anew.new.members c.begin_anew-2.new.members c.join_in.new.self c.join_in.new.other
     c.begin_anew.new.puts c.begin_anew-2.new.puts joined.result c.none.result one.tally two.tally c.add_counts.new.tally c.default-other-inside.result c.begin_anew.new.history.items c.begin_anew-2.new.history.items
-    (ap (λ (m : Contents g.row.K.Denot g.row.D.Denot). m.records) c.begin_anew.ensures.members ∙ ap (λ (h : Held g.row.K.Denot g.row.D.Denot). h.records) c.self.view_is)
-    (ap (λ (m : Contents g.row.K.Denot g.row.D.Denot). m.devices) c.begin_anew.ensures.members ∙ ap (λ (h : Held g.row.K.Denot g.row.D.Denot). h.devices) c.self.view_is)
-    (ap (λ (h : Held g.row.K.Denot g.row.D.Denot). h.tally) c.self.view_is)
-    (ap (λ (p : Puts). p.live) c.begin_anew.ensures.puts ∙ ap (λ (h : Held g.row.K.Denot g.row.D.Denot). h.live) c.self.view_is)
-    (ap (λ (p : Puts). p.waiting) c.begin_anew.ensures.puts ∙ ap (λ (h : Held g.row.K.Denot g.row.D.Denot). h.waiting) c.self.view_is)
-    (ap (λ (m : Contents g.row.K.Denot g.row.D.Denot). m.records) c.begin_anew-2.ensures.members ∙ ap (λ (h : Held g.row.K.Denot g.row.D.Denot). h.records) c.other.view_is)
-    (ap (λ (m : Contents g.row.K.Denot g.row.D.Denot). m.devices) c.begin_anew-2.ensures.members ∙ ap (λ (h : Held g.row.K.Denot g.row.D.Denot). h.devices) c.other.view_is)
-    (ap (λ (h : Held g.row.K.Denot g.row.D.Denot). h.tally) c.other.view_is)
-    (ap (λ (p : Puts). p.live) c.begin_anew-2.ensures.puts ∙ ap (λ (h : Held g.row.K.Denot g.row.D.Denot). h.live) c.other.view_is)
-    (ap (λ (p : Puts). p.waiting) c.begin_anew-2.ensures.puts ∙ ap (λ (h : Held g.row.K.Denot g.row.D.Denot). h.waiting) c.other.view_is)
+    (ap (λ (m : Contents g.row.K.Denot g.row.D.Denot). m.records) c.begin_anew.ensures.members ∙ ap (λ (h : SetState g.row.K.Denot g.row.D.Denot). h.records) c.self.view_is)
+    (ap (λ (m : Contents g.row.K.Denot g.row.D.Denot). m.devices) c.begin_anew.ensures.members ∙ ap (λ (h : SetState g.row.K.Denot g.row.D.Denot). h.devices) c.self.view_is)
+    (ap (λ (h : SetState g.row.K.Denot g.row.D.Denot). h.tally) c.self.view_is)
+    (ap (λ (p : Puts). p.live) c.begin_anew.ensures.puts ∙ ap (λ (h : SetState g.row.K.Denot g.row.D.Denot). h.live) c.self.view_is)
+    (ap (λ (p : Puts). p.waiting) c.begin_anew.ensures.puts ∙ ap (λ (h : SetState g.row.K.Denot g.row.D.Denot). h.waiting) c.self.view_is)
+    (ap (λ (m : Contents g.row.K.Denot g.row.D.Denot). m.records) c.begin_anew-2.ensures.members ∙ ap (λ (h : SetState g.row.K.Denot g.row.D.Denot). h.records) c.other.view_is)
+    (ap (λ (m : Contents g.row.K.Denot g.row.D.Denot). m.devices) c.begin_anew-2.ensures.members ∙ ap (λ (h : SetState g.row.K.Denot g.row.D.Denot). h.devices) c.other.view_is)
+    (ap (λ (h : SetState g.row.K.Denot g.row.D.Denot). h.tally) c.other.view_is)
+    (ap (λ (p : Puts). p.live) c.begin_anew-2.ensures.puts ∙ ap (λ (h : SetState g.row.K.Denot g.row.D.Denot). h.live) c.other.view_is)
+    (ap (λ (p : Puts). p.waiting) c.begin_anew-2.ensures.puts ∙ ap (λ (h : SetState g.row.K.Denot g.row.D.Denot). h.waiting) c.other.view_is)
     c.join_in.ensures.shared c.join_in.ensures.devices joined.ensures.waiting (λ nobody other_nobody. joined.ensures.none nobody other_nobody)
     joined.ensures.begun c.join_in.ensures.base c.add_counts.ensures c.begin_anew.ensures.history c.join_in.ensures.emptied (were_none c.none.result c.none.ensures) none c.begin_anew-2.ensures.history

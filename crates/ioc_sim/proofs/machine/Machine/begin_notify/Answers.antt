@@ -5,7 +5,7 @@ use Rattle.rec_types.specs.Record.{record_rules}
 use Rattle.ioc_store.specs.OneMap.{world_of, given_of, device_at}
 use Rattle.ioc_store.specs.World.{begun}
 use Rattle.ioc_events.specs.declared.event.Event.TheVariants.{Notify}
-use Rattle.ioc_events.specs.Told.{told_by}
+use Rattle.ioc_events.specs.SetReply.{told_by}
 use Rattle.ioc_sim.specs.SeenMachine.{machine_of}
 use Rattle.ioc_sim.proofs.Closing.{settled_same, room_same, none_yet}
 use Rattle.ioc_sim.proofs.Eventing.{event_is}

@@ -7,13 +7,13 @@ pub invariant_of-self : goal.invariant_of-self
 invariant_of-self c = record {
   room = c.push_reserved.ensures.capacity ∙ c.args.self.now.room;
   wide = c.args.self.now.wide;
-  few = few-ended c.args.number c.args.self.now.live.live c.lose.new.self.live c.args.self.now.ended.items c.push_reserved.new.self.items (ap (λ (n : Living). n.live) c.lose.ensures.lost)
-      (sym c.lose.ensures.ended ∙ c.if-lose.true) c.push_reserved.ensures.items c.args.self.now.few;
+  few = few-ended c.args.number c.args.self.now.live.live c.remove_holder.new.self.live c.args.self.now.ended.items c.push_reserved.new.self.items (ap (λ (n : Living). n.live) c.remove_holder.ensures.lost)
+      (sym c.remove_holder.ensures.ended ∙ c.if-lose.true) c.push_reserved.ensures.items c.args.self.now.few;
 }
 
 pub invariant_of-self-else-lose : goal.invariant_of-self-else-lose
 invariant_of-self-else-lose c = record {
   room = c.args.self.now.room;
   wide = c.args.self.now.wide;
-  few = few-left c.args.number c.args.self.now.live.live c.lose.new.self.live c.args.self.now.ended.items (ap (λ (n : Living). n.live) c.lose.ensures.lost) c.args.self.now.few;
+  few = few-left c.args.number c.args.self.now.live.live c.remove_holder.new.self.live c.args.self.now.ended.items (ap (λ (n : Living). n.live) c.remove_holder.ensures.lost) c.args.self.now.few;
 }

@@ -3,7 +3,7 @@ use Rattle.std.proofs.lemmas.Int.{to_z-of_z}
 use Rattle.ioc_values.specs.declared.value.Value.{Value}
 use Rattle.ioc_values.specs.Conversion.{value_in}
 use Rattle.ioc_fields.specs.declared.field_no.OwnField.{OwnField}
-use Rattle.ioc_record.specs.BodyRules.{BodyRules, Held, number_stored}
+use Rattle.ioc_record.specs.BodyRules.{BodyRules, BodyState, number_stored}
 use Rattle.rec_numeric.specs.Input.{longin, int64in}
 use Rattle.rec_numeric.specs.Output.{longout, int64out}
 use Rattle.rec_binary.specs.Bi.{bi}
@@ -20,7 +20,7 @@ use Rattle.rec_types.specs.Record.{left, body_rules}
 use Rattle.rec_types.proofs.record.BodyRecordBody.store_number.Goals as goal
 
 -- A number that is stored by the rules of a type is stored by the rules of all types.
-numbered : {T : Type 0} (k : BodyRules T) (back : T → Body) (h : Held T) (f : OwnField) (o : Option Value)
+numbered : {T : Type 0} (k : BodyRules T) (back : T → Body) (h : BodyState T) (f : OwnField) (o : Option Value)
     → ((v : Value) → left back (k.stored h f v) ≡ body_rules.stored (left back h) f v)
     → left back (number_stored k h f o) ≡ number_stored body_rules (left back h) f o
 numbered k back h f None same = refl

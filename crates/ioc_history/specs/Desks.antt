@@ -1,0 +1,40 @@
+-- The invariants of the journal, a desk and a receipt.
+use Rattle.std.specs.Prelude.{◌≡◌, ℕ, ◌+◌, ◌<◌, ◌≤◌, List, [], ◌∷◌, length}
+use Rattle.atomic_table.specs.Seated.{TableId}
+use Rattle.ioc_record.specs.RecordRules.{RecordRules}
+use Rattle.ioc_store.specs.World.{World}
+use Rattle.ioc_history.specs.declared.entry.JournalEntry.{JournalEntry}
+use Rattle.ioc_history.specs.declared.cell.View.{View}
+use Rattle.ioc_history.specs.Key.{Key, Has}
+use Rattle.ioc_history.specs.Line.{keeper, holder}
+use Rattle.ioc_history.specs.Legal.{IsSound}
+use Rattle.ioc_history.specs.Account.{calls, desk_key, Below, IsAccount}
+
+module _ {R : Type 0} (k : RecordRules R) (base : World R) (table id : TableId) (v : View) where
+  -- The invariant of a journal: its pass is the keeper's, its entries are the calls of the list,
+  -- and the list is legal from a sound world on.
+  pub record IsKept (items : List JournalEntry) (desks : ℕ) : Type 0 where
+    pub same : id ≡ table
+    pub keeps : v ≡ keeper v.seen v.born
+    pub items_are : items ≡ calls v.seen
+    pub sound : IsSound k base
+    pub account : IsAccount k base v.seen
+    -- Only desks below this number have keys and calls.
+    pub given : (key : Key) → Has key v.born → key.0 ≡ 1 → key.1 < desks
+    pub new_desk : (d : ℕ) → desks ≤ d → Below d 0 (calls v.seen)
+
+  -- The invariant of a desk: its pass owns its key, its calls have numbers below the next one,
+  -- which is at most the number of calls that it has seen, and the list of these is legal.
+  pub record IsDesk (number next : ℕ) : Type 0 where
+    pub same : id ≡ table
+    pub holds : v ≡ holder v.seen (desk_key number ∷ [])
+    pub below : Below number next (calls v.seen)
+    pub count : next ≤ length v.seen
+    pub account : IsAccount k base v.seen
+
+  -- The invariant of a receipt: its pass owns nothing, and its legal list ends at its place.
+  pub record IsReceipt (place : ℕ) : Type 0 where
+    pub same : id ≡ table
+    pub holds : v ≡ holder v.seen []
+    pub ends : length v.seen ≡ place + 1
+    pub account : IsAccount k base v.seen

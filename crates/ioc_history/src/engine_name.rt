@@ -1,0 +1,35 @@
+//! Names an engine.
+use crate::CellName;
+use std::marker::Brand;
+
+/// Names an engine: its cell, the world at the load and the records with a device at that time, the
+/// ledger of the held places of its journal, and the ledger of its once tickets. Its records are of
+/// kind `K`.
+pub trait EngineName<K>: CellName {
+    ghost use Rattle.std.specs.Prelude.{ℕ, Bool};
+    ghost use Rattle.ioc_store.specs.World.{World};
+
+    /// The world at the load.
+    ghost base: { World K };
+
+    /// The numbers of the records that have a device at the load.
+    ghost had_device: { ℕ → Bool };
+
+    /// The name of the ledger of places.
+    ghost places: { ℕ };
+
+    /// The name of the ledger of tickets for once requests.
+    ghost tickets: { ℕ };
+}
+
+impl<K> EngineName<K> for Brand {
+    ghost use Rattle.ioc_history.specs.Unnamed.{no_world, no_device};
+
+    ghost base = { no_world };
+
+    ghost had_device = { no_device };
+
+    ghost places = { 0 };
+
+    ghost tickets = { 0 };
+}

@@ -1,6 +1,0 @@
-use Rattle.std.proofs.Common.{subst}
-use Rattle.ioc_journaled_set.specs.Holding.{HeldView, KeepsDevices}
-use Rattle.ioc_journaled_set.proofs.held.Held.keeps_devices.Goals as goal
-
-pub returns : goal.returns
-returns g c = subst (λ (v : HeldView g.row.K.Denot g.row.D.Denot). KeepsDevices g.B.Base.had_device v.set) c.self.view_is c.self.invariant.devices

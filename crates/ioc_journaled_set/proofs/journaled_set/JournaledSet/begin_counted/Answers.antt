@@ -1,0 +1,130 @@
+use Rattle.std.proofs.Common.{◌≡◌, ◌≤◌, ℕ, List, Option, Some, None, refl, sym, ap, ◌∙◌, subst, inl, arith}
+use Rattle.std.specs.Option.{IfSome}
+use Rattle.std.specs.Prelude.{Contains}
+use Rattle.crossbeam_utils.specs.Seq.{cell_view}
+use Rattle.ioc_notify.specs.declared.live_numbers.Live.{Live}
+use Rattle.ioc_store.specs.World.{Has}
+use Rattle.ioc_store.specs.Given.{answers_of}
+use Rattle.ioc_events.specs.declared.event.Entry.{Entry}
+use Rattle.ioc_events.specs.Step.{names}
+use Rattle.ioc_history.specs.Covering.{Holds}
+use Rattle.ioc_history.specs.Legal.{map_of}
+use Rattle.ioc_history.specs.declared.cell.View.{View}
+use Rattle.ioc_history.specs.Account.{Call, Pass, MayBegin, number_given, numbers_given, calls, puts_key}
+use Rattle.ioc_history.proofs.Numbers.{next_above}
+use Rattle.ioc_set.specs.SetState.{now_of}
+use Rattle.ioc_set.specs.NoCalls.{no_call}
+use Rattle.ioc_set_store.specs.SetStore.{world_of}
+use Rattle.ioc_journaled_set.specs.Holding.{HeldView, held_view, numbers_of, IsHeld, Serves}
+use Rattle.ioc_journaled_set.specs.Puts.{AreMoved}
+use Rattle.ioc_journaled_set.proofs.Keys.{key_there}
+use Rattle.ioc_journaled_set.proofs.Devices.{worked_there, keeps_on}
+use Rattle.ioc_journaled_set.proofs.Serving.{one_there, owner_on, entry_is, only}
+use Rattle.ioc_journaled_set.proofs.Places.{place_alike}
+use Rattle.ioc_events.specs.declared.event.Event.TheVariants.{Notify}
+use Rattle.ioc_journaled_set.proofs.Beside.{both_follow, held_beside, moved_beside}
+use Rattle.ioc_journaled_set.proofs.journaled_set.JournaledSet.begin_counted.Goals as goal
+
+pub unreachable-requires : goal.unreachable-requires
+unreachable-requires g c =
+    let k = g.K.RecordKind.rules in
+    let none : c.self.inside.pass ≡ None = sym c.take.ensures.value ∙ c.in_default.is in
+    let held = subst (λ (o : Option Pass). IsHeld k g.B.EngineName.base g.B.EngineName.had_device g.B.CellName.table o c.self.inside.set) none c.self.invariant in
+    held.owner c.args.target (key_there c.self.inside.set.records c.args.target (subst (λ (v : HeldView g.row.K.Denot g.row.D.Denot). Contains (numbers_of v) c.args.target) (sym c.self.view_is) c.requires.there))
+
+pub keep_beside-receipt-requires-clause-follows : goal.keep_beside-receipt-requires-clause-follows
+keep_beside-receipt-requires-clause-follows g c =
+    let k = g.K.RecordKind.rules in
+    let base = g.B.EngineName.base in
+    let event = Notify c.args.target c.args.notification c.args.field c.args.given in
+    let is : c.self.inside.pass ≡ Some c.in-Some.pass = sym c.take.ensures.value ∙ c.in-Some.is in
+    let held = subst (λ (o : Option Pass). IsHeld k base g.B.EngineName.had_device g.B.CellName.table o c.self.inside.set) is c.self.invariant in
+    let own = key_there c.self.inside.set.records c.args.target (subst (λ (v : HeldView g.row.K.Denot g.row.D.Denot). Contains (numbers_of v) c.args.target) (sym c.self.view_is) c.requires.there) in
+    let there : (n : ℕ) → Contains (names event) n → Has (now_of c.self.inside.set) n = λ n has. subst (λ (m : ℕ). Has (now_of c.self.inside.set) m) (one_there c.args.target n has) own in
+    let does = c.in_ok-ran.ensures.does in
+    let come_to = world_of c.run_counted.new.buffers.store in
+    let entry = entry_is k g.D.Device.gives c.self.inside.set c.run_counted.new.set c.args.moment event c.in_ok-ran.ran.reply come_to does there (answers_of come_to.calls) refl ∙ sym c.in_ok-ran.ensures.entry in
+    let also = c.args.all.now.seen in
+    both_follow k g.D.Device.gives c.self.inside.set c.run_counted.new.set c.args.moment event c.in_ok-ran.ran.reply come_to does there
+    c.holding_lasts.ensures c.events_are_held.ensures.event c.holders_move.ensures.moves c.parts_share_what_is_held.ensures.alike
+    base (cell_view c.in-Some.pass).seen also (cell_view c.in-Some.pass).owns held.owner.covers held.holds
+    (λ log sound go legal h. tt)
+    (λ log sound go legal h. place_alike k c.one_more_has_a_place.ensures c.live_lasts.ensures c.lists_leave_sound.ensures.after c.lines_tell_holders.ensures.live c.lines_tell_holders.ensures.held base (now_of c.self.inside.set) also log c.args.all.now.live c.args.notification c.args.moment
+    c.is_counted.ensures.table c.is_counted.ensures.counted sound go legal h c.is_sound.ensures.counted c.requires.can.few c.requires.can.free) _ entry
+
+pub keep_beside-receipt-requires-clause-begins : goal.keep_beside-receipt-requires-clause-begins
+keep_beside-receipt-requires-clause-begins g c =
+    subst (λ (x : Entry). MayBegin c.args.all.now.seen puts_key x.event) (sym c.in_ok-ran.ensures.entry)
+    (inl refl, next_above (numbers_given (calls c.args.all.now.seen)) c.args.all.now.last c.args.notification c.requires.can.after c.is_counted.ensures.below)
+
+pub keep_beside-receipt-requires-clause-given : goal.keep_beside-receipt-requires-clause-given
+keep_beside-receipt-requires-clause-given g c =
+    subst (λ (x : Entry). IfSome (number_given x.event) (λ number. number ≤ c.number.result)) (sym c.in_ok-ran.ensures.entry) (let is = c.number.ensures in omega (arith, is))
+
+pub keep_beside-receipt-requires-clause-moves : goal.keep_beside-receipt-requires-clause-moves
+keep_beside-receipt-requires-clause-moves g c =
+    let k = g.K.RecordKind.rules in
+    let base = g.B.EngineName.base in
+    let event = Notify c.args.target c.args.notification c.args.field c.args.given in
+    let is : c.self.inside.pass ≡ Some c.in-Some.pass = sym c.take.ensures.value ∙ c.in-Some.is in
+    let held = subst (λ (o : Option Pass). IsHeld k base g.B.EngineName.had_device g.B.CellName.table o c.self.inside.set) is c.self.invariant in
+    let own = key_there c.self.inside.set.records c.args.target (subst (λ (v : HeldView g.row.K.Denot g.row.D.Denot). Contains (numbers_of v) c.args.target) (sym c.self.view_is) c.requires.there) in
+    let there : (n : ℕ) → Contains (names event) n → Has (now_of c.self.inside.set) n = λ n has. subst (λ (m : ℕ). Has (now_of c.self.inside.set) m) (one_there c.args.target n has) own in
+    let does = c.in_ok-ran.ensures.does in
+    let come_to = world_of c.run_counted.new.buffers.store in
+    let entry = entry_is k g.D.Device.gives c.self.inside.set c.run_counted.new.set c.args.moment event c.in_ok-ran.ran.reply come_to does there (answers_of come_to.calls) refl ∙ sym c.in_ok-ran.ensures.entry in
+    let also = c.args.all.now.seen in
+    λ log longer added. subst (λ (ls : List Live). AreMoved k base log longer ls c.run_counted.new.set.live) (sym (c.deref.ensures.value ∙ c.in_ok-ran.ensures.before))
+    (moved_beside k g.D.Device.gives c.self.inside.set c.run_counted.new.set c.args.moment event c.in_ok-ran.ran.reply come_to does there
+    c.holding_lasts.ensures c.events_are_held.ensures.event c.holders_move.ensures.moves c.parts_share_what_is_held.ensures.alike
+    base (cell_view c.in-Some.pass).seen also (cell_view c.in-Some.pass).owns held.owner.covers held.holds
+    (λ log sound go legal h. tt)
+    (λ log sound go legal h. place_alike k c.one_more_has_a_place.ensures c.live_lasts.ensures c.lists_leave_sound.ensures.after c.lines_tell_holders.ensures.live c.lines_tell_holders.ensures.held base (now_of c.self.inside.set) also log c.args.all.now.live c.args.notification c.args.moment
+    c.is_counted.ensures.table c.is_counted.ensures.counted sound go legal h c.is_sound.ensures.counted c.requires.can.few c.requires.can.free) _ entry log longer added
+    c.holders_move.ensures.fewer c.holders_move.ensures.few c.lists_leave_sound.ensures.after c.lines_tell_holders.ensures.holders c.is_sound.ensures.counted c.is_sound-2.ensures.counted)
+
+pub invariant_of-self-2 : goal.invariant_of-self-2
+invariant_of-self-2 g c =
+    let k = g.K.RecordKind.rules in
+    let base = g.B.EngineName.base in
+    let event = Notify c.args.target c.args.notification c.args.field c.args.given in
+    let is : c.self.inside.pass ≡ Some c.in-Some.pass = sym c.take.ensures.value ∙ c.in-Some.is in
+    let held = subst (λ (o : Option Pass). IsHeld k base g.B.EngineName.had_device g.B.CellName.table o c.self.inside.set) is c.self.invariant in
+    let own = key_there c.self.inside.set.records c.args.target (subst (λ (v : HeldView g.row.K.Denot g.row.D.Denot). Contains (numbers_of v) c.args.target) (sym c.self.view_is) c.requires.there) in
+    let there : (n : ℕ) → Contains (names event) n → Has (now_of c.self.inside.set) n = λ n has. subst (λ (m : ℕ). Has (now_of c.self.inside.set) m) (one_there c.args.target n has) own in
+    let does = c.in_ok-ran.ensures.does in
+    let come_to = world_of c.run_counted.new.buffers.store in
+    let entry = entry_is k g.D.Device.gives c.self.inside.set c.run_counted.new.set c.args.moment event c.in_ok-ran.ran.reply come_to does there (answers_of come_to.calls) refl ∙ sym c.in_ok-ran.ensures.entry in
+    let also = c.args.all.now.seen in
+    let pass = c.keep_beside-receipt.ensures.pass in
+    let added = c.keep_beside-receipt.ensures.added in
+    let came = only k g.D.Device.gives c.self.inside.set c.run_counted.new.set c.args.moment event c.in_ok-ran.ran.reply come_to does there c.rules_are_steps.ensures.allowed c.events_keep_records.ensures held.holds.shut in
+    record {
+      owner = owner_on g.B.CellName.table _ _ (cell_view c.in-Some.pass) (cell_view c.keep_beside-receipt.new.pass) _ (now_of c.self.inside.set) (now_of c.run_counted.new.set) held.owner (pass.0 ∙ sym held.owner.same) pass.1 came;
+      devices = keeps_on g.B.EngineName.had_device c.self.inside.set c.run_counted.new.set held.devices (worked_there does.work) came;
+      holds = subst (λ (x : View). Holds k (map_of k base x.seen) (now_of c.run_counted.new.set)) (sym pass.1)
+          (held_beside k g.D.Device.gives c.self.inside.set c.run_counted.new.set c.args.moment event c.in_ok-ran.ran.reply come_to does there
+          c.holding_lasts.ensures c.events_are_held.ensures.event c.holders_move.ensures.moves c.parts_share_what_is_held.ensures.alike
+          base (cell_view c.in-Some.pass).seen also (cell_view c.in-Some.pass).owns held.owner.covers held.holds
+          (λ log sound go legal h. tt)
+          (λ log sound go legal h. place_alike k c.one_more_has_a_place.ensures c.live_lasts.ensures c.lists_leave_sound.ensures.after c.lines_tell_holders.ensures.live c.lines_tell_holders.ensures.held base (now_of c.self.inside.set) also log c.args.all.now.live c.args.notification c.args.moment
+          c.is_counted.ensures.table c.is_counted.ensures.counted sound go legal h c.is_sound.ensures.counted c.requires.can.few c.requires.can.free) _ entry added.0 _ added.1);
+    }
+
+pub returns-clause-serves : goal.returns-clause-serves
+returns-clause-serves g c =
+    let k = g.K.RecordKind.rules in
+    let base = g.B.EngineName.base in
+    let event = Notify c.args.target c.args.notification c.args.field c.args.given in
+    let is : c.self.inside.pass ≡ Some c.in-Some.pass = sym c.take.ensures.value ∙ c.in-Some.is in
+    let held = subst (λ (o : Option Pass). IsHeld k base g.B.EngineName.had_device g.B.CellName.table o c.self.inside.set) is c.self.invariant in
+    let own = key_there c.self.inside.set.records c.args.target (subst (λ (v : HeldView g.row.K.Denot g.row.D.Denot). Contains (numbers_of v) c.args.target) (sym c.self.view_is) c.requires.there) in
+    let there : (n : ℕ) → Contains (names event) n → Has (now_of c.self.inside.set) n = λ n has. subst (λ (m : ℕ). Has (now_of c.self.inside.set) m) (one_there c.args.target n has) own in
+    let does = c.in_ok-ran.ensures.does in
+    let come_to = world_of c.run_counted.new.buffers.store in
+    let entry = entry_is k g.D.Device.gives c.self.inside.set c.run_counted.new.set c.args.moment event c.in_ok-ran.ran.reply come_to does there (answers_of come_to.calls) refl ∙ sym c.in_ok-ran.ensures.entry in
+    let also = c.args.all.now.seen in
+    let pass = c.keep_beside-receipt.ensures.pass in
+    subst (λ (v : HeldView g.row.K.Denot g.row.D.Denot). Serves k g.D.Device.gives base v c.args.desk.now c.args.moment event c.in_ok-ran.ran.reply
+    (held_view c.run_counted.new.set (cell_view c.keep_beside-receipt.new.pass).seen) c.keep_beside-receipt.new.desk come_to) c.self.view_is
+    (record { is_call = subst (λ (v : HeldView g.row.K.Denot g.row.D.Denot). no_call k (now_of v.set) event ≡ None) (sym c.self.view_is) c.requires.is_call; does = does; call = subst (λ (x : Entry). Call k base c.args.desk.now x c.keep_beside-receipt.new.desk) (sym entry) c.keep_beside-receipt.ensures.call; seen = ap (λ (v : View). v.seen) pass.1 })

@@ -1,0 +1,78 @@
+use Rattle.std.proofs.Common.{◌≡◌, List, Option, Some, None, refl, sym, ap, ◌∙◌, subst, arith}
+use Rattle.std.specs.Prelude.{Contains}
+use Rattle.crossbeam_utils.specs.Seq.{cell_view}
+use Rattle.ioc_device.specs.declared.Answer.{Answer}
+use Rattle.ioc_store.specs.World.{Has}
+use Rattle.ioc_events.specs.declared.event.Event.TheVariants.{Get}
+use Rattle.ioc_history.specs.Covering.{Holds}
+use Rattle.ioc_history.specs.Legal.{map_of}
+use Rattle.ioc_history.specs.declared.cell.View.{View}
+use Rattle.ioc_history.specs.Account.{Call, Pass}
+use Rattle.ioc_set.specs.SetState.{now_of}
+use Rattle.ioc_set.specs.NoCalls.{no_call}
+use Rattle.ioc_journaled_set.specs.Holding.{HeldView, held_view, numbers_of, IsHeld, Tells}
+use Rattle.ioc_journaled_set.proofs.Keys.{key_there}
+use Rattle.ioc_journaled_set.proofs.Serving.{owner_on, get_may_follow, held_after_get}
+use Rattle.ioc_journaled_set.proofs.journaled_set.JournaledSet.get.Goals as goal
+
+pub unreachable-requires : goal.unreachable-requires
+unreachable-requires g c =
+    let k = g.K.RecordKind.rules in
+    let none : c.self.inside.pass ≡ None = sym c.take.ensures.value ∙ c.in_default.is in
+    let held = subst (λ (o : Option Pass). IsHeld k g.B.EngineName.base g.B.EngineName.had_device g.B.CellName.table o c.self.inside.set) none c.self.invariant in
+    held.owner c.args.number (key_there c.self.inside.set.records c.args.number (subst (λ (v : HeldView g.row.K.Denot g.row.D.Denot). Contains (numbers_of v) c.args.number) (sym c.self.view_is) c.requires.there))
+
+pub append-receipt-requires-clause-set : goal.append-receipt-requires-clause-set
+append-receipt-requires-clause-set g c =
+    let is : c.self.inside.pass ≡ Some c.in-Some.pass = sym c.take.ensures.value ∙ c.in-Some.is in
+    let held = subst (λ (o : Option Pass). IsHeld g.K.RecordKind.rules g.B.EngineName.base g.B.EngineName.had_device g.B.CellName.table o c.self.inside.set) is c.self.invariant in
+    (held.owner.holder, λ key has desk. let record_key = held.owner.records key has in omega (arith, record_key, desk))
+
+pub append-receipt-requires-clause-follows : goal.append-receipt-requires-clause-follows
+append-receipt-requires-clause-follows g c =
+    let k = g.K.RecordKind.rules in
+    let is : c.self.inside.pass ≡ Some c.in-Some.pass = sym c.take.ensures.value ∙ c.in-Some.is in
+    let held = subst (λ (o : Option Pass). IsHeld k g.B.EngineName.base g.B.EngineName.had_device g.B.CellName.table o c.self.inside.set) is c.self.invariant in
+    let there : Has (now_of c.self.inside.set) c.args.number =
+    key_there c.self.inside.set.records c.args.number (subst (λ (v : HeldView g.row.K.Denot g.row.D.Denot). Contains (numbers_of v) c.args.number) (sym c.self.view_is) c.requires.there) in
+    let none = c.new-2.ensures ∙ c.new.ensures.items in
+    get_may_follow k c.holding_lasts.ensures c.events_are_held.ensures.asks g.B.EngineName.base (now_of c.self.inside.set) c.args.moment c.args.number c.args.field c.get-reply.result c.get-reply.ensures there
+    (cell_view c.in-Some.pass).seen (cell_view c.in-Some.pass).owns held.owner.covers held.holds _ (λ i. record { moment = c.args.moment; event = Get c.args.number c.args.field; answers = sym none i; reply = c.get-reply.result })
+
+pub invariant_of-self : goal.invariant_of-self
+invariant_of-self g c =
+    let k = g.K.RecordKind.rules in
+    let is : c.self.inside.pass ≡ Some c.in-Some.pass = sym c.take.ensures.value ∙ c.in-Some.is in
+    let held = subst (λ (o : Option Pass). IsHeld k g.B.EngineName.base g.B.EngineName.had_device g.B.CellName.table o c.self.inside.set) is c.self.invariant in
+    let there : Has (now_of c.self.inside.set) c.args.number =
+    key_there c.self.inside.set.records c.args.number (subst (λ (v : HeldView g.row.K.Denot g.row.D.Denot). Contains (numbers_of v) c.args.number) (sym c.self.view_is) c.requires.there) in
+    let none = c.new-2.ensures ∙ c.new.ensures.items in
+    let set = c.append-receipt.ensures.set in
+    let added = c.append-receipt.ensures.added in
+    record {
+      owner = owner_on g.B.CellName.table _ _ (cell_view c.in-Some.pass) (cell_view c.append-receipt.new.set) _ (now_of c.self.inside.set) (now_of c.self.inside.set) held.owner set.0 set.1 (λ n has. has);
+      holds =
+          subst (λ (x : View). Holds k (map_of k g.B.EngineName.base x.seen) (now_of c.self.inside.set)) (sym set.1)
+          (held_after_get k c.holding_lasts.ensures c.events_are_held.ensures.asks g.B.EngineName.base (now_of c.self.inside.set) c.args.moment c.args.number c.args.field c.get-reply.result c.get-reply.ensures there
+          (cell_view c.in-Some.pass).seen (cell_view c.in-Some.pass).owns held.owner.covers held.holds _ (λ i. record { moment = c.args.moment; event = Get c.args.number c.args.field; answers = sym none i; reply = c.get-reply.result }) added.0 _ added.1);
+      devices = held.devices;
+    }
+
+pub returns-clause-tells : goal.returns-clause-tells
+returns-clause-tells g c =
+    let k = g.K.RecordKind.rules in
+    let is : c.self.inside.pass ≡ Some c.in-Some.pass = sym c.take.ensures.value ∙ c.in-Some.is in
+    let held = subst (λ (o : Option Pass). IsHeld k g.B.EngineName.base g.B.EngineName.had_device g.B.CellName.table o c.self.inside.set) is c.self.invariant in
+    let there : Has (now_of c.self.inside.set) c.args.number =
+    key_there c.self.inside.set.records c.args.number (subst (λ (v : HeldView g.row.K.Denot g.row.D.Denot). Contains (numbers_of v) c.args.number) (sym c.self.view_is) c.requires.there) in
+    let none = c.new-2.ensures ∙ c.new.ensures.items in
+    let set = c.append-receipt.ensures.set in
+    subst (λ (v : HeldView g.row.K.Denot g.row.D.Denot). Tells k g.B.EngineName.base v c.args.desk.now c.args.moment (Get c.args.number c.args.field) c.get-reply.result
+    (held_view c.self.inside.set (cell_view c.append-receipt.new.set).seen) c.append-receipt.new.desk) c.self.view_is
+    (record {
+      is_call = subst (λ (v : HeldView g.row.K.Denot g.row.D.Denot). no_call k (now_of v.set) (Get c.args.number c.args.field) ≡ None) (sym c.self.view_is) c.in_ok-test_call.ensures.ok;
+      answer = c.get-reply.ensures;
+      set = refl;
+      call = subst (λ (l : List Answer). Call k g.B.EngineName.base c.args.desk.now (record { moment = c.args.moment; event = Get c.args.number c.args.field; answers = l; reply = c.get-reply.result }) c.append-receipt.new.desk) none c.append-receipt.ensures.call;
+      seen = ap (λ (v : View). v.seen) set.1;
+    })

@@ -1,0 +1,83 @@
+use Rattle.std.proofs.Common.{◌≡◌, true, List, Option, Some, None, refl, sym, ap, ◌∙◌, subst, arith}
+use Rattle.crossbeam_utils.specs.Seq.{cell_view}
+use Rattle.ioc_values.specs.declared.error.IocError.TheVariants.{PutDisabled}
+use Rattle.ioc_device.specs.declared.Answer.{Answer}
+use Rattle.ioc_record.specs.Values.{stops_put}
+use Rattle.ioc_set_records.specs.Joined.{HasLink}
+use Rattle.ioc_store.specs.World.{common_at}
+use Rattle.ioc_events.specs.declared.event.Event.TheVariants.{Link}
+use Rattle.ioc_events.specs.declared.reply.Reply.TheVariants.{Refused}
+use Rattle.ioc_history.specs.Covering.{Holds}
+use Rattle.ioc_history.specs.Legal.{map_of}
+use Rattle.ioc_history.specs.declared.cell.View.{View}
+use Rattle.ioc_history.specs.Account.{Call, Pass}
+use Rattle.ioc_set.specs.SetState.{now_of}
+use Rattle.ioc_journaled_set.specs.Holding.{HeldView, held_view, IsHeld}
+use Rattle.ioc_journaled_set.specs.LinkChanges.{Refuses}
+use Rattle.ioc_journaled_set.proofs.Serving.{owner_on}
+use Rattle.ioc_journaled_set.proofs.Refusing.{link_there, link_has, refusal_may_follow, held_after_refusal}
+use Rattle.ioc_journaled_set.proofs.journaled_set.JournaledSet.refuse_link.Goals as goal
+
+pub unreachable-requires : goal.unreachable-requires
+unreachable-requires g c =
+    let k = g.K.RecordKind.rules in
+    let none : c.self.inside.pass ≡ None = sym c.take.ensures.value ∙ c.in_default.is in
+    let held = subst (λ (o : Option Pass). IsHeld k g.B.EngineName.base g.B.EngineName.had_device g.B.CellName.table o c.self.inside.set) none c.self.invariant in
+    let has = subst (λ (v : HeldView g.row.K.Denot g.row.D.Denot). HasLink k v.set.records c.args.number c.args.field) (sym c.self.view_is) c.requires.field in
+    held.owner c.args.number (link_there k c.self.inside.set c.args.number c.args.field has)
+
+pub append-receipt-requires-clause-set : goal.append-receipt-requires-clause-set
+append-receipt-requires-clause-set g c =
+    let is : c.self.inside.pass ≡ Some c.in-Some.pass = sym c.take.ensures.value ∙ c.in-Some.is in
+    let held = subst (λ (o : Option Pass). IsHeld g.K.RecordKind.rules g.B.EngineName.base g.B.EngineName.had_device g.B.CellName.table o c.self.inside.set) is c.self.invariant in
+    (held.owner.holder, λ key has desk. let record_key = held.owner.records key has in omega (arith, record_key, desk))
+
+pub append-receipt-requires-clause-follows : goal.append-receipt-requires-clause-follows
+append-receipt-requires-clause-follows g c =
+    let k = g.K.RecordKind.rules in
+    let set = c.self.inside.set in
+    let is : c.self.inside.pass ≡ Some c.in-Some.pass = sym c.take.ensures.value ∙ c.in-Some.is in
+    let held = subst (λ (o : Option Pass). IsHeld k g.B.EngineName.base g.B.EngineName.had_device g.B.CellName.table o set) is c.self.invariant in
+    let has = subst (λ (v : HeldView g.row.K.Denot g.row.D.Denot). HasLink k v.set.records c.args.number c.args.field) (sym c.self.view_is) c.requires.field in
+    let stops = subst (λ (v : HeldView g.row.K.Denot g.row.D.Denot). stops_put (common_at k (now_of v.set) c.args.number) c.args.field ≡ true) (sym c.self.view_is) c.requires.forbidden in
+    let none = c.new-2.ensures ∙ c.new.ensures.items in
+    refusal_may_follow k c.holding_lasts.ensures c.lists_leave_sound.ensures.after g.B.EngineName.base (now_of set) c.args.moment c.args.number c.args.field c.args.link
+    (link_there k set c.args.number c.args.field has) (link_has k set c.args.number c.args.field has) stops c.requires.known
+    (cell_view c.in-Some.pass).seen (cell_view c.in-Some.pass).owns held.owner.covers held.holds _
+    (λ i. record { moment = c.args.moment; event = Link c.args.number c.args.field c.args.link; answers = sym none i; reply = Refused PutDisabled })
+
+pub invariant_of-self : goal.invariant_of-self
+invariant_of-self g c =
+    let k = g.K.RecordKind.rules in
+    let held_set = c.self.inside.set in
+    let is : c.self.inside.pass ≡ Some c.in-Some.pass = sym c.take.ensures.value ∙ c.in-Some.is in
+    let held = subst (λ (o : Option Pass). IsHeld k g.B.EngineName.base g.B.EngineName.had_device g.B.CellName.table o held_set) is c.self.invariant in
+    let has = subst (λ (v : HeldView g.row.K.Denot g.row.D.Denot). HasLink k v.set.records c.args.number c.args.field) (sym c.self.view_is) c.requires.field in
+    let stops = subst (λ (v : HeldView g.row.K.Denot g.row.D.Denot). stops_put (common_at k (now_of v.set) c.args.number) c.args.field ≡ true) (sym c.self.view_is) c.requires.forbidden in
+    let none = c.new-2.ensures ∙ c.new.ensures.items in
+    let set = c.append-receipt.ensures.set in
+    let added = c.append-receipt.ensures.added in
+    record {
+      owner = owner_on g.B.CellName.table _ _ (cell_view c.in-Some.pass) (cell_view c.append-receipt.new.set) _ (now_of held_set) (now_of held_set) held.owner set.0 set.1 (λ n has_n. has_n);
+      holds =
+          subst (λ (x : View). Holds k (map_of k g.B.EngineName.base x.seen) (now_of held_set)) (sym set.1)
+          (held_after_refusal k c.holding_lasts.ensures c.lists_leave_sound.ensures.after g.B.EngineName.base (now_of held_set) c.args.moment c.args.number c.args.field c.args.link
+          (link_there k held_set c.args.number c.args.field has) (link_has k held_set c.args.number c.args.field has) stops c.requires.known
+          (cell_view c.in-Some.pass).seen (cell_view c.in-Some.pass).owns held.owner.covers held.holds _
+          (λ i. record { moment = c.args.moment; event = Link c.args.number c.args.field c.args.link; answers = sym none i; reply = Refused PutDisabled }) added.0 _ added.1);
+      devices = held.devices;
+    }
+
+pub returns-clause-refuses : goal.returns-clause-refuses
+returns-clause-refuses g c =
+    let k = g.K.RecordKind.rules in
+    let none = c.new-2.ensures ∙ c.new.ensures.items in
+    let set = c.append-receipt.ensures.set in
+    subst (λ (v : HeldView g.row.K.Denot g.row.D.Denot). Refuses k g.B.EngineName.base v c.args.desk.now c.args.moment c.args.number c.args.field c.args.link
+    (held_view c.self.inside.set (cell_view c.append-receipt.new.set).seen) c.append-receipt.new.desk) c.self.view_is
+    (record {
+      forbidden = subst (λ (v : HeldView g.row.K.Denot g.row.D.Denot). stops_put (common_at k (now_of v.set) c.args.number) c.args.field ≡ true) (sym c.self.view_is) c.requires.forbidden;
+      set = refl;
+      call = subst (λ (l : List Answer). Call k g.B.EngineName.base c.args.desk.now (record { moment = c.args.moment; event = Link c.args.number c.args.field c.args.link; answers = l; reply = Refused PutDisabled }) c.append-receipt.new.desk) none c.append-receipt.ensures.call;
+      seen = ap (λ (v : View). v.seen) set.1;
+    })

@@ -1,0 +1,50 @@
+use Rattle.std.proofs.Common.{◌≡◌, ◌≤◌, ℕ, List, ◌++◌, Option, refl, sym, ap, ◌∙◌, subst, inl}
+use Rattle.std.specs.Option.{IfSome}
+use Rattle.crossbeam_utils.specs.Seq.{cell_view}
+use Rattle.ioc_history.specs.declared.entry.Note.{Note}
+use Rattle.ioc_history.specs.declared.cell.View.{View}
+use Rattle.ioc_history.specs.Key.{Key}
+use Rattle.ioc_history.specs.Line.{holder, noted}
+use Rattle.ioc_history.specs.Account.{journalled, MayFollow, Added, puts_key}
+use Rattle.ioc_history.proofs.Numbers.{begins_none, numbers_below}
+use Rattle.ioc_journaled_set.specs.Puts.{PutsView, NoneIsAbove, AreCounted}
+use Rattle.ioc_journaled_set.proofs.Counted.{counted_on}
+use Rattle.ioc_journaled_set.proofs.shared_notifications.SharedNotifications.keep_told.Goals as goal
+
+pub append-requires-clause-follows : goal.append-requires-clause-follows
+append-requires-clause-follows g c =
+    let k = g.K.RecordKind.rules in
+    let base = g.B.EngineName.base in
+    let pass = cell_view c.self.inside.pass in
+    let seen = ap (λ (v : PutsView). v.seen) (sym c.self.view_is) in
+    let owns = ap (λ (v : View). v.owns) (sym c.self.invariant.holds) in
+    subst (λ (ks : List Key). MayFollow k base pass.seen ks c.args.entry) owns
+    (subst (λ (s : List Note). MayFollow k base s puts_key c.args.entry) seen c.requires.follows)
+
+pub append-requires-clause-begins : goal.append-requires-clause-begins
+append-requires-clause-begins g c = begins_none (cell_view c.self.inside.pass).seen (cell_view c.self.inside.pass).owns c.args.entry.event c.requires.begins_none
+
+pub invariant_of-self : goal.invariant_of-self
+invariant_of-self g c =
+    let k = g.K.RecordKind.rules in
+    let base = g.B.EngineName.base in
+    let pass = cell_view c.self.inside.pass in
+    let seen = ap (λ (v : PutsView). v.seen) c.self.view_is in
+    let owns = ap (λ (v : View). v.owns) c.self.invariant.holds in
+    let log = c.append.ensures.added.0 in
+    let longer = c.append.new.desk.seen in
+    let added = subst (λ (ks : List Key). Added k base pass.seen ks c.args.entry log longer) owns c.append.ensures.added.1 in
+    let alike = c.requires.alike log longer (subst (λ (s : List Note). Added k base s puts_key c.args.entry log longer) seen added) in
+    let at_log = counted_on k c.live_lasts.ensures base pass.seen log c.self.inside.table.live c.self.invariant.counted added.goes_on added.legal in
+    let set = c.append.ensures.set in
+    let is : cell_view c.append.new.set ≡ holder longer puts_key = set.1 ∙ ap (λ (ks : List Key). holder longer ks) owns in
+    record {
+      same = set.0 ∙ c.self.invariant.same;
+      holds = subst (λ (v : View). v ≡ holder v.seen puts_key) (sym is) refl;
+      counted = subst (λ (v : View). AreCounted k base c.self.inside.table.live v.seen) (sym is) (λ n. at_log n ∙ alike n);
+      below = subst (λ (v : View). NoneIsAbove c.self.inside.last v.seen) (sym is)
+          (numbers_below pass.seen log longer puts_key (noted (journalled added.desk added.call c.args.entry) (puts_key ++ added.own)) c.self.inside.last added.goes_on added.ends (inl refl) c.append.ensures.call.legal.puts_keyed c.self.invariant.below
+          (subst (λ (o : Option ℕ). IfSome o (λ number. number ≤ c.self.inside.last)) (sym c.requires.begins_none) tt));
+      few = c.self.invariant.few;
+      room = c.self.invariant.room;
+    }

@@ -1,0 +1,411 @@
+//! Sets whose events are added to the journal.
+ghost use Rattle.std.specs.Prelude.{◌≡◌, ℕ, true, None, Some, IfOk, IfErr, OnOk, OnErr, Contains};
+ghost use Rattle.crossbeam_utils.specs.Seq.{cell_view};
+ghost use Rattle.ioc_events.specs.declared.event.Event.TheVariants.{Get, Process, Put, Complete};
+ghost use Rattle.ioc_events.specs.Step.{names};
+ghost use Rattle.ioc_notify.specs.Living.{is_live};
+ghost use Rattle.ioc_history.specs.Covering.{Holds};
+ghost use Rattle.ioc_history.specs.Legal.{map_of};
+ghost use Rattle.ioc_set.specs.SetState.{NoneIsLive, now_of};
+ghost use Rattle.ioc_set.specs.NoCalls.{no_call};
+ghost use Rattle.ioc_set.specs.Doing.{is_ordinary};
+ghost use Rattle.ioc_history.specs.Places.{IsNoPlace};
+ghost use Rattle.ioc_set_store.specs.SetStore.{world_of};
+ghost use Rattle.ioc_journaled_set.specs.Holding.{IsLent, IsOwner, KeepsDevices, held_view, numbers_of, Serves, Tells, IsNoCall};
+
+use crate::running::{Ran, run_counted, run_with_answers};
+use crate::shared_notifications::{SharedNotifications, keep_beside};
+use ioc_device::Device;
+use ioc_events::event_rules::{events_keep_records, rules_are_steps};
+use ioc_events::notification_rules::events_count_holders;
+use ioc_events::{Entry, Event, KeptAnswers, Reply};
+use ioc_fields::FieldNo;
+use ioc_history::legal_laws::{
+    events_are_held, holders_move, holding_lasts, lists_leave_sound, parts_share_what_is_held,
+};
+use ioc_history::{Cell, Desk, EngineName, KeyPass, Receipt, SharedJournal, pass};
+use ioc_names::RecordNo;
+use ioc_notify::NotifyId;
+use ioc_notify::table_laws::lines_tell_holders;
+use ioc_record::RecordKind;
+use ioc_set::{LockSet, sets_stay_without_puts};
+use ioc_set_store::EventBuffers;
+use ioc_values::{Finished, Input, IocError};
+use std::alloc::Global;
+use std::marker::{Model, PhantomData};
+use std::sync::{Mutex, Wait};
+
+/// A set, and the pass that owns the keys of its records; a set without records needs none.
+/// Contracts see the set, and the beginning of the journal's list that the pass has seen: the set
+/// is equal to the world of all records at its own records.
+#[derive(Drop)]
+pub struct JournaledSet<K: RecordKind, B: EngineName<K>, D> {
+    pub set: LockSet<K, D>,
+    pub(crate) pass: Option<KeyPass>,
+    pub(crate) of: PhantomData<B>,
+}
+
+impl<K: RecordKind, B: EngineName<K>, D> Model for JournaledSet<K, B, D> {
+    ghost use Rattle.ioc_journaled_set.specs.Holding.{HeldView};
+    ghost use Rattle.ioc_journaled_set.specs.JournaledSetCode.{held_view_code};
+
+    ghost Value = { HeldView K D };
+
+    ghost coded = { held_view_code K.code D.code };
+
+    ghost use Rattle.ioc_journaled_set.specs.Holding.{held_view, seen_by, IsHeld};
+
+    ghost view = { λ h. held_view h.set (seen_by h.pass) };
+
+    ghost invariant = { λ h. IsHeld K.rules B.base B.had_device B.table h.pass h.set };
+}
+
+impl<K: RecordKind, B: EngineName<K>, D> JournaledSet<K, B, D> {
+    /// A set with the pass of its records. The world has the set's records and the same devices for
+    /// them.
+    pub fn new(set: LockSet<K, D>, pass: KeyPass) -> Self
+        requires owner { IsOwner B.table pass.table_id (cell_view pass) (now_of set) }
+        requires holds { Holds K.rules (map_of K.rules B.base (cell_view pass).seen) (now_of set) }
+        requires devices { KeepsDevices B.had_device set }
+        ensures { result ≡ held_view set (cell_view pass).seen }
+    {
+        JournaledSet {
+            set,
+            pass: Some(pass),
+            of: PhantomData,
+        }
+    }
+
+    /// States that exactly those of its records have a device that had one at the load.
+    pub fn keeps_devices(&self)
+        ensures { KeepsDevices B.had_device self.now.set }
+    {
+        let _ = &self.set;
+    }
+
+    /// Returns the set and the pass that owns the keys of its records. A set without records and
+    /// pass gets a pass.
+    pub fn into_parts(self, cell: &Cell, keeper: &mut KeyPass) -> (LockSet<K, D>, KeyPass)
+        requires table { (keeper.old.table_id ≡ B.table) × (cell.now.table.shared.table_id ≡ B.table) }
+        ensures keeper { (keeper.new.table_id ≡ keeper.old.table_id) × (cell_view keeper.new ≡ cell_view keeper.old) }
+        ensures set { result.0 ≡ self.set }
+        ensures lent { IsLent K.rules B.base B.had_device B.table result.0 (Some result.1) }
+    {
+        let JournaledSet {
+            set,
+            pass: owner,
+            of: _,
+        } = self;
+        match owner {
+            Some(own) => (set, own),
+            None => (set, pass::copy(cell, keeper)),
+        }
+    }
+}
+
+impl<K: RecordKind + Drop, B: EngineName<K>, D: Device> JournaledSet<K, B, D> {
+    /// Returns whether the put with notification with this number is live on the set.
+    pub fn has_live(&self, number: NotifyId) -> bool
+        ensures { result ≡ is_live number self.now.set.live }
+    {
+        self.set
+            .live_puts()
+            .iter()
+            .any(|live| live.number == number)
+    }
+
+    // Refuses a get or a put that names no field of its record, and a put to a field that can't be
+    // put. Such a call isn't added to the journal.
+    #[inline(always)]
+    pub(crate) fn test_call(&self, event: &Event) -> Result<(), IocError>
+        requires there { (n : ℕ) → Contains (names event.now) n → Contains (numbers_of self.now) n }
+        ensures ok { OnOk result (no_call K.rules (now_of self.now.set) event.now ≡ None) }
+        ensures err { IfErr result (λ reason. no_call K.rules (now_of self.now.set) event.now ≡ Some reason) }
+    {
+        match self.set.no_call(event) {
+            Some(reason) => Err(reason),
+            None => Ok(()),
+        }
+    }
+
+    // Performs a request, a put or a completion on a set on which no put with notification is live.
+    #[inline(always)]
+    fn serve_alone<R: Wait>(
+        &mut self,
+        rt: &R,
+        alloc: Global,
+        book: &SharedJournal<K, B>,
+        desk: &mut Desk<K, B>,
+        buffers: &mut EventBuffers<K, D>,
+        event: &Event,
+        moment: u64,
+    ) -> Result<(Reply, Receipt<K, B>), IocError>
+        requires ordinary { is_ordinary event.now ≡ true }
+        requires there { (n : ℕ) → Contains (names event.now) n → Contains (numbers_of self.old) n }
+        requires is_call { no_call K.rules (now_of self.old.set) event.now ≡ None }
+        requires none { NoneIsLive self.old.set }
+        ensures serves { IfOk result (λ x. Serves K.rules D.gives B.base self.old desk.old moment event.now x.0 self.new desk.new (world_of buffers.new.store)) }
+        ensures receipt { IfOk result (λ x. x.1 ≡ desk.new.seen) }
+        ensures refused { IfErr result IsNoPlace }
+        ensures err { OnErr result ((self.new ≡ self.old) × (desk.new ≡ desk.old)) }
+    {
+        rules_are_steps::<K>();
+        events_keep_records::<K>();
+        events_count_holders::<K>();
+        holding_lasts::<K>();
+        events_are_held::<K>();
+        holders_move::<K>();
+        parts_share_what_is_held::<K>();
+        sets_stay_without_puts::<K, D>();
+        self.set.is_sound();
+        let place = book.reserve(rt)?;
+        let (reply, answers) = match run_with_answers(
+            &mut self.set,
+            buffers,
+            alloc,
+            event,
+            moment,
+        ) {
+            Ok(done) => done,
+            Err(_refused) => {
+                book.give_back(rt, place);
+                return Err(IocError::NoMemory);
+            }
+        };
+        let answer = &reply;
+        let entry = Entry {
+            moment,
+            event: *event,
+            answers,
+            reply: *answer,
+        };
+        let Some(mut pass) = self.pass.take() else {
+            unreachable!();
+        };
+        let receipt = book.append(rt, place, &mut pass, desk, entry);
+        self.pass = Some(pass);
+        Ok((*answer, receipt))
+    }
+
+    // Performs a request, a put or a completion on a set on which puts with notification are live:
+    // the counts of all are updated with it. Not inlined, because such sets are rare.
+    #[inline(never)]
+    fn serve_counted<R: Wait>(
+        &mut self,
+        rt: &R,
+        alloc: Global,
+        book: &SharedJournal<K, B>,
+        puts: &Mutex<SharedNotifications<K, B>>,
+        desk: &mut Desk<K, B>,
+        buffers: &mut EventBuffers<K, D>,
+        event: &Event,
+        moment: u64,
+    ) -> Result<(Reply, Receipt<K, B>), IocError>
+        requires ordinary { is_ordinary event.now ≡ true }
+        requires there { (n : ℕ) → Contains (names event.now) n → Contains (numbers_of self.old) n }
+        requires is_call { no_call K.rules (now_of self.old.set) event.now ≡ None }
+        ensures serves { IfOk result (λ x. Serves K.rules D.gives B.base self.old desk.old moment event.now x.0 self.new desk.new (world_of buffers.new.store)) }
+        ensures receipt { IfOk result (λ x. x.1 ≡ desk.new.seen) }
+        ensures refused { IfErr result IsNoPlace }
+        ensures err { OnErr result ((self.new ≡ self.old) × (desk.new ≡ desk.old)) }
+    {
+        rules_are_steps::<K>();
+        events_keep_records::<K>();
+        events_count_holders::<K>();
+        holding_lasts::<K>();
+        events_are_held::<K>();
+        holders_move::<K>();
+        lists_leave_sound::<K>();
+        parts_share_what_is_held::<K>();
+        lines_tell_holders();
+        self.set.is_sound();
+        let ran = run_counted(rt, alloc, book, &mut self.set, buffers, event, moment)?;
+        self.set.puts_are_few();
+        self.set.is_sound();
+        let Some(mut pass) = self.pass.take() else {
+            unreachable!();
+        };
+        let mut guard = puts.lock(rt);
+        let all = &mut *guard;
+        let last = all.last;
+        let Ran {
+            place,
+            before,
+            reply,
+            entry,
+        } = ran;
+        let receipt = keep_beside(
+            rt, book, place, &mut pass, all, desk, entry, &before, &self.set, last,
+        );
+        self.pass = Some(pass);
+        Ok((reply, receipt))
+    }
+
+    /// Performs a request, a put or a completion on the set, and adds it to the journal.
+    ///
+    /// # Errors
+    ///
+    /// [`IocError::NoField`] or [`IocError::NoMod`] for a put if the record has no such field or
+    /// the field can't be put, [`IocError::JournalFull`] if the journal has no place left, and
+    /// [`IocError::NoMemory`] if allocation fails. Nothing has changed then. Any other refusal is a
+    /// reply, which is added to the journal too.
+    #[inline(always)]
+    pub fn serve<R: Wait>(
+        &mut self,
+        rt: &R,
+        alloc: Global,
+        book: &SharedJournal<K, B>,
+        puts: &Mutex<SharedNotifications<K, B>>,
+        desk: &mut Desk<K, B>,
+        buffers: &mut EventBuffers<K, D>,
+        event: &Event,
+        moment: u64,
+    ) -> Result<(Reply, Receipt<K, B>), IocError>
+        requires ordinary { is_ordinary event.now ≡ true }
+        requires there { (n : ℕ) → Contains (names event.now) n → Contains (numbers_of self.old) n }
+        ensures serves { IfOk result (λ x. Serves K.rules D.gives B.base self.old desk.old moment event.now x.0 self.new desk.new (world_of buffers.new.store)) }
+        ensures receipt { IfOk result (λ x. x.1 ≡ desk.new.seen) }
+        ensures refused { IfErr result (IsNoCall K.rules self.old.set event.now) }
+        ensures err { OnErr result ((self.new ≡ self.old) × (desk.new ≡ desk.old)) }
+    {
+        self.test_call(event)?;
+        if self.set.none_is_live() {
+            return self.serve_alone(rt, alloc, book, desk, buffers, event, moment);
+        }
+        self.serve_counted(rt, alloc, book, puts, desk, buffers, event, moment)
+    }
+
+    /// Requests a record, and adds the call to the journal.
+    ///
+    /// # Errors
+    ///
+    /// [`IocError::JournalFull`] if the journal has no place left. [`IocError::NoMemory`] if
+    /// allocation fails. Nothing has changed then.
+    pub fn request<R: Wait>(
+        &mut self,
+        rt: &R,
+        alloc: Global,
+        book: &SharedJournal<K, B>,
+        puts: &Mutex<SharedNotifications<K, B>>,
+        desk: &mut Desk<K, B>,
+        buffers: &mut EventBuffers<K, D>,
+        number: RecordNo,
+        moment: u64,
+    ) -> Result<(Reply, Receipt<K, B>), IocError>
+        requires there { Contains (numbers_of self.old) number }
+        ensures serves { IfOk result (λ x. Serves K.rules D.gives B.base self.old desk.old moment (Process number) x.0 self.new desk.new (world_of buffers.new.store)) }
+        ensures receipt { IfOk result (λ x. x.1 ≡ desk.new.seen) }
+        ensures refused { IfErr result (IsNoCall K.rules self.old.set (Process number)) }
+        ensures err { OnErr result ((self.new ≡ self.old) × (desk.new ≡ desk.old)) }
+    {
+        let event = Event::Process(number);
+        self.serve(rt, alloc, book, puts, desk, buffers, &event, moment)
+    }
+
+    /// Puts a value into a field as [`LockSet::put`] does, and adds the call to the journal.
+    ///
+    /// # Errors
+    ///
+    /// [`IocError::NoField`] if the record has no such field, [`IocError::NoMod`] if the field
+    /// can't be put, [`IocError::JournalFull`] if the journal has no place left, and
+    /// [`IocError::NoMemory`] if allocation fails. Nothing has changed then. Any other refusal is a
+    /// reply, which is added to the journal too.
+    pub fn put<R: Wait>(
+        &mut self,
+        rt: &R,
+        alloc: Global,
+        book: &SharedJournal<K, B>,
+        puts: &Mutex<SharedNotifications<K, B>>,
+        desk: &mut Desk<K, B>,
+        buffers: &mut EventBuffers<K, D>,
+        number: RecordNo,
+        field: FieldNo,
+        given: Input,
+        moment: u64,
+    ) -> Result<(Reply, Receipt<K, B>), IocError>
+        requires there { Contains (numbers_of self.old) number }
+        ensures serves { IfOk result (λ x. Serves K.rules D.gives B.base self.old desk.old moment (Put number field given) x.0 self.new desk.new (world_of buffers.new.store)) }
+        ensures receipt { IfOk result (λ x. x.1 ≡ desk.new.seen) }
+        ensures refused { IfErr result (IsNoCall K.rules self.old.set (Put number field given)) }
+        ensures err { OnErr result ((self.new ≡ self.old) × (desk.new ≡ desk.old)) }
+    {
+        let event = Event::Put(number, field, given);
+        self.serve(rt, alloc, book, puts, desk, buffers, &event, moment)
+    }
+
+    /// Completes a record with the answer of its device as [`LockSet::complete`] does, and adds the
+    /// call to the journal.
+    ///
+    /// # Errors
+    ///
+    /// [`IocError::JournalFull`] if the journal has no place left. [`IocError::NoMemory`] if
+    /// allocation fails. Nothing has changed then. A refusal is a reply, which is added to the
+    /// journal too.
+    pub fn complete<R: Wait>(
+        &mut self,
+        rt: &R,
+        alloc: Global,
+        book: &SharedJournal<K, B>,
+        puts: &Mutex<SharedNotifications<K, B>>,
+        desk: &mut Desk<K, B>,
+        buffers: &mut EventBuffers<K, D>,
+        number: RecordNo,
+        wait: u64,
+        finished: Finished,
+        moment: u64,
+    ) -> Result<(Reply, Receipt<K, B>), IocError>
+        requires there { Contains (numbers_of self.old) number }
+        ensures serves { IfOk result (λ x. Serves K.rules D.gives B.base self.old desk.old moment (Complete number wait finished) x.0 self.new desk.new (world_of buffers.new.store)) }
+        ensures receipt { IfOk result (λ x. x.1 ≡ desk.new.seen) }
+        ensures refused { IfErr result (IsNoCall K.rules self.old.set (Complete number wait finished)) }
+        ensures err { OnErr result ((self.new ≡ self.old) × (desk.new ≡ desk.old)) }
+    {
+        let event = Event::Complete(number, wait, finished);
+        self.serve(rt, alloc, book, puts, desk, buffers, &event, moment)
+    }
+
+    /// Returns the text of a field, and adds the call to the journal with its time stamp. The set
+    /// stays as it is.
+    ///
+    /// # Errors
+    ///
+    /// [`IocError::NoField`] if the record has no such field, [`IocError::JournalFull`] if the
+    /// journal has no place left, and [`IocError::NoMemory`] if allocation fails. Nothing has
+    /// changed then.
+    pub fn get<R: Wait>(
+        &mut self,
+        rt: &R,
+        alloc: Global,
+        book: &SharedJournal<K, B>,
+        desk: &mut Desk<K, B>,
+        number: RecordNo,
+        field: FieldNo,
+        moment: u64,
+    ) -> Result<(Reply, Receipt<K, B>), IocError>
+        requires there { Contains (numbers_of self.old) number }
+        ensures tells { IfOk result (λ x. Tells K.rules B.base self.old desk.old moment (Get number field) x.0 self.new desk.new) }
+        ensures receipt { IfOk result (λ x. x.1 ≡ desk.new.seen) }
+        ensures refused { IfErr result (IsNoCall K.rules self.old.set (Get number field)) }
+        ensures err { OnErr result ((self.new ≡ self.old) × (desk.new ≡ desk.old)) }
+    {
+        holding_lasts::<K>();
+        events_are_held::<K>();
+        let event = Event::Get(number, field);
+        self.test_call(&event)?;
+        let place = book.reserve(rt)?;
+        let reply = self.set.get(number, field);
+        let text = &reply;
+        let entry = Entry {
+            moment,
+            event,
+            answers: KeptAnswers::new(Vec::new(alloc)),
+            reply: *text,
+        };
+        let Some(mut pass) = self.pass.take() else {
+            unreachable!();
+        };
+        let receipt = book.append(rt, place, &mut pass, desk, entry);
+        self.pass = Some(pass);
+        Ok((*text, receipt))
+    }
+}

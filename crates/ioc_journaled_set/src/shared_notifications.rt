@@ -1,0 +1,157 @@
+//! The puts with notification of all lock sets, in one table.
+ghost use Rattle.std.specs.Prelude.{◌≡◌, ◌+◌, ◌≤◌, ◌<◌, ◌^◌, ℕ, [], length, IfOk, IfErr, OnErr, IfNone, List};
+ghost use Rattle.std.specs.Option.{IfSome};
+ghost use Rattle.crossbeam_utils.specs.Seq.{cell_view};
+ghost use Rattle.ioc_notify.specs.Living.{is_live};
+ghost use Rattle.ioc_notify.specs.Counts.{IsTable, holders_in};
+ghost use Rattle.ioc_history.specs.declared.entry.Note.{Note};
+ghost use Rattle.ioc_history.specs.Line.{holder};
+ghost use Rattle.ioc_history.specs.Account.{IsHolder, AreRecords, BothMayFollow, MayBegin, Call, AddedByBoth, number_given, puts_key};
+ghost use Rattle.ioc_journaled_set.specs.Puts.{puts_view, CanBegin, NoneCanBegin, NoneIsAbove, AreCounted, AreMoved};
+
+use ioc_events::Entry;
+use ioc_history::legal_laws::live_lasts;
+use ioc_history::{Desk, EngineName, KeyPass, Place, Receipt, SharedJournal};
+use ioc_notify::table_laws::{lines_tell_holders, tables_are_short};
+use ioc_notify::{Live, NotificationCounts, NotifyId};
+use ioc_record::RecordKind;
+use ioc_set::LockSet;
+use std::alloc::{AllocError, Global};
+use std::marker::{Brand, Model, PhantomData};
+use std::sync::Wait;
+
+/// The live puts with notification, each with the number of records and waiting lists of all sets
+/// that are part of it, and the pass that owns their key. Contracts see the lines of the table, the
+/// last number assigned, and the beginning of the journal's list that the pass has seen. The lines
+/// are the live puts with notification of the world of all records after that list.
+#[derive(Drop)]
+pub struct SharedNotifications<K: RecordKind, B: EngineName<K>> {
+    pub table: NotificationCounts,
+    pub(crate) last: u64,
+    pub pass: KeyPass,
+    of: PhantomData<B>,
+    kind: PhantomData<K>,
+}
+
+impl<K: RecordKind, B: EngineName<K>> Model for SharedNotifications<K, B> {
+    ghost use Rattle.ioc_journaled_set.specs.Puts.{PutsView};
+    ghost use Rattle.ioc_journaled_set.specs.PutsViewCode.{puts_code};
+
+    ghost Value = { PutsView };
+
+    ghost coded = { puts_code };
+
+    ghost use Rattle.crossbeam_utils.specs.Seq.{cell_view};
+    ghost use Rattle.ioc_journaled_set.specs.Puts.{puts_view, AreKept};
+
+    ghost view = { λ p. puts_view p.table.live p.last (cell_view p.pass).seen };
+
+    ghost invariant = { λ p. AreKept K.rules B.base B.table p.pass p.table p.last };
+}
+
+impl<K: RecordKind, B: EngineName<K>> SharedNotifications<K, B> {
+    /// An empty table: no put with notification is live, and no number is assigned. The pass owns
+    /// the key of the puts with notification, and has seen no call.
+    ///
+    /// # Errors
+    ///
+    /// [`AllocError`] if allocation fails.
+    pub fn new(alloc: Global, pass: KeyPass) -> Result<Self, AllocError>
+        requires table { pass.table_id ≡ B.table }
+        requires holds { cell_view pass ≡ holder [] puts_key }
+        requires none { B.base.live ≡ [] }
+        ensures { IfOk result (λ p. p ≡ puts_view [] 0 []) }
+    {
+        let mut table = NotificationCounts::new(alloc);
+        table.reserve(512)?;
+        Ok(SharedNotifications {
+            table,
+            last: 0,
+            pass,
+            of: PhantomData,
+            kind: PhantomData,
+        })
+    }
+
+    /// States the invariant: each put with notification has one line with its count in the world of
+    /// all records, and none began under a number above the last one assigned.
+    pub fn is_counted(&self)
+        ensures table { IsTable self.now.live }
+        ensures counted { AreCounted K.rules B.base self.now.live self.now.seen }
+        ensures below { NoneIsAbove self.now.last self.now.seen }
+    {
+        self.table.is_table();
+    }
+
+    /// Returns the number of the next put with notification, or `None` if none may begin.
+    pub fn next_number(&self) -> Option<NotifyId>
+        ensures next { IfSome result (λ n. CanBegin self.now n) }
+        ensures full { IfNone result (NoneCanBegin self.now) }
+    {
+        if self.last == u64::MAX {
+            return None;
+        }
+        let number = NotifyId::new(self.last + 1);
+        if self.table.has_place(number) {
+            Some(number)
+        } else {
+            None
+        }
+    }
+}
+
+// Subtracts the counts that a set had before an event from the table, and adds those that it has
+// after it.
+fn count_anew(table: &mut NotificationCounts, before: &[Live], after: &[Live])
+    requires there { (n : ℕ) → holders_in n before.now ≤ holders_in n table.old.live }
+    requires fits { (n : ℕ) → holders_in n table.old.live + holders_in n after.now < 2 ^ 64 + holders_in n before.now }
+    requires few { length table.old.live ≤ 256 }
+    requires few_after { length after.now ≤ 256 }
+    requires room { 512 ≤ table.old.room }
+    ensures counts { (n : ℕ) → holders_in n table.new.live + holders_in n before.now ≡ holders_in n table.old.live + holders_in n after.now }
+    ensures room { table.new.room ≡ table.old.room }
+{
+    table.take_off(before);
+    table.add_on(after);
+}
+
+/// Adds an event that was done on a set to the journal, with the keys of the set's records and the
+/// key of the puts with notification, and updates the table by the set's counts before and after
+/// it. `last` becomes the last number assigned.
+pub(crate) fn keep_beside<K: RecordKind, B: EngineName<K>, D, R: Wait>(
+    rt: &R,
+    book: &SharedJournal<K, B>,
+    place: Place<K, B>,
+    pass: &mut KeyPass,
+    all: &mut SharedNotifications<K, B>,
+    desk: &mut Desk<K, B>,
+    entry: Entry,
+    before: &[Live],
+    set: &LockSet<K, D>,
+    last: u64,
+) -> Receipt<K, B>
+    requires table { pass.old.table_id ≡ B.table }
+    requires set { IsHolder (cell_view pass.old) × AreRecords (cell_view pass.old).owns }
+    requires follows { BothMayFollow K.rules B.base (cell_view pass.old).seen (cell_view pass.old).owns all.old.seen puts_key entry }
+    requires begins { MayBegin all.old.seen puts_key entry.event }
+    requires last { all.old.last ≤ last }
+    requires given { IfSome (number_given entry.event) (λ number. number ≤ last) }
+    requires moves { (log longer : List Note) → AddedByBoth K.rules B.base (cell_view pass.old).seen (cell_view pass.old).owns all.old.seen puts_key entry log longer →
+        AreMoved K.rules B.base log longer before.now set.now.live }
+    requires few { length set.now.live ≤ 256 }
+    ensures call { Call K.rules B.base desk.old entry desk.new }
+    ensures receipt { result ≡ desk.new.seen }
+    ensures pass { (pass.new.table_id ≡ B.table) × (cell_view pass.new ≡ holder desk.new.seen (cell_view pass.old).owns) }
+    ensures seen { all.new.seen ≡ desk.new.seen }
+    ensures last { all.new.last ≡ last }
+    ensures added { (log : List Note) × AddedByBoth K.rules B.base (cell_view pass.old).seen (cell_view pass.old).owns all.old.seen puts_key entry log desk.new.seen }
+{
+    live_lasts::<K>();
+    lines_tell_holders();
+    tables_are_short();
+    let receipt = book.append_two::<Brand, R>(rt, place, pass, &mut all.pass, desk, entry);
+    count_anew(&mut all.table, before, set.live_puts());
+    all.table.is_table();
+    all.last = last;
+    receipt
+}

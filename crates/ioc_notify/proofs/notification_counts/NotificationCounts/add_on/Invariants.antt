@@ -1,0 +1,13 @@
+use Rattle.std.proofs.Common.{◌≡◌, ℕ, ◌+◌, ◌≤◌, take, length}
+use Rattle.std.specs.Vec.{vec_capacity}
+use Rattle.ioc_notify.specs.Counts.{IsTable, holders_in}
+use Rattle.ioc_notify.proofs.notification_counts.NotificationCounts.add_on.Given as goal
+
+-- The counts of the puts so far are added.
+abbrev pub invariant-loop-live : goal.invariant-loop-live
+invariant-loop-live l = record {
+  table : IsTable l.self-inside.items.items;
+  counts : (n : ℕ) → holders_in n l.self-inside.items.items ≡ holders_in n l.fn.self.live + holders_in n (take l.live-index l.puts);
+  longer : length l.self-inside.items.items ≤ length l.fn.self.live + l.live-index;
+  room : vec_capacity l.self-inside.items ≡ l.fn.self.room;
+}

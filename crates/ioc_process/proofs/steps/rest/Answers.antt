@@ -1,6 +1,0 @@
-use Rattle.ioc_store.specs.NotifyLaws.{notified-has}
-use Rattle.ioc_process.proofs.steps.rest.Goals as goal
-
-pub come_to_rest-requires : goal.come_to_rest-requires
-come_to_rest-requires g c =
-    rw c.tell.ensures.world (notified-has g.S.Record.RecordKind.rules (g.S.Store.world c.args.store.now) c.args.number c.requires)
