@@ -13,6 +13,6 @@ for file in "$bench"/engine/*.txt; do
   cp "$file" "$folder/crates/bench_engine/src/$(basename "$file" .txt).rt"
 done
 line=$(grep '^ioc_tests ' "$folder/crates.txt")
-echo "bench_engine${line#ioc_tests} ioc_held ioc_store" | sed "s/ ioc_main//" >> "$folder/crates.txt"
+echo "bench_engine${line#ioc_tests} ioc_journaled_set ioc_store" | sed "s/ ioc_main//" >> "$folder/crates.txt"
 cd "$folder/crates/bench_engine"
 rt try --test

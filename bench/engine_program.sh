@@ -8,5 +8,5 @@ folder=$(cd "$1" && pwd)
 (cd "$bench/.." && tar cf - --exclude=out crates crates.txt HANDLES) | (cd "$folder" && tar xf -)
 mkdir -p "$folder/crates/bench_$2/src"
 cp "$bench/$2.txt" "$folder/crates/bench_$2/src/main.rt"
-sed -n "s/ ioc_main//; s/^ioc_tests [^:]*: /bench_$2: ioc_members ioc_store /p" "$folder/crates.txt" >> "$folder/crates.txt"
+sed -n "s/ ioc_main//; s/^ioc_tests [^:]*: /bench_$2: ioc_store /p" "$folder/crates.txt" >> "$folder/crates.txt"
 sh "$bench/unproved.sh" "$folder" "bench_$2"

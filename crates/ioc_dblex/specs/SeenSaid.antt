@@ -1,7 +1,7 @@
 -- The text of a token as contracts see it.
 use Rattle.std.specs.Prelude.{ℕ, List}
-use Rattle.ioc_dblex.specs.declared.escapes.TokenText.{TokenText}
-use Rattle.ioc_dblex.specs.declared.escapes.TokenText.TheVariants.{Written, Unescaped}
+use Rattle.ioc_dblex.specs.declared.escaped_text.TokenText.{TokenText}
+use Rattle.ioc_dblex.specs.declared.escaped_text.TokenText.TheVariants.{Written, Unescaped}
 
 -- The bytes of the text.
 abbrev pub said_bytes : TokenText → List ℕ

@@ -11,7 +11,7 @@
 
 mod bytes;
 pub mod cursor;
-pub mod escapes;
+pub mod escaped_text;
 mod expansion;
 pub mod laws;
 mod lexer;
@@ -25,7 +25,7 @@ pub mod token_lines;
 pub mod tokens;
 
 pub use bytes::{escapes, skip_gap};
-pub use escapes::{TokenText, read_escapes, unescaped};
+pub use escaped_text::{TokenText, read_escapes, unescaped};
 pub use expansion::{MAX_BYTES, expand};
 pub use lexer::{behind_sign, is_fault, token_at};
 pub use macros::Macros;

@@ -5,9 +5,9 @@ use lib.ListN.{get_elem?}
 use Rattle.ioc_history.specs.declared.cell.View.{View}
 use Rattle.ioc_history.specs.Key.{Key}
 use Rattle.ioc_history.specs.KeyLaws.{continues_self}
-use Rattle.ioc_history.specs.Line.{keeper, Fits, Holds, Kept}
+use Rattle.ioc_history.specs.Line.{keeper, Fits, Holds, IsOneList}
 
-pub begins : (words : List ℕ) → Kept words (keeper [] [] ∷ [])
+pub begins : (words : List ℕ) → IsOneList words (keeper [] [] ∷ [])
 begins words = record {
   seat = 0;
   log = [];

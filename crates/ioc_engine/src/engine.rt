@@ -126,7 +126,8 @@ impl<K: RecordKind + Drop, B: EngineName<K>, D: Device> Engine<K, B, D> {
     ) -> Result<(Reply, Receipt<K, B>), IocError>
         requires ordinary { is_ordinary event.now ≡ true }
         requires names { names event.now ≡ number ∷ [] }
-        ensures served { IfOk result (λ x. WasServed D K.rules B.base D.gives number desk.old moment event.now x.0 desk.new (world_of buffers.new.store)) }
+        ensures served { IfOk result (λ x. WasServed D K.rules B.base D.gives number desk.old moment event.now x.0 desk.new
+            (world_of buffers.new.store)) }
         ensures receipt { IfOk result (λ x. x.1 ≡ desk.new.seen) }
         ensures refused { IfErr result (CallIsRefused D K.rules B.base self.now number event.now) }
         ensures err { OnErr result (desk.new ≡ desk.old) }
@@ -167,7 +168,8 @@ impl<K: RecordKind + Drop, B: EngineName<K>, D: Device> Engine<K, B, D> {
         number: RecordNo,
         moment: u64,
     ) -> Result<(Reply, Receipt<K, B>), IocError>
-        ensures served { IfOk result (λ x. WasServed D K.rules B.base D.gives number desk.old moment (Process number) x.0 desk.new (world_of buffers.new.store)) }
+        ensures served { IfOk result (λ x. WasServed D K.rules B.base D.gives number desk.old moment (Process number) x.0 desk.new
+            (world_of buffers.new.store)) }
         ensures receipt { IfOk result (λ x. x.1 ≡ desk.new.seen) }
         ensures refused { IfErr result (CallIsRefused D K.rules B.base self.now number (Process number)) }
         ensures err { OnErr result (desk.new ≡ desk.old) }
@@ -196,7 +198,8 @@ impl<K: RecordKind + Drop, B: EngineName<K>, D: Device> Engine<K, B, D> {
         given: Input,
         moment: u64,
     ) -> Result<(Reply, Receipt<K, B>), IocError>
-        ensures served { IfOk result (λ x. WasServed D K.rules B.base D.gives number desk.old moment (Put number field given) x.0 desk.new (world_of buffers.new.store)) }
+        ensures served { IfOk result (λ x. WasServed D K.rules B.base D.gives number desk.old moment (Put number field given) x.0
+            desk.new (world_of buffers.new.store)) }
         ensures receipt { IfOk result (λ x. x.1 ≡ desk.new.seen) }
         ensures refused { IfErr result (CallIsRefused D K.rules B.base self.now number (Put number field given)) }
         ensures err { OnErr result (desk.new ≡ desk.old) }
@@ -225,7 +228,8 @@ impl<K: RecordKind + Drop, B: EngineName<K>, D: Device> Engine<K, B, D> {
         finished: Finished,
         moment: u64,
     ) -> Result<(Reply, Receipt<K, B>), IocError>
-        ensures served { IfOk result (λ x. WasServed D K.rules B.base D.gives number desk.old moment (Complete number wait finished) x.0 desk.new (world_of buffers.new.store)) }
+        ensures served { IfOk result (λ x. WasServed D K.rules B.base D.gives number desk.old moment (Complete number wait finished)
+            x.0 desk.new (world_of buffers.new.store)) }
         ensures receipt { IfOk result (λ x. x.1 ≡ desk.new.seen) }
         ensures refused { IfErr result (CallIsRefused D K.rules B.base self.now number (Complete number wait finished)) }
         ensures err { OnErr result (desk.new ≡ desk.old) }

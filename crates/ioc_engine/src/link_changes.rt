@@ -38,7 +38,8 @@ impl<K: RecordKind + Drop, B: EngineName<K>, D: Device> Engine<K, B, D> {
     ) -> Result<Changed<K, B>, IocError>
         requires base_link { base_link ≡ link }
         requires lent { AreLent numbers_of number (other_of link) first.old second.old spare.old }
-        ensures changed { IfOk result (λ c. WasLinked D K.rules B.base number field link desk.old moment c.reply c.moved desk.new (world_of buffers.new.store)) }
+        ensures changed { IfOk result (λ c. WasLinked D K.rules B.base number field link desk.old moment c.reply c.moved desk.new
+            (world_of buffers.new.store)) }
         ensures receipt { IfOk result (λ c. c.receipt ≡ desk.new.seen) }
         ensures refused { IfErr result (LinkWasRefused D K.rules B.base self.now number field link) }
         ensures err { OnErr result (desk.new ≡ desk.old) }
@@ -54,8 +55,8 @@ impl<K: RecordKind + Drop, B: EngineName<K>, D: Device> Engine<K, B, D> {
 
     /// Changes a link of a record, under the topology guard and the locks of the sets that it
     /// concerns. The set of the record may part in two, or its part joins the set of the record
-    /// that the link leads to. Each record is found in its set afterwards. `link` and `base_link` are
-    /// equal.
+    /// that the link leads to. Each record is found in its set afterwards. `link` and `base_link`
+    /// are equal.
     ///
     /// # Errors
     ///
@@ -77,7 +78,8 @@ impl<K: RecordKind + Drop, B: EngineName<K>, D: Device> Engine<K, B, D> {
         moment: u64,
     ) -> Result<Changed<K, B>, IocError>
         requires base_link { base_link ≡ link }
-        ensures changed { IfOk result (λ c. WasLinked D K.rules B.base number field link desk.old moment c.reply c.moved desk.new (world_of buffers.new.store)) }
+        ensures changed { IfOk result (λ c. WasLinked D K.rules B.base number field link desk.old moment c.reply c.moved desk.new
+            (world_of buffers.new.store)) }
         ensures receipt { IfOk result (λ c. c.receipt ≡ desk.new.seen) }
         ensures known { OnOk result (AreKnown self.now number (other_of link)) }
         ensures refused { IfErr result (LinkWasRefused D K.rules B.base self.now number field link) }
@@ -109,7 +111,8 @@ impl<K: RecordKind + Drop, B: EngineName<K>, D: Device> Engine<K, B, D> {
         moment: u64,
     ) -> Result<Changed<K, B>, IocError>
         requires base_link { base_link ≡ link }
-        ensures changed { IfOk result (λ c. WasLinked D K.rules B.base number field link desk.old moment c.reply c.moved desk.new (world_of buffers.new.store)) }
+        ensures changed { IfOk result (λ c. WasLinked D K.rules B.base number field link desk.old moment c.reply c.moved desk.new
+            (world_of buffers.new.store)) }
         ensures receipt { IfOk result (λ c. c.receipt ≡ desk.new.seen) }
         ensures known { OnOk result (AreKnown self.now number (other_of link)) }
         ensures refused { IfErr result (LinkWasRefused D K.rules B.base self.now number field link) }

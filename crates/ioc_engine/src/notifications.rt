@@ -45,9 +45,12 @@ impl<K: RecordKind + Drop, B: EngineName<K>, D: Device> Engine<K, B, D> {
         given: Input,
         moment: u64,
     ) -> Result<(Reply, Receipt<K, B>), IocError>
-        ensures served { IfOk result (λ x. (n : ℕ) × WasServed D K.rules B.base D.gives number desk.old moment (Notify number n field given) x.0 desk.new (world_of buffers.new.store)) }
+        ensures served { IfOk result (λ x. (n : ℕ)
+            × WasServed D K.rules B.base D.gives number desk.old moment (Notify number n field given) x.0 desk.new
+            (world_of buffers.new.store)) }
         ensures receipt { IfOk result (λ x. x.1 ≡ desk.new.seen) }
-        ensures refused { IfErr result (λ error. (error ≡ QueueFull) ⊎ CallIsRefused D K.rules B.base self.now number (Put number field given) error) }
+        ensures refused { IfErr result (λ error. (error ≡ QueueFull)
+            ⊎ CallIsRefused D K.rules B.base self.now number (Put number field given) error) }
         ensures err { OnErr result (desk.new ≡ desk.old) }
     {
         if self.is_closed() {
@@ -85,7 +88,8 @@ impl<K: RecordKind + Drop, B: EngineName<K>, D: Device> Engine<K, B, D> {
         number: NotifyId,
         moment: u64,
     ) -> Result<(Reply, Receipt<K, B>), IocError>
-        ensures asked { IfOk result (λ x. (puts puts_then : PutsView) × WasAsked K.rules B.base puts desk.old moment number x.0 puts_then desk.new) }
+        ensures asked { IfOk result (λ x. (puts puts_then : PutsView)
+            × WasAsked K.rules B.base puts desk.old moment number x.0 puts_then desk.new) }
         ensures receipt { IfOk result (λ x. x.1 ≡ desk.new.seen) }
         ensures refused { IfErr result (λ error. (error ≡ Stopped) ⊎ IsNoPlace error) }
         ensures err { OnErr result (desk.new ≡ desk.old) }

@@ -1,6 +1,6 @@
 //! What the events of the engine send.
 use crate::engine::Engine;
-use ioc_callback::add_once;
+use crate::once_requests::add_once;
 use ioc_history::EngineName;
 use ioc_record::RecordKind;
 use ioc_set_store::EventBuffers;

@@ -11,7 +11,7 @@ mod KeptRecords
 mod StartsLocal
 mod LocalEvents
 mod NoneReady
-mod Counting
+pub mod Counting
 mod Holders
 mod Carrying
 mod HeldStarts

@@ -17,7 +17,7 @@ use Rattle.ioc_store.specs.Given.{Answers, listed}
 use Rattle.ioc_store.specs.Scanning.{rescanned}
 use Rattle.ioc_store.specs.ScanLaws.{rewired-either}
 use Rattle.ioc_process.specs.Rules.{IdleIsFree, IsSettled}
-use Rattle.ioc_process.specs.Telling.{SetReply, told-put, told-changed, changed-other, put-other, moved-told, rescanned-told, notified-told, requested-told, resumes-told}
+use Rattle.ioc_process.specs.Telling.{IsFree, told-put, told-changed, changed-other, put-other, moved-told, rescanned-told, notified-told, requested-told, resumes-told}
 use Rattle.ioc_events.specs.declared.event.Event.{Event}
 use Rattle.ioc_events.specs.declared.event.Entry.{Entry}
 use Rattle.ioc_events.specs.declared.reply.Reply.{Reply}
@@ -30,7 +30,7 @@ use Rattle.ioc_events.proofs.NoneReady.{step-none}
 
 module _ {R : Type 0} (k : RecordRules R) (lawful : IsLawful k) (n : ℕ) where
   abbrev Free : World R → Type 0
-  Free = SetReply k lawful n
+  Free = IsFree k lawful n
 
   admitted-told : (m : ℕ) (w : World R) → Free w → Free (admitted m w)
   unfolding at admitted
@@ -130,7 +130,7 @@ unready-active true false o is = cc
 unready-active false active o is = refl
 
 module _ {R : Type 0} (k : RecordRules R) (lawful : IsLawful k) where
-  all-told : (w : World R) → IsSettled k w → HoldersAwait k w → (n : ℕ) → SetReply k lawful n w
+  all-told : (w : World R) → IsSettled k w → HoldersAwait k w → (n : ℕ) → IsFree k lawful n w
   all-told w settled await n idle =
       elim (contains_key w.records n) as (λ b. contains_key w.records n ≡ b → (common_at k w n).notification ≡ Nothing_) [
         | true ↦ λ has. some-one _ (λ some. not-both ((settled.quiet.quiet n has).1 (await.records n has some)) idle)
@@ -150,7 +150,7 @@ module _ {R : Type 0} (k : RecordRules R) (lawful : IsLawful k) where
   unfolding is_ready
   ready-of w x unready has idle = ready-parts (contains_key w.records x.target) (common_at k w x.target).active (common_at k w x.target).notification unready has idle
 
-  awaits-of : (w : World R) → IsSettled k w → ((n : ℕ) → SetReply k lawful n w) → NoneReady k w → HoldersAwait k w
+  awaits-of : (w : World R) → IsSettled k w → ((n : ℕ) → IsFree k lawful n w) → NoneReady k w → HoldersAwait k w
   awaits-of w settled told none = record {
     records = λ n has some. (settled.quiet.quiet n has).0 (true_from _ (λ idle. some-not_none some (told n idle)));
     waiting = λ x h has. (settled.quiet.quiet x.target has).0 (true_from _ (λ idle. some-not_none (ready-of w x (none.none x h) has idle) (told x.target idle)));

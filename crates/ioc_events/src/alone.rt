@@ -122,7 +122,8 @@ fn put_into<S: Store>(
     given: Input,
 ) -> Result<(), IocError>
     requires { Has (S.world store.old) number }
-    ensures ok { OnOk result (put_field S.Record.rules (at S.Record.rules (S.world store.old) number) field given ≡ Ok (at S.Record.rules (S.world store.new) number)) }
+    ensures ok { OnOk result (put_field S.Record.rules (at S.Record.rules (S.world store.old) number) field given
+        ≡ Ok (at S.Record.rules (S.world store.new) number)) }
     ensures stored { OnOk result (S.world store.new ≡ put (S.world store.old) number (at S.Record.rules (S.world store.new) number)) }
     ensures err { IfErr result (λ e. put_field S.Record.rules (at S.Record.rules (S.world store.old) number) field given ≡ Err e) }
     ensures same { OnErr result (S.world store.new ≡ S.world store.old) }
@@ -140,9 +141,12 @@ fn put_text_into<S: Store>(
     text: &[u8],
 ) -> Result<(), PutFault>
     requires { Has (S.world store.old) number }
-    ensures ok { OnOk result (put_field S.Record.rules (at S.Record.rules (S.world store.old) number) field (input_of text.now) ≡ Ok (at S.Record.rules (S.world store.new) number)) }
+    ensures ok { OnOk result (put_field S.Record.rules (at S.Record.rules (S.world store.old) number) field (input_of text.now)
+        ≡ Ok (at S.Record.rules (S.world store.new) number)) }
     ensures stored { OnOk result (S.world store.new ≡ put (S.world store.old) number (at S.Record.rules (S.world store.new) number)) }
-    ensures err { IfErr result (λ e. put_field S.Record.rules (at S.Record.rules (S.world store.old) number) field (input_of text.now) ≡ Err (error_of e)) }
+    ensures err { IfErr result (λ e. put_field S.Record.rules (at S.Record.rules (S.world store.old) number) field
+        (input_of text.now)
+        ≡ Err (error_of e)) }
     ensures same { OnErr result (S.world store.new ≡ S.world store.old) }
     ensures given { S.given store.new ≡ S.given store.old }
 {

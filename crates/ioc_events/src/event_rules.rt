@@ -17,7 +17,8 @@ use ioc_record::RecordKind;
 pub fn events_leave_settled<K: RecordKind>()
     ensures event { (answers : Answers) (w after : World K) (event : Event) (reply : Reply) (requests : Requests) →
         Step K.rules answers w event after reply requests → IsSettled K.rules w → IsSettled K.rules after }
-    ensures events { (w after : World K) (entries : List Entry) → Replay K.rules w entries after → IsSettled K.rules w → IsSettled K.rules after }
+    ensures events { (w after : World K) (entries : List Entry) → Replay K.rules w entries after → IsSettled K.rules w
+        → IsSettled K.rules after }
 {}
 
 /// No event except a link change adds or removes a record, or changes a link or where it leads.
@@ -42,5 +43,6 @@ pub fn rules_are_steps<K: RecordKind>()
 
 /// A list of events replays to at most one database.
 pub fn replays_lead_to_one<K: RecordKind>()
-    ensures { (w after other : World K) (entries : List Entry) → Replay K.rules w entries after → Replay K.rules w entries other → after ≡ other }
+    ensures { (w after other : World K) (entries : List Entry) → Replay K.rules w entries after
+        → Replay K.rules w entries other → after ≡ other }
 {}

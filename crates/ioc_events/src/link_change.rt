@@ -30,7 +30,9 @@ fn leads_within<S: Store>(store: &S, link: LinkUse) -> bool
 // Sets a link field.
 fn set_link<S: Store>(store: &mut S, number: RecordNo, field: FieldNo, link: LinkBox)
     requires { Has (S.world store.old) number }
-    ensures world { S.world store.new ≡ put (S.world store.old) number (S.Record.rules.with_link (at S.Record.rules (S.world store.old) number) field link) }
+    ensures world { S.world store.new
+        ≡ put (S.world store.old) number (S.Record.rules.with_link (at S.Record.rules (S.world store.old) number)
+        field link) }
     ensures given { S.given store.new ≡ S.given store.old }
 {
     store.record_mut(number).set_link(field, link);

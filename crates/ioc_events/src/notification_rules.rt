@@ -38,7 +38,8 @@ pub fn events_count_holders<K: RecordKind>()
         → ((n : ℕ) → Has w n → (common_at K.rules w n).notification ≡ None) → IsCounted K.rules w }
     ensures event { (answers : Answers) (w after : World K) (event : Event) (reply : Reply) (requests : Requests) →
         Step K.rules answers w event after reply requests → IsCounted K.rules w → IsCounted K.rules after }
-    ensures events { (w after : World K) (entries : List Entry) → Replay K.rules w entries after → IsCounted K.rules w → IsCounted K.rules after }
+    ensures events { (w after : World K) (entries : List Entry) → Replay K.rules w entries after → IsCounted K.rules w
+        → IsCounted K.rules after }
     ensures live { (w : World K) (n : ℕ) → IsCounted K.rules w → (is_live n w.live ≡ true) ↔ IsHeld K.rules w n }
 {}
 

@@ -14,7 +14,7 @@ use ioc_fields::FieldNo;
 use ioc_ledger::Tally;
 use ioc_names::RecordNo;
 use ioc_notify::Waiting;
-use ioc_process::notifying::tell as tell_notification;
+use ioc_process::notifying::release_notification;
 use ioc_process::process::request_record;
 use ioc_process::scanning::rescan;
 use ioc_process::steps::{common, mark_put, set_notification};
@@ -65,7 +65,9 @@ fn next_waiting<S: Store>(store: &S) -> Option<Waiting>
 // Stores a value that was converted for the field.
 fn store_value<S: Store>(store: &mut S, number: RecordNo, field: FieldNo, value: Value)
     requires { Has (S.world store.old) number }
-    ensures world { S.world store.new ≡ put (S.world store.old) number (S.Record.rules.stored (at S.Record.rules (S.world store.old) number) field value) }
+    ensures world { S.world store.new
+        ≡ put (S.world store.old) number (S.Record.rules.stored (at S.Record.rules (S.world store.old) number) field
+        value) }
     ensures given { S.given store.new ≡ S.given store.old }
 {
     store.record_mut(number).store(field, value);
@@ -99,7 +101,7 @@ pub fn start<S: Store>(store: &mut S, frames: &mut Vec<Frame>, waiting: &Waiting
 {
     take_and_store(store, waiting);
     if !processes(store.record(waiting.target), waiting.field) {
-        tell_notification(store, waiting.target);
+        release_notification(store, waiting.target);
         return;
     }
     mark_put(store, waiting.target);

@@ -3,7 +3,7 @@ mod Asking
 pub mod Basics
 mod Calls
 mod Doing
-mod Ending
+mod Endings
 mod Ends
 mod Few
 mod Giving
@@ -20,5 +20,5 @@ mod Rescanning
 mod Rewiring
 mod FreePlaces
 mod Sharing
-mod Summing
+pub mod Summing
 mod Uniting

@@ -15,7 +15,7 @@ use Rattle.ioc_events.specs.Holding.{how_many, one_if_has, holders}
 
 -- Sums.
 
-abbrev sum-below : (ℕ → ℕ) → ℕ → ℕ
+abbrev pub sum-below : (ℕ → ℕ) → ℕ → ℕ
 sum-below f zero = 0
 sum-below f (suc n) = sum-below f n + f n
 
@@ -23,17 +23,35 @@ sum-same : (f g : ℕ → ℕ) (n : ℕ) → ((q : ℕ) → f q ≡ g q) → sum
 sum-same f g zero same = refl
 sum-same f g (suc n) same = let here = same n in let rest = sum-same f g n same in omega arith
 
-sum-add : (f g : ℕ → ℕ) (n : ℕ) → sum-below (λ q. f q + g q) n ≡ sum-below f n + sum-below g n
+pub sum-add : (f g : ℕ → ℕ) (n : ℕ) → sum-below (λ q. f q + g q) n ≡ sum-below f n + sum-below g n
 sum-add f g zero = omega arith
 sum-add f g (suc n) = let rest = sum-add f g n in omega arith
 
-sum-none : (f : ℕ → ℕ) (n : ℕ) → ((q : ℕ) → f q ≡ 0) → sum-below f n ≡ 0
+pub sum-none : (f : ℕ → ℕ) (n : ℕ) → ((q : ℕ) → f q ≡ 0) → sum-below f n ≡ 0
 sum-none f zero none = refl
 sum-none f (suc n) none = let here = none n in let rest = sum-none f n none in omega arith
 
 sum-least : (f g : ℕ → ℕ) (n : ℕ) → ((q : ℕ) → f q ≤ g q) → sum-below f n ≤ sum-below g n
 sum-least f g zero least = omega arith
 sum-least f g (suc n) least = let here = least n in let rest = sum-least f g n least in omega arith
+
+-- A sum is less if no term is greater and one is less.
+pub sum-less : (f g : ℕ → ℕ) (r n : ℕ) → r < n → ((q : ℕ) → f q ≤ g q) → f r < g r → sum-below f n < sum-below g n
+sum-less f g r zero within least less = absurd (omega (arith, within))
+sum-less f g r (suc n) within least less = elim (eqb r n) as (λ b. eqb r n ≡ b → sum-below f n + f n < sum-below g n + g n) [
+  | true ↦ λ is.
+      let here : f n < g n = subst (λ (m : ℕ). f m < g m) (eqb-true r n is) less in
+      let rest = sum-least f g n least in
+      omega (arith, here, rest)
+  | false ↦ λ isnt.
+      let apart : r ≢ n = λ e. absurd (differ (sym (eq-eqb r n e) ∙ isnt)) in
+      let rest = sum-less f g r n (omega arith) least less in
+      let here = least n in
+      omega (arith, rest, here)
+] refl
+  where
+    differ : true ≡ false → ⊥
+    differ e = cc
 
 -- A sum to which only one number contributes.
 module _ (is : ℕ → Bool) (a x : ℕ) (only : (q : ℕ) → is q ≡ true → q ≡ a) (self : is a ≡ true) where
@@ -142,10 +160,10 @@ module _ {R : Type 0} (k : RecordRules R) (number : ℕ) where
       let rest = ap (of-number number) waits in
       omega (arith, here, rest)
 
-  abbrev reach : World R → ℕ
+  abbrev pub reach : World R → ℕ
   reach w = top (entries w.records) + far w.waiting
 
-  holders-sum : (w : World R) (n : ℕ) → reach w ≤ n → holders k w number ≡ sum-below (point w) n
+  pub holders-sum : (w : World R) (n : ℕ) → reach w ≤ n → holders k w number ≡ sum-below (point w) n
   unfolding holders
   holders-sum w n within =
       let records = map-sum (one_if_has k number) w.records n (omega arith) in

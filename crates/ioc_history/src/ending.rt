@@ -18,7 +18,8 @@ fn learn_whole<R: Wait>(rt: &R, cell: &Cell, master: &mut KeyPass, set: &mut Key
     requires keeper { cell_view master.old ≡ keeper (cell_view master.old).seen (cell_view master.old).born }
     requires set { IsHolder (cell_view set.old) }
     ensures keeper { (master.new.table_id ≡ master.old.table_id) × (cell_view master.new ≡ cell_view master.old) }
-    ensures set { (set.new.table_id ≡ set.old.table_id) × (cell_view set.new ≡ holder (cell_view master.old).seen (cell_view set.old).owns) }
+    ensures set { (set.new.table_id ≡ set.old.table_id)
+        × (cell_view set.new ≡ holder (cell_view master.old).seen (cell_view set.old).owns) }
     ensures goes_on { Continues (cell_view set.old).seen (cell_view set.old).owns (cell_view master.old).seen }
 {
     let theirs = pass::whole(cell, set);

@@ -78,7 +78,8 @@ impl<K: RecordKind, B: EngineName<K>> Journal<K, B> {
     /// [`IocError::JournalFull`] exactly if no number is left for a desk.
     pub fn open_desk(&mut self, cell: &Cell) -> Result<Desk<K, B>, IocError>
         requires table { cell.now.table.shared.table_id ≡ B.table }
-        ensures desk { IfOk result (λ d. (d.number ≡ self.old.desks) × (d.next ≡ 0) × (d.seen ≡ self.old.filled) × (calls_by d.number (calls d.seen) ≡ [])) }
+        ensures desk { IfOk result (λ d. (d.number ≡ self.old.desks) × (d.next ≡ 0) × (d.seen ≡ self.old.filled)
+            × (calls_by d.number (calls d.seen) ≡ [])) }
         ensures opened { OnOk result (self.new ≡ one_more_desk self.old) }
         ensures refused { IfErr result (λ error. (error ≡ JournalFull) × (self.old.desks ≡ 2 ^ 64 - 1)) }
         ensures same { OnErr result (self.new ≡ self.old) }
@@ -177,7 +178,8 @@ impl<K: RecordKind, B: EngineName<K>> Journal<K, B> {
         requires other { IsHolder (cell_view other.old) × AreNoDesks (cell_view other.old).owns }
         requires within { (key : Key) → Has key (P.keys ++ P.rest) → Has key ((cell_view one.old).owns ++ (cell_view other.old).owns) }
         requires apart { (key : Key) → Has key P.keys → Has key P.rest → ⊥ }
-        requires follows { BothMayFollow K.rules B.base (cell_view one.old).seen (cell_view one.old).owns (cell_view other.old).seen (cell_view other.old).owns entry }
+        requires follows { BothMayFollow K.rules B.base (cell_view one.old).seen (cell_view one.old).owns (cell_view other.old).seen
+            (cell_view other.old).owns entry }
         requires begins { MayBegin (cell_view other.old).seen (cell_view other.old).owns entry.event }
         ensures call { Call K.rules B.base desk.old entry desk.new }
         ensures receipt { result ≡ desk.new.seen }
@@ -185,7 +187,8 @@ impl<K: RecordKind, B: EngineName<K>> Journal<K, B> {
         ensures held { self.old.held ≡ self.new.held + 1 }
         ensures one { (one.new.table_id ≡ one.old.table_id) × (cell_view one.new ≡ holder self.new.filled P.keys) }
         ensures other { (other.new.table_id ≡ other.old.table_id) × (cell_view other.new ≡ holder self.new.filled P.rest) }
-        ensures added { AddedByBoth K.rules B.base (cell_view one.old).seen (cell_view one.old).owns (cell_view other.old).seen (cell_view other.old).owns entry self.old.filled self.new.filled }
+        ensures added { AddedByBoth K.rules B.base (cell_view one.old).seen (cell_view one.old).owns (cell_view other.old).seen
+            (cell_view other.old).owns entry self.old.filled self.new.filled }
     {
         let call = desk.next;
         let index = self.entries.len() as u64;
@@ -208,8 +211,10 @@ impl<K: RecordKind, B: EngineName<K>> Journal<K, B> {
         requires table { (cell.now.table.shared.table_id ≡ B.table) × (one.old.table_id ≡ B.table) × (other.old.table_id ≡ B.table) }
         requires holders { IsHolder (cell_view one.old) × IsHolder (cell_view other.old) }
         ensures one { (one.new.table_id ≡ one.old.table_id) × (cell_view one.new ≡ holder self.old.filled (cell_view one.old).owns) }
-        ensures other { (other.new.table_id ≡ other.old.table_id) × (cell_view other.new ≡ holder self.old.filled (cell_view other.old).owns) }
-        ensures goes_on { Continues (cell_view one.old).seen (cell_view one.old).owns self.old.filled × Continues (cell_view other.old).seen (cell_view other.old).owns self.old.filled }
+        ensures other { (other.new.table_id ≡ other.old.table_id)
+            × (cell_view other.new ≡ holder self.old.filled (cell_view other.old).owns) }
+        ensures goes_on { Continues (cell_view one.old).seen (cell_view one.old).owns self.old.filled
+            × Continues (cell_view other.old).seen (cell_view other.old).owns self.old.filled }
         ensures legal { IsSound K.rules B.base × IsLegal K.rules B.base self.old.filled }
         ensures apart { (key : Key) → Has key (cell_view one.old).owns → Has key (cell_view other.old).owns → ⊥ }
         ensures same { self.new ≡ self.old }
@@ -223,7 +228,8 @@ impl<K: RecordKind, B: EngineName<K>> Journal<K, B> {
         requires table { (cell.now.table.shared.table_id ≡ B.table) × (one.old.table_id ≡ B.table) × (other.old.table_id ≡ B.table) }
         requires holders { IsHolder (cell_view one.old) × IsHolder (cell_view other.old) }
         ensures table { (one.new.table_id ≡ one.old.table_id) × (other.new.table_id ≡ other.old.table_id) }
-        ensures merged { AreMerged K.rules B.base (cell_view one.old) (cell_view other.old) self.old.filled (cell_view one.new) (cell_view other.new) }
+        ensures merged { AreMerged K.rules B.base (cell_view one.old) (cell_view other.old) self.old.filled (cell_view one.new)
+            (cell_view other.new) }
         ensures apart { (key : Key) → Has key (cell_view one.old).owns → Has key (cell_view other.old).owns → ⊥ }
         ensures same { self.new ≡ self.old }
     {

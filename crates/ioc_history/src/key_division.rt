@@ -20,7 +20,8 @@ fn relink_as<K: Keys, L: Keys, S: NoteName, R: Wait>(
     desk: &mut KeyPass,
     entry: &JournalEntry,
 ) -> KeyPass
-    requires table { (master.old.table_id ≡ cell.now.table.shared.table_id) × (one.old.table_id ≡ master.old.table_id) × (other.old.table_id ≡ master.old.table_id) × (desk.old.table_id ≡ master.old.table_id) }
+    requires table { (master.old.table_id ≡ cell.now.table.shared.table_id) × (one.old.table_id ≡ master.old.table_id)
+        × (other.old.table_id ≡ master.old.table_id) × (desk.old.table_id ≡ master.old.table_id) }
     requires keeper { cell_view master.old ≡ keeper (cell_view master.old).seen (cell_view master.old).born }
     requires one { IsHolder (cell_view one.old) }
     requires other { IsHolder (cell_view other.old) }
@@ -30,12 +31,19 @@ fn relink_as<K: Keys, L: Keys, S: NoteName, R: Wait>(
     requires apart { (k : Key) → Has k K.keys → Has k K.rest → ⊥ }
     requires apart_desk { (k : Key) → Has k L.keys → Has k L.rest → ⊥ }
     requires said { S.note ≡ noted entry.now (((cell_view one.old).owns ++ (cell_view other.old).owns) ++ L.rest) }
-    ensures keeper { (master.new.table_id ≡ master.old.table_id) × (cell_view master.new ≡ keeper ((cell_view master.old).seen ++ noted entry.now (((cell_view one.old).owns ++ (cell_view other.old).owns) ++ L.rest) ∷ []) (cell_view master.old).born) }
+    ensures keeper { (master.new.table_id ≡ master.old.table_id)
+        × (cell_view master.new
+        ≡ keeper ((cell_view master.old).seen
+        ++ noted entry.now (((cell_view one.old).owns ++ (cell_view other.old).owns)
+        ++ L.rest) ∷ []) (cell_view master.old).born) }
     ensures one { (one.new.table_id ≡ one.old.table_id) × (cell_view one.new ≡ holder (cell_view master.new).seen K.keys) }
     ensures other { (other.new.table_id ≡ other.old.table_id) × (cell_view other.new ≡ holder (cell_view master.new).seen L.keys) }
     ensures desk { (desk.new.table_id ≡ desk.old.table_id) × (cell_view desk.new ≡ holder (cell_view master.new).seen L.rest) }
-    ensures receipt { (result.table_id ≡ master.old.table_id) × (result.me.1 ≡ []) × (cell_view result ≡ holder (cell_view master.new).seen []) }
-    ensures goes_on { Continues (cell_view one.old).seen (cell_view one.old).owns (cell_view master.old).seen × Continues (cell_view other.old).seen (cell_view other.old).owns (cell_view master.old).seen × Continues (cell_view desk.old).seen L.rest (cell_view master.old).seen }
+    ensures receipt { (result.table_id ≡ master.old.table_id) × (result.me.1 ≡ [])
+        × (cell_view result ≡ holder (cell_view master.new).seen []) }
+    ensures goes_on { Continues (cell_view one.old).seen (cell_view one.old).owns (cell_view master.old).seen
+        × Continues (cell_view other.old).seen (cell_view other.old).owns (cell_view master.old).seen
+        × Continues (cell_view desk.old).seen L.rest (cell_view master.old).seen }
     ensures born { (k : Key) → Has k L.rest → Has k (cell_view master.old).born }
 {
     let _ = entry;
@@ -54,7 +62,8 @@ pub(crate) fn deal<P: Keys, R: Wait>(
     desk: &mut KeyPass,
     entry: &JournalEntry,
 ) -> KeyPass
-    requires table { (master.old.table_id ≡ cell.now.table.shared.table_id) × (one.old.table_id ≡ master.old.table_id) × (other.old.table_id ≡ master.old.table_id) × (desk.old.table_id ≡ master.old.table_id) }
+    requires table { (master.old.table_id ≡ cell.now.table.shared.table_id) × (one.old.table_id ≡ master.old.table_id)
+        × (other.old.table_id ≡ master.old.table_id) × (desk.old.table_id ≡ master.old.table_id) }
     requires keeper { cell_view master.old ≡ keeper (cell_view master.old).seen (cell_view master.old).born }
     requires one { IsHolder (cell_view one.old) }
     requires other { IsHolder (cell_view other.old) }
@@ -62,12 +71,20 @@ pub(crate) fn deal<P: Keys, R: Wait>(
     requires within { (k : Key) → Has k (P.keys ++ P.rest) → Has k ((cell_view one.old).owns ++ (cell_view other.old).owns) }
     requires apart { (k : Key) → Has k P.keys → Has k P.rest → ⊥ }
     requires apart_desk { (k : Key) → Has k (P.keys ++ P.rest) → Has k (cell_view desk.old).owns → ⊥ }
-    ensures keeper { (master.new.table_id ≡ master.old.table_id) × (cell_view master.new ≡ keeper ((cell_view master.old).seen ++ noted entry.now (((cell_view one.old).owns ++ (cell_view other.old).owns) ++ (cell_view desk.old).owns) ∷ []) (cell_view master.old).born) }
+    ensures keeper { (master.new.table_id ≡ master.old.table_id)
+        × (cell_view master.new
+        ≡ keeper ((cell_view master.old).seen
+        ++ noted entry.now (((cell_view one.old).owns ++ (cell_view other.old).owns)
+        ++ (cell_view desk.old).owns) ∷ []) (cell_view master.old).born) }
     ensures one { (one.new.table_id ≡ one.old.table_id) × (cell_view one.new ≡ holder (cell_view master.new).seen P.keys) }
     ensures other { (other.new.table_id ≡ other.old.table_id) × (cell_view other.new ≡ holder (cell_view master.new).seen P.rest) }
-    ensures desk { (desk.new.table_id ≡ desk.old.table_id) × (cell_view desk.new ≡ holder (cell_view master.new).seen (cell_view desk.old).owns) }
-    ensures receipt { (result.table_id ≡ master.old.table_id) × (result.me.1 ≡ []) × (cell_view result ≡ holder (cell_view master.new).seen []) }
-    ensures goes_on { Continues (cell_view one.old).seen (cell_view one.old).owns (cell_view master.old).seen × Continues (cell_view other.old).seen (cell_view other.old).owns (cell_view master.old).seen × Continues (cell_view desk.old).seen (cell_view desk.old).owns (cell_view master.old).seen }
+    ensures desk { (desk.new.table_id ≡ desk.old.table_id)
+        × (cell_view desk.new ≡ holder (cell_view master.new).seen (cell_view desk.old).owns) }
+    ensures receipt { (result.table_id ≡ master.old.table_id) × (result.me.1 ≡ [])
+        × (cell_view result ≡ holder (cell_view master.new).seen []) }
+    ensures goes_on { Continues (cell_view one.old).seen (cell_view one.old).owns (cell_view master.old).seen
+        × Continues (cell_view other.old).seen (cell_view other.old).owns (cell_view master.old).seen
+        × Continues (cell_view desk.old).seen (cell_view desk.old).owns (cell_view master.old).seen }
     ensures born { (k : Key) → Has k (cell_view desk.old).owns → Has k (cell_view master.old).born }
 {
     relink_as::<Brand, Brand, Brand, R>(rt, cell, master, one, other, desk, entry)
@@ -82,14 +99,18 @@ pub(crate) fn take_over<R: Wait>(
     one: &mut KeyPass,
     other: &mut KeyPass,
 )
-    requires table { (master.old.table_id ≡ cell.now.table.shared.table_id) × (one.old.table_id ≡ master.old.table_id) × (other.old.table_id ≡ master.old.table_id) }
+    requires table { (master.old.table_id ≡ cell.now.table.shared.table_id) × (one.old.table_id ≡ master.old.table_id)
+        × (other.old.table_id ≡ master.old.table_id) }
     requires keeper { cell_view master.old ≡ keeper (cell_view master.old).seen (cell_view master.old).born }
     requires one { IsHolder (cell_view one.old) }
     requires other { IsHolder (cell_view other.old) }
     ensures keeper { (master.new.table_id ≡ master.old.table_id) × (cell_view master.new ≡ cell_view master.old) }
-    ensures one { (one.new.table_id ≡ one.old.table_id) × (cell_view one.new ≡ holder (cell_view master.old).seen ((cell_view one.old).owns ++ (cell_view other.old).owns)) }
+    ensures one { (one.new.table_id ≡ one.old.table_id)
+        × (cell_view one.new
+        ≡ holder (cell_view master.old).seen ((cell_view one.old).owns ++ (cell_view other.old).owns)) }
     ensures other { (other.new.table_id ≡ other.old.table_id) × (cell_view other.new ≡ holder (cell_view master.old).seen []) }
-    ensures goes_on { Continues (cell_view one.old).seen (cell_view one.old).owns (cell_view master.old).seen × Continues (cell_view other.old).seen (cell_view other.old).owns (cell_view master.old).seen }
+    ensures goes_on { Continues (cell_view one.old).seen (cell_view one.old).owns (cell_view master.old).seen
+        × Continues (cell_view other.old).seen (cell_view other.old).owns (cell_view master.old).seen }
     ensures apart { (k : Key) → Has k (cell_view one.old).owns → Has k (cell_view other.old).owns → ⊥ }
 {
     let own = pass::whole(cell, one);

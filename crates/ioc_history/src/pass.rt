@@ -61,7 +61,8 @@ pub fn claim<K: Keys>(cell: &Cell, master: &mut KeyPass) -> KeyPass
     requires keeps { (cell_view master.old).keeps ≡ true }
     requires fresh { (k : Key) → Has k K.keys → Has k (cell_view master.old).born → ⊥ }
     ensures kept { (master.new.table_id ≡ master.old.table_id) × (cell_view master.new ≡ claiming K.keys (cell_view master.old)) }
-    ensures given { (result.table_id ≡ master.old.table_id) × (result.me.1 ≡ []) × (cell_view result ≡ claimed K.keys (cell_view master.old)) }
+    ensures given { (result.table_id ≡ master.old.table_id) × (result.me.1 ≡ [])
+        × (cell_view result ≡ claimed K.keys (cell_view master.old)) }
 {
     cut::<Claims<K>>(cell, master)
 }
@@ -95,7 +96,8 @@ pub fn take_in<R: Wait>(rt: &R, cell: &Cell, master: &mut KeyPass, other: KeyPas
     requires table { (master.old.table_id ≡ cell.now.table.shared.table_id) × (other.table_id ≡ master.old.table_id) × (other.me.1 ≡ []) }
     requires keeps { ((cell_view master.old).keeps ≡ true) × ((cell_view master.old).mark ≡ []) × ((cell_view master.old).asks ≡ []) }
     requires other { ((cell_view other).keeps ≡ false) × ((cell_view other).asks ≡ []) }
-    ensures kept { (master.new.table_id ≡ master.old.table_id) × (cell_view master.new ≡ took (shown (cell_view master.old) (cell_view other))) }
+    ensures kept { (master.new.table_id ≡ master.old.table_id)
+        × (cell_view master.new ≡ took (shown (cell_view master.old) (cell_view other))) }
     ensures goes_on { Continues (cell_view other).seen (cell_view other).owns (cell_view master.old).seen }
     ensures born { (k : Key) → Has k (cell_view other).owns → Has k (cell_view master.old).born }
     ensures apart { (k : Key) → Has k (cell_view master.old).owns → Has k (cell_view other).owns → ⊥ }
@@ -110,7 +112,8 @@ pub fn learn<R: Wait>(rt: &R, cell: &Cell, pass: &mut KeyPass, other: KeyPass)
     requires pass { ((cell_view pass.old).keeps ≡ false) × ((cell_view pass.old).asks ≡ []) }
     requires other { ((cell_view other).keeps ≡ false) × ((cell_view other).owns ≡ []) × ((cell_view other).asks ≡ []) }
     ensures kept { (pass.new.table_id ≡ pass.old.table_id) × (cell_view pass.new ≡ learnt (shown (cell_view pass.old) (cell_view other))) }
-    ensures goes_on { Continues (cell_view pass.old).seen (cell_view pass.old).owns (longer (cell_view pass.old).seen (cell_view other).seen) }
+    ensures goes_on { Continues (cell_view pass.old).seen (cell_view pass.old).owns
+        (longer (cell_view pass.old).seen (cell_view other).seen) }
     ensures begins { Begins (cell_view other).seen (longer (cell_view pass.old).seen (cell_view other).seen) }
 {
     lay_beside(cell, pass, other);
@@ -145,17 +148,25 @@ fn append_as<K: Keys, S: NoteName, R: Wait>(
     desk: &mut KeyPass,
     entry: &JournalEntry,
 ) -> KeyPass
-    requires table { (master.old.table_id ≡ cell.now.table.shared.table_id) × (set.old.table_id ≡ master.old.table_id) × (desk.old.table_id ≡ master.old.table_id) }
+    requires table { (master.old.table_id ≡ cell.now.table.shared.table_id) × (set.old.table_id ≡ master.old.table_id)
+        × (desk.old.table_id ≡ master.old.table_id) }
     requires keeper { cell_view master.old ≡ keeper (cell_view master.old).seen (cell_view master.old).born }
     requires set { cell_view set.old ≡ holder (cell_view set.old).seen K.keys }
     requires desk { cell_view desk.old ≡ holder (cell_view desk.old).seen K.rest }
     requires apart { (k : Key) → Has k K.keys → Has k K.rest → ⊥ }
     requires said { S.note ≡ noted entry.now (K.keys ++ K.rest) }
-    ensures keeper { (master.new.table_id ≡ master.old.table_id) × (cell_view master.new ≡ keeper ((cell_view master.old).seen ++ noted entry.now (K.keys ++ K.rest) ∷ []) (cell_view master.old).born) }
-    ensures set { (set.new.table_id ≡ set.old.table_id) × (cell_view set.new ≡ holder ((cell_view master.old).seen ++ noted entry.now (K.keys ++ K.rest) ∷ []) K.keys) }
-    ensures desk { (desk.new.table_id ≡ desk.old.table_id) × (cell_view desk.new ≡ holder ((cell_view master.old).seen ++ noted entry.now (K.keys ++ K.rest) ∷ []) K.rest) }
-    ensures receipt { (result.table_id ≡ master.old.table_id) × (result.me.1 ≡ []) × (cell_view result ≡ holder ((cell_view master.old).seen ++ noted entry.now (K.keys ++ K.rest) ∷ []) []) }
-    ensures goes_on { Continues (cell_view set.old).seen K.keys (cell_view master.old).seen × Continues (cell_view desk.old).seen K.rest (cell_view master.old).seen }
+    ensures keeper { (master.new.table_id ≡ master.old.table_id)
+        × (cell_view master.new
+        ≡ keeper ((cell_view master.old).seen ++ noted entry.now (K.keys ++ K.rest) ∷ []) (cell_view master.old).born) }
+    ensures set { (set.new.table_id ≡ set.old.table_id)
+        × (cell_view set.new ≡ holder ((cell_view master.old).seen ++ noted entry.now (K.keys ++ K.rest) ∷ []) K.keys) }
+    ensures desk { (desk.new.table_id ≡ desk.old.table_id)
+        × (cell_view desk.new
+        ≡ holder ((cell_view master.old).seen ++ noted entry.now (K.keys ++ K.rest) ∷ []) K.rest) }
+    ensures receipt { (result.table_id ≡ master.old.table_id) × (result.me.1 ≡ [])
+        × (cell_view result ≡ holder ((cell_view master.old).seen ++ noted entry.now (K.keys ++ K.rest) ∷ []) []) }
+    ensures goes_on { Continues (cell_view set.old).seen K.keys (cell_view master.old).seen
+        × Continues (cell_view desk.old).seen K.rest (cell_view master.old).seen }
     ensures born { (k : Key) → Has k (K.keys ++ K.rest) → Has k (cell_view master.old).born }
 {
     let theirs = whole(cell, set);
@@ -179,16 +190,30 @@ pub fn append<R: Wait>(
     desk: &mut KeyPass,
     entry: &JournalEntry,
 ) -> KeyPass
-    requires table { (master.old.table_id ≡ cell.now.table.shared.table_id) × (set.old.table_id ≡ master.old.table_id) × (desk.old.table_id ≡ master.old.table_id) }
+    requires table { (master.old.table_id ≡ cell.now.table.shared.table_id) × (set.old.table_id ≡ master.old.table_id)
+        × (desk.old.table_id ≡ master.old.table_id) }
     requires keeper { cell_view master.old ≡ keeper (cell_view master.old).seen (cell_view master.old).born }
     requires set { cell_view set.old ≡ holder (cell_view set.old).seen (cell_view set.old).owns }
     requires desk { cell_view desk.old ≡ holder (cell_view desk.old).seen (cell_view desk.old).owns }
     requires apart { (k : Key) → Has k (cell_view set.old).owns → Has k (cell_view desk.old).owns → ⊥ }
-    ensures keeper { (master.new.table_id ≡ master.old.table_id) × (cell_view master.new ≡ keeper ((cell_view master.old).seen ++ noted entry.now ((cell_view set.old).owns ++ (cell_view desk.old).owns) ∷ []) (cell_view master.old).born) }
-    ensures set { (set.new.table_id ≡ set.old.table_id) × (cell_view set.new ≡ holder ((cell_view master.old).seen ++ noted entry.now ((cell_view set.old).owns ++ (cell_view desk.old).owns) ∷ []) (cell_view set.old).owns) }
-    ensures desk { (desk.new.table_id ≡ desk.old.table_id) × (cell_view desk.new ≡ holder ((cell_view master.old).seen ++ noted entry.now ((cell_view set.old).owns ++ (cell_view desk.old).owns) ∷ []) (cell_view desk.old).owns) }
-    ensures receipt { (result.table_id ≡ master.old.table_id) × (result.me.1 ≡ []) × (cell_view result ≡ holder ((cell_view master.old).seen ++ noted entry.now ((cell_view set.old).owns ++ (cell_view desk.old).owns) ∷ []) []) }
-    ensures goes_on { Continues (cell_view set.old).seen (cell_view set.old).owns (cell_view master.old).seen × Continues (cell_view desk.old).seen (cell_view desk.old).owns (cell_view master.old).seen }
+    ensures keeper { (master.new.table_id ≡ master.old.table_id)
+        × (cell_view master.new
+        ≡ keeper ((cell_view master.old).seen
+        ++ noted entry.now ((cell_view set.old).owns ++ (cell_view desk.old).owns) ∷ []) (cell_view master.old).born) }
+    ensures set { (set.new.table_id ≡ set.old.table_id)
+        × (cell_view set.new
+        ≡ holder ((cell_view master.old).seen
+        ++ noted entry.now ((cell_view set.old).owns ++ (cell_view desk.old).owns) ∷ []) (cell_view set.old).owns) }
+    ensures desk { (desk.new.table_id ≡ desk.old.table_id)
+        × (cell_view desk.new
+        ≡ holder ((cell_view master.old).seen
+        ++ noted entry.now ((cell_view set.old).owns ++ (cell_view desk.old).owns) ∷ []) (cell_view desk.old).owns) }
+    ensures receipt { (result.table_id ≡ master.old.table_id) × (result.me.1 ≡ [])
+        × (cell_view result
+        ≡ holder ((cell_view master.old).seen
+        ++ noted entry.now ((cell_view set.old).owns ++ (cell_view desk.old).owns) ∷ []) []) }
+    ensures goes_on { Continues (cell_view set.old).seen (cell_view set.old).owns (cell_view master.old).seen
+        × Continues (cell_view desk.old).seen (cell_view desk.old).owns (cell_view master.old).seen }
     ensures born { (k : Key) → Has k ((cell_view set.old).owns ++ (cell_view desk.old).owns) → Has k (cell_view master.old).born }
 {
     append_as::<Brand, Brand, R>(rt, cell, master, set, desk, entry)
@@ -199,8 +224,10 @@ fn claim_as<K: Keys>(cell: &Cell, master: &mut KeyPass, kind: u64, number: u64) 
     requires keeps { (cell_view master.old).keeps ≡ true }
     requires keys { K.keys ≡ (kind, number) ∷ [] }
     requires fresh { Has (kind, number) (cell_view master.old).born → ⊥ }
-    ensures kept { (master.new.table_id ≡ master.old.table_id) × (cell_view master.new ≡ claiming ((kind, number) ∷ []) (cell_view master.old)) }
-    ensures given { (result.table_id ≡ master.old.table_id) × (result.me.1 ≡ []) × (cell_view result ≡ claimed ((kind, number) ∷ []) (cell_view master.old)) }
+    ensures kept { (master.new.table_id ≡ master.old.table_id)
+        × (cell_view master.new ≡ claiming ((kind, number) ∷ []) (cell_view master.old)) }
+    ensures given { (result.table_id ≡ master.old.table_id) × (result.me.1 ≡ [])
+        × (cell_view result ≡ claimed ((kind, number) ∷ []) (cell_view master.old)) }
 {
     let _ = (kind, number);
     claim::<K>(cell, master)
@@ -211,8 +238,10 @@ pub fn claim_key(cell: &Cell, master: &mut KeyPass, kind: u64, number: u64) -> K
     requires table { master.old.table_id ≡ cell.now.table.shared.table_id }
     requires keeps { (cell_view master.old).keeps ≡ true }
     requires fresh { Has (kind, number) (cell_view master.old).born → ⊥ }
-    ensures kept { (master.new.table_id ≡ master.old.table_id) × (cell_view master.new ≡ claiming ((kind, number) ∷ []) (cell_view master.old)) }
-    ensures given { (result.table_id ≡ master.old.table_id) × (result.me.1 ≡ []) × (cell_view result ≡ claimed ((kind, number) ∷ []) (cell_view master.old)) }
+    ensures kept { (master.new.table_id ≡ master.old.table_id)
+        × (cell_view master.new ≡ claiming ((kind, number) ∷ []) (cell_view master.old)) }
+    ensures given { (result.table_id ≡ master.old.table_id) × (result.me.1 ≡ [])
+        × (cell_view result ≡ claimed ((kind, number) ∷ []) (cell_view master.old)) }
 {
     claim_as::<Brand>(cell, master, kind, number)
 }
@@ -224,14 +253,17 @@ fn compare_as<K: Keys, R: Wait>(
     a: &mut KeyPass,
     b: &mut KeyPass,
 )
-    requires table { (master.old.table_id ≡ cell.now.table.shared.table_id) × (a.old.table_id ≡ master.old.table_id) × (b.old.table_id ≡ master.old.table_id) }
+    requires table { (master.old.table_id ≡ cell.now.table.shared.table_id) × (a.old.table_id ≡ master.old.table_id)
+        × (b.old.table_id ≡ master.old.table_id) }
     requires keeper { cell_view master.old ≡ keeper (cell_view master.old).seen (cell_view master.old).born }
     requires a { cell_view a.old ≡ holder (cell_view a.old).seen K.keys }
     requires b { cell_view b.old ≡ holder (cell_view b.old).seen K.rest }
-    ensures keeper { (master.new.table_id ≡ master.old.table_id) × (cell_view master.new ≡ keeper (cell_view master.old).seen (cell_view master.old).born) }
+    ensures keeper { (master.new.table_id ≡ master.old.table_id)
+        × (cell_view master.new ≡ keeper (cell_view master.old).seen (cell_view master.old).born) }
     ensures a { (a.new.table_id ≡ a.old.table_id) × (cell_view a.new ≡ holder (cell_view master.old).seen K.keys) }
     ensures b { (b.new.table_id ≡ b.old.table_id) × (cell_view b.new ≡ holder (cell_view master.old).seen K.rest) }
-    ensures goes_on { Continues (cell_view a.old).seen K.keys (cell_view master.old).seen × Continues (cell_view b.old).seen K.rest (cell_view master.old).seen }
+    ensures goes_on { Continues (cell_view a.old).seen K.keys (cell_view master.old).seen
+        × Continues (cell_view b.old).seen K.rest (cell_view master.old).seen }
     ensures apart { (k : Key) → Has k K.keys → Has k K.rest → ⊥ }
 {
     let theirs = whole(cell, a);
@@ -244,14 +276,17 @@ fn compare_as<K: Keys, R: Wait>(
 
 /// Compares two passes: they have no key in common. Afterwards both know the whole list.
 pub fn compare<R: Wait>(rt: &R, cell: &Cell, master: &mut KeyPass, a: &mut KeyPass, b: &mut KeyPass)
-    requires table { (master.old.table_id ≡ cell.now.table.shared.table_id) × (a.old.table_id ≡ master.old.table_id) × (b.old.table_id ≡ master.old.table_id) }
+    requires table { (master.old.table_id ≡ cell.now.table.shared.table_id) × (a.old.table_id ≡ master.old.table_id)
+        × (b.old.table_id ≡ master.old.table_id) }
     requires keeper { cell_view master.old ≡ keeper (cell_view master.old).seen (cell_view master.old).born }
     requires a { cell_view a.old ≡ holder (cell_view a.old).seen (cell_view a.old).owns }
     requires b { cell_view b.old ≡ holder (cell_view b.old).seen (cell_view b.old).owns }
-    ensures keeper { (master.new.table_id ≡ master.old.table_id) × (cell_view master.new ≡ keeper (cell_view master.old).seen (cell_view master.old).born) }
+    ensures keeper { (master.new.table_id ≡ master.old.table_id)
+        × (cell_view master.new ≡ keeper (cell_view master.old).seen (cell_view master.old).born) }
     ensures a { (a.new.table_id ≡ a.old.table_id) × (cell_view a.new ≡ holder (cell_view master.old).seen (cell_view a.old).owns) }
     ensures b { (b.new.table_id ≡ b.old.table_id) × (cell_view b.new ≡ holder (cell_view master.old).seen (cell_view b.old).owns) }
-    ensures goes_on { Continues (cell_view a.old).seen (cell_view a.old).owns (cell_view master.old).seen × Continues (cell_view b.old).seen (cell_view b.old).owns (cell_view master.old).seen }
+    ensures goes_on { Continues (cell_view a.old).seen (cell_view a.old).owns (cell_view master.old).seen
+        × Continues (cell_view b.old).seen (cell_view b.old).owns (cell_view master.old).seen }
     ensures apart { (k : Key) → Has k (cell_view a.old).owns → Has k (cell_view b.old).owns → ⊥ }
 {
     compare_as::<Brand, R>(rt, cell, master, a, b)

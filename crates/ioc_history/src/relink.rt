@@ -19,7 +19,8 @@ pub fn relink<K: Keys, L: Keys, S: NoteName, R: Wait>(
     b: &mut KeyPass,
     desk: &mut KeyPass,
 ) -> KeyPass
-    requires table { (master.old.table_id ≡ cell.now.table.shared.table_id) × (a.old.table_id ≡ master.old.table_id) × (b.old.table_id ≡ master.old.table_id) × (desk.old.table_id ≡ master.old.table_id) }
+    requires table { (master.old.table_id ≡ cell.now.table.shared.table_id) × (a.old.table_id ≡ master.old.table_id)
+        × (b.old.table_id ≡ master.old.table_id) × (desk.old.table_id ≡ master.old.table_id) }
     requires keeper { cell_view master.old ≡ keeper (cell_view master.old).seen (cell_view master.old).born }
     requires a { cell_view a.old ≡ holder (cell_view a.old).seen (cell_view a.old).owns }
     requires b { cell_view b.old ≡ holder (cell_view b.old).seen (cell_view b.old).owns }
@@ -29,12 +30,17 @@ pub fn relink<K: Keys, L: Keys, S: NoteName, R: Wait>(
     requires apart { (k : Key) → Has k K.keys → Has k K.rest → ⊥ }
     requires apart_desk { (k : Key) → Has k L.keys → Has k L.rest → ⊥ }
     requires keys { S.note.keys ≡ ((cell_view a.old).owns ++ (cell_view b.old).owns) ++ L.rest }
-    ensures keeper { (master.new.table_id ≡ master.old.table_id) × (cell_view master.new ≡ keeper ((cell_view master.old).seen ++ S.note ∷ []) (cell_view master.old).born) }
+    ensures keeper { (master.new.table_id ≡ master.old.table_id)
+        × (cell_view master.new ≡ keeper ((cell_view master.old).seen ++ S.note ∷ []) (cell_view master.old).born) }
     ensures a { (a.new.table_id ≡ a.old.table_id) × (cell_view a.new ≡ holder ((cell_view master.old).seen ++ S.note ∷ []) K.keys) }
     ensures b { (b.new.table_id ≡ b.old.table_id) × (cell_view b.new ≡ holder ((cell_view master.old).seen ++ S.note ∷ []) L.keys) }
-    ensures desk { (desk.new.table_id ≡ desk.old.table_id) × (cell_view desk.new ≡ holder ((cell_view master.old).seen ++ S.note ∷ []) L.rest) }
-    ensures receipt { (result.table_id ≡ master.old.table_id) × (result.me.1 ≡ []) × (cell_view result ≡ holder ((cell_view master.old).seen ++ S.note ∷ []) []) }
-    ensures goes_on { Continues (cell_view a.old).seen (cell_view a.old).owns (cell_view master.old).seen × Continues (cell_view b.old).seen (cell_view b.old).owns (cell_view master.old).seen × Continues (cell_view desk.old).seen L.rest (cell_view master.old).seen }
+    ensures desk { (desk.new.table_id ≡ desk.old.table_id)
+        × (cell_view desk.new ≡ holder ((cell_view master.old).seen ++ S.note ∷ []) L.rest) }
+    ensures receipt { (result.table_id ≡ master.old.table_id) × (result.me.1 ≡ [])
+        × (cell_view result ≡ holder ((cell_view master.old).seen ++ S.note ∷ []) []) }
+    ensures goes_on { Continues (cell_view a.old).seen (cell_view a.old).owns (cell_view master.old).seen
+        × Continues (cell_view b.old).seen (cell_view b.old).owns (cell_view master.old).seen
+        × Continues (cell_view desk.old).seen L.rest (cell_view master.old).seen }
     ensures born { (k : Key) → Has k L.rest → Has k (cell_view master.old).born }
 {
     let one = pass::whole(cell, a);

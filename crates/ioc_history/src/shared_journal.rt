@@ -148,13 +148,16 @@ impl<K: RecordKind, B: EngineName<K>> SharedJournal<K, B> {
         requires other { IsHolder (cell_view other.old) × AreNoDesks (cell_view other.old).owns }
         requires within { (key : Key) → Has key (P.keys ++ P.rest) → Has key ((cell_view one.old).owns ++ (cell_view other.old).owns) }
         requires apart { (key : Key) → Has key P.keys → Has key P.rest → ⊥ }
-        requires follows { BothMayFollow K.rules B.base (cell_view one.old).seen (cell_view one.old).owns (cell_view other.old).seen (cell_view other.old).owns entry }
+        requires follows { BothMayFollow K.rules B.base (cell_view one.old).seen (cell_view one.old).owns (cell_view other.old).seen
+            (cell_view other.old).owns entry }
         requires begins { MayBegin (cell_view other.old).seen (cell_view other.old).owns entry.event }
         ensures call { Call K.rules B.base desk.old entry desk.new }
         ensures receipt { result ≡ desk.new.seen }
         ensures one { (one.new.table_id ≡ one.old.table_id) × (cell_view one.new ≡ holder desk.new.seen P.keys) }
         ensures other { (other.new.table_id ≡ other.old.table_id) × (cell_view other.new ≡ holder desk.new.seen P.rest) }
-        ensures added { (log : List Note) × AddedByBoth K.rules B.base (cell_view one.old).seen (cell_view one.old).owns (cell_view other.old).seen (cell_view other.old).owns entry log desk.new.seen }
+        ensures added { (log : List Note)
+            × AddedByBoth K.rules B.base (cell_view one.old).seen (cell_view one.old).owns (cell_view other.old).seen
+            (cell_view other.old).owns entry log desk.new.seen }
     {
         let mut guard = self.lock(rt);
         let journal = &mut *guard;
@@ -166,7 +169,9 @@ impl<K: RecordKind, B: EngineName<K>> SharedJournal<K, B> {
         requires table { (one.old.table_id ≡ B.table) × (other.old.table_id ≡ B.table) }
         requires holders { IsHolder (cell_view one.old) × IsHolder (cell_view other.old) }
         ensures table { (one.new.table_id ≡ one.old.table_id) × (other.new.table_id ≡ other.old.table_id) }
-        ensures known { (log : List Note) × AreKnown K.rules B.base (cell_view one.old) (cell_view other.old) log (cell_view one.new) (cell_view other.new) }
+        ensures known { (log : List Note)
+            × AreKnown K.rules B.base (cell_view one.old) (cell_view other.old) log (cell_view one.new)
+            (cell_view other.new) }
         ensures apart { (key : Key) → Has key (cell_view one.old).owns → Has key (cell_view other.old).owns → ⊥ }
     {
         let mut guard = self.lock(rt);
@@ -180,7 +185,9 @@ impl<K: RecordKind, B: EngineName<K>> SharedJournal<K, B> {
         requires table { (one.old.table_id ≡ B.table) × (other.old.table_id ≡ B.table) }
         requires holders { IsHolder (cell_view one.old) × IsHolder (cell_view other.old) }
         ensures table { (one.new.table_id ≡ one.old.table_id) × (other.new.table_id ≡ other.old.table_id) }
-        ensures merged { (log : List Note) × AreMerged K.rules B.base (cell_view one.old) (cell_view other.old) log (cell_view one.new) (cell_view other.new) }
+        ensures merged { (log : List Note)
+            × AreMerged K.rules B.base (cell_view one.old) (cell_view other.old) log (cell_view one.new)
+            (cell_view other.new) }
         ensures apart { (key : Key) → Has key (cell_view one.old).owns → Has key (cell_view other.old).owns → ⊥ }
     {
         let mut guard = self.lock(rt);

@@ -15,7 +15,7 @@ use Rattle.ioc_history.specs.Covering.{Holds, WaitsWithin}
 use Rattle.ioc_history.proofs.Basics.{not_both, is-none, later, nobody-waits}
 use Rattle.ioc_set.specs.SetState.{SetState, now_of}
 use Rattle.ioc_journaled_set.specs.GiveUpLaws.{ShareNone, holders_in_all}
-use Rattle.ioc_journaled_set.proofs.GiveUpSumming.{sum-below, sum-add, sum-none, sum-less, point, of-number, reach, holders-sum}
+use Rattle.ioc_history.proofs.Summing.{sum-below, sum-add, sum-none, sum-less, point, of-number, reach, holders-sum}
 
 module _ {R D : Type 0} where
   -- One of the sets has the record, or none has.

@@ -39,7 +39,7 @@ use Rattle.ioc_set.specs.SetState.{SetState, now_of, folded, done_by, held_after
 use Rattle.ioc_set.specs.Doing.{with_place}
 use Rattle.ioc_set.specs.Sound.{IsSound}
 use Rattle.ioc_journaled_set.specs.GiveUpLaws.{cancel_entry, cancel_note, ShareNone, holders_in_all, GivesUp, IsHeldSoundly, SetsGiveUp, CancelGivesUp, CameToNothing}
-use Rattle.ioc_journaled_set.proofs.GiveUpSumming.{point, of-number}
+use Rattle.ioc_history.proofs.Summing.{point, of-number}
 use Rattle.ioc_journaled_set.proofs.GiveUpAmong.{some-or-none, nobody-outside}
 use Rattle.ioc_journaled_set.proofs.GiveUpEvents.{cancel-steps, AreActive, none-then, begun-none, begun-active}
 

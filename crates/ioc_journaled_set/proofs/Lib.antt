@@ -7,7 +7,6 @@ mod Following
 mod GiveUpAmong
 mod GiveUpEvents
 mod GiveUpGiving
-mod GiveUpSumming
 mod GivingUp
 pub mod Keys
 mod KeysOfSets

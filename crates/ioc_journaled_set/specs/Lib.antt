@@ -8,6 +8,4 @@ pub mod LinkLaws
 pub mod Passes
 pub mod Puts
 pub mod PutsViewCode
-pub use Rattle.ioc_held.specs.Holding
-pub use Rattle.ioc_held.specs.Puts
 pub mod Sets

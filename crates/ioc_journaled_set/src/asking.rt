@@ -38,7 +38,8 @@ impl<K: RecordKind, B: EngineName<K>> SharedNotifications<K, B> {
     ) -> Receipt<K, B>
         requires follows { MayFollow K.rules B.base self.old.seen puts_key entry }
         requires begins_none { number_given entry.event ≡ None }
-        requires alike { (log longer : List Note) → Added K.rules B.base self.old.seen puts_key entry log longer → AreLiveAlike (map_of K.rules B.base log) (map_of K.rules B.base longer) }
+        requires alike { (log longer : List Note) → Added K.rules B.base self.old.seen puts_key entry log longer
+            → AreLiveAlike (map_of K.rules B.base log) (map_of K.rules B.base longer) }
         ensures call { Call K.rules B.base desk.old entry desk.new }
         ensures receipt { result ≡ desk.new.seen }
         ensures kept { self.new ≡ puts_view self.old.live self.old.last desk.new.seen }

@@ -49,7 +49,8 @@ impl<K: RecordKind + Drop, B: EngineName<K>, D: Device> JournaledSet<K, B, D> {
         requires there { Contains (numbers_of self.old) target }
         requires is_call { no_call K.rules (now_of self.old.set) (Notify target notification field given) ≡ None }
         requires can { CanBegin all.old notification }
-        ensures serves { IfOk result (λ x. Serves K.rules D.gives B.base self.old desk.old moment (Notify target notification field given) x.0 self.new desk.new (world_of buffers.new.store)) }
+        ensures serves { IfOk result (λ x. Serves K.rules D.gives B.base self.old desk.old moment
+            (Notify target notification field given) x.0 self.new desk.new (world_of buffers.new.store)) }
         ensures receipt { IfOk result (λ x. x.1 ≡ desk.new.seen) }
         ensures last { OnOk result (all.new.last ≡ notification) }
         ensures refused { IfErr result IsNoPlace }
@@ -96,9 +97,9 @@ impl<K: RecordKind + Drop, B: EngineName<K>, D: Device> JournaledSet<K, B, D> {
         Ok((reply, receipt))
     }
 
-    /// Puts a value into a field as [`JournaledSet::put`] does, with a notification, and adds the call to
-    /// the journal. The put with notification ends when all that it has caused is done. Its number
-    /// is in the reply and is one more than the last number assigned. No other put with
+    /// Puts a value into a field as [`JournaledSet::put`] does, with a notification, and adds the
+    /// call to the journal. The put with notification ends when all that it has caused is done. Its
+    /// number is in the reply and is one more than the last number assigned. No other put with
     /// notification begins during the call.
     ///
     /// # Errors
@@ -123,7 +124,9 @@ impl<K: RecordKind + Drop, B: EngineName<K>, D: Device> JournaledSet<K, B, D> {
         moment: u64,
     ) -> Result<(Reply, Receipt<K, B>), IocError>
         requires there { Contains (numbers_of self.old) target }
-        ensures serves { IfOk result (λ x. (n : ℕ) × Serves K.rules D.gives B.base self.old desk.old moment (Notify target n field given) x.0 self.new desk.new (world_of buffers.new.store)) }
+        ensures serves { IfOk result (λ x. (n : ℕ)
+            × Serves K.rules D.gives B.base self.old desk.old moment (Notify target n field given) x.0 self.new desk.new
+            (world_of buffers.new.store)) }
         ensures receipt { IfOk result (λ x. x.1 ≡ desk.new.seen) }
         ensures refused { IfErr result (λ error. (error ≡ QueueFull) ⊎ IsNoCall K.rules self.old.set (Put target field given) error) }
         ensures err { OnErr result ((self.new ≡ self.old) × (desk.new ≡ desk.old)) }

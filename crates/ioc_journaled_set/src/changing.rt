@@ -108,7 +108,9 @@ fn part_first<K: RecordKind + Drop, B: EngineName<K>, D: Device, R: Wait>(
     requires field { HasLink K.rules first.old.set.records number field }
     requires allowed { stops_put (common_at K.rules (now_of first.old.set) number) field ≡ false }
     requires within { (t : ℕ) → Contains (named_by (use_of link)) t → IsSome (get first.old.set.records t) }
-    ensures parts { (second : HeldView K D) → IfOk result (λ c. FellApart K.rules B.base first.old second spare.old desk.old moment number field link c.reply c.moved first.new second spare.new desk.new (world_of buffers.new.store)) }
+    ensures parts { (second : HeldView K D)
+        → IfOk result (λ c. FellApart K.rules B.base first.old second spare.old desk.old moment number field link
+        c.reply c.moved first.new second spare.new desk.new (world_of buffers.new.store)) }
     ensures receipt { IfOk result (λ c. c.receipt ≡ desk.new.seen) }
     ensures refused { IfErr result IsNoPlace }
     ensures kept { OnErr result ((folded first.new.set ≡ folded first.old.set) × (spare.new ≡ spare.old)) }
@@ -146,10 +148,12 @@ fn lead_first<K: RecordKind + Drop, B: EngineName<K>, D: Device, R: Wait>(
     requires field { HasLink K.rules first.old.set.records number field }
     requires allowed { stops_put (common_at K.rules (now_of first.old.set) number) field ≡ false }
     requires to { (t : ℕ) × (named_by (use_of link) ≡ t ∷ []) × IsSome (get second.old.set.records t) }
-    ensures leads { IfOk result (λ c. WasLed K.rules B.base first.old second.old spare.old desk.old moment number field link c.reply c.moved first.new second.new spare.new desk.new (world_of buffers.new.store)) }
+    ensures leads { IfOk result (λ c. WasLed K.rules B.base first.old second.old spare.old desk.old moment number field link
+        c.reply c.moved first.new second.new spare.new desk.new (world_of buffers.new.store)) }
     ensures receipt { IfOk result (λ c. c.receipt ≡ desk.new.seen) }
     ensures refused { IfErr result IsNoPlace }
-    ensures kept { OnErr result ((folded first.new.set ≡ folded first.old.set) × (second.new.set ≡ second.old.set) × (spare.new ≡ spare.old)) }
+    ensures kept { OnErr result ((folded first.new.set ≡ folded first.old.set) × (second.new.set ≡ second.old.set)
+        × (spare.new ≡ spare.old)) }
     ensures desk { OnErr result (desk.new ≡ desk.old) }
 {
     let before = size(first);
@@ -194,10 +198,14 @@ pub fn change_link<K: RecordKind + Drop, B: EngineName<K>, D: Device, R: Wait>(
 ) -> Result<Changed<K, B>, IocError>
     requires base_link { base_link ≡ link }
     requires lent { AreLent numbers_of number (record_named (use_of link)) first.old second.old spare.old }
-    ensures relinks { IfOk result (λ c. Relinks K.rules B.base first.old second.old spare.old desk.old moment number field link c.reply c.moved first.new second.new spare.new desk.new (world_of buffers.new.store)) }
+    ensures relinks { IfOk result (λ c. Relinks K.rules B.base first.old second.old spare.old desk.old moment number field link
+        c.reply c.moved first.new second.new spare.new desk.new (world_of buffers.new.store)) }
     ensures receipt { IfOk result (λ c. c.receipt ≡ desk.new.seen) }
-    ensures refused { IfErr result (λ error. IsNoPlace error ⊎ ((error ≡ NoField) × (HasLink K.rules first.old.set.records number field → ⊥))) }
-    ensures kept { OnErr result ((folded first.new.set ≡ folded first.old.set) × (second.new.set ≡ second.old.set) × (spare.new ≡ spare.old)) }
+    ensures refused { IfErr result (λ error. IsNoPlace error
+        ⊎ ((error ≡ NoField) × (HasLink K.rules first.old.set.records number field
+        → ⊥))) }
+    ensures kept { OnErr result ((folded first.new.set ≡ folded first.old.set) × (second.new.set ≡ second.old.set)
+        × (spare.new ≡ spare.old)) }
     ensures desk { OnErr result (desk.new ≡ desk.old) }
 {
     if !first.set.has_link(number, field) {

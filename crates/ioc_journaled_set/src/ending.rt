@@ -44,7 +44,8 @@ impl<K: RecordKind, B: EngineName<K>, D> JournaledSet<K, B, D> {
     pub fn learn_all<R: Wait>(&mut self, rt: &R, cell: &Cell, journal: &mut Journal<K, B>)
         requires table { cell.now.table.shared.table_id ≡ B.table }
         ensures set { self.new.set ≡ self.old.set }
-        ensures told { (n : ℕ) → IsSome (get self.new.set.records n) → get (map_of K.rules B.base journal.old.filled).records n ≡ get self.new.set.records n }
+        ensures told { (n : ℕ) → IsSome (get self.new.set.records n)
+            → get (map_of K.rules B.base journal.old.filled).records n ≡ get self.new.set.records n }
         ensures journal { journal.new ≡ journal.old }
     {
         holding_lasts::<K>();

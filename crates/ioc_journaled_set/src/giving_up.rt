@@ -97,10 +97,13 @@ fn give_up_lent<K: RecordKind + Drop, B: EngineName<K>, D: Device, R: Wait>(
     requires some { total ≢ 0 }
     requires count { (length sets.old ≡ length held.old) × (length passes.old ≡ length held.old) }
     requires lent { EachIsLent K.rules B.base B.had_device B.table sets.old passes.old }
-    ensures gave_up { IfOk result (λ given. IfSome given (λ _. HeldGaveUp K.rules B.base moment number desk.old sets.old (cell_view keeper.old) desk.new held.new (cell_view keeper.new))) }
+    ensures gave_up { IfOk result (λ given. IfSome given (λ _. HeldGaveUp K.rules B.base moment number desk.old sets.old
+        (cell_view keeper.old) desk.new held.new (cell_view keeper.new))) }
     ensures receipt { IfOk result (λ given. IfSome given (λ receipt. receipt ≡ desk.new.seen)) }
     ensures table { keeper.new.table_id ≡ B.table }
-    ensures missing { IfOk result (λ given. IfNone given (AreSameSets sets.old held.new × (keeper.new ≡ keeper.old) × (desk.new ≡ desk.old) × (AreItsSets number total sets.old → ⊥))) }
+    ensures missing { IfOk result (λ given. IfNone given (AreSameSets sets.old held.new × (keeper.new ≡ keeper.old)
+        × (desk.new ≡ desk.old) × (AreItsSets number total sets.old
+        → ⊥))) }
     ensures refused { IfErr result IsNoPlace }
     ensures err { OnErr result (AreSameSets sets.old held.new × (keeper.new ≡ keeper.old) × (desk.new ≡ desk.old)) }
 {
@@ -129,9 +132,11 @@ pub fn cancel_on<K: RecordKind + Drop, B: EngineName<K>, D: Device, R: Wait>(
     number: NotifyId,
     moment: u64,
 ) -> Result<Option<(Reply, Receipt<K, B>)>, IocError>
-    ensures gave_up { IfOk result (λ given. IfSome given (λ x. GaveUpOn K.rules B.base moment number desk.old held.old all.old x.0 desk.new held.new all.new)) }
+    ensures gave_up { IfOk result (λ given. IfSome given (λ x. GaveUpOn K.rules B.base moment number desk.old held.old all.old x.0
+        desk.new held.new all.new)) }
     ensures receipt { IfOk result (λ given. IfSome given (λ x. x.1 ≡ desk.new.seen)) }
-    ensures missing { IfOk result (λ given. IfNone given (AreSameSets (sets_of held.old) held.new × (all.new ≡ all.old) × (desk.new ≡ desk.old) × HaveNotAll number all.old.live (sets_of held.old))) }
+    ensures missing { IfOk result (λ given. IfNone given (AreSameSets (sets_of held.old) held.new × (all.new ≡ all.old)
+        × (desk.new ≡ desk.old) × HaveNotAll number all.old.live (sets_of held.old))) }
     ensures refused { IfErr result IsNoPlace }
     ensures err { OnErr result (AreSameSets (sets_of held.old) held.new × (all.new ≡ all.old) × (desk.new ≡ desk.old)) }
 {

@@ -1,7 +1,7 @@
 //! Sets whose events are added to the journal.
 ghost use Rattle.std.specs.Prelude.{◌≡◌, ℕ, true, None, Some, IfOk, IfErr, OnOk, OnErr, Contains};
 ghost use Rattle.crossbeam_utils.specs.Seq.{cell_view};
-ghost use Rattle.ioc_events.specs.declared.event.Event.TheVariants.{Get, Process, Put, Complete};
+ghost use Rattle.ioc_events.specs.declared.event.Event.TheVariants.{Get};
 ghost use Rattle.ioc_events.specs.Step.{names};
 ghost use Rattle.ioc_notify.specs.Living.{is_live};
 ghost use Rattle.ioc_history.specs.Covering.{Holds};
@@ -30,7 +30,7 @@ use ioc_notify::table_laws::lines_tell_holders;
 use ioc_record::RecordKind;
 use ioc_set::{LockSet, sets_stay_without_puts};
 use ioc_set_store::EventBuffers;
-use ioc_values::{Finished, Input, IocError};
+use ioc_values::IocError;
 use std::alloc::Global;
 use std::marker::{Model, PhantomData};
 use std::sync::{Mutex, Wait};
@@ -144,7 +144,8 @@ impl<K: RecordKind + Drop, B: EngineName<K>, D: Device> JournaledSet<K, B, D> {
         requires there { (n : ℕ) → Contains (names event.now) n → Contains (numbers_of self.old) n }
         requires is_call { no_call K.rules (now_of self.old.set) event.now ≡ None }
         requires none { NoneIsLive self.old.set }
-        ensures serves { IfOk result (λ x. Serves K.rules D.gives B.base self.old desk.old moment event.now x.0 self.new desk.new (world_of buffers.new.store)) }
+        ensures serves { IfOk result (λ x. Serves K.rules D.gives B.base self.old desk.old moment event.now x.0 self.new desk.new
+            (world_of buffers.new.store)) }
         ensures receipt { IfOk result (λ x. x.1 ≡ desk.new.seen) }
         ensures refused { IfErr result IsNoPlace }
         ensures err { OnErr result ((self.new ≡ self.old) × (desk.new ≡ desk.old)) }
@@ -204,7 +205,8 @@ impl<K: RecordKind + Drop, B: EngineName<K>, D: Device> JournaledSet<K, B, D> {
         requires ordinary { is_ordinary event.now ≡ true }
         requires there { (n : ℕ) → Contains (names event.now) n → Contains (numbers_of self.old) n }
         requires is_call { no_call K.rules (now_of self.old.set) event.now ≡ None }
-        ensures serves { IfOk result (λ x. Serves K.rules D.gives B.base self.old desk.old moment event.now x.0 self.new desk.new (world_of buffers.new.store)) }
+        ensures serves { IfOk result (λ x. Serves K.rules D.gives B.base self.old desk.old moment event.now x.0 self.new desk.new
+            (world_of buffers.new.store)) }
         ensures receipt { IfOk result (λ x. x.1 ≡ desk.new.seen) }
         ensures refused { IfErr result IsNoPlace }
         ensures err { OnErr result ((self.new ≡ self.old) × (desk.new ≡ desk.old)) }
@@ -263,7 +265,8 @@ impl<K: RecordKind + Drop, B: EngineName<K>, D: Device> JournaledSet<K, B, D> {
     ) -> Result<(Reply, Receipt<K, B>), IocError>
         requires ordinary { is_ordinary event.now ≡ true }
         requires there { (n : ℕ) → Contains (names event.now) n → Contains (numbers_of self.old) n }
-        ensures serves { IfOk result (λ x. Serves K.rules D.gives B.base self.old desk.old moment event.now x.0 self.new desk.new (world_of buffers.new.store)) }
+        ensures serves { IfOk result (λ x. Serves K.rules D.gives B.base self.old desk.old moment event.now x.0 self.new desk.new
+            (world_of buffers.new.store)) }
         ensures receipt { IfOk result (λ x. x.1 ≡ desk.new.seen) }
         ensures refused { IfErr result (IsNoCall K.rules self.old.set event.now) }
         ensures err { OnErr result ((self.new ≡ self.old) × (desk.new ≡ desk.old)) }
@@ -275,97 +278,7 @@ impl<K: RecordKind + Drop, B: EngineName<K>, D: Device> JournaledSet<K, B, D> {
         self.serve_counted(rt, alloc, book, puts, desk, buffers, event, moment)
     }
 
-    /// Requests a record, and adds the call to the journal.
-    ///
-    /// # Errors
-    ///
-    /// [`IocError::JournalFull`] if the journal has no place left. [`IocError::NoMemory`] if
-    /// allocation fails. Nothing has changed then.
-    pub fn request<R: Wait>(
-        &mut self,
-        rt: &R,
-        alloc: Global,
-        book: &SharedJournal<K, B>,
-        puts: &Mutex<SharedNotifications<K, B>>,
-        desk: &mut Desk<K, B>,
-        buffers: &mut EventBuffers<K, D>,
-        number: RecordNo,
-        moment: u64,
-    ) -> Result<(Reply, Receipt<K, B>), IocError>
-        requires there { Contains (numbers_of self.old) number }
-        ensures serves { IfOk result (λ x. Serves K.rules D.gives B.base self.old desk.old moment (Process number) x.0 self.new desk.new (world_of buffers.new.store)) }
-        ensures receipt { IfOk result (λ x. x.1 ≡ desk.new.seen) }
-        ensures refused { IfErr result (IsNoCall K.rules self.old.set (Process number)) }
-        ensures err { OnErr result ((self.new ≡ self.old) × (desk.new ≡ desk.old)) }
-    {
-        let event = Event::Process(number);
-        self.serve(rt, alloc, book, puts, desk, buffers, &event, moment)
-    }
-
-    /// Puts a value into a field as [`LockSet::put`] does, and adds the call to the journal.
-    ///
-    /// # Errors
-    ///
-    /// [`IocError::NoField`] if the record has no such field, [`IocError::NoMod`] if the field
-    /// can't be put, [`IocError::JournalFull`] if the journal has no place left, and
-    /// [`IocError::NoMemory`] if allocation fails. Nothing has changed then. Any other refusal is a
-    /// reply, which is added to the journal too.
-    pub fn put<R: Wait>(
-        &mut self,
-        rt: &R,
-        alloc: Global,
-        book: &SharedJournal<K, B>,
-        puts: &Mutex<SharedNotifications<K, B>>,
-        desk: &mut Desk<K, B>,
-        buffers: &mut EventBuffers<K, D>,
-        number: RecordNo,
-        field: FieldNo,
-        given: Input,
-        moment: u64,
-    ) -> Result<(Reply, Receipt<K, B>), IocError>
-        requires there { Contains (numbers_of self.old) number }
-        ensures serves { IfOk result (λ x. Serves K.rules D.gives B.base self.old desk.old moment (Put number field given) x.0 self.new desk.new (world_of buffers.new.store)) }
-        ensures receipt { IfOk result (λ x. x.1 ≡ desk.new.seen) }
-        ensures refused { IfErr result (IsNoCall K.rules self.old.set (Put number field given)) }
-        ensures err { OnErr result ((self.new ≡ self.old) × (desk.new ≡ desk.old)) }
-    {
-        let event = Event::Put(number, field, given);
-        self.serve(rt, alloc, book, puts, desk, buffers, &event, moment)
-    }
-
-    /// Completes a record with the answer of its device as [`LockSet::complete`] does, and adds the
-    /// call to the journal.
-    ///
-    /// # Errors
-    ///
-    /// [`IocError::JournalFull`] if the journal has no place left. [`IocError::NoMemory`] if
-    /// allocation fails. Nothing has changed then. A refusal is a reply, which is added to the
-    /// journal too.
-    pub fn complete<R: Wait>(
-        &mut self,
-        rt: &R,
-        alloc: Global,
-        book: &SharedJournal<K, B>,
-        puts: &Mutex<SharedNotifications<K, B>>,
-        desk: &mut Desk<K, B>,
-        buffers: &mut EventBuffers<K, D>,
-        number: RecordNo,
-        wait: u64,
-        finished: Finished,
-        moment: u64,
-    ) -> Result<(Reply, Receipt<K, B>), IocError>
-        requires there { Contains (numbers_of self.old) number }
-        ensures serves { IfOk result (λ x. Serves K.rules D.gives B.base self.old desk.old moment (Complete number wait finished) x.0 self.new desk.new (world_of buffers.new.store)) }
-        ensures receipt { IfOk result (λ x. x.1 ≡ desk.new.seen) }
-        ensures refused { IfErr result (IsNoCall K.rules self.old.set (Complete number wait finished)) }
-        ensures err { OnErr result ((self.new ≡ self.old) × (desk.new ≡ desk.old)) }
-    {
-        let event = Event::Complete(number, wait, finished);
-        self.serve(rt, alloc, book, puts, desk, buffers, &event, moment)
-    }
-
-    /// Returns the text of a field, and adds the call to the journal with its time stamp. The set
-    /// stays as it is.
+    /// The text of a field, kept in the journal with its moment. It changes nothing in the set.
     ///
     /// # Errors
     ///

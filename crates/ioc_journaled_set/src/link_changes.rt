@@ -58,12 +58,15 @@ fn keep_change<P: Keys, K: RecordKind, B: EngineName<K>, D, R: Wait>(
     requires keys { (P.keys ≡ keys_of stay.now) × (P.rest ≡ keys_of rest.now) }
     requires within { (key : Key) → Has key (P.keys ++ P.rest) → Has key ((cell_view one.old).owns ++ (cell_view other.old).owns) }
     requires apart { (key : Key) → Has key P.keys → Has key P.rest → ⊥ }
-    requires follows { BothMayFollow K.rules B.base (cell_view one.old).seen (cell_view one.old).owns (cell_view other.old).seen (cell_view other.old).owns (link_change moment number field link) }
+    requires follows { BothMayFollow K.rules B.base (cell_view one.old).seen (cell_view one.old).owns (cell_view other.old).seen
+        (cell_view other.old).owns (link_change moment number field link) }
     ensures call { Call K.rules B.base desk.old (link_change moment number field link) desk.new }
     ensures receipt { result ≡ desk.new.seen }
     ensures one { (one.new.table_id ≡ B.table) × (cell_view one.new ≡ holder desk.new.seen P.keys) }
     ensures other { (other.new.table_id ≡ B.table) × (cell_view other.new ≡ holder desk.new.seen P.rest) }
-    ensures added { (log : List Note) × AddedByBoth K.rules B.base (cell_view one.old).seen (cell_view one.old).owns (cell_view other.old).seen (cell_view other.old).owns (link_change moment number field link) log desk.new.seen }
+    ensures added { (log : List Note)
+        × AddedByBoth K.rules B.base (cell_view one.old).seen (cell_view one.old).owns (cell_view other.old).seen
+        (cell_view other.old).owns (link_change moment number field link) log desk.new.seen }
 {
     let _ = stay;
     let _ = rest;
@@ -80,7 +83,8 @@ impl<K: RecordKind + Drop, B: EngineName<K>, D: Device> JournaledSet<K, B, D> {
     /// Changes a link of a record to a record of this set, or to none, and adds the change to the
     /// journal. The set keeps the record's part, and the records that no link connects with it any
     /// more are returned as a journaled set of their own, which may be without records. Live puts
-    /// with notification go with their records; see [`LockSet::part`]. `link` and `base_link` are equal.
+    /// with notification go with their records; see [`LockSet::part`]. `link` and `base_link` are
+    /// equal.
     ///
     /// # Errors
     ///
@@ -103,7 +107,8 @@ impl<K: RecordKind + Drop, B: EngineName<K>, D: Device> JournaledSet<K, B, D> {
         requires field { HasLink K.rules self.old.set.records number field }
         requires allowed { stops_put (common_at K.rules (now_of self.old.set) number) field ≡ false }
         requires within { (t : ℕ) → Contains (named_by (use_of link)) t → IsSome (get self.old.set.records t) }
-        ensures parts { IfOk result (λ x. Parts K.rules B.base self.old desk.old moment number field link self.new x.0 desk.new (world_of buffers.new.store)) }
+        ensures parts { IfOk result (λ x. Parts K.rules B.base self.old desk.old moment number field link self.new x.0 desk.new
+            (world_of buffers.new.store)) }
         ensures receipt { IfOk result (λ x. x.1 ≡ desk.new.seen) }
         ensures refused { IfErr result IsNoPlace }
         ensures set { OnErr result (folded self.new.set ≡ folded self.old.set) }
@@ -203,7 +208,8 @@ impl<K: RecordKind + Drop, B: EngineName<K>, D: Device> JournaledSet<K, B, D> {
         requires field { HasLink K.rules self.old.set.records number field }
         requires allowed { stops_put (common_at K.rules (now_of self.old.set) number) field ≡ false }
         requires to { (t : ℕ) × (named_by (use_of link) ≡ t ∷ []) × IsSome (get other.old.set.records t) }
-        ensures leads { IfOk result (λ x. Leads K.rules B.base self.old other.old desk.old moment number field link self.new other.new x.0 desk.new (world_of buffers.new.store)) }
+        ensures leads { IfOk result (λ x. Leads K.rules B.base self.old other.old desk.old moment number field link self.new other.new
+            x.0 desk.new (world_of buffers.new.store)) }
         ensures receipt { IfOk result (λ x. x.1 ≡ desk.new.seen) }
         ensures refused { IfErr result IsNoPlace }
         ensures set { OnErr result ((folded self.new.set ≡ folded self.old.set) × (other.new.set ≡ other.old.set)) }

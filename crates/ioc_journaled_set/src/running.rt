@@ -106,7 +106,14 @@ pub(crate) fn run_counted<K: RecordKind + Drop, B: EngineName<K>, D: Device, R: 
 ) -> Result<Ran<K, B>, IocError>
     requires done_here { is_done_on_sets event.now ≡ true }
     ensures does { IfOk result (λ ran. Does K.rules D.gives set.old moment event.now ran.reply set.new (world_of buffers.new.store)) }
-    ensures entry { IfOk result (λ ran. ran.entry ≡ record { moment = moment; event = event.now; answers = answers_of (world_of buffers.new.store).calls; reply = ran.reply }) }
+    ensures entry { IfOk result (λ ran. ran.entry
+        ≡ record {
+          moment = moment;
+          event = event.now;
+          answers = answers_of (world_of buffers.new.store).calls;
+          reply
+              = ran.reply;
+        }) }
     ensures before { IfOk result (λ ran. ran.before.items ≡ set.old.live) }
     ensures refused { IfErr result IsNoPlace }
     ensures err { OnErr result (set.new ≡ set.old) }

@@ -108,7 +108,8 @@ fn count_anew(table: &mut NotificationCounts, before: &[Live], after: &[Live])
     requires few { length table.old.live ≤ 256 }
     requires few_after { length after.now ≤ 256 }
     requires room { 512 ≤ table.old.room }
-    ensures counts { (n : ℕ) → holders_in n table.new.live + holders_in n before.now ≡ holders_in n table.old.live + holders_in n after.now }
+    ensures counts { (n : ℕ)
+        → holders_in n table.new.live + holders_in n before.now ≡ holders_in n table.old.live + holders_in n after.now }
     ensures room { table.new.room ≡ table.old.room }
 {
     table.take_off(before);
@@ -144,7 +145,9 @@ pub(crate) fn keep_beside<K: RecordKind, B: EngineName<K>, D, R: Wait>(
     ensures pass { (pass.new.table_id ≡ B.table) × (cell_view pass.new ≡ holder desk.new.seen (cell_view pass.old).owns) }
     ensures seen { all.new.seen ≡ desk.new.seen }
     ensures last { all.new.last ≡ last }
-    ensures added { (log : List Note) × AddedByBoth K.rules B.base (cell_view pass.old).seen (cell_view pass.old).owns all.old.seen puts_key entry log desk.new.seen }
+    ensures added { (log : List Note)
+        × AddedByBoth K.rules B.base (cell_view pass.old).seen (cell_view pass.old).owns all.old.seen puts_key entry
+        log desk.new.seen }
 {
     live_lasts::<K>();
     lines_tell_holders();

@@ -23,7 +23,7 @@ use Rattle.ioc_scan.specs.declared.list_name.ListName.TheVariants.{Period as Per
 use Rattle.ioc_main.specs.Sets.{sets_line}
 use Rattle.ioc_sim.specs.Scanner.{event_list, interrupt_list}
 use Rattle.ioc_main.specs.Relink.{were_linked}
-use Rattle.ioc_sim.specs.Machine.{Machine, Told, Counted, answers_from, refused, queued_at, queued_on, at_moment, most_served, done, scanned, serve, with_none_ended, notified, given_up}
+use Rattle.ioc_sim.specs.Machine.{Machine, MachineReply, Counted, answers_from, refused, queued_at, queued_on, at_moment, most_served, done, scanned, serve, with_none_ended, notified, given_up}
 
 -- A line for each put with notification that has ended.
 abbrev pub ended_lines : List ℕ → List ℕ
@@ -36,7 +36,7 @@ pub record Answered (R : Type 0) : Type 0 where
   pub said : List ℕ
 
 -- The line of a reply.
-abbrev pub replied : {R : Type 0} → Told R → Answered R
+abbrev pub replied : {R : Type 0} → MachineReply R → Answered R
 replied told = record { machine = told.machine; said = reply_words told.reply ++ 10 ∷ [] }
 
 -- The line of a count.
@@ -65,29 +65,29 @@ module _ {R : Type 0} (k : RecordRules R) (names : NameTable) where
   unfoldable pub channel : World R → List ℕ → List ℕ → Result (ℕ × FieldNo) IocError
   channel w name field = field_at w field (number_of names name)
 
-  abbrev pub processed : Machine R → Option ℕ → Told R
+  abbrev pub processed : Machine R → Option ℕ → MachineReply R
   processed m None = refused m NoRecord
   processed m (Some number) = done k m (Process-event number)
 
   -- A get, which changes nothing.
-  abbrev pub got : Machine R → Result (ℕ × FieldNo) IocError → Told R
+  abbrev pub got : Machine R → Result (ℕ × FieldNo) IocError → MachineReply R
   got m (Ok c) = record { machine = m; reply = (stepped k (answers_from m.queued) m.world (Get-event c.0 c.1)).reply }
   got m (Err e) = refused m e
 
-  abbrev pub were_put : Machine R → List ℕ → Result (ℕ × FieldNo) IocError → Told R
+  abbrev pub were_put : Machine R → List ℕ → Result (ℕ × FieldNo) IocError → MachineReply R
   were_put m text (Ok c) = done k m (Put-event c.0 c.1 (input_of text))
   were_put m text (Err e) = refused m e
 
-  abbrev pub were_notified : Machine R → List ℕ → Result (ℕ × FieldNo) IocError → Told R
+  abbrev pub were_notified : Machine R → List ℕ → Result (ℕ × FieldNo) IocError → MachineReply R
   were_notified m text (Ok c) = notified k m c.0 c.1 (input_of text)
   were_notified m text (Err e) = refused m e
 
   -- An answer is queued for the device of a record.
-  abbrev pub answers_next : Machine R → Answer → Option ℕ → Told R
+  abbrev pub answers_next : Machine R → Answer → Option ℕ → MachineReply R
   answers_next m answer None = refused m NoRecord
   answers_next m answer (Some number) = queued_at m number answer (m.queued number)
 
-  abbrev pub were_completed : Machine R → ℕ → Finished → Option ℕ → Told R
+  abbrev pub were_completed : Machine R → ℕ → Finished → Option ℕ → MachineReply R
   were_completed m wait finished None = refused m NoRecord
   were_completed m wait finished (Some number) = done k m (Complete-event number wait finished)
 

@@ -32,8 +32,11 @@ impl Replay {
         requires room { length replies.old + 256 ≤ 4096 }
         requires short { command.now ≡ Sets → ⊥ }
         ensures names { self.new.names ≡ self.old.names }
-        ensures machine { OnOk result (machine_of self.new.machine ≡ (carried_out record_rules self.old.names (machine_of self.old.machine) (seen command.now)).machine) }
-        ensures said { OnOk result (replies.new ≡ replies.old ++ (carried_out record_rules self.old.names (machine_of self.old.machine) (seen command.now)).said) }
+        ensures machine { OnOk result (machine_of self.new.machine
+            ≡ (carried_out record_rules self.old.names (machine_of self.old.machine) (seen command.now)).machine) }
+        ensures said { OnOk result (replies.new
+            ≡ replies.old
+            ++ (carried_out record_rules self.old.names (machine_of self.old.machine) (seen command.now)).said) }
         ensures kept { OnErr result (replies.new ≡ replies.old) }
     {
         match *command {
@@ -80,8 +83,11 @@ impl Replay {
         requires room { length said.old.replies + 256 ≤ 4096 }
         requires none { said.old.more.items ≡ [] }
         ensures names { self.new.names ≡ self.old.names }
-        ensures machine { OnOk result (machine_of self.new.machine ≡ (carried_out record_rules self.old.names (machine_of self.old.machine) (seen command.now)).machine) }
-        ensures said { OnOk result (said.new.replies ++ said.new.more.items ≡ said.old.replies ++ (carried_out record_rules self.old.names (machine_of self.old.machine) (seen command.now)).said) }
+        ensures machine { OnOk result (machine_of self.new.machine
+            ≡ (carried_out record_rules self.old.names (machine_of self.old.machine) (seen command.now)).machine) }
+        ensures said { OnOk result (said.new.replies ++ said.new.more.items
+            ≡ said.old.replies
+            ++ (carried_out record_rules self.old.names (machine_of self.old.machine) (seen command.now)).said) }
         ensures stands { Stands said.old.replies said.new.replies }
     {
         match command {
@@ -97,8 +103,13 @@ impl Replay {
     fn put_words(&mut self, words: &[u8], replies: &mut Replies) -> Result<(), AllocError>
         requires { length replies.old + 256 ≤ 4096 }
         ensures names { self.new.names ≡ self.old.names }
-        ensures machine { OnOk result (machine_of self.new.machine ≡ (carried_out record_rules self.old.names (machine_of self.old.machine) (put_of (before 32 words.now) (behind 32 words.now))).machine) }
-        ensures said { OnOk result (replies.new ≡ replies.old ++ (carried_out record_rules self.old.names (machine_of self.old.machine) (put_of (before 32 words.now) (behind 32 words.now))).said) }
+        ensures machine { OnOk result (machine_of self.new.machine
+            ≡ (carried_out record_rules self.old.names (machine_of self.old.machine)
+            (put_of (before 32 words.now) (behind 32 words.now))).machine) }
+        ensures said { OnOk result (replies.new
+            ≡ replies.old
+            ++ (carried_out record_rules self.old.names (machine_of self.old.machine)
+            (put_of (before 32 words.now) (behind 32 words.now))).said) }
         ensures kept { OnErr result (replies.new ≡ replies.old) }
     {
         let (word, rest) = split_before(words, b' ');
@@ -121,8 +132,11 @@ impl Replay {
         requires none { said.old.more.items ≡ [] }
         ensures silent { IfOk result (λ silent. silent ≡ is_silent (command_of line.now)) }
         ensures names { self.new.names ≡ self.old.names }
-        ensures machine { OnOk result (machine_of self.new.machine ≡ (carried_out record_rules self.old.names (machine_of self.old.machine) (command_of line.now)).machine) }
-        ensures said { OnOk result (said.new.replies ++ said.new.more.items ≡ said.old.replies ++ (carried_out record_rules self.old.names (machine_of self.old.machine) (command_of line.now)).said) }
+        ensures machine { OnOk result (machine_of self.new.machine
+            ≡ (carried_out record_rules self.old.names (machine_of self.old.machine) (command_of line.now)).machine) }
+        ensures said { OnOk result (said.new.replies ++ said.new.more.items
+            ≡ said.old.replies
+            ++ (carried_out record_rules self.old.names (machine_of self.old.machine) (command_of line.now)).said) }
         ensures stands { Stands said.old.replies said.new.replies }
     {
         let command = Command::from_line(line);
@@ -139,8 +153,11 @@ impl Replay {
         requires none { said.old.more.items ≡ [] }
         ensures silent { IfOk result (λ silent. silent ≡ is_silent (command_of line.now)) }
         ensures names { self.new.names ≡ self.old.names }
-        ensures machine { OnOk result (machine_of self.new.machine ≡ (carried_out record_rules self.old.names (machine_of self.old.machine) (command_of line.now)).machine) }
-        ensures said { OnOk result (said.new.replies ++ said.new.more.items ≡ said.old.replies ++ (carried_out record_rules self.old.names (machine_of self.old.machine) (command_of line.now)).said) }
+        ensures machine { OnOk result (machine_of self.new.machine
+            ≡ (carried_out record_rules self.old.names (machine_of self.old.machine) (command_of line.now)).machine) }
+        ensures said { OnOk result (said.new.replies ++ said.new.more.items
+            ≡ said.old.replies
+            ++ (carried_out record_rules self.old.names (machine_of self.old.machine) (command_of line.now)).said) }
         ensures stands { Stands said.old.replies said.new.replies }
     {
         match words_of_put(line) {

@@ -32,7 +32,8 @@ pub fn channel(
     field_name: &[u8],
 ) -> Result<(RecordNo, FieldNo), IocError>
     ensures value { result ≡ channel record_rules names.now (machine_of machine.now).world record_name.now field_name.now }
-    ensures there { IfOk result (λ c. Has (machine_of machine.now).world c.0 × IsSome (row_of (record_rules.record_type (at record_rules (machine_of machine.now).world c.0)) c.1)) }
+    ensures there { IfOk result (λ c. Has (machine_of machine.now).world c.0
+        × IsSome (row_of (record_rules.record_type (at record_rules (machine_of machine.now).world c.0)) c.1)) }
 {
     let Some(number) = names.find(record_name) else {
         return Err(IocError::NoRecord);
@@ -62,8 +63,12 @@ pub fn relink(
     text: &[u8],
 ) -> Result<Reply, AllocError>
     requires { Has (machine_of machine.old).world number }
-    ensures machine { OnOk result (machine_of machine.new ≡ (linked_in record_rules names.now (machine_of machine.old) number field text.now (kind_of (record_rules.record_type (at record_rules (machine_of machine.old).world number)) field)).machine) }
-    ensures reply { IfOk result (λ reply. reply ≡ (linked_in record_rules names.now (machine_of machine.old) number field text.now (kind_of (record_rules.record_type (at record_rules (machine_of machine.old).world number)) field)).reply) }
+    ensures machine { OnOk result (machine_of machine.new
+        ≡ (linked_in record_rules names.now (machine_of machine.old) number field text.now
+        (kind_of (record_rules.record_type (at record_rules (machine_of machine.old).world number)) field)).machine) }
+    ensures reply { IfOk result (λ reply. reply
+        ≡ (linked_in record_rules names.now (machine_of machine.old) number field text.now
+        (kind_of (record_rules.record_type (at record_rules (machine_of machine.old).world number)) field)).reply) }
 {
     let item = machine.map().record(number);
     let Some(FieldKind::Link(role)) = kind_of(item.record_type(), field) else {

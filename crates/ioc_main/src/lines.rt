@@ -53,10 +53,14 @@ fn say<S: Session, W: Write>(
 ) -> Result<(), LineFault>
     requires room { length said.old.replies + 256 ≤ 4096 }
     requires none { said.old.more.items ≡ [] }
-    ensures ok { OnOk result ((lines : List (List ℕ)) → Writes (W.contents out.old) (still said.old.replies (S.transcript session.old) (line.now ∷ lines)) (W.contents out.new) (still said.new.replies (S.transcript session.new) lines)) }
+    ensures ok { OnOk result ((lines : List (List ℕ))
+        → Writes (W.contents out.old) (still said.old.replies (S.transcript session.old) (line.now ∷ lines))
+        (W.contents out.new) (still said.new.replies (S.transcript session.new) lines)) }
     ensures room { OnOk result (length said.new.replies + 256 ≤ 4096) }
     ensures none { OnOk result (said.new.more.items ≡ []) }
-    ensures err { IfErr result (λ fault. (lines : List (List ℕ)) → StopsLine fault (W.contents out.old) (still said.old.replies (S.transcript session.old) (line.now ∷ lines)) (W.contents out.new)) }
+    ensures err { IfErr result (λ fault. (lines : List (List ℕ))
+        → StopsLine fault (W.contents out.old) (still said.old.replies (S.transcript session.old) (line.now ∷ lines))
+        (W.contents out.new)) }
 {
     let before = said.replies.as_slice().len();
     match session.answer(line, said) {
@@ -81,10 +85,14 @@ fn end_line<S: Session, W: Write>(
 ) -> Result<(), LineFault>
     requires room { length said.old.replies + 256 ≤ 4096 }
     requires none { said.old.more.items ≡ [] }
-    ensures ok { OnOk result ((line.new ≡ []) × ((lines : List (List ℕ)) → Writes (W.contents out.old) (still said.old.replies (S.transcript session.old) ((line.old ++ last.now) ∷ lines)) (W.contents out.new) (still said.new.replies (S.transcript session.new) lines))) }
+    ensures ok { OnOk result ((line.new ≡ []) × ((lines : List (List ℕ))
+        → Writes (W.contents out.old) (still said.old.replies (S.transcript session.old) ((line.old
+        ++ last.now) ∷ lines)) (W.contents out.new) (still said.new.replies (S.transcript session.new) lines))) }
     ensures room { OnOk result (length said.new.replies + 256 ≤ 4096) }
     ensures none { OnOk result (said.new.more.items ≡ []) }
-    ensures err { IfErr result (λ fault. (lines : List (List ℕ)) → StopsLine fault (W.contents out.old) (still said.old.replies (S.transcript session.old) ((line.old ++ last.now) ∷ lines)) (W.contents out.new)) }
+    ensures err { IfErr result (λ fault. (lines : List (List ℕ))
+        → StopsLine fault (W.contents out.old) (still said.old.replies (S.transcript session.old) ((line.old
+        ++ last.now) ∷ lines)) (W.contents out.new)) }
 {
     if line.is_empty() {
         return say(session, said, out, last);
@@ -104,10 +112,15 @@ fn feed<S: Session, W: Write>(
 ) -> Result<(), LineFault>
     requires room { length said.old.replies + 256 ≤ 4096 }
     requires none { said.old.more.items ≡ [] }
-    ensures ok { OnOk result ((rest : List ℕ) → Writes (W.contents out.old) (to_come (still said.old.replies (S.transcript session.old)) line.old (piece.now ++ rest)) (W.contents out.new) (to_come (still said.new.replies (S.transcript session.new)) line.new rest)) }
+    ensures ok { OnOk result ((rest : List ℕ)
+        → Writes (W.contents out.old) (to_come (still said.old.replies (S.transcript session.old)) line.old (piece.now
+        ++ rest)) (W.contents out.new) (to_come (still said.new.replies (S.transcript session.new)) line.new rest)) }
     ensures room { OnOk result (length said.new.replies + 256 ≤ 4096) }
     ensures none { OnOk result (said.new.more.items ≡ []) }
-    ensures err { IfErr result (λ fault. (rest : List ℕ) → StopsLine fault (W.contents out.old) (to_come (still said.old.replies (S.transcript session.old)) line.old (piece.now ++ rest)) (W.contents out.new)) }
+    ensures err { IfErr result (λ fault. (rest : List ℕ)
+        → StopsLine fault (W.contents out.old) (to_come (still said.old.replies (S.transcript session.old)) line.old
+        (piece.now
+        ++ rest)) (W.contents out.new)) }
 {
     let mut rest = piece;
     while !rest.is_empty() {
@@ -131,10 +144,12 @@ fn answer_rest<S: Session, W: Write>(
 ) -> Result<(), LineFault>
     requires room { length said.old.replies + 256 ≤ 4096 }
     requires none { said.old.more.items ≡ [] }
-    ensures ok { OnOk result (Writes (W.contents out.old) (to_come (still said.old.replies (S.transcript session.old)) line.old []) (W.contents out.new) said.new.replies) }
+    ensures ok { OnOk result (Writes (W.contents out.old) (to_come (still said.old.replies (S.transcript session.old)) line.old
+        []) (W.contents out.new) said.new.replies) }
     ensures room { OnOk result (length said.new.replies + 256 ≤ 4096) }
     ensures none { OnOk result (said.new.more.items ≡ []) }
-    ensures err { IfErr result (λ fault. StopsLine fault (W.contents out.old) (to_come (still said.old.replies (S.transcript session.old)) line.old []) (W.contents out.new)) }
+    ensures err { IfErr result (λ fault. StopsLine fault (W.contents out.old)
+        (to_come (still said.old.replies (S.transcript session.old)) line.old []) (W.contents out.new)) }
 {
     match line.as_slice() {
         [] => Ok(()),
@@ -151,8 +166,10 @@ fn finish<S: Session, W: Write>(
 ) -> Result<(), LineFault>
     requires room { length said.old.replies + 256 ≤ 4096 }
     requires none { said.old.more.items ≡ [] }
-    ensures ok { OnOk result (Appends (W.contents out.old) (W.contents out.new) (to_come (still said.old.replies (S.transcript session.old)) line.old [])) }
-    ensures err { IfErr result (λ fault. StopsLine fault (W.contents out.old) (to_come (still said.old.replies (S.transcript session.old)) line.old []) (W.contents out.new)) }
+    ensures ok { OnOk result (Appends (W.contents out.old) (W.contents out.new)
+        (to_come (still said.old.replies (S.transcript session.old)) line.old [])) }
+    ensures err { IfErr result (λ fault. StopsLine fault (W.contents out.old)
+        (to_come (still said.old.replies (S.transcript session.old)) line.old []) (W.contents out.new)) }
 {
     answer_rest(session, line, said, out)?;
     write_said(said, out)?;
@@ -183,8 +200,11 @@ pub fn run_script<S: Session, R: Read + Drop, W: Write>(
     mut script: R,
     out: &mut W,
 ) -> Result<(), ScriptFault>
-    ensures ok { OnOk result (IfSome (R.remaining script) (λ text. Appends (W.contents out.old) (W.contents out.new) (S.transcript session.old (lines_of text)))) }
-    ensures err { IfErr result (λ fault. IfSome (R.remaining script) (λ text. StopsScript fault (W.contents out.old) (S.transcript session.old (lines_of text)) (W.contents out.new))) }
+    ensures ok { OnOk result (IfSome (R.remaining script) (λ text. Appends (W.contents out.old) (W.contents out.new)
+        (S.transcript session.old (lines_of text)))) }
+    ensures err { IfErr result (λ fault. IfSome (R.remaining script)
+        (λ text. StopsScript fault (W.contents out.old) (S.transcript session.old (lines_of text))
+        (W.contents out.new))) }
 {
     let mut line = Line::new();
     let mut said = PendingOutput::new(alloc);

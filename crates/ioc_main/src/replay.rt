@@ -82,8 +82,14 @@ impl Replay {
     pub(crate) fn process(&mut self, name: &[u8], replies: &mut Replies) -> Result<(), AllocError>
         requires { length replies.old + 256 ≤ 4096 }
         ensures names { self.new.names ≡ self.old.names }
-        ensures machine { OnOk result (machine_of self.new.machine ≡ (processed record_rules self.old.names (machine_of self.old.machine) (number_of self.old.names name.now)).machine) }
-        ensures said { OnOk result (replies.new ≡ replies.old ++ reply_words (processed record_rules self.old.names (machine_of self.old.machine) (number_of self.old.names name.now)).reply ++ 10 ∷ []) }
+        ensures machine { OnOk result (machine_of self.new.machine
+            ≡ (processed record_rules self.old.names (machine_of self.old.machine)
+            (number_of self.old.names name.now)).machine) }
+        ensures said { OnOk result (replies.new
+            ≡ replies.old
+            ++ reply_words (processed record_rules self.old.names (machine_of self.old.machine)
+            (number_of self.old.names name.now)).reply
+            ++ 10 ∷ []) }
         ensures kept { OnErr result (replies.new ≡ replies.old) }
     {
         let Some(number) = self.names.find(name) else {
@@ -100,7 +106,12 @@ impl Replay {
     #[tactic(auto, using(crate::proofs::Getting::shown_there))]
     pub(crate) fn get(&self, record_name: &[u8], field_name: &[u8], replies: &mut Replies)
         requires { length replies.old + 256 ≤ 4096 }
-        ensures { replies.new ≡ replies.old ++ reply_words (got record_rules self.now.names (machine_of self.now.machine) (channel record_rules self.now.names (machine_of self.now.machine).world record_name.now field_name.now)).reply ++ 10 ∷ [] }
+        ensures { replies.new
+            ≡ replies.old
+            ++ reply_words (got record_rules self.now.names (machine_of self.now.machine)
+            (channel record_rules self.now.names (machine_of self.now.machine).world record_name.now
+            field_name.now)).reply
+            ++ 10 ∷ [] }
     {
         match channel(&self.names, &self.machine, record_name, field_name) {
             Ok((number, field)) => say_shown(replies, self.machine.map().record(number), field),
@@ -118,8 +129,16 @@ impl Replay {
     ) -> Result<(), AllocError>
         requires { length replies.old + 256 ≤ 4096 }
         ensures names { self.new.names ≡ self.old.names }
-        ensures machine { OnOk result (machine_of self.new.machine ≡ (were_put record_rules self.old.names (machine_of self.old.machine) text.now (channel record_rules self.old.names (machine_of self.old.machine).world record_name.now field_name.now)).machine) }
-        ensures said { OnOk result (replies.new ≡ replies.old ++ reply_words (were_put record_rules self.old.names (machine_of self.old.machine) text.now (channel record_rules self.old.names (machine_of self.old.machine).world record_name.now field_name.now)).reply ++ 10 ∷ []) }
+        ensures machine { OnOk result (machine_of self.new.machine
+            ≡ (were_put record_rules self.old.names (machine_of self.old.machine) text.now
+            (channel record_rules self.old.names (machine_of self.old.machine).world record_name.now
+            field_name.now)).machine) }
+        ensures said { OnOk result (replies.new
+            ≡ replies.old
+            ++ reply_words (were_put record_rules self.old.names (machine_of self.old.machine) text.now
+            (channel record_rules self.old.names (machine_of self.old.machine).world record_name.now
+            field_name.now)).reply
+            ++ 10 ∷ []) }
         ensures kept { OnErr result (replies.new ≡ replies.old) }
     {
         let (number, field) = match channel(&self.names, &self.machine, record_name, field_name) {
@@ -142,8 +161,14 @@ impl Replay {
     ) -> Result<(), AllocError>
         requires { length replies.old + 256 ≤ 4096 }
         ensures names { self.new.names ≡ self.old.names }
-        ensures machine { OnOk result (machine_of self.new.machine ≡ (answers_next record_rules self.old.names (machine_of self.old.machine) answer (number_of self.old.names name.now)).machine) }
-        ensures said { OnOk result (replies.new ≡ replies.old ++ reply_words (answers_next record_rules self.old.names (machine_of self.old.machine) answer (number_of self.old.names name.now)).reply ++ 10 ∷ []) }
+        ensures machine { OnOk result (machine_of self.new.machine
+            ≡ (answers_next record_rules self.old.names (machine_of self.old.machine) answer
+            (number_of self.old.names name.now)).machine) }
+        ensures said { OnOk result (replies.new
+            ≡ replies.old
+            ++ reply_words (answers_next record_rules self.old.names (machine_of self.old.machine) answer
+            (number_of self.old.names name.now)).reply
+            ++ 10 ∷ []) }
         ensures kept { OnErr result (replies.new ≡ replies.old) }
     {
         let Some(number) = self.names.find(name) else {
@@ -163,8 +188,14 @@ impl Replay {
     ) -> Result<(), AllocError>
         requires { length replies.old + 256 ≤ 4096 }
         ensures names { self.new.names ≡ self.old.names }
-        ensures machine { OnOk result (machine_of self.new.machine ≡ (answers_next record_rules self.old.names (machine_of self.old.machine) (Answer.Done (given_value text.now)) (number_of self.old.names name.now)).machine) }
-        ensures said { OnOk result (replies.new ≡ replies.old ++ reply_words (answers_next record_rules self.old.names (machine_of self.old.machine) (Answer.Done (given_value text.now)) (number_of self.old.names name.now)).reply ++ 10 ∷ []) }
+        ensures machine { OnOk result (machine_of self.new.machine
+            ≡ (answers_next record_rules self.old.names (machine_of self.old.machine) (Answer.Done (given_value text.now))
+            (number_of self.old.names name.now)).machine) }
+        ensures said { OnOk result (replies.new
+            ≡ replies.old
+            ++ reply_words (answers_next record_rules self.old.names (machine_of self.old.machine)
+            (Answer.Done (given_value text.now)) (number_of self.old.names name.now)).reply
+            ++ 10 ∷ []) }
         ensures kept { OnErr result (replies.new ≡ replies.old) }
     {
         self.queue(name, Answer::Done(given_value(text)), replies)
@@ -180,8 +211,14 @@ impl Replay {
     ) -> Result<(), AllocError>
         requires { length replies.old + 256 ≤ 4096 }
         ensures names { self.new.names ≡ self.old.names }
-        ensures machine { OnOk result (machine_of self.new.machine ≡ (were_completed record_rules self.old.names (machine_of self.old.machine) wait finished (number_of self.old.names name.now)).machine) }
-        ensures said { OnOk result (replies.new ≡ replies.old ++ reply_words (were_completed record_rules self.old.names (machine_of self.old.machine) wait finished (number_of self.old.names name.now)).reply ++ 10 ∷ []) }
+        ensures machine { OnOk result (machine_of self.new.machine
+            ≡ (were_completed record_rules self.old.names (machine_of self.old.machine) wait finished
+            (number_of self.old.names name.now)).machine) }
+        ensures said { OnOk result (replies.new
+            ≡ replies.old
+            ++ reply_words (were_completed record_rules self.old.names (machine_of self.old.machine) wait finished
+            (number_of self.old.names name.now)).reply
+            ++ 10 ∷ []) }
         ensures kept { OnErr result (replies.new ≡ replies.old) }
     {
         let Some(number) = self.names.find(name) else {
@@ -202,8 +239,14 @@ impl Replay {
     ) -> Result<(), AllocError>
         requires { length replies.old + 256 ≤ 4096 }
         ensures names { self.new.names ≡ self.old.names }
-        ensures machine { OnOk result (machine_of self.new.machine ≡ (were_completed record_rules self.old.names (machine_of self.old.machine) wait (Finished.Done (given_value text.now)) (number_of self.old.names name.now)).machine) }
-        ensures said { OnOk result (replies.new ≡ replies.old ++ reply_words (were_completed record_rules self.old.names (machine_of self.old.machine) wait (Finished.Done (given_value text.now)) (number_of self.old.names name.now)).reply ++ 10 ∷ []) }
+        ensures machine { OnOk result (machine_of self.new.machine
+            ≡ (were_completed record_rules self.old.names (machine_of self.old.machine) wait
+            (Finished.Done (given_value text.now)) (number_of self.old.names name.now)).machine) }
+        ensures said { OnOk result (replies.new
+            ≡ replies.old
+            ++ reply_words (were_completed record_rules self.old.names (machine_of self.old.machine) wait
+            (Finished.Done (given_value text.now)) (number_of self.old.names name.now)).reply
+            ++ 10 ∷ []) }
         ensures kept { OnErr result (replies.new ≡ replies.old) }
     {
         self.complete(name, wait, Finished::Done(given_value(text)), replies)
@@ -214,7 +257,8 @@ impl Replay {
         requires { length replies.old + 256 ≤ 4096 }
         ensures names { self.new.names ≡ self.old.names }
         ensures machine { OnOk result (machine_of self.new.machine ≡ (queued_on (machine_of self.old.machine) list).machine) }
-        ensures said { OnOk result (replies.new ≡ replies.old ++ count_words (queued_on (machine_of self.old.machine) list).count ++ 10 ∷ []) }
+        ensures said { OnOk result (replies.new
+            ≡ replies.old ++ count_words (queued_on (machine_of self.old.machine) list).count ++ 10 ∷ []) }
         ensures kept { OnErr result (replies.new ≡ replies.old) }
     {
         let count = self.machine.call(list)?;
@@ -226,8 +270,11 @@ impl Replay {
     pub(crate) fn scan(&mut self, period: &Period, replies: &mut Replies) -> Result<(), AllocError>
         requires { length replies.old + 256 ≤ 4096 }
         ensures names { self.new.names ≡ self.old.names }
-        ensures machine { OnOk result (machine_of self.new.machine ≡ (scanned record_rules (machine_of self.old.machine) (Period-list period.now)).machine) }
-        ensures said { OnOk result (replies.new ≡ replies.old ++ count_words (scanned record_rules (machine_of self.old.machine) (Period-list period.now)).count ++ 10 ∷ []) }
+        ensures machine { OnOk result (machine_of self.new.machine
+            ≡ (scanned record_rules (machine_of self.old.machine) (Period-list period.now)).machine) }
+        ensures said { OnOk result (replies.new
+            ≡ replies.old
+            ++ count_words (scanned record_rules (machine_of self.old.machine) (Period-list period.now)).count ++ 10 ∷ []) }
         ensures kept { OnErr result (replies.new ≡ replies.old) }
     {
         let count = self.machine.scan(&ListName::Period(*period))?;
@@ -239,8 +286,11 @@ impl Replay {
     pub(crate) fn post(&mut self, name: &[u8], replies: &mut Replies) -> Result<(), AllocError>
         requires { length replies.old + 256 ≤ 4096 }
         ensures names { self.new.names ≡ self.old.names }
-        ensures machine { OnOk result (machine_of self.new.machine ≡ (queued_on (machine_of self.old.machine) (event_list (take 39 name.now))).machine) }
-        ensures said { OnOk result (replies.new ≡ replies.old ++ count_words (queued_on (machine_of self.old.machine) (event_list (take 39 name.now))).count ++ 10 ∷ []) }
+        ensures machine { OnOk result (machine_of self.new.machine
+            ≡ (queued_on (machine_of self.old.machine) (event_list (take 39 name.now))).machine) }
+        ensures said { OnOk result (replies.new
+            ≡ replies.old ++ count_words (queued_on (machine_of self.old.machine) (event_list (take 39 name.now))).count
+            ++ 10 ∷ []) }
         ensures kept { OnErr result (replies.new ≡ replies.old) }
     {
         self.call(event_list(Text::cut(name)), replies)
@@ -250,8 +300,11 @@ impl Replay {
     pub(crate) fn interrupt(&mut self, word: &[u8], replies: &mut Replies) -> Result<(), AllocError>
         requires { length replies.old + 256 ≤ 4096 }
         ensures names { self.new.names ≡ self.old.names }
-        ensures machine { OnOk result (machine_of self.new.machine ≡ (queued_on (machine_of self.old.machine) (interrupt_list word.now)).machine) }
-        ensures said { OnOk result (replies.new ≡ replies.old ++ count_words (queued_on (machine_of self.old.machine) (interrupt_list word.now)).count ++ 10 ∷ []) }
+        ensures machine { OnOk result (machine_of self.new.machine
+            ≡ (queued_on (machine_of self.old.machine) (interrupt_list word.now)).machine) }
+        ensures said { OnOk result (replies.new
+            ≡ replies.old ++ count_words (queued_on (machine_of self.old.machine) (interrupt_list word.now)).count
+            ++ 10 ∷ []) }
         ensures kept { OnErr result (replies.new ≡ replies.old) }
     {
         self.call(interrupt_list(word), replies)
@@ -267,8 +320,16 @@ impl Replay {
     ) -> Result<(), AllocError>
         requires { length replies.old + 256 ≤ 4096 }
         ensures names { self.new.names ≡ self.old.names }
-        ensures machine { OnOk result (machine_of self.new.machine ≡ (were_linked record_rules self.old.names (machine_of self.old.machine) text.now (channel record_rules self.old.names (machine_of self.old.machine).world record_name.now field_name.now)).machine) }
-        ensures said { OnOk result (replies.new ≡ replies.old ++ reply_words (were_linked record_rules self.old.names (machine_of self.old.machine) text.now (channel record_rules self.old.names (machine_of self.old.machine).world record_name.now field_name.now)).reply ++ 10 ∷ []) }
+        ensures machine { OnOk result (machine_of self.new.machine
+            ≡ (were_linked record_rules self.old.names (machine_of self.old.machine) text.now
+            (channel record_rules self.old.names (machine_of self.old.machine).world record_name.now
+            field_name.now)).machine) }
+        ensures said { OnOk result (replies.new
+            ≡ replies.old
+            ++ reply_words (were_linked record_rules self.old.names (machine_of self.old.machine) text.now
+            (channel record_rules self.old.names (machine_of self.old.machine).world record_name.now
+            field_name.now)).reply
+            ++ 10 ∷ []) }
         ensures kept { OnErr result (replies.new ≡ replies.old) }
     {
         let (number, field) = match channel(&self.names, &self.machine, record_name, field_name) {
@@ -297,7 +358,10 @@ impl Replay {
     #[inline(never)]
     pub(crate) fn tally(&self, replies: &mut Replies)
         requires { length replies.old + 256 ≤ 4096 }
-        ensures { replies.new ≡ replies.old ++ tally_words (machine_of self.now.machine).tally (machine_of self.now.machine).scanner.queues.dropped ++ 10 ∷ [] }
+        ensures { replies.new
+            ≡ replies.old
+            ++ tally_words (machine_of self.now.machine).tally (machine_of self.now.machine).scanner.queues.dropped
+            ++ 10 ∷ [] }
     {
         replies.extend(tally_line(self.machine.tally(), self.machine.dropped()).as_slice());
     }
@@ -312,8 +376,16 @@ impl Replay {
     ) -> Result<(), AllocError>
         requires { length replies.old + 256 ≤ 4096 }
         ensures names { self.new.names ≡ self.old.names }
-        ensures machine { OnOk result (machine_of self.new.machine ≡ (were_notified record_rules self.old.names (machine_of self.old.machine) text.now (channel record_rules self.old.names (machine_of self.old.machine).world record_name.now field_name.now)).machine) }
-        ensures said { OnOk result (replies.new ≡ replies.old ++ reply_words (were_notified record_rules self.old.names (machine_of self.old.machine) text.now (channel record_rules self.old.names (machine_of self.old.machine).world record_name.now field_name.now)).reply ++ 10 ∷ []) }
+        ensures machine { OnOk result (machine_of self.new.machine
+            ≡ (were_notified record_rules self.old.names (machine_of self.old.machine) text.now
+            (channel record_rules self.old.names (machine_of self.old.machine).world record_name.now
+            field_name.now)).machine) }
+        ensures said { OnOk result (replies.new
+            ≡ replies.old
+            ++ reply_words (were_notified record_rules self.old.names (machine_of self.old.machine) text.now
+            (channel record_rules self.old.names (machine_of self.old.machine).world record_name.now
+            field_name.now)).reply
+            ++ 10 ∷ []) }
         ensures kept { OnErr result (replies.new ≡ replies.old) }
     {
         let (number, field) = match channel(&self.names, &self.machine, record_name, field_name) {
@@ -333,7 +405,8 @@ impl Replay {
         requires { length replies.old + 256 ≤ 4096 }
         ensures names { self.new.names ≡ self.old.names }
         ensures machine { OnOk result (machine_of self.new.machine ≡ (given_up record_rules (machine_of self.old.machine) number).machine) }
-        ensures said { OnOk result (replies.new ≡ replies.old ++ reply_words (given_up record_rules (machine_of self.old.machine) number).reply ++ 10 ∷ []) }
+        ensures said { OnOk result (replies.new
+            ≡ replies.old ++ reply_words (given_up record_rules (machine_of self.old.machine) number).reply ++ 10 ∷ []) }
         ensures kept { OnErr result (replies.new ≡ replies.old) }
     {
         say_reply(replies, &self.machine.cancel(NotifyId::new(number))?);

@@ -21,8 +21,10 @@ fn run_whole<S: Session + Drop, R: Read + Drop, W: Write>(
     script: R,
     out: &mut W,
 ) -> Result<(), ScriptFault>
-    ensures ok { OnOk result (IfSome (R.remaining script) (λ text. Appends (W.contents out.old) (W.contents out.new) (S.transcript session (lines_of text)))) }
-    ensures err { IfErr result (λ fault. IfSome (R.remaining script) (λ text. StopsScript fault (W.contents out.old) (S.transcript session (lines_of text)) (W.contents out.new))) }
+    ensures ok { OnOk result (IfSome (R.remaining script) (λ text. Appends (W.contents out.old) (W.contents out.new)
+        (S.transcript session (lines_of text)))) }
+    ensures err { IfErr result (λ fault. IfSome (R.remaining script)
+        (λ text. StopsScript fault (W.contents out.old) (S.transcript session (lines_of text)) (W.contents out.new))) }
 {
     run_script(alloc, &mut session, script, out)
 }
@@ -45,7 +47,9 @@ pub fn run<R: Read + Drop, W: Write>(
     out: &mut W,
 ) -> Result<(), RunFault>
     // The transcript of the database text with its macros and of the script's contents is written.
-    ensures ok { OnOk result (IsDatabase macros.now db.now × IfSome (R.remaining script) (λ text. Appends (W.contents out.old) (W.contents out.new) (transcript_of macros.now db.now text))) }
+    ensures ok { OnOk result (IsDatabase macros.now db.now
+        × IfSome (R.remaining script) (λ text. Appends (W.contents out.old) (W.contents out.new)
+        (transcript_of macros.now db.now text))) }
     ensures err { IfErr result (λ fault. StopsWith fault macros.now db.now (R.remaining script) (W.contents out.old) (W.contents out.new)) }
 {
     let Database { names, records } = load(alloc, db, macros)?;

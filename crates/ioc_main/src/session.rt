@@ -62,7 +62,9 @@ pub trait Session {
     fn answer(&mut self, line: &[u8], said: &mut PendingOutput) -> Result<(), AllocError>
         requires room { length said.old.replies + 256 ≤ 4096 }
         requires none { said.old.more.items ≡ [] }
-        ensures ok { OnOk result ((lines : List (List ℕ)) → still said.old.replies (transcript self.old) (line.now ∷ lines) ≡ still (said.new.replies ++ said.new.more.items) (transcript self.new) lines) }
+        ensures ok { OnOk result ((lines : List (List ℕ))
+            → still said.old.replies (transcript self.old) (line.now ∷ lines)
+            ≡ still (said.new.replies ++ said.new.more.items) (transcript self.new) lines) }
         ensures err { OnErr result (Stands said.old.replies said.new.replies) };
 
     ghost no_lines: { (s : Self) → transcript s [] ≡ [] };

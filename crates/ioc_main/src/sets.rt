@@ -82,7 +82,8 @@ fn add_parts(
 ) -> Result<(), AllocError>
     requires all { length numbers.now ≡ length map.now.records.items }
     requires follow { AreFollowers numbers.now next.now }
-    ensures { OnOk result (line.new.items ≡ line.old.items ++ parts_words record_rules (world_of map.now) numbers.now (all_below (length numbers.now))) }
+    ensures { OnOk result (line.new.items
+        ≡ line.old.items ++ parts_words record_rules (world_of map.now) numbers.now (all_below (length numbers.now))) }
 {
     let mut number = 0;
     while number < numbers.len() {

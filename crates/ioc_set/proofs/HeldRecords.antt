@@ -33,7 +33,7 @@ use Rattle.ioc_set_store.specs.Recounting.{own_waiting, together, AreLive, Waits
 use Rattle.ioc_set.specs.Sound.{IsSound, CountsAddUp}
 use Rattle.ioc_set.proofs.Calm.{none_in, get-insert, shut}
 use Rattle.ioc_set_store.proofs.Entries.{none_some}
-use Rattle.ioc_set_store.proofs.Counting.{lives, one_if}
+use Rattle.ioc_events.proofs.Counting.{lives, one_if}
 use Rattle.ioc_set_store.proofs.Fewer.{fewer}
 use Rattle.ioc_set_store.proofs.Gathered.{passes-there}
 

@@ -22,7 +22,7 @@ use Rattle.ioc_set.specs.Linking.{AreHeld, MayBeOne}
 use Rattle.ioc_set_store.specs.Recounting.{together, AreLive, WaitsGoAlong}
 use Rattle.ioc_set.proofs.Calm.{get-insert}
 use Rattle.ioc_set_store.proofs.Entries.{none_some}
-use Rattle.ioc_set_store.proofs.Counting.{lives, how_many-append}
+use Rattle.ioc_events.proofs.Counting.{lives, how_many-append}
 use Rattle.ioc_set_store.proofs.Counted.{live-some, some-live}
 use Rattle.ioc_set_store.proofs.Fewer.{fewer}
 use Rattle.ioc_set_store.proofs.Gathered.{passes-there, together-count, dead}

@@ -22,7 +22,7 @@ use Rattle.ioc_set.specs.Sound.{IsSound}
 use Rattle.ioc_set_store.specs.Recounting.{AreLive}
 use Rattle.ioc_set.proofs.Joining.{stay_may}
 use Rattle.ioc_set.proofs.Linked.{stay_within}
-use Rattle.ioc_set_store.proofs.Counting.{few-one}
+use Rattle.ioc_events.proofs.Counting.{few-one}
 use Rattle.ioc_set.proofs.Calm.{get-insert, none_in}
 use Rattle.ioc_set_store.proofs.Entries.{none_some}
 

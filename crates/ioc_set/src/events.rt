@@ -34,11 +34,13 @@ fn make_place<K: RecordKind, D>(
 ) -> Result<(), AllocError>
     requires like { RecordsAreLikeTheirBase K.rules members.old }
     requires fits { length puts.old.waiting ≤ 256 }
-    ensures held { OnOk result (held_by members.new puts.new base_tally.new tally.now history.new.items ≡ with_place (held_by members.old puts.old base_tally.old tally.now history.old.items)) }
+    ensures held { OnOk result (held_by members.new puts.new base_tally.new tally.now history.new.items
+        ≡ with_place (held_by members.old puts.old base_tally.old tally.now history.old.items)) }
     ensures puts { OnOk result (puts.new.has_room ≡ puts.old.has_room) }
     ensures like { RecordsAreLikeTheirBase K.rules members.new }
     ensures room { OnOk result (vec_len history.new < vec_capacity history.new) }
-    ensures err { OnErr result ((members.new ≡ members.old) × (puts.new ≡ puts.old) × (base_tally.new ≡ base_tally.old) × (history.new.items ≡ history.old.items)) }
+    ensures err { OnErr result ((members.new ≡ members.old) × (puts.new ≡ puts.old) × (base_tally.new ≡ base_tally.old)
+        × (history.new.items ≡ history.old.items)) }
 {
     history.reserve(1)?;
     if history.len() == 64 {
@@ -58,7 +60,8 @@ impl<K: RecordKind + Drop, D: Device> LockSet<K, D> {
         event: &SetEvent,
         moment: u64,
     ) -> Result<SetReply, AllocError>
-        ensures ok { IfOk result (λ told. Does K.rules D.gives self.old moment (event_by event.now) (told_by told) self.new (world_of place.new.store)) }
+        ensures ok { IfOk result (λ told. Does K.rules D.gives self.old moment (event_by event.now) (told_by told) self.new
+            (world_of place.new.store)) }
         ensures err { OnErr result (self.new ≡ self.old) }
     {
         events_leave_sound::<K, D>();
@@ -82,7 +85,7 @@ impl<K: RecordKind + Drop, D: Device> LockSet<K, D> {
             &mut self.tally,
             alloc,
         );
-        let came_to = kept.told();
+        let came_to = kept.reply();
         self.history.push_reserved(kept);
         Ok(came_to)
     }
@@ -100,7 +103,8 @@ impl<K: RecordKind + Drop, D: Device> LockSet<K, D> {
         number: RecordNo,
         moment: u64,
     ) -> Result<SetReply, AllocError>
-        ensures ok { IfOk result (λ told. Does K.rules D.gives self.old moment (Process number) (told_by told) self.new (world_of place.new.store)) }
+        ensures ok { IfOk result (λ told. Does K.rules D.gives self.old moment (Process number) (told_by told) self.new
+            (world_of place.new.store)) }
         ensures err { OnErr result (self.new ≡ self.old) }
     {
         self.do_event(place, alloc, &SetEvent::Process(number), moment)
@@ -125,7 +129,8 @@ impl<K: RecordKind + Drop, D: Device> LockSet<K, D> {
         given: Input,
         moment: u64,
     ) -> Result<SetReply, AllocError>
-        ensures ok { IfOk result (λ told. Does K.rules D.gives self.old moment (Put number field given) (told_by told) self.new (world_of place.new.store)) }
+        ensures ok { IfOk result (λ told. Does K.rules D.gives self.old moment (Put number field given) (told_by told) self.new
+            (world_of place.new.store)) }
         ensures err { OnErr result (self.new ≡ self.old) }
     {
         self.do_event(place, alloc, &SetEvent::Put(number, field, given), moment)
@@ -148,7 +153,8 @@ impl<K: RecordKind + Drop, D: Device> LockSet<K, D> {
         finished: Finished,
         moment: u64,
     ) -> Result<SetReply, AllocError>
-        ensures ok { IfOk result (λ told. Does K.rules D.gives self.old moment (Complete number wait finished) (told_by told) self.new (world_of place.new.store)) }
+        ensures ok { IfOk result (λ told. Does K.rules D.gives self.old moment (Complete number wait finished) (told_by told)
+            self.new (world_of place.new.store)) }
         ensures err { OnErr result (self.new ≡ self.old) }
     {
         self.do_event(
@@ -180,7 +186,8 @@ impl<K: RecordKind + Drop, D: Device> LockSet<K, D> {
         given: Input,
         moment: u64,
     ) -> Result<SetReply, AllocError>
-        ensures ok { IfOk result (λ told. Does K.rules D.gives self.old moment (Notify number notification field given) (told_by told) self.new (world_of place.new.store)) }
+        ensures ok { IfOk result (λ told. Does K.rules D.gives self.old moment (Notify number notification field given)
+            (told_by told) self.new (world_of place.new.store)) }
         ensures err { OnErr result (self.new ≡ self.old) }
     {
         let event = SetEvent::Notify(number, notification, field, given);
@@ -201,7 +208,8 @@ impl<K: RecordKind + Drop, D: Device> LockSet<K, D> {
         notification: NotifyId,
         moment: u64,
     ) -> Result<SetReply, AllocError>
-        ensures ok { IfOk result (λ told. Does K.rules D.gives self.old moment (Cancel notification) (told_by told) self.new (world_of place.new.store)) }
+        ensures ok { IfOk result (λ told. Does K.rules D.gives self.old moment (Cancel notification) (told_by told) self.new
+            (world_of place.new.store)) }
         ensures err { OnErr result (self.new ≡ self.old) }
     {
         self.do_event(place, alloc, &SetEvent::Cancel(notification), moment)

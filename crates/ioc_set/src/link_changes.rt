@@ -50,7 +50,8 @@ impl<K: RecordKind + Drop, D: Drop> LockSet<K, D> {
         requires base_link { base_link ≡ link }
         requires field { HasLink K.rules self.old.records number field }
         requires within { (t : ℕ) → Contains (named_by (use_of link)) t → IsSome (map.get self.old.records t) }
-        ensures apart { IfOk result (λ rest. FallsApart self.old (relinked K.rules self.old.records number field link) number self.new rest) }
+        ensures apart { IfOk result (λ rest. FallsApart self.old (relinked K.rules self.old.records number field link) number self.new
+            rest) }
         ensures fewer { OnOk result (map.len self.new.records ≤ map.len self.old.records) }
         ensures err { OnErr result (self.new ≡ folded self.old) }
     {
@@ -89,8 +90,8 @@ impl<K: RecordKind + Drop, D: Drop> LockSet<K, D> {
     /// empty then. Each record stays part of its put with notification, the puts that wait in the
     /// other set come behind those that wait here, and the parts of each are recounted, for which
     /// memory was reserved before too, if any is live. No put may wait in both, and the live ones
-    /// must fit into one set. Nothing is sent yet: see [`LockSet::rescan`]. `link` and `base_link` must
-    /// be equal.
+    /// must fit into one set. Nothing is sent yet: see [`LockSet::rescan`]. `link` and `base_link`
+    /// must be equal.
     pub fn unite(
         &mut self,
         alloc: Global,
@@ -152,7 +153,8 @@ impl<K: RecordKind + Drop, D: Device> LockSet<K, D> {
         moment: u64,
     )
         requires there { Has (now_of self.old) number }
-        ensures left { with_kept self.new.records self.old.live self.old.waiting (world_of place.new.store) ≡ rewired K.rules before (begun_at moment (now_of self.old)) number }
+        ensures left { with_kept self.new.records self.old.live self.old.waiting (world_of place.new.store)
+            ≡ rewired K.rules before (begun_at moment (now_of self.old)) number }
         ensures held { self.new ≡ anew self.new.records self.old.devices self.old.live self.old.waiting self.old.tally }
     {
         held_records_are_sound::<K, D>();
@@ -171,7 +173,8 @@ impl<K: RecordKind + Drop, D: Device> LockSet<K, D> {
     /// Changes a link of a record, which leads nowhere then, or to a record of this set. The set
     /// keeps the part of the record and the counts. The records that no link joins to it any more
     /// are returned as a set of their own, which may be empty. Live puts with notification stay
-    /// with their records, as described at [`LockSet::split`]. `link` and `base_link` must be equal.
+    /// with their records, as described at [`LockSet::split`]. `link` and `base_link` must be
+    /// equal.
     ///
     /// # Errors
     ///
@@ -190,8 +193,11 @@ impl<K: RecordKind + Drop, D: Device> LockSet<K, D> {
         requires base_link { base_link ≡ link }
         requires field { HasLink K.rules self.old.records number field }
         requires within { (t : ℕ) → Contains (named_by (use_of link)) t → IsSome (map.get self.old.records t) }
-        ensures apart { IfOk result (λ rest. FallsApart self.old (link_change_of K.rules self.old moment number field link).records number self.new rest) }
-        ensures left { OnOk result (with_kept (link_change_of K.rules self.old moment number field link).records self.old.live self.old.waiting (world_of place.new.store) ≡ link_change_of K.rules self.old moment number field link) }
+        ensures apart { IfOk result (λ rest. FallsApart self.old (link_change_of K.rules self.old moment number field link).records
+            number self.new rest) }
+        ensures left { OnOk result (with_kept (link_change_of K.rules self.old moment number field link).records self.old.live
+            self.old.waiting (world_of place.new.store)
+            ≡ link_change_of K.rules self.old moment number field link) }
         ensures err { OnErr result (self.new ≡ folded self.old) }
     {
         let before = self.device_text(number);
@@ -205,8 +211,8 @@ impl<K: RecordKind + Drop, D: Device> LockSet<K, D> {
     /// set that only this link had joined to that record are returned as a set of their own, which
     /// may be empty. Live puts with notification stay with their records, as described at
     /// [`LockSet::split`] and [`LockSet::unite`]; no put may wait in both sets, and the live ones
-    /// must fit into one. All memory is allocated before anything changes. `link` and `base_link` must
-    /// be equal.
+    /// must fit into one. All memory is allocated before anything changes. `link` and `base_link`
+    /// must be equal.
     ///
     /// # Errors
     ///
@@ -228,7 +234,8 @@ impl<K: RecordKind + Drop, D: Device> LockSet<K, D> {
         requires apart { (q : ℕ) → IsSome (map.get self.old.records q) → map.get other.old.records q ≡ None }
         requires field { HasLink K.rules self.old.records number field }
         requires to { (t : ℕ) × (named_by (use_of link) ≡ t ∷ []) × IsSome (map.get other.old.records t) }
-        ensures led { IfOk result (λ rest. LeadsInto K.rules self.old other.old moment number field link self.new other.new rest (world_of place.new.store)) }
+        ensures led { IfOk result (λ rest. LeadsInto K.rules self.old other.old moment number field link self.new other.new rest
+            (world_of place.new.store)) }
         ensures err { OnErr result ((self.new ≡ folded self.old) × (other.new ≡ other.old)) }
     {
         held_records_are_sound::<K, D>();

@@ -69,7 +69,8 @@ pub fn rescan_on<K: RecordKind + Drop, D: Device>(
     before: Short<MAX_DEVICE_BYTES>,
 )
     requires there { IsSome (get members.old.records number) }
-    ensures left { with_records members.new.records (world_of place.new.store) ≡ rewired K.rules before (begun_at moment (resting members.old.records [] [])) number }
+    ensures left { with_records members.new.records (world_of place.new.store)
+        ≡ rewired K.rules before (begun_at moment (resting members.old.records [] [])) number }
     ensures devices { members.new.devices ≡ members.old.devices }
     ensures base { members.new.base ≡ members.old.base }
 {

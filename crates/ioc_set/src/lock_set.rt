@@ -73,7 +73,8 @@ impl<K: RecordKind, D> Model for LockSet<K, D> {
 // Returns the text of a field of one of these records.
 #[tactic(auto, unfolding(ioc_events::specs::Step::stepped, ioc_events::specs::Step::done_alone, ioc_events::specs::Step::done_there, ioc_store::specs::World::at))]
 fn text_in<K: RecordKind, D>(members: &Members<K, D>, number: RecordNo, field: FieldNo) -> Reply
-    ensures { (answers : Answers) (live : List Live) (waiting : List Waiting) → result ≡ (stepped K.rules answers (resting members.now.records live waiting) (Get number field)).reply }
+    ensures { (answers : Answers) (live : List Live) (waiting : List Waiting)
+        → result ≡ (stepped K.rules answers (resting members.now.records live waiting) (Get number field)).reply }
 {
     if !members.has(number) {
         return Reply::Refused(IocError::NoRecord);
@@ -164,7 +165,8 @@ impl<K: RecordKind, D> LockSet<K, D> {
     pub fn no_call(&self, event: &Event) -> Option<IocError>
         requires there { (n : ℕ) → Contains (names event.now) n → Has (now_of self.now) n }
         ensures none { result ≡ no_call K.rules (now_of self.now) event.now }
-        ensures refused { IfSome result (λ e. (answers : Answers) → stepped K.rules answers (now_of self.now) event.now ≡ refused (now_of self.now) e) }
+        ensures refused { IfSome result (λ e. (answers : Answers)
+            → stepped K.rules answers (now_of self.now) event.now ≡ refused (now_of self.now) e) }
     {
         match event {
             Event::Get(number, field) => {

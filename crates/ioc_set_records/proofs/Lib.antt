@@ -18,7 +18,7 @@ mod Merged
 mod Moves
 mod OnePart
 mod Ordered
-mod Parts
+mod SetParts
 mod Relinking
 mod Seats
 mod Seen

@@ -20,8 +20,8 @@ impl<K: RecordKind + Drop, D: Drop> Members<K, D> {
     /// Sets a link of a record to nowhere, or to a record of this set. The set keeps the part of
     /// the record. The records that no link joins to it any more are returned with their devices:
     /// they are one part too, or none. Each record equals its base before and after, so the base
-    /// gets an equal link, `base_link`. The cost is nearly proportional to the number of records and
-    /// links.
+    /// gets an equal link, `base_link`. The cost is nearly proportional to the number of records
+    /// and links.
     ///
     /// # Errors
     ///

@@ -13,7 +13,7 @@ use Rattle.ioc_store.specs.Worlds.{ones_few}
 use Rattle.ioc_events.specs.Holding.{how_many, one_if_has, holders, HoldersCounted}
 use Rattle.ioc_set_store.specs.Resting.{resting}
 use Rattle.ioc_set_store.specs.Recounting.{begun_each, gained_by, gained_each, gained_if, lost_each, AreBegun, AreLive}
-use Rattle.ioc_set_store.proofs.Counting.{lives, one_if, Counts, counts-gained, counts-lost, counts-same, few-one, live-lives, begun-lives, begun-holders, of_each, itself, another}
+use Rattle.ioc_events.proofs.Counting.{lives, one_if, Counts, counts-gained, counts-lost, counts-same, few-one, live-lives, begun-lives, begun-holders, of_each, itself, another}
 use Rattle.ioc_set_store.proofs.Entries.{get-at}
 
 -- Lemmas about how often one is live.

@@ -2,7 +2,7 @@
 use Rattle.std.proofs.Common.{◌≡◌, ℕ, ◌+◌, ◌≤◌, Bool, true, false, cond, eqb, List, [], ◌∷◌, length, refl, sym, ap, subst, arith}
 use Rattle.std.proofs.lemmas.Bool.{eqb-true, eq-eqb}
 use Rattle.ioc_events.specs.Holding.{how_many}
-use Rattle.ioc_set_store.proofs.Counting.{one_if}
+use Rattle.ioc_events.proofs.Counting.{one_if}
 
 module _ {B : Type 0} (g : B → ℕ) (m : ℕ) where
   -- The list without the first item with this number.

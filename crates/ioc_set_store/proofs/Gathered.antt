@@ -15,7 +15,7 @@ use Rattle.ioc_events.specs.Holding.{how_many, HoldersCounted}
 use Rattle.ioc_set_store.specs.Resting.{resting}
 use Rattle.ioc_set_store.specs.Puts.{Puts, puts_of, live_of, waiting_of, AreNone}
 use Rattle.ioc_set_store.specs.Recounting.{begun_each, own_waiting, together, AreLive}
-use Rattle.ioc_set_store.proofs.Counting.{lives, how_many-append}
+use Rattle.ioc_events.proofs.Counting.{lives, how_many-append}
 use Rattle.ioc_set_store.proofs.Counted.{recounted, gained-none, none-begun, each-begun, live-some, some-live, begun-keeps, begun-has, begun-only}
 use Rattle.ioc_set_store.proofs.Fewer.{fewer}
 

@@ -2,7 +2,6 @@ mod Giving
 pub mod AttachedLaws
 pub mod Entries
 mod Recounts
-pub mod Counting
 pub mod Counted
 pub mod Fewer
 pub mod Gathered

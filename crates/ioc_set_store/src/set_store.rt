@@ -1,7 +1,6 @@
 //! The records of a lock set as the store of an event.
-ghost use Rattle.std.specs.Prelude.{◌≡◌, ◌≤◌, [], IfOk};
+ghost use Rattle.std.specs.Prelude.{◌≡◌};
 ghost use Rattle.std.specs.FinMap.{len};
-ghost use Rattle.std.specs.Vec.{vec_capacity};
 
 use crate::attached::Attached;
 use ioc_device::{Answer, Ask, Device};
@@ -9,8 +8,7 @@ use ioc_names::RecordNo;
 use ioc_notify::{NotifyId, Waiting};
 use ioc_record::RecordKind;
 use ioc_set_records::{Change, Members};
-use ioc_store::{Call, EventStore, Frame, OutboxItem, Store};
-use std::alloc::{AllocError, Global};
+use ioc_store::{Call, EventStore, OutboxItem, Store};
 
 /// The records of a lock set with their devices, and the state of the event.
 #[derive(Drop)]
@@ -30,20 +28,6 @@ impl<K, D> SetStore<K, D> {
         ensures members { self.new.members ≡ self.old.members }
     {
         self.event.begin(moment);
-    }
-
-    /// Returns an empty list of open frames with room for all records, for the requests of an
-    /// event.
-    ///
-    /// # Errors
-    ///
-    /// [`AllocError`] if allocation fails.
-    pub fn frames(&self, alloc: Global) -> Result<Vec<Frame>, AllocError>
-        ensures empty { IfOk result (λ f. f.items ≡ []) }
-        ensures room { IfOk result (λ f. len (world_of self.now).records ≤ vec_capacity f) }
-    {
-        let frames = Vec::with_capacity(alloc, self.members.len())?;
-        Ok(frames)
     }
 }
 

@@ -190,7 +190,8 @@ impl Machine {
 
     // Puts the value of a text into a field, without taking what the event sends.
     fn store(&mut self, number: RecordNo, field: FieldNo, text: &[u8]) -> Effect
-        ensures machine { machine_of self.new ≡ (stepped_on record_rules (machine_of self.old) (Put number field (input_of text.now))).machine }
+        ensures machine { machine_of self.new
+            ≡ (stepped_on record_rules (machine_of self.old) (Put number field (input_of text.now))).machine }
         ensures reply { reply_of result ≡ (stepped_on record_rules (machine_of self.old) (Put number field (input_of text.now))).reply }
     {
         event_leaves_settled();
@@ -243,7 +244,8 @@ impl Machine {
         field: FieldNo,
         given: Input,
     ) -> Reply
-        ensures machine { machine_of self.new ≡ (stepped_on record_rules (machine_of self.old) (Notify number notification field given)).machine }
+        ensures machine { machine_of self.new
+            ≡ (stepped_on record_rules (machine_of self.old) (Notify number notification field given)).machine }
         ensures reply { result ≡ (stepped_on record_rules (machine_of self.old) (Notify number notification field given)).reply }
     {
         event_leaves_settled();
@@ -332,8 +334,10 @@ impl Machine {
         field: FieldNo,
         text: &[u8],
     ) -> Result<Effect, AllocError>
-        ensures machine { OnOk result (machine_of self.new ≡ (done record_rules (machine_of self.old) (Put number field (input_of text.now))).machine) }
-        ensures reply { IfOk result (λ effect. reply_of effect ≡ (done record_rules (machine_of self.old) (Put number field (input_of text.now))).reply) }
+        ensures machine { OnOk result (machine_of self.new
+            ≡ (done record_rules (machine_of self.old) (Put number field (input_of text.now))).machine) }
+        ensures reply { IfOk result (λ effect. reply_of effect
+            ≡ (done record_rules (machine_of self.old) (Put number field (input_of text.now))).reply) }
     {
         let effect = self.store(number, field, text);
         self.send()?;
@@ -351,7 +355,8 @@ impl Machine {
         wait: u64,
         finished: Finished,
     ) -> Result<Reply, AllocError>
-        ensures machine { OnOk result (machine_of self.new ≡ (done record_rules (machine_of self.old) (Complete number wait finished)).machine) }
+        ensures machine { OnOk result (machine_of self.new
+            ≡ (done record_rules (machine_of self.old) (Complete number wait finished)).machine) }
         ensures reply { IfOk result (λ reply. reply ≡ (done record_rules (machine_of self.old) (Complete number wait finished)).reply) }
     {
         let reply = self.finish(number, wait, finished);
@@ -373,8 +378,14 @@ impl Machine {
         field: FieldNo,
         link: &Link,
     ) -> Result<Reply, AllocError>
-        ensures machine { OnOk result (machine_of self.new ≡ (done record_rules (machine_of self.old) (Link_event number field (field_of_link record_rules names.now (machine_of self.old).owner (machine_of self.old).world number link.now))).machine) }
-        ensures reply { IfOk result (λ reply. reply ≡ (done record_rules (machine_of self.old) (Link_event number field (field_of_link record_rules names.now (machine_of self.old).owner (machine_of self.old).world number link.now))).reply) }
+        ensures machine { OnOk result (machine_of self.new
+            ≡ (done record_rules (machine_of self.old)
+            (Link_event number field (field_of_link record_rules names.now (machine_of self.old).owner
+            (machine_of self.old).world number link.now))).machine) }
+        ensures reply { IfOk result (λ reply. reply
+            ≡ (done record_rules (machine_of self.old)
+            (Link_event number field (field_of_link record_rules names.now (machine_of self.old).owner
+            (machine_of self.old).world number link.now))).reply) }
     {
         let lead = lead_among(names, &self.map, &self.owners, number, link);
         let kept = LinkBox::new(self.alloc, LinkField { link: *link, lead })?;

@@ -43,7 +43,8 @@ impl Machine {
     ///
     /// [`AllocError`] if allocation fails.
     pub fn queue(&mut self, number: RecordNo, answer: Answer) -> Result<Reply, AllocError>
-        ensures { IfOk result (λ reply. record { machine = machine_of self.new; reply = reply } ≡ queued_at (machine_of self.old) number answer ((machine_of self.old).queued number)) }
+        ensures { IfOk result (λ reply. record { machine = machine_of self.new; reply = reply }
+            ≡ queued_at (machine_of self.old) number answer ((machine_of self.old).queued number)) }
     {
         let place = number.index();
         if place >= self.map.devices.len() {
@@ -96,7 +97,8 @@ impl Machine {
     ///
     /// [`AllocError`] if allocation fails.
     pub fn scan(&mut self, list: &ListName) -> Result<u64, AllocError>
-        ensures { IfOk result (λ count. record { machine = machine_of self.new; count = count } ≡ scanned record_rules (machine_of self.old) list.now) }
+        ensures { IfOk result (λ count. record { machine = machine_of self.new; count = count }
+            ≡ scanned record_rules (machine_of self.old) list.now) }
     {
         let mut listed = Vec::new(self.alloc);
         self.scanner.walk(list, &mut listed)?;

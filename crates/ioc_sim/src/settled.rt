@@ -14,7 +14,8 @@ use rec_types::Record;
 /// After an event no link leaves the database, and a record is active exactly if its completion is
 /// pending, if that was so before.
 pub fn event_leaves_settled()
-    ensures { (answers : Answers) (w : World Record) (event : Event) → IsSettled record_rules w → IsSettled record_rules (stepped record_rules answers w event).world }
+    ensures { (answers : Answers) (w : World Record) (event : Event) → IsSettled record_rules w
+        → IsSettled record_rules (stepped record_rules answers w event).world }
 {
     events_leave_settled::<Record>();
     rules_are_steps::<Record>();
@@ -22,7 +23,8 @@ pub fn event_leaves_settled()
 
 /// An event leaves the number of records unchanged.
 pub fn event_keeps_count()
-    ensures { (answers : Answers) (w : World Record) (event : Event) → IsClosed record_rules w → len (stepped record_rules answers w event).world.records ≡ len w.records }
+    ensures { (answers : Answers) (w : World Record) (event : Event) → IsClosed record_rules w
+        → len (stepped record_rules answers w event).world.records ≡ len w.records }
 {
     events_keep_records::<Record>();
     rules_are_steps::<Record>();

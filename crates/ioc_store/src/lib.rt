@@ -10,7 +10,6 @@ pub mod one_map;
 pub mod outbox;
 pub mod scan_change;
 pub mod store;
-pub mod unwired;
 
 pub use call::Call;
 pub use event_store::EventStore;
@@ -19,4 +18,3 @@ pub use one_map::OneMap;
 pub use outbox::OutboxItem;
 pub use scan_change::ScanChange;
 pub use store::Store;
-pub use unwired::Unwired;

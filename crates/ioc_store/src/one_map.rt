@@ -165,7 +165,7 @@ impl<K: RecordKind, D: Device> Store for OneMap<K, D> {
     }
 
     fn count_dropped(&mut self) {
-        self.event.outbox.remove_holder();
+        self.event.outbox.count_dropped();
     }
 
     #[tactic(auto, unfolding(crate::specs::World::taken_on))]

@@ -13,7 +13,7 @@ use std::alloc::{AllocError, Global};
 pub enum OutboxItem {
     /// The request of a record that was marked for reprocessing.
     Once(RecordNo),
-    /// The event of this name is posted.
+    /// Posts the event with this name.
     Post(Text),
     /// The record leaves its scan list and joins the one that its fields name now.
     Change(ScanChange),
@@ -69,7 +69,7 @@ impl Outbox {
         if self.items.len() < 256 {
             self.items.push_reserved(item);
         } else {
-            self.remove_holder();
+            self.count_dropped();
         }
     }
 

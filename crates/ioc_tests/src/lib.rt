@@ -1,7 +1,6 @@
-//! Tests of the crates below processing (`lower`), and tests across crates: whole runs in memory,
-//! the directory of lock sets, with sets that are lists of numbers, and the engine for threads,
-//! from a database text to its end. They are in one crate, so that their dependencies are read once
-//! for all and none is proved twice.
+//! Tests that cross the crates: whole runs of databases and scripts over memory, the directory of
+//! lock sets, with sets that are lists of numbers, and the engine for threads, from a database text
+//! to its end.
 #![tactic(auto)]
 
 #[cfg(test)]
@@ -28,8 +27,6 @@ mod loads;
 mod lock_sets;
 #[cfg(test)]
 mod long;
-#[cfg(test)]
-mod lower;
 #[cfg(test)]
 mod macros;
 #[cfg(test)]

@@ -68,11 +68,14 @@ pub fn deal_all<K: RecordKind, D>(
     requires table { keeper.old.table_id ≡ cell.now.table.shared.table_id }
     requires holder { IsHolder (cell_view keeper.old) }
     requires there { Has notifications_key (cell_view keeper.old).owns }
-    requires covers { (i : ℕ) (d : SetState K D) → i < length sets.now → Cover (cell_view keeper.old).owns (now_of (slice_index_or sets.now i d)) }
+    requires covers { (i : ℕ) (d : SetState K D) → i < length sets.now
+        → Cover (cell_view keeper.old).owns (now_of (slice_index_or sets.now i d)) }
     requires apart { AllPairs ShareNone sets.now }
     requires beside { length passes.old ≡ length sets.now }
     ensures keeper { (keeper.new.table_id ≡ keeper.old.table_id) × (cell_view keeper.new ≡ holder (cell_view keeper.old).seen puts_key) }
-    ensures dealt { (i : ℕ) (d : SetState K D) (e : Slot) → i < length sets.now → IsDealt keeper.old.table_id (cell_view keeper.old).seen (slice_index_or sets.now i d) (slice_index_or passes.new i e) }
+    ensures dealt { (i : ℕ) (d : SetState K D) (e : Slot) → i < length sets.now
+        → IsDealt keeper.old.table_id (cell_view keeper.old).seen (slice_index_or sets.now i d)
+        (slice_index_or passes.new i e) }
 {
     for i in 0..sets.len() {
         let own = give_records::<Brand, K, D>(cell, keeper, &sets[i]);

@@ -62,7 +62,8 @@ pub fn give_up<K: RecordKind + Drop, B: EngineName<K>, D: Device, R: Wait>(
     requires beside { length passes.old ≡ length sets.old }
     requires held { EachIsHeldBy K.rules B.base B.table sets.old passes.old }
     requires have { HaveAll K.rules B.base number (cell_view keeper.old).seen sets.old }
-    ensures gave_up { IfOk result (λ _. GaveUp K.rules B.base B.table moment number desk.old sets.old (cell_view keeper.old) desk.new sets.new passes.new (cell_view keeper.new)) }
+    ensures gave_up { IfOk result (λ _. GaveUp K.rules B.base B.table moment number desk.old sets.old (cell_view keeper.old)
+        desk.new sets.new passes.new (cell_view keeper.new)) }
     ensures table { keeper.new.table_id ≡ B.table }
     ensures receipt { IfOk result (λ receipt. receipt ≡ desk.new.seen) }
     ensures refused { IfErr result IsNoPlace }
@@ -113,8 +114,11 @@ pub fn give_up_all<K: RecordKind + Drop, B: EngineName<K>, D: Device, R: Wait>(
     requires held { EachIsHeldBy K.rules B.base B.table sets.old passes.old }
     requires total { total ≡ holders_of number (map_of K.rules B.base (cell_view keeper.old).seen).live }
     requires some { total ≢ 0 }
-    ensures gave_up { IfOk result (λ given. IfSome given (λ _. GaveUp K.rules B.base B.table moment number desk.old sets.old (cell_view keeper.old) desk.new sets.new passes.new (cell_view keeper.new))) }
-    ensures missing { IfOk result (λ given. IfNone given ((sets.new ≡ sets.old) × (passes.new ≡ passes.old) × (keeper.new ≡ keeper.old) × (desk.new ≡ desk.old) × (AreItsSets number total sets.old → ⊥))) }
+    ensures gave_up { IfOk result (λ given. IfSome given (λ _. GaveUp K.rules B.base B.table moment number desk.old sets.old
+        (cell_view keeper.old) desk.new sets.new passes.new (cell_view keeper.new))) }
+    ensures missing { IfOk result (λ given. IfNone given ((sets.new ≡ sets.old) × (passes.new ≡ passes.old)
+        × (keeper.new ≡ keeper.old) × (desk.new ≡ desk.old) × (AreItsSets number total sets.old
+        → ⊥))) }
     ensures table { keeper.new.table_id ≡ B.table }
     ensures receipt { IfOk result (λ given. IfSome given (λ receipt. receipt ≡ desk.new.seen)) }
     ensures refused { IfErr result IsNoPlace }

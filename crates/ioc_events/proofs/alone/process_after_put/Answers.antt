@@ -38,24 +38,24 @@ returns-then-common-clause-keeps g c =
 pub returns-then-common-clause-given : goal.returns-then-common-clause-given
 returns-then-common-clause-given g c = begins_same c.mark_reprocess.ensures.given
 
-pub tell-requires-clause-there : goal.tell-requires-clause-there
-tell-requires-clause-there g c =
+pub request_present-requires-clause-there : goal.request_present-requires-clause-there
+request_present-requires-clause-there g c =
     let k = g.S.Record.RecordKind.rules in
     let lawful = g.met.S.Record.RecordKind.lawful in
     let w = g.S.Store.world c.args.store.now in
     let s = c.args.number in
     rw c.mark_put.ensures.world ((keeps-changed k lawful w s c.requires.there (with_put_mark true) (λ it. (refl, refl))).has _ c.requires.there)
 
-pub tell-requires-clause-closed : goal.tell-requires-clause-closed
-tell-requires-clause-closed g c =
+pub request_present-requires-clause-closed : goal.request_present-requires-clause-closed
+request_present-requires-clause-closed g c =
     let k = g.S.Record.RecordKind.rules in
     let lawful = g.met.S.Record.RecordKind.lawful in
     let w = g.S.Store.world c.args.store.now in
     let s = c.args.number in
     rw c.mark_put.ensures.world (closed_on k lawful (keeps-changed k lawful w s c.requires.there (with_put_mark true) (λ it. (refl, refl))) c.requires.closed)
 
-pub tell-requires-clause-room : goal.tell-requires-clause-room
-tell-requires-clause-room g c =
+pub request_present-requires-clause-room : goal.request_present-requires-clause-room
+request_present-requires-clause-room g c =
     let k = g.S.Record.RecordKind.rules in
     let lawful = g.met.S.Record.RecordKind.lawful in
     let w = g.S.Store.world c.args.store.now in

@@ -10,8 +10,8 @@ use Rattle.ioc_events.proofs.starting.start.Goals as goal
 pub record-requires : goal.record-requires
 record-requires g c = rw c.take_and_store.ensures.world ((taken-keeps g.S.Record.RecordKind.rules g.met.S.Record.RecordKind.lawful (g.S.Store.world c.args.store.now) c.args.waiting.now c.requires.there).has _ c.requires.there)
 
-pub tell-requires : goal.tell-requires
-tell-requires g c = rw c.take_and_store.ensures.world ((taken-keeps g.S.Record.RecordKind.rules g.met.S.Record.RecordKind.lawful (g.S.Store.world c.args.store.now) c.args.waiting.now c.requires.there).has _ c.requires.there)
+pub release_notification-requires : goal.release_notification-requires
+release_notification-requires g c = rw c.take_and_store.ensures.world ((taken-keeps g.S.Record.RecordKind.rules g.met.S.Record.RecordKind.lawful (g.S.Store.world c.args.store.now) c.args.waiting.now c.requires.there).has _ c.requires.there)
 
 pub mark_put-requires : goal.mark_put-requires
 mark_put-requires g c = rw c.take_and_store.ensures.world ((taken-keeps g.S.Record.RecordKind.rules g.met.S.Record.RecordKind.lawful (g.S.Store.world c.args.store.now) c.args.waiting.now c.requires.there).has _ c.requires.there)
@@ -22,17 +22,17 @@ returns-then-not-processes-clause-started g c = λ answers begins.
     let x = c.args.waiting.now in
     counts-told k g.met.S.Record.RecordKind.lawful answers (g.S.Store.world c.args.store.now) _ x c.args.tally.now
     (rw (← c.take_and_store.ensures.world) (ap (λ r. processes k r x.field) (sym c.record.ensures) ∙ sym c.processes.ensures ∙ c.if-not-processes.true))
-    (rw (← c.take_and_store.ensures.world) c.request_present.ensures.world)
+    (rw (← c.take_and_store.ensures.world) c.release_notification.ensures.world)
 
 pub returns-then-not-processes-clause-keeps : goal.returns-then-not-processes-clause-keeps
 returns-then-not-processes-clause-keeps g c =
     let k = g.S.Record.RecordKind.rules in
     let lawful = g.met.S.Record.RecordKind.lawful in
     let taken = taken-keeps k lawful (g.S.Store.world c.args.store.now) c.args.waiting.now c.requires.there in
-    rw (c.request_present.ensures.world, c.take_and_store.ensures.world) (keeps_on k taken (notified-keeps k lawful _ c.args.waiting.now.target (taken.has _ c.requires.there)))
+    rw (c.release_notification.ensures.world, c.take_and_store.ensures.world) (keeps_on k taken (notified-keeps k lawful _ c.args.waiting.now.target (taken.has _ c.requires.there)))
 
 pub returns-then-not-processes-clause-given : goal.returns-then-not-processes-clause-given
-returns-then-not-processes-clause-given g c = begins_same (c.request_present.ensures.given ∙ c.take_and_store.ensures.given)
+returns-then-not-processes-clause-given g c = begins_same (c.release_notification.ensures.given ∙ c.take_and_store.ensures.given)
 
 pub request_record-outcome-requires-clause-there : goal.request_record-outcome-requires-clause-there
 request_record-outcome-requires-clause-there g c =

@@ -1,4 +1,4 @@
-use Rattle.ioc_history.proofs.Ending.{ends-over, nobody-has}
+use Rattle.ioc_history.proofs.Endings.{ends-over, nobody-has}
 use Rattle.ioc_history.proofs.legal_laws.those_ended_are_over.Goals as goal
 
 pub returns-clause-over : goal.returns-clause-over

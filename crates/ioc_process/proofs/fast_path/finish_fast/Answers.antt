@@ -6,8 +6,8 @@ use Rattle.ioc_store.specs.World.{put, changed}
 use Rattle.ioc_process.proofs.OneLook.{changed_at, changed_on, changed_still, changed_has, rested_quietly}
 use Rattle.ioc_process.proofs.fast_path.finish_fast.Goals as goal
 
-pub rest-requires : goal.rest-requires
-rest-requires g c =
+pub finish_request-requires : goal.finish_request-requires
+finish_request-requires g c =
     let k = g.S.Record.RecordKind.rules in
     let w = g.S.Store.world c.args.store.now in
     let s = c.args.number in

@@ -26,8 +26,8 @@ set_active-requires g c =
     let s = c.args.number in
     rw c.in-Some.ensures.world ((ready-keeps k lawful w s c.requires.there).has _ c.requires.there)
 
-pub rest-requires : goal.rest-requires
-rest-requires g c =
+pub finish_request-requires : goal.finish_request-requires
+finish_request-requires g c =
     let k = g.S.Record.RecordKind.rules in
     let lawful = g.met.S.Record.RecordKind.lawful in
     let w = g.S.Store.world c.args.store.now in

@@ -201,8 +201,8 @@ returns-in-FollowingEach-clause-turns g c =
     let keeps = keeps-active k lawful w s c.requires.stands.source_there false in
     rw c.in-FollowingEach.is (turns_on k keeps (omega (arith, back-idle k lawful w s)) (omega arith) (rw c.set_active-in-FollowingEach.ensures.world at c.follow_each.ensures.turns))
 
-pub rest-requires : goal.rest-requires
-rest-requires g c =
+pub finish_request-requires : goal.finish_request-requires
+finish_request-requires g c =
     rw c.set_active-in-Following.ensures.world ((keeps-active _ g.met.S.Record.RecordKind.lawful (g.S.Store.world c.args.store.now) c.args.frame.source c.requires.stands.source_there true).has _ c.requires.stands.source_there)
 
 pub returns-in-Following-clause-turn : goal.returns-in-Following-clause-turn

@@ -1,7 +1,7 @@
 use Rattle.std.proofs.Common.{List, subst}
 use Rattle.std.specs.List.Sorted.{IsPermutation}
 use Rattle.ioc_set_records.specs.declared.slots.Slot.{Slot}
-use Rattle.ioc_set_records.proofs.Parts.{joined_by}
+use Rattle.ioc_set_records.proofs.SetParts.{joined_by}
 use Rattle.ioc_set_records.proofs.joining.join_slots.Goals as goal
 
 pub returns-clause-permutation : goal.returns-clause-permutation

@@ -5,7 +5,7 @@ use Rattle.ioc_set_records.specs.Edges.{slots_relinked}
 use Rattle.ioc_set_records.specs.Joined.{links_of, IsClosed}
 use Rattle.ioc_set_records.specs.Slots.{records_of}
 use Rattle.ioc_set_records.proofs.DealtLaws.{count_both}
-use Rattle.ioc_set_records.proofs.Parts.{parted_by, whole_by, dealt_few}
+use Rattle.ioc_set_records.proofs.SetParts.{parted_by, whole_by, dealt_few}
 use Rattle.ioc_set_records.proofs.parting.part_slots.Goals as goal
 
 pub parts_with-requires-clause-closed : goal.parts_with-requires-clause-closed

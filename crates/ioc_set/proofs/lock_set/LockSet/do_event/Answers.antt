@@ -10,8 +10,8 @@ use Rattle.ioc_set.specs.Doing.{is_done_on_sets, held_by, with_place, Does}
 use Rattle.ioc_set.proofs.DoneLaws.{same_held, now_kept, alike_after, sound_then, does, set_events_are_done}
 use Rattle.ioc_set.proofs.lock_set.LockSet.do_event.Goals as goal
 
-pub run_on-kept-requires-clause-counted : goal.run_on-kept-requires-clause-counted
-run_on-kept-requires-clause-counted g c =
+pub run_set_event-kept-requires-clause-counted : goal.run_set_event-kept-requires-clause-counted
+run_set_event-kept-requires-clause-counted g c =
     let k = g.K.RecordKind.rules in
     let one = c.self.inside in
     let room = c.in_ok-make_room_for.ensures in

@@ -8,7 +8,7 @@ use Rattle.ioc_set_records.proofs.EdgeLaws.{length-relinked}
 use Rattle.ioc_set_records.proofs.Seats.{there_not}
 use Rattle.std.specs.FinMap.{len}
 use Rattle.ioc_set_records.proofs.Ordered.{len_is}
-use Rattle.ioc_set_records.proofs.Parts.{few_stay, stay_folded, rest_folded}
+use Rattle.ioc_set_records.proofs.SetParts.{few_stay, stay_folded, rest_folded}
 use Rattle.ioc_set_records.proofs.FallsApart.{zs_closed, link_field, stay_rises, rest_rises, shared, devices, own, stay_is_part, rest_is_part}
 use Rattle.ioc_set_records.proofs.Twins.{where_refused, alike_slots, like_itself, fold_up, refolded, fold_len, fold_folded, folded_kept, relinked_folded, base_is_records}
 use Rattle.ioc_set_records.proofs.members.Members.part.Goals as goal

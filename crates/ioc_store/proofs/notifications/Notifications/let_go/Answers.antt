@@ -8,11 +8,11 @@ invariant_of-self c = record {
   room = c.push_reserved.ensures.capacity ∙ c.args.self.now.room;
   wide = c.args.self.now.wide;
   few = few-ended c.args.number c.args.self.now.live.live c.remove_holder.new.self.live c.args.self.now.ended.items c.push_reserved.new.self.items (ap (λ (n : Living). n.live) c.remove_holder.ensures.lost)
-      (sym c.remove_holder.ensures.ended ∙ c.if-lose.true) c.push_reserved.ensures.items c.args.self.now.few;
+      (sym c.remove_holder.ensures.ended ∙ c.if-remove_holder.true) c.push_reserved.ensures.items c.args.self.now.few;
 }
 
-pub invariant_of-self-else-lose : goal.invariant_of-self-else-lose
-invariant_of-self-else-lose c = record {
+pub invariant_of-self-else-remove_holder : goal.invariant_of-self-else-remove_holder
+invariant_of-self-else-remove_holder c = record {
   room = c.args.self.now.room;
   wide = c.args.self.now.wide;
   few = few-left c.args.number c.args.self.now.live.live c.remove_holder.new.self.live c.args.self.now.ended.items (ap (λ (n : Living). n.live) c.remove_holder.ensures.lost) c.args.self.now.few;

@@ -1,0 +1,231 @@
+//! Alarms that are raised, settled and inherited, and alarms of limits.
+use ioc_alarms::*;
+use ioc_links::Mode;
+use ioc_menus::{Severity, Status};
+use std::process::Abort;
+
+const QUIET: Alarms = Alarms {
+    status: Status::NoAlarm,
+    severity: Severity::NoAlarm,
+    new_status: Status::NoAlarm,
+    new_severity: Severity::NoAlarm,
+};
+
+fn alarms(new_status: Status, new_severity: Severity) -> Alarms {
+    Alarms {
+        status: Status::NoAlarm,
+        severity: Severity::NoAlarm,
+        new_status,
+        new_severity,
+    }
+}
+
+static SETTLED: Alarms = Alarms {
+    status: Status::Soft,
+    severity: Severity::Minor,
+    new_status: Status::NoAlarm,
+    new_severity: Severity::NoAlarm,
+};
+
+#[test]
+fn raised_where_graver(rt: HostRuntime) {
+    let mut a = QUIET;
+    a.raise(Status::Soft, Severity::Minor);
+    let first = a;
+    a.raise(Status::Calc, Severity::Minor);
+    let wanted = alarms(Status::Soft, Severity::Minor);
+    let is_graver = [
+        a.takes_effect(Severity::Major),
+        a.takes_effect(Severity::Minor),
+    ];
+    assert!(rt; [first, a] == [wanted; 2]);
+    assert!(rt; is_graver == [true, false]);
+    a.settle();
+    assert!(rt; a == SETTLED);
+}
+
+// A mode and the severity of a record in the alarm HIGH, with the alarm that a record without alarm
+// inherits.
+static INHERITED: [(Mode, Severity, Status, Severity); 16] = [
+    (
+        Mode::Nms,
+        Severity::NoAlarm,
+        Status::NoAlarm,
+        Severity::NoAlarm,
+    ),
+    (
+        Mode::Nms,
+        Severity::Minor,
+        Status::NoAlarm,
+        Severity::NoAlarm,
+    ),
+    (
+        Mode::Nms,
+        Severity::Major,
+        Status::NoAlarm,
+        Severity::NoAlarm,
+    ),
+    (
+        Mode::Nms,
+        Severity::Invalid,
+        Status::NoAlarm,
+        Severity::NoAlarm,
+    ),
+    (
+        Mode::Ms,
+        Severity::NoAlarm,
+        Status::NoAlarm,
+        Severity::NoAlarm,
+    ),
+    (Mode::Ms, Severity::Minor, Status::Link, Severity::Minor),
+    (Mode::Ms, Severity::Major, Status::Link, Severity::Major),
+    (Mode::Ms, Severity::Invalid, Status::Link, Severity::Invalid),
+    (
+        Mode::Msi,
+        Severity::NoAlarm,
+        Status::NoAlarm,
+        Severity::NoAlarm,
+    ),
+    (
+        Mode::Msi,
+        Severity::Minor,
+        Status::NoAlarm,
+        Severity::NoAlarm,
+    ),
+    (
+        Mode::Msi,
+        Severity::Major,
+        Status::NoAlarm,
+        Severity::NoAlarm,
+    ),
+    (
+        Mode::Msi,
+        Severity::Invalid,
+        Status::Link,
+        Severity::Invalid,
+    ),
+    (
+        Mode::Mss,
+        Severity::NoAlarm,
+        Status::NoAlarm,
+        Severity::NoAlarm,
+    ),
+    (Mode::Mss, Severity::Minor, Status::High, Severity::Minor),
+    (Mode::Mss, Severity::Major, Status::High, Severity::Major),
+    (
+        Mode::Mss,
+        Severity::Invalid,
+        Status::High,
+        Severity::Invalid,
+    ),
+];
+
+#[test]
+fn inherited_by_mode(rt: HostRuntime) {
+    for (mode, severity, new_status, new_severity) in &INHERITED {
+        let mut a = QUIET;
+        a.inherit(*mode, Status::High, *severity);
+        assert!(rt; a == alarms(*new_status, *new_severity));
+    }
+}
+
+// A value and LALM before it, with the status that it raises and LALM after it.
+type Reached = (i64, i64, Status, i64);
+
+// Asserts that each value raises the expected status in a record without alarm.
+fn are_reached(rt: &impl Abort, limits: &AlarmLimits<i64>, table: &[Reached]) {
+    for (value, last, status, wanted) in table {
+        let mut a = QUIET;
+        let found = a.limits(*value, *last, limits);
+        assert!(rt; a.new_status == *status && found == *wanted, "at {value}");
+    }
+}
+
+static HIGH_LIMIT: AlarmLimits<i64> = AlarmLimits {
+    hihi: 0,
+    lolo: 0,
+    high: 10,
+    low: 0,
+    hihi_severity: Severity::NoAlarm,
+    lolo_severity: Severity::NoAlarm,
+    high_severity: Severity::Minor,
+    low_severity: Severity::NoAlarm,
+    hysteresis: 2,
+};
+
+// The alarm HIGH ends when the value is below the hysteresis.
+static BELOW: [Reached; 3] = [
+    (10, 0, Status::High, 10),
+    (9, 10, Status::High, 10),
+    (7, 10, Status::NoAlarm, 7),
+];
+
+static LOW_LIMIT: AlarmLimits<i64> = AlarmLimits {
+    hihi: 0,
+    lolo: 0,
+    high: -2_000_000_000,
+    low: 0,
+    hihi_severity: Severity::NoAlarm,
+    lolo_severity: Severity::NoAlarm,
+    high_severity: Severity::Minor,
+    low_severity: Severity::NoAlarm,
+    hysteresis: 2_000_000_000,
+};
+
+// The sums of hysteresis don't wrap.
+static FAR_BELOW: [Reached; 2] = [
+    (-2_000_000_000, 0, Status::High, -2_000_000_000),
+    (-2_147_483_648, -2_000_000_000, Status::High, -2_000_000_000),
+];
+
+static LEAST_LIMIT: AlarmLimits<i64> = AlarmLimits {
+    hihi: 0,
+    lolo: 0,
+    high: i64::MIN,
+    low: 0,
+    hihi_severity: Severity::NoAlarm,
+    lolo_severity: Severity::NoAlarm,
+    high_severity: Severity::Minor,
+    low_severity: Severity::NoAlarm,
+    hysteresis: i64::MAX,
+};
+
+static LEAST: [Reached; 1] = [(i64::MIN, i64::MIN, Status::High, i64::MIN)];
+
+static FOUR_LIMITS: AlarmLimits<i64> = AlarmLimits {
+    hihi: 20,
+    lolo: -20,
+    high: 10,
+    low: -10,
+    hihi_severity: Severity::Major,
+    lolo_severity: Severity::Major,
+    high_severity: Severity::Minor,
+    low_severity: Severity::Minor,
+    hysteresis: 0,
+};
+
+// Of the limits that are reached, the first raises its alarm.
+static FIRST_REACHED: [Reached; 6] = [
+    (25, 0, Status::Hihi, 20),
+    (20, 0, Status::Hihi, 20),
+    (15, 0, Status::High, 10),
+    (0, 0, Status::NoAlarm, 0),
+    (-10, 0, Status::Low, -10),
+    (-20, 0, Status::Lolo, -20),
+];
+
+#[test]
+fn limits_raised(rt: HostRuntime) {
+    are_reached(&rt, &HIGH_LIMIT, &BELOW);
+    are_reached(&rt, &LOW_LIMIT, &FAR_BELOW);
+    are_reached(&rt, &LEAST_LIMIT, &LEAST);
+    are_reached(&rt, &FOUR_LIMITS, &FIRST_REACHED);
+}
+
+#[test]
+fn graver_alarm_stays(rt: HostRuntime) {
+    let mut graver = alarms(Status::Read, Severity::Invalid);
+    assert!(rt; graver.limits(25, 3, &FOUR_LIMITS) == 3);
+    assert!(rt; graver == alarms(Status::Read, Severity::Invalid));
+    assert!(rt; FOUR_LIMITS.first_reached(0, 0).is_none());
+}
