@@ -1,5 +1,5 @@
 #!/bin/sh
-# Builds bench/NAME.txt, a program over the engine, without proof (unproved.sh) in a copy of the working tree: FOLDER/program.
+# Builds bench/NAME.txt, a program over the engine, without proof (tools/unproved.sh) in a copy of the working tree: FOLDER/program.
 # Usage: engine_program.sh FOLDER NAME
 set -eu
 bench=$(cd "$(dirname "$0")" && pwd)
@@ -9,4 +9,4 @@ folder=$(cd "$1" && pwd)
 mkdir -p "$folder/crates/bench_$2/src"
 cp "$bench/$2.txt" "$folder/crates/bench_$2/src/main.rt"
 sed -n "s/ ioc_main//; s/^ioc_tests [^:]*: /bench_$2: ioc_store /p" "$folder/crates.txt" >> "$folder/crates.txt"
-sh "$bench/unproved.sh" "$folder" "bench_$2"
+sh "$bench/../tools/unproved.sh" "$folder" "bench_$2"

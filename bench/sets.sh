@@ -1,5 +1,5 @@
 #!/bin/sh
-# Counts what requests and link changes of lock sets take, by bench/sets.txt, built without proof (unproved.sh): instructions by valgrind's
+# Counts what requests and link changes of lock sets take, by bench/sets.txt, built without proof (tools/unproved.sh): instructions by valgrind's
 # callgrind, memory as the system tells it, and the time of one thread and of four.
 # Usage: sets.sh FOLDER
 set -eu
@@ -10,7 +10,7 @@ tree="$folder/tree"
 sh "$bench/engine_program.sh" "$tree" sets
 program="$folder/program"
 mv "$tree/program" "$program"
-sh "$bench/unproved.sh" "$tree" ioc_replay
+sh "$bench/../tools/unproved.sh" "$tree" ioc_replay
 
 database() { # RECORDS CHAINED: as many records, of which the first ones stand in chains of ten
   awk -v n="$1" -v chained="$2" 'BEGIN {
