@@ -10,6 +10,7 @@ use Rattle.ioc_main.specs.declared.fault.ScriptFault.{ScriptFault}
 use Rattle.ioc_main.specs.declared.fault.ScriptFault.TheVariants as script
 use Rattle.ioc_main.specs.declared.fault.RunFault.{RunFault}
 use Rattle.ioc_main.specs.declared.fault.RunFault.TheVariants.{Memory}
+use Rattle.ioc_main.specs.declared.fault.Stage.TheVariants.{Loading}
 use Rattle.ioc_main.specs.Faults.{run_fault_of, fault_of}
 use Rattle.ioc_values.specs.declared.error.IocError.{IocError}
 use Rattle.ioc_values.specs.declared.error.IocError.TheVariants as refusal
@@ -19,7 +20,7 @@ use Rattle.ioc_main.specs.Script.{lines_of}
 use Rattle.ioc_sim.specs.Machine.{Machine, first_machine}
 use Rattle.ioc_main.specs.Replay.{transcript}
 use Rattle.ioc_main.specs.Written.{WritesFront, WritesPart, StopsScript}
-use Rattle.ioc_main.specs.Transcript.{loaded, transcript_by, transcript_of, IsDatabase, in_the_load, in_a_line, StopsWith}
+use Rattle.ioc_main.specs.Transcript.{loaded, transcript_by, transcript_of, IsDatabase, StopsWith}
 
 module _ (macros : List Defined) (text : List ℕ) (database : Loading Record) (names : NameTable) (machine : Machine Record)
     (reads : loaded macros text ≡ Ok database) (named : names ≡ database.names) (is : machine ≡ first_machine record_rules database.records) where
@@ -42,17 +43,17 @@ module _ (macros : List Defined) (text : List ℕ) (database : Loading Record) (
   part (Some given) w v p = subst (λ (l : List ℕ). WritesPart w l v) (sym (begins given)) p
 
   pub runs_stop : (fault : ScriptFault) (a w v : Option (List ℕ)) → IfSome a (λ given. StopsScript fault w (transcript record_rules names machine (lines_of given)) v) → StopsWith (run_fault_of fault) macros text a w v
-  runs_stop script.Read a w v p = ((database, reads), front a w v p)
+  runs_stop (script.Read reason) a w v p = ((database, reads), front a w v p)
   runs_stop script.Write a w v p = ((database, reads), part a w v p)
-  runs_stop script.Memory a w v p = in_a_line (database, reads) (front a w v p)
+  runs_stop script.Memory a w v p = ((database, reads), front a w v p)
 
 keeps_same : (w : Option (List ℕ)) → Keeps w w
 keeps_same None = tt
 keeps_same (Some bytes) = refl
 
--- Allocation failed before the first line.
-pub memory_stops : (macros : List Defined) (text : List ℕ) (a w : Option (List ℕ)) → StopsWith Memory macros text a w w
-memory_stops macros text a w = in_the_load (keeps_same w)
+-- memory was wanting before the first line
+pub memory_stops : (macros : List Defined) (text : List ℕ) (a w : Option (List ℕ)) → StopsWith (Memory Loading) macros text a w w
+memory_stops macros text a w = keeps_same w
 
 -- Nothing was loaded.
 pub load_stops : (e : IocError) (macros : List Defined) (text : List ℕ) (a w : Option (List ℕ)) → Gives database_of (Err e) (loaded macros text) → StopsWith (fault_of e) macros text a w w

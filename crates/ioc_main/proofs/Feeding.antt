@@ -3,11 +3,11 @@ use Rattle.std.proofs.Common.{◌≡◌, ℕ, ◌<◌, List, [], ◌∷◌, ◌+
 use Rattle.std.specs.Io.KnownBytes.{Appends}
 use Rattle.std.proofs.Math.Seq.{take-append_seam}
 use Rattle.ioc_main.specs.Script.{lines_of, cut, before, behind}
-use Rattle.ioc_main.specs.Coming.{still, Stands, to_come, CutsLines}
+use Rattle.ioc_main.specs.Coming.{onto, still, Stands, to_come, CutsLines}
 use Rattle.ioc_main.specs.Written.{Writes, WritesPart, WritesFront, StopsLine}
 use Rattle.ioc_main.specs.declared.fault.LineFault.{LineFault}
 use Rattle.ioc_main.proofs.ComingLemmas.{at_end, at_more, starts, cut-cut, all_read, last_line-of}
-use Rattle.ioc_main.proofs.WrittenLemmas.{writes_same, writes_trans, writes_then_stops, writes_behind, writes_all, part_more}
+use Rattle.ioc_main.proofs.WrittenLemmas.{writes_same, writes_trans, writes_then_stops, writes_behind, writes_all, writes_then_part, part_more}
 
 -- A line ends in the piece.
 module _ (t : List (List ℕ) → List ℕ) (w v : Option (List ℕ)) (line piece after last : List ℕ) (is : behind 10 piece ≡ Some after) (same : last ≡ before 10 piece) where
@@ -110,3 +110,19 @@ module _ (p : List ℕ) (t : List (List ℕ) → List ℕ) where
       let a : Writes w (still p t (line ∷ [])) v (still r u []) = subst (λ (l : List ℕ). Writes w (still p t (l ∷ [])) v (still r u [])) same x in
       let b : Writes w (still p t (line ∷ [])) v r = subst (λ (l : List ℕ). Writes w (still p t (line ∷ [])) v l) (ap (λ (l : List ℕ). r ++ l) none ∙ append-nil r) a in
       subst (λ (l : List ℕ). Writes w l v r) (sym (last_is (still p t) line slice e h)) b
+
+-- what was said for a piece is written behind what was written before
+module _ (t : List (List ℕ) → List ℕ) (w0 w v : Option (List ℕ)) (all said more line rest : List ℕ) (none : more ≡ []) where
+  pub piece_written : (left : List ℕ) → left ≡ [] → Writes w0 all w (to_come (still said t) line rest) → Appends w v (said ++ more) → Writes w0 all v (to_come (still left t) line rest)
+  unfolding to_come
+  piece_written left empty p q =
+      let come = t (onto line (lines_of rest)) in
+      let q' : Appends w v said = subst (Appends w v) (ap (λ l. said ++ l) none ∙ append-nil said) q in
+      subst (λ (l : List ℕ). Writes w0 all v (l ++ come)) (sym empty) (writes_trans w0 w v all (said ++ come) come p (writes_all w v said come q'))
+
+  pub piece_fails : Writes w0 all w (to_come (still said t) line rest) → WritesPart w (said ++ more) v → WritesPart w0 all v
+  unfolding to_come
+  piece_fails p q =
+      let come = t (onto line (lines_of rest)) in
+      let q' : WritesPart w said v = subst (λ l. WritesPart w l v) (ap (λ l. said ++ l) none ∙ append-nil said) q in
+      writes_then_part w0 w v all (said ++ come) p (part_more w v said come q')

@@ -116,7 +116,7 @@ writes_no_rest a b c x said more none p q = writes_then_part a b c x said p (sub
 
 -- A script that stops after a write stops the whole.
 pub writes_then_stops_script : (fault : ScriptFault) (a b c : Option (List ℕ)) (x y : List ℕ) → Writes a x b y → StopsScript fault b y c → StopsScript fault a x c
-writes_then_stops_script script.Read a b c x y p q = (q.0, writes_trans a b c x y q.0 p q.1)
+writes_then_stops_script (script.Read reason) a b c x y p q = (q.0, writes_trans a b c x y q.0 p q.1)
 writes_then_stops_script script.Write a b c x y p q = writes_then_part a b c x y p q
 writes_then_stops_script script.Memory a b c x y p q = (q.0, writes_trans a b c x y q.0 p q.1)
 

@@ -8,6 +8,7 @@ use Rattle.ioc_dblex.specs.Macros.{Defined}
 use Rattle.ioc_dbfile.specs.Loader.{Loading}
 use Rattle.ioc_dbfile.specs.Finished.{loaded_by}
 use Rattle.ioc_main.specs.declared.fault.RunFault.{RunFault}
+use Rattle.ioc_main.specs.declared.fault.Stage.TheVariants.{Loading, Line}
 use Rattle.ioc_main.specs.declared.fault.RunFault.TheVariants.{BadDb, Read, Write, Memory}
 use Rattle.ioc_main.specs.Script.{lines_of}
 use Rattle.ioc_sim.specs.Machine.{first_machine}
@@ -34,22 +35,12 @@ transcript_of macros text script = transcript_by (loaded macros text) script
 abbrev pub IsDatabase : List Defined → List ℕ → Type 0
 IsDatabase macros text = (database : Loading Record) × (loaded macros text ≡ Ok database)
 
--- Allocation failed in the load, and nothing was written, or it failed in a line: then the text is
--- that of a database, and a beginning of the transcript was written.
-pub data RunsOut : List Defined → List ℕ → Option (List ℕ) → Option (List ℕ) → Option (List ℕ) → Type 0 where
-  in_the_load : {macros : List Defined} {text : List ℕ} {script old new : Option (List ℕ)}
-      → Keeps old new
-      → RunsOut macros text script old new
-  in_a_line : {macros : List Defined} {text : List ℕ} {script old new : Option (List ℕ)}
-      → IsDatabase macros text
-      → IfSome script (λ given. WritesFront old (transcript_of macros text given) new)
-      → RunsOut macros text script old new
-
--- The first fault of a refused text is reported, and nothing is written. If the script stopped, a
--- beginning of the transcript was written, and after a failed write not all of it.
+-- a refused text is told by its first fault, and nothing is written; nor is it where memory was wanting while the database was made.
+-- Where the script stopped, or memory was wanting in one of its lines, a beginning of the transcript was written, and after a failed
+-- write not all of it
 abbrev pub StopsWith : RunFault → List Defined → List ℕ → Option (List ℕ) → Option (List ℕ) → Option (List ℕ) → Type 0
 StopsWith (BadDb fault) macros text script old new = (loaded macros text ≡ Err fault) × Keeps old new
-StopsWith Memory macros text script old new = RunsOut macros text script old new
-StopsWith Read macros text script old new = IsDatabase macros text × IfSome script (λ script. WritesFront old (transcript_of macros text script) new)
+StopsWith (Memory Loading) macros text script old new = Keeps old new
+StopsWith (Memory Line) macros text script old new = IsDatabase macros text × IfSome script (λ script. WritesFront old (transcript_of macros text script) new)
+StopsWith (Read reason) macros text script old new = IsDatabase macros text × IfSome script (λ script. WritesFront old (transcript_of macros text script) new)
 StopsWith Write macros text script old new = IsDatabase macros text × IfSome script (λ script. WritesPart old (transcript_of macros text script) new)
-StopsWith _ macros text script old new = ⊥

@@ -25,6 +25,6 @@ StopsLine line.Memory old text new = WritesFront old text new
 
 -- What was written of the transcript if the script stopped.
 abbrev pub StopsScript : ScriptFault → Option (List ℕ) → List ℕ → Option (List ℕ) → Type 0
-StopsScript Read old text new = WritesFront old text new
+StopsScript (Read reason) old text new = WritesFront old text new
 StopsScript Write old text new = WritesPart old text new
 StopsScript Memory old text new = WritesFront old text new

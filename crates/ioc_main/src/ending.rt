@@ -1,8 +1,10 @@
 //! The end of the program.
 ghost use Rattle.std.specs.Prelude.{◌≡◌};
-ghost use Rattle.ioc_main.specs.Faults.{whole_run, stream_of, ending_of, ending_text};
+ghost use Rattle.std.specs.IoError.{error_kind};
+ghost use Rattle.ioc_main.specs.Faults.{role_text, unreadable, whole_run, status_of, stream_of, told_of, ending_of, ending_text, usage_text, stop_text};
 
-use crate::fault::RunFault;
+use crate::fault::{Reason, RunFault, Stage, is_out_of_memory};
+use ioc_values::DbFault;
 use std::{fmt, io};
 
 /// An output stream of the program.
@@ -12,43 +14,214 @@ pub enum Stream {
     Error,
 }
 
-/// How the program ends: its exit status, the stream that it writes to, and the fault that it
-/// reports. Its text is printed as it is, including the line feed.
+/// Which of its files the program reads.
 #[derive(Clone, Copy, Debug, PartialEq, Eq)]
+pub enum FileRole {
+    Database,
+    Script,
+}
+
+/// What is wrong with the words of the command line.
+#[derive(Debug, PartialEq, Eq, Drop)]
+pub enum UsageFault {
+    NoDatabase,
+    NoScript,
+    /// This word defines no macro.
+    NoDefinition(String),
+    /// A word is no UTF-8.
+    NotText,
+}
+
+/// Why the program stops before the end of its script, or never begins.
+#[derive(Debug, PartialEq, Eq, Drop)]
+pub enum Stop {
+    /// The program was asked what it takes.
+    Help,
+    /// The program was asked for its version.
+    Version,
+    /// The program was not given two files and macros.
+    Usage(UsageFault),
+    /// The file of this path could not be opened or read.
+    Unreadable(FileRole, String, Reason),
+    /// The database text was refused.
+    BadDb(DbFault),
+    /// The replies could not be written.
+    Write(Reason),
+    /// A growth was refused.
+    Memory(Stage),
+}
+
+/// How the program ends: with what exit status, and what it says of it where. Its text is printed as it stands, line feed
+/// included.
+#[derive(Debug, PartialEq, Eq, Drop)]
 pub struct Ending {
     pub status: u8,
     pub stream: Stream,
-    pub fault: Option<RunFault>,
+    pub told: Option<Stop>,
 }
 
-/// Returns the stream on which a fault is reported.
-#[tactic(auto, unfolding(crate::specs::Faults::stream_of))]
-fn stream_of(fault: RunFault) -> Stream
-    ensures { result ≡ stream_of fault }
+/// Why the program stops that an error kept from opening or reading a file.
+pub fn unreadable(role: FileRole, path: String, error: &io::Error) -> Stop
+    ensures { result ≡ unreadable role path (error_kind error.now) }
 {
-    match fault {
-        RunFault::Help | RunFault::Version => Stream::Output,
-        _ => Stream::Error,
+    if is_out_of_memory(error) {
+        Stop::Memory(Stage::Loading)
+    } else {
+        Stop::Unreadable(role, path, Reason::of(error))
+    }
+}
+
+/// What a run of the script with this path came to, whose replies were then flushed: the replies before a fault are written
+/// all the same, and the fault is told that came first.
+pub fn whole_run(
+    ran: Result<(), RunFault>,
+    flushed: io::Result<()>,
+    script: String,
+) -> Result<(), Stop>
+    ensures { result ≡ whole_run ran flushed script }
+{
+    match ran {
+        Ok(()) => match flushed {
+            Ok(()) => Ok(()),
+            Err(e) => Err(Stop::Write(Reason::of(&e))),
+        },
+        Err(RunFault::Write) => match flushed {
+            Ok(()) => Err(Stop::Write(Reason::Other)),
+            Err(e) => Err(Stop::Write(Reason::of(&e))),
+        },
+        Err(RunFault::BadDb(fault)) => Err(Stop::BadDb(fault)),
+        Err(RunFault::Read(reason)) => Err(Stop::Unreadable(FileRole::Script, script, reason)),
+        Err(RunFault::Memory(stage)) => Err(Stop::Memory(stage)),
+    }
+}
+
+#[tactic(auto, unfolding(crate::specs::Faults::status_of, crate::specs::Faults::stream_of, crate::specs::Faults::told_of))]
+impl Stop {
+    /// The exit status of the program, 0 to 4: 0 where it did what it was asked for.
+    pub fn status(&self) -> u8
+        ensures { result ≡ status_of self.now }
+    {
+        match self {
+            Stop::Help | Stop::Version => 0,
+            Stop::BadDb(_) => 1,
+            Stop::Usage(_) => 2,
+            Stop::Unreadable(..) | Stop::Write(_) => 3,
+            Stop::Memory(_) => 4,
+        }
+    }
+
+    // Where it is told.
+    fn stream(&self) -> Stream
+        ensures { result ≡ stream_of self.now }
+    {
+        match self {
+            Stop::Help | Stop::Version => Stream::Output,
+            _ => Stream::Error,
+        }
+    }
+
+    // What is told of it: nothing where nobody reads the replies any more.
+    fn told(self) -> Option<Stop>
+        ensures { result ≡ told_of self }
+    {
+        match self {
+            Stop::Write(Reason::BrokenPipe) => None,
+            other => Some(other),
+        }
     }
 }
 
 impl Ending {
     /// Returns the ending for the result of a run.
     #[tactic(auto, unfolding(crate::specs::Faults::ending_of))]
-    pub fn of(ended: Result<(), RunFault>) -> Self
+    pub fn of(ended: Result<(), Stop>) -> Self
         ensures { result ≡ ending_of ended }
     {
-        let (status, stream, fault) = match ended {
-            Ok(()) => (0, Stream::Error, None),
-            Err(fault) => (fault.status(), stream_of(fault), Some(fault)),
-        };
-        Ending {
-            status,
-            stream,
-            fault,
+        match ended {
+            Ok(()) => Ending {
+                status: 0,
+                stream: Stream::Error,
+                told: None,
+            },
+            Err(stop) => Ending {
+                status: stop.status(),
+                stream: stop.stream(),
+                told: stop.told(),
+            },
         }
     }
 }
+
+#[tactic(auto, unfolding(crate::specs::Faults::role_text))]
+impl fmt::Display for FileRole {
+    ghost use Rattle.std.specs.Prelude.{Some};
+
+    ghost output = { λ role. Some (role_text role) };
+
+    fn fmt<W: fmt::Write>(&self, f: &mut fmt::Formatter<W>) -> fmt::Result {
+        f.write_str(match self {
+            FileRole::Database => "database",
+            FileRole::Script => "script",
+        })
+    }
+}
+
+#[tactic(auto, unfolding(crate::specs::Faults::usage_text))]
+impl fmt::Display for UsageFault {
+    ghost use Rattle.std.specs.Prelude.{Some};
+
+    ghost output = { λ fault. Some (usage_text fault) };
+
+    fn fmt<W: fmt::Write>(&self, f: &mut fmt::Formatter<W>) -> fmt::Result {
+        match self {
+            UsageFault::NoDatabase => f.write_str("no database given"),
+            UsageFault::NoScript => f.write_str("no script given"),
+            UsageFault::NoDefinition(word) => write!(f, "'{word}' is no NAME=VALUE"),
+            UsageFault::NotText => f.write_str("a word is no UTF-8"),
+        }
+    }
+}
+
+#[tactic(auto, unfolding(crate::specs::Faults::stop_text))]
+impl fmt::Display for Stop {
+    ghost use Rattle.std.specs.Prelude.{Some};
+
+    ghost output = { λ stop. Some (stop_text stop) };
+
+    fn fmt<W: fmt::Write>(&self, f: &mut fmt::Formatter<W>) -> fmt::Result {
+        match self {
+            Stop::Help => write!(f, "{USAGE}{LINES}{STATUSES}"),
+            Stop::Version => f.write_str("ioc-replay 0.1.0"),
+            Stop::Usage(fault) => {
+                write!(
+                    f,
+                    "ioc-replay: {fault} (ioc-replay --help tells what it takes)"
+                )
+            }
+            Stop::Unreadable(role, path, reason) => {
+                write!(f, "ioc-replay: cannot read {role} '{path}': {reason}")
+            }
+            Stop::BadDb(fault) => fault.fmt(f),
+            Stop::Write(reason) => write!(f, "ioc-replay: cannot write the replies: {reason}"),
+            Stop::Memory(Stage::Loading) => f.write_str("ioc-replay: out of memory while loading"),
+            Stop::Memory(Stage::Line) => {
+                f.write_str("ioc-replay: out of memory in a line of the script")
+            }
+        }
+    }
+}
+
+// What the program takes.
+const USAGE: &str =
+    "ioc-replay DB SCRIPT [NAME=VALUE]..\n\nLoads the database text DB, in which the macros NAME stand for VALUE, does the script SCRIPT to it, and prints a line for each reply.\nWhere SCRIPT is - it is standard input.\n\n  -h, --help     prints this\n  -V, --version  prints the version";
+
+// The lines of a script.
+const LINES: &str =
+    "\n\nThe lines of a script:\n  process REC         requests a record\n  put REC.F TEXT      puts a value\n  get REC.F           prints a field\n  at N                the moment of the lines that follow, in nanoseconds\n  next REC done TEXT  the device of the record will answer this\n  next REC fault      the device of the record will answer a fault\n  next REC later      the device of the record will answer later\n  done REC N TEXT     the device answers the Nth wait of the record\n  fault REC N         the device answers the Nth wait of the record with a fault\n  event NAME          posts an event\n  io WORD             an interrupt of the devices whose link begins with WORD\n  scan CHOICE         requests the records of a period, as: scan 1 second\n  link REC.F TEXT     changes a link\n  tally               prints how many requests had which outcome\n  notify REC.F TEXT   puts a value with notification: ended N tells that all is done\n  cancel N            gives up a put with notification\n  sets                prints which records are joined by links\n  # TEXT              a comment";
+
+// The exit statuses.
+const STATUSES: &str =
+    "\n\nThe exit status: 0 the script is done, 1 the database is refused, 2 the command line is wrong, 3 a file cannot be read or the replies cannot be written, 4 memory ran out";
 
 #[tactic(auto, unfolding(crate::specs::Faults::ending_text))]
 impl fmt::Display for Ending {
@@ -57,18 +230,11 @@ impl fmt::Display for Ending {
     ghost output = { λ ending. Some (ending_text ending) };
 
     fn fmt<W: fmt::Write>(&self, f: &mut fmt::Formatter<W>) -> fmt::Result {
-        match self.fault {
-            Some(fault) => write!(f, "{fault}\n"),
+        match &self.told {
+            Some(stop) => write!(f, "{stop}\n"),
             None => Ok(()),
         }
     }
 }
 
-/// Returns the result of a run whose replies were then flushed: replies before a fault are written
-/// all the same, and the first fault is reported.
-pub fn whole_run(ran: Result<(), RunFault>, flushed: io::Result<()>) -> Result<(), RunFault>
-    ensures { result ≡ whole_run ran flushed }
-{
-    ran?;
-    flushed.map_err(|_| RunFault::Write)
-}
+impl std::error::Error for Stop {}

@@ -1,37 +1,90 @@
 //! The faults of a run.
 ghost use Rattle.std.specs.Prelude.{◌≡◌};
 ghost use Rattle.std.specs.IoError.{error_kind};
-ghost use Rattle.ioc_main.specs.Faults.{status_of, is_out_of_memory};
+ghost use Rattle.ioc_main.specs.Faults.{reason_of, reason_text, is_out_of_memory};
 
 use ioc_values::{DbFault, IocError};
 use std::alloc::AllocError;
 use std::{fmt, io};
 
-/// The reason why a run stopped before the end of its script, or didn't begin.
+/// Why the operating system refused to open, read or write a file.
+#[derive(Clone, Copy, Debug, PartialEq, Eq)]
+pub enum Reason {
+    NotFound,
+    PermissionDenied,
+    NotADirectory,
+    IsADirectory,
+    StorageFull,
+    /// Nobody reads what is written.
+    BrokenPipe,
+    Other,
+}
+
+impl Reason {
+    /// The reason that an error tells.
+    pub fn of(error: &io::Error) -> Self
+        ensures { result ≡ reason_of (error_kind error.now) }
+    {
+        match error.kind() {
+            io::ErrorKind::NotFound => Reason::NotFound,
+            io::ErrorKind::PermissionDenied => Reason::PermissionDenied,
+            io::ErrorKind::NotADirectory => Reason::NotADirectory,
+            io::ErrorKind::IsADirectory => Reason::IsADirectory,
+            io::ErrorKind::StorageFull => Reason::StorageFull,
+            io::ErrorKind::BrokenPipe => Reason::BrokenPipe,
+            _ => Reason::Other,
+        }
+    }
+}
+
+/// The words of the operating system.
+#[tactic(auto, unfolding(crate::specs::Faults::reason_text))]
+impl fmt::Display for Reason {
+    ghost use Rattle.std.specs.Prelude.{Some};
+
+    ghost output = { λ reason. Some (reason_text reason) };
+
+    fn fmt<W: fmt::Write>(&self, f: &mut fmt::Formatter<W>) -> fmt::Result {
+        f.write_str(match self {
+            Reason::NotFound => "No such file or directory",
+            Reason::PermissionDenied => "Permission denied",
+            Reason::NotADirectory => "Not a directory",
+            Reason::IsADirectory => "Is a directory",
+            Reason::StorageFull => "No space left on device",
+            Reason::BrokenPipe => "Broken pipe",
+            Reason::Other => "Input/output error",
+        })
+    }
+}
+
+/// When memory ran out.
+#[derive(Clone, Copy, Debug, PartialEq, Eq)]
+pub enum Stage {
+    /// Before the first line of the script.
+    Loading,
+    /// In a line of the script.
+    Line,
+}
+
+/// Why a run stopped before the end of its script.
 #[derive(Clone, Copy, Debug, PartialEq, Eq)]
 pub enum RunFault {
     /// The database text was refused.
     BadDb(DbFault),
-    /// The arguments weren't two files and macros.
-    Usage,
-    /// The program was asked for help.
-    Help,
-    /// The program was asked for its version.
-    Version,
-    /// The database or the script couldn't be read.
-    Read,
-    /// A reply couldn't be written.
+    /// The script could not be read.
+    Read(Reason),
+    /// A reply could not be written.
     Write,
-    /// Allocation failed.
-    Memory,
+    /// A growth was refused.
+    Memory(Stage),
 }
 
 /// The reason why a script stopped before its end.
 #[derive(Clone, Copy, Debug, PartialEq, Eq)]
 pub enum ScriptFault {
-    /// The script couldn't be read.
-    Read,
-    /// A reply couldn't be written.
+    /// The script could not be read.
+    Read(Reason),
+    /// A reply could not be written.
     Write,
     /// Allocation failed.
     Memory,
@@ -90,20 +143,22 @@ impl From<ScriptFault> for RunFault {
 
     fn from(e: ScriptFault) -> RunFault {
         match e {
-            ScriptFault::Read => RunFault::Read,
+            ScriptFault::Read(reason) => RunFault::Read(reason),
             ScriptFault::Write => RunFault::Write,
-            ScriptFault::Memory => RunFault::Memory,
+            ScriptFault::Memory => RunFault::Memory(Stage::Line),
         }
     }
 }
 
+/// What a load answers where memory is refused.
 impl From<AllocError> for RunFault {
+    ghost use Rattle.ioc_main.specs.declared.fault.Stage.TheVariants.{Loading};
     ghost use Rattle.ioc_main.specs.declared.fault.RunFault.TheVariants.{Memory};
 
-    ghost from_gives = { λ _ fault. fault ≡ Memory };
+    ghost from_gives = { λ _ fault. fault ≡ Memory Loading };
 
     fn from(_e: AllocError) -> RunFault {
-        RunFault::Memory
+        RunFault::Memory(Stage::Loading)
     }
 }
 
@@ -128,22 +183,7 @@ impl From<IocError> for RunFault {
             | IocError::Stale
             | IocError::QueueFull
             | IocError::JournalFull
-            | IocError::Stopped => RunFault::Memory,
-        }
-    }
-}
-
-/// Converts the error of opening or reading a file.
-impl From<io::Error> for RunFault {
-    ghost use Rattle.ioc_main.specs.Faults.{read_fault_of};
-
-    ghost from_gives = { λ e fault. fault ≡ read_fault_of (error_kind e) };
-
-    fn from(e: io::Error) -> RunFault {
-        if is_out_of_memory(&e) {
-            RunFault::Memory
-        } else {
-            RunFault::Read
+            | IocError::Stopped => RunFault::Memory(Stage::Loading),
         }
     }
 }
@@ -154,46 +194,3 @@ pub fn is_out_of_memory(error: &io::Error) -> bool
 {
     matches!(error.kind(), io::ErrorKind::OutOfMemory)
 }
-
-#[tactic(auto, unfolding(crate::specs::Faults::status_of))]
-impl RunFault {
-    /// Returns the exit status of the program, from 0 to 4. It is 0 if the program did what it was
-    /// asked for.
-    pub fn status(self) -> u8
-        ensures { result ≡ status_of self }
-    {
-        match self {
-            RunFault::BadDb(_) => 1,
-            RunFault::Usage => 2,
-            RunFault::Help | RunFault::Version => 0,
-            RunFault::Read | RunFault::Write => 3,
-            RunFault::Memory => 4,
-        }
-    }
-}
-
-#[tactic(auto, unfolding(crate::specs::Faults::fault_text))]
-impl fmt::Display for RunFault {
-    ghost use Rattle.std.specs.Prelude.{Some};
-    ghost use Rattle.ioc_main.specs.Faults.{fault_text};
-
-    ghost output = { λ fault. Some (fault_text fault) };
-
-    fn fmt<W: fmt::Write>(&self, f: &mut fmt::Formatter<W>) -> fmt::Result {
-        match self {
-            RunFault::BadDb(fault) => fault.fmt(f),
-            RunFault::Usage => f.write_str("usage: ioc-replay DB SCRIPT [NAME=VALUE].."),
-            RunFault::Help => f.write_str(HELP),
-            RunFault::Version => f.write_str("ioc-replay 0.1.0"),
-            RunFault::Read => f.write_str("the input cannot be read"),
-            RunFault::Write => f.write_str("the replies cannot be written"),
-            RunFault::Memory => f.write_str("out of memory"),
-        }
-    }
-}
-
-// The help text.
-const HELP: &str =
-    "ioc-replay DB SCRIPT [NAME=VALUE]..\n\nLoads the database text DB, in which the macros NAME stand for VALUE, does the script SCRIPT to it, and prints a line for each reply.\n\n  --help     prints this\n  --version  prints the version";
-
-impl std::error::Error for RunFault {}

@@ -6,7 +6,7 @@ ghost use Rattle.ioc_main.specs.Coming.{still, to_come};
 ghost use Rattle.ioc_main.specs.Written.{Writes, WritesPart, StopsLine, StopsScript};
 
 use crate::cut_at;
-use crate::fault::{LineFault, ScriptFault, WriteFault};
+use crate::fault::{LineFault, Reason, ScriptFault, WriteFault};
 use crate::session::{PendingOutput, Session};
 use crate::writing::write_text;
 use ioc_values::ByteBuffer;
@@ -103,7 +103,8 @@ fn end_line<S: Session, W: Write>(
     Ok(())
 }
 
-fn feed<S: Session, W: Write>(
+// Answers the lines that end in a piece.
+fn answer_lines<S: Session, W: Write>(
     session: &mut S,
     line: &mut Line,
     said: &mut PendingOutput,
@@ -135,7 +136,27 @@ fn feed<S: Session, W: Write>(
     Ok(())
 }
 
-// Answers a last line without a line feed, if there is one.
+// Answers the lines that end in a piece of the script, and writes what was said, so that their replies are out before more is read.
+fn feed<S: Session, W: Write>(
+    session: &mut S,
+    line: &mut Line,
+    said: &mut PendingOutput,
+    out: &mut W,
+    piece: &[u8],
+) -> Result<(), LineFault>
+    requires room { length said.old.replies + 256 ≤ 4096 }
+    requires none { said.old.more.items ≡ [] }
+    ensures ok { OnOk result ((rest : List ℕ) → Writes (W.contents out.old) (to_come (still said.old.replies (S.transcript session.old)) line.old (piece.now ++ rest)) (W.contents out.new) (to_come (still said.new.replies (S.transcript session.new)) line.new rest)) }
+    ensures room { OnOk result (length said.new.replies + 256 ≤ 4096) }
+    ensures none { OnOk result (said.new.more.items ≡ []) }
+    ensures err { IfErr result (λ fault. (rest : List ℕ) → StopsLine fault (W.contents out.old) (to_come (still said.old.replies (S.transcript session.old)) line.old (piece.now ++ rest)) (W.contents out.new)) }
+{
+    answer_lines(session, line, said, out, piece)?;
+    write_said(said, out)?;
+    Ok(())
+}
+
+// A last line that no line feed ends counts.
 fn answer_rest<S: Session, W: Write>(
     session: &mut S,
     line: &mut Line,
@@ -176,13 +197,13 @@ fn finish<S: Session, W: Write>(
     Ok(())
 }
 
-// Writes the pending replies after a failed read, and returns the fault.
-fn stop<W: Write>(said: &mut PendingOutput, out: &mut W) -> ScriptFault
+// A read failed for this reason: what was said before is written.
+fn stop<W: Write>(said: &mut PendingOutput, out: &mut W, reason: Reason) -> ScriptFault
     requires { said.old.more.items ≡ [] }
     ensures { (text : List ℕ) → StopsScript result (W.contents out.old) (said.old.replies ++ text) (W.contents out.new) }
 {
     match write_said(said, out) {
-        Ok(()) => ScriptFault::Read,
+        Ok(()) => ScriptFault::Read(reason),
         Err(_) => ScriptFault::Write,
     }
 }
@@ -218,8 +239,8 @@ pub fn run_script<S: Session, R: Read + Drop, W: Write>(
             Ok(n) => {
                 feed(session, &mut line, &mut said, out, buffer.split_at(n).0)?;
             }
-            Err(_) => return Err(stop(&mut said, out)),
+            Err(e) => return Err(stop(&mut said, out, Reason::of(&e))),
         }
     }
-    Err(stop(&mut said, out))
+    Err(stop(&mut said, out, Reason::Other))
 }

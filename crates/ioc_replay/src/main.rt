@@ -2,19 +2,40 @@
 //! it, and prints a line for each reply.
 #![tactic(auto)]
 
-use ioc_main::{Arguments, Ending, RunFault, Stream, run, whole_run};
+use ioc_main::{Arguments, Ending, FileRole, Stage, Stop, Stream, run, unreadable, whole_run};
 use std::env;
 use std::fs::{self, File};
-use std::io::{self, BufWriter, Write};
+use std::io::{self, BufWriter, IsTerminal, Write};
 use std::process::ExitCode;
 
-fn replay(rt: &HostRuntime) -> Result<(), RunFault> {
-    let files = Arguments::from_words(rt.alloc(), env::args(rt))?;
-    let text = fs::read(rt, files.db.as_str())?;
-    let script = File::open(rt, files.script.as_str())?;
-    let mut out = BufWriter::new(rt.alloc(), io::writer(rt))?;
-    let ran = run(rt.alloc(), &text, &files.macros, script, &mut out);
-    whole_run(ran, out.flush())
+// The file of the script: `-` is standard input.
+fn script_path(script: &str) -> &str {
+    match script {
+        "-" => "/dev/stdin",
+        _ => script,
+    }
+}
+
+// How many bytes of replies are written at once. A terminal shows them as they are made.
+fn room(rt: &HostRuntime) -> usize {
+    if rt.stdout().is_terminal() { 0 } else { 8192 }
+}
+
+fn replay(rt: &HostRuntime) -> Result<(), Stop> {
+    let Arguments { db, script, macros } = Arguments::from_words(rt.alloc(), env::args(rt))?;
+    let text = match fs::read(rt, db.as_str()) {
+        Ok(text) => text,
+        Err(e) => return Err(unreadable(FileRole::Database, db, &e)),
+    };
+    let lines = match File::open(rt, script_path(script.as_str())) {
+        Ok(lines) => lines,
+        Err(e) => return Err(unreadable(FileRole::Script, script, &e)),
+    };
+    let Ok(mut out) = BufWriter::with_capacity(rt.alloc(), room(rt), io::writer(rt)) else {
+        return Err(Stop::Memory(Stage::Loading));
+    };
+    let ran = run(rt.alloc(), &text, &macros, lines, &mut out);
+    whole_run(ran, out.flush(), script)
 }
 
 fn main(rt: HostRuntime) -> ExitCode {

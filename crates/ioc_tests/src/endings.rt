@@ -1,5 +1,7 @@
-//! The arguments of the program, and how it ends.
-use ioc_main::{Arguments, Ending, RunFault, Stream, whole_run};
+//! What the program takes from its arguments, and how it ends.
+use ioc_main::{
+    Arguments, Ending, FileRole, Reason, RunFault, Stage, Stop, Stream, unreadable, whole_run,
+};
 use ioc_values::{BadDbKind, DbFault};
 use std::alloc::{AllocError, Global};
 use std::io;
@@ -24,36 +26,59 @@ static WORDS: [(&[&str], &str, &str, Option<&str>); 5] = [
     (&["ioc-replay", "a", "b", "B_2=--help"], "a", "b", None),
 ];
 
-// Words that are refused, and the fault.
-static REFUSED: [(&[&str], RunFault); 11] = [
-    (&[], RunFault::Usage),
-    (&["ioc-replay"], RunFault::Usage),
-    (&["ioc-replay", "a.db"], RunFault::Usage),
-    (&["ioc-replay", "a.db", "b.script", "c"], RunFault::Usage),
-    (&["ioc-replay", "a", "b", "A=1", "c"], RunFault::Usage),
-    (&["ioc-replay", "a", "b", "=1"], RunFault::Usage),
-    (&["ioc-replay", "a", "b", "A-B=1"], RunFault::Usage),
-    (&["ioc-replay", "a", "b", "--helpful"], RunFault::Usage),
-    (&["ioc-replay", "--help"], RunFault::Help),
-    (&["ioc-replay", "a", "--version"], RunFault::Version),
-    (&["ioc-replay", "a", "b", "A=1", "--help"], RunFault::Help),
+// Words that are not taken, the exit status that this gives, and how what is told begins.
+static REFUSED: [(&[&str], u8, &str); 14] = [
+    (&[], 2, "ioc-replay: no database given ("),
+    (&["ioc-replay"], 2, "ioc-replay: no database given ("),
+    (&["ioc-replay", "a.db"], 2, "ioc-replay: no script given ("),
+    (
+        &["ioc-replay", "a.db", "b.script", "c"],
+        2,
+        "ioc-replay: 'c' is no NAME=VALUE (",
+    ),
+    (
+        &["ioc-replay", "a", "b", "A=1", "d c"],
+        2,
+        "ioc-replay: 'd c' is no NAME=VALUE (",
+    ),
+    (
+        &["ioc-replay", "a", "b", "=1"],
+        2,
+        "ioc-replay: '=1' is no NAME=VALUE (",
+    ),
+    (
+        &["ioc-replay", "a", "b", "A-B=1"],
+        2,
+        "ioc-replay: 'A-B=1' is no NAME=VALUE (",
+    ),
+    (
+        &["ioc-replay", "a", "b", "--helpful"],
+        2,
+        "ioc-replay: '--helpful' is no NAME=VALUE (",
+    ),
+    (
+        &["ioc-replay", "--help"],
+        0,
+        "ioc-replay DB SCRIPT [NAME=VALUE]..\n",
+    ),
+    (
+        &["ioc-replay", "-h", "x"],
+        0,
+        "ioc-replay DB SCRIPT [NAME=VALUE]..\n",
+    ),
+    (&["ioc-replay", "a", "--version"], 0, "ioc-replay 0.1.0\n"),
+    (&["ioc-replay", "-V"], 0, "ioc-replay 0.1.0\n"),
+    (
+        &["ioc-replay", "a", "b", "A=1", "--help"],
+        0,
+        "ioc-replay DB SCRIPT [NAME=VALUE]..\n",
+    ),
+    (
+        &["ioc-replay", "a", "b", "c", "--help"],
+        2,
+        "ioc-replay: 'c' is no NAME=VALUE (",
+    ),
 ];
-
-// Returns whether the words are parsed as expected, or refused with the expected fault.
-fn is_said(
-    taken: Result<Arguments, RunFault>,
-    wanted: Result<(&str, &str, Option<&str>), RunFault>,
-) -> bool {
-    match (taken, wanted) {
-        (Ok(files), Ok((db, script, value))) => {
-            files.db.as_str() == db
-                && files.script.as_str() == script
-                && files.macros.value_of(b"A") == value.map(|value| value.as_bytes())
-        }
-        (Err(fault), Err(wanted)) => fault == wanted,
-        _ => false,
-    }
-}
 
 fn strings(alloc: Global, words: &[&str]) -> Result<Vec<String>, AllocError> {
     let mut all = Vec::new(alloc);
@@ -63,142 +88,216 @@ fn strings(alloc: Global, words: &[&str]) -> Result<Vec<String>, AllocError> {
     Ok(all)
 }
 
-fn say(
+// Are the words taken, and is this what they say?
+fn are_taken(
     alloc: Global,
     words: &[&str],
-    wanted: Result<(&str, &str, Option<&str>), RunFault>,
+    db: &str,
+    script: &str,
+    value: Option<&str>,
 ) -> Result<bool, AllocError> {
     let given = strings(alloc, words)?;
-    Ok(is_said(Arguments::from_words(alloc, Ok(given.into_iter())), wanted))
+    Ok(match Arguments::from_words(alloc, Ok(given.into_iter())) {
+        Ok(files) => {
+            files.db.as_str() == db
+                && files.script.as_str() == script
+                && files.macros.value_of(b"A") == value.map(|value| value.as_bytes())
+        }
+        Err(_) => false,
+    })
 }
 
 #[test]
 fn words_that_are_taken(rt: HostRuntime) -> Result<(), Fail> {
     for (words, db, script, value) in &WORDS {
-        let wanted = Ok((*db, *script, *value));
-        assert!(rt; say(rt.alloc(), words, wanted)?, "{words:?}");
+        assert!(rt;
+            are_taken(rt.alloc(), words, db, script, *value)?,
+            "{words:?}"
+        );
     }
     Ok(())
+}
+
+// Does the program that comes to this end with this status, and begin so with what it tells?
+fn begins(alloc: Global, stop: Stop, status: u8, told: &str) -> Result<bool, AllocError> {
+    let ending = Ending::of(Err(stop));
+    let text = ending.to_string(alloc)?;
+    Ok(ending.status == status && text.as_str().starts_with(told))
+}
+
+fn are_refused(alloc: Global, words: &[&str], status: u8, told: &str) -> Result<bool, AllocError> {
+    let given = strings(alloc, words)?;
+    match Arguments::from_words(alloc, Ok(given.into_iter())) {
+        Ok(_) => Ok(false),
+        Err(stop) => begins(alloc, stop, status, told),
+    }
 }
 
 #[test]
 fn words_that_are_refused(rt: HostRuntime) -> Result<(), Fail> {
-    for (words, fault) in &REFUSED {
-        assert!(rt; say(rt.alloc(), words, Err(*fault))?, "{words:?}");
+    for (words, status, told) in &REFUSED {
+        assert!(rt; are_refused(rt.alloc(), words, *status, told)?, "{words:?}");
     }
     Ok(())
 }
 
-fn is_refused(alloc: Global, kind: io::ErrorKind, wanted: RunFault) -> bool {
+fn stops(alloc: Global, kind: io::ErrorKind, status: u8, told: &str) -> Result<bool, AllocError> {
     match Arguments::from_words(alloc, Err(io::Error::from(kind))) {
-        Ok(_) => false,
-        Err(fault) => fault == wanted,
+        Ok(_) => Ok(false),
+        Err(stop) => begins(alloc, stop, status, told),
     }
 }
 
 #[test]
-fn words_that_could_not_be_had(rt: HostRuntime) {
-    let is_full = is_refused(rt.alloc(), io::ErrorKind::OutOfMemory, RunFault::Memory);
-    assert!(rt; is_full && is_refused(rt.alloc(), io::ErrorKind::InvalidData, RunFault::Usage));
+fn words_that_could_not_be_had(rt: HostRuntime) -> Result<(), Fail> {
+    let kind = io::ErrorKind::OutOfMemory;
+    assert!(rt;
+        stops(
+            rt.alloc(),
+            kind,
+            4,
+            "ioc-replay: out of memory while loading\n"
+        )?
+    );
+    let kind = io::ErrorKind::InvalidData;
+    assert!(rt; stops(rt.alloc(), kind, 2, "ioc-replay: a word is no UTF-8 (")?);
+    Ok(())
 }
 
-/// How much of a text is compared.
-#[derive(Clone, Copy, PartialEq, Eq)]
-enum Extent {
-    Whole,
-    Front,
+// Does the program that comes to this end with this status, and tell just this there?
+fn tells(
+    alloc: Global,
+    ended: Result<(), Stop>,
+    status: u8,
+    stream: Stream,
+    told: &str,
+) -> Result<bool, AllocError> {
+    let ending = Ending::of(ended);
+    let text = ending.to_string(alloc)?;
+    Ok(ending.status == status && ending.stream == stream && text.as_str() == told)
 }
 
-// The result of a run, with the exit status, the stream and the text that is printed.
-static ENDINGS: [(Result<(), RunFault>, u8, Stream, Extent, &str); 8] = [
-    (Ok(()), 0, Stream::Error, Extent::Whole, ""),
+fn tells_fault(alloc: Global, stop: Stop, status: u8, told: &str) -> Result<bool, AllocError> {
+    tells(alloc, Err(stop), status, Stream::Error, told)
+}
+
+#[test]
+fn endings(rt: HostRuntime) -> Result<(), Fail> {
+    let alloc = rt.alloc();
+    assert!(rt; tells(alloc, Ok(()), 0, Stream::Error, "")?);
+    assert!(rt;
+        tells(
+            alloc,
+            Err(Stop::Version),
+            0,
+            Stream::Output,
+            "ioc-replay 0.1.0\n"
+        )?
+    );
+    let refused = Stop::BadDb(DbFault {
+        line: 2,
+        kind: BadDbKind::Unclosed,
+    });
+    assert!(rt; tells_fault(alloc, refused, 1, "E13 BadDb line 2: text not closed\n")?);
+    let full = Stop::Write(Reason::StorageFull);
+    let told = "ioc-replay: cannot write the replies: No space left on device\n";
+    assert!(rt; tells_fault(alloc, full, 3, told)?);
+    assert!(rt; tells_fault(alloc, Stop::Write(Reason::BrokenPipe), 3, "")?);
+    let told = "ioc-replay: out of memory in a line of the script\n";
+    assert!(rt; tells_fault(alloc, Stop::Memory(Stage::Line), 4, told)?);
+    Ok(())
+}
+
+// Files that can't be opened or read, by the kind of the error, and what is told.
+static UNREADABLE: [(FileRole, io::ErrorKind, u8, &str); 5] = [
     (
-        Err(RunFault::BadDb(DbFault {
-            line: 2,
-            kind: BadDbKind::Unclosed,
-        })),
-        1,
-        Stream::Error,
-        Extent::Whole,
-        "E13 BadDb line 2: text not closed\n",
-    ),
-    (
-        Err(RunFault::Usage),
-        2,
-        Stream::Error,
-        Extent::Whole,
-        "usage: ioc-replay DB SCRIPT [NAME=VALUE]..\n",
-    ),
-    (
-        Err(RunFault::Read),
+        FileRole::Database,
+        io::ErrorKind::NotFound,
         3,
-        Stream::Error,
-        Extent::Whole,
-        "the input cannot be read\n",
+        "ioc-replay: cannot read database 'x.y': No such file or directory\n",
     ),
     (
-        Err(RunFault::Write),
+        FileRole::Script,
+        io::ErrorKind::PermissionDenied,
         3,
-        Stream::Error,
-        Extent::Whole,
-        "the replies cannot be written\n",
+        "ioc-replay: cannot read script 'x.y': Permission denied\n",
     ),
     (
-        Err(RunFault::Memory),
+        FileRole::Database,
+        io::ErrorKind::IsADirectory,
+        3,
+        "ioc-replay: cannot read database 'x.y': Is a directory\n",
+    ),
+    (
+        FileRole::Script,
+        io::ErrorKind::Uncategorized,
+        3,
+        "ioc-replay: cannot read script 'x.y': Input/output error\n",
+    ),
+    (
+        FileRole::Database,
+        io::ErrorKind::OutOfMemory,
         4,
-        Stream::Error,
-        Extent::Whole,
-        "out of memory\n",
-    ),
-    // What the program was asked for.
-    (
-        Err(RunFault::Help),
-        0,
-        Stream::Output,
-        Extent::Front,
-        "ioc-replay DB SCRIPT [NAME=VALUE]..",
-    ),
-    (
-        Err(RunFault::Version),
-        0,
-        Stream::Output,
-        Extent::Front,
-        "ioc-replay ",
+        "ioc-replay: out of memory while loading\n",
     ),
 ];
 
-fn is_told(text: &str, extent: Extent, wanted: &str) -> bool {
-    match extent {
-        Extent::Whole => text == wanted,
-        Extent::Front => text.starts_with(wanted),
-    }
-}
-
-fn tells(alloc: Global, ending: &Ending, extent: Extent, wanted: &str) -> bool {
-    match ending.to_string(alloc) {
-        Ok(text) => is_told(text.as_str(), extent, wanted),
-        Err(_) => false,
-    }
+fn is_unreadable(
+    alloc: Global,
+    role: FileRole,
+    kind: io::ErrorKind,
+    status: u8,
+    told: &str,
+) -> Result<bool, AllocError> {
+    let path = String::from_str(alloc, "x.y")?;
+    let stop = unreadable(role, path, &io::Error::from(kind));
+    tells_fault(alloc, stop, status, told)
 }
 
 #[test]
-fn endings(rt: HostRuntime) {
-    for (ended, status, stream, extent, told) in &ENDINGS {
-        let ending = Ending::of(*ended);
+fn files_that_cannot_be_read(rt: HostRuntime) -> Result<(), Fail> {
+    for (role, kind, status, told) in &UNREADABLE {
         assert!(rt;
-            ending.status == *status
-                && ending.stream == *stream
-                && tells(rt.alloc(), &ending, *extent, told),
-            "status {status}"
+            is_unreadable(rt.alloc(), *role, *kind, *status, told)?,
+            "{told}"
         );
     }
+    Ok(())
 }
 
-// The result of a run, whether the flush fails, and the result of both.
-static FLUSHES: [(Result<(), RunFault>, bool, Result<(), RunFault>); 3] = [
-    (Ok(()), false, Ok(())),
-    (Ok(()), true, Err(RunFault::Write)),
-    (Err(RunFault::Read), true, Err(RunFault::Read)),
+// A run and its flush, which fails for a full disk where that is said, and what is told.
+static FLUSHES: [(Result<(), RunFault>, bool, u8, &str); 6] = [
+    (Ok(()), false, 0, ""),
+    (
+        Ok(()),
+        true,
+        3,
+        "ioc-replay: cannot write the replies: No space left on device\n",
+    ),
+    (
+        Err(RunFault::Write),
+        true,
+        3,
+        "ioc-replay: cannot write the replies: No space left on device\n",
+    ),
+    (
+        Err(RunFault::Write),
+        false,
+        3,
+        "ioc-replay: cannot write the replies: Input/output error\n",
+    ),
+    (
+        Err(RunFault::Read(Reason::IsADirectory)),
+        true,
+        3,
+        "ioc-replay: cannot read script 'b.script': Is a directory\n",
+    ),
+    (
+        Err(RunFault::Memory(Stage::Line)),
+        true,
+        4,
+        "ioc-replay: out of memory in a line of the script\n",
+    ),
 ];
 
 fn flushed(fails: bool) -> io::Result<()> {
@@ -209,9 +308,25 @@ fn flushed(fails: bool) -> io::Result<()> {
     }
 }
 
+fn comes_to(
+    alloc: Global,
+    ran: Result<(), RunFault>,
+    fails: bool,
+    status: u8,
+    told: &str,
+) -> Result<bool, AllocError> {
+    let script = String::from_str(alloc, "b.script")?;
+    let ended = whole_run(ran, flushed(fails), script);
+    tells(alloc, ended, status, Stream::Error, told)
+}
+
 #[test]
-fn a_flush_that_fails(rt: HostRuntime) {
-    for (ran, fails, wanted) in &FLUSHES {
-        assert!(rt; whole_run(*ran, flushed(*fails)) == *wanted);
+fn a_flush_that_fails(rt: HostRuntime) -> Result<(), Fail> {
+    for (ran, fails, status, told) in &FLUSHES {
+        assert!(rt;
+            comes_to(rt.alloc(), *ran, *fails, *status, told)?,
+            "{told}"
+        );
     }
+    Ok(())
 }

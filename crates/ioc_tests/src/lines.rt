@@ -1,7 +1,7 @@
 //! Scripts with readers and writers of one byte per call.
 use crate::streams::{OneByteReader, OneByteWriter};
 use ioc_dbfile::Macros;
-use ioc_main::{RunFault, run};
+use ioc_main::{Reason, RunFault, run};
 use std::alloc::Global;
 
 const DB: &[u8] = b"record(longin,\"a\"){field(VAL,\"3\")}";
@@ -44,5 +44,5 @@ fn is_read(alloc: Global, left: usize, wanted: Result<(), RunFault>, printed: &[
 #[test]
 fn a_reader_of_one_byte(rt: HostRuntime) {
     let is_whole = is_read(rt.alloc(), 1000, Ok(()), WANTED);
-    assert!(rt; is_whole && is_read(rt.alloc(), 12, Err(RunFault::Read), b"= 3\n"));
+    assert!(rt; is_whole && is_read(rt.alloc(), 12, Err(RunFault::Read(Reason::Other)), b"= 3\n"));
 }

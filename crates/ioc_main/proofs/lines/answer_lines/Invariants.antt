@@ -1,7 +1,7 @@
 use Rattle.std.proofs.Common.{◌≡◌, ◌≤◌, ◌+◌, ℕ, List, [], ◌++◌, length}
 use Rattle.ioc_main.specs.Coming.{still, to_come}
 use Rattle.ioc_main.specs.Written.{Writes}
-use Rattle.ioc_main.proofs.lines.feed.Given as goal
+use Rattle.ioc_main.proofs.lines.answer_lines.Given as goal
 
 abbrev pub invariant-loop-rest : goal.invariant-loop-rest
 invariant-loop-rest g l =
