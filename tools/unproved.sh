@@ -41,6 +41,9 @@ clang="$kit/toolchain/bin/clang --target=x86_64-unknown-linux-gnu --sysroot=$kit
 $clang -S -emit-llvm -O0 -Xclang -disable-llvm-passes "$folder/module.bc" -o "$folder/module.ll"
 rm "$folder/module.bc"
 python3 "$tools/unproved.py" "$kit" "$folder/crates" "$folder/module.ll" "$folder/plain.ll"
-$clang -c -O3 -fPIE -march=x86-64 -ffunction-sections -fdata-sections "$folder/plain.ll" -o "$folder/program.o"
+# The flags with which the kit compiles a proved program.
+$clang -c -O3 -fPIE -march=x86-64 -ffunction-sections -fdata-sections -Xclang -fmerge-functions -mllvm -mergefunc-use-aliases \
+  -mllvm -no-trap-after-noreturn -mllvm -trap-unreachable -mllvm -no-x86-call-frame-opt -mllvm -disable-machine-licm \
+  -mllvm -disable-postra-machine-licm -mllvm -sink-common-insts=false "$folder/plain.ll" -o "$folder/program.o"
 "$kit/bin/rattle-link" --target x86_64-unknown-linux-gnu --toolchain "$kit/toolchain" -o "$folder/program" "$folder/program.o" \
   "$kit/c/libos_c.a" "$kit/c/liblibc_c.a" > "$folder/link.log"
