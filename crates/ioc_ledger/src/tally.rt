@@ -1,4 +1,4 @@
-//! Counts of requests.
+//! The counts of requests.
 ghost use Rattle.std.specs.Prelude.{◌≡◌};
 
 use crate::outcome::Outcome;

@@ -10,7 +10,7 @@ use Rattle.ioc_main.specs.declared.fault.ScriptFault.{ScriptFault}
 use Rattle.ioc_main.specs.declared.fault.ScriptFault.TheVariants as script
 use Rattle.ioc_main.specs.declared.fault.RunFault.{RunFault}
 use Rattle.ioc_main.specs.declared.fault.RunFault.TheVariants.{Memory}
-use Rattle.ioc_main.specs.declared.fault.Stage.TheVariants.{Loading}
+use Rattle.ioc_main.specs.declared.fault.Stage.TheVariants.{Loading as while_loading}
 use Rattle.ioc_main.specs.Faults.{run_fault_of, fault_of}
 use Rattle.ioc_values.specs.declared.error.IocError.{IocError}
 use Rattle.ioc_values.specs.declared.error.IocError.TheVariants as refusal
@@ -51,8 +51,8 @@ keeps_same : (w : Option (List ℕ)) → Keeps w w
 keeps_same None = tt
 keeps_same (Some bytes) = refl
 
--- memory was wanting before the first line
-pub memory_stops : (macros : List Defined) (text : List ℕ) (a w : Option (List ℕ)) → StopsWith (Memory Loading) macros text a w w
+-- Allocation failed before the first line.
+pub memory_stops : (macros : List Defined) (text : List ℕ) (a w : Option (List ℕ)) → StopsWith (Memory while_loading) macros text a w w
 memory_stops macros text a w = keeps_same w
 
 -- Nothing was loaded.

@@ -110,8 +110,8 @@ is_out_of_memory _ = false
 abbrev pub unreadable : FileRole → String Global → ErrorKind → Stop
 unreadable role path kind = if is_out_of_memory kind then Memory Loading else Unreadable role path (reason_of kind)
 
--- a run of the script with this path, and then the flush of what it wrote: the fault that came first. Where a write failed, the flush
--- tries once more, and tells why
+-- a run of the script with this path, and then the flush of what it wrote: the fault that came
+-- first. Where a write failed, the flush tries once more, and tells why
 abbrev pub whole_run : Result (Unit {0}) RunFault → Result (Unit {0}) Error → String Global → Result (Unit {0}) Stop
 whole_run (Ok _) (Ok _) script = Ok tt
 whole_run (Ok _) (Err e) script = Err (Write (reason_of (error_kind e)))
@@ -132,7 +132,7 @@ unfoldable pub told_of : Stop → Option Stop
 told_of (Write reason.BrokenPipe) = None
 told_of other = Some other
 
--- how the program ends: each reason has its status and its stream
+-- How the program ends: each fault has its status and its stream.
 unfoldable pub ending_of : Result (Unit {0}) Stop → Ending
 ending_of (Ok _) = record { status = 0; stream = stream.Error; told = None }
 ending_of (Err stop) = record { status = status_of stop; stream = stream_of stop; told = told_of stop }

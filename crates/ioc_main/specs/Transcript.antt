@@ -8,7 +8,7 @@ use Rattle.ioc_dblex.specs.Macros.{Defined}
 use Rattle.ioc_dbfile.specs.Loader.{Loading}
 use Rattle.ioc_dbfile.specs.Finished.{loaded_by}
 use Rattle.ioc_main.specs.declared.fault.RunFault.{RunFault}
-use Rattle.ioc_main.specs.declared.fault.Stage.TheVariants.{Loading, Line}
+use Rattle.ioc_main.specs.declared.fault.Stage.TheVariants.{Loading as while_loading, Line as in_line}
 use Rattle.ioc_main.specs.declared.fault.RunFault.TheVariants.{BadDb, Read, Write, Memory}
 use Rattle.ioc_main.specs.Script.{lines_of}
 use Rattle.ioc_sim.specs.Machine.{first_machine}
@@ -35,12 +35,12 @@ transcript_of macros text script = transcript_by (loaded macros text) script
 abbrev pub IsDatabase : List Defined → List ℕ → Type 0
 IsDatabase macros text = (database : Loading Record) × (loaded macros text ≡ Ok database)
 
--- a refused text is told by its first fault, and nothing is written; nor is it where memory was wanting while the database was made.
--- Where the script stopped, or memory was wanting in one of its lines, a beginning of the transcript was written, and after a failed
--- write not all of it
+-- a refused text is told by its first fault, and nothing is written; nor is it where memory was
+-- wanting while the database was made. Where the script stopped, or memory was wanting in one of
+-- its lines, a beginning of the transcript was written, and after a failed write not all of it
 abbrev pub StopsWith : RunFault → List Defined → List ℕ → Option (List ℕ) → Option (List ℕ) → Option (List ℕ) → Type 0
 StopsWith (BadDb fault) macros text script old new = (loaded macros text ≡ Err fault) × Keeps old new
-StopsWith (Memory Loading) macros text script old new = Keeps old new
-StopsWith (Memory Line) macros text script old new = IsDatabase macros text × IfSome script (λ script. WritesFront old (transcript_of macros text script) new)
+StopsWith (Memory while_loading) macros text script old new = Keeps old new
+StopsWith (Memory in_line) macros text script old new = IsDatabase macros text × IfSome script (λ script. WritesFront old (transcript_of macros text script) new)
 StopsWith (Read reason) macros text script old new = IsDatabase macros text × IfSome script (λ script. WritesFront old (transcript_of macros text script) new)
 StopsWith Write macros text script old new = IsDatabase macros text × IfSome script (λ script. WritesPart old (transcript_of macros text script) new)

@@ -37,7 +37,7 @@ fn asked(word: &[u8]) -> Option<Stop>
     None
 }
 
-/// The first of some words, which is the path of a file.
+/// Takes the first of some words, which is the path of a file.
 fn file(words: &mut Args, missing: UsageFault) -> Result<String, Stop>
     ensures { Found (λ f. (f, into_iter_items words.new)) result (file_of missing (into_iter_items words.old)) }
 {
@@ -50,7 +50,7 @@ fn file(words: &mut Args, missing: UsageFault) -> Result<String, Stop>
     }
 }
 
-/// Defines the macro that a word says.
+/// Defines the macro of a word.
 fn define(alloc: Global, word: String, macros: &mut Macros) -> Result<(), Stop>
     ensures { MacroDefined macros.old (macro_of word (asked (string_bytes word))) result macros.new }
 {
@@ -68,7 +68,7 @@ fn define(alloc: Global, word: String, macros: &mut Macros) -> Result<(), Stop>
     }
 }
 
-/// The macros that these words define.
+/// Returns the macros that these words define.
 fn macros_of(alloc: Global, words: Args) -> Result<Macros, Stop>
     ensures { Found (λ m. m) result (macros_of [] (into_iter_items words)) }
 {
@@ -86,8 +86,9 @@ impl Arguments {
     ///
     /// # Errors
     ///
-    /// [`Stop::Usage`] where these are not the words, or one of them is no UTF-8; [`Stop::Help`] and [`Stop::Version`] where a
-    /// word asks for these before another is wrong; and [`Stop::Memory`] where a growth was refused.
+    /// [`Stop::Usage`] where these are not the words, or one of them is no UTF-8; [`Stop::Help`]
+    /// and [`Stop::Version`] where a word asks for these before another is wrong; and
+    /// [`Stop::Memory`] where a growth was refused.
     pub fn from_words(alloc: Global, words: io::Result<Args>) -> Result<Self, Stop>
         ensures { ArgumentsGiven words result }
     {

@@ -35,24 +35,24 @@ pub enum UsageFault {
 /// Why the program stops before the end of its script, or never begins.
 #[derive(Debug, PartialEq, Eq, Drop)]
 pub enum Stop {
-    /// The program was asked what it takes.
+    /// The program was asked for help.
     Help,
     /// The program was asked for its version.
     Version,
-    /// The program was not given two files and macros.
+    /// The arguments weren't two files and macros.
     Usage(UsageFault),
     /// The file of this path could not be opened or read.
     Unreadable(FileRole, String, Reason),
-    /// The database text was refused.
+    /// The database text is invalid.
     BadDb(DbFault),
     /// The replies could not be written.
     Write(Reason),
-    /// A growth was refused.
+    /// Allocation failed.
     Memory(Stage),
 }
 
-/// How the program ends: with what exit status, and what it says of it where. Its text is printed as it stands, line feed
-/// included.
+/// How the program ends: its exit status, the stream that it writes to, and the fault that it
+/// reports. Its text is printed as it is, including the line feed.
 #[derive(Debug, PartialEq, Eq, Drop)]
 pub struct Ending {
     pub status: u8,
@@ -71,8 +71,8 @@ pub fn unreadable(role: FileRole, path: String, error: &io::Error) -> Stop
     }
 }
 
-/// What a run of the script with this path came to, whose replies were then flushed: the replies before a fault are written
-/// all the same, and the fault is told that came first.
+/// What a run of the script with this path came to, whose replies were then flushed: the replies
+/// before a fault are written all the same, and the fault is told that came first.
 pub fn whole_run(
     ran: Result<(), RunFault>,
     flushed: io::Result<()>,
@@ -97,7 +97,8 @@ pub fn whole_run(
 
 #[tactic(auto, unfolding(crate::specs::Faults::status_of, crate::specs::Faults::stream_of, crate::specs::Faults::told_of))]
 impl Stop {
-    /// The exit status of the program, 0 to 4: 0 where it did what it was asked for.
+    /// Returns the exit status of the program, from 0 to 4. It is 0 if the program did what it was
+    /// asked for.
     pub fn status(&self) -> u8
         ensures { result ≡ status_of self.now }
     {
@@ -211,7 +212,7 @@ impl fmt::Display for Stop {
     }
 }
 
-// What the program takes.
+// The help text.
 const USAGE: &str =
     "ioc-replay DB SCRIPT [NAME=VALUE]..\n\nLoads the database text DB, in which the macros NAME stand for VALUE, does the script SCRIPT to it, and prints a line for each reply.\nWhere SCRIPT is - it is standard input.\n\n  -h, --help     prints this\n  -V, --version  prints the version";
 

@@ -69,22 +69,22 @@ pub enum Stage {
 /// Why a run stopped before the end of its script.
 #[derive(Clone, Copy, Debug, PartialEq, Eq)]
 pub enum RunFault {
-    /// The database text was refused.
+    /// The database text is invalid.
     BadDb(DbFault),
-    /// The script could not be read.
+    /// The script couldn't be read.
     Read(Reason),
-    /// A reply could not be written.
+    /// A reply couldn't be written.
     Write,
-    /// A growth was refused.
+    /// Allocation failed.
     Memory(Stage),
 }
 
 /// The reason why a script stopped before its end.
 #[derive(Clone, Copy, Debug, PartialEq, Eq)]
 pub enum ScriptFault {
-    /// The script could not be read.
+    /// The script couldn't be read.
     Read(Reason),
-    /// A reply could not be written.
+    /// A reply couldn't be written.
     Write,
     /// Allocation failed.
     Memory,

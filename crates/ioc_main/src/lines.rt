@@ -136,7 +136,8 @@ fn answer_lines<S: Session, W: Write>(
     Ok(())
 }
 
-// Answers the lines that end in a piece of the script, and writes what was said, so that their replies are out before more is read.
+// Answers the lines that end in a piece of the script, and writes what was said, so that their
+// replies are out before more is read.
 fn feed<S: Session, W: Write>(
     session: &mut S,
     line: &mut Line,
@@ -156,7 +157,7 @@ fn feed<S: Session, W: Write>(
     Ok(())
 }
 
-// A last line that no line feed ends counts.
+// Answers a last line without a line feed, if there is one.
 fn answer_rest<S: Session, W: Write>(
     session: &mut S,
     line: &mut Line,

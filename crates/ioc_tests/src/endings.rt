@@ -1,4 +1,4 @@
-//! What the program takes from its arguments, and how it ends.
+//! The arguments of the program, and how it ends.
 use ioc_main::{
     Arguments, Ending, FileRole, Reason, RunFault, Stage, Stop, Stream, unreadable, whole_run,
 };
