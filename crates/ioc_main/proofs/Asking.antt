@@ -14,12 +14,12 @@ chosen true tells other P e p q = let same : Help ≡ other = cc in subst P same
 chosen false true other P e p q = let same : Version ≡ other = cc in subst P same q
 chosen false false other P e p q = absurd cc
 
--- nothing but help and the version
+-- A word asks for nothing but help and the version.
 pub asked_is : (word : List ℕ) (other : Stop) (P : Stop → Type 0) → asked word ≡ Some other → P Help → P Version → P other
 unfolding asked
 asked_is word other P e p q = chosen (is_either word (codes "-h") (codes "--help")) (is_either word (codes "-V") (codes "--version")) other P e p q
 
--- a word that asks for something else defines no macro, and is no path
+-- A word that asks for something else defines no macro and is no path.
 module _ (word : String Global) (bytes : List ℕ) (answer : Option Stop) (other : Stop) (is : bytes ≡ string_bytes word) (answers : answer ≡ asked bytes) (some : answer ≡ Some other) where
   asks : asked (string_bytes word) ≡ Some other
   asks = ap asked (sym is) ∙ sym answers ∙ some

@@ -111,7 +111,7 @@ module _ (p : List ℕ) (t : List (List ℕ) → List ℕ) where
       let b : Writes w (still p t (line ∷ [])) v r = subst (λ (l : List ℕ). Writes w (still p t (line ∷ [])) v l) (ap (λ (l : List ℕ). r ++ l) none ∙ append-nil r) a in
       subst (λ (l : List ℕ). Writes w l v r) (sym (last_is (still p t) line slice e h)) b
 
--- what was said for a piece is written behind what was written before
+-- The replies of a piece are written after what was written before.
 module _ (t : List (List ℕ) → List ℕ) (w0 w v : Option (List ℕ)) (all said more line rest : List ℕ) (none : more ≡ []) where
   pub piece_written : (left : List ℕ) → left ≡ [] → Writes w0 all w (to_come (still said t) line rest) → Appends w v (said ++ more) → Writes w0 all v (to_come (still left t) line rest)
   unfolding to_come

@@ -16,7 +16,7 @@ use Rattle.ioc_main.specs.declared.ending.Stop.{Stop}
 use Rattle.ioc_main.specs.declared.ending.Stop.TheVariants.{Usage, Help, Version, Memory}
 use Rattle.ioc_main.specs.Faults.{is_out_of_memory}
 
--- the word is one of two
+-- Whether the word is one of two.
 abbrev pub is_either : List ℕ → List ℕ → List ℕ → Bool
 is_either word short long = if pointwise nat_eq word short then true else pointwise nat_eq word long
 
@@ -50,7 +50,7 @@ abbrev pub file_by : String Global → List (String Global) → Option Stop → 
 file_by word behind (Some other) = Err other
 file_by word behind None = Ok (word, behind)
 
--- the first of the words, if there is one
+-- The first of the words, if there is one.
 abbrev pub file_of : UsageFault → List (String Global) → Result (String Global × List (String Global)) Stop
 file_of missing [] = Err (Usage missing)
 file_of missing (w ∷ ws) = file_by w ws (asked (string_bytes w))

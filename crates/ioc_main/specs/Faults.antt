@@ -29,7 +29,7 @@ use Rattle.ioc_main.specs.declared.ending.Ending.{Ending}
 use Rattle.ioc_main.specs.declared.ending.Stream.{Stream}
 use Rattle.ioc_main.specs.declared.ending.Stream.TheVariants as stream
 
--- why the operating system refused, by the kind of its error
+-- The reason of the operating system, by the kind of its error.
 abbrev pub reason_of : ErrorKind → Reason
 reason_of kind.NotFound = reason.NotFound
 reason_of kind.PermissionDenied = reason.PermissionDenied
@@ -39,7 +39,7 @@ reason_of kind.StorageFull = reason.StorageFull
 reason_of kind.BrokenPipe = reason.BrokenPipe
 reason_of _ = reason.Other
 
--- the words of the operating system
+-- The words of the operating system.
 unfoldable pub reason_text : Reason → List ℕ
 reason_text reason.NotFound = codes "No such file or directory"
 reason_text reason.PermissionDenied = codes "Permission denied"
@@ -49,19 +49,19 @@ reason_text reason.StorageFull = codes "No space left on device"
 reason_text reason.BrokenPipe = codes "Broken pipe"
 reason_text reason.Other = codes "Input/output error"
 
--- what a file is to the program
+-- The word for a file's role.
 unfoldable pub role_text : FileRole → List ℕ
 role_text Database = codes "database"
 role_text Script = codes "script"
 
--- what is wrong with the words of the command line
+-- The words for a fault of the command line.
 unfoldable pub usage_text : UsageFault → List ℕ
 usage_text NoDatabase = codes "no database given"
 usage_text NoScript = codes "no script given"
 usage_text (NoDefinition word) = codes "'" ++ string_bytes word ++ codes "' is no NAME=VALUE"
 usage_text NotText = codes "a word is no UTF-8"
 
--- the exit status of the program that this stops
+-- The exit status of the program.
 unfoldable pub status_of : Stop → ℕ
 status_of Help = 0
 status_of Version = 0
@@ -71,7 +71,7 @@ status_of (Unreadable role path reason) = 3
 status_of (Write reason) = 3
 status_of (Memory stage) = 4
 
--- what is told of it
+-- The text that is printed.
 unfoldable pub stop_text : Stop → List ℕ
 stop_text Help =
     codes "ioc-replay DB SCRIPT [NAME=VALUE]..\n\nLoads the database text DB, in which the macros NAME stand for VALUE, does the script SCRIPT to it, and prints a line for each reply.\nWhere SCRIPT is - it is standard input.\n\n  -h, --help     prints this\n  -V, --version  prints the version"
@@ -106,12 +106,12 @@ abbrev pub is_out_of_memory : ErrorKind → Bool
 is_out_of_memory kind.OutOfMemory = true
 is_out_of_memory _ = false
 
--- why a file could not be opened or read
+-- Why a file could not be opened or read.
 abbrev pub unreadable : FileRole → String Global → ErrorKind → Stop
 unreadable role path kind = if is_out_of_memory kind then Memory Loading else Unreadable role path (reason_of kind)
 
--- a run of the script with this path, and then the flush of what it wrote: the fault that came
--- first. Where a write failed, the flush tries once more, and tells why
+-- The result of a run of the script with this path, and then of the flush of its output: the first
+-- fault counts. If a write failed, the flush tries once more, and its error is the reason.
 abbrev pub whole_run : Result (Unit {0}) RunFault → Result (Unit {0}) Error → String Global → Result (Unit {0}) Stop
 whole_run (Ok _) (Ok _) script = Ok tt
 whole_run (Ok _) (Err e) script = Err (Write (reason_of (error_kind e)))
@@ -121,13 +121,13 @@ whole_run (Err (run.BadDb fault)) flushed script = Err (BadDb fault)
 whole_run (Err (run.Read reason)) flushed script = Err (Unreadable Script script reason)
 whole_run (Err (run.Memory stage)) flushed script = Err (Memory stage)
 
--- where it is told: on standard output what was asked for, and a fault on standard error
+-- The stream of the text: help and version go to standard output, faults to standard error.
 unfoldable pub stream_of : Stop → Stream
 stream_of Help = stream.Output
 stream_of Version = stream.Output
 stream_of _ = stream.Error
 
--- what is told of it: nothing where nobody reads the replies any more
+-- What is printed: nothing if the reader of the replies is gone.
 unfoldable pub told_of : Stop → Option Stop
 told_of (Write reason.BrokenPipe) = None
 told_of other = Some other
@@ -137,7 +137,7 @@ unfoldable pub ending_of : Result (Unit {0}) Stop → Ending
 ending_of (Ok _) = record { status = 0; stream = stream.Error; told = None }
 ending_of (Err stop) = record { status = status_of stop; stream = stream_of stop; told = told_of stop }
 
--- the line that tells it
+-- The printed line.
 abbrev pub told_line : Option Stop → List ℕ
 told_line None = []
 told_line (Some stop) = stop_text stop ++ 10 ∷ []

@@ -35,9 +35,10 @@ transcript_of macros text script = transcript_by (loaded macros text) script
 abbrev pub IsDatabase : List Defined → List ℕ → Type 0
 IsDatabase macros text = (database : Loading Record) × (loaded macros text ≡ Ok database)
 
--- a refused text is told by its first fault, and nothing is written; nor is it where memory was
--- wanting while the database was made. Where the script stopped, or memory was wanting in one of
--- its lines, a beginning of the transcript was written, and after a failed write not all of it
+-- If the text is refused, the fault is its first one and nothing is written. Nothing is written
+-- either if allocation fails while the database is loaded. If the script stops, or allocation fails
+-- in one of its lines, a beginning of the transcript is written; after a failed write it is not the
+-- whole transcript.
 abbrev pub StopsWith : RunFault → List Defined → List ℕ → Option (List ℕ) → Option (List ℕ) → Option (List ℕ) → Type 0
 StopsWith (BadDb fault) macros text script old new = (loaded macros text ≡ Err fault) × Keeps old new
 StopsWith (Memory while_loading) macros text script old new = Keeps old new

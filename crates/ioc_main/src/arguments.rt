@@ -86,9 +86,9 @@ impl Arguments {
     ///
     /// # Errors
     ///
-    /// [`Stop::Usage`] where these are not the words, or one of them is no UTF-8; [`Stop::Help`]
-    /// and [`Stop::Version`] where a word asks for these before another is wrong; and
-    /// [`Stop::Memory`] where a growth was refused.
+    /// [`Stop::Usage`] if these are not the words, or one of them isn't UTF-8. [`Stop::Help`] and
+    /// [`Stop::Version`] if a word asks for these before another is wrong. [`Stop::Memory`] if
+    /// allocation fails.
     pub fn from_words(alloc: Global, words: io::Result<Args>) -> Result<Self, Stop>
         ensures { ArgumentsGiven words result }
     {

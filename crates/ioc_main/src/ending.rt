@@ -60,7 +60,7 @@ pub struct Ending {
     pub told: Option<Stop>,
 }
 
-/// Why the program stops that an error kept from opening or reading a file.
+/// Returns why the program stops if an error kept it from opening or reading a file.
 pub fn unreadable(role: FileRole, path: String, error: &io::Error) -> Stop
     ensures { result ≡ unreadable role path (error_kind error.now) }
 {
@@ -71,8 +71,8 @@ pub fn unreadable(role: FileRole, path: String, error: &io::Error) -> Stop
     }
 }
 
-/// What a run of the script with this path came to, whose replies were then flushed: the replies
-/// before a fault are written all the same, and the fault is told that came first.
+/// Returns the result of a run of the script with this path whose output was then flushed. The
+/// replies before a fault are written all the same, and the first fault counts.
 pub fn whole_run(
     ran: Result<(), RunFault>,
     flushed: io::Result<()>,
@@ -111,7 +111,7 @@ impl Stop {
         }
     }
 
-    // Where it is told.
+    // Returns the stream on which the text is printed.
     fn stream(&self) -> Stream
         ensures { result ≡ stream_of self.now }
     {
@@ -121,7 +121,7 @@ impl Stop {
         }
     }
 
-    // What is told of it: nothing where nobody reads the replies any more.
+    // Returns what is printed. Nothing is printed if the reader of the replies is gone.
     fn told(self) -> Option<Stop>
         ensures { result ≡ told_of self }
     {

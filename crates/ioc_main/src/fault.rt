@@ -150,7 +150,7 @@ impl From<ScriptFault> for RunFault {
     }
 }
 
-/// What a load answers where memory is refused.
+/// Converts a failed allocation of a load.
 impl From<AllocError> for RunFault {
     ghost use Rattle.ioc_main.specs.declared.fault.Stage.TheVariants.{Loading};
     ghost use Rattle.ioc_main.specs.declared.fault.RunFault.TheVariants.{Memory};
