@@ -1,10 +1,9 @@
 //! Single records of each type, by the type's list of steps.
 use crate::steps::follow;
 use crate::{bi, bo, fanout, int64, longin, longout, multi, records, texts};
-use rec_binary::{Bi, Bo};
 use rec_flow::{Event, Fanout};
-use rec_multi::{Mbbi, Mbbo};
 use rec_numeric::{Int64in, Int64out, Longin, Longout};
+use rec_state::{Bi, Bo, Mbbi, Mbbo};
 use rec_text::{Stringin, Stringout};
 
 #[test]

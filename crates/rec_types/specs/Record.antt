@@ -20,14 +20,12 @@ use Rattle.rec_numeric.specs.declared.output.NumericOutput.{NumericOutput}
 use Rattle.rec_numeric.specs.Number.{long_number, int64_number}
 use Rattle.rec_numeric.specs.Input.{longin, int64in, new_input}
 use Rattle.rec_numeric.specs.Output.{longout, int64out, new_output}
-use Rattle.rec_binary.specs.declared.bi.Bi.{Bi as Bi-fields}
-use Rattle.rec_binary.specs.Bi.{bi, new_bi}
-use Rattle.rec_binary.specs.declared.bo.Bo.{Bo as Bo-fields}
-use Rattle.rec_binary.specs.Bo.{bo, new_bo}
-use Rattle.rec_multi.specs.declared.mbbi.Mbbi.{Mbbi as Mbbi-fields}
-use Rattle.rec_multi.specs.Mbbi.{mbbi, new_mbbi}
-use Rattle.rec_multi.specs.declared.mbbo.Mbbo.{Mbbo as Mbbo-fields}
-use Rattle.rec_multi.specs.Mbbo.{mbbo, new_mbbo}
+use Rattle.rec_state.specs.declared.two_states.TwoStates.{TwoStates}
+use Rattle.rec_state.specs.declared.sixteen_states.SixteenStates.{SixteenStates}
+use Rattle.rec_state.specs.declared.input.StateInput.{StateInput}
+use Rattle.rec_state.specs.declared.output.StateOutput.{StateOutput}
+use Rattle.rec_state.specs.Input.{bi, mbbi, new_bi, new_mbbi}
+use Rattle.rec_state.specs.Output.{bo, mbbo, new_bo, new_mbbo}
 use Rattle.rec_text.specs.declared.stringin.Stringin.{Stringin as Stringin-fields}
 use Rattle.rec_text.specs.Stringin.{stringin, new_stringin}
 use Rattle.rec_text.specs.declared.stringout.Stringout.{Stringout as Stringout-fields}
@@ -68,10 +66,10 @@ typed (Longin b) = record { Of = NumericInput ℤ; rules = longin; it = b; back 
 typed (Longout b) = record { Of = NumericOutput ℤ; rules = longout; it = b; back = Longout }
 typed (Int64in b) = record { Of = NumericInput ℤ; rules = int64in; it = b; back = Int64in }
 typed (Int64out b) = record { Of = NumericOutput ℤ; rules = int64out; it = b; back = Int64out }
-typed (Bi b) = record { Of = Bi-fields; rules = bi; it = b; back = Bi }
-typed (Bo b) = record { Of = Bo-fields; rules = bo; it = b; back = Bo }
-typed (Mbbi b) = record { Of = Mbbi-fields; rules = mbbi; it = b; back = Mbbi }
-typed (Mbbo b) = record { Of = Mbbo-fields; rules = mbbo; it = b; back = Mbbo }
+typed (Bi b) = record { Of = StateInput TwoStates; rules = bi; it = b; back = Bi }
+typed (Bo b) = record { Of = StateOutput TwoStates; rules = bo; it = b; back = Bo }
+typed (Mbbi b) = record { Of = StateInput SixteenStates; rules = mbbi; it = b; back = Mbbi }
+typed (Mbbo b) = record { Of = StateOutput SixteenStates; rules = mbbo; it = b; back = Mbbo }
 typed (Stringin b) = record { Of = Stringin-fields; rules = stringin; it = b; back = Stringin }
 typed (Stringout b) = record { Of = Stringout-fields; rules = stringout; it = b; back = Stringout }
 typed (Fanout b) = record { Of = Fanout-fields; rules = fanout; it = b; back = Fanout }

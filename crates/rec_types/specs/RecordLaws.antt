@@ -23,10 +23,8 @@ use Rattle.ioc_record.specs.BodyLaws.{IsLawfulBody, LeadsTo}
 use Rattle.rec_numeric.specs.Input.{longin}
 use Rattle.rec_numeric.specs.InputLaws.{longin_lawful, int64in_lawful}
 use Rattle.rec_numeric.specs.OutputLaws.{longout_lawful, int64out_lawful}
-use Rattle.rec_binary.specs.BiLaws.{bi_lawful}
-use Rattle.rec_binary.specs.BoLaws.{bo_lawful}
-use Rattle.rec_multi.specs.MbbiLaws.{mbbi_lawful}
-use Rattle.rec_multi.specs.MbboLaws.{mbbo_lawful}
+use Rattle.rec_state.specs.InputLaws.{bi_lawful, mbbi_lawful}
+use Rattle.rec_state.specs.OutputLaws.{bo_lawful, mbbo_lawful}
 use Rattle.rec_text.specs.StringinLaws.{stringin_lawful}
 use Rattle.rec_text.specs.StringoutLaws.{stringout_lawful}
 use Rattle.rec_flow.specs.FanoutLaws.{fanout_lawful}

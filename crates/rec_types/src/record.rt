@@ -6,10 +6,9 @@ use ioc_dbcommon::{BodyBox, Condition, Got, InputKind, LinkBox, LinkUse, Need, O
 use ioc_fields::{OwnField, RecordType};
 use ioc_record::RecordBody;
 use ioc_values::{Range, Text, Value};
-use rec_binary::{Bi, Bo};
 use rec_flow::{Event, Fanout};
-use rec_multi::{Mbbi, Mbbo};
 use rec_numeric::{Int64in, Int64out, Longin, Longout};
+use rec_state::{Bi, Bo, Mbbi, Mbbo};
 use rec_text::{Stringin, Stringout};
 use std::alloc::{AllocError, Global};
 

@@ -6,10 +6,8 @@ use Rattle.ioc_fields.specs.declared.field_no.OwnField.{OwnField}
 use Rattle.ioc_record.specs.BodyRules.{BodyRules, BodyState, number_stored}
 use Rattle.rec_numeric.specs.Input.{longin, int64in}
 use Rattle.rec_numeric.specs.Output.{longout, int64out}
-use Rattle.rec_binary.specs.Bi.{bi}
-use Rattle.rec_binary.specs.Bo.{bo}
-use Rattle.rec_multi.specs.Mbbi.{mbbi}
-use Rattle.rec_multi.specs.Mbbo.{mbbo}
+use Rattle.rec_state.specs.Input.{bi, mbbi}
+use Rattle.rec_state.specs.Output.{bo, mbbo}
 use Rattle.rec_text.specs.Stringin.{stringin}
 use Rattle.rec_text.specs.Stringout.{stringout}
 use Rattle.rec_flow.specs.Fanout.{fanout}

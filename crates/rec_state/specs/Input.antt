@@ -1,0 +1,100 @@
+-- The types bi and mbbi. Record Reference Manual, "Binary Input Record" and "Multi-Bit Binary Input
+-- Record".
+use Rattle.std.specs.Prelude.{Bool, if◌then◌else◌, Option, Some, None}
+use Rattle.ioc_values.specs.declared.value.Value.{Value}
+use Rattle.ioc_values.specs.declared.kind.Range.TheVariants as range
+use Rattle.ioc_links.specs.declared.link.Link.{Link}
+use Rattle.ioc_links.specs.declared.link.Link.TheVariants.{Constant}
+use Rattle.ioc_fields.specs.declared.field_no.OwnField.{OwnField}
+use Rattle.ioc_fields.specs.declared.field_no.OwnField.TheVariants.{Inp}
+use Rattle.ioc_dbcommon.specs.declared.body.Got.{Got}
+use Rattle.ioc_dbcommon.specs.declared.body.InputKind.{InputKind}
+use Rattle.ioc_dbcommon.specs.declared.body.InputKind.TheVariants as input
+use Rattle.ioc_dbcommon.specs.declared.body.Output.TheVariants.{NoOutput}
+use Rattle.ioc_dbcommon.specs.Raw.{is_raw}
+use Rattle.ioc_dbcommon.specs.Source.{new_source, source_link, source_with_link, source_begin}
+use Rattle.ioc_record.specs.BodyRules.{BodyRules, BodyState}
+use Rattle.rec_state.specs.States.{StateRules}
+use Rattle.rec_state.specs.TwoStates.{two_states}
+use Rattle.rec_state.specs.SixteenStates.{sixteen_states}
+use Rattle.rec_state.specs.StateFields.{new_fields, fields_get, put, input_worked, constant_put, mask_made, settled}
+use Rattle.rec_state.specs.declared.two_states.TwoStates.{TwoStates}
+use Rattle.rec_state.specs.declared.sixteen_states.SixteenStates.{SixteenStates}
+use Rattle.rec_state.specs.declared.state_fields.StateFields.{StateFields}
+use Rattle.rec_state.specs.declared.input.StateInput.{StateInput}
+
+-- ---- Fields
+
+unfoldable pub new_input : {S : Type 0} → StateRules S → StateInput S
+new_input k = record { fields = new_fields k; source = new_source }
+
+-- The fields of an input with its condition, and the input with these put back. INP stays the same.
+abbrev pub fields_of : {S : Type 0} → BodyState (StateInput S) → BodyState (StateFields S)
+fields_of h = record { body = h.body.fields; condition = h.condition }
+
+abbrev pub with_fields : {S : Type 0} → BodyState (StateInput S) → BodyState (StateFields S) → BodyState (StateInput S)
+with_fields h t = record { body = record h.body { fields = t.body }; condition = t.condition }
+
+unfoldable pub input_stored : {S : Type 0} → StateRules S → BodyState (StateInput S) → OwnField → Value → BodyState (StateInput S)
+input_stored k h field v = with_fields h (put k (fields_of h) field v)
+
+-- ---- The body
+
+-- Whether the raw value is read.
+abbrev pub reads_raw : {S : Type 0} → BodyState (StateInput S) → Bool
+reads_raw h = is_raw h.body.source.input.link h.condition
+
+-- The kind of the input: that of RVAL if the raw value is read, else that of VAL.
+unfoldable pub state_input_kind : {S : Type 0} → BodyState (StateInput S) → InputKind
+state_input_kind h = if reads_raw h then input.Number range.ULong else input.Number range.UShort
+
+unfoldable pub input_taken : {S : Type 0} → StateRules S → BodyState (StateInput S) → Got → BodyState (StateInput S)
+input_taken k h got = with_fields h (input_worked k (reads_raw h) (fields_of h) got)
+
+-- ---- The load
+
+-- A constant in INP must convert to RVAL.
+abbrev pub input_constant_kind : OwnField → Option InputKind
+input_constant_kind Inp = Some (input.Number range.ULong)
+input_constant_kind _ = None
+
+-- The fields with a constant INP put.
+abbrev pub link_put : {S : Type 0} → Bool → BodyState (StateFields S) → Link → BodyState (StateFields S)
+link_put raw t (Constant z) = constant_put raw t z
+link_put raw t _ = t
+
+-- The fields after the end of a load: MASK is set, a constant is put, and LALM becomes VAL.
+unfoldable pub input_loaded : {S : Type 0} → StateRules S → BodyState (StateInput S) → BodyState (StateInput S)
+input_loaded k h = with_fields h (settled (link_put (reads_raw h) (mask_made k (fields_of h)) h.body.source.input.link))
+
+-- ---- All of it
+
+abbrev pub state_input : {S : Type 0} → StateRules S → BodyRules (StateInput S)
+state_input k = record {
+  missing = new_input k;
+  record_type = λ b. k.input_type;
+  link = λ b. source_link b.source.input;
+  with_link = λ b field link. record b { source = source_with_link b.source field link };
+  states = λ b. k.texts b.fields.states;
+  get = λ b. fields_get k b.fields;
+  stored = input_stored k;
+  begin = λ b. source_begin b.source.input;
+  input_kind = state_input_kind;
+  taken = input_taken k;
+  output = λ h got. NoOutput;
+  constant_kind = λ h. input_constant_kind;
+  loaded = input_loaded k;
+}
+
+-- The rules of bi and mbbi.
+abbrev pub bi : BodyRules (StateInput TwoStates)
+bi = state_input two_states
+
+abbrev pub mbbi : BodyRules (StateInput SixteenStates)
+mbbi = state_input sixteen_states
+
+abbrev pub new_bi : StateInput TwoStates
+new_bi = new_input two_states
+
+abbrev pub new_mbbi : StateInput SixteenStates
+new_mbbi = new_input sixteen_states

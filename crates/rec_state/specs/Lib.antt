@@ -1,0 +1,13 @@
+pub mod Bits
+pub mod Slotted
+pub mod StateRows
+pub mod States
+pub mod StatesLaws
+pub mod TwoStates
+pub mod SixteenStates
+pub mod StateFields
+pub mod StateFieldsLaws
+pub mod Input
+pub mod InputLaws
+pub mod Output
+pub mod OutputLaws
