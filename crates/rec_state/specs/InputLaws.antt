@@ -44,13 +44,15 @@ module _ {S : Type 0} (k : StateRules S) (lawful : IsLawfulStates k) where
 
   -- ---- Values
 
-  reads_back_by : (h : BodyState (StateInput S)) (texts : List (List ℕ)) (f : OwnField) (v : Value) → can_put_by (state_input_row k.row f) → IsValueBy texts (state_input_row k.row f) v → fields_get k (input_stored k h f v).body.fields f ≡ Some v
+  reads_back_by : (h : BodyState (StateInput S)) (texts : List (List ℕ)) (f : OwnField) (v : Value) → can_put_by (state_input_row k.row f)
+      → IsValueBy texts (state_input_row k.row f) v → fields_get k (input_stored k h f v).body.fields f ≡ Some v
   unfolding state_input_row input_stored
   reads_back_by h texts Inp v can is = cc
   reads_back_by h texts f v can is = fields_read_back k lawful (fields_of h) texts f v can is
 
   reads_back : (h : BodyState (StateInput S)) (f : OwnField) (v : Value) → can_put k.input_type (Own f) ≡ true
-      → IsValueOf (sort_in (k.texts h.body.fields.states) (kind_of k.input_type (Own f))) v → fields_get k (input_stored k h f v).body.fields f ≡ Some v
+      → IsValueOf (sort_in (k.texts h.body.fields.states) (kind_of k.input_type (Own f))) v
+      → fields_get k (input_stored k h f v).body.fields f ≡ Some v
   unfolding row_of
   reads_back h f v can is =
       let texts = k.texts h.body.fields.states in

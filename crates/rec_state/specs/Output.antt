@@ -61,7 +61,8 @@ state_kind = input.Number range.UShort
 
 -- The fields with VAL set to IVOV, if IVOA says so. It is converted whatever the input was.
 unfoldable pub invalid_set : {S : Type 0} → StateRules S → IvoaMenu → ℕ → BodyState (StateFields S) → BodyState (StateFields S)
-invalid_set k action value t = if sets action t.condition then record t { body = converted k (record t.body { value = value }) } else t
+invalid_set k action value t =
+    if sets action t.condition then record t { body = converted k (record t.body { value = value }) } else t
 
 unfoldable pub output_taken : {S : Type 0} → StateRules S → BodyState (StateOutput S) → Got → BodyState (StateOutput S)
 output_taken k h got = with_fields h (invalid_set k h.body.drive.on_invalid h.body.invalid_value (output_worked k (fields_of h) got))
@@ -71,7 +72,8 @@ unfoldable pub driven_value : {S : Type 0} → StateRules S → StateOutput S �
 driven_value k b c = if is_raw b.drive.output.link c then value.ULong (k.driven b.fields.mask b.fields.raw) else value.UShort b.fields.value
 
 abbrev pub driven : {S : Type 0} → StateRules S → BodyState (StateOutput S) → Output
-driven k h = if drives h.body.drive.on_invalid h.condition then written h.body.drive.output (driven_value k h.body h.condition) else NoOutput
+driven k h =
+    if drives h.body.drive.on_invalid h.condition then written h.body.drive.output (driven_value k h.body h.condition) else NoOutput
 
 unfoldable pub output_driven : {S : Type 0} → StateRules S → BodyState (StateOutput S) → Got → Output
 output_driven k h got = driven k (output_taken k h got)

@@ -36,10 +36,13 @@ abbrev links : Drive → OwnField → Option LinkField
 links d = drive_link d.output d.desired
 
 stored_drive-links : (d : Drive) (f : OwnField) (v : Value) → links (drive_stored d f v) ≡ links d
-stored_drive-links d f v = ap (λ l. drive_link l (drive_stored d f v).desired) (drive_stored-output d f v) ∙ ap (drive_link d.output) (drive_stored-desired d f v)
+stored_drive-links d f v =
+    ap (λ l. drive_link l (drive_stored d f v).desired) (drive_stored-output d f v)
+    ∙ ap (drive_link d.output) (drive_stored-desired d f v)
 
 -- If a link is written, OUT leads to that field.
-driven_leads : (b : Bool) (out : LinkField) (x v : Value) (t : StandingLink) → cond b (written out x) NoOutput ≡ WriteLink (Standing t) v → use_of out ≡ Standing t
+driven_leads : (b : Bool) (out : LinkField) (x v : Value) (t : StandingLink)
+    → cond b (written out x) NoOutput ≡ WriteLink (Standing t) v → use_of out ≡ Standing t
 driven_leads true out x v t is = written_leads out x v t is
 driven_leads false out x v t is = cc
 
@@ -72,7 +75,8 @@ module _ {S : Type 0} (k : StateRules S) (lawful : IsLawfulStates k) where
 
   -- ---- Values
 
-  reads_back_by : (h : BodyState (StateOutput S)) (texts : List (List ℕ)) (f : OwnField) (v : Value) → can_put_by (state_output_row k.row f) → IsValueBy texts (state_output_row k.row f) v → output_get k (output_stored k h f v).body f ≡ Some v
+  reads_back_by : (h : BodyState (StateOutput S)) (texts : List (List ℕ)) (f : OwnField) (v : Value) → can_put_by (state_output_row k.row f)
+      → IsValueBy texts (state_output_row k.row f) v → output_get k (output_stored k h f v).body f ≡ Some v
   unfolding state_output_row output_row output_get output_stored field_sort
   reads_back_by h texts Ivov v can is = rw is.1 refl
   reads_back_by h texts Omsl v can is = omsl_reads_back h.body.drive v is
@@ -82,13 +86,15 @@ module _ {S : Type 0} (k : StateRules S) (lawful : IsLawfulStates k) where
   reads_back_by h texts f v can is = fields_read_back k lawful (fields_of h) texts f v can is
 
   reads_back : (h : BodyState (StateOutput S)) (f : OwnField) (v : Value) → can_put k.output_type (Own f) ≡ true
-      → IsValueOf (sort_in (k.texts h.body.fields.states) (kind_of k.output_type (Own f))) v → output_get k (output_stored k h f v).body f ≡ Some v
+      → IsValueOf (sort_in (k.texts h.body.fields.states) (kind_of k.output_type (Own f))) v
+      → output_get k (output_stored k h f v).body f ≡ Some v
   unfolding row_of
   reads_back h f v can is =
       let texts = k.texts h.body.fields.states in
       reads_back_by h texts f v (subst can_put_by (lawful.output_row f) can) (subst (λ r. IsValueBy texts r v) (lawful.output_row f) is)
 
-  set_values-of : (b : StateOutput S) (f : OwnField) (l : LinkField) (g : OwnField) → output_get k (record b { drive = drive_with_link b.drive f l }) g ≡ output_get k b g
+  set_values-of : (b : StateOutput S) (f : OwnField) (l : LinkField) (g : OwnField)
+      → output_get k (record b { drive = drive_with_link b.drive f l }) g ≡ output_get k b g
   unfolding output_get
   set_values-of b f l Omsl = drive_set_values b.drive f l Omsl
   set_values-of b f l Ivoa = drive_set_values b.drive f l Ivoa
@@ -96,7 +102,8 @@ module _ {S : Type 0} (k : StateRules S) (lawful : IsLawfulStates k) where
 
   -- ---- The output links
 
-  output_leads : (h : BodyState (StateOutput S)) (got : Got) (t : StandingLink) (v : Value) → output_driven k h got ≡ WriteLink (Standing t) v → use_of h.body.drive.output ≡ Standing t
+  output_leads : (h : BodyState (StateOutput S)) (got : Got) (t : StandingLink) (v : Value)
+      → output_driven k h got ≡ WriteLink (Standing t) v → use_of h.body.drive.output ≡ Standing t
   unfolding output_driven output_taken
   output_leads h got t v is =
       let d = output_taken k h got in

@@ -70,6 +70,7 @@ sixteen_stored t (StateText state) v = record t { texts = slotted_if [] t.texts 
 sixteen_stored t (StateSeverity state) v = record t { severities = slotted_if NoAlarm t.severities state (severity_in v) }
 sixteen_stored t _ v = t
 
+-- The rows of these fields.
 unfoldable pub sixteen_row : OwnField → Option Row
 sixteen_row Shft = Some (plain (Number Bits))
 sixteen_row Nobt = Some (plain (Number Bits))
@@ -146,14 +147,16 @@ sixteen_states = record {
 
 -- ---- Laws
 
-severity_back_at : (t : SixteenStates) (s : Slot) (n : ℕ) → n < 4 → severity_number (slot_at NoAlarm (slotted_if NoAlarm t.severities s (slice_get severities n)) s) ≡ n
+severity_back_at : (t : SixteenStates) (s : Slot) (n : ℕ) → n < 4
+    → severity_number (slot_at NoAlarm (slotted_if NoAlarm t.severities s (slice_get severities n)) s) ≡ n
 severity_back_at t s zero h = ap severity_number (slotted-here NoAlarm t.severities s NoAlarm)
 severity_back_at t s (suc zero) h = ap severity_number (slotted-here NoAlarm t.severities s Minor)
 severity_back_at t s (suc (suc zero)) h = ap severity_number (slotted-here NoAlarm t.severities s Major)
 severity_back_at t s (suc (suc (suc zero))) h = ap severity_number (slotted-here NoAlarm t.severities s Invalid)
 severity_back_at t s (suc (suc (suc (suc n)))) h = absurd (omega arith)
 
-sixteen_reads_back : (t : SixteenStates) (texts : List (List ℕ)) (f : OwnField) (v : Value) → can_put_by (sixteen_row f) → IsValueBy texts (sixteen_row f) v → sixteen_get (sixteen_stored t f v) f ≡ Some v
+sixteen_reads_back : (t : SixteenStates) (texts : List (List ℕ)) (f : OwnField) (v : Value) → can_put_by (sixteen_row f)
+    → IsValueBy texts (sixteen_row f) v → sixteen_get (sixteen_stored t f v) f ≡ Some v
 unfolding sixteen_row sixteen_get sixteen_stored field_sort
 sixteen_reads_back t texts Shft v can is = rw is.1 refl
 sixteen_reads_back t texts Nobt v can is = rw is.1 refl

@@ -45,7 +45,8 @@ put k h field v = record h { body = fields_stored k h.body field v }
 
 -- ---- VAL and RVAL
 
--- The fields with a value's masked bits in RVAL. VAL is set from these, and UDF is cleared.
+-- The fields with the bits of a number that MASK leaves in RVAL. VAL is set from these, and UDF is
+-- cleared.
 unfoldable pub raw_taken : {S : Type 0} → StateRules S → BodyState (StateFields S) → ℕ → BodyState (StateFields S)
 raw_taken k h raw =
     let bits = k.masked h.body.mask raw in
@@ -77,7 +78,8 @@ changed h =
 -- change.
 unfoldable pub tested : {S : Type 0} → StateRules S → BodyState (StateFields S) → BodyState (StateFields S)
 tested k h =
-    if h.condition.undefined == 0 then changed (record h { condition = raised status.State (k.severity h.body.states h.body.value) h.condition })
+    if h.condition.undefined == 0
+    then changed (record h { condition = raised status.State (k.severity h.body.states h.body.value) h.condition })
     else record h { condition = raised status.Udf h.condition.undefined_severity h.condition }
 
 -- The fields of an input with its alarms raised. A defined VAL that isn't a state may have none.
@@ -115,11 +117,11 @@ abbrev pub constant_put : {S : Type 0} → Bool → BodyState (StateFields S) �
 constant_put raw h z = if raw then raw_put h z else value_taken_if h (state_constant z)
 
 -- The fields with MASK as a load leaves it.
-abbrev pub masked : {S : Type 0} → StateRules S → StateFields S → StateFields S
-masked k t = record t { mask = k.loaded_mask t.states t.mask }
+abbrev pub mask_loaded : {S : Type 0} → StateRules S → StateFields S → StateFields S
+mask_loaded k t = record t { mask = k.loaded_mask t.states t.mask }
 
 abbrev pub mask_made : {S : Type 0} → StateRules S → BodyState (StateFields S) → BodyState (StateFields S)
-mask_made k h = record h { body = masked k h.body }
+mask_made k h = record h { body = mask_loaded k h.body }
 
 -- The fields with LALM set to VAL.
 abbrev pub settled : {S : Type 0} → BodyState (StateFields S) → BodyState (StateFields S)

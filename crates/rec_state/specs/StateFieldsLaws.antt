@@ -17,7 +17,8 @@ use Rattle.rec_state.specs.StateFields.{new_fields, fields_get, fields_stored, p
 use Rattle.rec_state.specs.declared.state_fields.StateFields.{StateFields}
 
 module _ {S : Type 0} (k : StateRules S) (lawful : IsLawfulStates k) where
-  pub fields_read_back : (h : BodyState (StateFields S)) (texts : List (List ℕ)) (f : OwnField) (v : Value) → can_put_by (state_row k.row f) → IsValueBy texts (state_row k.row f) v → fields_get k (put k h f v).body f ≡ Some v
+  pub fields_read_back : (h : BodyState (StateFields S)) (texts : List (List ℕ)) (f : OwnField) (v : Value) → can_put_by (state_row k.row f)
+      → IsValueBy texts (state_row k.row f) v → fields_get k (put k h f v).body f ≡ Some v
   unfolding state_row fields_get fields_stored put field_sort
   fields_read_back h texts Val v can is = rw is.1 refl
   fields_read_back h texts Rval v can is = rw is.1 refl

@@ -13,7 +13,8 @@ use Rattle.rec_state.specs.States.{StateRules}
 
 pub record IsLawfulStates {S : Type 0} (k : StateRules S) : Type 0 where
   -- A value that is put reads back, and a new record has the defaults.
-  pub reads_back : (s : S) (texts : List (List ℕ)) (f : OwnField) (v : Value) → can_put_by (k.row f) → IsValueBy texts (k.row f) v → k.get (k.stored s f v) f ≡ Some v
+  pub reads_back : (s : S) (texts : List (List ℕ)) (f : OwnField) (v : Value) → can_put_by (k.row f)
+      → IsValueBy texts (k.row f) v → k.get (k.stored s f v) f ≡ Some v
   pub defaults : (f : OwnField) → k.get k.new f ≡ default_by (k.row f)
   -- The states have no links, and no values in the link fields of both types.
   pub no_links : (f : OwnField) → is_link_by (k.row f) ≡ false

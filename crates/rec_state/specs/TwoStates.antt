@@ -49,6 +49,7 @@ two_stored t Zsv v = record t { zero_severity = unwrap_or (severity_in v) t.zero
 two_stored t Osv v = record t { one_severity = unwrap_or (severity_in v) t.one_severity }
 two_stored t _ v = t
 
+-- The rows of these fields.
 unfoldable pub two_row : OwnField → Option Row
 two_row Znam = Some (passive Text)
 two_row Onam = Some (passive Text)
@@ -106,7 +107,8 @@ two_states = record {
 
 -- ---- Laws
 
-two_reads_back : (t : TwoStates) (texts : List (List ℕ)) (f : OwnField) (v : Value) → can_put_by (two_row f) → IsValueBy texts (two_row f) v → two_get (two_stored t f v) f ≡ Some v
+two_reads_back : (t : TwoStates) (texts : List (List ℕ)) (f : OwnField) (v : Value) → can_put_by (two_row f)
+    → IsValueBy texts (two_row f) v → two_get (two_stored t f v) f ≡ Some v
 unfolding two_row two_get two_stored field_sort
 two_reads_back t texts Znam v can is = rw is.1 refl
 two_reads_back t texts Onam v can is = rw is.1 refl

@@ -1,7 +1,7 @@
 //! The fields that bi, bo, mbbi and mbbo share, and their alarms.
 ghost use Rattle.std.specs.Prelude.{◌≡◌};
 ghost use Rattle.ioc_record.specs.BodyRules.{BodyState};
-ghost use Rattle.rec_state.specs.StateFields.{new_fields, fields_get, fields_stored, put, raw_taken, raw_taken_if, value_taken_if, converted, changed, tested, input_tested, input_worked, output_worked, constant_put, masked};
+ghost use Rattle.rec_state.specs.StateFields.{new_fields, fields_get, fields_stored, put, raw_taken_if, value_taken_if, converted, changed, tested, input_tested, input_worked, output_worked, constant_put, mask_loaded};
 
 use crate::states::States;
 use ioc_dbcommon::{
@@ -79,7 +79,8 @@ impl<S: States> StateFields<S> {
     /// Stores a converted value. VAL clears UDF.
     #[tactic(auto, unfolding(crate::specs::StateFields::put))]
     pub fn put(&mut self, condition: &mut Condition, field: OwnField, value: Value)
-        ensures { record { body = self.new; condition = condition.new } ≡ put S.rules (record { body = self.old; condition = condition.old }) field value }
+        ensures { record { body = self.new; condition = condition.new }
+            ≡ put S.rules (record { body = self.old; condition = condition.old }) field value }
     {
         self.store(field, value);
         if let OwnField::Val = field {
@@ -87,29 +88,24 @@ impl<S: States> StateFields<S> {
         }
     }
 
-    // Stores a value masked by MASK in RVAL, and sets VAL from it.
+    // Stores the bits of a number that MASK leaves in RVAL, if there is one, and sets VAL from RVAL.
     #[tactic(auto, unfolding(crate::specs::StateFields::raw_taken))]
-    fn take_raw(&mut self, condition: &mut Condition, raw: u32)
-        ensures { record { body = self.new; condition = condition.new } ≡ raw_taken S.rules (record { body = self.old; condition = condition.old }) raw }
-    {
-        let bits = S::masked(self.mask, raw);
-        self.raw = bits;
-        self.value = self.states.state_of(bits);
-        condition.undefined = 0;
-    }
-
-    // Stores a number in RVAL and sets VAL, if there is one.
     fn take_raw_if(&mut self, condition: &mut Condition, raw: Option<u32>)
-        ensures { record { body = self.new; condition = condition.new } ≡ raw_taken_if S.rules (record { body = self.old; condition = condition.old }) raw }
+        ensures { record { body = self.new; condition = condition.new }
+            ≡ raw_taken_if S.rules (record { body = self.old; condition = condition.old }) raw }
     {
         if let Some(raw) = raw {
-            self.take_raw(condition, raw);
+            let bits = S::masked(self.mask, raw);
+            self.value = self.states.state_of(bits);
+            self.raw = bits;
+            condition.undefined = 0;
         }
     }
 
     /// Stores a number in VAL and clears UDF, if there is one.
     pub fn take_value_if(&mut self, condition: &mut Condition, value: Option<u16>)
-        ensures { record { body = self.new; condition = condition.new } ≡ value_taken_if (record { body = self.old; condition = condition.old }) value }
+        ensures { record { body = self.new; condition = condition.new }
+            ≡ value_taken_if (record { body = self.old; condition = condition.old }) value }
     {
         if let Some(value) = value {
             self.value = value;
@@ -117,7 +113,7 @@ impl<S: States> StateFields<S> {
         }
     }
 
-    /// Sets RVAL from VAL, if there is an RVAL for it.
+    /// Sets RVAL from VAL. RVAL stays the same if there is none for this VAL.
     #[tactic(auto, unfolding(crate::specs::StateFields::converted))]
     pub fn convert(&mut self)
         ensures { self.new ≡ converted S.rules self.old }
@@ -141,7 +137,8 @@ impl<S: States> StateFields<S> {
     // Raises the alarm of an undefined value, or else those of the state and of a change.
     #[tactic(auto, unfolding(crate::specs::StateFields::tested))]
     fn test(&mut self, condition: &mut Condition)
-        ensures { record { body = self.new; condition = condition.new } ≡ tested S.rules (record { body = self.old; condition = condition.old }) }
+        ensures { record { body = self.new; condition = condition.new }
+            ≡ tested S.rules (record { body = self.old; condition = condition.old }) }
     {
         if condition.undefined == 0 {
             condition.raise(Status::State, self.states.severity(self.value));
@@ -155,7 +152,8 @@ impl<S: States> StateFields<S> {
     // Raises the alarms of an input. A defined VAL that isn't a state may have none.
     #[tactic(auto, unfolding(crate::specs::StateFields::input_tested))]
     fn test_input(&mut self, condition: &mut Condition)
-        ensures { record { body = self.new; condition = condition.new } ≡ input_tested S.rules (record { body = self.old; condition = condition.old }) }
+        ensures { record { body = self.new; condition = condition.new }
+            ≡ input_tested S.rules (record { body = self.old; condition = condition.old }) }
     {
         if condition.undefined != 0 || S::has_alarms(self.value) {
             self.test(condition);
@@ -165,7 +163,8 @@ impl<S: States> StateFields<S> {
     /// Takes what an input read, in RVAL if it is the raw value, or else in VAL, and raises alarms.
     #[tactic(auto, unfolding(crate::specs::StateFields::input_worked))]
     pub fn work_input(&mut self, condition: &mut Condition, raw: bool, got: &Got)
-        ensures { record { body = self.new; condition = condition.new } ≡ input_worked S.rules raw (record { body = self.old; condition = condition.old }) got.now }
+        ensures { record { body = self.new; condition = condition.new }
+            ≡ input_worked S.rules raw (record { body = self.old; condition = condition.old }) got.now }
     {
         if raw {
             self.take_raw_if(condition, raw_came(got, self.raw));
@@ -178,7 +177,8 @@ impl<S: States> StateFields<S> {
     /// Takes the VAL of an output, sets RVAL from it, and raises alarms.
     #[tactic(auto, unfolding(crate::specs::StateFields::output_worked))]
     pub fn work_output(&mut self, condition: &mut Condition, got: &Got)
-        ensures { record { body = self.new; condition = condition.new } ≡ output_worked S.rules (record { body = self.old; condition = condition.old }) got.now }
+        ensures { record { body = self.new; condition = condition.new }
+            ≡ output_worked S.rules (record { body = self.old; condition = condition.old }) got.now }
     {
         self.take_value_if(condition, state_came(got, self.value));
         if S::converts(got, condition.undefined) {
@@ -190,7 +190,8 @@ impl<S: States> StateFields<S> {
     /// Puts a constant INP into RVAL if the raw value is read, or else into VAL if it is from 0 to
     /// 65535.
     pub fn put_constant(&mut self, condition: &mut Condition, raw: bool, constant: i64)
-        ensures { record { body = self.new; condition = condition.new } ≡ constant_put raw (record { body = self.old; condition = condition.old }) constant }
+        ensures { record { body = self.new; condition = condition.new }
+            ≡ constant_put raw (record { body = self.old; condition = condition.old }) constant }
     {
         if raw {
             self.raw = raw_constant(constant).unwrap_or(self.raw);
@@ -201,7 +202,7 @@ impl<S: States> StateFields<S> {
 
     /// Sets MASK at load.
     pub fn load_mask(&mut self)
-        ensures { self.new ≡ masked S.rules self.old }
+        ensures { self.new ≡ mask_loaded S.rules self.old }
     {
         self.mask = self.states.loaded_mask(self.mask);
     }
