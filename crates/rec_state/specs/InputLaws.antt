@@ -15,12 +15,12 @@ use Rattle.ioc_dbcommon.specs.Source.{new_source, source_link, source_set_here, 
 use Rattle.ioc_record.specs.BodyRules.{BodyState}
 use Rattle.ioc_record.specs.BodyLaws.{IsLawfulBody, IsNewBody}
 use Rattle.ioc_record.specs.ByRow.{can_put_by, default_by, is_link_by}
-use Rattle.rec_state.specs.StateRows.{state_row, state_input_row, IsValueBy}
+use Rattle.rec_state.specs.StateRows.{state_input_row, IsValueBy}
 use Rattle.rec_state.specs.States.{StateRules}
 use Rattle.rec_state.specs.StatesLaws.{IsLawfulStates}
 use Rattle.rec_state.specs.TwoStates.{two_states, two_lawful}
 use Rattle.rec_state.specs.SixteenStates.{sixteen_states, sixteen_lawful}
-use Rattle.rec_state.specs.StateFields.{new_fields, fields_get, put}
+use Rattle.rec_state.specs.StateFields.{new_fields, fields_get}
 use Rattle.rec_state.specs.StateFieldsLaws.{fields_read_back, fields_defaults, fields_no_links}
 use Rattle.rec_state.specs.Input.{state_input, bi, mbbi, new_input, fields_of, input_stored, input_taken, input_loaded}
 use Rattle.rec_state.specs.declared.input.StateInput.{StateInput}

@@ -1,6 +1,6 @@
 -- The laws of the fields that bi, bo, mbbi and mbbo share: what is put reads back, a new record has
 -- the defaults, and none is a link.
-use Rattle.std.proofs.Common.{◌≡◌, ℕ, List, Option, Some, false, refl, ap}
+use Rattle.std.proofs.Common.{◌≡◌, ℕ, List, Some, false, refl, ap}
 use Rattle.ioc_values.specs.declared.value.Value.{Value}
 use Rattle.ioc_values.specs.declared.value.Value.TheVariants as value
 use Rattle.ioc_fields.specs.declared.field_no.OwnField.{OwnField}

@@ -1,5 +1,5 @@
 -- The rows of the field tables that bi, bo, mbbi and mbbo share. `own` has the rows of the states.
-use Rattle.std.proofs.Common.{ℕ, List, Option, Some, None}
+use Rattle.std.proofs.Common.{ℕ, List, Option, Some}
 use Rattle.std.specs.Option.{option_map, option_or}
 use Rattle.ioc_values.specs.declared.kind.Range.TheVariants.{ULong, UShort}
 use Rattle.ioc_values.specs.declared.value.Value.{Value}
