@@ -1,5 +1,5 @@
 -- The types bi and mbbi. Record Reference Manual, "Binary Input Record" and "Multi-Bit Binary Input
--- Record".
+-- Record". `k` has the rules of the states.
 use Rattle.std.specs.Prelude.{Bool, if◌then◌else◌, Option, Some, None}
 use Rattle.ioc_values.specs.declared.value.Value.{Value}
 use Rattle.ioc_values.specs.declared.kind.Range.TheVariants as range
@@ -35,6 +35,7 @@ fields_of h = record { body = h.body.fields; condition = h.condition }
 abbrev pub with_fields : {S : Type 0} → BodyState (StateInput S) → BodyState (StateFields S) → BodyState (StateInput S)
 with_fields h t = record { body = record h.body { fields = t.body }; condition = t.condition }
 
+-- The input with a converted value stored. VAL clears UDF.
 unfoldable pub input_stored : {S : Type 0} → StateRules S → BodyState (StateInput S) → OwnField → Value → BodyState (StateInput S)
 input_stored k h field v = with_fields h (put k (fields_of h) field v)
 
@@ -48,6 +49,7 @@ reads_raw h = is_raw h.body.source.input.link h.condition
 unfoldable pub state_input_kind : {S : Type 0} → BodyState (StateInput S) → InputKind
 state_input_kind h = if reads_raw h then input.Number range.ULong else input.Number range.UShort
 
+-- The input after it was read, with its alarms raised.
 unfoldable pub input_taken : {S : Type 0} → StateRules S → BodyState (StateInput S) → Got → BodyState (StateInput S)
 input_taken k h got = with_fields h (input_worked k (reads_raw h) (fields_of h) got)
 
@@ -58,7 +60,7 @@ abbrev pub input_constant_kind : OwnField → Option InputKind
 input_constant_kind Inp = Some (input.Number range.ULong)
 input_constant_kind _ = None
 
--- The fields with a constant INP put.
+-- The fields with INP put, if it is a constant.
 abbrev pub link_put : {S : Type 0} → Bool → BodyState (StateFields S) → Link → BodyState (StateFields S)
 link_put raw t (Constant z) = constant_put raw t z
 link_put raw t _ = t

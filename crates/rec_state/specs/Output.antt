@@ -1,5 +1,5 @@
 -- The types bo and mbbo. Record Reference Manual, "Binary Output Record" and "Multi-Bit Binary
--- Output Record".
+-- Output Record". `k` has the rules of the states.
 use Rattle.std.specs.Prelude.{ℕ, if◌then◌else◌, Option, Some, None, unwrap_or}
 use Rattle.ioc_values.specs.declared.value.Value.{Value}
 use Rattle.ioc_values.specs.declared.value.Value.TheVariants as value
@@ -47,7 +47,7 @@ fields_of h = record { body = h.body.fields; condition = h.condition }
 abbrev pub with_fields : {S : Type 0} → BodyState (StateOutput S) → BodyState (StateFields S) → BodyState (StateOutput S)
 with_fields h t = record { body = record h.body { fields = t.body }; condition = t.condition }
 
--- The fields with a converted value stored.
+-- The output with a converted value stored. VAL clears UDF.
 unfoldable pub output_stored : {S : Type 0} → StateRules S → BodyState (StateOutput S) → OwnField → Value → BodyState (StateOutput S)
 output_stored k h Ivov v = record h { body = record h.body { invalid_value = unwrap_or (ushort_in v) h.body.invalid_value } }
 output_stored k h Omsl v = record h { body = record h.body { drive = drive_stored h.body.drive Omsl v } }
@@ -64,6 +64,7 @@ unfoldable pub invalid_set : {S : Type 0} → StateRules S → IvoaMenu → ℕ 
 invalid_set k action value t =
     if sets action t.condition then record t { body = converted k (record t.body { value = value }) } else t
 
+-- The output after its input, with its alarms raised and IVOV set.
 unfoldable pub output_taken : {S : Type 0} → StateRules S → BodyState (StateOutput S) → Got → BodyState (StateOutput S)
 output_taken k h got = with_fields h (invalid_set k h.body.drive.on_invalid h.body.invalid_value (output_worked k (fields_of h) got))
 
@@ -71,6 +72,7 @@ output_taken k h got = with_fields h (invalid_set k h.body.drive.on_invalid h.bo
 unfoldable pub driven_value : {S : Type 0} → StateRules S → StateOutput S → Condition → Value
 driven_value k b c = if is_raw b.drive.output.link c then value.ULong (k.driven b.fields.mask b.fields.raw) else value.UShort b.fields.value
 
+-- The output of the driven value, unless IVOA says that nothing is driven.
 abbrev pub driven : {S : Type 0} → StateRules S → BodyState (StateOutput S) → Output
 driven k h =
     if drives h.body.drive.on_invalid h.condition then written h.body.drive.output (driven_value k h.body h.condition) else NoOutput
@@ -85,7 +87,7 @@ abbrev pub output_constant_kind : OwnField → Option InputKind
 output_constant_kind Dol = Some state_kind
 output_constant_kind _ = None
 
--- The fields with a constant DOL put into VAL, which clears UDF.
+-- The fields with DOL put into VAL, if it is a constant, which clears UDF.
 abbrev pub link_put : {S : Type 0} → StateRules S → BodyState (StateFields S) → Link → BodyState (StateFields S)
 link_put k t (Constant z) = value_taken_if t (k.constant z)
 link_put k t _ = t

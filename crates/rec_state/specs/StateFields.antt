@@ -88,8 +88,8 @@ input_tested k h = if h.condition.undefined == 0 && not (k.has_alarms h.body.val
 
 -- ---- The bodies
 
--- The fields after an input. It is stored in RVAL, from which VAL is set, if it is the raw value, or
--- else in VAL.
+-- The fields after an input was read. If it is the raw value it is stored in RVAL, from which VAL is
+-- set, else in VAL.
 abbrev pub came : {S : Type 0} → StateRules S → Bool → BodyState (StateFields S) → Got → BodyState (StateFields S)
 came k raw h got = if raw then raw_taken_if k h (raw_came got h.body.raw) else value_taken_if h (state_came got h.body.value)
 

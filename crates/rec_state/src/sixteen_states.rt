@@ -174,10 +174,8 @@ impl States for SixteenStates {
 
     #[tactic(auto, unfolding(crate::specs::SixteenStates::sixteen_raw_of))]
     fn raw_of(&self, _mask: u32, value: u16) -> Option<u32> {
-        match self.number(value) {
-            Some(number) => Some(shifted_left(number, self.shift)),
-            None => None,
-        }
+        let number = self.number(value)?;
+        Some(shifted_left(number, self.shift))
     }
 
     fn converts(got: &Got, undefined: u8) -> bool {

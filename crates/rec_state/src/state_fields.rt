@@ -88,7 +88,7 @@ impl<S: States> StateFields<S> {
         }
     }
 
-    // Stores the bits of a number that MASK leaves in RVAL, if there is one, and sets VAL from RVAL.
+    // Stores the bits of a number that MASK leaves in RVAL, if there is one, and sets VAL from it.
     #[tactic(auto, unfolding(crate::specs::StateFields::raw_taken))]
     fn take_raw_if(&mut self, condition: &mut Condition, raw: Option<u32>)
         ensures { record { body = self.new; condition = condition.new }
