@@ -64,7 +64,8 @@ module _ {R : Type 0} (k : RecordRules R) where
   -- Record `n` with a link field resolved.
   abbrev pub with_standing : NameTable → List RecordType → Owner → ℕ → R → FieldNo → Option LinkField → R
   with_standing names types owner n r field None = r
-  with_standing names types owner n r field (Some l) = k.with_link r field (record { link = l.link; lead = leads_to names types owner n l.link })
+  with_standing names types owner n r field (Some l) =
+      k.with_link r field (record { link = l.link; lead = leads_to names types owner n l.link })
 
   -- Record `n` with this field resolved, if it is a link field.
   unfoldable pub linked : NameTable → List RecordType → Owner → ℕ → FieldNo → R → R
@@ -81,8 +82,10 @@ module _ {R : Type 0} (k : RecordRules R) where
 
   -- All records at the end of a load.
   abbrev pub all_finished : Loading R → Loading R
-  all_finished s = record { names = s.names; records = by_place (finished s.names (map k.record_type s.records) (owner_of k s.records)) 0 s.records }
+  all_finished s =
+      record { names = s.names; records = by_place (finished s.names (map k.record_type s.records) (owner_of k s.records)) 0 s.records }
 
   -- The database of a text with these macros, or its first fault.
   unfoldable pub loaded_by : (RecordType → List ℕ → R) → List Defined → List ℕ → Result (Loading R) DbFault
-  loaded_by created macros text = filled_by (loading k created) (record { names = no_names; records = [] }) macros text >>= λ s. Ok (all_finished s)
+  loaded_by created macros text =
+      filled_by (loading k created) (record { names = no_names; records = [] }) macros text >>= λ s. Ok (all_finished s)

@@ -28,7 +28,8 @@ pub record Loading (R : Type 0) : Type 0 where
 -- Its encoding as the pair of its fields.
 abbrev pub loading_code : {R : Type 0} → Coded R → Coded (Loading R)
 loading_code {R} c =
-    code_by (NameTable × List R) (coded× table_code (coded_list c)) (λ s. (s.names, s.records)) (λ p. record { names = p.0; records = p.1 }) (λ _. refl)
+    code_by (NameTable × List R) (coded× table_code (coded_list c)) (λ s. (s.names, s.records))
+    (λ p. record { names = p.0; records = p.1 }) (λ _. refl)
 
 -- The maximal number of records of a database, 131,072.
 unfoldable pub most_records : ℕ
@@ -70,7 +71,9 @@ module _ {R : Type 0} (k : RecordRules R) (created : RecordType → List ℕ →
   abbrev pub add_by : RecordType → List ℕ → Loading R → Option ℕ → Result (ℕ × Loading R) BadDbKind
   add_by kind name s (Some n) = add_more kind s n (slice_get s.records n)
   add_by kind name s None =
-      if nat_lt s.names.count most_records then Ok (s.names.count, record { names = added s.names name; records = s.records ++ created kind name ∷ [] }) else Err kinds.TooMany
+      if nat_lt s.names.count most_records
+      then Ok (s.names.count, record { names = added s.names name; records = s.records ++ created kind name ∷ [] })
+      else Err kinds.TooMany
 
   -- The record of this type and name. Faults are found in this order: the name isn't valid, a
   -- record of another type has it, there are too many records.
@@ -80,7 +83,8 @@ module _ {R : Type 0} (k : RecordRules R) (created : RecordType → List ℕ →
   -- A second name, which no record has yet.
   abbrev pub alias_by : ℕ → List ℕ → Loading R → Option ℕ → Result (Loading R) BadDbKind
   alias_by n name s (Some m) = Err kinds.Duplicate
-  alias_by n name s None = if nat_lt n s.names.count then Ok (record { names = aliased s.names n name; records = s.records }) else Err kinds.NoRecord
+  alias_by n name s None =
+      if nat_lt n s.names.count then Ok (record { names = aliased s.names n name; records = s.records }) else Err kinds.NoRecord
 
   -- A second name for the record with this number. That the name isn't valid is found before that
   -- it is taken.

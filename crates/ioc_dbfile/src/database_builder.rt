@@ -65,7 +65,8 @@ impl DatabaseBuilder {
     /// Selects an existing record for more fields, if it has this type.
     #[tactic(auto, unfolding(crate::specs::Loader::same_type))]
     fn add_more(&self, record_type: RecordType, number: RecordNo) -> Result<RecordNo, BuildError>
-        ensures { Builds (λ n. (n, self.now)) result (add_more record_rules new_record record_type self.now number (slice_get self.now.records number)) }
+        ensures { Builds (λ n. (n, self.now)) result
+            (add_more record_rules new_record record_type self.now number (slice_get self.now.records number)) }
     {
         let Some(record) = self.records.get(number.index()) else {
             return Err(BuildError::Refused(BadDbKind::Duplicate));

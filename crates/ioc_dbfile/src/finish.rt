@@ -74,7 +74,8 @@ fn link_one(
     field: FieldNo,
     item: &mut Record,
 ) -> Result<(), AllocError>
-    ensures { OnOk result (item.new ≡ linked record_rules names.now whole.now.types.items (owner_in whole.now.owners) number field item.old) }
+    ensures { OnOk result (item.new
+        ≡ linked record_rules names.now whole.now.types.items (owner_in whole.now.owners) number field item.old) }
 {
     let Some(found) = item.link(field) else {
         return Ok(());
@@ -95,7 +96,8 @@ fn link_all(
     fields: &[FieldNo],
     item: &mut Record,
 ) -> Result<(), AllocError>
-    ensures { OnOk result (item.new ≡ linked_all record_rules names.now whole.now.types.items (owner_in whole.now.owners) number fields.now item.old) }
+    ensures { OnOk result (item.new
+        ≡ linked_all record_rules names.now whole.now.types.items (owner_in whole.now.owners) number fields.now item.old) }
 {
     let mut rest = fields;
     while let [field, others @ ..] = rest {
@@ -137,7 +139,9 @@ fn types_of(alloc: Global, records: &[Record]) -> Result<Vec<RecordType>, AllocE
 
 /// Finishes the load of all records.
 pub fn finish_all(alloc: Global, names: &Names, records: &mut [Record]) -> Result<(), AllocError>
-    ensures { OnOk result (records.new ≡ by_place (finished record_rules names.now (map record_rules.record_type records.old) (owner_of record_rules records.old)) 0 records.old) }
+    ensures { OnOk result (records.new
+        ≡ by_place (finished record_rules names.now (map record_rules.record_type records.old) (owner_of record_rules records.old)) 0
+        records.old) }
 {
     let types = types_of(alloc, records)?;
     let owners = owners_of(alloc, records)?;

@@ -24,7 +24,8 @@ pub struct Owners {
 // Makes a record the owner of the device that its link names, if the link names one and no record
 // before owns it.
 fn add_link(owners: &mut Owners, number: RecordNo, link: &Link) -> Result<(), AllocError>
-    ensures { OnOk result ((text : List ℕ) → owner_in owners.new text ≡ or_else (owner_in owners.old text) (if names_device text link.now then Some number else None)) }
+    ensures { OnOk result ((text : List ℕ) → owner_in owners.new text
+        ≡ or_else (owner_in owners.old text) (if names_device text link.now then Some number else None)) }
 {
     if let Link::Device(text) = link {
         let name = DeviceName::new(*text);
@@ -37,7 +38,8 @@ fn add_link(owners: &mut Owners, number: RecordNo, link: &Link) -> Result<(), Al
 
 // Makes a record the owner of the devices that its links name and no record before owns.
 fn add_record(owners: &mut Owners, number: RecordNo, item: &Record) -> Result<(), AllocError>
-    ensures { OnOk result ((text : List ℕ) → owner_in owners.new text ≡ or_else (owner_in owners.old text) (if asks_for record_rules text item.now then Some number else None)) }
+    ensures { OnOk result ((text : List ℕ) → owner_in owners.new text
+        ≡ or_else (owner_in owners.old text) (if asks_for record_rules text item.now then Some number else None)) }
 {
     let mut rest = item.link_fields();
     while let [field, others @ ..] = rest {
