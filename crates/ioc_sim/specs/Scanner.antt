@@ -31,7 +31,8 @@ device_link text = if length text == 0 then Nothing_ else Some text
 
 -- The place of a record by SCAN, PHAS, EVNT and PRIO, and the text of its device link.
 abbrev pub place_by : Scanning → List ℕ → Option Placement
-place_by s device = option_map (λ list. record { list = list; phase = s.phase; priority = s.priority }) (list_of s.scan s.event (device_link device))
+place_by s device =
+    option_map (λ list. record { list = list; phase = s.phase; priority = s.priority }) (list_of s.scan s.event (device_link device))
 
 -- Whether the callback queue of this record's priority has room. It holds 2,000 requests.
 abbrev pub has_room : Queues ℕ → Listed → Bool

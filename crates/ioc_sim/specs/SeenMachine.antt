@@ -6,4 +6,13 @@ use Rattle.ioc_dbfile.specs.OwnerTable.{owner_in}
 use Rattle.ioc_sim.specs.Machine.{Machine}
 
 abbrev pub machine_of : Kept → Machine Record
-machine_of m = record { world = world_of m.map; queued = device_at m.map.devices.items; tally = m.tally; scanner = m.scanner; owner = owner_in m.owners; next = m.next; ended = m.ended.items }
+machine_of m =
+    record {
+      world = world_of m.map;
+      queued = device_at m.map.devices.items;
+      tally = m.tally;
+      scanner = m.scanner;
+      owner = owner_in m.owners;
+      next = m.next;
+      ended = m.ended.items;
+    }

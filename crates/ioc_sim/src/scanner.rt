@@ -3,7 +3,8 @@ ghost use Rattle.std.specs.Prelude.{◌≡◌, ◌≤◌, ◌+◌, ◌∷◌, []
 ghost use Rattle.rec_types.specs.Record.{record_rules};
 ghost use Rattle.ioc_callback.specs.Serving.{no_items};
 ghost use Rattle.ioc_store.specs.Outbox.{items_of};
-ghost use Rattle.ioc_sim.specs.Scanner.{with_each_called, count_called, called_on, event_list, interrupt_list, with_change, with_item, with_items, with_more_dropped};
+ghost use Rattle.ioc_sim.specs.Scanner.{with_each_called, count_called, called_on, event_list, interrupt_list};
+ghost use Rattle.ioc_sim.specs.Scanner.{with_change, with_item, with_items, with_more_dropped};
 
 use crate::first_lists::place_by;
 use ioc_callback::Queues;
