@@ -1,5 +1,6 @@
 -- The effect of an event's code on the machine of a script.
-use Rattle.std.proofs.Common.{◌≡◌, ℕ, false, [], List, refl, sym, ap, subst, ◌∙◌}
+use Rattle.std.proofs.Common.{◌≡◌, ℕ, false, [], List, Option, refl, sym, ap, subst, ◌∙◌}
+use Rattle.std.specs.Global.{Vec}
 use Rattle.ioc_device.specs.declared.Answer.{Answer}
 use Rattle.ioc_ledger.specs.declared.tally.Tally.{Tally}
 use Rattle.ioc_record.specs.RecordRules.{RecordRules}
@@ -13,8 +14,14 @@ use Rattle.ioc_events.specs.Events.{Tells}
 use Rattle.ioc_events.specs.Step.{Stepped, stepped, tallied, completes}
 use Rattle.ioc_ledger.specs.Requests.{None, no_counts}
 use Rattle.ioc_process.specs.Answering.{begins_same}
-use Rattle.ioc_sim.proofs.Closing.{begun-none}
+use Rattle.ioc_store.specs.declared.one_map.OneMap.{OneMap}
+use Rattle.ioc_store.specs.OneMap.{world_of, given_of, device_at}
+use Rattle.rec_types.specs.Record.{Record, record_rules}
+use Rattle.ioc_sim.specs.declared.machine.Machine.{Machine as Kept}
+use Rattle.ioc_sim.specs.SeenMachine.{machine_of}
+use Rattle.ioc_sim.proofs.Closing.{begun-none, none_yet}
 use Rattle.ioc_dbfile.specs.Finished.{Owner}
+use Rattle.ioc_dbfile.specs.OwnerTable.{owner_in}
 use Rattle.ioc_sim.specs.Machine.{Machine, Queued, TakesAnswer, answers_from, left_after, stepped_on}
 use Rattle.ioc_sim.specs.Scanner.{Scanner}
 use Rattle.ioc_sim.proofs.Scripting.{left_is, accords}
@@ -78,3 +85,33 @@ event_alone {R} k m event start w before after t reply begins devices none same 
       reply = sym (ap (λ (s : Stepped R). s.reply) (step answers));
       tally = kept ∙ sym (ap (tallied m.tally start event) (step answers) ∙ counts_nothing m.tally start w event reply completed (begun-none m.world start begins) (sym calls ∙ ap (λ (g : Given (List Answer)). g.calls) same ∙ none));
     })
+
+-- The machine of the code with these records and devices, and these counts.
+abbrev run_on : Kept → OneMap Record (List Answer) → Tally → Machine Record
+run_on m after t =
+    record {
+      world = world_of after;
+      queued = device_at after.devices.items;
+      tally = t;
+      scanner = m.scanner;
+      owner = owner_in m.owners;
+      next = m.next;
+      ended = m.ended.items;
+    }
+
+-- The same for an event on the machine of the code, whose records and devices are in one map.
+module _ (m : Kept) (event : Event) (start after : OneMap Record (List Answer)) (begins : world_of start ≡ begun (world_of m.map)) (same : start.devices ≡ m.map.devices) where
+  devices_same : device_at start.devices.items ≡ device_at m.map.devices.items
+  devices_same = ap (λ (v : Vec (Option (List Answer))). device_at v.items) same
+
+  pub event_on : (t : Tally) (reply : Reply) → Begins TakesAnswer (given_of start) (given_of after)
+      → ForAnswers (given_of after) (λ answers. Tells (world_of start) (world_of after) reply m.tally t event (stepped record_rules answers (world_of start) event))
+      → IsDone record_rules (machine_of m) (run_on m after t) reply event
+  event_on t reply work step =
+      event_is record_rules (machine_of m) event (world_of start) (world_of after) (given_of start) (given_of after) t reply begins devices_same (none_yet start (world_of m.map) begins) work refl step
+
+  pub event_alone_on : (reply : Reply) → given_of after ≡ given_of start → completes event reply ≡ false
+      → ((answers : Answers) → stepped record_rules answers (world_of start) event ≡ record { world = world_of after; reply = reply; requests = None })
+      → IsDone record_rules (machine_of m) (run_on m after m.tally) reply event
+  event_alone_on reply kept completed step =
+      event_alone record_rules (machine_of m) event (world_of start) (world_of after) (given_of start) (given_of after) m.tally reply begins devices_same (none_yet start (world_of m.map) begins) kept refl completed refl step

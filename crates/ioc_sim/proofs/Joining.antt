@@ -6,7 +6,7 @@ use Rattle.std.specs.Ordering.{nat_cmp, is_lt}
 use Rattle.std.specs.Cmp.{nat_cmp_total, nat_cmp_is}
 use Rattle.std.specs.FinMap.{len, len-entries, entries, from_sorted, entries-from_sorted, get-from_sorted, get-from_entries, is_sorted, same_map, nat_cmp-IsAntisymmetric}
 use Rattle.std.specs.FinMap.Entries.{below_all}
-use Rattle.std.proofs.lemmas.List.{map-append, take_all}
+use Rattle.std.proofs.lemmas.List.{take_all}
 use Rattle.std.proofs.lemmas.List.Elements.{All-cons, All-append}
 use Rattle.std.proofs.lemmas.List.FromFn.{length-enumerate_from}
 use Rattle.ioc_graph.specs.declared.edges.Edge.{Edge}
@@ -18,10 +18,6 @@ use Rattle.ioc_store.specs.OneMapLaws.{has_within, at-numbered}
 use Rattle.ioc_store.specs.declared.one_map.OneMap.{OneMap}
 use Rattle.ioc_store.specs.World.{World, IsClosed}
 use Rattle.ioc_sim.specs.Sets.{joined_to, joined_by, parts_of}
-
--- The edges of a record are those of one field, followed by those of the others.
-pub named_more : (n : ℕ) (all : List Edge) (here more : List ℕ) → all ++ joined_to n (here ++ more) ≡ (all ++ joined_to n here) ++ joined_to n more
-named_more n all here more = rw (map-append (λ t. let e : Edge = record { from = n; to = t } in e) here more) (sym (append_assoc all (joined_to n here) (joined_to n more)))
 
 both_hold : (a b : Bool) → T a → T b → T (a && b)
 both_hold true b p q = q

@@ -84,6 +84,10 @@ pub record MachineReply (R : Type 0) : Type 0 where
   pub machine : Machine R
   pub reply : Reply
 
+-- Holds if a machine and a reply are those after a call.
+abbrev pub Gives : {R : Type 0} → MachineReply R → Machine R → Reply → Type 0
+Gives told machine reply = (machine ≡ told.machine) × (reply ≡ told.reply)
+
 -- A refusal, which changes nothing.
 abbrev pub refused : {R : Type 0} → Machine R → IocError → MachineReply R
 refused m e = record { machine = m; reply = Refused e }
@@ -91,7 +95,8 @@ refused m e = record { machine = m; reply = Refused e }
 -- The machine with an answer queued for the device of record `n`, behind the answers that it has.
 abbrev pub queued_at : {R : Type 0} → Machine R → ℕ → Answer → Option (List Answer) → MachineReply R
 queued_at m n answer Nothing_ = refused m NoField
-queued_at m n answer (Some answers) = record { machine = record m { queued = with_device m.queued n (answers ++ answer ∷ []) }; reply = Plain }
+queued_at m n answer (Some answers) =
+    record { machine = record m { queued = with_device m.queued n (answers ++ answer ∷ []) }; reply = Plain }
 
 -- The machine with this time stamp for later events.
 abbrev pub at_moment : {R : Type 0} → ℕ → Machine R → Machine R
@@ -115,7 +120,8 @@ with_none_ended m = record m { ended = [] }
 
 -- The machine with the next number used up, unless the put with notification was refused.
 abbrev pub with_number : {R : Type 0} → MachineReply R → MachineReply R
-with_number told = record told { machine = record told.machine { next = if is_refusal told.reply then told.machine.next else more told.machine.next } }
+with_number told =
+    record told { machine = record told.machine { next = if is_refusal told.reply then told.machine.next else more told.machine.next } }
 
 -- A machine, and a number that is returned to the caller.
 pub record Counted (R : Type 0) : Type 0 where
@@ -125,7 +131,8 @@ pub record Counted (R : Type 0) : Type 0 where
 -- The machine with the records of a list, if there is one, put on the callback queues, and the
 -- number of those that found room.
 abbrev pub queued_on : {R : Type 0} → Machine R → Option ListName → Counted R
-queued_on m list = let queued = called_on m.scanner list in record { machine = record m { scanner = queued.scanner }; count = queued.count }
+queued_on m list =
+    let queued = called_on m.scanner list in record { machine = record m { scanner = queued.scanner }; count = queued.count }
 
 -- The maximal number of requests that are served after a line.
 abbrev pub most_served : ℕ

@@ -112,7 +112,8 @@ impl Machine {
     ghost use Rattle.ioc_values.specs.Conversion.{input_of};
     ghost use Rattle.ioc_sim.specs.FirstLists.{starters};
     ghost use Rattle.ioc_sim.specs.Leads.{field_of_link};
-    ghost use Rattle.ioc_sim.specs.Machine.{loaded_machine, first_machine, stepped_on, done, with_ended_kept, with_sent, with_none_ended, notified, given_up};
+    ghost use Rattle.ioc_sim.specs.Machine.{loaded_machine, first_machine, Gives, stepped_on, done, notified, given_up};
+    ghost use Rattle.ioc_sim.specs.Machine.{with_ended_kept, with_sent, with_none_ended};
     ghost use Rattle.ioc_sim.specs.SeenMachine.{machine_of};
 
     // Returns these records before any event. All memory that events need, except for scan lists,
@@ -180,8 +181,7 @@ impl Machine {
 
     // Requests a record, without taking what the event sends.
     fn request(&mut self, number: RecordNo) -> Effect
-        ensures machine { machine_of self.new ≡ (stepped_on record_rules (machine_of self.old) (Process number)).machine }
-        ensures reply { reply_of result ≡ (stepped_on record_rules (machine_of self.old) (Process number)).reply }
+        ensures { Gives (stepped_on record_rules (machine_of self.old) (Process number)) (machine_of self.new) (reply_of result) }
     {
         event_leaves_settled();
         self.map.begin();
@@ -190,9 +190,8 @@ impl Machine {
 
     // Puts the value of a text into a field, without taking what the event sends.
     fn store(&mut self, number: RecordNo, field: FieldNo, text: &[u8]) -> Effect
-        ensures machine { machine_of self.new
-            ≡ (stepped_on record_rules (machine_of self.old) (Put number field (input_of text.now))).machine }
-        ensures reply { reply_of result ≡ (stepped_on record_rules (machine_of self.old) (Put number field (input_of text.now))).reply }
+        ensures { Gives (stepped_on record_rules (machine_of self.old) (Put number field (input_of text.now)))
+            (machine_of self.new) (reply_of result) }
     {
         event_leaves_settled();
         self.map.begin();
@@ -209,8 +208,8 @@ impl Machine {
     // Completes a record with the asynchronous answer of its device, without taking what the event
     // sends.
     fn finish(&mut self, number: RecordNo, wait: u64, finished: Finished) -> Reply
-        ensures machine { machine_of self.new ≡ (stepped_on record_rules (machine_of self.old) (Complete number wait finished)).machine }
-        ensures reply { result ≡ (stepped_on record_rules (machine_of self.old) (Complete number wait finished)).reply }
+        ensures { Gives (stepped_on record_rules (machine_of self.old) (Complete number wait finished))
+            (machine_of self.new) result }
     {
         event_leaves_settled();
         self.map.begin();
@@ -227,8 +226,8 @@ impl Machine {
 
     // Changes a link, without taking what the event sends.
     fn relink(&mut self, number: RecordNo, field: FieldNo, link: LinkBox) -> Reply
-        ensures machine { machine_of self.new ≡ (stepped_on record_rules (machine_of self.old) (Link_event number field link)).machine }
-        ensures reply { result ≡ (stepped_on record_rules (machine_of self.old) (Link_event number field link)).reply }
+        ensures { Gives (stepped_on record_rules (machine_of self.old) (Link_event number field link))
+            (machine_of self.new) result }
     {
         event_leaves_settled();
         event_keeps_count();
@@ -244,9 +243,8 @@ impl Machine {
         field: FieldNo,
         given: Input,
     ) -> Reply
-        ensures machine { machine_of self.new
-            ≡ (stepped_on record_rules (machine_of self.old) (Notify number notification field given)).machine }
-        ensures reply { result ≡ (stepped_on record_rules (machine_of self.old) (Notify number notification field given)).reply }
+        ensures { Gives (stepped_on record_rules (machine_of self.old) (Notify number notification field given))
+            (machine_of self.new) result }
     {
         event_leaves_settled();
         self.map.begin();
@@ -264,8 +262,7 @@ impl Machine {
 
     // Cancels a put with notification, without taking what the event sends.
     fn give_up(&mut self, notification: NotifyId) -> Reply
-        ensures machine { machine_of self.new ≡ (stepped_on record_rules (machine_of self.old) (Cancel notification)).machine }
-        ensures reply { result ≡ (stepped_on record_rules (machine_of self.old) (Cancel notification)).reply }
+        ensures { Gives (stepped_on record_rules (machine_of self.old) (Cancel notification)) (machine_of self.new) result }
     {
         event_leaves_settled();
         self.map.begin();
@@ -306,8 +303,8 @@ impl Machine {
     ///
     /// [`AllocError`] if allocation fails; not all that the event has sent is taken then.
     pub fn process(&mut self, number: RecordNo) -> Result<Effect, AllocError>
-        ensures machine { OnOk result (machine_of self.new ≡ (done record_rules (machine_of self.old) (Process number)).machine) }
-        ensures reply { IfOk result (λ effect. reply_of effect ≡ (done record_rules (machine_of self.old) (Process number)).reply) }
+        ensures { IfOk result (λ effect. Gives (done record_rules (machine_of self.old) (Process number))
+            (machine_of self.new) (reply_of effect)) }
     {
         let effect = self.request(number);
         self.send()?;
@@ -334,10 +331,8 @@ impl Machine {
         field: FieldNo,
         text: &[u8],
     ) -> Result<Effect, AllocError>
-        ensures machine { OnOk result (machine_of self.new
-            ≡ (done record_rules (machine_of self.old) (Put number field (input_of text.now))).machine) }
-        ensures reply { IfOk result (λ effect. reply_of effect
-            ≡ (done record_rules (machine_of self.old) (Put number field (input_of text.now))).reply) }
+        ensures { IfOk result (λ effect. Gives (done record_rules (machine_of self.old) (Put number field (input_of text.now)))
+            (machine_of self.new) (reply_of effect)) }
     {
         let effect = self.store(number, field, text);
         self.send()?;
@@ -355,9 +350,8 @@ impl Machine {
         wait: u64,
         finished: Finished,
     ) -> Result<Reply, AllocError>
-        ensures machine { OnOk result (machine_of self.new
-            ≡ (done record_rules (machine_of self.old) (Complete number wait finished)).machine) }
-        ensures reply { IfOk result (λ reply. reply ≡ (done record_rules (machine_of self.old) (Complete number wait finished)).reply) }
+        ensures { IfOk result (λ reply. Gives (done record_rules (machine_of self.old) (Complete number wait finished))
+            (machine_of self.new) reply) }
     {
         let reply = self.finish(number, wait, finished);
         self.send()?;
@@ -378,14 +372,10 @@ impl Machine {
         field: FieldNo,
         link: &Link,
     ) -> Result<Reply, AllocError>
-        ensures machine { OnOk result (machine_of self.new
-            ≡ (done record_rules (machine_of self.old)
+        ensures { IfOk result (λ reply. Gives (done record_rules (machine_of self.old)
             (Link_event number field (field_of_link record_rules names.now (machine_of self.old).owner
-            (machine_of self.old).world number link.now))).machine) }
-        ensures reply { IfOk result (λ reply. reply
-            ≡ (done record_rules (machine_of self.old)
-            (Link_event number field (field_of_link record_rules names.now (machine_of self.old).owner
-            (machine_of self.old).world number link.now))).reply) }
+            (machine_of self.old).world number link.now)))
+            (machine_of self.new) reply) }
     {
         let lead = lead_among(names, &self.map, &self.owners, number, link);
         let kept = LinkBox::new(self.alloc, LinkField { link: *link, lead })?;
@@ -406,8 +396,8 @@ impl Machine {
         field: FieldNo,
         given: Input,
     ) -> Result<Reply, AllocError>
-        ensures machine { OnOk result (machine_of self.new ≡ (notified record_rules (machine_of self.old) number field given).machine) }
-        ensures reply { IfOk result (λ reply. reply ≡ (notified record_rules (machine_of self.old) number field given).reply) }
+        ensures { IfOk result (λ reply. Gives (notified record_rules (machine_of self.old) number field given)
+            (machine_of self.new) reply) }
     {
         let reply = self.begin_notify(number, NotifyId::new(self.next), field, given);
         self.send()?;
@@ -423,8 +413,8 @@ impl Machine {
     ///
     /// [`AllocError`] if allocation fails; not all that the event has sent is taken then.
     pub fn cancel(&mut self, notification: NotifyId) -> Result<Reply, AllocError>
-        ensures machine { OnOk result (machine_of self.new ≡ (given_up record_rules (machine_of self.old) notification).machine) }
-        ensures reply { IfOk result (λ reply. reply ≡ (given_up record_rules (machine_of self.old) notification).reply) }
+        ensures { IfOk result (λ reply. Gives (given_up record_rules (machine_of self.old) notification)
+            (machine_of self.new) reply) }
     {
         let reply = self.give_up(notification);
         self.send()?;

@@ -1,16 +1,13 @@
-use Rattle.std.specs.Global.{Vec}
-use Rattle.std.proofs.Common.{◌≡◌, ℕ, ◌≤◌, List, Option, refl, sym, ap, ◌∙◌}
+use Rattle.std.proofs.Common.{◌≡◌, ℕ, ◌≤◌, refl, sym, ap, ◌∙◌}
 use Rattle.std.specs.FinMap.{len}
-use Rattle.ioc_device.specs.declared.Answer.{Answer}
 use Rattle.ioc_device.specs.declared.Answer.TheVariants.{Fault}
 use Rattle.rec_types.specs.Record.{record_rules}
-use Rattle.ioc_store.specs.OneMap.{world_of, given_of, device_at}
+use Rattle.ioc_store.specs.OneMap.{world_of}
 use Rattle.ioc_store.specs.World.{begun}
 use Rattle.ioc_store.specs.Given.{Answers}
 use Rattle.ioc_events.specs.declared.event.Event.TheVariants.{Link}
-use Rattle.ioc_sim.specs.SeenMachine.{machine_of}
-use Rattle.ioc_sim.proofs.Closing.{settled_same, room_same, none_yet}
-use Rattle.ioc_sim.proofs.Eventing.{event_alone}
+use Rattle.ioc_sim.proofs.Closing.{settled_same, room_same}
+use Rattle.ioc_sim.proofs.Eventing.{event_alone_on}
 use Rattle.ioc_sim.proofs.machine.Machine.relink.Goals as goal
 
 -- A link change calls no device.
@@ -22,9 +19,8 @@ same_count is few = rw is few
 
 pub invariant_of-self : goal.invariant_of-self
 invariant_of-self c =
-    let is = event_alone record_rules (machine_of c.args.self.now) (Link c.args.number c.args.field c.args.link) (world_of c.begin.new.self) (world_of c.run_link.new.store) (given_of c.begin.new.self) (given_of c.run_link.new.store)
-    c.args.self.now.tally c.run_link.result c.begin.ensures.world (ap (λ (v : Vec (Option (List Answer))). device_at v.items) c.begin.ensures.devices)
-    (none_yet c.begin.new.self (world_of c.args.self.now.map) c.begin.ensures.world) c.run_link.ensures.given refl refl refl c.run_link.ensures.step
+    let is = event_alone_on c.args.self.now (Link c.args.number c.args.field c.args.link) c.begin.new.self c.run_link.new.store
+    c.begin.ensures.world c.begin.ensures.devices c.run_link.result c.run_link.ensures.given refl c.run_link.ensures.step
     in
     let settled = settled_same record_rules (world_of c.args.self.now.map) (world_of c.begin.new.self) c.begin.ensures.world c.args.self.now.settled in
     let step = c.run_link.ensures.step no_answers in
@@ -34,18 +30,9 @@ invariant_of-self c =
       room = same_count (sym (ap (λ s. len s.world.records) step) ∙ c.event_keeps_count.ensures no_answers _ _ settled.closed) (room_same (world_of c.args.self.now.map) (world_of c.begin.new.self) _ c.begin.ensures.world c.args.self.now.room);
     }
 
-pub returns-clause-machine : goal.returns-clause-machine
-returns-clause-machine c =
-    let is = event_alone record_rules (machine_of c.args.self.now) (Link c.args.number c.args.field c.args.link) (world_of c.begin.new.self) (world_of c.run_link.new.store) (given_of c.begin.new.self) (given_of c.run_link.new.store)
-    c.args.self.now.tally c.run_link.result c.begin.ensures.world (ap (λ (v : Vec (Option (List Answer))). device_at v.items) c.begin.ensures.devices)
-    (none_yet c.begin.new.self (world_of c.args.self.now.map) c.begin.ensures.world) c.run_link.ensures.given refl refl refl c.run_link.ensures.step
+pub returns : goal.returns
+returns c =
+    let is = event_alone_on c.args.self.now (Link c.args.number c.args.field c.args.link) c.begin.new.self c.run_link.new.store
+    c.begin.ensures.world c.begin.ensures.devices c.run_link.result c.run_link.ensures.given refl c.run_link.ensures.step
     in
-    is.machine
-
-pub returns-clause-reply : goal.returns-clause-reply
-returns-clause-reply c =
-    let is = event_alone record_rules (machine_of c.args.self.now) (Link c.args.number c.args.field c.args.link) (world_of c.begin.new.self) (world_of c.run_link.new.store) (given_of c.begin.new.self) (given_of c.run_link.new.store)
-    c.args.self.now.tally c.run_link.result c.begin.ensures.world (ap (λ (v : Vec (Option (List Answer))). device_at v.items) c.begin.ensures.devices)
-    (none_yet c.begin.new.self (world_of c.args.self.now.map) c.begin.ensures.world) c.run_link.ensures.given refl refl refl c.run_link.ensures.step
-    in
-    is.reply_is
+    (is.machine, is.reply_is)

@@ -1,15 +1,12 @@
-use Rattle.std.specs.Global.{Vec}
-use Rattle.std.proofs.Common.{List, Option, refl, ap}
-use Rattle.ioc_device.specs.declared.Answer.{Answer}
+use Rattle.std.proofs.Common.{refl}
 use Rattle.ioc_values.specs.Conversion.{input_of}
 use Rattle.rec_types.specs.Record.{record_rules}
-use Rattle.ioc_store.specs.OneMap.{world_of, given_of, device_at}
+use Rattle.ioc_store.specs.OneMap.{world_of}
 use Rattle.ioc_store.specs.World.{begun}
 use Rattle.ioc_events.specs.declared.event.Event.TheVariants.{Put}
 use Rattle.ioc_events.specs.Events.{reply_of}
-use Rattle.ioc_sim.specs.SeenMachine.{machine_of}
-use Rattle.ioc_sim.proofs.Closing.{settled_same, room_same, none_yet}
-use Rattle.ioc_sim.proofs.Eventing.{event_is}
+use Rattle.ioc_sim.proofs.Closing.{settled_same, room_same}
+use Rattle.ioc_sim.proofs.Eventing.{event_on}
 use Rattle.ioc_sim.proofs.machine.Machine.store.Goals as goal
 
 pub make_spelled_put-requires-clause-closed : goal.make_spelled_put-requires-clause-closed
@@ -20,9 +17,8 @@ make_spelled_put-requires-clause-room c = room_same (world_of c.args.self.now.ma
 
 pub invariant_of-self : goal.invariant_of-self
 invariant_of-self c =
-    let is = event_is record_rules (machine_of c.args.self.now) (Put c.args.number c.args.field (input_of c.args.text.now)) (world_of c.begin.new.self) (world_of c.make_spelled_put.new.store) (given_of c.begin.new.self) (given_of c.make_spelled_put.new.store)
-    c.make_spelled_put.new.tally (reply_of c.make_spelled_put.result) c.begin.ensures.world (ap (λ (v : Vec (Option (List Answer))). device_at v.items) c.begin.ensures.devices)
-    (none_yet c.begin.new.self (world_of c.args.self.now.map) c.begin.ensures.world) c.make_spelled_put.ensures.given refl c.make_spelled_put.ensures.step
+    let is = event_on c.args.self.now (Put c.args.number c.args.field (input_of c.args.text.now)) c.begin.new.self c.make_spelled_put.new.store c.begin.ensures.world
+    c.begin.ensures.devices c.make_spelled_put.new.tally (reply_of c.make_spelled_put.result) c.make_spelled_put.ensures.given c.make_spelled_put.ensures.step
     in
     let room = room_same (world_of c.args.self.now.map) (world_of c.begin.new.self) _ c.begin.ensures.world c.args.self.now.room in
     record {
@@ -31,18 +27,9 @@ invariant_of-self c =
       room = rw (c.make_spelled_put.ensures.keeps.count, c.make_spelled_put.ensures.room) room;
     }
 
-pub returns-clause-machine : goal.returns-clause-machine
-returns-clause-machine c =
-    let is = event_is record_rules (machine_of c.args.self.now) (Put c.args.number c.args.field (input_of c.args.text.now)) (world_of c.begin.new.self) (world_of c.make_spelled_put.new.store) (given_of c.begin.new.self) (given_of c.make_spelled_put.new.store)
-    c.make_spelled_put.new.tally (reply_of c.make_spelled_put.result) c.begin.ensures.world (ap (λ (v : Vec (Option (List Answer))). device_at v.items) c.begin.ensures.devices)
-    (none_yet c.begin.new.self (world_of c.args.self.now.map) c.begin.ensures.world) c.make_spelled_put.ensures.given refl c.make_spelled_put.ensures.step
+pub returns : goal.returns
+returns c =
+    let is = event_on c.args.self.now (Put c.args.number c.args.field (input_of c.args.text.now)) c.begin.new.self c.make_spelled_put.new.store c.begin.ensures.world
+    c.begin.ensures.devices c.make_spelled_put.new.tally (reply_of c.make_spelled_put.result) c.make_spelled_put.ensures.given c.make_spelled_put.ensures.step
     in
-    is.machine
-
-pub returns-clause-reply : goal.returns-clause-reply
-returns-clause-reply c =
-    let is = event_is record_rules (machine_of c.args.self.now) (Put c.args.number c.args.field (input_of c.args.text.now)) (world_of c.begin.new.self) (world_of c.make_spelled_put.new.store) (given_of c.begin.new.self) (given_of c.make_spelled_put.new.store)
-    c.make_spelled_put.new.tally (reply_of c.make_spelled_put.result) c.begin.ensures.world (ap (λ (v : Vec (Option (List Answer))). device_at v.items) c.begin.ensures.devices)
-    (none_yet c.begin.new.self (world_of c.args.self.now.map) c.begin.ensures.world) c.make_spelled_put.ensures.given refl c.make_spelled_put.ensures.step
-    in
-    is.reply_is
+    (is.machine, is.reply_is)
