@@ -20,16 +20,6 @@ shown_there k answers w n field has is = rw (has, is) refl
 pub said_shortly : (reply more said : List ℕ) → reply ≡ said → more ≡ [] → reply ++ more ≡ said
 said_shortly reply more said e none = rw (none, e) (append-nil said)
 
--- The reply to a line follows the pending replies.
-pub said_behind : (old said replies more later last rest : List ℕ) → replies ++ more ≡ old ++ said → last ≡ more ++ later
-    → old ++ ((said ++ later) ++ rest) ≡ (replies ++ last) ++ rest
-said_behind old said replies more later last rest e f =
-    sym (append_assoc old (said ++ later) rest) ∙ ap (λ l. l ++ rest) (sym (append_assoc old said later) ∙ ap (λ l. l ++ later) (sym e) ∙ append_assoc replies more later ∙ ap (λ l. replies ++ l) (sym f))
-
--- The same for a line without further text.
-pub said_alone : (old said replies more rest : List ℕ) → replies ++ more ≡ old ++ said → old ++ (said ++ rest) ≡ (replies ++ more) ++ rest
-said_alone old said replies more rest e = sym (append_assoc old said rest) ∙ ap (λ l. l ++ rest) (sym e)
-
 -- The replies that were pending are still the beginning.
 pub stands_before : (before now since : List ℕ) → now ≡ before ++ since → Stands before now
 stands_before before now since e = (since, e)

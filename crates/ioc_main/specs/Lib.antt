@@ -1,5 +1,6 @@
 pub mod Arguments
 pub mod Coming
+pub mod Doing
 pub mod Faults
 pub mod Relink
 pub mod Replay

@@ -1,5 +1,5 @@
 -- The effects of a script on a database, line by line, and what is printed.
-use Rattle.std.specs.Prelude.{ℕ, List, [], ◌∷◌, ◌++◌, take, codes, decimal, Bool, true, false, if◌then◌else◌, Option, Some, None, Result, Ok, Err}
+use Rattle.std.specs.Prelude.{ℕ, List, [], ◌∷◌, ◌++◌, take, codes, decimal, if◌then◌else◌, Option, Some, None, Result, Ok, Err, ok_or}
 use Rattle.std.specs.FinMap.{contains_key}
 use Rattle.ioc_values.specs.declared.value.Value.{Value}
 use Rattle.ioc_values.specs.declared.value.Value.TheVariants.{Text}
@@ -47,9 +47,17 @@ counted c = record { machine = c.machine; said = count_words c.count ++ 10 ∷ [
 abbrev pub given_value : List ℕ → Value
 given_value text = Text (take 39 text)
 
+-- The puts with notification that have ended are reported, and then forgotten.
+abbrev pub ended_told : {R : Type 0} → Machine R → Answered R
+ended_told m = record { machine = with_none_ended m; said = ended_lines m.ended }
+
 -- Waiting requests are served, and the puts with notification that have ended since are reported.
 unfoldable pub attended : {R : Type 0} → RecordRules R → Machine R → Answered R
-attended k m = let after = serve k most_served m in record { machine = with_none_ended after; said = ended_lines after.ended }
+attended k m = ended_told (serve k most_served m)
+
+-- The record with this name.
+abbrev pub record_named : NameTable → List ℕ → Result ℕ IocError
+record_named names name = ok_or (number_of names name) NoRecord
 
 module _ {R : Type 0} (k : RecordRules R) (names : NameTable) where
   -- The field with this name of the record with this name.
@@ -65,9 +73,9 @@ module _ {R : Type 0} (k : RecordRules R) (names : NameTable) where
   unfoldable pub channel : World R → List ℕ → List ℕ → Result (ℕ × FieldNo) IocError
   channel w name field = field_at w field (number_of names name)
 
-  abbrev pub processed : Machine R → Option ℕ → MachineReply R
-  processed m None = refused m NoRecord
-  processed m (Some number) = done k m (Process-event number)
+  abbrev pub processed : Machine R → Result ℕ IocError → MachineReply R
+  processed m (Ok number) = done k m (Process-event number)
+  processed m (Err e) = refused m e
 
   -- A get, which changes nothing.
   abbrev pub got : Machine R → Result (ℕ × FieldNo) IocError → MachineReply R
@@ -83,27 +91,27 @@ module _ {R : Type 0} (k : RecordRules R) (names : NameTable) where
   were_notified m text (Err e) = refused m e
 
   -- An answer is queued for the device of a record.
-  abbrev pub answers_next : Machine R → Answer → Option ℕ → MachineReply R
-  answers_next m answer None = refused m NoRecord
-  answers_next m answer (Some number) = queued_at m number answer (m.queued number)
+  abbrev pub answers_next : Machine R → Answer → Result ℕ IocError → MachineReply R
+  answers_next m answer (Ok number) = queued_at m number answer (m.queued number)
+  answers_next m answer (Err e) = refused m e
 
-  abbrev pub were_completed : Machine R → ℕ → Finished → Option ℕ → MachineReply R
-  were_completed m wait finished None = refused m NoRecord
-  were_completed m wait finished (Some number) = done k m (Complete-event number wait finished)
+  abbrev pub were_completed : Machine R → ℕ → Finished → Result ℕ IocError → MachineReply R
+  were_completed m wait finished (Ok number) = done k m (Complete-event number wait finished)
+  were_completed m wait finished (Err e) = refused m e
 
   -- The effect of a command.
   unfoldable pub carried_out : Machine R → Command → Answered R
   carried_out m Silent = record { machine = m; said = [] }
   carried_out m Bad = record { machine = m; said = codes "bad\n" }
-  carried_out m (Process name) = replied (processed m (number_of names name))
+  carried_out m (Process name) = replied (processed m (record_named names name))
   carried_out m (Put name field text) = replied (were_put m text (channel m.world name field))
   carried_out m (Get name field) = replied (got m (channel m.world name field))
   carried_out m (At moment) = record { machine = at_moment moment m; said = codes "ok\n" }
-  carried_out m (Next-done name text) = replied (answers_next m (Answer-done (given_value text)) (number_of names name))
-  carried_out m (Next-fault name) = replied (answers_next m Answer-fault (number_of names name))
-  carried_out m (Next-later name) = replied (answers_next m Answer-later (number_of names name))
-  carried_out m (Done name wait text) = replied (were_completed m wait (Finished-done (given_value text)) (number_of names name))
-  carried_out m (Fault name wait) = replied (were_completed m wait Finished-fault (number_of names name))
+  carried_out m (Next-done name text) = replied (answers_next m (Answer-done (given_value text)) (record_named names name))
+  carried_out m (Next-fault name) = replied (answers_next m Answer-fault (record_named names name))
+  carried_out m (Next-later name) = replied (answers_next m Answer-later (record_named names name))
+  carried_out m (Done name wait text) = replied (were_completed m wait (Finished-done (given_value text)) (record_named names name))
+  carried_out m (Fault name wait) = replied (were_completed m wait Finished-fault (record_named names name))
   carried_out m (Event name) = counted (queued_on m (event_list (take 39 name)))
   carried_out m (Interrupt word) = counted (queued_on m (interrupt_list word))
   carried_out m (Scan period) = counted (scanned k m (Period-list period))
@@ -117,7 +125,8 @@ module _ {R : Type 0} (k : RecordRules R) (names : NameTable) where
   unfoldable pub answered : Machine R → Command → Answered R
   answered m command =
       let did = carried_out m command in
-      if is_silent command then did else (let later = attended k did.machine in record { machine = later.machine; said = did.said ++ later.said })
+      if is_silent command then did
+      else (let later = attended k did.machine in record { machine = later.machine; said = did.said ++ later.said })
 
   -- What is printed for these lines.
   abbrev pub transcript : Machine R → List (List ℕ) → List ℕ

@@ -1,13 +1,12 @@
 //! Answers the lines of a script.
-ghost use Rattle.std.specs.Prelude.{◌≡◌, ◌≤◌, ◌+◌, ◌++◌, [], codes, length, IfOk, OnOk, OnErr};
+ghost use Rattle.std.specs.Prelude.{◌≡◌, ◌≤◌, ◌+◌, ◌++◌, [], codes, length, IfOk};
 ghost use Rattle.rec_types.specs.Record.{record_rules};
-ghost use Rattle.ioc_sim.specs.Machine.{with_none_ended};
 ghost use Rattle.ioc_sim.specs.SeenMachine.{machine_of};
-ghost use Rattle.ioc_main.specs.Replay.{carried_out, answered, attended, ended_lines};
+ghost use Rattle.ioc_main.specs.Replay.{attended, ended_told};
 ghost use Rattle.ioc_main.specs.Script.{command_of, is_silent, put_of, before, behind};
 ghost use Rattle.ioc_main.specs.Seen.{seen};
 ghost use Rattle.ioc_main.specs.declared.command.Command.TheVariants.{Sets};
-ghost use Rattle.ioc_main.specs.Coming.{Stands};
+ghost use Rattle.ioc_main.specs.Doing.{effect_on, Adds, Does, DoesAtLength};
 
 use crate::replay::Replay;
 use crate::session::{PendingOutput, Replies, Session};
@@ -31,13 +30,7 @@ impl Replay {
     fn reply_to(&mut self, command: &Command<'_>, replies: &mut Replies) -> Result<(), AllocError>
         requires room { length replies.old + 256 ≤ 4096 }
         requires short { command.now ≡ Sets → ⊥ }
-        ensures names { self.new.names ≡ self.old.names }
-        ensures machine { OnOk result (machine_of self.new.machine
-            ≡ (carried_out record_rules self.old.names (machine_of self.old.machine) (seen command.now)).machine) }
-        ensures said { OnOk result (replies.new
-            ≡ replies.old
-            ++ (carried_out record_rules self.old.names (machine_of self.old.machine) (seen command.now)).said) }
-        ensures kept { OnErr result (replies.new ≡ replies.old) }
+        ensures does { Does (effect_on self.old (seen command.now)) result self.old self.new replies.old replies.new }
     {
         match *command {
             Command::Silent | Command::Sets => Ok(()),
@@ -82,13 +75,7 @@ impl Replay {
     ) -> Result<(), AllocError>
         requires room { length said.old.replies + 256 ≤ 4096 }
         requires none { said.old.more.items ≡ [] }
-        ensures names { self.new.names ≡ self.old.names }
-        ensures machine { OnOk result (machine_of self.new.machine
-            ≡ (carried_out record_rules self.old.names (machine_of self.old.machine) (seen command.now)).machine) }
-        ensures said { OnOk result (said.new.replies ++ said.new.more.items
-            ≡ said.old.replies
-            ++ (carried_out record_rules self.old.names (machine_of self.old.machine) (seen command.now)).said) }
-        ensures stands { Stands said.old.replies said.new.replies }
+        ensures { DoesAtLength (effect_on self.old (seen command.now)) result self.old self.new said.old said.new }
     {
         match command {
             Command::Sets => self.sets(&mut said.more),
@@ -102,15 +89,8 @@ impl Replay {
     #[tactic(auto, unfolding(crate::specs::Replay::carried_out))]
     fn put_words(&mut self, words: &[u8], replies: &mut Replies) -> Result<(), AllocError>
         requires { length replies.old + 256 ≤ 4096 }
-        ensures names { self.new.names ≡ self.old.names }
-        ensures machine { OnOk result (machine_of self.new.machine
-            ≡ (carried_out record_rules self.old.names (machine_of self.old.machine)
-            (put_of (before 32 words.now) (behind 32 words.now))).machine) }
-        ensures said { OnOk result (replies.new
-            ≡ replies.old
-            ++ (carried_out record_rules self.old.names (machine_of self.old.machine)
-            (put_of (before 32 words.now) (behind 32 words.now))).said) }
-        ensures kept { OnErr result (replies.new ≡ replies.old) }
+        ensures { Does (effect_on self.old (put_of (before 32 words.now) (behind 32 words.now))) result self.old self.new
+            replies.old replies.new }
     {
         let (word, rest) = split_before(words, b' ');
         let (record, named) = split_before(word, b'.');
@@ -131,13 +111,7 @@ impl Replay {
         requires room { length said.old.replies + 256 ≤ 4096 }
         requires none { said.old.more.items ≡ [] }
         ensures silent { IfOk result (λ silent. silent ≡ is_silent (command_of line.now)) }
-        ensures names { self.new.names ≡ self.old.names }
-        ensures machine { OnOk result (machine_of self.new.machine
-            ≡ (carried_out record_rules self.old.names (machine_of self.old.machine) (command_of line.now)).machine) }
-        ensures said { OnOk result (said.new.replies ++ said.new.more.items
-            ≡ said.old.replies
-            ++ (carried_out record_rules self.old.names (machine_of self.old.machine) (command_of line.now)).said) }
-        ensures stands { Stands said.old.replies said.new.replies }
+        ensures does { DoesAtLength (effect_on self.old (command_of line.now)) result self.old self.new said.old said.new }
     {
         let command = Command::from_line(line);
         self.carry_out(&command, said)?;
@@ -152,13 +126,7 @@ impl Replay {
         requires room { length said.old.replies + 256 ≤ 4096 }
         requires none { said.old.more.items ≡ [] }
         ensures silent { IfOk result (λ silent. silent ≡ is_silent (command_of line.now)) }
-        ensures names { self.new.names ≡ self.old.names }
-        ensures machine { OnOk result (machine_of self.new.machine
-            ≡ (carried_out record_rules self.old.names (machine_of self.old.machine) (command_of line.now)).machine) }
-        ensures said { OnOk result (said.new.replies ++ said.new.more.items
-            ≡ said.old.replies
-            ++ (carried_out record_rules self.old.names (machine_of self.old.machine) (command_of line.now)).said) }
-        ensures stands { Stands said.old.replies said.new.replies }
+        ensures does { DoesAtLength (effect_on self.old (command_of line.now)) result self.old self.new said.old said.new }
     {
         match words_of_put(line) {
             Some(words) => {
@@ -173,9 +141,7 @@ impl Replay {
     // because after most lines none has.
     #[inline(never)]
     fn tell_each_ended(&mut self, more: &mut Vec<u8>) -> Result<(), AllocError>
-        ensures names { self.new.names ≡ self.old.names }
-        ensures machine { OnOk result (machine_of self.new.machine ≡ with_none_ended (machine_of self.old.machine)) }
-        ensures said { OnOk result (more.new.items ≡ more.old.items ++ ended_lines (machine_of self.old.machine).ended) }
+        ensures { Adds (ended_told (machine_of self.old.machine)) result self.old self.new more.old.items more.new.items }
     {
         let mut rest = self.machine.ended();
         while let [number, others @ ..] = rest {
@@ -188,9 +154,7 @@ impl Replay {
 
     // Appends a line for each put with notification that has ended, if any has.
     fn tell_ended(&mut self, more: &mut Vec<u8>) -> Result<(), AllocError>
-        ensures names { self.new.names ≡ self.old.names }
-        ensures machine { OnOk result (machine_of self.new.machine ≡ with_none_ended (machine_of self.old.machine)) }
-        ensures said { OnOk result (more.new.items ≡ more.old.items ++ ended_lines (machine_of self.old.machine).ended) }
+        ensures { Adds (ended_told (machine_of self.old.machine)) result self.old self.new more.old.items more.new.items }
     {
         if self.machine.ended().is_empty() {
             return Ok(());
@@ -203,9 +167,8 @@ impl Replay {
     #[inline(always)]
     #[tactic(auto, unfolding(crate::specs::Replay::attended))]
     fn attend(&mut self, more: &mut Vec<u8>) -> Result<(), AllocError>
-        ensures names { self.new.names ≡ self.old.names }
-        ensures machine { OnOk result (machine_of self.new.machine ≡ (attended record_rules (machine_of self.old.machine)).machine) }
-        ensures said { OnOk result (more.new.items ≡ more.old.items ++ (attended record_rules (machine_of self.old.machine)).said) }
+        ensures { Adds (attended record_rules (machine_of self.old.machine)) result self.old self.new more.old.items
+            more.new.items }
     {
         self.machine.serve()?;
         self.tell_ended(more)

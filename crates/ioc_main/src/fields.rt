@@ -4,7 +4,7 @@ ghost use Rattle.rec_types.specs.Record.{record_rules};
 ghost use Rattle.ioc_fields.specs.Table.{row_of, kind_of};
 ghost use Rattle.ioc_store.specs.World.{Has, at};
 ghost use Rattle.ioc_sim.specs.SeenMachine.{machine_of};
-ghost use Rattle.ioc_main.specs.Replay.{channel};
+ghost use Rattle.ioc_main.specs.Replay.{channel, record_named};
 ghost use Rattle.ioc_main.specs.Relink.{linked_in};
 
 use ioc_events::Reply;
@@ -16,6 +16,18 @@ use ioc_sim::Machine;
 use ioc_store::Store;
 use ioc_values::IocError;
 use std::alloc::AllocError;
+
+/// Finds the record with this name.
+///
+/// # Errors
+///
+/// [`IocError::NoRecord`] if there is none.
+#[inline(always)]
+pub fn record(names: &Names, name: &[u8]) -> Result<RecordNo, IocError>
+    ensures { result ≡ record_named names.now name.now }
+{
+    names.find(name).ok_or(IocError::NoRecord)
+}
 
 /// Finds the field with this name of the record with this name.
 ///
@@ -35,9 +47,7 @@ pub fn channel(
     ensures there { IfOk result (λ c. Has (machine_of machine.now).world c.0
         × IsSome (row_of (record_rules.record_type (at record_rules (machine_of machine.now).world c.0)) c.1)) }
 {
-    let Some(number) = names.find(record_name) else {
-        return Err(IocError::NoRecord);
-    };
+    let number = record(names, record_name)?;
     let map = machine.map();
     if !map.has(number) {
         return Err(IocError::NoRecord);

@@ -1,20 +1,18 @@
 //! A loaded database and the operations of scripts on it.
-ghost use Rattle.std.specs.Prelude.{◌≡◌, ◌≤◌, ◌+◌, ◌∷◌, ◌++◌, [], length, take, codes, IfOk, OnOk, OnErr};
-ghost use Rattle.ioc_names.specs.NameTable.{number_of};
+ghost use Rattle.std.specs.Prelude.{◌≡◌, ◌≤◌, ◌+◌, ◌∷◌, ◌++◌, [], length, codes, IfOk, OnOk};
 ghost use Rattle.rec_types.specs.Record.{record_rules};
 ghost use Rattle.ioc_record.specs.Values.{text_of};
 ghost use Rattle.ioc_process.specs.Rules.{IsSettled};
 ghost use Rattle.ioc_dbfile.specs.FirstWorld.{first_world};
-ghost use Rattle.ioc_sim.specs.Machine.{first_machine, queued_on, at_moment, given_up, scanned};
-ghost use Rattle.ioc_sim.specs.Scanner.{event_list, interrupt_list};
-ghost use Rattle.ioc_scan.specs.declared.list_name.ListName.TheVariants.{Period as Period-list};
+ghost use Rattle.ioc_sim.specs.Machine.{first_machine, queued_on};
 ghost use Rattle.ioc_sim.specs.SeenMachine.{machine_of};
-ghost use Rattle.ioc_main.specs.Replay.{channel, processed, got, were_put, answers_next, were_completed, given_value, were_notified};
-ghost use Rattle.ioc_main.specs.Replies.{reply_words, tally_words, count_words};
-ghost use Rattle.ioc_main.specs.Relink.{were_linked};
-ghost use Rattle.ioc_main.specs.Sets.{sets_line};
+ghost use Rattle.ioc_main.specs.Script.{Process, Put, Next-done, Done, Scan, Event, Interrupt, Link};
+ghost use Rattle.ioc_main.specs.Script.{At, Tally as Tally-command, Notify, Cancel, Sets};
+ghost use Rattle.ioc_main.specs.Replay.{given_value, record_named, channel, got, answers_next, were_completed, replied, counted};
+ghost use Rattle.ioc_main.specs.Replies.{reply_words};
+ghost use Rattle.ioc_main.specs.Doing.{effect_on, FoundOrRefused, Does};
 
-use crate::fields::{channel, relink};
+use crate::fields::{channel, record, relink};
 use crate::session::Replies;
 use crate::sets::say_sets;
 use crate::{count_line, say_effect, say_refusal, say_reply, tally_line};
@@ -55,6 +53,22 @@ fn say_shown(replies: &mut Replies, item: &Record, field: FieldNo)
     replies.push(b'\n');
 }
 
+// Returns what a line names, or appends the line of the refusal if it isn't there.
+#[inline(always)]
+fn or_refuse<T: Drop>(found: Result<T, IocError>, replies: &mut Replies) -> Option<T>
+    requires { length replies.old + 256 ≤ 4096 }
+    ensures { FoundOrRefused found result replies.old replies.new }
+{
+    match found {
+        Ok(found) => Some(found),
+        Err(refused) => {
+            say_refusal(replies, refused);
+            None
+        }
+    }
+}
+
+#[tactic(auto, unfolding(crate::specs::Replay::carried_out))]
 impl Replay {
     /// Creates a database of these names and records. All memory that events need is reserved here;
     /// of the lines of a script, only those that queue an answer, walk a scan list or move a record
@@ -76,24 +90,14 @@ impl Replay {
         })
     }
 
-    // Each of the following functions appends its reply. None is inlined, so that the locals of one
-    // command aren't cleared for the others.
+    // Each of the following functions carries out a command and appends its reply. None is inlined,
+    // so that the locals of one command aren't cleared for the others.
     #[inline(never)]
     pub(crate) fn process(&mut self, name: &[u8], replies: &mut Replies) -> Result<(), AllocError>
         requires { length replies.old + 256 ≤ 4096 }
-        ensures names { self.new.names ≡ self.old.names }
-        ensures machine { OnOk result (machine_of self.new.machine
-            ≡ (processed record_rules self.old.names (machine_of self.old.machine)
-            (number_of self.old.names name.now)).machine) }
-        ensures said { OnOk result (replies.new
-            ≡ replies.old
-            ++ reply_words (processed record_rules self.old.names (machine_of self.old.machine)
-            (number_of self.old.names name.now)).reply
-            ++ 10 ∷ []) }
-        ensures kept { OnErr result (replies.new ≡ replies.old) }
+        ensures { Does (effect_on self.old (Process name.now)) result self.old self.new replies.old replies.new }
     {
-        let Some(number) = self.names.find(name) else {
-            say_refusal(replies, IocError::NoRecord);
+        let Some(number) = or_refuse(record(&self.names, name), replies) else {
             return Ok(());
         };
         say_effect(replies, &self.machine.process(number)?);
@@ -109,8 +113,7 @@ impl Replay {
         ensures { replies.new
             ≡ replies.old
             ++ reply_words (got record_rules self.now.names (machine_of self.now.machine)
-            (channel record_rules self.now.names (machine_of self.now.machine).world record_name.now
-            field_name.now)).reply
+            (channel record_rules self.now.names (machine_of self.now.machine).world record_name.now field_name.now)).reply
             ++ 10 ∷ [] }
     {
         match channel(&self.names, &self.machine, record_name, field_name) {
@@ -128,25 +131,12 @@ impl Replay {
         replies: &mut Replies,
     ) -> Result<(), AllocError>
         requires { length replies.old + 256 ≤ 4096 }
-        ensures names { self.new.names ≡ self.old.names }
-        ensures machine { OnOk result (machine_of self.new.machine
-            ≡ (were_put record_rules self.old.names (machine_of self.old.machine) text.now
-            (channel record_rules self.old.names (machine_of self.old.machine).world record_name.now
-            field_name.now)).machine) }
-        ensures said { OnOk result (replies.new
-            ≡ replies.old
-            ++ reply_words (were_put record_rules self.old.names (machine_of self.old.machine) text.now
-            (channel record_rules self.old.names (machine_of self.old.machine).world record_name.now
-            field_name.now)).reply
-            ++ 10 ∷ []) }
-        ensures kept { OnErr result (replies.new ≡ replies.old) }
+        ensures { Does (effect_on self.old (Put record_name.now field_name.now text.now)) result self.old self.new
+            replies.old replies.new }
     {
-        let (number, field) = match channel(&self.names, &self.machine, record_name, field_name) {
-            Ok(found) => found,
-            Err(refused) => {
-                say_refusal(replies, refused);
-                return Ok(());
-            }
+        let found = channel(&self.names, &self.machine, record_name, field_name);
+        let Some((number, field)) = or_refuse(found, replies) else {
+            return Ok(());
         };
         say_effect(replies, &self.machine.put(number, field, text)?);
         Ok(())
@@ -160,19 +150,10 @@ impl Replay {
         replies: &mut Replies,
     ) -> Result<(), AllocError>
         requires { length replies.old + 256 ≤ 4096 }
-        ensures names { self.new.names ≡ self.old.names }
-        ensures machine { OnOk result (machine_of self.new.machine
-            ≡ (answers_next record_rules self.old.names (machine_of self.old.machine) answer
-            (number_of self.old.names name.now)).machine) }
-        ensures said { OnOk result (replies.new
-            ≡ replies.old
-            ++ reply_words (answers_next record_rules self.old.names (machine_of self.old.machine) answer
-            (number_of self.old.names name.now)).reply
-            ++ 10 ∷ []) }
-        ensures kept { OnErr result (replies.new ≡ replies.old) }
+        ensures { Does (replied (answers_next record_rules self.old.names (machine_of self.old.machine) answer
+            (record_named self.old.names name.now))) result self.old self.new replies.old replies.new }
     {
-        let Some(number) = self.names.find(name) else {
-            say_refusal(replies, IocError::NoRecord);
+        let Some(number) = or_refuse(record(&self.names, name), replies) else {
             return Ok(());
         };
         say_reply(replies, &self.machine.queue(number, answer)?);
@@ -187,16 +168,7 @@ impl Replay {
         replies: &mut Replies,
     ) -> Result<(), AllocError>
         requires { length replies.old + 256 ≤ 4096 }
-        ensures names { self.new.names ≡ self.old.names }
-        ensures machine { OnOk result (machine_of self.new.machine
-            ≡ (answers_next record_rules self.old.names (machine_of self.old.machine) (Answer.Done (given_value text.now))
-            (number_of self.old.names name.now)).machine) }
-        ensures said { OnOk result (replies.new
-            ≡ replies.old
-            ++ reply_words (answers_next record_rules self.old.names (machine_of self.old.machine)
-            (Answer.Done (given_value text.now)) (number_of self.old.names name.now)).reply
-            ++ 10 ∷ []) }
-        ensures kept { OnErr result (replies.new ≡ replies.old) }
+        ensures { Does (effect_on self.old (Next-done name.now text.now)) result self.old self.new replies.old replies.new }
     {
         self.queue(name, Answer::Done(given_value(text)), replies)
     }
@@ -210,19 +182,10 @@ impl Replay {
         replies: &mut Replies,
     ) -> Result<(), AllocError>
         requires { length replies.old + 256 ≤ 4096 }
-        ensures names { self.new.names ≡ self.old.names }
-        ensures machine { OnOk result (machine_of self.new.machine
-            ≡ (were_completed record_rules self.old.names (machine_of self.old.machine) wait finished
-            (number_of self.old.names name.now)).machine) }
-        ensures said { OnOk result (replies.new
-            ≡ replies.old
-            ++ reply_words (were_completed record_rules self.old.names (machine_of self.old.machine) wait finished
-            (number_of self.old.names name.now)).reply
-            ++ 10 ∷ []) }
-        ensures kept { OnErr result (replies.new ≡ replies.old) }
+        ensures { Does (replied (were_completed record_rules self.old.names (machine_of self.old.machine) wait finished
+            (record_named self.old.names name.now))) result self.old self.new replies.old replies.new }
     {
-        let Some(number) = self.names.find(name) else {
-            say_refusal(replies, IocError::NoRecord);
+        let Some(number) = or_refuse(record(&self.names, name), replies) else {
             return Ok(());
         };
         say_reply(replies, &self.machine.complete(number, wait, finished)?);
@@ -238,16 +201,7 @@ impl Replay {
         replies: &mut Replies,
     ) -> Result<(), AllocError>
         requires { length replies.old + 256 ≤ 4096 }
-        ensures names { self.new.names ≡ self.old.names }
-        ensures machine { OnOk result (machine_of self.new.machine
-            ≡ (were_completed record_rules self.old.names (machine_of self.old.machine) wait
-            (Finished.Done (given_value text.now)) (number_of self.old.names name.now)).machine) }
-        ensures said { OnOk result (replies.new
-            ≡ replies.old
-            ++ reply_words (were_completed record_rules self.old.names (machine_of self.old.machine) wait
-            (Finished.Done (given_value text.now)) (number_of self.old.names name.now)).reply
-            ++ 10 ∷ []) }
-        ensures kept { OnErr result (replies.new ≡ replies.old) }
+        ensures { Does (effect_on self.old (Done name.now wait text.now)) result self.old self.new replies.old replies.new }
     {
         self.complete(name, wait, Finished::Done(given_value(text)), replies)
     }
@@ -255,11 +209,7 @@ impl Replay {
     #[inline(never)]
     fn call(&mut self, list: Option<ListName>, replies: &mut Replies) -> Result<(), AllocError>
         requires { length replies.old + 256 ≤ 4096 }
-        ensures names { self.new.names ≡ self.old.names }
-        ensures machine { OnOk result (machine_of self.new.machine ≡ (queued_on (machine_of self.old.machine) list).machine) }
-        ensures said { OnOk result (replies.new
-            ≡ replies.old ++ count_words (queued_on (machine_of self.old.machine) list).count ++ 10 ∷ []) }
-        ensures kept { OnErr result (replies.new ≡ replies.old) }
+        ensures { Does (counted (queued_on (machine_of self.old.machine) list)) result self.old self.new replies.old replies.new }
     {
         let count = self.machine.call(list)?;
         replies.extend(count_line(count).as_slice());
@@ -269,13 +219,7 @@ impl Replay {
     #[inline(never)]
     pub(crate) fn scan(&mut self, period: &Period, replies: &mut Replies) -> Result<(), AllocError>
         requires { length replies.old + 256 ≤ 4096 }
-        ensures names { self.new.names ≡ self.old.names }
-        ensures machine { OnOk result (machine_of self.new.machine
-            ≡ (scanned record_rules (machine_of self.old.machine) (Period-list period.now)).machine) }
-        ensures said { OnOk result (replies.new
-            ≡ replies.old
-            ++ count_words (scanned record_rules (machine_of self.old.machine) (Period-list period.now)).count ++ 10 ∷ []) }
-        ensures kept { OnErr result (replies.new ≡ replies.old) }
+        ensures { Does (effect_on self.old (Scan period.now)) result self.old self.new replies.old replies.new }
     {
         let count = self.machine.scan(&ListName::Period(*period))?;
         replies.extend(count_line(count).as_slice());
@@ -285,13 +229,7 @@ impl Replay {
     #[inline(never)]
     pub(crate) fn post(&mut self, name: &[u8], replies: &mut Replies) -> Result<(), AllocError>
         requires { length replies.old + 256 ≤ 4096 }
-        ensures names { self.new.names ≡ self.old.names }
-        ensures machine { OnOk result (machine_of self.new.machine
-            ≡ (queued_on (machine_of self.old.machine) (event_list (take 39 name.now))).machine) }
-        ensures said { OnOk result (replies.new
-            ≡ replies.old ++ count_words (queued_on (machine_of self.old.machine) (event_list (take 39 name.now))).count
-            ++ 10 ∷ []) }
-        ensures kept { OnErr result (replies.new ≡ replies.old) }
+        ensures { Does (effect_on self.old (Event name.now)) result self.old self.new replies.old replies.new }
     {
         self.call(event_list(Text::cut(name)), replies)
     }
@@ -299,13 +237,7 @@ impl Replay {
     #[inline(never)]
     pub(crate) fn interrupt(&mut self, word: &[u8], replies: &mut Replies) -> Result<(), AllocError>
         requires { length replies.old + 256 ≤ 4096 }
-        ensures names { self.new.names ≡ self.old.names }
-        ensures machine { OnOk result (machine_of self.new.machine
-            ≡ (queued_on (machine_of self.old.machine) (interrupt_list word.now)).machine) }
-        ensures said { OnOk result (replies.new
-            ≡ replies.old ++ count_words (queued_on (machine_of self.old.machine) (interrupt_list word.now)).count
-            ++ 10 ∷ []) }
-        ensures kept { OnErr result (replies.new ≡ replies.old) }
+        ensures { Does (effect_on self.old (Interrupt word.now)) result self.old self.new replies.old replies.new }
     {
         self.call(interrupt_list(word), replies)
     }
@@ -319,25 +251,12 @@ impl Replay {
         replies: &mut Replies,
     ) -> Result<(), AllocError>
         requires { length replies.old + 256 ≤ 4096 }
-        ensures names { self.new.names ≡ self.old.names }
-        ensures machine { OnOk result (machine_of self.new.machine
-            ≡ (were_linked record_rules self.old.names (machine_of self.old.machine) text.now
-            (channel record_rules self.old.names (machine_of self.old.machine).world record_name.now
-            field_name.now)).machine) }
-        ensures said { OnOk result (replies.new
-            ≡ replies.old
-            ++ reply_words (were_linked record_rules self.old.names (machine_of self.old.machine) text.now
-            (channel record_rules self.old.names (machine_of self.old.machine).world record_name.now
-            field_name.now)).reply
-            ++ 10 ∷ []) }
-        ensures kept { OnErr result (replies.new ≡ replies.old) }
+        ensures { Does (effect_on self.old (Link record_name.now field_name.now text.now)) result self.old self.new
+            replies.old replies.new }
     {
-        let (number, field) = match channel(&self.names, &self.machine, record_name, field_name) {
-            Ok(found) => found,
-            Err(refused) => {
-                say_refusal(replies, refused);
-                return Ok(());
-            }
+        let found = channel(&self.names, &self.machine, record_name, field_name);
+        let Some((number, field)) = or_refuse(found, replies) else {
+            return Ok(());
         };
         let told = relink(&self.names, &mut self.machine, number, field, text)?;
         say_reply(replies, &told);
@@ -348,8 +267,8 @@ impl Replay {
     pub(crate) fn begin_at(&mut self, moment: u64, replies: &mut Replies)
         requires { length replies.old + 256 ≤ 4096 }
         ensures names { self.new.names ≡ self.old.names }
-        ensures machine { machine_of self.new.machine ≡ at_moment moment (machine_of self.old.machine) }
-        ensures said { replies.new ≡ replies.old ++ codes "ok\n" }
+        ensures machine { machine_of self.new.machine ≡ (effect_on self.old (At moment)).machine }
+        ensures said { replies.new ≡ replies.old ++ (effect_on self.old (At moment)).said }
     {
         self.machine.set_moment(moment);
         replies.extend(b"ok\n");
@@ -358,10 +277,7 @@ impl Replay {
     #[inline(never)]
     pub(crate) fn tally(&self, replies: &mut Replies)
         requires { length replies.old + 256 ≤ 4096 }
-        ensures { replies.new
-            ≡ replies.old
-            ++ tally_words (machine_of self.now.machine).tally (machine_of self.now.machine).scanner.queues.dropped
-            ++ 10 ∷ [] }
+        ensures { replies.new ≡ replies.old ++ (effect_on self.now Tally-command).said }
     {
         replies.extend(tally_line(self.machine.tally(), self.machine.dropped()).as_slice());
     }
@@ -375,25 +291,12 @@ impl Replay {
         replies: &mut Replies,
     ) -> Result<(), AllocError>
         requires { length replies.old + 256 ≤ 4096 }
-        ensures names { self.new.names ≡ self.old.names }
-        ensures machine { OnOk result (machine_of self.new.machine
-            ≡ (were_notified record_rules self.old.names (machine_of self.old.machine) text.now
-            (channel record_rules self.old.names (machine_of self.old.machine).world record_name.now
-            field_name.now)).machine) }
-        ensures said { OnOk result (replies.new
-            ≡ replies.old
-            ++ reply_words (were_notified record_rules self.old.names (machine_of self.old.machine) text.now
-            (channel record_rules self.old.names (machine_of self.old.machine).world record_name.now
-            field_name.now)).reply
-            ++ 10 ∷ []) }
-        ensures kept { OnErr result (replies.new ≡ replies.old) }
+        ensures { Does (effect_on self.old (Notify record_name.now field_name.now text.now)) result self.old self.new
+            replies.old replies.new }
     {
-        let (number, field) = match channel(&self.names, &self.machine, record_name, field_name) {
-            Ok(found) => found,
-            Err(refused) => {
-                say_refusal(replies, refused);
-                return Ok(());
-            }
+        let found = channel(&self.names, &self.machine, record_name, field_name);
+        let Some((number, field)) = or_refuse(found, replies) else {
+            return Ok(());
         };
         let told = self.machine.notify(number, field, Input::from_text(text))?;
         say_reply(replies, &told);
@@ -403,11 +306,7 @@ impl Replay {
     #[inline(never)]
     pub(crate) fn cancel(&mut self, number: u64, replies: &mut Replies) -> Result<(), AllocError>
         requires { length replies.old + 256 ≤ 4096 }
-        ensures names { self.new.names ≡ self.old.names }
-        ensures machine { OnOk result (machine_of self.new.machine ≡ (given_up record_rules (machine_of self.old.machine) number).machine) }
-        ensures said { OnOk result (replies.new
-            ≡ replies.old ++ reply_words (given_up record_rules (machine_of self.old.machine) number).reply ++ 10 ∷ []) }
-        ensures kept { OnErr result (replies.new ≡ replies.old) }
+        ensures { Does (effect_on self.old (Cancel number)) result self.old self.new replies.old replies.new }
     {
         say_reply(replies, &self.machine.cancel(NotifyId::new(number))?);
         Ok(())
@@ -417,7 +316,7 @@ impl Replay {
     #[inline(never)]
     pub(crate) fn sets(&self, more: &mut Vec<u8>) -> Result<(), AllocError>
         requires { more.old.items ≡ [] }
-        ensures { OnOk result (more.new.items ≡ sets_line record_rules (machine_of self.now.machine).world) }
+        ensures { OnOk result (more.new.items ≡ (effect_on self.now Sets).said) }
     {
         say_sets(self.alloc, &self.machine, more)
     }
