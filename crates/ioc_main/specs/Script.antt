@@ -13,6 +13,8 @@ use Rattle.ioc_menus.specs.Texts.{choice_of}
 use Rattle.ioc_menus.specs.Numbers.{scans}
 use Rattle.ioc_scan.specs.declared.period.Period.{Period}
 use Rattle.ioc_scan.specs.Places.{period_of}
+use Rattle.ioc_main.specs.declared.command.Verb.{Verb}
+use Rattle.ioc_main.specs.declared.command.Verb.TheVariants as verbs
 
 -- The lines, without the line feeds that end them.
 abbrev pub lines_of : List ℕ → List (List ℕ)
@@ -176,10 +178,6 @@ link_at name (Some field) text = Link name field (unwrap_or text [])
 abbrev pub link_of : List ℕ → Option (List ℕ) → Command
 link_of word text = link_at (before 46 word) (behind 46 word) text
 
--- The command that changes a link.
-abbrev pub by_link_verb : List ℕ → List ℕ → Command
-by_link_verb verb words = if pointwise nat_eq verb (codes "link") then link_of (before 32 words) (behind 32 words) else Bad
-
 -- The text may be missing.
 abbrev pub notify_at : List ℕ → Option (List ℕ) → Option (List ℕ) → Command
 notify_at name None text = Bad
@@ -198,39 +196,54 @@ abbrev pub cancel_of : List ℕ → Option (List ℕ) → Command
 cancel_of word (Some words) = Bad
 cancel_of word None = cancel_at (below (2 ^ 64) (numeral 10 word))
 
--- The commands for puts with notification, and the following ones.
-abbrev pub by_notify_verb : List ℕ → List ℕ → Command
-by_notify_verb verb words =
-    if pointwise nat_eq verb (codes "notify") then notify_of (before 32 words) (behind 32 words)
-    else (if pointwise nat_eq verb (codes "cancel") then cancel_of (before 32 words) (behind 32 words) else by_link_verb verb words)
-
--- The commands that process the records of scan lists, and the following ones.
-abbrev pub by_scan_verb : List ℕ → List ℕ → Command
-by_scan_verb verb words =
-    if pointwise nat_eq verb (codes "event") then Event words
-    else (if pointwise nat_eq verb (codes "io") then interrupt_of (before 32 words) (behind 32 words)
-    else (if pointwise nat_eq verb (codes "scan") then scan_of words else by_notify_verb verb words))
-
--- The commands that act as the device of a record, and the following ones.
-abbrev pub by_device_verb : List ℕ → List ℕ → Command
-by_device_verb verb words =
-    if pointwise nat_eq verb (codes "next") then next_of (before 32 words) (behind 32 words)
-    else (if pointwise nat_eq verb (codes "done") then done_of (before 32 words) (behind 32 words)
-    else (if pointwise nat_eq verb (codes "fault") then fault_of (before 32 words) (behind 32 words)
-    else by_scan_verb verb words))
+-- The first word of a line of several words, by its spelling.
+abbrev pub verb_named : List ℕ → Option Verb
+verb_named word =
+    if pointwise nat_eq word (codes "process") then Some verbs.Process
+    else (if pointwise nat_eq word (codes "put") then Some verbs.Put
+    else (if pointwise nat_eq word (codes "get") then Some verbs.Get
+    else (if pointwise nat_eq word (codes "at") then Some verbs.At
+    else (if pointwise nat_eq word (codes "next") then Some verbs.Next
+    else (if pointwise nat_eq word (codes "done") then Some verbs.Done
+    else (if pointwise nat_eq word (codes "fault") then Some verbs.Fault
+    else (if pointwise nat_eq word (codes "event") then Some verbs.Event
+    else (if pointwise nat_eq word (codes "io") then Some verbs.Interrupt
+    else (if pointwise nat_eq word (codes "scan") then Some verbs.Scan
+    else (if pointwise nat_eq word (codes "notify") then Some verbs.Notify
+    else (if pointwise nat_eq word (codes "cancel") then Some verbs.Cancel
+    else (if pointwise nat_eq word (codes "link") then Some verbs.Link
+    else None))))))))))))
 
 -- The command of a first word and the words behind it.
-abbrev pub by_verb : List ℕ → List ℕ → Command
-by_verb verb words =
-    if pointwise nat_eq verb (codes "process") then process_of (before 32 words) (behind 32 words)
-    else (if pointwise nat_eq verb (codes "put") then put_of (before 32 words) (behind 32 words)
-    else (if pointwise nat_eq verb (codes "get") then get_of (before 32 words) (behind 32 words)
-    else (if pointwise nat_eq verb (codes "at") then at_of (before 32 words) (behind 32 words)
-    else by_device_verb verb words)))
+abbrev pub by_verb : Verb → List ℕ → Command
+by_verb verbs.Process words = process_of (before 32 words) (behind 32 words)
+by_verb verbs.Put words = put_of (before 32 words) (behind 32 words)
+by_verb verbs.Get words = get_of (before 32 words) (behind 32 words)
+by_verb verbs.At words = at_of (before 32 words) (behind 32 words)
+by_verb verbs.Next words = next_of (before 32 words) (behind 32 words)
+by_verb verbs.Done words = done_of (before 32 words) (behind 32 words)
+by_verb verbs.Fault words = fault_of (before 32 words) (behind 32 words)
+by_verb verbs.Event words = Event words
+by_verb verbs.Interrupt words = interrupt_of (before 32 words) (behind 32 words)
+by_verb verbs.Scan words = scan_of words
+by_verb verbs.Notify words = notify_of (before 32 words) (behind 32 words)
+by_verb verbs.Cancel words = cancel_of (before 32 words) (behind 32 words)
+by_verb verbs.Link words = link_of (before 32 words) (behind 32 words)
+
+abbrev pub by_any_verb : Option Verb → List ℕ → Command
+by_any_verb None words = Bad
+by_any_verb (Some verb) words = by_verb verb words
+
+-- The command of a line of one word.
+abbrev pub of_one_word : List ℕ → Command
+of_one_word word =
+    if pointwise nat_eq word (codes "tally") then Tally
+    else (if pointwise nat_eq word (codes "event") then Event []
+    else (if pointwise nat_eq word (codes "sets") then Sets else Bad))
 
 abbrev pub with_words : List ℕ → Option (List ℕ) → Command
-with_words verb None = if pointwise nat_eq verb (codes "tally") then Tally else (if pointwise nat_eq verb (codes "event") then Event [] else (if pointwise nat_eq verb (codes "sets") then Sets else Bad))
-with_words verb (Some words) = by_verb verb words
+with_words word None = of_one_word word
+with_words word (Some words) = by_any_verb (verb_named word) words
 
 -- Words are separated by one space.
 abbrev pub worded : List ℕ → Command

@@ -1,7 +1,9 @@
 //! Commands of a script.
 ghost use Rattle.std.specs.Prelude.{◌≡◌, option_map};
 ghost use Rattle.std.specs.Option.{IfSome};
-ghost use Rattle.ioc_main.specs.Script.{before, behind, command_of, worded, by_verb, process_of, put_of, get_of, at_of, next_by, next_of, done_of, fault_of, by_device_verb, by_scan_verb, by_link_verb, link_of, interrupt_of, period_named, scan_of, by_notify_verb, notify_of, cancel_of, is_silent};
+ghost use Rattle.ioc_main.specs.Script.{before, behind, command_of, worded, verb_named, by_verb, is_silent, period_named};
+ghost use Rattle.ioc_main.specs.Script.{process_of, put_of, get_of, at_of, next_by, next_of, done_of, fault_of};
+ghost use Rattle.ioc_main.specs.Script.{interrupt_of, scan_of, notify_of, cancel_of, link_of};
 ghost use Rattle.ioc_main.specs.Seen.{seen, bytes};
 
 use crate::parts::cut_at;
@@ -53,6 +55,24 @@ pub enum Command<'a> {
     Sets,
 }
 
+// The first word of a line of several words.
+#[derive(Clone, Copy)]
+enum Verb {
+    Process,
+    Put,
+    Get,
+    At,
+    Next,
+    Done,
+    Fault,
+    Event,
+    Interrupt,
+    Scan,
+    Notify,
+    Cancel,
+    Link,
+}
+
 #[tactic(auto, unfolding(crate::specs::Script::command_of))]
 impl<'a> Command<'a> {
     /// Returns the command of a line, which comes without its line feed.
@@ -84,17 +104,10 @@ fn worded(line: &[u8]) -> Command<'_>
     ensures { seen result ≡ worded line.now }
 {
     match line {
-        [b'g', b'e', b't', b' ', words @ ..] => {
-            let (word, more) = cut_at(words, b' ');
-            get(word, more)
-        }
-        [b'p', b'u', b't', b' ', words @ ..] => {
-            let (word, text) = cut_at(words, b' ');
-            put(word, text)
-        }
+        [b'g', b'e', b't', b' ', words @ ..] => by_verb(Verb::Get, words),
+        [b'p', b'u', b't', b' ', words @ ..] => by_verb(Verb::Put, words),
         [b'p', b'r', b'o', b'c', b'e', b's', b's', b' ', words @ ..] => {
-            let (word, more) = cut_at(words, b' ');
-            process(word, more)
+            by_verb(Verb::Process, words)
         }
         _ => by_first_word(line),
     }
@@ -121,88 +134,75 @@ pub fn words_of_put(line: &[u8]) -> Option<&[u8]>
 fn by_first_word(line: &[u8]) -> Command<'_>
     ensures { seen result ≡ worded line.now }
 {
-    let (verb, words) = cut_at(line, b' ');
+    let (word, words) = cut_at(line, b' ');
     match words {
-        Some(words) => by_verb(verb, words),
-        None if verb == b"tally".as_slice() => Command::Tally,
-        None if verb == b"event".as_slice() => Command::Event(b""),
-        None if verb == b"sets".as_slice() => Command::Sets,
+        Some(words) => match verb_named(word) {
+            Some(verb) => by_verb(verb, words),
+            None => Command::Bad,
+        },
+        None if word == b"tally".as_slice() => Command::Tally,
+        None if word == b"event".as_slice() => Command::Event(b""),
+        None if word == b"sets".as_slice() => Command::Sets,
         None => Command::Bad,
     }
 }
 
-fn by_verb<'a>(verb: &'a [u8], words: &'a [u8]) -> Command<'a>
-    ensures { seen result ≡ by_verb verb.now words.now }
+// Returns the first word with this spelling of a line of several words.
+#[inline(always)]
+fn verb_named(word: &[u8]) -> Option<Verb>
+    ensures { result ≡ verb_named word.now }
+{
+    if word == b"process".as_slice() {
+        Some(Verb::Process)
+    } else if word == b"put".as_slice() {
+        Some(Verb::Put)
+    } else if word == b"get".as_slice() {
+        Some(Verb::Get)
+    } else if word == b"at".as_slice() {
+        Some(Verb::At)
+    } else if word == b"next".as_slice() {
+        Some(Verb::Next)
+    } else if word == b"done".as_slice() {
+        Some(Verb::Done)
+    } else if word == b"fault".as_slice() {
+        Some(Verb::Fault)
+    } else if word == b"event".as_slice() {
+        Some(Verb::Event)
+    } else if word == b"io".as_slice() {
+        Some(Verb::Interrupt)
+    } else if word == b"scan".as_slice() {
+        Some(Verb::Scan)
+    } else if word == b"notify".as_slice() {
+        Some(Verb::Notify)
+    } else if word == b"cancel".as_slice() {
+        Some(Verb::Cancel)
+    } else if word == b"link".as_slice() {
+        Some(Verb::Link)
+    } else {
+        None
+    }
+}
+
+// Returns the command of a first word and the words behind it.
+#[inline(always)]
+fn by_verb(verb: Verb, words: &[u8]) -> Command<'_>
+    ensures { seen result ≡ by_verb verb words.now }
 {
     let (word, text) = cut_at(words, b' ');
-    if verb == b"process".as_slice() {
-        process(word, text)
-    } else if verb == b"put".as_slice() {
-        put(word, text)
-    } else if verb == b"get".as_slice() {
-        get(word, text)
-    } else if verb == b"at".as_slice() {
-        at(word, text)
-    } else {
-        by_device_verb(verb, words)
-    }
-}
-
-// The commands that act as the device of a record, and the following ones.
-fn by_device_verb<'a>(verb: &'a [u8], words: &'a [u8]) -> Command<'a>
-    ensures { seen result ≡ by_device_verb verb.now words.now }
-{
-    let (word, text) = cut_at(words, b' ');
-    if verb == b"next".as_slice() {
-        next(word, text)
-    } else if verb == b"done".as_slice() {
-        done(word, text)
-    } else if verb == b"fault".as_slice() {
-        fault(word, text)
-    } else {
-        by_scan_verb(verb, words)
-    }
-}
-
-// The commands that process the records of scan lists, and the following ones.
-fn by_scan_verb<'a>(verb: &'a [u8], words: &'a [u8]) -> Command<'a>
-    ensures { seen result ≡ by_scan_verb verb.now words.now }
-{
-    let (word, more) = cut_at(words, b' ');
-    if verb == b"event".as_slice() {
-        Command::Event(words)
-    } else if verb == b"io".as_slice() {
-        interrupt(word, more)
-    } else if verb == b"scan".as_slice() {
-        scan(words)
-    } else {
-        by_notify_verb(verb, words)
-    }
-}
-
-// The commands for puts with notification, and the following ones.
-fn by_notify_verb<'a>(verb: &'a [u8], words: &'a [u8]) -> Command<'a>
-    ensures { seen result ≡ by_notify_verb verb.now words.now }
-{
-    let (word, more) = cut_at(words, b' ');
-    if verb == b"notify".as_slice() {
-        notify(word, more)
-    } else if verb == b"cancel".as_slice() {
-        cancel(word, more)
-    } else {
-        by_link_verb(verb, words)
-    }
-}
-
-// The command that changes a link.
-fn by_link_verb<'a>(verb: &'a [u8], words: &'a [u8]) -> Command<'a>
-    ensures { seen result ≡ by_link_verb verb.now words.now }
-{
-    let (word, text) = cut_at(words, b' ');
-    if verb == b"link".as_slice() {
-        link(word, text)
-    } else {
-        Command::Bad
+    match verb {
+        Verb::Process => process(word, text),
+        Verb::Put => put(word, text),
+        Verb::Get => get(word, text),
+        Verb::At => at(word, text),
+        Verb::Next => next(word, text),
+        Verb::Done => done(word, text),
+        Verb::Fault => fault(word, text),
+        Verb::Event => Command::Event(words),
+        Verb::Interrupt => interrupt(word, text),
+        Verb::Scan => scan(words),
+        Verb::Notify => notify(word, text),
+        Verb::Cancel => cancel(word, text),
+        Verb::Link => link(word, text),
     }
 }
 
