@@ -53,10 +53,6 @@ module _ (t : List (List ℕ) → List ℕ) where
         ∙ sym (onto_cut (line ++ piece) (lines_of rest))
         ∙ ap (λ (p : List ℕ). t (onto p (lines_of rest))) (sym e)
 
-  pub all_read : t [] ≡ [] → to_come t [] [] ≡ []
-  unfolding to_come
-  all_read e = e
-
   pub last_line : (c : ℕ) (cs : List ℕ) → to_come t (c ∷ cs) [] ≡ t ((c ∷ cs) ∷ [])
   unfolding to_come
   last_line c cs = refl

@@ -6,7 +6,7 @@ use Rattle.ioc_main.specs.Script.{lines_of, cut, before, behind}
 use Rattle.ioc_main.specs.Coming.{onto, still, Stands, to_come, CutsLines}
 use Rattle.ioc_main.specs.Written.{Writes, WritesPart, WritesFront, StopsLine}
 use Rattle.ioc_main.specs.declared.fault.LineFault.{LineFault}
-use Rattle.ioc_main.proofs.ComingLemmas.{at_end, at_more, starts, cut-cut, all_read, last_line-of}
+use Rattle.ioc_main.proofs.ComingLemmas.{at_end, at_more, starts, cut-cut, last_line-of}
 use Rattle.ioc_main.proofs.WrittenLemmas.{writes_same, writes_trans, writes_then_stops, writes_behind, writes_all, writes_then_part, part_more}
 
 -- A line ends in the piece.

@@ -3,12 +3,11 @@ use Rattle.std.proofs.Common.{◌≡◌, ℕ, List, [], ◌++◌, Option, Some, 
 use Rattle.std.specs.Prelude.{IfSome}
 use Rattle.std.specs.Io.KnownBytes.{Appends, Consumes, IsAtEnd}
 use Rattle.ioc_main.specs.Script.{lines_of}
-use Rattle.ioc_main.specs.Written.{Writes, StopsLine, StopsScript}
+use Rattle.ioc_main.specs.Written.{Writes, WritesFront, StopsLine}
 use Rattle.ioc_main.specs.declared.fault.LineFault.{LineFault}
-use Rattle.ioc_main.specs.declared.fault.ScriptFault.{ScriptFault}
 use Rattle.ioc_main.specs.Coming.{still, to_come, ReadsSo}
 use Rattle.ioc_main.proofs.ComingLemmas.{starts}
-use Rattle.ioc_main.proofs.WrittenLemmas.{writes_same, writes_trans, writes_then_stops, writes_then_stops_script, appends_all}
+use Rattle.ioc_main.proofs.WrittenLemmas.{writes_same, writes_trans, writes_then_stops, appends_all}
 
 abbrev Transcript : Type 0
 Transcript = List (List ℕ) → List ℕ
@@ -66,15 +65,9 @@ reads_end_fails fault whole t (Some x) (Some y) d w v u line q h p inv =
 pub none_read : (b d : Option (List ℕ)) (n : ℕ) (buf : List ℕ) → n ≡ 0 → Consumes b d (take n buf) → Consumes b d []
 none_read b d n buf e q = subst (λ (k : ℕ). Consumes b d (take k buf)) e q
 
-come_behind : (said : List ℕ) (t : Transcript) (line bytes : List ℕ) → to_come (still said t) line bytes ≡ said ++ to_come t line bytes
-unfolding to_come
-come_behind said t line bytes = refl
-
--- A read failed, and the pending replies were written as far as possible.
-pub reads_stop : (fault : ScriptFault) (whole t : Transcript) (a b w v u : Option (List ℕ)) (said line : List ℕ) → ((text : List ℕ) → StopsScript fault v (said ++ text) u)
-    → ReadsSo whole a b w (still said t) line v → IfSome a (λ text. StopsScript fault w (whole (lines_of text)) u)
-reads_stop fault whole t None b w v u said line q inv = tt
-reads_stop fault whole t (Some x) None w v u said line q inv = absurd inv
-reads_stop fault whole t (Some x) (Some y) w v u said line q inv =
-    writes_then_stops_script fault w v u (whole (lines_of x)) (to_come (still said t) line y) inv
-    (subst (λ (l : List ℕ). StopsScript fault v l u) (sym (come_behind said t line y)) (q (to_come t line y)))
+-- A read failed: what was written is the beginning of the transcript.
+pub reads_stop : (whole t : Transcript) (a b w v : Option (List ℕ)) (line : List ℕ) → ReadsSo whole a b w t line v
+    → IfSome a (λ text. WritesFront w (whole (lines_of text)) v)
+reads_stop whole t None b w v line inv = tt
+reads_stop whole t (Some x) None w v line inv = absurd inv
+reads_stop whole t (Some x) (Some y) w v line inv = (to_come t line y, inv)

@@ -2,11 +2,9 @@
 use Rattle.std.proofs.Common.{◌≡◌, ℕ, false, eqb, length, List, [], ◌∷◌, ◌++◌, take, drop, Option, Some, None, refl, sym, ap, subst, ◌∙◌, append_assoc, append-nil, take-append-drop}
 use Rattle.std.specs.Prelude.{IfSome}
 use Rattle.std.specs.Io.KnownBytes.{Appends, Keeps}
-use Rattle.ioc_main.specs.Written.{Writes, WritesPart, WritesFront, StopsLine, StopsScript}
+use Rattle.ioc_main.specs.Written.{Writes, WritesPart, StopsLine, StopsScript}
 use Rattle.ioc_main.specs.declared.fault.LineFault.{LineFault}
 use Rattle.ioc_main.specs.declared.fault.LineFault.TheVariants as line
-use Rattle.ioc_main.specs.declared.fault.ScriptFault.{ScriptFault}
-use Rattle.ioc_main.specs.declared.fault.ScriptFault.TheVariants as script
 use Rattle.ioc_main.specs.Faults.{script_fault_of}
 
 pub appends_trans : (a b c : Option (List ℕ)) (bs cs : List ℕ) → Appends a b bs → Appends b c cs → Appends a c (bs ++ cs)
@@ -44,10 +42,6 @@ pub script_stops : (fault : LineFault) (script a b : Option (List ℕ)) (t : Lis
 script_stops fault None a b t p = tt
 script_stops fault (Some text) a b t p = stops_script fault a b (t text) p
 
--- Nothing was written of the text.
-pub writes_none : (a : Option (List ℕ)) (x : List ℕ) → WritesFront a x a
-writes_none a x = (x, ([], refl, appends_none a))
-
 -- A writer with unchanged contents took nothing.
 appends_kept : (a b : Option (List ℕ)) → Keeps a b → Appends a b []
 appends_kept None b k = tt
@@ -80,15 +74,6 @@ part_more a b x y p = (p.0, p.1 ++ y, (p.2.0, ap (λ l. l ++ y) p.2.1 ∙ append
 pub writes_same : (a : Option (List ℕ)) (x y : List ℕ) → x ≡ y → Writes a x a y
 writes_same a x y e = ([], e, appends_none a)
 
-pub appends_empty : (a : Option (List ℕ)) (x : List ℕ) → x ≡ [] → Appends a a x
-appends_empty a x e = subst (Appends a a) (sym e) (appends_none a)
-
--- What is written for a line is the beginning of what is printed for the lines.
-pub said_fails : (a b : Option (List ℕ)) (x slice said more : List ℕ) → slice ≡ said → x ≡ said ++ more → WritesPart a slice b → WritesPart a x b
-said_fails a b x slice said more e f p =
-    let q : WritesPart a said b = subst (λ (l : List ℕ). WritesPart a l b) e p in
-    subst (λ (l : List ℕ). WritesPart a l b) (sym f) (part_more a b said more q)
-
 -- If a second text isn't written whole after the first one, neither are both together.
 pub all_then_part : (a b c : Option (List ℕ)) (x y : List ℕ) → Appends a b x → WritesPart b y c → WritesPart a (x ++ y) c
 all_then_part a b c x y p q = writes_then_part a b c (x ++ y) y (writes_all a b x y p) q
@@ -101,10 +86,6 @@ writes_behind a b x y z p = (p.0, ap (λ l. l ++ z) p.1 ∙ append_assoc p.0 y z
 pub keeps_back : (a : Option (List ℕ)) (said more : List ℕ) → more ≡ [] → Writes a (said ++ more) a said
 keeps_back a said more none = writes_same a (said ++ more) said (ap (λ l. said ++ l) none ∙ append-nil said)
 
--- All pending replies are written.
-pub writes_said : (a b : Option (List ℕ)) (said left : List ℕ) → Appends a b said → left ≡ [] → Writes a said b left
-writes_said a b said left p none = (said, sym (ap (λ l. said ++ l) none ∙ append-nil said), p)
-
 -- All that is left is written.
 pub writes_rest : (a b c : Option (List ℕ)) (x said more : List ℕ) → more ≡ [] → Writes a x b said → Appends b c (said ++ more) → Appends a c x
 writes_rest a b c x said more none p q =
@@ -113,17 +94,3 @@ writes_rest a b c x said more none p q =
 
 pub writes_no_rest : (a b c : Option (List ℕ)) (x said more : List ℕ) → more ≡ [] → Writes a x b said → WritesPart b (said ++ more) c → WritesPart a x c
 writes_no_rest a b c x said more none p q = writes_then_part a b c x said p (subst (λ l. WritesPart b l c) (ap (λ l. said ++ l) none ∙ append-nil said) q)
-
--- A script that stops after a write stops the whole.
-pub writes_then_stops_script : (fault : ScriptFault) (a b c : Option (List ℕ)) (x y : List ℕ) → Writes a x b y → StopsScript fault b y c → StopsScript fault a x c
-writes_then_stops_script (script.Read reason) a b c x y p q = (q.0, writes_trans a b c x y q.0 p q.1)
-writes_then_stops_script script.Write a b c x y p q = writes_then_part a b c x y p q
-writes_then_stops_script script.Memory a b c x y p q = (q.0, writes_trans a b c x y q.0 p q.1)
-
--- The pending replies are written before a script stops.
-pub stops_behind : (a b : Option (List ℕ)) (said more text : List ℕ) → more ≡ [] → Appends a b (said ++ more) → WritesFront a (said ++ text) b
-stops_behind a b said more text none p =
-    (text, writes_all a b said text (subst (Appends a b) (ap (λ l. said ++ l) none ∙ append-nil said) p))
-
-pub stops_within : (a b : Option (List ℕ)) (said more text : List ℕ) → more ≡ [] → WritesPart a (said ++ more) b → WritesPart a (said ++ text) b
-stops_within a b said more text none p = part_more a b said text (subst (λ l. WritesPart a l b) (ap (λ l. said ++ l) none ∙ append-nil said) p)

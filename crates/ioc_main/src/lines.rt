@@ -1,8 +1,8 @@
 //! Reads the lines of a script from any reader, and answers each as it ends.
-ghost use Rattle.std.specs.Prelude.{◌≡◌, ◌≤◌, ◌+◌, ◌∷◌, ◌++◌, [], List, ℕ, length, OnOk, OnErr, IfSome, IfErr};
+ghost use Rattle.std.specs.Prelude.{◌≡◌, ◌≤◌, ◌+◌, ◌++◌, [], length, OnOk, OnErr, IfSome, IfErr};
 ghost use Rattle.std.specs.Io.KnownBytes.{Appends};
 ghost use Rattle.ioc_main.specs.Script.{lines_of, cut};
-ghost use Rattle.ioc_main.specs.Coming.{still, to_come};
+ghost use Rattle.ioc_main.specs.Coming.{still, to_come, AnswersLine, StopsAtLine, AnswersPiece, StopsInPiece};
 ghost use Rattle.ioc_main.specs.Written.{Writes, WritesPart, StopsLine, StopsScript};
 
 use crate::cut_at;
@@ -53,14 +53,12 @@ fn say<S: Session, W: Write>(
 ) -> Result<(), LineFault>
     requires room { length said.old.replies + 256 ≤ 4096 }
     requires none { said.old.more.items ≡ [] }
-    ensures ok { OnOk result ((lines : List (List ℕ))
-        → Writes (W.contents out.old) (still said.old.replies (S.transcript session.old) (line.now ∷ lines))
-        (W.contents out.new) (still said.new.replies (S.transcript session.new) lines)) }
+    ensures ok { OnOk result (AnswersLine (W.contents out.old) (still said.old.replies (S.transcript session.old)) line.now
+        (W.contents out.new) (still said.new.replies (S.transcript session.new))) }
     ensures room { OnOk result (length said.new.replies + 256 ≤ 4096) }
     ensures none { OnOk result (said.new.more.items ≡ []) }
-    ensures err { IfErr result (λ fault. (lines : List (List ℕ))
-        → StopsLine fault (W.contents out.old) (still said.old.replies (S.transcript session.old) (line.now ∷ lines))
-        (W.contents out.new)) }
+    ensures err { IfErr result (λ fault. StopsAtLine fault (W.contents out.old)
+        (still said.old.replies (S.transcript session.old)) line.now (W.contents out.new)) }
 {
     let before = said.replies.as_slice().len();
     match session.answer(line, said) {
@@ -85,14 +83,13 @@ fn end_line<S: Session, W: Write>(
 ) -> Result<(), LineFault>
     requires room { length said.old.replies + 256 ≤ 4096 }
     requires none { said.old.more.items ≡ [] }
-    ensures ok { OnOk result ((line.new ≡ []) × ((lines : List (List ℕ))
-        → Writes (W.contents out.old) (still said.old.replies (S.transcript session.old) ((line.old
-        ++ last.now) ∷ lines)) (W.contents out.new) (still said.new.replies (S.transcript session.new) lines))) }
+    ensures ok { OnOk result ((line.new ≡ []) × AnswersLine (W.contents out.old)
+        (still said.old.replies (S.transcript session.old)) (line.old ++ last.now) (W.contents out.new)
+        (still said.new.replies (S.transcript session.new))) }
     ensures room { OnOk result (length said.new.replies + 256 ≤ 4096) }
     ensures none { OnOk result (said.new.more.items ≡ []) }
-    ensures err { IfErr result (λ fault. (lines : List (List ℕ))
-        → StopsLine fault (W.contents out.old) (still said.old.replies (S.transcript session.old) ((line.old
-        ++ last.now) ∷ lines)) (W.contents out.new)) }
+    ensures err { IfErr result (λ fault. StopsAtLine fault (W.contents out.old)
+        (still said.old.replies (S.transcript session.old)) (line.old ++ last.now) (W.contents out.new)) }
 {
     if line.is_empty() {
         return say(session, said, out, last);
@@ -113,15 +110,12 @@ fn answer_lines<S: Session, W: Write>(
 ) -> Result<(), LineFault>
     requires room { length said.old.replies + 256 ≤ 4096 }
     requires none { said.old.more.items ≡ [] }
-    ensures ok { OnOk result ((rest : List ℕ)
-        → Writes (W.contents out.old) (to_come (still said.old.replies (S.transcript session.old)) line.old (piece.now
-        ++ rest)) (W.contents out.new) (to_come (still said.new.replies (S.transcript session.new)) line.new rest)) }
+    ensures ok { OnOk result (AnswersPiece (W.contents out.old) (still said.old.replies (S.transcript session.old)) line.old piece.now
+        (W.contents out.new) (still said.new.replies (S.transcript session.new)) line.new) }
     ensures room { OnOk result (length said.new.replies + 256 ≤ 4096) }
     ensures none { OnOk result (said.new.more.items ≡ []) }
-    ensures err { IfErr result (λ fault. (rest : List ℕ)
-        → StopsLine fault (W.contents out.old) (to_come (still said.old.replies (S.transcript session.old)) line.old
-        (piece.now
-        ++ rest)) (W.contents out.new)) }
+    ensures err { IfErr result (λ fault. StopsInPiece fault (W.contents out.old)
+        (still said.old.replies (S.transcript session.old)) line.old piece.now (W.contents out.new)) }
 {
     let mut rest = piece;
     while !rest.is_empty() {
@@ -136,8 +130,8 @@ fn answer_lines<S: Session, W: Write>(
     Ok(())
 }
 
-// Answers the lines that end in a piece of the script, and writes what was said, so that their
-// replies are out before more is read.
+// Answers the lines that end in a piece of the script, and writes all that was said, so that no
+// reply is pending when more is read.
 fn feed<S: Session, W: Write>(
     session: &mut S,
     line: &mut Line,
@@ -147,10 +141,12 @@ fn feed<S: Session, W: Write>(
 ) -> Result<(), LineFault>
     requires room { length said.old.replies + 256 ≤ 4096 }
     requires none { said.old.more.items ≡ [] }
-    ensures ok { OnOk result ((rest : List ℕ) → Writes (W.contents out.old) (to_come (still said.old.replies (S.transcript session.old)) line.old (piece.now ++ rest)) (W.contents out.new) (to_come (still said.new.replies (S.transcript session.new)) line.new rest)) }
-    ensures room { OnOk result (length said.new.replies + 256 ≤ 4096) }
+    ensures ok { OnOk result (AnswersPiece (W.contents out.old) (still said.old.replies (S.transcript session.old)) line.old piece.now
+        (W.contents out.new) (still said.new.replies (S.transcript session.new)) line.new) }
+    ensures written { OnOk result (said.new.replies ≡ []) }
     ensures none { OnOk result (said.new.more.items ≡ []) }
-    ensures err { IfErr result (λ fault. (rest : List ℕ) → StopsLine fault (W.contents out.old) (to_come (still said.old.replies (S.transcript session.old)) line.old (piece.now ++ rest)) (W.contents out.new)) }
+    ensures err { IfErr result (λ fault. StopsInPiece fault (W.contents out.old)
+        (still said.old.replies (S.transcript session.old)) line.old piece.now (W.contents out.new)) }
 {
     answer_lines(session, line, said, out, piece)?;
     write_said(said, out)?;
@@ -166,8 +162,8 @@ fn answer_rest<S: Session, W: Write>(
 ) -> Result<(), LineFault>
     requires room { length said.old.replies + 256 ≤ 4096 }
     requires none { said.old.more.items ≡ [] }
-    ensures ok { OnOk result (Writes (W.contents out.old) (to_come (still said.old.replies (S.transcript session.old)) line.old
-        []) (W.contents out.new) said.new.replies) }
+    ensures ok { OnOk result (Writes (W.contents out.old) (to_come (still said.old.replies (S.transcript session.old)) line.old [])
+        (W.contents out.new) said.new.replies) }
     ensures room { OnOk result (length said.new.replies + 256 ≤ 4096) }
     ensures none { OnOk result (said.new.more.items ≡ []) }
     ensures err { IfErr result (λ fault. StopsLine fault (W.contents out.old)
@@ -196,17 +192,6 @@ fn finish<S: Session, W: Write>(
     answer_rest(session, line, said, out)?;
     write_said(said, out)?;
     Ok(())
-}
-
-// A read failed for this reason: what was said before is written.
-fn stop<W: Write>(said: &mut PendingOutput, out: &mut W, reason: Reason) -> ScriptFault
-    requires { said.old.more.items ≡ [] }
-    ensures { (text : List ℕ) → StopsScript result (W.contents out.old) (said.old.replies ++ text) (W.contents out.new) }
-{
-    match write_said(said, out) {
-        Ok(()) => ScriptFault::Read(reason),
-        Err(_) => ScriptFault::Write,
-    }
 }
 
 /// Answers the lines of a script until its end.
@@ -240,8 +225,8 @@ pub fn run_script<S: Session, R: Read + Drop, W: Write>(
             Ok(n) => {
                 feed(session, &mut line, &mut said, out, buffer.split_at(n).0)?;
             }
-            Err(e) => return Err(stop(&mut said, out, Reason::of(&e))),
+            Err(e) => return Err(ScriptFault::Read(Reason::of(&e))),
         }
     }
-    Err(stop(&mut said, out, Reason::Other))
+    Err(ScriptFault::Read(Reason::Other))
 }

@@ -1,6 +1,4 @@
-use Rattle.std.proofs.Common.{◌≡◌, refl}
-use Rattle.std.proofs.lemmas.Result.{on_ok_weaker}
-use Rattle.ioc_main.proofs.WrittenLemmas.{keeps_back, writes_said}
+use Rattle.ioc_main.proofs.WrittenLemmas.{keeps_back}
 use Rattle.ioc_main.proofs.lines.make_room.Goals as goal
 
 pub returns-then-has_room-clause-ok : goal.returns-then-has_room-clause-ok

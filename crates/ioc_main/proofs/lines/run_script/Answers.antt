@@ -1,4 +1,4 @@
-use Rattle.std.proofs.Common.{refl, ap, arith, ◌<◌, length}
+use Rattle.std.proofs.Common.{refl, arith, ◌<◌, length}
 use Rattle.std.proofs.lemmas.Result.{err_from_is_err_and}
 use Rattle.ioc_main.specs.Script.{lines_of}
 use Rattle.ioc_main.specs.Coming.{still}
@@ -8,7 +8,7 @@ use Rattle.ioc_main.proofs.lines.run_script.Goals as goal
 
 pub loop-init : goal.loop-init
 loop-init g c =
-    (refl, omega (arith, ap length c.new-said.ensures.replies), c.new-said.ensures.more, starts_unsaid (g.S.Session.transcript c.args.session.now) (g.R.Read.remaining c.args.script) (g.W.Write.contents c.args.out.now) c.new-said.result.replies c.new-line.result c.new-said.ensures.replies c.new-line.ensures)
+    (refl, c.new-said.ensures.replies, c.new-said.ensures.more, starts_unsaid (g.S.Session.transcript c.args.session.now) (g.R.Read.remaining c.args.script) (g.W.Write.contents c.args.out.now) c.new-said.result.replies c.new-line.result c.new-said.ensures.replies c.new-line.ensures)
 
 pub returns-in-Ok-eq0-clause-ok : goal.returns-in-Ok-eq0-clause-ok
 returns-in-Ok-eq0-clause-ok g c =
@@ -32,12 +32,12 @@ returns-in_err-feed-in-Ok-clause-err g c =
 pub loop-preserved : goal.loop-preserved
 loop-preserved g c =
     let q = c.in-Ok.ensures.bytes in
-    (omega (arith, c.loop.invariant.0), c.in_ok-feed-in-Ok.ensures.room, c.in_ok-feed-in-Ok.ensures.none, reads_on (g.S.Session.transcript c.args.session.now) (still c.loop.said.replies (g.S.Session.transcript c.loop.session)) (still c.feed.new.said.replies (g.S.Session.transcript c.feed.new.session)) (g.R.Read.remaining c.args.script) (g.R.Read.remaining c.loop.script) (g.R.Read.remaining c.read.new.self) (g.W.Write.contents c.args.out.now) (g.W.Write.contents c.loop.out) (g.W.Write.contents c.feed.new.out) c.loop.line c.feed.new.line c.split_at.result.0.now (rw c.split_at.ensures.front q.0) c.in_ok-feed-in-Ok.ensures.ok c.loop.invariant.3)
+    (omega (arith, c.loop.invariant.0), c.in_ok-feed-in-Ok.ensures.written, c.in_ok-feed-in-Ok.ensures.none, reads_on (g.S.Session.transcript c.args.session.now) (still c.loop.said.replies (g.S.Session.transcript c.loop.session)) (still c.feed.new.said.replies (g.S.Session.transcript c.feed.new.session)) (g.R.Read.remaining c.args.script) (g.R.Read.remaining c.loop.script) (g.R.Read.remaining c.read.new.self) (g.W.Write.contents c.args.out.now) (g.W.Write.contents c.loop.out) (g.W.Write.contents c.feed.new.out) c.loop.line c.feed.new.line c.split_at.result.0.now (rw c.split_at.ensures.front q.0) c.in_ok-feed-in-Ok.ensures.ok c.loop.invariant.3)
 
 pub returns-in-Err-clause-err : goal.returns-in-Err-clause-err
 returns-in-Err-clause-err g c =
-    reads_stop c.stop.result (g.S.Session.transcript c.args.session.now) (g.S.Session.transcript c.loop.session) (g.R.Read.remaining c.args.script) (g.R.Read.remaining c.loop.script) (g.W.Write.contents c.args.out.now) (g.W.Write.contents c.loop.out) (g.W.Write.contents c.stop.new.out) c.loop.said.replies c.loop.line c.stop.ensures c.loop.invariant.3
+    reads_stop (g.S.Session.transcript c.args.session.now) (still c.loop.said.replies (g.S.Session.transcript c.loop.session)) (g.R.Read.remaining c.args.script) (g.R.Read.remaining c.loop.script) (g.W.Write.contents c.args.out.now) (g.W.Write.contents c.loop.out) c.loop.line c.loop.invariant.3
 
 pub returns-clause-err : goal.returns-clause-err
 returns-clause-err g c =
-    reads_stop c.stop-2.result (g.S.Session.transcript c.args.session.now) (g.S.Session.transcript c.loop.session) (g.R.Read.remaining c.args.script) (g.R.Read.remaining c.loop.script) (g.W.Write.contents c.args.out.now) (g.W.Write.contents c.loop.out) (g.W.Write.contents c.stop-2.new.out) c.loop.said.replies c.loop.line c.stop-2.ensures c.loop.invariant.3
+    reads_stop (g.S.Session.transcript c.args.session.now) (still c.loop.said.replies (g.S.Session.transcript c.loop.session)) (g.R.Read.remaining c.args.script) (g.R.Read.remaining c.loop.script) (g.W.Write.contents c.args.out.now) (g.W.Write.contents c.loop.out) c.loop.line c.loop.invariant.3
