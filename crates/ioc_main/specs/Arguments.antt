@@ -23,12 +23,14 @@ is_either word short long = if pointwise nat_eq word short then true else pointw
 -- The ending of the program, if a word asks for help or for the version in place of a run.
 unfoldable pub asked : List ℕ → Option Stop
 asked word =
-    if is_either word (codes "-h") (codes "--help") then Some Help else (if is_either word (codes "-V") (codes "--version") then Some Version else None)
+    if is_either word (codes "-h") (codes "--help") then Some Help
+    else (if is_either word (codes "-V") (codes "--version") then Some Version else None)
 
 -- The macro of NAME=VALUE, cut at the first `=`.
 abbrev pub defined_by : String Global → List ℕ → List ℕ → Result Defined Stop
 defined_by word name [] = Err (Usage (NoDefinition word))
-defined_by word name (b ∷ value) = if is_macro_name name then Ok (record { name = name; value = value }) else Err (Usage (NoDefinition word))
+defined_by word name (b ∷ value) =
+    if is_macro_name name then Ok (record { name = name; value = value }) else Err (Usage (NoDefinition word))
 
 -- The macro that a word defines, unless the word asks for something else.
 abbrev pub macro_of : String Global → Option Stop → Result Defined Stop
@@ -59,7 +61,8 @@ file_of missing (w ∷ ws) = file_by w ws (asked (string_bytes w))
 -- definitions of macros. The first word that is wrong or asks for something else decides.
 abbrev pub files_of : List (String Global) → Result Arguments Stop
 files_of words =
-    and_then (file_of NoDatabase words) (λ db. and_then (file_of NoScript db.1) (λ script. and_then (macros_of [] script.1) (λ macros. Ok (record { db = db.0; script = script.0; macros = macros }))))
+    and_then (file_of NoDatabase words) (λ db. and_then (file_of NoScript db.1) (λ script. and_then (macros_of [] script.1)
+    (λ macros. Ok (record { db = db.0; script = script.0; macros = macros }))))
 
 abbrev pub arguments_of : List (String Global) → Result Arguments Stop
 arguments_of [] = Err (Usage NoDatabase)

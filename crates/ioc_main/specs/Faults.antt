@@ -17,7 +17,6 @@ use Rattle.ioc_main.specs.declared.fault.RunFault.{RunFault}
 use Rattle.ioc_main.specs.declared.fault.RunFault.TheVariants as run
 use Rattle.ioc_main.specs.declared.fault.Reason.{Reason}
 use Rattle.ioc_main.specs.declared.fault.Reason.TheVariants as reason
-use Rattle.ioc_main.specs.declared.fault.Stage.{Stage}
 use Rattle.ioc_main.specs.declared.fault.Stage.TheVariants.{Loading, Line}
 use Rattle.ioc_main.specs.declared.ending.FileRole.{FileRole}
 use Rattle.ioc_main.specs.declared.ending.FileRole.TheVariants.{Database, Script}
@@ -79,7 +78,8 @@ stop_text Help =
     ++ codes "\n\nThe exit status: 0 the script is done, 1 the database is refused, 2 the command line is wrong, 3 a file cannot be read or the replies cannot be written, 4 memory ran out"
 stop_text Version = codes "ioc-replay 0.1.0"
 stop_text (Usage fault) = codes "ioc-replay: " ++ usage_text fault ++ codes " (ioc-replay --help tells what it takes)"
-stop_text (Unreadable role path reason) = codes "ioc-replay: cannot read " ++ role_text role ++ codes " '" ++ string_bytes path ++ codes "': " ++ reason_text reason
+stop_text (Unreadable role path reason) =
+    codes "ioc-replay: cannot read " ++ role_text role ++ codes " '" ++ string_bytes path ++ codes "': " ++ reason_text reason
 stop_text (BadDb fault) = db_fault_text fault
 stop_text (Write reason) = codes "ioc-replay: cannot write the replies: " ++ reason_text reason
 stop_text (Memory Loading) = codes "ioc-replay: out of memory while loading"

@@ -28,7 +28,8 @@ module _ {R : Type 0} (k : RecordRules R) (names : NameTable) where
   -- A link field is changed, unless DISP forbids it.
   abbrev pub linked_in : Machine R → ℕ → FieldNo → List ℕ → Option FieldKind → MachineReply R
   linked_in m n field text (Some (Link-kind role)) =
-      if stops_put (common_at k m.world n) field then refused m PutDisabled else linked_to m n field (ok_or (link_of (link_kind_of role) text) BadLink)
+      if stops_put (common_at k m.world n) field then refused m PutDisabled
+      else linked_to m n field (ok_or (link_of (link_kind_of role) text) BadLink)
   linked_in m n field text _ = refused m NoField
 
   -- The field of a record is changed, if both exist.

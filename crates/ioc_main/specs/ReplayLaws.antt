@@ -20,11 +20,18 @@ cut-command : (line : List ℕ) → command_of (cut line) ≡ command_of line
 unfolding command_of cut
 cut-command line =
     elim (cases_lt 1025 (length line)) [
-      | inl long ↦ rw (lt-ltb 1024 (length (take 1025 line)) (omega (arith, length-take 1025 line)), lt-ltb 1024 (length line) (omega arith)) refl
+      | inl long ↦ rw (
+        lt-ltb 1024 (length (take 1025 line)) (omega (arith, length-take 1025 line)),
+        lt-ltb 1024 (length line) (omega arith),
+      ) refl
       | inr short ↦ rw (take_all 1025 line short) refl
     ]
 
+-- What is printed for this command, and then for these lines.
+abbrev printed_from : Replay → List (List ℕ) → Command → List ℕ
+printed_from s lines command =
+    let did = answered record_rules s.names (machine_of s.machine) command in
+    did.said ++ transcript record_rules s.names did.machine lines
+
 pub long-lines : (s : Replay) (a b : List ℕ) (lines : List (List ℕ)) → cut a ≡ cut b → printed s (a ∷ lines) ≡ printed s (b ∷ lines)
-long-lines s a b lines e =
-    let same : command_of a ≡ command_of b = sym (cut-command a) ∙ ap command_of e ∙ cut-command b in
-    ap (λ (c : Command). let did = answered record_rules s.names (machine_of s.machine) c in did.said ++ transcript record_rules s.names did.machine lines) same
+long-lines s a b lines e = ap (printed_from s lines) (sym (cut-command a) ∙ ap command_of e ∙ cut-command b)

@@ -37,5 +37,7 @@ count_words count = codes "ok " ++ decimal count
 -- The line of the counts of requests, without its line feed.
 unfoldable pub tally_words : Tally → ℕ → List ℕ
 tally_words t dropped =
-    codes "tally begun=" ++ decimal t.begun ++ codes " processed=" ++ decimal t.processed ++ codes " disabled=" ++ decimal t.disabled ++ codes " active=" ++ decimal t.active
-    ++ codes " reprocess=" ++ decimal t.reprocess ++ codes " started=" ++ decimal t.started ++ codes " completed=" ++ decimal t.completed ++ codes " dropped=" ++ decimal dropped
+    codes "tally begun=" ++ decimal t.begun ++ codes " processed=" ++ decimal t.processed
+    ++ codes " disabled=" ++ decimal t.disabled ++ codes " active=" ++ decimal t.active
+    ++ codes " reprocess=" ++ decimal t.reprocess ++ codes " started=" ++ decimal t.started
+    ++ codes " completed=" ++ decimal t.completed ++ codes " dropped=" ++ decimal dropped

@@ -42,6 +42,9 @@ IsDatabase macros text = (database : Loading Record) × (loaded macros text ≡ 
 abbrev pub StopsWith : RunFault → List Defined → List ℕ → Option (List ℕ) → Option (List ℕ) → Option (List ℕ) → Type 0
 StopsWith (BadDb fault) macros text script old new = (loaded macros text ≡ Err fault) × Keeps old new
 StopsWith (Memory while_loading) macros text script old new = Keeps old new
-StopsWith (Memory in_line) macros text script old new = IsDatabase macros text × IfSome script (λ script. WritesFront old (transcript_of macros text script) new)
-StopsWith (Read reason) macros text script old new = IsDatabase macros text × IfSome script (λ script. WritesFront old (transcript_of macros text script) new)
-StopsWith Write macros text script old new = IsDatabase macros text × IfSome script (λ script. WritesPart old (transcript_of macros text script) new)
+StopsWith (Memory in_line) macros text script old new =
+    IsDatabase macros text × IfSome script (λ script. WritesFront old (transcript_of macros text script) new)
+StopsWith (Read reason) macros text script old new =
+    IsDatabase macros text × IfSome script (λ script. WritesFront old (transcript_of macros text script) new)
+StopsWith Write macros text script old new =
+    IsDatabase macros text × IfSome script (λ script. WritesPart old (transcript_of macros text script) new)

@@ -2,7 +2,8 @@
 ghost use Rattle.std.specs.Prelude.{◌≡◌, []};
 ghost use Rattle.std.specs.String.{string_bytes};
 ghost use Rattle.std.specs.Vec.Iter.{into_iter_items};
-ghost use Rattle.ioc_main.specs.Arguments.{asked, macro_of, macros_of, file_of, files_of, arguments_of, Found, MacroDefined, ArgumentsGiven};
+ghost use Rattle.ioc_main.specs.Arguments.{asked, macro_of, macros_of, file_of, files_of, arguments_of};
+ghost use Rattle.ioc_main.specs.Arguments.{Found, MacroDefined, ArgumentsGiven};
 
 use crate::ending::{Stop, UsageFault};
 use crate::fault::{Stage, is_out_of_memory};

@@ -1,7 +1,8 @@
 //! The end of the program.
 ghost use Rattle.std.specs.Prelude.{◌≡◌};
 ghost use Rattle.std.specs.IoError.{error_kind};
-ghost use Rattle.ioc_main.specs.Faults.{role_text, unreadable, whole_run, status_of, stream_of, told_of, ending_of, ending_text, usage_text, stop_text};
+ghost use Rattle.ioc_main.specs.Faults.{unreadable, whole_run, status_of, stream_of, told_of, ending_of};
+ghost use Rattle.ioc_main.specs.Faults.{role_text, ending_text, usage_text, stop_text};
 
 use crate::fault::{Reason, RunFault, Stage, is_out_of_memory};
 use ioc_values::DbFault;

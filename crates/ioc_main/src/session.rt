@@ -70,5 +70,6 @@ pub trait Session {
     ghost no_lines: { (s : Self) → transcript s [] ≡ [] };
 
     /// The bytes of a line past its 1,025th have no effect.
-    ghost long_lines: { (s : Self) (a b : List ℕ) (lines : List (List ℕ)) → cut a ≡ cut b → transcript s (a ∷ lines) ≡ transcript s (b ∷ lines) };
+    ghost long_lines: { (s : Self) (a b : List ℕ) (lines : List (List ℕ)) → cut a ≡ cut b
+        → transcript s (a ∷ lines) ≡ transcript s (b ∷ lines) };
 }
