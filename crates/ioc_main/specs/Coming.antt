@@ -24,8 +24,8 @@ Stands before now = (since : List ℕ) × (now ≡ before ++ since)
 unfoldable pub to_come : (List (List ℕ) → List ℕ) → List ℕ → List ℕ → List ℕ
 to_come transcript line bytes = transcript (onto line (lines_of bytes))
 
--- Holds if, whatever lines follow this one, what was written and what is still to be printed make up
--- what was to be printed.
+-- Holds if, whatever lines follow this one, what was written and what is still to be printed make
+-- up what was to be printed.
 abbrev pub AnswersLine : Option (List ℕ) → (List (List ℕ) → List ℕ) → List ℕ → Option (List ℕ) → (List (List ℕ) → List ℕ) → Type 0
 AnswersLine old before line new after = (lines : List (List ℕ)) → Writes old (before (line ∷ lines)) new (after lines)
 

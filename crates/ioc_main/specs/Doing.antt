@@ -25,8 +25,8 @@ abbrev pub Adds : {T E : Type 0} → Answered Record → Result T E → Replay �
 Adds did result old new before after =
     (new.names ≡ old.names) × OnOk result (machine_of new.machine ≡ did.machine) × OnOk result (after ≡ before ++ did.said)
 
--- The same for a command whose reply follows the pending replies. If allocation failed, these are as
--- before.
+-- The same for a command whose reply follows the pending replies. If allocation failed, these are
+-- as before.
 abbrev pub Does : {T E : Type 0} → Answered Record → Result T E → Replay → Replay → List ℕ → List ℕ → Type 0
 Does did result old new before after = Adds did result old new before after × OnErr result (after ≡ before)
 

@@ -44,7 +44,7 @@ pub struct Machine {
     pub(crate) owners: Owners,
     // The number of the next put with notification.
     pub(crate) next: u64,
-    // The puts with notification that have ended since this was last cleared. ByteBuffer for all that can
+    // The puts with notification that have ended since this was last cleared. Room for all that can
     // be live at once is reserved at the load.
     pub(crate) ended: Vec<NotifyId>,
     pub(crate) alloc: Global,
