@@ -1,7 +1,7 @@
 -- A loaded database is quiet: new records are idle, and stay so when a field is set and when the
 -- load ends.
-use Rattle.std.proofs.Common.{◌≡◌, ℕ, zero, suc, ◌+◌, Bool, true, false, cond, List, [], ◌∷◌, ◌++◌, map, Option, Some, None, Result, Ok, Err, IsTrue, refl, sym, subst, ◌∙◌}
-use Rattle.std.specs.Prelude.{slice_get, slice_set, is_some, unwrap_or}
+use Rattle.std.proofs.Common.{◌≡◌, ℕ, zero, suc, ◌+◌, Bool, true, false, cond, List, [], ◌∷◌, ◌++◌, map, Option, Some, None, Result, Ok, Err, IsTrue, refl, sym, ap, subst, ◌∙◌, arith}
+use Rattle.std.specs.Prelude.{◌<◌, All, length, slice_get, slice_set, is_some, unwrap_or}
 use Rattle.ioc_values.specs.declared.value.Value.{Value}
 use Rattle.ioc_values.specs.declared.error.IocError.{IocError}
 use Rattle.ioc_names.specs.NameTable.{NameTable}
@@ -17,6 +17,7 @@ use Rattle.ioc_fields.specs.Table.{row_of}
 use Rattle.ioc_dbcommon.specs.declared.link_field.LinkField.{LinkField}
 use Rattle.ioc_dbcommon.specs.declared.link_field.Lead.TheVariants.{Nowhere}
 use Rattle.ioc_dbcommon.specs.Steps.{new_common}
+use Rattle.ioc_dbcommon.specs.declared.common.Common.{Common}
 use Rattle.ioc_record.specs.Values.{field_sort, stored_if}
 use Rattle.ioc_record.specs.Loading.{constant_fits, set_value, link_set_to, set_by_kind, set_by, set_field}
 use Rattle.ioc_record.specs.Laws.{IsLawful}
@@ -46,6 +47,11 @@ module _ {R : Type 0} (k : RecordRules R) where
   idle-at (q ∷ qs) zero r idle is = let same : q ≡ r = cc in subst (IsIdle k) same idle.0
   idle-at (q ∷ qs) (suc n) r idle is = idle-at qs n r idle.1 is
 
+  pub all-at : (rs : List R) → AllIdle k rs → All (IsIdle k) rs
+  all-at [] idle i d lt = absurd (omega arith)
+  all-at (q ∷ qs) idle zero d lt = idle.0
+  all-at (q ∷ qs) idle (suc i) d lt = let within : i < length qs = omega arith in all-at qs idle.1 i d within
+
   idle-there : (rs : List R) (n : ℕ) → AllIdle k rs → IsTrue (is_some (slice_get rs n)) → IsIdle k (unwrap_or (slice_get rs n) k.missing)
   idle-there [] n idle has = cc
   idle-there (q ∷ qs) zero idle has = idle.0
@@ -58,10 +64,10 @@ module _ {R : Type 0} (k : RecordRules R) where
 
   module _ (lawful : IsLawful k) where
     link-idle : (r : R) (f : FieldNo) (l : LinkField) → IsIdle k r → IsIdle k (k.with_link r f l)
-    link-idle r f l idle = record { active = lawful.link_set_active r f l ∙ idle.active; pending = lawful.link_set_pending r f l ∙ idle.pending }
+    link-idle r f l idle = record { active = lawful.link_set_active r f l ∙ idle.active; pending = lawful.link_set_pending r f l ∙ idle.pending; free = ap (λ (c : Common). c.notification) (lawful.link_set_common r f l) ∙ idle.free }
 
     stored-idle : (r : R) (f : FieldNo) (o : Result Value IocError) → IsIdle k r → IdleIfMade (stored_if k r f o)
-    stored-idle r f (Ok v) idle = record { active = lawful.stored_active r f v ∙ idle.active; pending = lawful.stored_pending r f v ∙ idle.pending }
+    stored-idle r f (Ok v) idle = record { active = lawful.stored_active r f v ∙ idle.active; pending = lawful.stored_pending r f v ∙ idle.pending; free = ap (λ (c : Common). c.notification) (lawful.stored_common r f v) ∙ idle.free }
     stored-idle r f (Err e) idle = tt
 
     fits-idle : (r : R) (f : FieldNo) (link : Link) (fits : Bool) (e : IocError) → IsIdle k r → IdleIfMade (cond fits (Ok (k.with_link r f (record { link = link; lead = Nowhere }))) (Err e))
@@ -107,7 +113,7 @@ module _ {R : Type 0} (k : RecordRules R) where
       all_linked-idle n (f ∷ fs) r idle = all_linked-idle n fs (linked k names types owner n f r) (linked-idle n r f idle)
 
       loaded-idle : (r : R) → IsIdle k r → IsIdle k (k.loaded r)
-      loaded-idle r idle = record { active = lawful.loaded_active r ∙ idle.active; pending = lawful.loaded_pending r ∙ idle.pending }
+      loaded-idle r idle = record { active = lawful.loaded_active r ∙ idle.active; pending = lawful.loaded_pending r ∙ idle.pending; free = ap (λ (c : Common). c.notification) (lawful.loaded_common r) ∙ idle.free }
 
       finished-idle : (n : ℕ) (r : R) → IsIdle k r → IsIdle k (finished k names types owner n r)
       unfolding finished
@@ -126,7 +132,7 @@ set-made names items n f text old new is made = rw (is, made) refl
 -- A new record is idle.
 pub new-idle : (type : RecordType) (name : List ℕ) → IsIdle record_rules (new_record type name)
 unfolding new_common
-new-idle type name = record { active = refl; pending = refl }
+new-idle type name = record { active = refl; pending = refl; free = refl }
 
 -- The records are quiet at the end of a load.
 pub finished_quiet : (names : NameTable) (owner : Owner) (rs items : List Record) → items ≡ by_place (finished record_rules names (map record_rules.record_type rs) owner) 0 rs
@@ -139,3 +145,9 @@ finished_quiet names owner rs items same idle = record {
       let there : at record_rules (first_world items) n ≡ unwrap_or (slice_get items n) record_rules.missing = rw get-numbered refl in
       rw (common_at, there, here.active, here.pending) (λ h. h, λ h. h);
 }
+
+-- The records are idle at the end of a load.
+pub finished_idle : (names : NameTable) (owner : Owner) (rs items : List Record) → items ≡ by_place (finished record_rules names (map record_rules.record_type rs) owner) 0 rs
+    → AllIdle record_rules rs → All (IsIdle record_rules) items
+finished_idle names owner rs items same idle =
+    all-at record_rules items (subst (AllIdle record_rules) (sym same) (all-finished record_rules record_lawful names (map record_rules.record_type rs) owner 0 rs idle))

@@ -3,6 +3,8 @@ ghost use Rattle.rec_types.specs.Record.{record_rules};
 ghost use Rattle.ioc_dbfile.specs.FirstWorld.{first_world};
 ghost use Rattle.ioc_store.specs.World.{IsClosed};
 ghost use Rattle.ioc_process.specs.Rules.{IsQuiet};
+ghost use Rattle.std.specs.Prelude.{All};
+ghost use Rattle.ioc_dbfile.specs.Idle.{AllIdle, IsIdle};
 
 use crate::finish::finish_all;
 use ioc_names::Names;
@@ -18,13 +20,13 @@ pub struct Database {
     pub records: Vec<Record>,
     ghost closed: { IsClosed record_rules (first_world records.items) },
     ghost quiet: { IsQuiet record_rules (first_world records.items) },
+    ghost idle: { All (IsIdle record_rules) records.items },
 }
 
 impl Database {
     ghost use Rattle.std.specs.Prelude.{◌≡◌, IfOk};
     ghost use Rattle.ioc_dbfile.specs.Finished.{all_finished};
     ghost use Rattle.ioc_dbfile.specs.SeenDatabase.{database_of};
-    ghost use Rattle.ioc_dbfile.specs.Idle.{AllIdle};
 
     /// Creates the database of the names and records of a text: links are resolved and constants
     /// are put.

@@ -1,5 +1,5 @@
 //! Device names as keys of a hash table.
-ghost use Rattle.std.specs.Prelude.{◌≡◌, nat_eq};
+ghost use Rattle.std.specs.Prelude.{◌≡◌, nat_eq, take};
 ghost use Rattle.std.specs.Hash as fed;
 ghost use Rattle.std.specs.Cmp.Lexicographic.{pointwise, nat_list_eq_equiv};
 ghost use Rattle.std.specs.Cmp.{partial_equiv_from_equiv};
@@ -28,7 +28,16 @@ impl Model for DeviceName {
 }
 
 impl DeviceName {
-    /// The name behind the `@` of a device link.
+    /// Creates a name of these bytes. Only the first 119 count, because no link can have more.
+    pub fn cut(text: &[u8]) -> Self
+        ensures { result ≡ take 119 text.now }
+    {
+        DeviceName {
+            text: Short::cut(text),
+        }
+    }
+
+    /// Creates a name of the text behind the `@` of a device link.
     pub fn new(text: Short<MAX_DEVICE_BYTES>) -> Self
         ensures { result ≡ text }
     {

@@ -51,15 +51,23 @@ fn standing_of(names: &Names, types: &[RecordType], target: &Target) -> Option<F
     target_field(number, record_type, target.field.as_slice())
 }
 
-fn leads_to(names: &Names, whole: &Whole, number: RecordNo, link: &Link) -> Lead
-    ensures { result ≡ leads_to names.now whole.now.types.items (owner_in whole.now.owners) number link.now }
+/// Returns where a link of the record with this number leads, in a database with these names, types
+/// of records and owners of devices: to a field of a record, to the record's own device, or nowhere.
+pub fn leads_to(
+    names: &Names,
+    types: &[RecordType],
+    owners: &Owners,
+    number: RecordNo,
+    link: &Link,
+) -> Lead
+    ensures { result ≡ leads_to names.now types.now (owner_in owners.now) number link.now }
 {
     match link {
-        Link::Database(target, _) => match standing_of(names, whole.types.as_slice(), target) {
+        Link::Database(target, _) => match standing_of(names, types, target) {
             Some(standing) => Lead::Field(standing),
             None => Lead::Nowhere,
         },
-        Link::Device(text) => whole.owners.lead(number, text),
+        Link::Device(text) => owners.lead(number, text),
         Link::Empty | Link::Constant(_) => Lead::Nowhere,
     }
 }
@@ -81,7 +89,7 @@ fn link_one(
         return Ok(());
     };
     let link = found.get().link;
-    let lead = leads_to(names, whole, number, &link);
+    let lead = leads_to(names, whole.types.as_slice(), &whole.owners, number, &link);
     let kept = LinkBox::new(alloc, LinkField { link, lead })?;
     item.set_link(field, kept);
     Ok(())
@@ -124,8 +132,12 @@ fn finish_record(
     Ok(())
 }
 
-/// Returns the types of records.
-fn types_of(alloc: Global, records: &[Record]) -> Result<Vec<RecordType>, AllocError>
+/// Returns the types of these records.
+///
+/// # Errors
+///
+/// [`AllocError`] if allocation fails.
+pub fn types_of(alloc: Global, records: &[Record]) -> Result<Vec<RecordType>, AllocError>
     ensures { IfOk result (λ v. v.items ≡ map record_rules.record_type records.now) }
 {
     let mut types = Vec::new(alloc);

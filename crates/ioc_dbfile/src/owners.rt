@@ -76,7 +76,14 @@ impl Owners {
         ensures { result ≡ owner_in self.now text.now }
     {
         let name = DeviceName::new(*text);
-        self.numbers.get(&name).copied()
+        self.owner(&name)
+    }
+
+    /// Returns the record that owns the device with this name.
+    pub fn owner(&self, name: &DeviceName) -> Option<RecordNo>
+        ensures { result ≡ owner_in self.now name.now }
+    {
+        self.numbers.get(name).copied()
     }
 
     /// Returns where a link of this record to the device with this name leads.

@@ -1,9 +1,4 @@
-mod Counts
-mod Ending
-mod Marks
-mod Refusals
-mod Beginning
-mod Copies
-mod Keys
-mod DealtParts
-mod OnceAdding
+mod Texts
+mod Closing
+mod Bindings
+mod Copied

@@ -1,9 +1,5 @@
-pub mod Served
-pub mod Loading
-pub mod Ended
-pub mod Linked
-pub mod Seen
-pub mod Cancelled
-pub mod Once
-pub use Rattle.ioc_journaled_set.specs.Holding
-pub mod OnceRequests
+pub mod Channels
+pub mod Named
+pub mod Calls
+pub mod Relinking
+pub mod Binding

@@ -1,158 +1,184 @@
-//! The engine.
-ghost use Rattle.std.specs.Prelude.{◌≡◌, true, [], ◌∷◌, ◌⊎◌, IfOk, IfErr, OnErr};
-ghost use Rattle.ioc_values.specs.declared.error.IocError.TheVariants.{JournalFull, Stopped};
+//! Engines.
+ghost use Rattle.std.specs.Prelude.{◌≡◌, ◌⊎◌, IfOk, IfErr, OnOk, OnErr, [], length};
+ghost use Rattle.ioc_values.specs.declared.error.IocError.TheVariants.{BadValue, JournalFull, NoMemory, Stopped};
+ghost use Rattle.rec_types.specs.Record.{record_rules};
 ghost use Rattle.ioc_events.specs.declared.event.Event.TheVariants.{Get, Process, Put, Complete};
 ghost use Rattle.ioc_events.specs.Step.{names};
-ghost use Rattle.ioc_history.specs.Line.{longer, Begins};
 ghost use Rattle.ioc_set.specs.Doing.{is_ordinary};
 ghost use Rattle.ioc_set_store.specs.SetStore.{world_of};
+ghost use Rattle.ioc_history.specs.Line.{longer, Begins};
 ghost use Rattle.ioc_history.specs.Account.{IsAccount, calls, calls_by};
-ghost use Rattle.ioc_engine.specs.Served.{WasTold, WasServed, CallIsRefused};
+ghost use Rattle.ioc_history.specs.Places.{AreAllowed};
+ghost use Rattle.ioc_names.specs.NameTable.{number_of};
+ghost use Rattle.ioc_values.specs.declared.error.IocError.TheVariants.{NoRecord};
+ghost use Rattle.std.specs.Prelude.{ok_or, true, ◌∷◌};
+ghost use Rattle.ioc_engine_core.specs.Served.{CallIsRefused};
+ghost use Rattle.ioc_engine.specs.Calls.{WasAnswered, WasDone};
+ghost use Rattle.ioc_engine.specs.Channels.{channel_of};
+ghost use Rattle.ioc_engine.specs.Named.{IsNamedBy};
 
-use crate::sending::OnceTickets;
-use ioc_callback::OnceQueue;
+use crate::Receipt;
+use crate::channel::Channel;
+use crate::clock::Clock;
+use crate::desk::Desk;
+use crate::engine_name::EngineName;
+use crate::lookup::Lookup;
+use crate::seed::Seed;
 use ioc_device::Device;
+use ioc_engine_core::{EngineCore, StartError, start};
 use ioc_events::{Event, Reply};
-use ioc_fields::FieldNo;
-use ioc_history::{Desk, EngineName, Receipt, SharedJournal};
-use ioc_journaled_set::{JournaledSet, SharedNotifications};
+use ioc_history::Limits;
 use ioc_names::RecordNo;
-use ioc_record::RecordKind;
 use ioc_set_store::EventBuffers;
-use ioc_topology::{Directory, Locked};
 use ioc_values::{Finished, Input, IocError};
+use rec_types::Record;
 use std::alloc::Global;
-use std::marker::Model;
-use std::sync::atomic::{AtomicBool, Ordering};
-use std::sync::{Mutex, Wait};
+use std::sync::Wait;
 
-/// The records of a database in their lock sets, each set under its own lock, and the journal of
-/// all calls. Contracts see the number of records.
+/// An engine: the records of a loaded database in their lock sets, and the journal of all calls.
+/// Threads share it by reference.
 #[derive(Drop)]
-pub struct Engine<K: RecordKind + Drop, B: EngineName<K>, D: Drop> {
-    pub(crate) sets: Directory<JournaledSet<K, B, D>>,
-    pub(crate) book: SharedJournal<K, B>,
-    // Locked while the lock of a set is held, and before the journal.
-    pub(crate) puts: Mutex<SharedNotifications<K, B>>,
-    // Locked while no other lock is held.
-    pub(crate) once: Mutex<OnceQueue<OnceTickets<K, B>>>,
-    // Set once, and never cleared.
-    pub(crate) closed: AtomicBool,
+pub struct Engine<B: EngineName, D: Drop, C: Drop> {
+    pub(crate) core: EngineCore<Record, B, D>,
+    pub(crate) lookup: Lookup,
+    pub(crate) clock: C,
+    pub(crate) alloc: Global,
 }
 
-impl<K: RecordKind + Drop, B: EngineName<K>, D: Drop> Model for Engine<K, B, D> {
-    ghost use Rattle.std.specs.Prelude.{ℕ};
-
-    ghost Value = { ℕ };
-
-    ghost view = { λ e. e.sets };
-}
-
-impl<K: RecordKind + Drop, B: EngineName<K>, D: Drop> Engine<K, B, D> {
-    /// Creates an engine with these sets, the journal of its calls, the table of its puts with
-    /// notification, and the list of its once requests.
-    pub fn new(
-        sets: Directory<JournaledSet<K, B, D>>,
-        book: SharedJournal<K, B>,
-        puts: SharedNotifications<K, B>,
-        once: OnceQueue<OnceTickets<K, B>>,
-    ) -> Self
-        ensures { result ≡ sets }
+impl<B: EngineName, D: Drop, C: Drop> Engine<B, D, C> {
+    /// Starts an engine. No record is processed by it.
+    ///
+    /// # Errors
+    ///
+    /// [`IocError::BadValue`] if a limit is out of range. [`IocError::NoMemory`] if allocation fails.
+    pub fn start(alloc: Global, seed: Seed<D>, clock: C, limits: Limits) -> Result<Self, IocError>
+        requires named { IsNamedBy B.table B.base B.had_device B.places B.tickets seed }
+        ensures records { IfOk result (λ e. e.core ≡ length seed.records.items) }
+        ensures names { IfOk result (λ e. e.lookup ≡ seed.lookup) }
+        ensures limits { OnOk result (AreAllowed limits) }
+        ensures refused { IfErr result (λ error. ((error ≡ BadValue) × (AreAllowed limits → ⊥)) ⊎ (error ≡ NoMemory)) }
     {
-        Engine {
-            sets,
-            book,
-            puts: Mutex::new(puts),
-            once: Mutex::new(once),
-            closed: AtomicBool::new(false),
+        let Seed {
+            cell,
+            master,
+            places,
+            tickets,
+            records,
+            lookup,
+            spare: _,
+        } = seed;
+        match start::<Record, B, D>(alloc, cell, master, places, tickets, records, limits) {
+            Ok(core) => Ok(Engine {
+                core,
+                lookup,
+                clock,
+                alloc,
+            }),
+            Err(StartError::BadValue) => Err(IocError::BadValue),
+            Err(StartError::NoMemory) => Err(IocError::NoMemory),
+            Err(StartError::NotAtRest) => unreachable!(),
+            Err(StartError::LinkLeaves) => unreachable!(),
         }
+    }
+
+    /// Opens a desk, with the memory that its calls need. It has made no call yet.
+    ///
+    /// # Errors
+    ///
+    /// [`IocError::Stopped`] if the engine was closed. [`IocError::JournalFull`] if no number is left
+    /// for a desk. [`IocError::NoMemory`] if allocation fails.
+    pub fn desk<R: Wait>(&self, rt: &R) -> Result<Desk<B, D>, IocError>
+        ensures new { IfOk result (λ d. (d.account.next ≡ 0) × (calls_by d.account.number (calls d.account.seen) ≡ [])) }
+        ensures refused { IfErr result (λ error. (error ≡ Stopped) ⊎ ((error ≡ JournalFull) ⊎ (error ≡ NoMemory))) }
+    {
+        let buffers = EventBuffers::new(self.alloc)?;
+        let account = self.core.open_desk(rt)?;
+        Ok(Desk {
+            account,
+            buffers,
+            alloc: self.alloc,
+            moved: 0,
+        })
     }
 
     /// Closes the engine: no call begins from then on. A call that has begun is finished.
     pub fn close(&self) {
-        self.closed.store(true, Ordering::SeqCst);
+        self.core.close();
     }
 
     /// Returns whether the engine was closed.
     pub fn is_closed(&self) -> bool {
-        self.closed.load(Ordering::SeqCst)
+        self.core.is_closed()
     }
 
-    /// Opens a desk, by which a caller makes its calls. It has made none yet.
+    /// Returns the number of the record with this name or alias.
     ///
     /// # Errors
     ///
-    /// [`IocError::Stopped`] if the engine was closed. [`IocError::JournalFull`] if no number is
-    /// left for a desk.
-    pub fn open_desk<R: Wait>(&self, rt: &R) -> Result<Desk<K, B>, IocError>
-        ensures new { IfOk result (λ d. (d.next ≡ 0) × (calls_by d.number (calls d.seen) ≡ [])) }
-        ensures refused { IfErr result (λ error. (error ≡ Stopped) ⊎ (error ≡ JournalFull)) }
+    /// [`IocError::NoRecord`] if there is none.
+    pub fn record(&self, name: &[u8]) -> Result<RecordNo, IocError>
+        ensures { result ≡ ok_or (number_of self.now.lookup.names name.now) NoRecord }
     {
-        if self.is_closed() {
-            return Err(IocError::Stopped);
-        }
-        self.book.open_desk(rt)
+        self.lookup.record(name)
+    }
+
+    /// Returns the channel of a text `RECORD.FIELD`, or `RECORD` for its field VAL.
+    ///
+    /// # Errors
+    ///
+    /// [`IocError::NoRecord`] or [`IocError::NoField`], in this order, if there is no such record or
+    /// field.
+    pub fn channel(&self, text: &[u8]) -> Result<Channel, IocError>
+        ensures { result ≡ channel_of self.now.lookup.names self.now.lookup.types.items text.now }
+    {
+        self.lookup.channel(text)
     }
 
     /// Moves a desk on to the list of a receipt, if that is longer than the list that the desk has
-    /// seen.
-    pub fn learn<R: Wait>(&self, rt: &R, desk: &mut Desk<K, B>, receipt: &mut Receipt<K, B>)
-        ensures desk { (desk.new.number ≡ desk.old.number) × (desk.new.next ≡ desk.old.next) }
-        ensures learnt { desk.new.seen ≡ longer desk.old.seen receipt.old }
-        ensures own { Begins desk.old.seen desk.new.seen }
-        ensures told { Begins receipt.old desk.new.seen }
-        ensures calls { calls_by desk.new.number (calls desk.new.seen) ≡ calls_by desk.old.number (calls desk.old.seen) }
-        ensures legal { IsAccount K.rules B.base desk.new.seen }
+    /// seen: its next call comes after the receipt's.
+    pub fn learn<R: Wait>(&self, rt: &R, desk: &mut Desk<B, D>, receipt: &mut Receipt<B>)
+        ensures learnt { desk.new.account.seen ≡ longer desk.old.account.seen receipt.old }
+        ensures told { Begins receipt.old desk.new.account.seen }
+        ensures legal { IsAccount record_rules B.base desk.new.account.seen }
         ensures receipt { receipt.new ≡ receipt.old }
     {
-        desk.learn(rt, self.book.cell(), receipt);
+        self.core.learn(rt, &mut desk.account, receipt);
     }
 }
 
-impl<K: RecordKind + Drop, B: EngineName<K>, D: Device> Engine<K, B, D> {
-    // Performs an event on the set of a record, and then takes what the event has sent. Inlined, as
-    // are its callees up to the journal, so that each call knows its kind of event and the entry is
-    // built in its place.
+impl<B: EngineName, D: Device, C: Clock + Drop> Engine<B, D, C> {
+    // Performs an event on the set of a record, at a moment. Inlined, so that each call knows its kind
+    // of event.
     #[inline(always)]
     fn serve<R: Wait>(
         &self,
         rt: &R,
-        alloc: Global,
-        desk: &mut Desk<K, B>,
-        buffers: &mut EventBuffers<K, D>,
+        desk: &mut Desk<B, D>,
         number: RecordNo,
         event: &Event,
         moment: u64,
-    ) -> Result<(Reply, Receipt<K, B>), IocError>
+    ) -> Result<(Reply, Receipt<B>), IocError>
         requires ordinary { is_ordinary event.now ≡ true }
         requires names { names event.now ≡ number ∷ [] }
-        ensures served { IfOk result (λ x. WasServed D K.rules B.base D.gives number desk.old moment event.now x.0 desk.new
-            (world_of buffers.new.store)) }
-        ensures receipt { IfOk result (λ x. x.1 ≡ desk.new.seen) }
-        ensures refused { IfErr result (CallIsRefused D K.rules B.base self.now number event.now) }
-        ensures err { OnErr result (desk.new ≡ desk.old) }
+        ensures done { IfOk result (λ x. WasDone D B.base D.gives number desk.old.account event.now x.0 desk.new.account
+            (world_of desk.new.buffers.store)) }
+        ensures receipt { IfOk result (λ x. x.1 ≡ desk.new.account.seen) }
+        ensures refused { IfErr result (CallIsRefused D record_rules B.base self.now.core number event.now) }
+        ensures err { OnErr result (desk.new.account ≡ desk.old.account) }
     {
-        if self.is_closed() {
-            return Err(IocError::Stopped);
-        }
-        for _ in rt.forever() {
-            let cell = self.sets.lock_of(rt, number)?;
-            let mut held = cell.lock(rt);
-            if held.has(number) {
-                held.is_sound();
-                let (reply, receipt) = held.serve(
-                    rt, alloc, &self.book, &self.puts, desk, buffers, event, moment,
-                )?;
-                held.is_sound();
-                drop(held);
-                self.do_sent(rt, buffers);
-                return Ok((reply, receipt));
-            }
-        }
-        unreachable!()
+        let alloc = desk.alloc;
+        self.core.serve(
+            rt,
+            alloc,
+            &mut desk.account,
+            &mut desk.buffers,
+            number,
+            event,
+            moment,
+        )
     }
 
-    /// Requests a record.
+    /// Requests a record to be processed (dbProcess).
     ///
     /// # Errors
     ///
@@ -162,117 +188,121 @@ impl<K: RecordKind + Drop, B: EngineName<K>, D: Device> Engine<K, B, D> {
     pub fn process<R: Wait>(
         &self,
         rt: &R,
-        alloc: Global,
-        desk: &mut Desk<K, B>,
-        buffers: &mut EventBuffers<K, D>,
+        desk: &mut Desk<B, D>,
         number: RecordNo,
-        moment: u64,
-    ) -> Result<(Reply, Receipt<K, B>), IocError>
-        ensures served { IfOk result (λ x. WasServed D K.rules B.base D.gives number desk.old moment (Process number) x.0 desk.new
-            (world_of buffers.new.store)) }
-        ensures receipt { IfOk result (λ x. x.1 ≡ desk.new.seen) }
-        ensures refused { IfErr result (CallIsRefused D K.rules B.base self.now number (Process number)) }
-        ensures err { OnErr result (desk.new ≡ desk.old) }
+    ) -> Result<(Reply, Receipt<B>), IocError>
+        ensures done { IfOk result (λ x. WasDone D B.base D.gives number desk.old.account (Process number) x.0 desk.new.account
+            (world_of desk.new.buffers.store)) }
+        ensures receipt { IfOk result (λ x. x.1 ≡ desk.new.account.seen) }
+        ensures refused { IfErr result (CallIsRefused D record_rules B.base self.now.core number (Process number)) }
+        ensures err { OnErr result (desk.new.account ≡ desk.old.account) }
     {
-        let event = Event::Process(number);
-        self.serve(rt, alloc, desk, buffers, number, &event, moment)
+        self.process_at(rt, desk, number, self.clock.now())
     }
 
-    /// Puts a value into a field, and processes the record if the field or the record asks for it.
+    /// Requests a record to be processed with this time stamp, in nanoseconds since 1970-01-01 00:00
+    /// UTC.
     ///
     /// # Errors
     ///
-    /// [`IocError::Stopped`] if the engine was closed. [`IocError::NoRecord`] if there is no record
-    /// with this number. [`IocError::NoField`] if the record has no such field. [`IocError::NoMod`]
-    /// if the field can't be put. [`IocError::JournalFull`] if the journal has no place left.
-    /// [`IocError::NoMemory`] if allocation fails. Nothing has changed then. Any other refusal is a
-    /// reply, which is added to the journal.
+    /// As [`Engine::process`].
+    pub fn process_at<R: Wait>(
+        &self,
+        rt: &R,
+        desk: &mut Desk<B, D>,
+        number: RecordNo,
+        moment: u64,
+    ) -> Result<(Reply, Receipt<B>), IocError>
+        ensures done { IfOk result (λ x. WasDone D B.base D.gives number desk.old.account (Process number) x.0 desk.new.account
+            (world_of desk.new.buffers.store)) }
+        ensures receipt { IfOk result (λ x. x.1 ≡ desk.new.account.seen) }
+        ensures refused { IfErr result (CallIsRefused D record_rules B.base self.now.core number (Process number)) }
+        ensures err { OnErr result (desk.new.account ≡ desk.old.account) }
+    {
+        let event = Event::Process(number);
+        self.serve(rt, desk, number, &event, moment)
+    }
+
+    /// Puts a value into a field, and processes the record if the field or the record asks for it
+    /// (dbPutField).
+    ///
+    /// # Errors
+    ///
+    /// [`IocError::Stopped`] if the engine was closed. [`IocError::NoMod`] if the field can't be put.
+    /// [`IocError::JournalFull`] if the journal has no place left. [`IocError::NoMemory`] if
+    /// allocation fails. Nothing has changed then. [`IocError::NoRecord`] and [`IocError::NoField`]
+    /// if the channel is one of another engine, which has no such record or field. Any other refusal
+    /// is a reply, which is added to the journal.
     pub fn put<R: Wait>(
         &self,
         rt: &R,
-        alloc: Global,
-        desk: &mut Desk<K, B>,
-        buffers: &mut EventBuffers<K, D>,
-        number: RecordNo,
-        field: FieldNo,
+        desk: &mut Desk<B, D>,
+        channel: Channel,
         given: Input,
-        moment: u64,
-    ) -> Result<(Reply, Receipt<K, B>), IocError>
-        ensures served { IfOk result (λ x. WasServed D K.rules B.base D.gives number desk.old moment (Put number field given) x.0
-            desk.new (world_of buffers.new.store)) }
-        ensures receipt { IfOk result (λ x. x.1 ≡ desk.new.seen) }
-        ensures refused { IfErr result (CallIsRefused D K.rules B.base self.now number (Put number field given)) }
-        ensures err { OnErr result (desk.new ≡ desk.old) }
+    ) -> Result<(Reply, Receipt<B>), IocError>
+        ensures done { IfOk result (λ x. WasDone D B.base D.gives channel.number desk.old.account
+            (Put channel.number channel.field given) x.0 desk.new.account (world_of desk.new.buffers.store)) }
+        ensures receipt { IfOk result (λ x. x.1 ≡ desk.new.account.seen) }
+        ensures refused { IfErr result (CallIsRefused D record_rules B.base self.now.core channel.number
+            (Put channel.number channel.field given)) }
+        ensures err { OnErr result (desk.new.account ≡ desk.old.account) }
     {
-        let event = Event::Put(number, field, given);
-        self.serve(rt, alloc, desk, buffers, number, &event, moment)
+        let number = channel.record();
+        let event = Event::Put(number, channel.field, given);
+        self.serve(rt, desk, number, &event, self.clock.now())
     }
 
     /// Completes a record with the asynchronous answer of its device. `wait` is the number of the
-    /// completion that the record awaits.
+    /// completion that the record awaits: 1 for its first one, and so on.
     ///
     /// # Errors
     ///
-    /// [`IocError::Stopped`] if the engine was closed. [`IocError::NoRecord`] if there is no record
-    /// with this number. [`IocError::JournalFull`] if the journal has no place left.
-    /// [`IocError::NoMemory`] if allocation fails. Nothing has changed then. Any other refusal is a
-    /// reply, which is added to the journal.
+    /// As [`Engine::process`]. A refusal because the record awaits no such completion is a reply,
+    /// [`IocError::Stale`].
     pub fn complete<R: Wait>(
         &self,
         rt: &R,
-        alloc: Global,
-        desk: &mut Desk<K, B>,
-        buffers: &mut EventBuffers<K, D>,
+        desk: &mut Desk<B, D>,
         number: RecordNo,
         wait: u64,
         finished: Finished,
-        moment: u64,
-    ) -> Result<(Reply, Receipt<K, B>), IocError>
-        ensures served { IfOk result (λ x. WasServed D K.rules B.base D.gives number desk.old moment (Complete number wait finished)
-            x.0 desk.new (world_of buffers.new.store)) }
-        ensures receipt { IfOk result (λ x. x.1 ≡ desk.new.seen) }
-        ensures refused { IfErr result (CallIsRefused D K.rules B.base self.now number (Complete number wait finished)) }
-        ensures err { OnErr result (desk.new ≡ desk.old) }
+    ) -> Result<(Reply, Receipt<B>), IocError>
+        ensures done { IfOk result (λ x. WasDone D B.base D.gives number desk.old.account (Complete number wait finished) x.0
+            desk.new.account (world_of desk.new.buffers.store)) }
+        ensures receipt { IfOk result (λ x. x.1 ≡ desk.new.account.seen) }
+        ensures refused { IfErr result (CallIsRefused D record_rules B.base self.now.core number (Complete number wait finished)) }
+        ensures err { OnErr result (desk.new.account ≡ desk.old.account) }
     {
         let event = Event::Complete(number, wait, finished);
-        self.serve(rt, alloc, desk, buffers, number, &event, moment)
+        self.serve(rt, desk, number, &event, self.clock.now())
     }
 
-    /// Returns the text of a field.
+    /// Returns the text of a field (dbGetField), as [`Reply::Shown`].
     ///
     /// # Errors
     ///
-    /// [`IocError::Stopped`] if the engine was closed. [`IocError::NoRecord`] if there is no record
-    /// with this number. [`IocError::NoField`] if the record has no such field.
-    /// [`IocError::JournalFull`] if the journal has no place left. [`IocError::NoMemory`] if
-    /// allocation fails. Nothing has changed then.
+    /// As [`Engine::put`].
     pub fn get<R: Wait>(
         &self,
         rt: &R,
-        alloc: Global,
-        desk: &mut Desk<K, B>,
-        number: RecordNo,
-        field: FieldNo,
-        moment: u64,
-    ) -> Result<(Reply, Receipt<K, B>), IocError>
-        ensures told { IfOk result (λ x. WasTold D K.rules B.base number desk.old moment (Get number field) x.0 desk.new) }
-        ensures receipt { IfOk result (λ x. x.1 ≡ desk.new.seen) }
-        ensures refused { IfErr result (CallIsRefused D K.rules B.base self.now number (Get number field)) }
-        ensures err { OnErr result (desk.new ≡ desk.old) }
+        desk: &mut Desk<B, D>,
+        channel: Channel,
+    ) -> Result<(Reply, Receipt<B>), IocError>
+        ensures answered { IfOk result (λ x. WasAnswered D B.base channel.number desk.old.account
+            (Get channel.number channel.field) x.0 desk.new.account) }
+        ensures receipt { IfOk result (λ x. x.1 ≡ desk.new.account.seen) }
+        ensures refused { IfErr result (CallIsRefused D record_rules B.base self.now.core channel.number
+            (Get channel.number channel.field)) }
+        ensures err { OnErr result (desk.new.account ≡ desk.old.account) }
     {
-        if self.is_closed() {
-            return Err(IocError::Stopped);
-        }
-        for _ in rt.forever() {
-            let cell = self.sets.lock_of(rt, number)?;
-            let mut held = cell.lock(rt);
-            if held.has(number) {
-                held.is_sound();
-                let told = held.get(rt, alloc, &self.book, desk, number, field, moment);
-                held.is_sound();
-                return told;
-            }
-        }
-        unreachable!()
+        let moment = self.clock.now();
+        self.core.get(
+            rt,
+            desk.alloc,
+            &mut desk.account,
+            channel.record(),
+            channel.field,
+            moment,
+        )
     }
 }

@@ -1,31 +1,46 @@
-//! The engine for several threads: lock sets in a directory, and one journal of all calls.
+//! The engine of an EPICS IOC as a library: the records of a database text, which many threads
+//! read, put and process at once.
 //!
-//! A call takes the lock of its record's set, works on that set, and is added to the journal before
-//! the lock is released. So the calls of all desks are in one list, which is a possible run of an
-//! engine with all records in one map.
+//! A program loads a database ([`load`]), makes a [`Seed`] of it with its devices, and starts an
+//! [`Engine`]. Each thread opens a [`Desk`] and makes its calls with it. Each call is answered with a
+//! [`Reply`] and a [`Receipt`], the place of the call in one journal of all calls. Records that links
+//! connect are in one lock set with a lock of its own, so calls on other records don't wait.
 //!
-//! At the start, records that are connected by links come into one set. The pass of each set gets
-//! the keys of its records, and knows that they are as in the world at the load. Application
-//! Developer's Guide, "Database Locking, Scanning, and Processing", lock sets; "iocInit".
+//! EPICS Application Developer's Guide, "Runtime Database Access" and "Database Locking, Scanning,
+//! and Processing".
 #![tactic(auto)]
 
-mod cancelling;
+pub mod binding;
+pub mod channel;
+pub mod clock;
+pub mod desk;
 pub mod engine;
-pub mod holding;
+pub mod engine_name;
 mod link_changes;
-pub mod loading;
+pub mod lookup;
 mod notifications;
-mod once_requests;
-pub mod opening;
 mod parts;
 pub mod report;
-pub mod sending;
-pub mod starting;
+pub mod seed;
 
+pub use channel::Channel;
+pub use clock::{Clock, CountingClock, FixedClock, SystemClock};
+pub use desk::Desk;
 pub use engine::Engine;
-pub use ioc_journaled_set::{JournaledSet, SharedNotifications};
-pub use loading::with_copies;
-pub use opening::new_cell;
-pub use report::{OnceTally, Report};
-pub use sending::OnceTickets;
-pub use starting::{StartError, start};
+pub use engine_name::EngineName;
+pub use ioc_dbfile::{Database, DeviceName, Macros, load};
+pub use ioc_device::{Answer, Ask, Device};
+pub use ioc_engine_core::OnceTally;
+pub use ioc_events::Reply;
+pub use ioc_history::{JournalEntry, Limits};
+pub use ioc_ledger::{Outcome, Tally};
+pub use ioc_names::RecordNo;
+pub use ioc_notify::NotifyId;
+pub use ioc_record::FieldText;
+pub use ioc_values::{Finished, Input, IocError, Text, Value};
+pub use rec_types::Record;
+pub use report::{Report, StoppedRecord};
+pub use seed::Seed;
+
+/// The trace of a call in the journal of an engine.
+pub type Receipt<B> = ioc_history::Receipt<Record, B>;

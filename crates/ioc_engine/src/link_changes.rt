@@ -1,147 +1,120 @@
-//! Link changes of the engine.
-ghost use Rattle.std.specs.Prelude.{◌≡◌, IfOk, IfErr, OnOk, OnErr};
+//! Link changes.
+ghost use Rattle.std.specs.Prelude.{◌≡◌, ◌⊎◌, ℕ, Some, None, slice_get, slice_index_or, option_map, IfOk, IfErr, OnErr};
+ghost use Rattle.ioc_values.specs.declared.error.IocError.TheVariants.{NoField, BadLink, NoRecord, NoMemory};
+ghost use Rattle.ioc_links.specs.declared.link.Link.{Link};
+ghost use Rattle.rec_types.specs.Record.{record_rules};
+ghost use Rattle.ioc_dbfile.specs.OwnerTable.{owner_in};
 ghost use Rattle.ioc_set_store.specs.SetStore.{world_of};
-ghost use Rattle.ioc_topology.specs.Change.{AreKnown, AreLent};
-ghost use Rattle.ioc_journaled_set.specs.Holding.{numbers_of};
-ghost use Rattle.ioc_engine.specs.Linked.{other_of, WasLinked, LinkWasRefused};
+ghost use Rattle.ioc_engine_core.specs.Linked.{LinkWasRefused};
+ghost use Rattle.ioc_engine.specs.Relinking.{link_kind_in, IsTextOf, IsBadText, field_of_link, WasRelinked};
 
+use crate::Receipt;
+use crate::channel::Channel;
+use crate::clock::Clock;
+use crate::desk::Desk;
 use crate::engine::Engine;
-use ioc_dbcommon::LinkBox;
+use crate::engine_name::EngineName;
+use crate::lookup::Lookup;
+use ioc_dbcommon::{LinkBox, LinkField};
 use ioc_device::Device;
-use ioc_fields::FieldNo;
-use ioc_history::{Desk, EngineName};
-use ioc_journaled_set::{Changed, JournaledSet, change_link};
-use ioc_names::RecordNo;
-use ioc_record::RecordKind;
-use ioc_set_store::EventBuffers;
-use ioc_topology::{NewCells, all_sound, are_lent};
+use ioc_events::Reply;
+use ioc_fields::{FieldKind, kind_of};
+use ioc_journaled_set::Changed;
+use ioc_links::{Link, LinkKind, parse};
 use ioc_values::IocError;
-use std::alloc::Global;
 use std::sync::Wait;
 
-impl<K: RecordKind + Drop, B: EngineName<K>, D: Device> Engine<K, B, D> {
-    // Changes a link of a record of the first of these sets.
-    fn change_lent<R: Wait>(
-        &self,
-        rt: &R,
-        alloc: Global,
-        desk: &mut Desk<K, B>,
-        buffers: &mut EventBuffers<K, D>,
-        first: &mut JournaledSet<K, B, D>,
-        second: &mut JournaledSet<K, B, D>,
-        spare: &mut JournaledSet<K, B, D>,
-        number: RecordNo,
-        field: FieldNo,
-        link: LinkBox,
-        base_link: LinkBox,
-        moment: u64,
-    ) -> Result<Changed<K, B>, IocError>
-        requires base_link { base_link ≡ link }
-        requires lent { AreLent numbers_of number (other_of link) first.old second.old spare.old }
-        ensures changed { IfOk result (λ c. WasLinked D K.rules B.base number field link desk.old moment c.reply c.moved desk.new
-            (world_of buffers.new.store)) }
-        ensures receipt { IfOk result (λ c. c.receipt ≡ desk.new.seen) }
-        ensures refused { IfErr result (LinkWasRefused D K.rules B.base self.now number field link) }
-        ensures err { OnErr result (desk.new ≡ desk.old) }
-    {
-        all_sound(first, second, spare);
-        let changed = change_link(
-            rt, alloc, &self.book, desk, buffers, first, second, spare, number, field, link,
-            base_link, moment,
-        );
-        all_sound(first, second, spare);
-        changed
+// Returns the kind of links that a field can hold, if it is a link field.
+fn link_kind_in(kind: Option<FieldKind>) -> Option<LinkKind>
+    ensures { result ≡ link_kind_in kind }
+{
+    match kind {
+        Some(FieldKind::Link(role)) => Some(role.link_kind()),
+        _ => None,
     }
+}
 
-    /// Changes a link of a record, under the topology guard and the locks of the sets that it
-    /// concerns. The set of the record may part in two, or its part joins the set of the record
-    /// that the link leads to. Each record is found in its set afterwards. `link` and `base_link`
-    /// are equal.
+impl Lookup {
+    /// Returns the link that a text spells in the field of a channel.
     ///
     /// # Errors
     ///
-    /// [`IocError::Stopped`] if the engine was closed. [`IocError::NoRecord`] if there is no record
-    /// with one of the two numbers. [`IocError::NoField`] if the field is no link of the record.
+    /// [`IocError::NoRecord`] if there is no such record. [`IocError::NoField`] if the field is no link
+    /// of the record's type. [`IocError::BadLink`] if the text spells no link that the field can hold.
+    pub fn link(&self, channel: Channel, text: &[u8]) -> Result<Link, IocError>
+        ensures link { IfOk result (λ link. IsTextOf self.now.types.items channel text.now link) }
+        ensures refused { IfErr result (IsBadText self.now.types.items channel text.now) }
+    {
+        let Some(record_type) = self.record_type(channel.record()) else {
+            return Err(IocError::NoRecord);
+        };
+        let Some(kind) = link_kind_in(kind_of(record_type, channel.field)) else {
+            return Err(IocError::NoField);
+        };
+        parse(kind, text)
+    }
+}
+
+impl<B: EngineName, D: Device, C: Clock + Drop> Engine<B, D, C> {
+    /// Changes a link of a record to the link of this text, as in a database text. It leads to the
+    /// record and field that it names, or to the device that it names if the record owned that device
+    /// at the load, or else nowhere. The record's lock set may part in two, or its part joins the set
+    /// of the record that the link leads to; [`Desk::moved`] returns how many records were moved.
+    ///
+    /// # Errors
+    ///
+    /// [`IocError::Stopped`] if the engine was closed. [`IocError::NoField`] if the field is no link.
+    /// [`IocError::BadLink`] if the text spells no link that the field can hold.
     /// [`IocError::JournalFull`] if the journal has no place left. [`IocError::NoMemory`] if
-    /// allocation fails. Nothing is added to the journal then. If DISP forbids the change, the
-    /// refusal is a reply, which is added to the journal.
+    /// allocation fails. Nothing is added to the journal then, and no link has changed; the history of
+    /// a lock set may be forgotten. If DISP forbids the change, the refusal is a reply, which is added
+    /// to the journal.
     pub fn set_link<R: Wait>(
         &self,
         rt: &R,
-        alloc: Global,
-        desk: &mut Desk<K, B>,
-        buffers: &mut EventBuffers<K, D>,
-        number: RecordNo,
-        field: FieldNo,
-        link: LinkBox,
-        base_link: LinkBox,
-        moment: u64,
-    ) -> Result<Changed<K, B>, IocError>
-        requires base_link { base_link ≡ link }
-        ensures changed { IfOk result (λ c. WasLinked D K.rules B.base number field link desk.old moment c.reply c.moved desk.new
-            (world_of buffers.new.store)) }
-        ensures receipt { IfOk result (λ c. c.receipt ≡ desk.new.seen) }
-        ensures known { OnOk result (AreKnown self.now number (other_of link)) }
-        ensures refused { IfErr result (LinkWasRefused D K.rules B.base self.now number field link) }
-        ensures err { OnErr result (desk.new ≡ desk.old) }
+        desk: &mut Desk<B, D>,
+        channel: Channel,
+        text: &[u8],
+    ) -> Result<(Reply, Receipt<B>), IocError>
+        ensures changed { IfOk result (λ x. (link : Link) × IsTextOf self.now.lookup.types.items channel text.now link
+            × WasRelinked D B.base channel (field_of_link self.now.lookup.names self.now.lookup.types.items
+            (owner_in self.now.lookup.owners) channel.number link) desk.old.account x.0 desk.new.moved desk.new.account
+            (world_of desk.new.buffers.store)) }
+        ensures receipt { IfOk result (λ x. x.1 ≡ desk.new.account.seen) }
+        ensures refused { IfErr result (λ error. IsBadText self.now.lookup.types.items channel text.now error
+            ⊎ ((error ≡ NoMemory) ⊎ ((link : Link) × IsTextOf self.now.lookup.types.items channel text.now link
+            × LinkWasRefused D record_rules B.base self.now.core channel.number channel.field
+            (field_of_link self.now.lookup.names self.now.lookup.types.items (owner_in self.now.lookup.owners) channel.number link)
+            error))) }
+        ensures err { OnErr result (desk.new.account ≡ desk.old.account) }
     {
-        if self.is_closed() {
-            return Err(IocError::Stopped);
-        }
-        let _guard = self.sets.guard_topology(rt);
-        let new = self.sets.new_cells(rt, alloc)?;
-        self.relink(
-            rt, alloc, desk, buffers, &new, number, field, link, base_link, moment,
-        )
-    }
-
-    // Finds and locks the sets of a link change, and changes the link. The caller holds the
-    // topology guard.
-    fn relink<R: Wait>(
-        &self,
-        rt: &R,
-        alloc: Global,
-        desk: &mut Desk<K, B>,
-        buffers: &mut EventBuffers<K, D>,
-        new: &NewCells<JournaledSet<K, B, D>>,
-        number: RecordNo,
-        field: FieldNo,
-        link: LinkBox,
-        base_link: LinkBox,
-        moment: u64,
-    ) -> Result<Changed<K, B>, IocError>
-        requires base_link { base_link ≡ link }
-        ensures changed { IfOk result (λ c. WasLinked D K.rules B.base number field link desk.old moment c.reply c.moved desk.new
-            (world_of buffers.new.store)) }
-        ensures receipt { IfOk result (λ c. c.receipt ≡ desk.new.seen) }
-        ensures known { OnOk result (AreKnown self.now number (other_of link)) }
-        ensures refused { IfErr result (LinkWasRefused D K.rules B.base self.now number field link) }
-        ensures err { OnErr result (desk.new ≡ desk.old) }
-    {
-        let other = link.record_named();
-        for _ in rt.forever() {
-            let both = match self.sets.link_cells(rt, new, number, &other) {
-                Ok(Some(both)) => both,
-                Ok(None) => continue,
-                Err(refused) => {
-                    self.sets.leave_new(rt, new);
-                    return Err(refused);
-                }
-            };
-            let (mut first_guard, mut second_guard) = both.lock(rt);
-            let mut spare_guard = new.lock_spare(rt);
-            let first = &mut *first_guard;
-            let second = &mut *second_guard;
-            let spare = &mut *spare_guard;
-            if are_lent(first, second, spare, number, &other) {
-                let changed = self.change_lent(
-                    rt, alloc, desk, buffers, first, second, spare, number, field, link, base_link,
-                    moment,
-                );
-                self.sets.settle_all(rt, &both, new, first, second, spare);
-                return changed;
-            }
-        }
-        unreachable!()
+        let number = channel.record();
+        let link = self.lookup.link(channel, text)?;
+        let lead = self.lookup.lead(number, &link);
+        let alloc = desk.alloc;
+        let Ok(kept) = LinkBox::new(alloc, LinkField { link, lead }) else {
+            return Err(IocError::NoMemory);
+        };
+        let Ok(base_link) = kept.copy(alloc) else {
+            return Err(IocError::NoMemory);
+        };
+        let moment = self.clock.now();
+        let Changed {
+            reply,
+            moved,
+            receipt,
+        } = self.core.set_link(
+            rt,
+            alloc,
+            &mut desk.account,
+            &mut desk.buffers,
+            number,
+            channel.field,
+            kept,
+            base_link,
+            moment,
+        )?;
+        desk.moved = moved;
+        Ok((reply, receipt))
     }
 }

@@ -1,103 +1,116 @@
 //! Puts with notification.
 ghost use Rattle.std.specs.Prelude.{◌≡◌, ◌⊎◌, ℕ, IfOk, IfErr, OnErr};
 ghost use Rattle.ioc_values.specs.declared.error.IocError.TheVariants.{QueueFull, Stopped};
+ghost use Rattle.rec_types.specs.Record.{record_rules};
 ghost use Rattle.ioc_events.specs.declared.event.Event.TheVariants.{Put, Notify};
 ghost use Rattle.ioc_history.specs.Places.{IsNoPlace};
 ghost use Rattle.ioc_journaled_set.specs.Puts.{PutsView, WasAsked};
 ghost use Rattle.ioc_set_store.specs.SetStore.{world_of};
-ghost use Rattle.ioc_engine.specs.Served.{WasServed, CallIsRefused};
+ghost use Rattle.ioc_engine_core.specs.Served.{CallIsRefused};
+ghost use Rattle.ioc_engine_core.specs.Cancelled.{WasCancelled};
+ghost use Rattle.ioc_engine.specs.Calls.{WasDone};
 
+use crate::Receipt;
+use crate::channel::Channel;
+use crate::clock::Clock;
+use crate::desk::Desk;
 use crate::engine::Engine;
+use crate::engine_name::EngineName;
 use ioc_device::Device;
 use ioc_events::Reply;
-use ioc_fields::FieldNo;
-use ioc_history::{Desk, EngineName, Receipt};
-use ioc_names::RecordNo;
 use ioc_notify::NotifyId;
-use ioc_record::RecordKind;
-use ioc_set_store::EventBuffers;
-use ioc_topology::Locked;
 use ioc_values::{Input, IocError};
-use std::alloc::Global;
 use std::sync::Wait;
 
-impl<K: RecordKind + Drop, B: EngineName<K>, D: Device> Engine<K, B, D> {
-    /// Puts a value into a field as [`Engine::put`] does, with a notification: the records that are
-    /// processed for it become part of the put with notification, which ends when the last of them
-    /// is done. Its number is in the reply. If the record awaits its device, the put waits for it.
+impl<B: EngineName, D: Device, C: Clock + Drop> Engine<B, D, C> {
+    /// Puts a value into a field with notification (dbPutNotify): the records that are processed for
+    /// it become part of the put with notification, which ends when the last of them is done. Its
+    /// number is in the reply. If the record awaits its device, the put waits for it.
     ///
     /// # Errors
     ///
-    /// [`IocError::Stopped`] if the engine was closed. [`IocError::NoRecord`] if there is no record
-    /// with this number. [`IocError::NoField`] if the record has no such field. [`IocError::NoMod`]
-    /// if the field can't be put. [`IocError::QueueFull`] if 256 puts with notification are live or
-    /// no number is left. [`IocError::JournalFull`] if the journal has no place left.
-    /// [`IocError::NoMemory`] if allocation fails. Nothing has changed then. Any other refusal is a
-    /// reply, which is added to the journal.
+    /// As [`Engine::put`], and [`IocError::QueueFull`] if 256 puts with notification are live or no
+    /// number is left.
     pub fn put_notify<R: Wait>(
         &self,
         rt: &R,
-        alloc: Global,
-        desk: &mut Desk<K, B>,
-        buffers: &mut EventBuffers<K, D>,
-        number: RecordNo,
-        field: FieldNo,
+        desk: &mut Desk<B, D>,
+        channel: Channel,
         given: Input,
-        moment: u64,
-    ) -> Result<(Reply, Receipt<K, B>), IocError>
-        ensures served { IfOk result (λ x. (n : ℕ)
-            × WasServed D K.rules B.base D.gives number desk.old moment (Notify number n field given) x.0 desk.new
-            (world_of buffers.new.store)) }
-        ensures receipt { IfOk result (λ x. x.1 ≡ desk.new.seen) }
-        ensures refused { IfErr result (λ error. (error ≡ QueueFull)
-            ⊎ CallIsRefused D K.rules B.base self.now number (Put number field given) error) }
-        ensures err { OnErr result (desk.new ≡ desk.old) }
+    ) -> Result<(Reply, Receipt<B>), IocError>
+        ensures done { IfOk result (λ x. (n : ℕ) × WasDone D B.base D.gives channel.number desk.old.account
+            (Notify channel.number n channel.field given) x.0 desk.new.account (world_of desk.new.buffers.store)) }
+        ensures receipt { IfOk result (λ x. x.1 ≡ desk.new.account.seen) }
+        ensures refused { IfErr result (λ error. (error ≡ QueueFull) ⊎ CallIsRefused D record_rules B.base self.now.core
+            channel.number (Put channel.number channel.field given) error) }
+        ensures err { OnErr result (desk.new.account ≡ desk.old.account) }
     {
-        if self.is_closed() {
-            return Err(IocError::Stopped);
-        }
-        for _ in rt.forever() {
-            let cell = self.sets.lock_of(rt, number)?;
-            let mut held = cell.lock(rt);
-            if held.has(number) {
-                held.is_sound();
-                let (reply, receipt) = held.put_notify(
-                    rt, alloc, &self.book, &self.puts, desk, buffers, number, field, given, moment,
-                )?;
-                held.is_sound();
-                drop(held);
-                self.do_sent(rt, buffers);
-                return Ok((reply, receipt));
-            }
-        }
-        unreachable!()
+        let alloc = desk.alloc;
+        let moment = self.clock.now();
+        self.core.put_notify(
+            rt,
+            alloc,
+            &mut desk.account,
+            &mut desk.buffers,
+            channel.record(),
+            channel.field,
+            given,
+            moment,
+        )
     }
 
-    /// Replies whether the put with notification with this number is live, which it is from its
-    /// call until the last of its records is done or it is canceled.
+    /// Replies whether the put with notification with this number is live, which it is from its call
+    /// until the last of its records is done or it is canceled: [`Reply::Live`].
     ///
     /// # Errors
     ///
-    /// [`IocError::Stopped`] if the engine was closed. [`IocError::JournalFull`] if the journal has
-    /// no place left. [`IocError::NoMemory`] if allocation fails. Nothing has changed then.
+    /// [`IocError::Stopped`] if the engine was closed. [`IocError::JournalFull`] if the journal has no
+    /// place left. [`IocError::NoMemory`] if allocation fails. Nothing has changed then.
     pub fn live<R: Wait>(
         &self,
         rt: &R,
-        alloc: Global,
-        desk: &mut Desk<K, B>,
+        desk: &mut Desk<B, D>,
         number: NotifyId,
-        moment: u64,
-    ) -> Result<(Reply, Receipt<K, B>), IocError>
-        ensures asked { IfOk result (λ x. (puts puts_then : PutsView)
-            × WasAsked K.rules B.base puts desk.old moment number x.0 puts_then desk.new) }
-        ensures receipt { IfOk result (λ x. x.1 ≡ desk.new.seen) }
+    ) -> Result<(Reply, Receipt<B>), IocError>
+        ensures asked { IfOk result (λ x. (moment : ℕ) × (puts puts_then : PutsView)
+            × WasAsked record_rules B.base puts desk.old.account moment number x.0 puts_then desk.new.account) }
+        ensures receipt { IfOk result (λ x. x.1 ≡ desk.new.account.seen) }
         ensures refused { IfErr result (λ error. (error ≡ Stopped) ⊎ IsNoPlace error) }
-        ensures err { OnErr result (desk.new ≡ desk.old) }
+        ensures err { OnErr result (desk.new.account ≡ desk.old.account) }
     {
-        if self.is_closed() {
-            return Err(IocError::Stopped);
-        }
-        let mut puts = self.puts.lock(rt);
-        puts.ask(rt, alloc, &self.book, desk, number, moment)
+        let moment = self.clock.now();
+        self.core
+            .live(rt, desk.alloc, &mut desk.account, number, moment)
+    }
+
+    /// Cancels the put with notification with this number (dbNotifyCancel): no record is part of it
+    /// any more, it waits nowhere, and it doesn't end.
+    ///
+    /// # Errors
+    ///
+    /// As [`Engine::live`]. If the put with notification isn't live, [`IocError::Stale`] is the reply,
+    /// which is added to the journal.
+    pub fn cancel<R: Wait>(
+        &self,
+        rt: &R,
+        desk: &mut Desk<B, D>,
+        number: NotifyId,
+    ) -> Result<(Reply, Receipt<B>), IocError>
+        ensures canceled { IfOk result (λ x. (moment : ℕ)
+            × WasCancelled D record_rules B.base number desk.old.account moment x.0 desk.new.account) }
+        ensures receipt { IfOk result (λ x. x.1 ≡ desk.new.account.seen) }
+        ensures refused { IfErr result (λ error. (error ≡ Stopped) ⊎ IsNoPlace error) }
+        ensures err { OnErr result (desk.new.account ≡ desk.old.account) }
+    {
+        let alloc = desk.alloc;
+        let moment = self.clock.now();
+        self.core.cancel(
+            rt,
+            alloc,
+            &mut desk.account,
+            &mut desk.buffers,
+            number,
+            moment,
+        )
     }
 }

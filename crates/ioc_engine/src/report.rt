@@ -1,177 +1,89 @@
-//! The end of the engine.
-ghost use Rattle.std.specs.Prelude.{◌≡◌, map, All, IfOk, IfErr};
-ghost use Rattle.ioc_history.specs.Line.{Begins};
+//! The end of an engine.
+ghost use Rattle.std.specs.Prelude.{◌≡◌, IfOk, IfErr};
+ghost use Rattle.rec_types.specs.Record.{record_rules};
 ghost use Rattle.ioc_history.specs.Account.{IsEntryOf};
-ghost use Rattle.ioc_journaled_set.specs.Holding.{KeepsDevices};
-ghost use Rattle.ioc_engine.specs.Ended.{IsAsTold, IsEnd, counts_in};
-ghost use Rattle.ioc_engine.specs.Once.{AreAllBack};
+ghost use Rattle.ioc_engine_core.specs.Ended.{IsEnd, counts_in};
+ghost use Rattle.ioc_engine_core.specs.Once.{AreAllBack};
 
-use crate::cancelling::all_sound;
+use crate::Receipt;
 use crate::engine::Engine;
-use ioc_callback::OnceQueue;
-use ioc_history::{Cell, EngineName, Journal, JournalEntry, Receipt};
-use ioc_journaled_set::JournaledSet;
+use crate::engine_name::EngineName;
+use ioc_engine_core::{OnceTally, Report as CoreReport};
+use ioc_history::JournalEntry;
 use ioc_ledger::Tally;
-use ioc_record::RecordKind;
-use ioc_set::linking::add_counts;
-use std::alloc::Global;
+use rec_types::Record;
 use std::sync::Wait;
-use std::sync::ledger::Ledger;
 
-/// What is left of an engine when it ends.
+/// What is left of an engine when it ends: its records with their devices, and its journal.
 #[derive(Drop)]
-pub struct Report<K: RecordKind + Drop, B: EngineName<K>, D: Drop> {
-    /// The lock sets, each with its records and their devices.
-    pub sets: Vec<JournaledSet<K, B, D>>,
-    /// All calls, in one order.
-    pub journal: Journal<K, B>,
-    /// The cell that ties the passes of receipts and desks to the journal.
-    pub cell: Cell,
-    /// The counts of the once requests.
-    pub once: OnceTally,
+pub struct Report<B: EngineName, D: Drop> {
+    pub(crate) core: CoreReport<Record, B, D>,
 }
 
-/// The counts of the tickets of once requests. Each ticket begins with its request.
-#[derive(Clone, Copy, PartialEq, Eq)]
-pub struct OnceTally {
-    /// The number of tickets that were begun, which is the number of once requests that were sent.
-    pub begun: u64,
-    /// The number of tickets that were spent by their requests.
-    pub spent: u64,
-    /// The number of tickets that were handed back, because their request was waiting at the end or
-    /// found no room.
-    pub handed_back: u64,
-    /// The number of tickets that are still out.
-    pub out: u64,
-    /// The number of requests that found no room.
-    pub dropped: u64,
+/// A record of an engine that was stopped, with its device, if it has one.
+#[derive(Drop)]
+pub struct StoppedRecord<D> {
+    pub record: Record,
+    pub device: Option<D>,
 }
 
-// Drops the waiting requests and hands their tickets back.
-fn give_up_all<L: Ledger>(once: OnceQueue<L>) -> OnceTally
-    ensures begun { result.begun ≡ once.tickets.begun }
-    ensures spent { result.spent ≡ once.tickets.spent }
-    ensures back { AreAllBack result }
-    ensures dropped { result.dropped ≡ once.dropped }
-{
-    let mut list = once;
-    list.hand_back_all();
-    let out = list.out();
-    OnceTally {
-        begun: list.begun(),
-        spent: list.spent(),
-        handed_back: list.handed_back(),
-        out,
-        dropped: list.dropped(),
-    }
-}
-
-// Returns the counts of these sets together.
-fn counts_of<K: RecordKind + Drop, B: EngineName<K>, D: Drop>(
-    sets: &[JournaledSet<K, B, D>],
-) -> Tally
-    ensures { result ≡ counts_in sets.now }
-{
-    let mut tally = Tally::default();
-    for held in sets {
-        add_counts(&mut tally, &held.tally());
-    }
-    tally
-}
-
-// States that each record of these sets has its device.
-fn all_keep_devices<K: RecordKind + Drop, B: EngineName<K>, D: Drop>(sets: &[JournaledSet<K, B, D>])
-    ensures { All (λ h. KeepsDevices B.had_device h.set) sets.now }
-{
-    for held in sets {
-        held.keeps_devices();
-    }
-}
-
-// Moves the sets on to the list of all calls.
-fn tell_all<K: RecordKind + Drop, B: EngineName<K>, D: Drop, R: Wait>(
-    rt: &R,
-    cell: &Cell,
-    journal: &mut Journal<K, B>,
-    sets: &mut [JournaledSet<K, B, D>],
-)
-    requires table { cell.now.table.shared.table_id ≡ B.table }
-    ensures sets { map (λ h. h.set) sets.new ≡ map (λ h. h.set) sets.old }
-    ensures told { All (IsAsTold K.rules B.base journal.old.filled) sets.new }
-    ensures journal { journal.new ≡ journal.old }
-{
-    for place in 0..sets.len() {
-        sets[place].learn_all(rt, cell, journal);
-    }
-}
-
-impl<K: RecordKind + Drop, B: EngineName<K>, D: Drop> Engine<K, B, D> {
-    /// Ends the engine. Waits forever if a record is in no set.
+impl<B: EngineName, D: Drop, C: Drop> Engine<B, D, C> {
+    /// Ends the engine.
     ///
     /// # Errors
     ///
     /// The unchanged engine if allocation fails.
-    pub fn stop<R: Wait>(self, rt: &R, alloc: Global) -> Result<Report<K, B, D>, Engine<K, B, D>>
-        ensures end { IfOk result (λ r. IsEnd K.rules B.base B.had_device self r.journal.filled r.sets.items) }
-        ensures table { IfOk result (λ r. r.cell.table.shared.table_id ≡ B.table) }
-        ensures once { IfOk result (λ r. AreAllBack r.once) }
-        ensures err { IfErr result (λ e. e ≡ self) }
+    pub fn stop<R: Wait>(self, rt: &R) -> Result<Report<B, D>, Engine<B, D, C>>
+        ensures end { IfOk result (λ r. IsEnd record_rules B.base B.had_device self.core r.core.journal.filled r.core.sets.items) }
+        ensures once { IfOk result (λ r. AreAllBack r.core.once) }
+        ensures err { IfErr result (λ e. (e.core ≡ self.core) × (e.lookup ≡ self.lookup)) }
     {
         let Engine {
-            mut sets,
-            book,
-            puts,
-            once,
-            closed,
+            core,
+            lookup,
+            clock,
+            alloc,
         } = self;
-        let Ok(mut all) = sets.gather(rt, alloc) else {
-            return Err(Engine {
-                sets,
-                book,
-                puts,
-                once,
-                closed,
-            });
-        };
-        let (cell, mut journal) = book.into_parts();
-        journal.is_legal();
-        tell_all(rt, &cell, &mut journal, all.as_mut_slice());
-        all_sound(all.as_slice());
-        all_keep_devices(all.as_slice());
-        Ok(Report {
-            sets: all,
-            journal,
-            cell,
-            once: give_up_all(once.into_inner()),
-        })
+        match core.stop(rt, alloc) {
+            Ok(core) => Ok(Report { core }),
+            Err(core) => Err(Engine {
+                core,
+                lookup,
+                clock,
+                alloc,
+            }),
+        }
     }
 }
 
-impl<K: RecordKind + Drop, B: EngineName<K>, D: Drop> Report<K, B, D> {
-    /// Returns the counts of requests and of asynchronous answers of all sets together.
+impl<B: EngineName, D: Drop> Report<B, D> {
+    /// Returns the counts of requests and of asynchronous answers of all records.
     pub fn tally(&self) -> Tally
-        ensures { result ≡ counts_in self.now.sets.items }
+        ensures { result ≡ counts_in self.now.core.sets.items }
     {
-        counts_of(self.sets.as_slice())
+        self.core.tally()
     }
 
-    /// Compares a receipt of the engine with the journal, whose list begins with what the receipt
-    /// knows.
-    pub fn compare<R: Wait>(&mut self, rt: &R, receipt: &mut Receipt<K, B>)
-        requires table { self.old.cell.table.shared.table_id ≡ B.table }
-        ensures begins { Begins receipt.old self.old.journal.filled }
-        ensures receipt { receipt.new ≡ receipt.old }
-        ensures same { self.new ≡ self.old }
+    /// Returns the counts of once requests and their tickets.
+    pub fn once(&self) -> OnceTally
+        ensures { result ≡ self.now.core.once }
     {
-        self.journal.compare_receipt(rt, &self.cell, receipt);
+        self.core.once
     }
 
-    /// Returns the call of a receipt that was compared: it is at the receipt's place in the
-    /// journal, and the receipt's list ends with it.
-    pub fn entry(&self, receipt: &Receipt<K, B>) -> &JournalEntry
-        requires begins { Begins receipt.now self.now.journal.filled }
-        ensures { IsEntryOf receipt.now self.now.journal.filled result.now }
+    /// Returns the number of items that events dropped, because an event may send 256 of them: once
+    /// requests, posted events and changes of scan lists.
+    pub fn dropped(&self) -> u64
+        ensures { result ≡ self.now.core.dropped }
     {
-        self.journal.entry_of(receipt)
+        self.core.dropped
+    }
+
+    /// Returns the entry of a call in the journal: the desk, the number of the call at its desk, the
+    /// event, its time stamp, the answers of devices, and the reply.
+    pub fn entry<R: Wait>(&mut self, rt: &R, receipt: &mut Receipt<B>) -> &JournalEntry
+        ensures entry { IsEntryOf receipt.old self.old.core.journal.filled result.now }
+    {
+        self.core.journal.entry(rt, receipt)
     }
 }

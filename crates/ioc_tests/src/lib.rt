@@ -1,16 +1,12 @@
-//! Tests that cross the crates: whole runs of databases and scripts over memory, the directory of
-//! lock sets, with sets that are lists of numbers, and the engine for threads, from a database text
-//! to its end.
+//! Tests that cross the crates: whole runs of databases and scripts over memory, and the directory
+//! of lock sets, with sets that are lists of numbers. The tests of the engine are in
+//! `ioc_engine_tests`.
 #![tactic(auto)]
 
-#[cfg(test)]
-mod calling;
 #[cfg(test)]
 mod devices;
 #[cfg(test)]
 mod directory;
-#[cfg(test)]
-mod eight;
 #[cfg(test)]
 mod endings;
 #[cfg(test)]
@@ -34,8 +30,6 @@ mod notifications;
 #[cfg(test)]
 mod numbers;
 #[cfg(test)]
-mod opened;
-#[cfg(test)]
 mod parts;
 #[cfg(test)]
 mod programs;
@@ -44,13 +38,7 @@ mod relinks;
 #[cfg(test)]
 mod rows;
 #[cfg(test)]
-mod running;
-#[cfg(test)]
 mod scans;
-#[cfg(test)]
-mod sessions;
-#[cfg(test)]
-mod steps;
 #[cfg(test)]
 mod streams;
 #[cfg(test)]

@@ -1,0 +1,65 @@
+//! The example of the README: a tank whose level is read from a device, put by an operator, and copied
+//! to a second record, while an archiver reads it.
+#![tactic(auto)]
+
+ghost use Rattle.ioc_engine.specs.Named.{IsNamedBy};
+
+use ioc_engine::{
+    Answer, CountingClock, Device, DeviceName, Engine, EngineName, FieldText, Input, IocError,
+    Limits, Macros, Reply, Seed, Value, load,
+};
+use std::alloc::Global;
+use std::io;
+use std::marker::Brand;
+use std::sync::Wait;
+
+const TEXT: &[u8] = b"record(longin,\"level\"){field(INP,\"@tank\") field(HIGH,10) field(HSV,MINOR)}
+record(longin,\"copy\"){}
+";
+
+/// A tank with this level.
+#[derive(Drop)]
+struct Tank(i32);
+
+impl Device for Tank {
+    ghost gives = { λ _ _ _ _ _. Unit {0} };
+
+    fn read(&mut self, _moment: u64) -> Answer {
+        Answer::Done(Value::Long(self.0))
+    }
+
+    fn write(&mut self, _value: Value, _moment: u64) -> Answer {
+        Answer::Fault
+    }
+}
+
+// Links `copy` to `level`, processes `copy`, and returns what it shows then.
+fn work<B: EngineName, R: Wait>(rt: &R, alloc: Global, seed: Seed<Tank>) -> Result<Reply, IocError>
+    requires named { IsNamedBy B.table B.base B.had_device B.places B.tickets seed }
+{
+    let engine = Engine::<B, _, _>::start(alloc, seed, CountingClock::new(), Limits::default())?;
+    let mut desk = engine.desk(rt)?;
+    engine.set_link(rt, &mut desk, engine.channel(b"copy.INP")?, b"level PP MS")?;
+    engine.process(rt, &mut desk, engine.record(b"copy")?)?;
+    let (shown, _receipt) = engine.get(rt, &mut desk, engine.channel(b"copy.SEVR")?)?;
+    Ok(shown)
+}
+
+fn run(rt: &HostRuntime) -> Result<Reply, IocError> {
+    let alloc = rt.alloc();
+    let mut devices = Vec::new(alloc);
+    devices.push((DeviceName::cut(b"tank"), Tank(12)))?;
+    let database = load(alloc, TEXT, &Macros::new(alloc))?;
+    let seed = Seed::new(alloc, database, devices)?;
+    work::<Brand, _>(rt, alloc, seed)
+}
+
+fn main(rt: HostRuntime) -> io::Result<()> {
+    match run(&rt) {
+        Ok(Reply::Shown(text)) if text == FieldText::cut(b"MINOR") => println!(rt;
+            "copy has the alarm of level"
+        ),
+        Ok(_other) => println!(rt; "another reply"),
+        Err(error) => println!(rt; "{error}"),
+    }
+}

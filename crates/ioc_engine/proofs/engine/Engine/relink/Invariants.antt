@@ -1,5 +1,0 @@
-use Rattle.std.proofs.Common.{◌≡◌}
-use Rattle.ioc_engine.proofs.engine.Engine.relink.Given as goal
-
-abbrev pub invariant-loop : goal.invariant-loop
-invariant-loop g l = (l.desk ≡ l.fn.desk) × ((l.link ≡ l.fn.link) × (l.base_link ≡ l.fn.base_link))

@@ -1,0 +1,28 @@
+use Rattle.std.proofs.lemmas.Result.{err_from_is_err_and}
+use Rattle.std.proofs.Common.{ℕ, ◌≡◌, sym, ap, ◌∙◌, subst, inr}
+use Rattle.ioc_values.specs.declared.error.IocError.{IocError}
+use Rattle.ioc_dbcommon.specs.declared.link_field.LinkField.{LinkField}
+use Rattle.ioc_dbcommon.specs.declared.link_field.Lead.{Lead}
+use Rattle.ioc_dbfile.specs.Finished.{leads_to}
+use Rattle.ioc_dbfile.specs.OwnerTable.{owner_in}
+use Rattle.rec_types.specs.Record.{record_rules}
+use Rattle.ioc_engine_core.specs.Linked.{LinkWasRefused}
+use Rattle.ioc_engine.specs.Relinking.{field_of_link}
+use Rattle.ioc_engine.proofs.engine.Engine.set_link.Goals as goal
+
+pub returns-in_err-reply-clause-refused : goal.returns-in_err-reply-clause-refused
+returns-in_err-reply-clause-refused g c =
+    let p = err_from_is_err_and c.from_residual-in_err-reply.result c.from_residual-in_err-reply.ensures.1 in
+    let look = c.args.self.now.lookup in
+    let link = c.in_ok-link.link in
+    let lead : c.lead-lead.result ≡ leads_to look.names look.types.items (owner_in look.owners) c.args.channel.number link =
+    c.lead-lead.ensures ∙ ap (λ (n : ℕ). leads_to look.names look.types.items (owner_in look.owners) n link) c.record-number.ensures in
+    let kept : c.in-Ok.kept ≡ field_of_link look.names look.types.items (owner_in look.owners) c.args.channel.number link =
+    c.in-Ok.ensures ∙ ap (λ (l : Lead). record { link = link; lead = l }) lead in
+    let refused = c.in_err-reply.ensures.refused in
+    rw (p.1, p.2) (inr (inr (
+      link,
+      c.in_ok-link.ensures.link,
+      subst (λ (l : LinkField). LinkWasRefused g.row.D.Denot record_rules g.B.EngineName-2.base c.args.self.now.core c.args.channel.number c.args.channel.field l c.in_err-reply.field-0.0) kept
+          (subst (λ (n : ℕ). LinkWasRefused g.row.D.Denot record_rules g.B.EngineName-2.base c.args.self.now.core n c.args.channel.field c.in-Ok.kept c.in_err-reply.field-0.0) c.record-number.ensures refused),
+    )))

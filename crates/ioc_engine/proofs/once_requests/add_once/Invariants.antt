@@ -1,6 +1,0 @@
-use Rattle.std.proofs.Common.{take}
-use Rattle.ioc_engine.specs.OnceRequests.{once_in, AreAdded}
-use Rattle.ioc_engine.proofs.once_requests.add_once.Given as goal
-
-abbrev pub invariant-loop-item : goal.invariant-loop-item
-invariant-loop-item g l = AreAdded (once_in (take l.item-index l.items)) l.fn.once l.once

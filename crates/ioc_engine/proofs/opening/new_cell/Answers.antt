@@ -1,6 +1,0 @@
-use Rattle.std.proofs.Common.{rules, [], ◌∷◌}
-use Rattle.ioc_engine.proofs.Beginning.{begins}
-use Rattle.ioc_engine.proofs.opening.new_cell.Goals as goal
-
-pub ruled-requires : goal.ruled-requires
-ruled-requires c = (search rules, (search rules, begins (0 ∷ [])))

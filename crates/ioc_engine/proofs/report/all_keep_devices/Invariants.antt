@@ -1,7 +1,0 @@
-use Rattle.std.proofs.Common.{ℕ, ◌<◌}
-use Rattle.std.specs.Prelude.{slice_index_or}
-use Rattle.ioc_journaled_set.specs.Holding.{HeldView, KeepsDevices}
-use Rattle.ioc_engine.proofs.report.all_keep_devices.Given as goal
-
-abbrev pub invariant-loop-held : goal.invariant-loop-held
-invariant-loop-held g l = (i : ℕ) (d : HeldView g.row.K.Denot g.row.D.Denot) → i < l.held-index → KeepsDevices g.B.EngineName.had_device (slice_index_or l.sets i d).set

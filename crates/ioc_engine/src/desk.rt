@@ -1,0 +1,27 @@
+//! Desks.
+use crate::engine_name::EngineName;
+use ioc_history;
+use ioc_set_store::EventBuffers;
+use rec_types::Record;
+use std::alloc::Global;
+
+/// A caller of an engine, with the memory that its calls need. A thread opens a desk of its own by
+/// [`Engine::desk`](crate::Engine::desk).
+#[derive(Drop)]
+pub struct Desk<B: EngineName, D: Drop> {
+    pub(crate) account: ioc_history::Desk<Record, B>,
+    pub(crate) buffers: EventBuffers<Record, D>,
+    pub(crate) alloc: Global,
+    pub(crate) moved: usize,
+}
+
+impl<B: EngineName, D: Drop> Desk<B, D> {
+    ghost use Rattle.std.specs.Prelude.{◌≡◌};
+
+    /// Returns the number of records that the desk's last link change moved to another lock set.
+    pub fn moved(&self) -> usize
+        ensures { result ≡ self.now.moved }
+    {
+        self.moved
+    }
+}

@@ -1,0 +1,12 @@
+//! The name of an engine.
+use rec_types::Record;
+use std::marker::Brand;
+
+/// Names an engine: contracts tell the receipts and desks of one engine from those of another by it.
+///
+/// A program does its work with an engine in a function that is generic over a name, with
+/// [`Engine::start`](crate::Engine::start)'s `requires` as its own, and calls this function with
+/// [`Brand`] for the name.
+pub trait EngineName: ioc_history::EngineName<Record> {}
+
+impl EngineName for Brand {}

@@ -1,0 +1,84 @@
+//! What an engine is started with.
+ghost use Rattle.std.specs.Prelude.{◌≡◌, ◌-◌, ◌^◌, ◌<◌, ℕ, List, [], length, map, slice_index_or, All, IfOk};
+ghost use Rattle.crossbeam_utils.specs.Seq.{cell_view};
+ghost use Rattle.ioc_history.specs.Line.{keeper};
+ghost use Rattle.rec_types.specs.Record.{record_rules};
+ghost use Rattle.ioc_dbfile.specs.Owners.{owner_of};
+ghost use Rattle.ioc_dbfile.specs.OwnerTable.{owner_in};
+ghost use Rattle.ioc_set_records.specs.Joined.{IsClosed};
+ghost use Rattle.ioc_set_records.specs.Linked.{links_in};
+ghost use Rattle.ioc_engine_core.specs.Loading.{IsIdle};
+ghost use Rattle.ioc_engine.specs.Binding.{device_of, spare_of};
+ghost use Rattle.ioc_set_records.specs.declared.loaded.Loaded.{Loaded};
+ghost use Rattle.rec_types.specs.Record.{Record};
+
+use crate::binding::bind;
+use crate::lookup::Lookup;
+use ioc_dbfile::{Database, DeviceName};
+use ioc_engine_core::{new_cell, with_copies};
+use ioc_history::{Cell, KeyPass, PLACES};
+use ioc_set_records::Loaded;
+use ioc_values::IocError;
+use rec_types::Record;
+use std::alloc::Global;
+use std::sync::ledger::Blank;
+
+/// A loaded database with its devices, from which an engine is started.
+#[derive(Drop)]
+pub struct Seed<D> {
+    pub(crate) cell: Cell,
+    pub(crate) master: KeyPass,
+    pub(crate) places: Blank,
+    pub(crate) tickets: Blank,
+    pub(crate) records: Vec<Loaded<Record, D>>,
+    pub(crate) lookup: Lookup,
+    /// The devices that no record has: no record has a link to a device of that name, or another
+    /// device with that name came before. They are never called.
+    pub spare: Vec<(DeviceName, D)>,
+    pub ghost same_table: { master.table_id ≡ cell.table.shared.table_id },
+    pub ghost fresh: { cell_view master ≡ keeper [] [] },
+    pub ghost all_places: { places.parts ≡ 2 ^ 64 - 1 },
+    pub ghost all_tickets: { tickets.parts ≡ 2 ^ 64 - 1 },
+    pub ghost copies: { All (λ l. l.base ≡ l.fields) records.items },
+    pub ghost idle: { All (λ l. IsIdle record_rules l.fields) records.items },
+    pub ghost closed: { IsClosed (links_in record_rules records.items) },
+}
+
+impl<D: Drop> Seed<D> {
+    /// Creates the seed of a database, in which each device belongs to the first record with a link
+    /// `@` and its name.
+    ///
+    /// # Errors
+    ///
+    /// [`IocError::NoMemory`] if allocation fails.
+    #[tactic(auto, using(crate::proofs::Closing::closed_in, crate::proofs::Closing::idle_in))]
+    pub fn new(
+        alloc: Global,
+        database: Database,
+        devices: Vec<(DeviceName, D)>,
+    ) -> Result<Self, IocError>
+        ensures records { IfOk result (λ s. map (λ l. l.fields) s.records.items ≡ database.records.items) }
+        ensures names { IfOk result (λ s. s.lookup.names ≡ database.names) }
+        ensures types { IfOk result (λ s. s.lookup.types.items ≡ map record_rules.record_type database.records.items) }
+        ensures owners { IfOk result (λ s. (text : List ℕ) → owner_in s.lookup.owners text ≡ owner_of record_rules database.records.items text) }
+        ensures devices { IfOk result (λ s. (n : ℕ) (l : Loaded Record D) → n < length s.records.items
+            → (slice_index_or s.records.items n l).device ≡ device_of (owner_in s.lookup.owners) devices.items n) }
+        ensures spare { IfOk result (λ s. s.spare.items
+            ≡ spare_of (owner_in s.lookup.owners) (length database.records.items) [] devices.items) }
+    {
+        let Database { names, records } = database;
+        let lookup = Lookup::new(alloc, names, records.as_slice())?;
+        let bound = bind(alloc, &lookup.owners, records.len(), devices)?;
+        let loaded = with_copies(alloc, records, bound.devices)?;
+        let (cell, master) = new_cell(alloc)?;
+        Ok(Seed {
+            cell,
+            master,
+            places: Blank::new(PLACES),
+            tickets: Blank::new(PLACES),
+            records: loaded,
+            lookup,
+            spare: bound.spare,
+        })
+    }
+}

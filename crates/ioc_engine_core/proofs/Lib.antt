@@ -1,0 +1,9 @@
+mod Counts
+mod Ending
+mod Marks
+mod Refusals
+mod Beginning
+mod Copies
+mod Keys
+mod DealtParts
+mod OnceAdding

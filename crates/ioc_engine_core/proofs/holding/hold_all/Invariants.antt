@@ -1,0 +1,15 @@
+use Rattle.std.proofs.Common.{◌≡◌, [], length}
+use Rattle.crossbeam_utils.specs.Seq.{cell_view}
+use Rattle.ioc_history.specs.Line.{keeper}
+use Rattle.ioc_engine_core.specs.Loading.{AreSetsFrom, AreOfPartsBelow}
+use Rattle.ioc_engine_core.proofs.holding.hold_all.Given as goal
+
+-- The keys of the lower parts are created, and the sets from here on are as before.
+abbrev pub invariant-loop-part : goal.invariant-loop-part
+invariant-loop-part g l = record {
+  count : l.directory ≡ length l.parts;
+  table : l.master.table_id ≡ g.B.CellName.table;
+  master : cell_view l.master ≡ keeper [] (cell_view l.master).born;
+  born : AreOfPartsBelow l.parts l.part (cell_view l.master).born;
+  left : AreSetsFrom g.K.RecordKind.rules g.B.EngineName.base g.B.EngineName.had_device l.parts l.part l.sets;
+}

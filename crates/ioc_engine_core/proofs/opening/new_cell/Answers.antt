@@ -1,0 +1,6 @@
+use Rattle.std.proofs.Common.{rules, [], ◌∷◌}
+use Rattle.ioc_engine_core.proofs.Beginning.{begins}
+use Rattle.ioc_engine_core.proofs.opening.new_cell.Goals as goal
+
+pub ruled-requires : goal.ruled-requires
+ruled-requires c = (search rules, (search rules, begins (0 ∷ [])))

@@ -1,0 +1,38 @@
+use Rattle.std.proofs.Common.{◌<◌, ◌^◌, List, refl, sym, subst, length, arith, rules}
+use Rattle.ioc_set_records.specs.Contents.{Contents, nothing}
+use Rattle.ioc_store.specs.World.{World}
+use Rattle.ioc_history.specs.Legal.{IsSound}
+use Rattle.ioc_engine_core.specs.Loading.{loaded_world, IsAtRest, AreSetsFrom}
+use Rattle.ioc_engine_core.proofs.DealtParts.{database_is_shut, database_is_free, database_is_small}
+use Rattle.ioc_engine_core.proofs.starting.holdings.Goals as goal
+
+pub deal-requires-clause-below : goal.deal-requires-clause-below
+deal-requires-clause-below g c = c.requires.parts.below
+
+pub hold_all-requires-clause-parts : goal.hold_all-requires-clause-parts
+hold_all-requires-clause-parts g c =
+    let k = g.K.RecordKind.rules in
+    let base = g.B.EngineName.base in
+    let had = g.B.EngineName.had_device in
+    let all = c.args.all.items in
+    let parts = c.args.parts.now in
+    let sets = c.in_ok-sets.sets.items in
+    let rest : IsAtRest k base had parts all = record { world = c.requires.base; devices = c.requires.devices; idle = c.requires.idle; parts_are = c.requires.parts } in
+    let dealt = c.in_ok-sets.ensures in
+    subst (λ (s : List (Contents g.row.K.Denot g.row.D.Denot)). AreSetsFrom k base had parts 0 s) (sym c.as_mut_slice.ensures.value)
+    (record {
+      all = all;
+      rest = rest;
+      each = λ part le lt. dealt.each part (let e = dealt.one_each in omega (arith, lt, e));
+      one_part = λ part le lt. c.dealt_sets_are_parts.ensures all parts sets c.requires.parts dealt part nothing lt;
+    })
+
+pub returns-clause-sound : goal.returns-clause-sound
+returns-clause-sound g c =
+    let k = g.K.RecordKind.rules in
+    let missing = g.met.K.RecordKind.lawful.missing_targets in
+    let all = c.args.all.items in
+    let parts = c.args.parts.now in
+    let few : length all < 2 ^ 63 = search rules in
+    subst (λ (w : World g.row.K.Denot). IsSound k w) (sym c.requires.base)
+    (c.lists_leave_sound.ensures.first (loaded_world all) (database_is_shut k missing parts all c.requires.idle c.requires.parts) (database_is_small k missing parts all c.requires.idle c.requires.parts (2 ^ 63) few) refl refl (database_is_free k missing parts all c.requires.idle c.requires.parts))

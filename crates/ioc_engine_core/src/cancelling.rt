@@ -1,0 +1,129 @@
+//! Cancels of puts with notification.
+ghost use Rattle.std.specs.Prelude.{◌≡◌, ◌⊎◌, All, IfOk, IfErr, IfNone, OnErr};
+ghost use Rattle.std.specs.Option.{IfSome};
+ghost use Rattle.ioc_values.specs.declared.error.IocError.TheVariants.{Stopped};
+ghost use Rattle.ioc_history.specs.Places.{IsNoPlace};
+ghost use Rattle.ioc_journaled_set.specs.Holding.{IsSoundlyHeld};
+ghost use Rattle.ioc_engine_core.specs.Cancelled.{WasCancelled, WasGivenUp, WasNotLive};
+
+use crate::engine::EngineCore;
+use ioc_device::Device;
+use ioc_events::Reply;
+use ioc_history::{Desk, EngineName, Receipt};
+use ioc_journaled_set::{JournaledSet, cancel_on};
+use ioc_notify::NotifyId;
+use ioc_record::RecordKind;
+use ioc_set_store::EventBuffers;
+use ioc_topology::Locked;
+use ioc_values::IocError;
+use std::alloc::Global;
+use std::sync::Wait;
+
+// States the invariant of each of these sets. Does nothing.
+pub(crate) fn all_sound<K: RecordKind + Drop, B: EngineName<K>, D: Drop>(
+    sets: &[JournaledSet<K, B, D>],
+)
+    ensures { All (IsSoundlyHeld K.rules B.base) sets.now }
+{
+    for set in sets {
+        set.is_sound();
+    }
+}
+
+impl<K: RecordKind + Drop, B: EngineName<K>, D: Device> EngineCore<K, B, D> {
+    // Refuses to cancel a put with notification that isn't live. Returns `None` if it is live;
+    // nothing is done then.
+    fn refuse_stale<R: Wait>(
+        &self,
+        rt: &R,
+        alloc: Global,
+        desk: &mut Desk<K, B>,
+        number: NotifyId,
+        moment: u64,
+    ) -> Result<Option<(Reply, Receipt<K, B>)>, IocError>
+        ensures stale { IfOk result (λ told. IfSome told (λ x. WasNotLive D K.rules B.base number desk.old moment x.0 desk.new)) }
+        ensures receipt { IfOk result (λ told. IfSome told (λ x. x.1 ≡ desk.new.seen)) }
+        ensures live { IfOk result (λ told. IfNone told (desk.new ≡ desk.old)) }
+        ensures refused { IfErr result IsNoPlace }
+        ensures err { OnErr result (desk.new ≡ desk.old) }
+    {
+        let mut puts = self.puts.lock(rt);
+        if puts.is_live(number) {
+            return Ok(None);
+        }
+        let told = puts.refuse_cancel(rt, alloc, &self.book, desk, number, moment)?;
+        Ok(Some(told))
+    }
+
+    // Cancels a put with notification in all sets on which it is live. Returns `None` if some of
+    // its records aren't in these sets; nothing is done then.
+    fn give_up<R: Wait>(
+        &self,
+        rt: &R,
+        alloc: Global,
+        desk: &mut Desk<K, B>,
+        buffers: &mut EventBuffers<K, D>,
+        number: NotifyId,
+        moment: u64,
+    ) -> Result<Option<(Reply, Receipt<K, B>)>, IocError>
+        ensures gave_up { IfOk result (λ told. IfSome told (λ x. WasGivenUp D K.rules B.base number desk.old moment x.0 desk.new)) }
+        ensures receipt { IfOk result (λ told. IfSome told (λ x. x.1 ≡ desk.new.seen)) }
+        ensures missing { IfOk result (λ told. IfNone told (desk.new ≡ desk.old)) }
+        ensures refused { IfErr result IsNoPlace }
+        ensures err { OnErr result (desk.new ≡ desk.old) }
+    {
+        let mut taken = self.sets.take_where(
+            rt,
+            alloc,
+            &|held: &JournaledSet<K, B, D>| { held.has_live(number) },
+        )?;
+        let sets = taken.sets.as_mut_slice();
+        let mut puts = self.puts.lock(rt);
+        let given = cancel_on(
+            rt, alloc, &self.book, desk, buffers, &mut puts, sets, number, moment,
+        );
+        drop(puts);
+        all_sound(sets);
+        self.sets.put_back(rt, taken);
+        given
+    }
+
+    /// Cancels the put with notification with this number, in one event of all lock sets with its
+    /// records: no record is part of it any more, it waits nowhere, and it doesn't end. For that,
+    /// the sets are taken out of their cells under the topology guard.
+    ///
+    /// # Errors
+    ///
+    /// [`IocError::Stopped`] if the engine was closed. [`IocError::JournalFull`] if the journal has
+    /// no place left. [`IocError::NoMemory`] if allocation fails. Nothing has changed then. If the
+    /// put with notification isn't live, [`IocError::Stale`] is the reply, which is added to the
+    /// journal.
+    pub fn cancel<R: Wait>(
+        &self,
+        rt: &R,
+        alloc: Global,
+        desk: &mut Desk<K, B>,
+        buffers: &mut EventBuffers<K, D>,
+        number: NotifyId,
+        moment: u64,
+    ) -> Result<(Reply, Receipt<K, B>), IocError>
+        ensures cancelled { IfOk result (λ x. WasCancelled D K.rules B.base number desk.old moment x.0 desk.new) }
+        ensures receipt { IfOk result (λ x. x.1 ≡ desk.new.seen) }
+        ensures refused { IfErr result (λ error. (error ≡ Stopped) ⊎ IsNoPlace error) }
+        ensures err { OnErr result (desk.new ≡ desk.old) }
+    {
+        if self.is_closed() {
+            return Err(IocError::Stopped);
+        }
+        let _guard = self.sets.guard_topology(rt);
+        for _ in rt.forever() {
+            if let Some(told) = self.refuse_stale(rt, alloc, desk, number, moment)? {
+                return Ok(told);
+            }
+            if let Some(told) = self.give_up(rt, alloc, desk, buffers, number, moment)? {
+                return Ok(told);
+            }
+        }
+        unreachable!()
+    }
+}

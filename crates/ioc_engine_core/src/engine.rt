@@ -1,0 +1,203 @@
+//! Calls on records by their numbers.
+ghost use Rattle.std.specs.Prelude.{◌≡◌, true, [], ◌∷◌, ◌⊎◌, IfOk, IfErr, OnErr};
+ghost use Rattle.ioc_values.specs.declared.error.IocError.TheVariants.{JournalFull, Stopped};
+ghost use Rattle.ioc_events.specs.declared.event.Event.TheVariants.{Get};
+ghost use Rattle.ioc_events.specs.Step.{names};
+ghost use Rattle.ioc_history.specs.Line.{longer, Begins};
+ghost use Rattle.ioc_set.specs.Doing.{is_ordinary};
+ghost use Rattle.ioc_set_store.specs.SetStore.{world_of};
+ghost use Rattle.ioc_history.specs.Account.{IsAccount, calls, calls_by};
+ghost use Rattle.ioc_engine_core.specs.Served.{WasTold, WasServed, CallIsRefused};
+
+use crate::sending::OnceTickets;
+use ioc_callback::OnceQueue;
+use ioc_device::Device;
+use ioc_events::{Event, Reply};
+use ioc_fields::FieldNo;
+use ioc_history::{Desk, EngineName, Receipt, SharedJournal};
+use ioc_journaled_set::{JournaledSet, SharedNotifications};
+use ioc_names::RecordNo;
+use ioc_record::RecordKind;
+use ioc_set_store::EventBuffers;
+use ioc_topology::{Directory, Locked};
+use ioc_values::IocError;
+use std::alloc::Global;
+use std::marker::Model;
+use std::sync::atomic::{AtomicBool, AtomicU64, Ordering};
+use std::sync::{Mutex, Wait};
+
+/// The records of a database in their lock sets, each set under its own lock, and the journal of
+/// all calls. Contracts see the number of records.
+#[derive(Drop)]
+pub struct EngineCore<K: RecordKind + Drop, B: EngineName<K>, D: Drop> {
+    pub(crate) sets: Directory<JournaledSet<K, B, D>>,
+    pub(crate) book: SharedJournal<K, B>,
+    // Locked while the lock of a set is held, and before the journal.
+    pub(crate) puts: Mutex<SharedNotifications<K, B>>,
+    // Locked while no other lock is held.
+    pub(crate) once: Mutex<OnceQueue<OnceTickets<K, B>>>,
+    // The number of items that events have dropped because 256 were sent already.
+    pub(crate) dropped: AtomicU64,
+    // Set once, and never cleared.
+    pub(crate) closed: AtomicBool,
+}
+
+impl<K: RecordKind + Drop, B: EngineName<K>, D: Drop> Model for EngineCore<K, B, D> {
+    ghost use Rattle.std.specs.Prelude.{ℕ};
+
+    ghost Value = { ℕ };
+
+    ghost view = { λ e. e.sets };
+}
+
+impl<K: RecordKind + Drop, B: EngineName<K>, D: Drop> EngineCore<K, B, D> {
+    /// Creates an engine with these sets, the journal of its calls, the table of its puts with
+    /// notification, and the list of its once requests.
+    pub fn new(
+        sets: Directory<JournaledSet<K, B, D>>,
+        book: SharedJournal<K, B>,
+        puts: SharedNotifications<K, B>,
+        once: OnceQueue<OnceTickets<K, B>>,
+    ) -> Self
+        ensures { result ≡ sets }
+    {
+        EngineCore {
+            sets,
+            book,
+            puts: Mutex::new(puts),
+            once: Mutex::new(once),
+            dropped: AtomicU64::new(0),
+            closed: AtomicBool::new(false),
+        }
+    }
+
+    /// Closes the engine: no call begins from then on. A call that has begun is finished.
+    pub fn close(&self) {
+        self.closed.store(true, Ordering::SeqCst);
+    }
+
+    /// Returns whether the engine was closed.
+    pub fn is_closed(&self) -> bool {
+        self.closed.load(Ordering::SeqCst)
+    }
+
+    /// Opens a desk, by which a caller makes its calls. It has made none yet.
+    ///
+    /// # Errors
+    ///
+    /// [`IocError::Stopped`] if the engine was closed. [`IocError::JournalFull`] if no number is
+    /// left for a desk.
+    pub fn open_desk<R: Wait>(&self, rt: &R) -> Result<Desk<K, B>, IocError>
+        ensures new { IfOk result (λ d. (d.next ≡ 0) × (calls_by d.number (calls d.seen) ≡ [])) }
+        ensures refused { IfErr result (λ error. (error ≡ Stopped) ⊎ (error ≡ JournalFull)) }
+    {
+        if self.is_closed() {
+            return Err(IocError::Stopped);
+        }
+        self.book.open_desk(rt)
+    }
+
+    /// Moves a desk on to the list of a receipt, if that is longer than the list that the desk has
+    /// seen.
+    pub fn learn<R: Wait>(&self, rt: &R, desk: &mut Desk<K, B>, receipt: &mut Receipt<K, B>)
+        ensures desk { (desk.new.number ≡ desk.old.number) × (desk.new.next ≡ desk.old.next) }
+        ensures learnt { desk.new.seen ≡ longer desk.old.seen receipt.old }
+        ensures own { Begins desk.old.seen desk.new.seen }
+        ensures told { Begins receipt.old desk.new.seen }
+        ensures calls { calls_by desk.new.number (calls desk.new.seen) ≡ calls_by desk.old.number (calls desk.old.seen) }
+        ensures legal { IsAccount K.rules B.base desk.new.seen }
+        ensures receipt { receipt.new ≡ receipt.old }
+    {
+        desk.learn(rt, self.book.cell(), receipt);
+    }
+}
+
+impl<K: RecordKind + Drop, B: EngineName<K>, D: Device> EngineCore<K, B, D> {
+    /// Performs a request, a put or a completion on the set of its record, and then takes what the
+    /// event has sent. Inlined, as are its callees up to the journal, so that each call knows its
+    /// kind of event and the entry is built in its place.
+    ///
+    /// # Errors
+    ///
+    /// [`IocError::Stopped`] if the engine was closed. [`IocError::NoRecord`] if there is no record
+    /// with this number. [`IocError::NoField`] if the record has no such field. [`IocError::NoMod`]
+    /// if the field can't be put. [`IocError::JournalFull`] if the journal has no place left.
+    /// [`IocError::NoMemory`] if allocation fails. Nothing has changed then. Any other refusal is a
+    /// reply, which is added to the journal.
+    #[inline(always)]
+    pub fn serve<R: Wait>(
+        &self,
+        rt: &R,
+        alloc: Global,
+        desk: &mut Desk<K, B>,
+        buffers: &mut EventBuffers<K, D>,
+        number: RecordNo,
+        event: &Event,
+        moment: u64,
+    ) -> Result<(Reply, Receipt<K, B>), IocError>
+        requires ordinary { is_ordinary event.now ≡ true }
+        requires names { names event.now ≡ number ∷ [] }
+        ensures served { IfOk result (λ x. WasServed D K.rules B.base D.gives number desk.old moment event.now x.0 desk.new
+            (world_of buffers.new.store)) }
+        ensures receipt { IfOk result (λ x. x.1 ≡ desk.new.seen) }
+        ensures refused { IfErr result (CallIsRefused D K.rules B.base self.now number event.now) }
+        ensures err { OnErr result (desk.new ≡ desk.old) }
+    {
+        if self.is_closed() {
+            return Err(IocError::Stopped);
+        }
+        for _ in rt.forever() {
+            let cell = self.sets.lock_of(rt, number)?;
+            let mut held = cell.lock(rt);
+            if held.has(number) {
+                held.is_sound();
+                let (reply, receipt) = held.serve(
+                    rt, alloc, &self.book, &self.puts, desk, buffers, event, moment,
+                )?;
+                held.is_sound();
+                drop(held);
+                self.do_sent(rt, buffers);
+                return Ok((reply, receipt));
+            }
+        }
+        unreachable!()
+    }
+
+    /// Returns the text of a field.
+    ///
+    /// # Errors
+    ///
+    /// [`IocError::Stopped`] if the engine was closed. [`IocError::NoRecord`] if there is no record
+    /// with this number. [`IocError::NoField`] if the record has no such field.
+    /// [`IocError::JournalFull`] if the journal has no place left. [`IocError::NoMemory`] if
+    /// allocation fails. Nothing has changed then.
+    pub fn get<R: Wait>(
+        &self,
+        rt: &R,
+        alloc: Global,
+        desk: &mut Desk<K, B>,
+        number: RecordNo,
+        field: FieldNo,
+        moment: u64,
+    ) -> Result<(Reply, Receipt<K, B>), IocError>
+        ensures told { IfOk result (λ x. WasTold D K.rules B.base number desk.old moment (Get number field) x.0 desk.new) }
+        ensures receipt { IfOk result (λ x. x.1 ≡ desk.new.seen) }
+        ensures refused { IfErr result (CallIsRefused D K.rules B.base self.now number (Get number field)) }
+        ensures err { OnErr result (desk.new ≡ desk.old) }
+    {
+        if self.is_closed() {
+            return Err(IocError::Stopped);
+        }
+        for _ in rt.forever() {
+            let cell = self.sets.lock_of(rt, number)?;
+            let mut held = cell.lock(rt);
+            if held.has(number) {
+                held.is_sound();
+                let told = held.get(rt, alloc, &self.book, desk, number, field, moment);
+                held.is_sound();
+                return told;
+            }
+        }
+        unreachable!()
+    }
+}

@@ -1,0 +1,128 @@
+//! The journaled sets of a loaded database.
+ghost use Rattle.std.specs.Prelude.{◌≡◌, ◌+◌, ◌++◌, [], length, IfOk, OnOk};
+ghost use Rattle.std.specs.FinMap as map;
+ghost use Rattle.ioc_ledger.specs.Requests.{no_counts};
+ghost use Rattle.crossbeam_utils.specs.Seq.{cell_view};
+ghost use Rattle.ioc_history.specs.Key.{Key, Has, record_keys};
+ghost use Rattle.ioc_history.specs.Line.{keeper};
+ghost use Rattle.ioc_history.specs.Covering.{Holds};
+ghost use Rattle.ioc_set_records.specs.Joined.{links_of, IsPart};
+ghost use Rattle.ioc_set_store.specs.Resting.{resting};
+ghost use Rattle.ioc_set.specs.Linking.{anew, AreCalm, NoneAwaits};
+ghost use Rattle.ioc_history.specs.Account.{AreRecords};
+ghost use Rattle.ioc_journaled_set.specs.Holding.{KeepsDevices, held_view};
+ghost use Rattle.ioc_engine_core.specs.Loading.{IsSetOf, AreSetsFrom, AreOfPartsBelow};
+
+use ioc_history::{Cell, EngineName, KeyPass, Keys, pass};
+use ioc_journaled_set::JournaledSet;
+use ioc_record::RecordKind;
+use ioc_set::LockSet;
+use ioc_set_records::Members;
+use ioc_topology::{Directory, Locked};
+use std::alloc::{AllocError, Global};
+use std::marker::Brand;
+use std::mem;
+
+// A journaled set of these members, with a pass that owns the keys of `P`.
+fn hold_as<P: Keys, K: RecordKind, B: EngineName<K>, D>(
+    alloc: Global,
+    cell: &Cell,
+    master: &mut KeyPass,
+    members: Members<K, D>,
+) -> JournaledSet<K, B, D>
+    requires table { (cell.now.table.shared.table_id ≡ B.table) × (master.old.table_id ≡ B.table) }
+    requires master { cell_view master.old ≡ keeper [] (cell_view master.old).born }
+    requires keys { P.keys ≡ record_keys (map.keys members.records) }
+    requires fresh { (key : Key) → Has key (record_keys (map.keys members.records)) → Has key (cell_view master.old).born → ⊥ }
+    requires base { members.base ≡ members.records }
+    requires part { IsPart (links_of K.rules members.records) }
+    requires calm { AreCalm K.rules members.records }
+    requires idle { NoneAwaits K.rules members.records }
+    requires holds { Holds K.rules B.base (resting members.records [] []) }
+    requires devices { KeepsDevices B.had_device (anew members.records members.devices [] [] no_counts) }
+    ensures table { master.new.table_id ≡ B.table }
+    ensures master { cell_view master.new ≡ keeper [] (record_keys (map.keys members.records) ++ (cell_view master.old).born) }
+    ensures held { result ≡ held_view (anew members.records members.devices [] [] no_counts) [] }
+{
+    let pass = pass::claim::<P>(cell, master);
+    let set = LockSet::of(alloc, members);
+    JournaledSet::new(set, pass)
+}
+
+/// A journaled set of these members, with a pass that owns the keys of their records and has seen
+/// no call.
+pub fn hold<K: RecordKind, B: EngineName<K>, D>(
+    alloc: Global,
+    cell: &Cell,
+    master: &mut KeyPass,
+    members: Members<K, D>,
+) -> JournaledSet<K, B, D>
+    requires table { (cell.now.table.shared.table_id ≡ B.table) × (master.old.table_id ≡ B.table) }
+    requires master { cell_view master.old ≡ keeper [] (cell_view master.old).born }
+    requires fresh { (key : Key) → Has key (record_keys (map.keys members.records)) → Has key (cell_view master.old).born → ⊥ }
+    requires base { members.base ≡ members.records }
+    requires part { IsPart (links_of K.rules members.records) }
+    requires calm { AreCalm K.rules members.records }
+    requires idle { NoneAwaits K.rules members.records }
+    requires holds { Holds K.rules B.base (resting members.records [] []) }
+    requires devices { KeepsDevices B.had_device (anew members.records members.devices [] [] no_counts) }
+    ensures table { master.new.table_id ≡ B.table }
+    ensures master { cell_view master.new ≡ keeper [] (record_keys (map.keys members.records) ++ (cell_view master.old).born) }
+    ensures held { result ≡ held_view (anew members.records members.devices [] [] no_counts) [] }
+{
+    hold_as::<Brand, K, B, D>(alloc, cell, master, members)
+}
+
+// A journaled set of the records of one part, with a pass that owns the keys of these records and
+// has seen no call.
+fn hold_part<K: RecordKind, B: EngineName<K>, D>(
+    alloc: Global,
+    cell: &Cell,
+    master: &mut KeyPass,
+    members: Members<K, D>,
+    parts: &[usize],
+    part: usize,
+) -> JournaledSet<K, B, D>
+    requires table { (cell.now.table.shared.table_id ≡ B.table) × (master.old.table_id ≡ B.table) }
+    requires master { cell_view master.old ≡ keeper [] (cell_view master.old).born }
+    requires part { IsSetOf K.rules B.base B.had_device parts.now part members }
+    requires born { AreOfPartsBelow parts.now part (cell_view master.old).born }
+    ensures table { master.new.table_id ≡ B.table }
+    ensures master { cell_view master.new ≡ keeper [] (cell_view master.new).born }
+    ensures born { AreOfPartsBelow parts.now (part + 1) (cell_view master.new).born }
+    ensures held { result ≡ held_view (anew members.records members.devices [] [] no_counts) [] }
+{
+    hold(alloc, cell, master, members)
+}
+
+/// Moves the sets of all parts into a directory for these records. A part without records has no
+/// set. `sets` is left without records.
+///
+/// # Errors
+///
+/// [`AllocError`] if allocation fails.
+pub fn hold_all<K: RecordKind + Drop, B: EngineName<K>, D: Drop>(
+    alloc: Global,
+    cell: &Cell,
+    master: &mut KeyPass,
+    sets: &mut [Members<K, D>],
+    parts: &[usize],
+) -> Result<Directory<JournaledSet<K, B, D>>, AllocError>
+    requires table { (cell.now.table.shared.table_id ≡ B.table) × (master.old.table_id ≡ B.table) }
+    requires master { cell_view master.old ≡ keeper [] [] }
+    requires parts { AreSetsFrom K.rules B.base B.had_device parts.now 0 sets.old }
+    ensures count { IfOk result (λ d. d ≡ length parts.now) }
+    ensures table { OnOk result (master.new.table_id ≡ B.table) }
+    ensures master { OnOk result (cell_view master.new ≡ keeper [] (cell_view master.new).born) }
+    ensures born { OnOk result (AreRecords (cell_view master.new).born) }
+{
+    let mut directory = Directory::new(alloc, parts.len())?;
+    for part in 0..sets.len() {
+        let members = mem::replace(&mut sets[part], Members::new(alloc));
+        let held = hold_part::<K, B, D>(alloc, cell, master, members, parts, part);
+        if held.len() != 0 {
+            directory.add(alloc, held)?;
+        }
+    }
+    Ok(directory)
+}

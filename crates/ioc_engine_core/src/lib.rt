@@ -1,0 +1,34 @@
+//! The core of the engine for several threads: lock sets in a directory, and one journal of all
+//! calls. Records go by their numbers; `ioc_engine` has their names.
+//!
+//! A call takes the lock of its record's set, works on that set, and is added to the journal before
+//! the lock is released. So the calls of all desks are in one list, which is a possible run of an
+//! engine with all records in one map.
+//!
+//! At the start, records that are connected by links come into one set. The pass of each set gets
+//! the keys of its records, and knows that they are as in the world at the load. Application
+//! Developer's Guide, "Database Locking, Scanning, and Processing", lock sets; "iocInit".
+#![tactic(auto)]
+
+mod cancelling;
+pub mod ended_journal;
+pub mod engine;
+pub mod holding;
+mod link_changes;
+pub mod loading;
+mod notifications;
+mod once_requests;
+pub mod opening;
+mod parts;
+pub mod report;
+pub mod sending;
+pub mod starting;
+
+pub use ended_journal::EndedJournal;
+pub use engine::EngineCore;
+pub use ioc_journaled_set::{JournaledSet, SharedNotifications};
+pub use loading::with_copies;
+pub use opening::new_cell;
+pub use report::{OnceTally, Report};
+pub use sending::OnceTickets;
+pub use starting::{StartError, start};

@@ -1,0 +1,149 @@
+//! Link changes of the engine.
+ghost use Rattle.std.specs.Prelude.{◌≡◌, IfOk, IfErr, OnOk, OnErr};
+ghost use Rattle.ioc_set_store.specs.SetStore.{world_of};
+ghost use Rattle.ioc_topology.specs.Change.{AreKnown, AreLent};
+ghost use Rattle.ioc_journaled_set.specs.Holding.{numbers_of};
+ghost use Rattle.ioc_engine_core.specs.Linked.{other_of, WasLinked, LinkWasRefused};
+
+use crate::engine::EngineCore;
+use ioc_dbcommon::LinkBox;
+use ioc_device::Device;
+use ioc_fields::FieldNo;
+use ioc_history::{Desk, EngineName};
+use ioc_journaled_set::{Changed, JournaledSet, change_link};
+use ioc_names::RecordNo;
+use ioc_record::RecordKind;
+use ioc_set_store::EventBuffers;
+use ioc_topology::{NewCells, all_sound, are_lent};
+use ioc_values::IocError;
+use std::alloc::Global;
+use std::sync::Wait;
+
+impl<K: RecordKind + Drop, B: EngineName<K>, D: Device> EngineCore<K, B, D> {
+    // Changes a link of a record of the first of these sets.
+    fn change_lent<R: Wait>(
+        &self,
+        rt: &R,
+        alloc: Global,
+        desk: &mut Desk<K, B>,
+        buffers: &mut EventBuffers<K, D>,
+        first: &mut JournaledSet<K, B, D>,
+        second: &mut JournaledSet<K, B, D>,
+        spare: &mut JournaledSet<K, B, D>,
+        number: RecordNo,
+        field: FieldNo,
+        link: LinkBox,
+        base_link: LinkBox,
+        moment: u64,
+    ) -> Result<Changed<K, B>, IocError>
+        requires base_link { base_link ≡ link }
+        requires lent { AreLent numbers_of number (other_of link) first.old second.old spare.old }
+        ensures changed { IfOk result (λ c. WasLinked D K.rules B.base number field link desk.old moment c.reply c.moved desk.new
+            (world_of buffers.new.store)) }
+        ensures receipt { IfOk result (λ c. c.receipt ≡ desk.new.seen) }
+        ensures refused { IfErr result (LinkWasRefused D K.rules B.base self.now number field link) }
+        ensures err { OnErr result (desk.new ≡ desk.old) }
+    {
+        all_sound(first, second, spare);
+        let changed = change_link(
+            rt, alloc, &self.book, desk, buffers, first, second, spare, number, field, link,
+            base_link, moment,
+        );
+        all_sound(first, second, spare);
+        changed
+    }
+
+    /// Changes a link of a record, under the topology guard and the locks of the sets that it
+    /// concerns. The set of the record may part in two, or its part joins the set of the record
+    /// that the link leads to. Each record is found in its set afterwards. `link` and `base_link`
+    /// are equal.
+    ///
+    /// # Errors
+    ///
+    /// [`IocError::Stopped`] if the engine was closed. [`IocError::NoRecord`] if there is no record
+    /// with one of the two numbers. [`IocError::NoField`] if the field is no link of the record.
+    /// [`IocError::JournalFull`] if the journal has no place left. [`IocError::NoMemory`] if
+    /// allocation fails. Nothing is added to the journal then. If DISP forbids the change, the
+    /// refusal is a reply, which is added to the journal.
+    pub fn set_link<R: Wait>(
+        &self,
+        rt: &R,
+        alloc: Global,
+        desk: &mut Desk<K, B>,
+        buffers: &mut EventBuffers<K, D>,
+        number: RecordNo,
+        field: FieldNo,
+        link: LinkBox,
+        base_link: LinkBox,
+        moment: u64,
+    ) -> Result<Changed<K, B>, IocError>
+        requires base_link { base_link ≡ link }
+        ensures changed { IfOk result (λ c. WasLinked D K.rules B.base number field link desk.old moment c.reply c.moved desk.new
+            (world_of buffers.new.store)) }
+        ensures receipt { IfOk result (λ c. c.receipt ≡ desk.new.seen) }
+        ensures known { OnOk result (AreKnown self.now number (other_of link)) }
+        ensures refused { IfErr result (LinkWasRefused D K.rules B.base self.now number field link) }
+        ensures err { OnErr result (desk.new ≡ desk.old) }
+    {
+        if self.is_closed() {
+            return Err(IocError::Stopped);
+        }
+        let _guard = self.sets.guard_topology(rt);
+        let new = self.sets.new_cells(rt, alloc)?;
+        let changed = self.relink(
+            rt, alloc, desk, buffers, &new, number, field, link, base_link, moment,
+        )?;
+        self.do_sent(rt, buffers);
+        Ok(changed)
+    }
+
+    // Finds and locks the sets of a link change, and changes the link. The caller holds the
+    // topology guard.
+    fn relink<R: Wait>(
+        &self,
+        rt: &R,
+        alloc: Global,
+        desk: &mut Desk<K, B>,
+        buffers: &mut EventBuffers<K, D>,
+        new: &NewCells<JournaledSet<K, B, D>>,
+        number: RecordNo,
+        field: FieldNo,
+        link: LinkBox,
+        base_link: LinkBox,
+        moment: u64,
+    ) -> Result<Changed<K, B>, IocError>
+        requires base_link { base_link ≡ link }
+        ensures changed { IfOk result (λ c. WasLinked D K.rules B.base number field link desk.old moment c.reply c.moved desk.new
+            (world_of buffers.new.store)) }
+        ensures receipt { IfOk result (λ c. c.receipt ≡ desk.new.seen) }
+        ensures known { OnOk result (AreKnown self.now number (other_of link)) }
+        ensures refused { IfErr result (LinkWasRefused D K.rules B.base self.now number field link) }
+        ensures err { OnErr result (desk.new ≡ desk.old) }
+    {
+        let other = link.record_named();
+        for _ in rt.forever() {
+            let both = match self.sets.link_cells(rt, new, number, &other) {
+                Ok(Some(both)) => both,
+                Ok(None) => continue,
+                Err(refused) => {
+                    self.sets.leave_new(rt, new);
+                    return Err(refused);
+                }
+            };
+            let (mut first_guard, mut second_guard) = both.lock(rt);
+            let mut spare_guard = new.lock_spare(rt);
+            let first = &mut *first_guard;
+            let second = &mut *second_guard;
+            let spare = &mut *spare_guard;
+            if are_lent(first, second, spare, number, &other) {
+                let changed = self.change_lent(
+                    rt, alloc, desk, buffers, first, second, spare, number, field, link, base_link,
+                    moment,
+                );
+                self.sets.settle_all(rt, &both, new, first, second, spare);
+                return changed;
+            }
+        }
+        unreachable!()
+    }
+}

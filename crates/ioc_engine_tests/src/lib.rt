@@ -1,0 +1,15 @@
+//! Tests of the engine, from a database text to its end.
+#![tactic(auto)]
+
+#[cfg(test)]
+mod calling;
+#[cfg(test)]
+mod eight;
+#[cfg(test)]
+mod running;
+#[cfg(test)]
+mod sensor;
+#[cfg(test)]
+mod sessions;
+#[cfg(test)]
+mod steps;
