@@ -2,6 +2,7 @@
 ghost use Rattle.std.specs.Prelude.{◌≡◌, ℕ, IsSome};
 ghost use Rattle.ioc_events.specs.declared.event.Event.TheVariants.{Get};
 ghost use Rattle.ioc_events.specs.Step.{stepped};
+ghost use Rattle.ioc_notify.specs.Waits.{at_record};
 ghost use Rattle.ioc_set.specs.SetState.{now_of};
 ghost use Rattle.ioc_store.specs.Given.{Answers};
 ghost use Rattle.std.specs.FinMap.{get};
@@ -40,12 +41,14 @@ impl<K: RecordKind, B: EngineName<K>, D> JournaledSet<K, B, D> {
     }
 
     /// Moves the set on to the whole list of the journal. At the set's numbers, the list leads to
-    /// the records of this set.
+    /// the records of this set, each with its waiting list.
     pub fn learn_all<R: Wait>(&mut self, rt: &R, cell: &Cell, journal: &mut Journal<K, B>)
         requires table { cell.now.table.shared.table_id ≡ B.table }
         ensures set { self.new.set ≡ self.old.set }
         ensures told { (n : ℕ) → IsSome (get self.new.set.records n)
             → get (map_of K.rules B.base journal.old.filled).records n ≡ get self.new.set.records n }
+        ensures waiting { (n : ℕ) → IsSome (get self.new.set.records n)
+            → at_record n (map_of K.rules B.base journal.old.filled).waiting ≡ at_record n (now_of self.new.set).waiting }
         ensures journal { journal.new ≡ journal.old }
     {
         holding_lasts::<K>();

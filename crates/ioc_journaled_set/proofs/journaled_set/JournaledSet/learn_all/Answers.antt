@@ -37,3 +37,14 @@ returns-clause-told g c =
     let e = c.tell_all.ensures in
     let holds = holds_known k c.holding_lasts.ensures base (now_of set) (cell_view c.in-Some.pass) (holder c.args.journal.now.filled (cell_view c.in-Some.pass).owns) c.args.journal.now.filled held.owner.covers held.holds e.goes_on e.legal.1 refl in
     λ n some. holds.records n some
+
+pub returns-clause-waiting : goal.returns-clause-waiting
+returns-clause-waiting g c =
+    let k = g.K.RecordKind.rules in
+    let base = g.B.EngineName.base in
+    let set = c.self.inside.set in
+    let is : c.self.inside.pass ≡ Some c.in-Some.pass = sym c.take.ensures.value ∙ c.in-Some.is in
+    let held = subst (λ (o : Option Pass). IsHeld k base g.B.EngineName.had_device g.B.CellName.table o set) is c.self.invariant in
+    let e = c.tell_all.ensures in
+    let holds = holds_known k c.holding_lasts.ensures base (now_of set) (cell_view c.in-Some.pass) (holder c.args.journal.now.filled (cell_view c.in-Some.pass).owns) c.args.journal.now.filled held.owner.covers held.holds e.goes_on e.legal.1 refl in
+    λ n some. holds.waiting n some
