@@ -1,6 +1,6 @@
 -- Sets under their locks, and the calls on them. Application Developer's Guide, "Database Locking,
 -- Scanning, and Processing". The journal is this project's own.
-use Rattle.std.specs.Prelude.{◌≡◌, ◌⊎◌, ℕ, Bool, List, [], Option, Some, None, MatchOption, unwrap_or, is_some}
+use Rattle.std.specs.Prelude.{◌≡◌, ◌⊎◌, ℕ, Bool, List, [], ◌∷◌, ◌++◌, Option, Some, None, MatchOption, unwrap_or, is_some}
 use Rattle.std.specs.Option.{option_map}
 use Rattle.std.specs.FinMap.{get, keys}
 use Rattle.atomic_table.specs.Seated.{TableId}
@@ -10,7 +10,10 @@ use Rattle.ioc_device.specs.declared.Answer.{Answer}
 use Rattle.ioc_record.specs.RecordRules.{RecordRules}
 use Rattle.ioc_store.specs.World.{World, Has}
 use Rattle.ioc_store.specs.Given.{Answers}
+use Rattle.ioc_fields.specs.declared.field_no.FieldNo.{FieldNo}
+use Rattle.ioc_values.specs.declared.input.Input.{Input}
 use Rattle.ioc_events.specs.declared.event.Event.{Event}
+use Rattle.ioc_events.specs.declared.event.Event.TheVariants.{Notify}
 use Rattle.ioc_events.specs.declared.reply.Reply.{Reply}
 use Rattle.ioc_events.specs.Step.{stepped}
 use Rattle.ioc_history.specs.declared.entry.Note.{Note}
@@ -24,6 +27,7 @@ use Rattle.ioc_set.specs.SetState.{SetState, now_of}
 use Rattle.ioc_set.specs.Sound.{IsSound}
 use Rattle.ioc_set.specs.NoCalls.{no_call}
 use Rattle.ioc_set.specs.Doing.{Does}
+use Rattle.ioc_journaled_set.specs.Puts.{PutsView, CanBegin, IsUpToDate}
 
 -- A set, and the beginning of the journal's list that its pass has seen.
 pub record HeldView (R D : Type 0) : Type 0 where
@@ -96,3 +100,14 @@ module _ {R D : Type 0} (k : RecordRules R) (gives : D → Ask → ℕ → Answe
     pub does : Does k gives held.set at_moment done reply held_then.set come_to
     pub call : Call k base desk does.entry desk_then
     pub seen : held_then.seen ≡ desk_then.seen
+
+  -- A put with notification of a desk begins on a set, under the number after the last one. `puts`
+  -- is the table of all sets after all calls before this one: fewer than 256 are live in it, and
+  -- none has this number.
+  pub record Begins (held : HeldView R D) (desk : DeskView) (at_moment target : ℕ) (field : FieldNo) (given : Input) (reply : Reply) (held_then : HeldView R D) (desk_then : DeskView) (come_to : World R) : Type 0 where
+    pub number : ℕ
+    pub puts : PutsView
+    pub can : CanBegin puts number
+    pub up_to_date : IsUpToDate k base puts
+    pub before : (n : Note) × (desk_then.seen ≡ puts.seen ++ n ∷ [])
+    pub serves : Serves held desk at_moment (Notify target number field given) reply held_then desk_then come_to

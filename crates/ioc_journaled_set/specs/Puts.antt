@@ -8,7 +8,7 @@ use Rattle.ioc_notify.specs.declared.live_numbers.Live.{Live}
 use Rattle.ioc_notify.specs.Living.{holders_of, is_live}
 use Rattle.ioc_record.specs.RecordRules.{RecordRules}
 use Rattle.ioc_store.specs.World.{World}
-use Rattle.ioc_notify.specs.Counts.{Table, holders_in}
+use Rattle.ioc_notify.specs.Counts.{Table, IsTable, holders_in}
 use Rattle.ioc_values.specs.declared.error.IocError.TheVariants.{Stale}
 use Rattle.ioc_events.specs.declared.event.Event.{Event}
 use Rattle.ioc_events.specs.declared.event.Event.TheVariants.{Cancel, IsLive}
@@ -51,6 +51,20 @@ module _ {R : Type 0} (k : RecordRules R) (base : World R) where
   -- Holds if the counts of the lines are those of the world of all records after these notes.
   abbrev pub AreCounted : List Live → List Note → Type 0
   AreCounted live seen = (n : ℕ) → holders_in n live ≡ holders_of n (map_of k base seen).live
+
+  -- What is true of the table whenever its lock is free: its lines are the live puts with
+  -- notification of the world of all records, each with its count there, and none began under a
+  -- number above the last.
+  pub record IsUpToDate (p : PutsView) : Type 0 where
+    pub table : IsTable p.live
+    pub counted : AreCounted p.live p.seen
+    pub below : NoneIsAbove p.last p.seen
+
+  -- Holds if no put with notification may begin by what such a table has.
+  pub record NoneMayBegin : Type 0 where
+    pub puts : PutsView
+    pub up_to_date : IsUpToDate puts
+    pub none : NoneCanBegin puts
 
   -- The invariant of the table: the pass owns the key of the puts with notification, the table has
   -- the counts of all, none began under a number above the last, and there is room for the lines of

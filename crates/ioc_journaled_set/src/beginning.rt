@@ -1,13 +1,13 @@
 //! Puts with notification on journaled sets.
-ghost use Rattle.std.specs.Prelude.{◌≡◌, ◌⊎◌, ℕ, None, IfOk, IfErr, OnOk, OnErr, Contains};
+ghost use Rattle.std.specs.Prelude.{◌≡◌, ◌⊎◌, None, IfOk, IfErr, OnOk, OnErr, Contains};
 ghost use Rattle.ioc_values.specs.declared.error.IocError.TheVariants.{QueueFull};
 ghost use Rattle.ioc_events.specs.declared.event.Event.TheVariants.{Put, Notify};
 ghost use Rattle.ioc_history.specs.Places.{IsNoPlace};
 ghost use Rattle.ioc_set_store.specs.SetStore.{world_of};
 ghost use Rattle.ioc_set.specs.SetState.{now_of};
 ghost use Rattle.ioc_set.specs.NoCalls.{no_call};
-ghost use Rattle.ioc_journaled_set.specs.Holding.{numbers_of, Serves, IsNoCall};
-ghost use Rattle.ioc_journaled_set.specs.Puts.{CanBegin};
+ghost use Rattle.ioc_journaled_set.specs.Holding.{numbers_of, Begins, IsNoCall};
+ghost use Rattle.ioc_journaled_set.specs.Puts.{CanBegin, NoneMayBegin};
 
 use crate::journaled_set::JournaledSet;
 use crate::running::{Ran, run_counted};
@@ -49,8 +49,8 @@ impl<K: RecordKind + Drop, B: EngineName<K>, D: Device> JournaledSet<K, B, D> {
         requires there { Contains (numbers_of self.old) target }
         requires is_call { no_call K.rules (now_of self.old.set) (Notify target notification field given) ≡ None }
         requires can { CanBegin all.old notification }
-        ensures serves { IfOk result (λ x. Serves K.rules D.gives B.base self.old desk.old moment
-            (Notify target notification field given) x.0 self.new desk.new (world_of buffers.new.store)) }
+        ensures begins { IfOk result (λ x. Begins K.rules D.gives B.base self.old desk.old moment target field given x.0 self.new
+            desk.new (world_of buffers.new.store)) }
         ensures receipt { IfOk result (λ x. x.1 ≡ desk.new.seen) }
         ensures last { OnOk result (all.new.last ≡ notification) }
         ensures refused { IfErr result IsNoPlace }
@@ -124,17 +124,18 @@ impl<K: RecordKind + Drop, B: EngineName<K>, D: Device> JournaledSet<K, B, D> {
         moment: u64,
     ) -> Result<(Reply, Receipt<K, B>), IocError>
         requires there { Contains (numbers_of self.old) target }
-        ensures serves { IfOk result (λ x. (n : ℕ)
-            × Serves K.rules D.gives B.base self.old desk.old moment (Notify target n field given) x.0 self.new desk.new
-            (world_of buffers.new.store)) }
+        ensures begins { IfOk result (λ x. Begins K.rules D.gives B.base self.old desk.old moment target field given x.0 self.new
+            desk.new (world_of buffers.new.store)) }
         ensures receipt { IfOk result (λ x. x.1 ≡ desk.new.seen) }
-        ensures refused { IfErr result (λ error. (error ≡ QueueFull) ⊎ IsNoCall K.rules self.old.set (Put target field given) error) }
+        ensures refused { IfErr result (λ error. ((error ≡ QueueFull) × NoneMayBegin K.rules B.base)
+            ⊎ IsNoCall K.rules self.old.set (Put target field given) error) }
         ensures err { OnErr result ((self.new ≡ self.old) × (desk.new ≡ desk.old)) }
     {
         let value = &given;
         self.test_call(&Event::Put(target, field, *value))?;
         let mut guard = puts.lock(rt);
         let all = &mut *guard;
+        all.is_counted();
         let Some(number) = all.next_number() else {
             return Err(IocError::QueueFull);
         };

@@ -1,4 +1,4 @@
-use Rattle.std.proofs.Common.{◌≡◌, ◌≤◌, ℕ, List, Option, Some, None, refl, sym, ap, ◌∙◌, subst, inl, arith}
+use Rattle.std.proofs.Common.{◌≡◌, ◌≤◌, ℕ, List, ◌++◌, Option, Some, None, refl, sym, ap, ◌∙◌, subst, inl, arith}
 use Rattle.std.specs.Option.{IfSome}
 use Rattle.std.specs.Prelude.{Contains}
 use Rattle.crossbeam_utils.specs.Seq.{cell_view}
@@ -11,18 +11,21 @@ use Rattle.ioc_history.specs.Covering.{Holds}
 use Rattle.ioc_history.specs.Legal.{map_of}
 use Rattle.ioc_history.specs.declared.cell.View.{View}
 use Rattle.ioc_history.specs.Account.{Call, Pass, MayBegin, number_given, numbers_given, calls, puts_key}
+use Rattle.ioc_history.specs.Account.{journalled}
+use Rattle.ioc_history.specs.Line.{noted}
 use Rattle.ioc_history.proofs.Numbers.{next_above}
 use Rattle.ioc_set.specs.SetState.{now_of}
 use Rattle.ioc_set.specs.NoCalls.{no_call}
 use Rattle.ioc_set_store.specs.SetStore.{world_of}
 use Rattle.ioc_journaled_set.specs.Holding.{HeldView, held_view, numbers_of, IsHeld, Serves}
-use Rattle.ioc_journaled_set.specs.Puts.{AreMoved}
+use Rattle.ioc_journaled_set.specs.Puts.{puts_view, AreMoved}
 use Rattle.ioc_journaled_set.proofs.Keys.{key_there}
 use Rattle.ioc_journaled_set.proofs.Devices.{worked_there, keeps_on}
 use Rattle.ioc_journaled_set.proofs.Serving.{one_there, owner_on, entry_is, only}
 use Rattle.ioc_journaled_set.proofs.Places.{place_alike}
 use Rattle.ioc_events.specs.declared.event.Event.TheVariants.{Notify}
 use Rattle.ioc_journaled_set.proofs.Beside.{both_follow, held_beside, moved_beside}
+use Rattle.ioc_journaled_set.proofs.Counted.{up_to_date_on}
 use Rattle.ioc_journaled_set.proofs.journaled_set.JournaledSet.begin_counted.Goals as goal
 
 pub unreachable-requires : goal.unreachable-requires
@@ -111,8 +114,8 @@ invariant_of-self-2 g c =
           c.is_counted.ensures.table c.is_counted.ensures.counted sound go legal h c.is_sound.ensures.counted c.requires.can.few c.requires.can.free) _ entry added.0 _ added.1);
     }
 
-pub returns-clause-serves : goal.returns-clause-serves
-returns-clause-serves g c =
+pub returns-clause-begins : goal.returns-clause-begins
+returns-clause-begins g c =
     let k = g.K.RecordKind.rules in
     let base = g.B.EngineName.base in
     let event = Notify c.args.target c.args.notification c.args.field c.args.given in
@@ -125,6 +128,17 @@ returns-clause-serves g c =
     let entry = entry_is k g.D.Device.gives c.self.inside.set c.run_counted.new.set c.args.moment event c.in_ok-ran.ran.reply come_to does there (answers_of come_to.calls) refl ∙ sym c.in_ok-ran.ensures.entry in
     let also = c.args.all.now.seen in
     let pass = c.keep_beside-receipt.ensures.pass in
-    subst (λ (v : HeldView g.row.K.Denot g.row.D.Denot). Serves k g.D.Device.gives base v c.args.desk.now c.args.moment event c.in_ok-ran.ran.reply
-    (held_view c.run_counted.new.set (cell_view c.keep_beside-receipt.new.pass).seen) c.keep_beside-receipt.new.desk come_to) c.self.view_is
-    (record { is_call = subst (λ (v : HeldView g.row.K.Denot g.row.D.Denot). no_call k (now_of v.set) event ≡ None) (sym c.self.view_is) c.requires.is_call; does = does; call = subst (λ (x : Entry). Call k base c.args.desk.now x c.keep_beside-receipt.new.desk) (sym entry) c.keep_beside-receipt.ensures.call; seen = ap (λ (v : View). v.seen) pass.1 })
+    let log = c.keep_beside-receipt.ensures.added.0 in
+    let added = c.keep_beside-receipt.ensures.added.1 in
+    let note = noted (journalled added.desk added.call c.in_ok-ran.ran.entry) (((cell_view c.in-Some.pass).owns ++ puts_key) ++ added.own) in
+    record {
+      number = c.args.notification;
+      puts = puts_view c.args.all.now.live c.args.all.now.last log;
+      can = record { after = c.requires.can.after; few = c.requires.can.few; free = c.requires.can.free };
+      up_to_date = up_to_date_on k c.live_lasts.ensures base also log c.keep_beside-receipt.new.desk.seen note c.args.all.now.live c.args.all.now.last
+          c.is_counted.ensures.table c.is_counted.ensures.counted c.is_counted.ensures.below added.also_goes_on added.legal added.ends c.keep_beside-receipt.ensures.call.legal.puts_keyed;
+      before = (note, added.ends);
+      serves = subst (λ (v : HeldView g.row.K.Denot g.row.D.Denot). Serves k g.D.Device.gives base v c.args.desk.now c.args.moment event c.in_ok-ran.ran.reply
+          (held_view c.run_counted.new.set (cell_view c.keep_beside-receipt.new.pass).seen) c.keep_beside-receipt.new.desk come_to) c.self.view_is
+          (record { is_call = subst (λ (v : HeldView g.row.K.Denot g.row.D.Denot). no_call k (now_of v.set) event ≡ None) (sym c.self.view_is) c.requires.is_call; does = does; call = subst (λ (x : Entry). Call k base c.args.desk.now x c.keep_beside-receipt.new.desk) (sym entry) c.keep_beside-receipt.ensures.call; seen = ap (λ (v : View). v.seen) pass.1 });
+    }
