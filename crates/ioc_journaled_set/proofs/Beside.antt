@@ -1,5 +1,5 @@
 -- What a set and the table of the puts with notification know after an event on the set.
-use Rattle.std.proofs.Common.{◌≡◌, ℕ, ◌+◌, ◌≤◌, Bool, true, false, cond, nat_eq, nat_lt, List, [], ◌∷◌, ◌++◌, refl, sym, ap, subst, inl, arith}
+use Rattle.std.proofs.Common.{◌≡◌, ◌↔◌, ℕ, ◌+◌, ◌≤◌, Bool, true, false, cond, nat_eq, nat_lt, List, [], ◌∷◌, ◌++◌, refl, sym, ap, subst, inl, arith}
 use Rattle.std.specs.Prelude.{Contains}
 use Rattle.std.proofs.lemmas.List.Sums.{sum_by-cons}
 use Rattle.ioc_device.specs.declared.Ask.{Ask}
@@ -12,7 +12,7 @@ use Rattle.ioc_notify.specs.Counts.{holders_in, lines_of}
 use Rattle.ioc_events.specs.declared.event.Event.{Event}
 use Rattle.ioc_events.specs.declared.event.Entry.{Entry}
 use Rattle.ioc_events.specs.declared.reply.Reply.{Reply}
-use Rattle.ioc_events.specs.Holding.{IsCounted, how_many, holders}
+use Rattle.ioc_events.specs.Holding.{IsCounted, IsHeld, how_many, holders}
 use Rattle.ioc_events.specs.Local.{AskAlike}
 use Rattle.ioc_events.specs.Step.{names}
 use Rattle.ioc_history.specs.declared.entry.Note.{Note}
@@ -21,12 +21,12 @@ use Rattle.ioc_history.specs.KeyLaws.{has_left, has_right}
 use Rattle.ioc_history.specs.Line.{Continues, noted}
 use Rattle.ioc_history.specs.Legal.{IsLegal, IsSound, key_of, map_of, notifications_key}
 use Rattle.ioc_history.specs.Covering.{Holds, Cover, CancelsWithin}
-use Rattle.ioc_history.specs.Laws.{Lasts, OneMore, HoldersMove, MovesAlike, HeldAlike, HeldAreFewer, HoldersAreFew, StaysSound, GoesOn}
+use Rattle.ioc_history.specs.Laws.{Lasts, OneMore, HoldersMove, MovesAlike, HeldAlike, HeldAreFewer, HoldersAreFew, EndsOver, NobodyHas, StaysSound, GoesOn}
 use Rattle.ioc_history.specs.Account.{journalled, BothMayFollow, AddedByBoth, puts_key}
 use Rattle.ioc_set.specs.SetState.{SetState, now_of, done_by}
 use Rattle.ioc_set.specs.Doing.{Does}
 use Rattle.ioc_journaled_set.specs.Puts.{AreMoved}
-use Rattle.ioc_journaled_set.proofs.Serving.{holds_on, live_then, records_then, waiting_then, noted_on, moved_on}
+use Rattle.ioc_journaled_set.proofs.Serving.{holds_on, live_then, records_then, waiting_then, ended_then, noted_on, moved_on, ended_on}
 
 -- The two ways of counting the lines of a number agree.
 pub lines_are : (n : ℕ) (ls : List Live) → lines_of n ls ≡ how_many (λ (l : Live). l.number) n ls
@@ -94,6 +94,23 @@ module _ {R D : Type 0} (k : RecordRules R) (gives : D → Ask → ℕ → Answe
         let known = (goes log a.desk a.call a.own a.sound a.goes_on a.also_goes_on a.legal).known in
         alike (map_of k base longer) after (now_of h') (subst (λ (l : List Note). Holds k (map_of k base l) after) (sym a.ends) known)
         (records_then k gives h h' moment event reply come_to does there) (waiting_then k gives h h' moment event reply come_to does there)
+
+    -- What has ended among all records has ended on the set, and its count is zero.
+    pub ended_beside : EndsOver k → NobodyHas k → StaysSound k → IsCounted k (now_of h) → (n : ℕ) → Contains (map_of k base longer).ended n ↔ (Contains come_to.ended n × (holders_of n (map_of k base longer).live ≡ 0))
+    ended_beside ends nobody stays counted n =
+        let a = as_done in
+        let owner = (owned ++ puts_key) ++ a.own in
+        let over =
+        ended_on k gives h h' moment event reply come_to does there one_more moves base log a.desk a.call owner a.sound a.legal (held log a.desk a.call a.own a.sound a.goes_on a.also_goes_on a.legal)
+        (λ r s. has_left (key_of r) (owned ++ puts_key) a.own (has_left (key_of r) owned puts_key (covers r s)))
+        (cancels log a.sound a.also_goes_on a.legal (held log a.desk a.call a.own a.sound a.goes_on a.also_goes_on a.legal))
+        (asks log a.sound a.also_goes_on a.legal (held log a.desk a.call a.own a.sound a.goes_on a.also_goes_on a.legal)) (λ out. absurd (out (has_puts a.own))) ends counted n in
+        let all = subst (λ (l : List Note). Contains (map_of k base l).ended n ↔ (Contains after.ended n × (IsHeld k (map_of k base l) n → ⊥))) (sym a.ends) over in
+        let on_set = subst (λ (ls : List ℕ). Contains (map_of k base longer).ended n ↔ (Contains ls n × (IsHeld k (map_of k base longer) n → ⊥))) (sym (ended_then k gives h h' moment event reply come_to does there)) all in
+        let none = nobody (map_of k base longer) (stays base longer a.sound).2 n in (
+          λ has. (let both = on_set.0 has in (both.0, none.0 both.1)),
+          λ both. on_set.1 (both.0, none.1 both.1),
+        )
 
     -- The counts of all records change as those of the set do.
     pub moved_beside : (fewer : HeldAreFewer k) (few : HoldersAreFew k) (stays : StaysSound k) (told : (ls : List Live) (n : ℕ) → lines_of n ls ≤ 1 → holders_of n ls ≡ holders_in n ls)

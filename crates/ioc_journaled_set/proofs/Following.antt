@@ -1,6 +1,6 @@
 -- What follows once one pass owns the keys of all sets with records of a put with notification, and
 -- the key of the puts with notification.
-use Rattle.std.proofs.Common.{◌≡◌, ◌≢◌, ℕ, ◌<◌, List, ◌++◌, length, get_or, Option, None, true, refl, sym, ap, subst, ◌∙◌, inl, arith}
+use Rattle.std.proofs.Common.{◌≡◌, ◌≢◌, ℕ, ◌<◌, List, [], ◌++◌, length, get_or, Option, None, true, refl, sym, ap, subst, ◌∙◌, inl, arith}
 use Rattle.std.specs.Prelude.{IsSome, is_some, Contains}
 use Rattle.std.specs.List.{AllPairs}
 use Rattle.std.specs.FinMap.{get, contains_key}
@@ -100,6 +100,9 @@ module _ {R : Type 0} (k : RecordRules R) (base : World R) where
 
       pub nobody_then : holders_of number (map_of k base longer).live ≡ 0
       nobody_then = known.nobody
+
+      pub none_ended_then : (map_of k base longer).ended ≡ []
+      none_ended_then = known.none_ended
 
       pub others_then : (other : ℕ) → other ≢ number → holders_of other (map_of k base longer).live ≡ holders_of other (map_of k base before.seen).live
       others_then other apart = known.others other apart ∙ still_live log added.goes_on added.legal other

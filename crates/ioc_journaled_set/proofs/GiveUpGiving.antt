@@ -170,6 +170,10 @@ module _ {R : Type 0} (k : RecordRules R) where
     unfolding begun begun_at cancelled
     live-then m = refl
 
+    none-ended : (m : World R) → (given_up m).ended ≡ []
+    unfolding begun begun_at cancelled
+    none-ended m = refl
+
     note-fits : (m : World R) → is_live number m.live ≡ true → NoneReady k m → AreActive k number m → Has_key notifications_key keys
         → ((r : ℕ) → (Has_key (key_of r) keys → ⊥) → point k number m r ≡ 0) → Fits k m note
     note-fits m live none active key nobody =
@@ -238,6 +242,7 @@ module _ {R : Type 0} (k : RecordRules R) where
           held = λ h then c gives. subst (λ (w : World R). Holds k w (now_of then)) (sym leads) (held-then lawful desk call moment number keys cancels begins alike m h then (known h c).holds gives);
           nobody = ap (holders_of number) lives ∙ forgotten-none number m.live (live-once k m is_sound.counted number);
           others = λ other apart. ap (holders_of other) lives ∙ forgotten-other number other apart m.live;
+          none_ended = ap (λ (w : World R). w.ended) leads ∙ none-ended lawful desk call moment number keys m;
         };
       }
 

@@ -120,6 +120,7 @@ module _ {R D : Type 0} (k : RecordRules R) (base : World R) (had : ℕ → Bool
     keeps = gu.keeps;
     nobody = gu.nobody;
     others = gu.others;
+    none_ended = gu.none_ended;
     none_began = gu.none_began;
   }
 

@@ -3,6 +3,7 @@ mod Counted
 mod Counting
 pub mod Dealing
 pub mod Devices
+mod Ended
 mod Following
 mod GiveUpAmong
 mod GiveUpEvents

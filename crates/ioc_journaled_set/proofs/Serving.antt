@@ -1,5 +1,5 @@
 -- What a set knows after an event of its own.
-use Rattle.std.proofs.Common.{◌≡◌, ℕ, Bool, true, false, cond, List, [], ◌∷◌, ◌++◌, length, None, refl, sym, ap, ◌∙◌, subst, zero, suc, arith}
+use Rattle.std.proofs.Common.{◌≡◌, ◌↔◌, ℕ, Bool, true, false, cond, List, [], ◌∷◌, ◌++◌, length, None, refl, sym, ap, ◌∙◌, subst, zero, suc, arith}
 use Rattle.std.specs.Prelude.{◌==◌, Contains, is_some}
 use Rattle.std.specs.Ordering.{nat_cmp}
 use Rattle.std.specs.FinMap.{FinMap, get}
@@ -15,7 +15,7 @@ use Rattle.ioc_events.specs.declared.event.Event.{Event}
 use Rattle.ioc_events.specs.declared.event.Event.TheVariants.{Get, Process, Put, Complete, Link, Notify, Cancel, IsLive}
 use Rattle.ioc_events.specs.declared.event.Entry.{Entry}
 use Rattle.ioc_events.specs.declared.reply.Reply.{Reply}
-use Rattle.ioc_events.specs.Holding.{IsCounted, holders}
+use Rattle.ioc_events.specs.Holding.{IsCounted, IsHeld, holders}
 use Rattle.ioc_events.specs.Local.{AskAlike}
 use Rattle.ioc_events.specs.Step.{names, stepped}
 use Rattle.ioc_events.specs.StepRules.{Step, KeepsRecords}
@@ -26,7 +26,7 @@ use Rattle.ioc_history.specs.Line.{Continues, holder, noted}
 use Rattle.ioc_history.specs.KeyLaws.{has_left}
 use Rattle.ioc_history.specs.Legal.{AreLiveAlike, IsLegal, IsSound, key_of, notifications_key, map_of, done}
 use Rattle.ioc_history.specs.Covering.{Holds, Cover, CancelsWithin, AreHeldAlike, IsOf, IsDone, question_note}
-use Rattle.ioc_history.specs.Laws.{Lasts, OneMore, HoldersMove, MovesAlike, Asks, HeldAlike, GoesOn}
+use Rattle.ioc_history.specs.Laws.{Lasts, OneMore, HoldersMove, MovesAlike, EndsOver, Asks, HeldAlike, GoesOn}
 use Rattle.ioc_history.specs.Account.{journalled, number_given, AreRecords, IsHolder, MayFollow, Added}
 use Rattle.ioc_journaled_set.specs.Holding.{IsOwner}
 use Rattle.ioc_set.specs.SetState.{SetState, NoneIsLive, now_of, folded, done_by, held_after}
@@ -35,6 +35,9 @@ use Rattle.ioc_set.specs.Doing.{is_ordinary, with_place, Does}
 pub one_there : {X : Type 0} (x y : X) → Contains (x ∷ []) y → x ≡ y
 one_there x y (zero, lt, is) = is
 one_there x y (suc i, lt, is) = absurd (omega arith)
+
+pub nothing_there : (y : ℕ) → Contains [] y → ⊥
+nothing_there y c = let l = c.1 in omega arith
 
 false_true : false ≡ true → ⊥
 false_true e = cc
@@ -156,6 +159,10 @@ module _ {R D : Type 0} (k : RecordRules R) (gives : D → Ask → ℕ → Answe
   pub live_then : (now_of h').live ≡ after.live
   live_then = ap (λ (w : World R). w.live) now_then ∙ ap (λ (w : World R). (done_by k w e).world.live) was_now
 
+  -- What has ended on the set is left in the buffers.
+  pub ended_then : come_to.ended ≡ after.ended
+  ended_then = ap (λ (w : World R). w.ended) does.left
+
   -- If no put with notification is live before and after, no record is part of one.
   pub none_held : (counted : (answers : Answers) (w after : World R) (event : Event) (reply : Reply) (requests : Requests) → Step k answers w event after reply requests → IsCounted k w → IsCounted k after)
       → (allowed : (answers : Answers) (w : World R) (event : Event) → Step k answers w event (stepped k answers w event).world (stepped k answers w event).reply (stepped k answers w event).requests)
@@ -194,6 +201,10 @@ module _ {R D : Type 0} (k : RecordRules R) (gives : D → Ask → ℕ → Answe
     pub moved_on : MovesAlike k (map_of k base log) (map_of k base (log ++ note ∷ [])) (now_of h) after
     moved_on = moves base (now_of h) after log note sound legal holds is_of is_done
 
+    -- What has ended among all records has ended on the set, and no record is part of it.
+    pub ended_on : EndsOver k → IsCounted k (now_of h) → (n : ℕ) → Contains (map_of k base (log ++ note ∷ [])).ended n ↔ (Contains after.ended n × (IsHeld k (map_of k base (log ++ note ∷ [])) n → ⊥))
+    ended_on ends counted n = ends base (now_of h) after log note sound legal holds is_of is_done counted n
+
   -- The event adds no record.
   pub only : ((answers : Answers) (w : World R) (event : Event) → Step k answers w event (stepped k answers w event).world (stepped k answers w event).reply (stepped k answers w event).requests)
       → ((answers : Answers) (w after : World R) (event : Event) (reply : Reply) (requests : Requests) → Step k answers w event after reply requests → IsClosed k w → KeepsRecords w after)
@@ -218,6 +229,18 @@ module _ {R D : Type 0} (k : RecordRules R) (gives : D → Ask → ℕ → Answe
     -- The event may follow any legal list.
     pub may_follow : (done_entry : Entry) → e ≡ done_entry → MayFollow k base seen owned done_entry
     may_follow done_entry is = subst (λ (x : Entry). MayFollow k base seen owned x) is (λ log desk call own sound go legal. (goes_on log desk call own sound go legal).legal)
+
+    -- If nothing has ended on the set, nothing has among all records.
+    pub none_ended : EndsOver k → IsCounted k (now_of h) → come_to.ended ≡ [] → (done_entry : Entry) → e ≡ done_entry → (log longer : List Note) → Added k base seen owned done_entry log longer
+        → (n : ℕ) → Contains (map_of k base longer).ended n → ⊥
+    none_ended ends counted none done_entry is log longer added n has =
+        let a = subst (λ (x : Entry). Added k base seen owned x log longer) (sym is) added in
+        let over =
+        ended_on one_more moves base log a.desk a.call (owned ++ a.own) a.sound a.legal (holds_on k lasts base (now_of h) seen owned covers holds log a.goes_on a.legal)
+        (λ r s. has_left (key_of r) owned a.own (covers r s)) (no_cancel k (map_of k base log) (now_of h) event ordinary)
+        (asks_nothing k (begun_at moment (now_of h)) (begun_at moment (map_of k base log)) event ordinary) (λ out. same) ends counted n in
+        let here = (over.0 (subst (λ (l : List Note). Contains (map_of k base l).ended n) a.ends has)).0 in
+        nothing_there n (subst (λ (ls : List ℕ). Contains ls n) (sym ended_then ∙ none) here)
 
     -- The set is held after the event.
     pub held_then : (done_entry : Entry) → e ≡ done_entry → (log longer : List Note) → Added k base seen owned done_entry log longer → Holds k (map_of k base longer) (now_of h')

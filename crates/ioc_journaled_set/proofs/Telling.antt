@@ -44,7 +44,7 @@ if_one a some = subst (λ (b : Bool). 0 < cond b 1 0) (sym (lt-ltb 0 a some)) (o
 
 module _ {R : Type 0} (k : RecordRules R) (live_lines : (ls : List Live) (n : ℕ) → IsTrue (is_live n ls) ↔ (0 < lines_of n ls)) where
   -- A put with notification is live in a counted world exactly if its count isn't zero.
-  live_in : (w : World R) (n : ℕ) → IsCounted k w → (is_live n w.live ≡ true → 0 < holders_of n w.live) × (0 < holders_of n w.live → is_live n w.live ≡ true)
+  pub live_in : (w : World R) (n : ℕ) → IsCounted k w → (is_live n w.live ≡ true → 0 < holders_of n w.live) × (0 < holders_of n w.live → is_live n w.live ≡ true)
   live_in w n counted =
       let lines = lines_are n w.live in
       let all = counted.counted.counted n in

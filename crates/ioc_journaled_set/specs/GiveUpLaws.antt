@@ -63,11 +63,12 @@ module _ {R D : Type 0} (k : RecordRules R) where
     pub covers : Cover keys (now_of h)
 
   -- Each of the sets in which the put with notification is canceled is held in the world of all
-  -- records then; no record is part of it, and the counts of all others are unchanged.
+  -- records then; no record is part of it, the counts of all others are unchanged, and none ends.
   pub record IsGivenUpByAll (moment number : ℕ) (sets : List (SetState R D)) (before after : World R) : Type 0 where
     pub held : (h then : SetState R D) → Contains sets h → GivesUp moment number h then → Holds k after (now_of then)
     pub nobody : holders_of number after.live ≡ 0
     pub others : (other : ℕ) → other ≢ number → holders_of other after.live ≡ holders_of other before.live
+    pub none_ended : after.ended ≡ []
 
   -- The result of a cancel on a set.
   pub record IsCancelled (moment number : ℕ) (before : SetState R D) (reply : Reply) (after : SetState R D) (come_to : World R) : Type 0 where

@@ -1,6 +1,6 @@
 -- A put with notification that is canceled in several journaled sets. Application Developer's
 -- Guide, "Put with Notification" (dbNotifyCancel). The journal is this project's own.
-use Rattle.std.specs.Prelude.{◌≡◌, ◌⊎◌, ℕ, Bool, ◌<◌, ◌≢◌, List, length, map, slice_index_or, Option}
+use Rattle.std.specs.Prelude.{◌≡◌, ◌⊎◌, ℕ, Bool, ◌<◌, ◌≢◌, List, [], length, map, slice_index_or, Option}
 use Rattle.atomic_table.specs.Seated.{TableId}
 use Rattle.ioc_notify.specs.Living.{holders_of}
 use Rattle.ioc_notify.specs.declared.live_numbers.Live.{Live}
@@ -41,7 +41,7 @@ module _ {R D : Type 0} (k : RecordRules R) (base : World R) (moment number : �
   -- The put with notification is canceled in each of these journaled sets by one call of a desk,
   -- which is the last of the legal list that the desk, the sets and the table of the puts with
   -- notification have seen then. No record is part of it any more, the counts of all others are
-  -- unchanged, and none has begun meanwhile.
+  -- unchanged, none has ended, and none has begun meanwhile.
   pub record HeldGaveUp (kept : View) (desk_then : DeskView) (after : List (HeldView R D)) (kept_then : View) : Type 0 where
     pub gives_up : (i : ℕ) (d : SetState R D) (e : HeldView R D) → i < length before → GivesUp k moment number (slice_index_or before i d) (slice_index_or after i e).set
     pub call : Call k base desk (told_at moment (Cancel number) Plain) desk_then
@@ -49,6 +49,7 @@ module _ {R D : Type 0} (k : RecordRules R) (base : World R) (moment number : �
     pub keeps : kept_then ≡ holder desk_then.seen puts_key
     pub nobody : holders_of number (map_of k base desk_then.seen).live ≡ 0
     pub others : (other : ℕ) → other ≢ number → holders_of other (map_of k base desk_then.seen).live ≡ holders_of other (map_of k base kept.seen).live
+    pub none_ended : (map_of k base desk_then.seen).ended ≡ []
     pub none_began : numbers_given (calls desk_then.seen) ≡ numbers_given (calls kept.seen)
 
 module _ {R D : Type 0} (k : RecordRules R) (base : World R) (moment number : ℕ) (desk : DeskView) (before : List (HeldView R D)) where
@@ -62,3 +63,4 @@ module _ {R D : Type 0} (k : RecordRules R) (base : World R) (moment number : �
     pub last : puts_then.last ≡ puts.last
     pub nobody : holders_in number puts_then.live ≡ 0
     pub others : (other : ℕ) → other ≢ number → holders_in other puts_then.live ≡ holders_in other puts.live
+    pub none_ended : (map_of k base desk_then.seen).ended ≡ []

@@ -1,7 +1,8 @@
 -- The puts with notification of all lock sets, in one table beside the journal. Application
 -- Developer's Guide, "Put with Notification" (dbPutNotify): it is complete when all processing that
 -- it has caused is done. The table and its place beside the journal are this project's own.
-use Rattle.std.specs.Prelude.{◌≡◌, ◌⊎◌, ◌+◌, ◌-◌, ◌≤◌, ◌<◌, ◌^◌, ℕ, true, false, List, [], length, All}
+use Rattle.std.specs.Prelude.{◌≡◌, ◌⊎◌, ◌↔◌, ◌+◌, ◌-◌, ◌≤◌, ◌<◌, ◌^◌, ℕ, true, false, not, List, [], length, All, Contains}
+use Rattle.std.specs.List.{filter}
 use Rattle.atomic_table.specs.Seated.{TableId}
 use Rattle.crossbeam_utils.specs.Seq.{cell_view}
 use Rattle.ioc_notify.specs.declared.live_numbers.Live.{Live}
@@ -65,6 +66,13 @@ module _ {R : Type 0} (k : RecordRules R) (base : World R) where
     pub puts : PutsView
     pub up_to_date : IsUpToDate puts
     pub none : NoneCanBegin puts
+
+  -- Holds if these are the puts with notification that have ended by the last of these calls, among
+  -- all records: those that ended on its set and that nothing in any set is part of, in the order
+  -- in which they ended on the set.
+  pub record HaveEnded (on_set : List ℕ) (seen : List Note) (numbers : List ℕ) : Type 0 where
+    pub of_all : (n : ℕ) → Contains numbers n ↔ Contains (map_of k base seen).ended n
+    pub in_order : numbers ≡ filter (λ n. not (is_live n (map_of k base seen).live)) on_set
 
   -- The invariant of the table: the pass owns the key of the puts with notification, the table has
   -- the counts of all, none began under a number above the last, and there is room for the lines of

@@ -1,6 +1,6 @@
 -- Several held sets in which a put with notification is canceled in one call. Application
 -- Developer's Guide, "Put with Notification" (dbNotifyCancel).
-use Rattle.std.specs.Prelude.{◌≡◌, ◌≢◌, ℕ, ◌<◌, true, List, length, slice_index_or}
+use Rattle.std.specs.Prelude.{◌≡◌, ◌≢◌, ℕ, ◌<◌, true, List, [], length, slice_index_or}
 use Rattle.atomic_table.specs.Seated.{TableId}
 use Rattle.ioc_notify.specs.Living.{holders_of, is_live}
 use Rattle.ioc_record.specs.RecordRules.{RecordRules}
@@ -51,8 +51,8 @@ module _ {R D : Type 0} (k : RecordRules R) where
 
     -- The put with notification is canceled in each of these sets by one call of a desk, and each
     -- is held by the pass beside it, which owns the keys of its records. No record is part of it
-    -- any more, the counts of all others are unchanged, and none has begun meanwhile. The pass of
-    -- the puts with notification knows this and owns their key alone.
+    -- any more, the counts of all others are unchanged, none has ended, and none has begun
+    -- meanwhile. The pass of the puts with notification knows this and owns their key alone.
     pub record GaveUp (table : TableId) (moment number : ℕ) (desk : DeskView) (before : List (SetState R D)) (kept : View) (desk_then : DeskView) (after : List (SetState R D)) (passes : List Slot) (kept_then : View) : Type 0 where
       pub gives_up : EachGivesUp moment number before after
       pub call : Call k base desk (cancel_entry moment number) desk_then
@@ -61,4 +61,5 @@ module _ {R D : Type 0} (k : RecordRules R) where
       pub keeps : kept_then ≡ holder desk_then.seen puts_key
       pub nobody : holders_of number (map_of k base desk_then.seen).live ≡ 0
       pub others : (other : ℕ) → other ≢ number → holders_of other (map_of k base desk_then.seen).live ≡ holders_of other (map_of k base kept.seen).live
+      pub none_ended : (map_of k base desk_then.seen).ended ≡ []
       pub none_began : numbers_given (calls desk_then.seen) ≡ numbers_given (calls kept.seen)

@@ -7,7 +7,7 @@ ghost use Rattle.ioc_set_store.specs.SetStore.{world_of};
 ghost use Rattle.ioc_set.specs.SetState.{now_of};
 ghost use Rattle.ioc_set.specs.NoCalls.{no_call};
 ghost use Rattle.ioc_journaled_set.specs.Holding.{numbers_of, Begins, IsNoCall};
-ghost use Rattle.ioc_journaled_set.specs.Puts.{CanBegin, NoneMayBegin};
+ghost use Rattle.ioc_journaled_set.specs.Puts.{CanBegin, NoneMayBegin, HaveEnded};
 
 use crate::journaled_set::JournaledSet;
 use crate::running::{Ran, run_counted};
@@ -18,7 +18,7 @@ use ioc_events::{Event, Reply};
 use ioc_fields::FieldNo;
 use ioc_history::legal_laws::{
     events_are_held, holders_move, holding_lasts, lists_leave_sound, live_lasts,
-    one_more_has_a_place, parts_share_what_is_held,
+    one_more_has_a_place, parts_share_what_is_held, those_ended_are_over,
 };
 use ioc_history::{Desk, EngineName, Receipt, SharedJournal};
 use ioc_names::RecordNo;
@@ -53,6 +53,8 @@ impl<K: RecordKind + Drop, B: EngineName<K>, D: Device> JournaledSet<K, B, D> {
             desk.new (world_of buffers.new.store)) }
         ensures receipt { IfOk result (λ x. x.1 ≡ desk.new.seen) }
         ensures last { OnOk result (all.new.last ≡ notification) }
+        ensures ended { OnOk result (HaveEnded K.rules B.base (world_of buffers.new.store).ended desk.new.seen
+            buffers.new.ended_everywhere.items) }
         ensures refused { IfErr result IsNoPlace }
         ensures err { OnErr result ((self.new ≡ self.old) × (desk.new ≡ desk.old) × (all.new ≡ all.old)) }
     {
@@ -65,13 +67,12 @@ impl<K: RecordKind + Drop, B: EngineName<K>, D: Device> JournaledSet<K, B, D> {
         one_more_has_a_place::<K>();
         lists_leave_sound::<K>();
         parts_share_what_is_held::<K>();
+        those_ended_are_over::<K>();
         lines_tell_holders();
         self.set.is_sound();
         all.is_counted();
         let event = Event::Notify(target, notification, field, given);
         let ran = run_counted(rt, alloc, book, &mut self.set, buffers, &event, moment)?;
-        self.set.puts_are_few();
-        self.set.is_sound();
         let Some(mut pass) = self.pass.take() else {
             unreachable!();
         };
@@ -88,6 +89,7 @@ impl<K: RecordKind + Drop, B: EngineName<K>, D: Device> JournaledSet<K, B, D> {
             &mut pass,
             all,
             desk,
+            buffers,
             entry,
             &before,
             &self.set,
@@ -100,7 +102,7 @@ impl<K: RecordKind + Drop, B: EngineName<K>, D: Device> JournaledSet<K, B, D> {
     /// Puts a value into a field as [`JournaledSet::put`] does, with a notification, and adds the
     /// call to the journal. The put with notification ends when all that it has caused is done. Its
     /// number is in the reply and is one more than the last number assigned. No other put with
-    /// notification begins during the call.
+    /// notification begins during the call. [`EventBuffers::ended`] returns those that end by it.
     ///
     /// # Errors
     ///
@@ -126,6 +128,8 @@ impl<K: RecordKind + Drop, B: EngineName<K>, D: Device> JournaledSet<K, B, D> {
         requires there { Contains (numbers_of self.old) target }
         ensures begins { IfOk result (λ x. Begins K.rules D.gives B.base self.old desk.old moment target field given x.0 self.new
             desk.new (world_of buffers.new.store)) }
+        ensures ended { OnOk result (HaveEnded K.rules B.base (world_of buffers.new.store).ended desk.new.seen
+            buffers.new.ended_everywhere.items) }
         ensures receipt { IfOk result (λ x. x.1 ≡ desk.new.seen) }
         ensures refused { IfErr result (λ error. ((error ≡ QueueFull) × NoneMayBegin K.rules B.base)
             ⊎ IsNoCall K.rules self.old.set (Put target field given) error) }

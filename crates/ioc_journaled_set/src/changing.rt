@@ -1,5 +1,5 @@
 //! A link change of a record of one of three sets, passed by reference.
-ghost use Rattle.std.specs.Prelude.{◌≡◌, ◌⊎◌, ◌<◌, ◌-◌, ◌^◌, ◌∷◌, ℕ, false, [], IsSome, IfOk, IfErr, OnErr, Contains};
+ghost use Rattle.std.specs.Prelude.{◌≡◌, ◌⊎◌, ◌<◌, ◌-◌, ◌^◌, ◌∷◌, ℕ, false, [], IsSome, IfOk, IfErr, OnOk, OnErr, Contains};
 ghost use Rattle.std.specs.FinMap.{get};
 ghost use Rattle.ioc_values.specs.declared.error.IocError.TheVariants.{NoField};
 ghost use Rattle.ioc_dbcommon.specs.Links.{use_of, named_by, record_named};
@@ -112,6 +112,7 @@ fn part_first<K: RecordKind + Drop, B: EngineName<K>, D: Device, R: Wait>(
         → IfOk result (λ c. FellApart K.rules B.base first.old second spare.old desk.old moment number field link
         c.reply c.moved first.new second spare.new desk.new (world_of buffers.new.store)) }
     ensures receipt { IfOk result (λ c. c.receipt ≡ desk.new.seen) }
+    ensures ended { OnOk result (buffers.new.ended_everywhere.items ≡ []) }
     ensures refused { IfErr result IsNoPlace }
     ensures kept { OnErr result ((folded first.new.set ≡ folded first.old.set) × (spare.new ≡ spare.old)) }
     ensures desk { OnErr result (desk.new ≡ desk.old) }
@@ -120,6 +121,7 @@ fn part_first<K: RecordKind + Drop, B: EngineName<K>, D: Device, R: Wait>(
         rt, alloc, book, desk, buffers, number, field, link, base_link, moment,
     )?;
     *spare = rest;
+    buffers.ended_everywhere.clear();
     let moved = keep_larger(first, spare);
     Ok(Changed {
         reply: Reply::Plain,
@@ -151,6 +153,7 @@ fn lead_first<K: RecordKind + Drop, B: EngineName<K>, D: Device, R: Wait>(
     ensures leads { IfOk result (λ c. WasLed K.rules B.base first.old second.old spare.old desk.old moment number field link
         c.reply c.moved first.new second.new spare.new desk.new (world_of buffers.new.store)) }
     ensures receipt { IfOk result (λ c. c.receipt ≡ desk.new.seen) }
+    ensures ended { OnOk result (buffers.new.ended_everywhere.items ≡ []) }
     ensures refused { IfErr result IsNoPlace }
     ensures kept { OnErr result ((folded first.new.set ≡ folded first.old.set) × (second.new.set ≡ second.old.set)
         × (spare.new ≡ spare.old)) }
@@ -162,6 +165,7 @@ fn lead_first<K: RecordKind + Drop, B: EngineName<K>, D: Device, R: Wait>(
         rt, alloc, book, desk, buffers, second, number, field, link, base_link, moment,
     )?;
     *spare = rest;
+    buffers.ended_everywhere.clear();
     let moved = keep_largest(first, second, spare, before, other);
     Ok(Changed {
         reply: Reply::Plain,
@@ -201,6 +205,7 @@ pub fn change_link<K: RecordKind + Drop, B: EngineName<K>, D: Device, R: Wait>(
     ensures relinks { IfOk result (λ c. Relinks K.rules B.base first.old second.old spare.old desk.old moment number field link
         c.reply c.moved first.new second.new spare.new desk.new (world_of buffers.new.store)) }
     ensures receipt { IfOk result (λ c. c.receipt ≡ desk.new.seen) }
+    ensures ended { OnOk result (buffers.new.ended_everywhere.items ≡ []) }
     ensures refused { IfErr result (λ error. IsNoPlace error
         ⊎ ((error ≡ NoField) × (HasLink K.rules first.old.set.records number field
         → ⊥))) }
@@ -214,6 +219,7 @@ pub fn change_link<K: RecordKind + Drop, B: EngineName<K>, D: Device, R: Wait>(
     if first.set.forbids(number, field) {
         first.is_sound();
         second.is_sound();
+        buffers.ended_everywhere.clear();
         let (reply, receipt) = first.refuse_link(
             rt,
             alloc,

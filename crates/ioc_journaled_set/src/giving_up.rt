@@ -101,6 +101,7 @@ fn give_up_lent<K: RecordKind + Drop, B: EngineName<K>, D: Device, R: Wait>(
         (cell_view keeper.old) desk.new held.new (cell_view keeper.new))) }
     ensures receipt { IfOk result (λ given. IfSome given (λ receipt. receipt ≡ desk.new.seen)) }
     ensures table { keeper.new.table_id ≡ B.table }
+    ensures ended { buffers.new.ended_everywhere.items ≡ [] }
     ensures missing { IfOk result (λ given. IfNone given (AreSameSets sets.old held.new × (keeper.new ≡ keeper.old)
         × (desk.new ≡ desk.old) × (AreItsSets number total sets.old
         → ⊥))) }
@@ -110,6 +111,7 @@ fn give_up_lent<K: RecordKind + Drop, B: EngineName<K>, D: Device, R: Wait>(
     let given = give_up_all(
         rt, alloc, book, desk, buffers, keeper, sets, passes, number, total, moment,
     );
+    buffers.ended_everywhere.clear();
     take_back_all(alloc, held, sets, passes);
     given
 }
@@ -135,6 +137,7 @@ pub fn cancel_on<K: RecordKind + Drop, B: EngineName<K>, D: Device, R: Wait>(
     ensures gave_up { IfOk result (λ given. IfSome given (λ x. GaveUpOn K.rules B.base moment number desk.old held.old all.old x.0
         desk.new held.new all.new)) }
     ensures receipt { IfOk result (λ given. IfSome given (λ x. x.1 ≡ desk.new.seen)) }
+    ensures ended { IfOk result (λ given. IfSome given (λ _. buffers.new.ended_everywhere.items ≡ [])) }
     ensures missing { IfOk result (λ given. IfNone given (AreSameSets (sets_of held.old) held.new × (all.new ≡ all.old)
         × (desk.new ≡ desk.old) × HaveNotAll number all.old.live (sets_of held.old))) }
     ensures refused { IfErr result IsNoPlace }

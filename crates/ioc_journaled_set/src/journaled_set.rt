@@ -11,6 +11,7 @@ ghost use Rattle.ioc_set.specs.NoCalls.{no_call};
 ghost use Rattle.ioc_set.specs.Doing.{is_ordinary};
 ghost use Rattle.ioc_history.specs.Places.{IsNoPlace};
 ghost use Rattle.ioc_set_store.specs.SetStore.{world_of};
+ghost use Rattle.ioc_journaled_set.specs.Puts.{HaveEnded};
 ghost use Rattle.ioc_journaled_set.specs.Holding.{IsLent, IsOwner, KeepsDevices, held_view, numbers_of, Serves, Tells, IsNoCall};
 
 use crate::running::{Ran, run_counted, run_with_answers};
@@ -22,6 +23,7 @@ use ioc_events::{Entry, Event, KeptAnswers, Reply};
 use ioc_fields::FieldNo;
 use ioc_history::legal_laws::{
     events_are_held, holders_move, holding_lasts, lists_leave_sound, parts_share_what_is_held,
+    those_ended_are_over,
 };
 use ioc_history::{Cell, Desk, EngineName, KeyPass, Receipt, SharedJournal, pass};
 use ioc_names::RecordNo;
@@ -147,6 +149,8 @@ impl<K: RecordKind + Drop, B: EngineName<K>, D: Device> JournaledSet<K, B, D> {
         ensures serves { IfOk result (λ x. Serves K.rules D.gives B.base self.old desk.old moment event.now x.0 self.new desk.new
             (world_of buffers.new.store)) }
         ensures receipt { IfOk result (λ x. x.1 ≡ desk.new.seen) }
+        ensures ended { OnOk result (HaveEnded K.rules B.base (world_of buffers.new.store).ended desk.new.seen
+            buffers.new.ended_everywhere.items) }
         ensures refused { IfErr result IsNoPlace }
         ensures err { OnErr result ((self.new ≡ self.old) × (desk.new ≡ desk.old)) }
     {
@@ -157,6 +161,7 @@ impl<K: RecordKind + Drop, B: EngineName<K>, D: Device> JournaledSet<K, B, D> {
         events_are_held::<K>();
         holders_move::<K>();
         parts_share_what_is_held::<K>();
+        those_ended_are_over::<K>();
         sets_stay_without_puts::<K, D>();
         self.set.is_sound();
         let place = book.reserve(rt)?;
@@ -173,6 +178,7 @@ impl<K: RecordKind + Drop, B: EngineName<K>, D: Device> JournaledSet<K, B, D> {
                 return Err(IocError::NoMemory);
             }
         };
+        buffers.ended_everywhere.clear();
         let answer = &reply;
         let entry = Entry {
             moment,
@@ -208,6 +214,8 @@ impl<K: RecordKind + Drop, B: EngineName<K>, D: Device> JournaledSet<K, B, D> {
         ensures serves { IfOk result (λ x. Serves K.rules D.gives B.base self.old desk.old moment event.now x.0 self.new desk.new
             (world_of buffers.new.store)) }
         ensures receipt { IfOk result (λ x. x.1 ≡ desk.new.seen) }
+        ensures ended { OnOk result (HaveEnded K.rules B.base (world_of buffers.new.store).ended desk.new.seen
+            buffers.new.ended_everywhere.items) }
         ensures refused { IfErr result IsNoPlace }
         ensures err { OnErr result ((self.new ≡ self.old) × (desk.new ≡ desk.old)) }
     {
@@ -219,11 +227,10 @@ impl<K: RecordKind + Drop, B: EngineName<K>, D: Device> JournaledSet<K, B, D> {
         holders_move::<K>();
         lists_leave_sound::<K>();
         parts_share_what_is_held::<K>();
+        those_ended_are_over::<K>();
         lines_tell_holders();
         self.set.is_sound();
         let ran = run_counted(rt, alloc, book, &mut self.set, buffers, event, moment)?;
-        self.set.puts_are_few();
-        self.set.is_sound();
         let Some(mut pass) = self.pass.take() else {
             unreachable!();
         };
@@ -237,13 +244,14 @@ impl<K: RecordKind + Drop, B: EngineName<K>, D: Device> JournaledSet<K, B, D> {
             entry,
         } = ran;
         let receipt = keep_beside(
-            rt, book, place, &mut pass, all, desk, entry, &before, &self.set, last,
+            rt, book, place, &mut pass, all, desk, buffers, entry, &before, &self.set, last,
         );
         self.pass = Some(pass);
         Ok((reply, receipt))
     }
 
     /// Performs a request, a put or a completion on the set, and adds it to the journal.
+    /// [`EventBuffers::ended`] returns the puts with notification that end by it.
     ///
     /// # Errors
     ///
@@ -268,6 +276,8 @@ impl<K: RecordKind + Drop, B: EngineName<K>, D: Device> JournaledSet<K, B, D> {
         ensures serves { IfOk result (λ x. Serves K.rules D.gives B.base self.old desk.old moment event.now x.0 self.new desk.new
             (world_of buffers.new.store)) }
         ensures receipt { IfOk result (λ x. x.1 ≡ desk.new.seen) }
+        ensures ended { OnOk result (HaveEnded K.rules B.base (world_of buffers.new.store).ended desk.new.seen
+            buffers.new.ended_everywhere.items) }
         ensures refused { IfErr result (IsNoCall K.rules self.old.set event.now) }
         ensures err { OnErr result ((self.new ≡ self.old) × (desk.new ≡ desk.old)) }
     {

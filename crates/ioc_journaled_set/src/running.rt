@@ -1,10 +1,11 @@
 //! Performs the event of a call on a set.
-ghost use Rattle.std.specs.Prelude.{◌≡◌, true, IfOk, IfErr, OnErr};
+ghost use Rattle.std.specs.Prelude.{◌≡◌, ◌≤◌, true, length, IfOk, IfErr, OnOk, OnErr};
 ghost use Rattle.ioc_store.specs.Given.{answers_of};
 ghost use Rattle.ioc_events.specs.SetReply.{told_by};
 ghost use Rattle.ioc_history.specs.Places.{IsNoPlace};
 ghost use Rattle.ioc_set_store.specs.SetStore.{world_of};
 ghost use Rattle.ioc_set.specs.Doing.{Does, is_done_on_sets};
+ghost use Rattle.ioc_set.specs.Sound.{IsSound};
 
 use ioc_device::Device;
 use ioc_events::{Entry, Event, KeptAnswers, Reply, SetReply};
@@ -115,6 +116,8 @@ pub(crate) fn run_counted<K: RecordKind + Drop, B: EngineName<K>, D: Device, R: 
               = ran.reply;
         }) }
     ensures before { IfOk result (λ ran. ran.before.items ≡ set.old.live) }
+    ensures few { OnOk result (length set.new.live ≤ 256) }
+    ensures sound { OnOk result (IsSound K.rules set.new) }
     ensures refused { IfErr result IsNoPlace }
     ensures err { OnErr result (set.new ≡ set.old) }
 {
@@ -129,6 +132,8 @@ pub(crate) fn run_counted<K: RecordKind + Drop, B: EngineName<K>, D: Device, R: 
             return Err(IocError::NoMemory);
         }
     };
+    set.puts_are_few();
+    set.is_sound();
     let answer = &reply;
     let entry = Entry {
         moment,

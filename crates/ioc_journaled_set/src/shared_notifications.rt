@@ -1,5 +1,6 @@
 //! The puts with notification of all lock sets, in one table.
-ghost use Rattle.std.specs.Prelude.{◌≡◌, ◌+◌, ◌≤◌, ◌<◌, ◌^◌, ℕ, [], length, IfOk, IfErr, OnErr, IfNone, List};
+ghost use Rattle.std.specs.Prelude.{◌≡◌, ◌+◌, ◌≤◌, ◌<◌, ◌^◌, ℕ, [], length, not, IfOk, IfErr, OnErr, IfNone, List};
+ghost use Rattle.std.specs.List.{filter};
 ghost use Rattle.std.specs.Option.{IfSome};
 ghost use Rattle.crossbeam_utils.specs.Seq.{cell_view};
 ghost use Rattle.ioc_notify.specs.Living.{is_live};
@@ -7,6 +8,7 @@ ghost use Rattle.ioc_notify.specs.Counts.{IsTable, holders_in};
 ghost use Rattle.ioc_history.specs.declared.entry.Note.{Note};
 ghost use Rattle.ioc_history.specs.Line.{holder};
 ghost use Rattle.ioc_history.specs.Account.{IsHolder, AreRecords, BothMayFollow, MayBegin, Call, AddedByBoth, number_given, puts_key};
+ghost use Rattle.ioc_set_store.specs.SetStore.{world_of};
 ghost use Rattle.ioc_journaled_set.specs.Puts.{puts_view, CanBegin, NoneCanBegin, NoneIsAbove, AreCounted, AreMoved};
 
 use ioc_events::Entry;
@@ -16,6 +18,7 @@ use ioc_notify::table_laws::{lines_tell_holders, tables_are_short};
 use ioc_notify::{Live, NotificationCounts, NotifyId};
 use ioc_record::RecordKind;
 use ioc_set::LockSet;
+use ioc_set_store::EventBuffers;
 use std::alloc::{AllocError, Global};
 use std::marker::{Brand, Model, PhantomData};
 use std::sync::Wait;
@@ -118,7 +121,8 @@ fn count_anew(table: &mut NotificationCounts, before: &[Live], after: &[Live])
 
 /// Adds an event that was done on a set to the journal, with the keys of the set's records and the
 /// key of the puts with notification, and updates the table by the set's counts before and after
-/// it. `last` becomes the last number assigned.
+/// it. `last` becomes the last number assigned. The buffers of the event then tell what has ended
+/// among all sets.
 pub(crate) fn keep_beside<K: RecordKind, B: EngineName<K>, D, R: Wait>(
     rt: &R,
     book: &SharedJournal<K, B>,
@@ -126,6 +130,7 @@ pub(crate) fn keep_beside<K: RecordKind, B: EngineName<K>, D, R: Wait>(
     pass: &mut KeyPass,
     all: &mut SharedNotifications<K, B>,
     desk: &mut Desk<K, B>,
+    buffers: &mut EventBuffers<K, D>,
     entry: Entry,
     before: &[Live],
     set: &LockSet<K, D>,
@@ -148,6 +153,9 @@ pub(crate) fn keep_beside<K: RecordKind, B: EngineName<K>, D, R: Wait>(
     ensures added { (log : List Note)
         × AddedByBoth K.rules B.base (cell_view pass.old).seen (cell_view pass.old).owns all.old.seen puts_key entry
         log desk.new.seen }
+    ensures counted { IsTable all.new.live × AreCounted K.rules B.base all.new.live all.new.seen }
+    ensures ended { buffers.new.ended_everywhere.items ≡ filter (λ n. not (is_live n all.new.live)) (world_of buffers.old.store).ended }
+    ensures store { buffers.new.store ≡ buffers.old.store }
 {
     live_lasts::<K>();
     lines_tell_holders();
@@ -156,5 +164,7 @@ pub(crate) fn keep_beside<K: RecordKind, B: EngineName<K>, D, R: Wait>(
     count_anew(&mut all.table, before, set.live_puts());
     all.table.is_table();
     all.last = last;
+    buffers.tell_ended(&all.table);
+    all.is_counted();
     receipt
 }

@@ -25,7 +25,7 @@ use Rattle.ioc_set_store.proofs.Entries.{none_some}
 use Rattle.ioc_events.proofs.Counting.{lives, how_many-append}
 use Rattle.ioc_set_store.proofs.Counted.{live-some, some-live}
 use Rattle.ioc_set_store.proofs.Fewer.{fewer}
-use Rattle.ioc_set_store.proofs.Gathered.{passes-there, together-count, dead}
+use Rattle.ioc_set_store.proofs.Gathered.{passes-there, there-passes, together-count, dead}
 use Rattle.ioc_set.proofs.HeldRecords.{AreSame, Within, within_relinked, same_itself}
 
 -- Lemmas about those that are live on one of two sets.
@@ -159,16 +159,6 @@ module _ {R : Type 0} (k : RecordRules R) where
     }
 
 -- If a set may become one with another, so may what stays of it.
-
-there-passes : {X : Type 0} (p : X → Bool) (xs : List X) (x : X) → Contains xs x → p x ≡ true → Contains (filter p xs) x
-there-passes p [] x h is = absurd (omega (arith, h.1))
-there-passes p (y ∷ xs) x (zero, lt, here) is = let e : p y ≡ true = ap p here ∙ is in rw e (0, omega arith, here)
-there-passes p (y ∷ xs) x (suc i, lt, there) is =
-    let rest = there-passes p xs x (i, omega (arith, lt), there) is in
-    elim (p y) as (λ b. Contains (cond b (y ∷ filter p xs) (filter p xs)) x) [
-      | true ↦ later y (filter p xs) x rest
-      | false ↦ rest
-    ]
 
 fewer-case : (n : ℕ) (stay before other : List Live) → (is_live n stay ≡ true → is_live n before ≡ true) → lives n stay ≤ 1 → lives n other ≤ 1 → (b c : Bool) → is_live n stay ≡ b → is_live n before ≡ c → lives n (together stay other) ≤ lives n (together before other)
 fewer-case n stay before other only once other_once true c is is_before =

@@ -168,8 +168,8 @@ impl<K: RecordKind + Drop, D: Device> LockSet<K, D> {
     /// Puts a value into a field as [`LockSet::put`] does, with a notification: it passes to the
     /// records that are processed for the put, and ends with the last of them. If the record is
     /// active, is part of a put with notification or has one waiting, the put waits; it is tested
-    /// and its value converted immediately. The caller assigns each number to one put.
-    /// [`EventBuffers::ended`] returns those that end by an event.
+    /// and its value converted immediately. The caller assigns each number to one put. Those that
+    /// end on the set by an event are in the store of the buffers.
     ///
     /// # Errors
     ///

@@ -35,8 +35,8 @@ use crate::awaiting_laws::events_count_awaited;
 use ioc_device::Device;
 use ioc_events::event_rules::{events_keep_links, events_leave_settled, rules_are_steps};
 use ioc_events::notification_rules::{
-    events_count_holders, events_leave_holders_awaiting, events_leave_none_ready,
-    those_over_never_end,
+    events_count_holders, events_end_what_nobody_has, events_leave_holders_awaiting,
+    events_leave_none_ready, those_over_never_end,
 };
 use ioc_ledger::laws::{tallies_add_up, tallies_count_each_request};
 use ioc_record::RecordKind;
@@ -70,14 +70,19 @@ pub fn none_live_stays_so<K: RecordKind>()
     those_over_never_end::<K>();
 }
 
-/// If no put with notification is live on a set, none is after a request, a put or a completion.
+/// If no put with notification is live on a set, none is after a request, a put or a completion,
+/// and none ends by it.
 pub fn sets_stay_without_puts<K: RecordKind, D: Device>()
-    ensures { (h after : SetState K D) (moment : ℕ) (event : Event) (reply : Reply) (come_to : World K) → Does K.rules D.gives h moment event reply after come_to →
-        is_ordinary event ≡ true → IsSound K.rules h → NoneIsLive h → NoneIsLive after }
+    ensures stay { (h after : SetState K D) (moment : ℕ) (event : Event) (reply : Reply) (come_to : World K) →
+        Does K.rules D.gives h moment event reply after come_to → is_ordinary event ≡ true → IsSound K.rules h → NoneIsLive h → NoneIsLive after }
+    ensures ended { (h after : SetState K D) (moment : ℕ) (event : Event) (reply : Reply) (come_to : World K) →
+        Does K.rules D.gives h moment event reply after come_to → is_ordinary event ≡ true → IsSound K.rules h → NoneIsLive h → come_to.ended ≡ [] }
 {
     rules_are_steps::<K>();
     none_live_stays_so::<K>();
     notifications_begin_by_notify::<K>();
+    events_count_holders::<K>();
+    events_end_what_nobody_has::<K>();
 }
 
 /// A put with notification begins by no other event.

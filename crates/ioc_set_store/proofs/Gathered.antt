@@ -40,6 +40,16 @@ passes-there p (y ∷ xs) x h =
       | false ↦ λ is c. let rest = passes-there p xs x c in (later y xs x rest.0, rest.1)
     ] refl h
 
+pub there-passes : {X : Type 0} (p : X → Bool) (xs : List X) (x : X) → Contains xs x → p x ≡ true → Contains (filter p xs) x
+there-passes p [] x h is = absurd (omega (arith, h.1))
+there-passes p (y ∷ xs) x (zero, lt, here) is = let e : p y ≡ true = ap p here ∙ is in rw e (0, omega arith, here)
+there-passes p (y ∷ xs) x (suc i, lt, there) is =
+    let rest = there-passes p xs x (i, omega (arith, lt), there) is in
+    elim (p y) as (λ b. Contains (cond b (y ∷ filter p xs) (filter p xs)) x) [
+      | true ↦ later y (filter p xs) x rest
+      | false ↦ rest
+    ]
+
 pub fewer_pass : {X : Type 0} (f : X → ℕ) (p : X → Bool) (n : ℕ) (xs : List X) → how_many f n (filter p xs) ≤ how_many f n xs
 fewer_pass f p n [] = omega arith
 fewer_pass f p n (x ∷ xs) =

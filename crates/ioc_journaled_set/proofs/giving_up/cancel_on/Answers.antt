@@ -35,6 +35,7 @@ returns-in-Ok-Some-clause-gave_up g c =
       seen = gu.seen;
       puts_seen = ap (λ (v : View). v.seen) gu.keeps;
       last = ap (λ (v : PutsView). v.last) c.all.view_is;
+      none_ended = gu.none_ended;
       nobody = let counts = c.take_off.ensures.counts number in let line = line_has number total in omega (arith, counts, line, tells);
       others = λ other apart. let counts = c.take_off.ensures.counts other in let line = line_other number other total apart in let same = ap (λ (l : List _). holders_in other l) was in omega (arith, counts, line, same);
     }

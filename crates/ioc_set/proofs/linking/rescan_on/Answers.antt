@@ -27,6 +27,7 @@ invariant_of-place g c =
       no_frame = place.no_frame;
       no_answer = place.no_answer;
       none_journaled = place.none_journaled;
+      ended_fit = place.ended_fit;
     }
 
 pub returns-clause-left : goal.returns-clause-left

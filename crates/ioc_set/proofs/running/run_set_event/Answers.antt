@@ -36,6 +36,7 @@ invariant_of-place g c = record {
   no_frame = c.run_event-told.ensures.empty;
   no_answer = c.kept_answers-answers.ensures.empty;
   none_journaled = c.args.place.now.none_journaled;
+  ended_fit = c.args.place.now.ended_fit;
 }
 
 pub returns-clause-did : goal.returns-clause-did

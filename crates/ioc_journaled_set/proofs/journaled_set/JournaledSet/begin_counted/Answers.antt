@@ -9,6 +9,7 @@ use Rattle.ioc_events.specs.declared.event.Entry.{Entry}
 use Rattle.ioc_events.specs.Step.{names}
 use Rattle.ioc_history.specs.Covering.{Holds}
 use Rattle.ioc_history.specs.Legal.{map_of}
+use Rattle.ioc_history.specs.declared.entry.Note.{Note}
 use Rattle.ioc_history.specs.declared.cell.View.{View}
 use Rattle.ioc_history.specs.Account.{Call, Pass, MayBegin, number_given, numbers_given, calls, puts_key}
 use Rattle.ioc_history.specs.Account.{journalled}
@@ -16,16 +17,18 @@ use Rattle.ioc_history.specs.Line.{noted}
 use Rattle.ioc_history.proofs.Numbers.{next_above}
 use Rattle.ioc_set.specs.SetState.{now_of}
 use Rattle.ioc_set.specs.NoCalls.{no_call}
+use Rattle.ioc_set_store.specs.declared.set_store.SetStore.{SetStore}
 use Rattle.ioc_set_store.specs.SetStore.{world_of}
 use Rattle.ioc_journaled_set.specs.Holding.{HeldView, held_view, numbers_of, IsHeld, Serves}
-use Rattle.ioc_journaled_set.specs.Puts.{puts_view, AreMoved}
+use Rattle.ioc_journaled_set.specs.Puts.{puts_view, AreMoved, AreCounted, HaveEnded}
 use Rattle.ioc_journaled_set.proofs.Keys.{key_there}
 use Rattle.ioc_journaled_set.proofs.Devices.{worked_there, keeps_on}
 use Rattle.ioc_journaled_set.proofs.Serving.{one_there, owner_on, entry_is, only}
 use Rattle.ioc_journaled_set.proofs.Places.{place_alike}
 use Rattle.ioc_events.specs.declared.event.Event.TheVariants.{Notify}
-use Rattle.ioc_journaled_set.proofs.Beside.{both_follow, held_beside, moved_beside}
+use Rattle.ioc_journaled_set.proofs.Beside.{both_follow, held_beside, moved_beside, ended_beside}
 use Rattle.ioc_journaled_set.proofs.Counted.{up_to_date_on}
+use Rattle.ioc_journaled_set.proofs.Ended.{have_ended}
 use Rattle.ioc_journaled_set.proofs.journaled_set.JournaledSet.begin_counted.Goals as goal
 
 pub unreachable-requires : goal.unreachable-requires
@@ -84,7 +87,7 @@ keep_beside-receipt-requires-clause-moves g c =
     (λ log sound go legal h. tt)
     (λ log sound go legal h. place_alike k c.one_more_has_a_place.ensures c.live_lasts.ensures c.lists_leave_sound.ensures.after c.lines_tell_holders.ensures.live c.lines_tell_holders.ensures.held base (now_of c.self.inside.set) also log c.args.all.now.live c.args.notification c.args.moment
     c.is_counted.ensures.table c.is_counted.ensures.counted sound go legal h c.is_sound.ensures.counted c.requires.can.few c.requires.can.free) _ entry log longer added
-    c.holders_move.ensures.fewer c.holders_move.ensures.few c.lists_leave_sound.ensures.after c.lines_tell_holders.ensures.holders c.is_sound.ensures.counted c.is_sound-2.ensures.counted)
+    c.holders_move.ensures.fewer c.holders_move.ensures.few c.lists_leave_sound.ensures.after c.lines_tell_holders.ensures.holders c.is_sound.ensures.counted c.in_ok-ran.ensures.sound.counted)
 
 pub invariant_of-self-2 : goal.invariant_of-self-2
 invariant_of-self-2 g c =
@@ -128,6 +131,9 @@ returns-clause-begins g c =
     let entry = entry_is k g.D.Device.gives c.self.inside.set c.run_counted.new.set c.args.moment event c.in_ok-ran.ran.reply come_to does there (answers_of come_to.calls) refl ∙ sym c.in_ok-ran.ensures.entry in
     let also = c.args.all.now.seen in
     let pass = c.keep_beside-receipt.ensures.pass in
+    let served = subst (λ (v : HeldView g.row.K.Denot g.row.D.Denot). Serves k g.D.Device.gives base v c.args.desk.now c.args.moment event c.in_ok-ran.ran.reply
+    (held_view c.run_counted.new.set (cell_view c.keep_beside-receipt.new.pass).seen) c.keep_beside-receipt.new.desk come_to) c.self.view_is
+    (record { is_call = subst (λ (v : HeldView g.row.K.Denot g.row.D.Denot). no_call k (now_of v.set) event ≡ None) (sym c.self.view_is) c.requires.is_call; does = does; call = subst (λ (x : Entry). Call k base c.args.desk.now x c.keep_beside-receipt.new.desk) (sym entry) c.keep_beside-receipt.ensures.call; seen = ap (λ (v : View). v.seen) pass.1 }) in
     let log = c.keep_beside-receipt.ensures.added.0 in
     let added = c.keep_beside-receipt.ensures.added.1 in
     let note = noted (journalled added.desk added.call c.in_ok-ran.ran.entry) (((cell_view c.in-Some.pass).owns ++ puts_key) ++ added.own) in
@@ -138,7 +144,34 @@ returns-clause-begins g c =
       up_to_date = up_to_date_on k c.live_lasts.ensures base also log c.keep_beside-receipt.new.desk.seen note c.args.all.now.live c.args.all.now.last
           c.is_counted.ensures.table c.is_counted.ensures.counted c.is_counted.ensures.below added.also_goes_on added.legal added.ends c.keep_beside-receipt.ensures.call.legal.puts_keyed;
       before = (note, added.ends);
-      serves = subst (λ (v : HeldView g.row.K.Denot g.row.D.Denot). Serves k g.D.Device.gives base v c.args.desk.now c.args.moment event c.in_ok-ran.ran.reply
-          (held_view c.run_counted.new.set (cell_view c.keep_beside-receipt.new.pass).seen) c.keep_beside-receipt.new.desk come_to) c.self.view_is
-          (record { is_call = subst (λ (v : HeldView g.row.K.Denot g.row.D.Denot). no_call k (now_of v.set) event ≡ None) (sym c.self.view_is) c.requires.is_call; does = does; call = subst (λ (x : Entry). Call k base c.args.desk.now x c.keep_beside-receipt.new.desk) (sym entry) c.keep_beside-receipt.ensures.call; seen = ap (λ (v : View). v.seen) pass.1 });
+      serves = subst (λ (x : SetStore g.row.K.Denot g.row.D.Denot). Serves k g.D.Device.gives base c.args.self.now c.args.desk.now c.args.moment event c.in_ok-ran.ran.reply
+          (held_view c.run_counted.new.set (cell_view c.keep_beside-receipt.new.pass).seen) c.keep_beside-receipt.new.desk (world_of x)) (sym c.keep_beside-receipt.ensures.store) served;
     }
+
+pub returns-clause-ended : goal.returns-clause-ended
+returns-clause-ended g c =
+    let k = g.K.RecordKind.rules in
+    let base = g.B.EngineName.base in
+    let event = Notify c.args.target c.args.notification c.args.field c.args.given in
+    let is : c.self.inside.pass ≡ Some c.in-Some.pass = sym c.take.ensures.value ∙ c.in-Some.is in
+    let held = subst (λ (o : Option Pass). IsHeld k base g.B.EngineName.had_device g.B.CellName.table o c.self.inside.set) is c.self.invariant in
+    let own = key_there c.self.inside.set.records c.args.target (subst (λ (v : HeldView g.row.K.Denot g.row.D.Denot). Contains (numbers_of v) c.args.target) (sym c.self.view_is) c.requires.there) in
+    let there : (n : ℕ) → Contains (names event) n → Has (now_of c.self.inside.set) n = λ n has. subst (λ (m : ℕ). Has (now_of c.self.inside.set) m) (one_there c.args.target n has) own in
+    let does = c.in_ok-ran.ensures.does in
+    let come_to = world_of c.run_counted.new.buffers.store in
+    let entry = entry_is k g.D.Device.gives c.self.inside.set c.run_counted.new.set c.args.moment event c.in_ok-ran.ran.reply come_to does there (answers_of come_to.calls) refl ∙ sym c.in_ok-ran.ensures.entry in
+    let also = c.args.all.now.seen in
+    let kept = c.keep_beside-receipt.ensures in
+    let added = kept.added in
+    let longer = c.keep_beside-receipt.new.desk.seen in
+    let ends = ended_beside k g.D.Device.gives c.self.inside.set c.run_counted.new.set c.args.moment event c.in_ok-ran.ran.reply come_to does there
+    c.holding_lasts.ensures c.events_are_held.ensures.event c.holders_move.ensures.moves c.parts_share_what_is_held.ensures.alike
+    base (cell_view c.in-Some.pass).seen also (cell_view c.in-Some.pass).owns held.owner.covers held.holds
+    (λ log sound go legal h. tt)
+    (λ log sound go legal h. place_alike k c.one_more_has_a_place.ensures c.live_lasts.ensures c.lists_leave_sound.ensures.after c.lines_tell_holders.ensures.live c.lines_tell_holders.ensures.held base (now_of c.self.inside.set) also log c.args.all.now.live c.args.notification c.args.moment
+    c.is_counted.ensures.table c.is_counted.ensures.counted sound go legal h c.is_sound.ensures.counted c.requires.can.few c.requires.can.free) _ entry added.0 _ added.1
+    c.those_ended_are_over.ensures.over c.those_ended_are_over.ensures.nobody c.lists_leave_sound.ensures.after c.is_sound.ensures.counted in
+    let counts = subst (λ (seen : List Note). AreCounted k base c.keep_beside-receipt.new.all.live seen) kept.seen kept.counted.1 in
+    subst (λ (x : SetStore g.row.K.Denot g.row.D.Denot). HaveEnded k base (world_of x).ended longer c.keep_beside-receipt.new.buffers.ended_everywhere.items) (sym kept.store)
+    (have_ended k base c.lines_tell_holders.ensures.live c.lines_tell_holders.ensures.held come_to.ended c.keep_beside-receipt.new.buffers.ended_everywhere.items longer c.keep_beside-receipt.new.all.live
+    kept.counted.0 counts (c.lists_leave_sound.ensures.after base longer added.1.sound).2 ends kept.ended)

@@ -15,7 +15,8 @@ use Rattle.ioc_set_store.specs.SetStore.{world_of}
 use Rattle.ioc_journaled_set.specs.Holding.{HeldView, held_view, numbers_of, IsHeld, Serves}
 use Rattle.ioc_journaled_set.proofs.Keys.{key_there}
 use Rattle.ioc_journaled_set.proofs.Devices.{worked_there, keeps_on}
-use Rattle.ioc_journaled_set.proofs.Serving.{names_one, begins_no_put, owner_on, entry_is, none_held, may_follow, held_then, only}
+use Rattle.ioc_journaled_set.proofs.Ended.{none_have_ended}
+use Rattle.ioc_journaled_set.proofs.Serving.{names_one, begins_no_put, owner_on, entry_is, none_held, none_ended, may_follow, held_then, only}
 use Rattle.ioc_journaled_set.proofs.journaled_set.JournaledSet.serve_alone.Goals as goal
 
 pub unreachable-requires : goal.unreachable-requires
@@ -44,7 +45,7 @@ append-receipt-requires-clause-follows g c =
     let entry = entry_is k g.D.Device.gives c.self.inside.set c.run_with_answers.new.set c.args.moment c.args.event.now c.in-Ok.done.0 (world_of c.run_with_answers.new.buffers.store) does there c.in-Ok.done.1 c.in-Ok.ensures.answers in
     let same = none_held k g.D.Device.gives c.self.inside.set c.run_with_answers.new.set c.args.moment c.args.event.now c.in-Ok.done.0 (world_of c.run_with_answers.new.buffers.store) does there
     c.events_count_holders.ensures.event c.rules_are_steps.ensures.allowed c.is_sound.ensures.counted none
-    (c.sets_stay_without_puts.ensures c.self.inside.set c.run_with_answers.new.set c.args.moment c.args.event.now c.in-Ok.done.0 (world_of c.run_with_answers.new.buffers.store) does c.requires.ordinary c.is_sound.ensures none) in
+    (c.sets_stay_without_puts.ensures.stay c.self.inside.set c.run_with_answers.new.set c.args.moment c.args.event.now c.in-Ok.done.0 (world_of c.run_with_answers.new.buffers.store) does c.requires.ordinary c.is_sound.ensures none) in
     may_follow k g.D.Device.gives c.self.inside.set c.run_with_answers.new.set c.args.moment c.args.event.now c.in-Ok.done.0 (world_of c.run_with_answers.new.buffers.store) does there
     c.holding_lasts.ensures c.events_are_held.ensures.event c.holders_move.ensures.moves c.parts_share_what_is_held.ensures.alike c.requires.ordinary same
     g.B.EngineName.base (cell_view c.in-Some.pass).seen (cell_view c.in-Some.pass).owns held.owner.covers held.holds _ entry
@@ -66,7 +67,7 @@ invariant_of-self-2 g c =
     let added = c.append-receipt.ensures.added in
     let same = none_held k g.D.Device.gives c.self.inside.set c.run_with_answers.new.set c.args.moment c.args.event.now c.in-Ok.done.0 (world_of c.run_with_answers.new.buffers.store) does there
     c.events_count_holders.ensures.event c.rules_are_steps.ensures.allowed c.is_sound.ensures.counted none
-    (c.sets_stay_without_puts.ensures c.self.inside.set c.run_with_answers.new.set c.args.moment c.args.event.now c.in-Ok.done.0 (world_of c.run_with_answers.new.buffers.store) does c.requires.ordinary c.is_sound.ensures none) in
+    (c.sets_stay_without_puts.ensures.stay c.self.inside.set c.run_with_answers.new.set c.args.moment c.args.event.now c.in-Ok.done.0 (world_of c.run_with_answers.new.buffers.store) does c.requires.ordinary c.is_sound.ensures none) in
     let came = only k g.D.Device.gives c.self.inside.set c.run_with_answers.new.set c.args.moment c.args.event.now c.in-Ok.done.0 (world_of c.run_with_answers.new.buffers.store) does there
     c.rules_are_steps.ensures.allowed c.events_keep_records.ensures held.holds.shut in
     record {
@@ -92,3 +93,24 @@ returns-clause-serves g c =
     subst (λ (v : HeldView g.row.K.Denot g.row.D.Denot). Serves k g.D.Device.gives g.B.EngineName.base v c.args.desk.now c.args.moment c.args.event.now c.in-Ok.done.0
     (held_view c.run_with_answers.new.set (cell_view c.append-receipt.new.set).seen) c.append-receipt.new.desk (world_of c.run_with_answers.new.buffers.store)) c.self.view_is
     (record { is_call = subst (λ (v : HeldView g.row.K.Denot g.row.D.Denot). no_call k (now_of v.set) c.args.event.now ≡ None) (sym c.self.view_is) c.requires.is_call; does = does; call = subst (λ (x : Entry). Call k g.B.EngineName.base c.args.desk.now x c.append-receipt.new.desk) (sym entry) c.append-receipt.ensures.call; seen = ap (λ (v : View). v.seen) set.1 })
+
+pub returns-clause-ended : goal.returns-clause-ended
+returns-clause-ended g c =
+    let k = g.K.RecordKind.rules in
+    let none = subst (λ (v : HeldView g.row.K.Denot g.row.D.Denot). NoneIsLive v.set) (sym c.self.view_is) c.requires.none in
+    let is : c.self.inside.pass ≡ Some c.in-Some.pass = sym c.take.ensures.value ∙ c.in-Some.is in
+    let held = subst (λ (o : Option Pass). IsHeld k g.B.EngineName.base g.B.EngineName.had_device g.B.CellName.table o c.self.inside.set) is c.self.invariant in
+    let there : (n : ℕ) → Contains (names c.args.event.now) n → Has (now_of c.self.inside.set) n = λ n has.
+    key_there c.self.inside.set.records n (subst (λ (v : HeldView g.row.K.Denot g.row.D.Denot). Contains (numbers_of v) n) (sym c.self.view_is) (c.requires.there n has)) in
+    let does = c.in-Ok.ensures.ok in
+    let entry = entry_is k g.D.Device.gives c.self.inside.set c.run_with_answers.new.set c.args.moment c.args.event.now c.in-Ok.done.0 (world_of c.run_with_answers.new.buffers.store) does there c.in-Ok.done.1 c.in-Ok.ensures.answers in
+    let added = c.append-receipt.ensures.added in
+    let same = none_held k g.D.Device.gives c.self.inside.set c.run_with_answers.new.set c.args.moment c.args.event.now c.in-Ok.done.0 (world_of c.run_with_answers.new.buffers.store) does there
+    c.events_count_holders.ensures.event c.rules_are_steps.ensures.allowed c.is_sound.ensures.counted none
+    (c.sets_stay_without_puts.ensures.stay c.self.inside.set c.run_with_answers.new.set c.args.moment c.args.event.now c.in-Ok.done.0 (world_of c.run_with_answers.new.buffers.store) does c.requires.ordinary c.is_sound.ensures none) in
+    let none_here = c.sets_stay_without_puts.ensures.ended c.self.inside.set c.run_with_answers.new.set c.args.moment c.args.event.now c.in-Ok.done.0 (world_of c.run_with_answers.new.buffers.store) does c.requires.ordinary c.is_sound.ensures none in
+    none_have_ended k g.B.EngineName.base (world_of c.run_with_answers.new.buffers.store).ended _ c.append-receipt.new.desk.seen none_here c.clear.ensures.items
+    (none_ended k g.D.Device.gives c.self.inside.set c.run_with_answers.new.set c.args.moment c.args.event.now c.in-Ok.done.0 (world_of c.run_with_answers.new.buffers.store) does there
+    c.holding_lasts.ensures c.events_are_held.ensures.event c.holders_move.ensures.moves c.parts_share_what_is_held.ensures.alike c.requires.ordinary same
+    g.B.EngineName.base (cell_view c.in-Some.pass).seen (cell_view c.in-Some.pass).owns held.owner.covers held.holds
+    c.those_ended_are_over.ensures.over c.is_sound.ensures.counted none_here _ entry added.0 _ added.1)

@@ -9,18 +9,21 @@ use Rattle.ioc_events.specs.declared.event.Entry.{Entry}
 use Rattle.ioc_events.specs.Step.{names}
 use Rattle.ioc_history.specs.Covering.{Holds}
 use Rattle.ioc_history.specs.Legal.{map_of}
+use Rattle.ioc_history.specs.declared.entry.Note.{Note}
 use Rattle.ioc_history.specs.declared.cell.View.{View}
 use Rattle.ioc_history.specs.Account.{Call, Pass, MayBegin, number_given, puts_key}
 use Rattle.ioc_history.proofs.Numbers.{begins_none}
 use Rattle.ioc_set.specs.SetState.{now_of}
 use Rattle.ioc_set.specs.NoCalls.{no_call}
+use Rattle.ioc_set_store.specs.declared.set_store.SetStore.{SetStore}
 use Rattle.ioc_set_store.specs.SetStore.{world_of}
 use Rattle.ioc_journaled_set.specs.Holding.{HeldView, held_view, numbers_of, IsHeld, Serves}
-use Rattle.ioc_journaled_set.specs.Puts.{AreMoved}
+use Rattle.ioc_journaled_set.specs.Puts.{AreMoved, AreCounted, HaveEnded}
 use Rattle.ioc_journaled_set.proofs.Keys.{key_there}
 use Rattle.ioc_journaled_set.proofs.Devices.{worked_there, keeps_on}
 use Rattle.ioc_journaled_set.proofs.Serving.{names_one, begins_no_put, no_cancel, asks_nothing, owner_on, entry_is, only}
-use Rattle.ioc_journaled_set.proofs.Beside.{both_follow, held_beside, moved_beside}
+use Rattle.ioc_journaled_set.proofs.Beside.{both_follow, held_beside, moved_beside, ended_beside}
+use Rattle.ioc_journaled_set.proofs.Ended.{have_ended}
 use Rattle.ioc_journaled_set.proofs.journaled_set.JournaledSet.serve_counted.Goals as goal
 
 pub unreachable-requires : goal.unreachable-requires
@@ -76,7 +79,7 @@ keep_beside-receipt-requires-clause-moves g c =
     base (cell_view c.in-Some.pass).seen also (cell_view c.in-Some.pass).owns held.owner.covers held.holds
     (λ log sound go legal h. no_cancel k (map_of k base log) (now_of c.self.inside.set) c.args.event.now c.requires.ordinary)
     (λ log sound go legal h. asks_nothing k (begun_at c.args.moment (now_of c.self.inside.set)) (begun_at c.args.moment (map_of k base log)) c.args.event.now c.requires.ordinary) _ entry log longer added
-    c.holders_move.ensures.fewer c.holders_move.ensures.few c.lists_leave_sound.ensures.after c.lines_tell_holders.ensures.holders c.is_sound.ensures.counted c.is_sound-2.ensures.counted)
+    c.holders_move.ensures.fewer c.holders_move.ensures.few c.lists_leave_sound.ensures.after c.lines_tell_holders.ensures.holders c.is_sound.ensures.counted c.in_ok-ran.ensures.sound.counted)
 
 pub invariant_of-self-2 : goal.invariant_of-self-2
 invariant_of-self-2 g c =
@@ -117,6 +120,34 @@ returns-clause-serves g c =
     let entry = entry_is k g.D.Device.gives c.self.inside.set c.run_counted.new.set c.args.moment c.args.event.now c.in_ok-ran.ran.reply come_to does there (answers_of come_to.calls) refl ∙ sym c.in_ok-ran.ensures.entry in
     let also = c.deref_mut-all.result.now.seen in
     let pass = c.keep_beside-receipt.ensures.pass in
-    subst (λ (v : HeldView g.row.K.Denot g.row.D.Denot). Serves k g.D.Device.gives base v c.args.desk.now c.args.moment c.args.event.now c.in_ok-ran.ran.reply
+    let served = subst (λ (v : HeldView g.row.K.Denot g.row.D.Denot). Serves k g.D.Device.gives base v c.args.desk.now c.args.moment c.args.event.now c.in_ok-ran.ran.reply
     (held_view c.run_counted.new.set (cell_view c.keep_beside-receipt.new.pass).seen) c.keep_beside-receipt.new.desk come_to) c.self.view_is
-    (record { is_call = subst (λ (v : HeldView g.row.K.Denot g.row.D.Denot). no_call k (now_of v.set) c.args.event.now ≡ None) (sym c.self.view_is) c.requires.is_call; does = does; call = subst (λ (x : Entry). Call k base c.args.desk.now x c.keep_beside-receipt.new.desk) (sym entry) c.keep_beside-receipt.ensures.call; seen = ap (λ (v : View). v.seen) pass.1 })
+    (record { is_call = subst (λ (v : HeldView g.row.K.Denot g.row.D.Denot). no_call k (now_of v.set) c.args.event.now ≡ None) (sym c.self.view_is) c.requires.is_call; does = does; call = subst (λ (x : Entry). Call k base c.args.desk.now x c.keep_beside-receipt.new.desk) (sym entry) c.keep_beside-receipt.ensures.call; seen = ap (λ (v : View). v.seen) pass.1 }) in
+    subst (λ (x : SetStore g.row.K.Denot g.row.D.Denot). Serves k g.D.Device.gives base c.args.self.now c.args.desk.now c.args.moment c.args.event.now c.in_ok-ran.ran.reply
+    (held_view c.run_counted.new.set (cell_view c.keep_beside-receipt.new.pass).seen) c.keep_beside-receipt.new.desk (world_of x)) (sym c.keep_beside-receipt.ensures.store) served
+
+pub returns-clause-ended : goal.returns-clause-ended
+returns-clause-ended g c =
+    let k = g.K.RecordKind.rules in
+    let base = g.B.EngineName.base in
+    let is : c.self.inside.pass ≡ Some c.in-Some.pass = sym c.take.ensures.value ∙ c.in-Some.is in
+    let held = subst (λ (o : Option Pass). IsHeld k base g.B.EngineName.had_device g.B.CellName.table o c.self.inside.set) is c.self.invariant in
+    let there : (n : ℕ) → Contains (names c.args.event.now) n → Has (now_of c.self.inside.set) n = λ n has.
+    key_there c.self.inside.set.records n (subst (λ (v : HeldView g.row.K.Denot g.row.D.Denot). Contains (numbers_of v) n) (sym c.self.view_is) (c.requires.there n has)) in
+    let does = c.in_ok-ran.ensures.does in
+    let come_to = world_of c.run_counted.new.buffers.store in
+    let entry = entry_is k g.D.Device.gives c.self.inside.set c.run_counted.new.set c.args.moment c.args.event.now c.in_ok-ran.ran.reply come_to does there (answers_of come_to.calls) refl ∙ sym c.in_ok-ran.ensures.entry in
+    let also = c.deref_mut-all.result.now.seen in
+    let kept = c.keep_beside-receipt.ensures in
+    let added = kept.added in
+    let longer = c.keep_beside-receipt.new.desk.seen in
+    let ends = ended_beside k g.D.Device.gives c.self.inside.set c.run_counted.new.set c.args.moment c.args.event.now c.in_ok-ran.ran.reply come_to does there
+    c.holding_lasts.ensures c.events_are_held.ensures.event c.holders_move.ensures.moves c.parts_share_what_is_held.ensures.alike
+    base (cell_view c.in-Some.pass).seen also (cell_view c.in-Some.pass).owns held.owner.covers held.holds
+    (λ log sound go legal h. no_cancel k (map_of k base log) (now_of c.self.inside.set) c.args.event.now c.requires.ordinary)
+    (λ log sound go legal h. asks_nothing k (begun_at c.args.moment (now_of c.self.inside.set)) (begun_at c.args.moment (map_of k base log)) c.args.event.now c.requires.ordinary) _ entry added.0 _ added.1
+    c.those_ended_are_over.ensures.over c.those_ended_are_over.ensures.nobody c.lists_leave_sound.ensures.after c.is_sound.ensures.counted in
+    let counts = subst (λ (seen : List Note). AreCounted k base c.keep_beside-receipt.new.all.live seen) kept.seen kept.counted.1 in
+    subst (λ (x : SetStore g.row.K.Denot g.row.D.Denot). HaveEnded k base (world_of x).ended longer c.keep_beside-receipt.new.buffers.ended_everywhere.items) (sym kept.store)
+    (have_ended k base c.lines_tell_holders.ensures.live c.lines_tell_holders.ensures.held come_to.ended c.keep_beside-receipt.new.buffers.ended_everywhere.items longer c.keep_beside-receipt.new.all.live
+    kept.counted.0 counts (c.lists_leave_sound.ensures.after base longer added.1.sound).2 ends kept.ended)

@@ -13,7 +13,7 @@ use Rattle.ioc_history.specs.Covering.{Cover}
 use Rattle.ioc_history.specs.Account.{MayFollow, Call, Added, puts_key}
 use Rattle.ioc_set.specs.SetState.{now_of, nothing_held}
 use Rattle.ioc_journaled_set.specs.Passes.{IsDealt}
-use Rattle.ioc_journaled_set.proofs.Following.{may_follow, puts_owned, covered_then, share_none_then, held_then, nobody_then, others_then, none_began_then}
+use Rattle.ioc_journaled_set.proofs.Following.{may_follow, puts_owned, covered_then, share_none_then, held_then, nobody_then, none_ended_then, others_then, none_began_then}
 use Rattle.ioc_journaled_set.proofs.together.giving_up.give_up.Goals as goal
 
 pub merge_all-requires-clause-passes : goal.merge_all-requires-clause-passes
@@ -63,6 +63,9 @@ returns-clause-gave_up g c =
           log longer added after c.in_default.ensures.ok i d (let same = c.cancel_all.auto.sets in omega (arith, lt, same));
       keeps = c.deal_all.ensures.keeper.1 ∙ ap (λ (l : List Note). holder l puts_key) seen;
       nobody = nobody_then g.K.RecordKind.rules g.B.EngineName.base c.holding_lasts.ensures c.live_lasts.ensures c.cancelled_sets_are_held.ensures g.B.CellName.table c.args.number c.args.moment c.args.sets.now c.args.passes.now (cell_view c.args.keeper.now) (cell_view c.merge_all.new.keeper)
+          c.requires.keeper.1 c.requires.held c.requires.have c.all_sound.ensures c.requires.beside c.merge_all.ensures.merged
+          log longer added;
+      none_ended = none_ended_then g.K.RecordKind.rules g.B.EngineName.base c.holding_lasts.ensures c.live_lasts.ensures c.cancelled_sets_are_held.ensures g.B.CellName.table c.args.number c.args.moment c.args.sets.now c.args.passes.now (cell_view c.args.keeper.now) (cell_view c.merge_all.new.keeper)
           c.requires.keeper.1 c.requires.held c.requires.have c.all_sound.ensures c.requires.beside c.merge_all.ensures.merged
           log longer added;
       others = others_then g.K.RecordKind.rules g.B.EngineName.base c.holding_lasts.ensures c.live_lasts.ensures c.cancelled_sets_are_held.ensures g.B.CellName.table c.args.number c.args.moment c.args.sets.now c.args.passes.now (cell_view c.args.keeper.now) (cell_view c.merge_all.new.keeper)

@@ -1,4 +1,4 @@
-use Rattle.std.proofs.Common.{ap, ◌∙◌}
+use Rattle.std.proofs.Common.{ap, ◌∙◌, arith}
 use Rattle.std.specs.Ordering.{nat_cmp}
 use Rattle.std.specs.FinMap.{len, len-empty}
 use Rattle.ioc_set_records.specs.Contents.{Contents}
@@ -12,4 +12,5 @@ invariant_of-result g c = record {
   no_frame = c.new-3.ensures.items;
   no_answer = c.new-4.ensures.items;
   none_journaled = c.new-5.ensures.items;
+  ended_fit = let room = c.in_ok-ended_everywhere.ensures.exact in omega (arith, room);
 }
