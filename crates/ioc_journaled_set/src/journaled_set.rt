@@ -10,6 +10,7 @@ ghost use Rattle.ioc_set.specs.SetState.{NoneIsLive, now_of};
 ghost use Rattle.ioc_set.specs.NoCalls.{no_call};
 ghost use Rattle.ioc_set.specs.Doing.{is_ordinary};
 ghost use Rattle.ioc_history.specs.Places.{IsNoPlace};
+ghost use Rattle.ioc_set_records.specs.Slots.{devices_of, records_of};
 ghost use Rattle.ioc_set_store.specs.SetStore.{world_of};
 ghost use Rattle.ioc_journaled_set.specs.Puts.{HaveEnded};
 ghost use Rattle.ioc_journaled_set.specs.Holding.{IsLent, IsOwner, KeepsDevices, held_view, numbers_of, Serves, Tells, IsNoCall};
@@ -31,6 +32,7 @@ use ioc_notify::NotifyId;
 use ioc_notify::table_laws::lines_tell_holders;
 use ioc_record::RecordKind;
 use ioc_set::{LockSet, sets_stay_without_puts};
+use ioc_set_records::Slot;
 use ioc_set_store::EventBuffers;
 use ioc_values::IocError;
 use std::alloc::Global;
@@ -83,6 +85,19 @@ impl<K: RecordKind, B: EngineName<K>, D> JournaledSet<K, B, D> {
         ensures { KeepsDevices B.had_device self.now.set }
     {
         let _ = &self.set;
+    }
+
+    /// Returns the records in ascending order of their numbers, each with its device.
+    pub fn into_slots(self) -> Vec<Slot<K, D>>
+        ensures records { records_of result.items ≡ self.set.records }
+        ensures devices { devices_of result.items ≡ self.set.devices }
+    {
+        let JournaledSet {
+            set,
+            pass: _,
+            of: _,
+        } = self;
+        set.into_members().into_slots()
     }
 
     /// Returns the set and the pass that owns the keys of its records. A set without records and

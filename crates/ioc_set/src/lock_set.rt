@@ -115,6 +115,20 @@ impl<K: RecordKind, D> LockSet<K, D> {
         self.members.devices_are_owned();
     }
 
+    /// Returns the records, each with its device. The counts and the history are dropped.
+    pub fn into_members(self) -> Members<K, D>
+        ensures { (result.records ≡ self.records) × (result.devices ≡ self.devices) }
+    {
+        let LockSet {
+            members,
+            puts: _,
+            tally: _,
+            base_tally: _,
+            history: _,
+        } = self;
+        members
+    }
+
     /// Returns the number of records.
     pub fn len(&self) -> usize
         ensures { result ≡ map.len self.now.records }

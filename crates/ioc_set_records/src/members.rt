@@ -8,6 +8,7 @@ ghost use Rattle.ioc_set_records.specs.Answers.{Gives, GivesAt};
 ghost use Rattle.ioc_set_records.specs.Changed.{all_changed};
 ghost use Rattle.ioc_set_records.specs.Contents.{nothing, record_at, with_device, DevicesAreOwned, BaseHasTheSame, RecordsAreLikeTheirBase};
 ghost use Rattle.ioc_set_records.specs.Joined.{links_of, IsPart, HasLink, HasFreeLink};
+ghost use Rattle.ioc_set_records.specs.Slots.{contents_of};
 
 use crate::changing::{Change, change_slots};
 use crate::connected::are_one_part;
@@ -77,6 +78,18 @@ impl<K, D> Members<K, D> {
             changed,
             latest: 0,
         })
+    }
+
+    /// Returns the records in ascending order of their numbers, each with its device and its base.
+    pub fn into_slots(self) -> Vec<Slot<K, D>>
+        ensures { contents_of result.items ≡ self }
+    {
+        let Members {
+            slots,
+            changed: _,
+            latest: _,
+        } = self;
+        slots
     }
 
     /// Returns the number of records.
