@@ -2,3 +2,4 @@ mod Texts
 mod Closing
 mod Bindings
 mod Copied
+mod GivingBack

@@ -3,3 +3,4 @@ pub mod Named
 pub mod Calls
 pub mod Relinking
 pub mod Binding
+pub mod Stopped

@@ -1,6 +1,7 @@
 //! Desks.
 use crate::engine_name::EngineName;
 use ioc_history;
+use ioc_notify::NotifyId;
 use ioc_set_store::EventBuffers;
 use rec_types::Record;
 use std::alloc::Global;
@@ -17,6 +18,14 @@ pub struct Desk<B: EngineName, D: Drop> {
 
 impl<B: EngineName, D: Drop> Desk<B, D> {
     ghost use Rattle.std.specs.Prelude.{◌≡◌};
+
+    /// Returns the puts with notification that have ended by the desk's last call, in order: no record
+    /// of any lock set is part of them any more.
+    pub fn ended(&self) -> &[NotifyId]
+        ensures { result.now ≡ self.now.buffers.ended_everywhere.items }
+    {
+        self.buffers.ended()
+    }
 
     /// Returns the number of records that the desk's last link change moved to another lock set.
     pub fn moved(&self) -> usize

@@ -12,6 +12,7 @@ ghost use Rattle.ioc_history.specs.Places.{AreAllowed};
 ghost use Rattle.ioc_names.specs.NameTable.{number_of};
 ghost use Rattle.ioc_values.specs.declared.error.IocError.TheVariants.{NoRecord};
 ghost use Rattle.std.specs.Prelude.{ok_or, true, ◌∷◌};
+ghost use Rattle.ioc_journaled_set.specs.Puts.{HaveEnded};
 ghost use Rattle.ioc_engine_core.specs.Served.{CallIsRefused};
 ghost use Rattle.ioc_engine.specs.Calls.{WasAnswered, WasDone};
 ghost use Rattle.ioc_engine.specs.Channels.{channel_of};
@@ -163,9 +164,12 @@ impl<B: EngineName, D: Device, C: Clock + Drop> Engine<B, D, C> {
         ensures done { IfOk result (λ x. WasDone D B.base D.gives number desk.old.account event.now x.0 desk.new.account
             (world_of desk.new.buffers.store)) }
         ensures receipt { IfOk result (λ x. x.1 ≡ desk.new.account.seen) }
+        ensures ended { OnOk result (HaveEnded record_rules B.base (world_of desk.new.buffers.store).ended desk.new.account.seen
+            desk.new.buffers.ended_everywhere.items) }
         ensures refused { IfErr result (CallIsRefused D record_rules B.base self.now.core number event.now) }
         ensures err { OnErr result (desk.new.account ≡ desk.old.account) }
     {
+        desk.buffers.ended_everywhere.clear();
         let alloc = desk.alloc;
         self.core.serve(
             rt,
@@ -194,6 +198,8 @@ impl<B: EngineName, D: Device, C: Clock + Drop> Engine<B, D, C> {
         ensures done { IfOk result (λ x. WasDone D B.base D.gives number desk.old.account (Process number) x.0 desk.new.account
             (world_of desk.new.buffers.store)) }
         ensures receipt { IfOk result (λ x. x.1 ≡ desk.new.account.seen) }
+        ensures ended { OnOk result (HaveEnded record_rules B.base (world_of desk.new.buffers.store).ended desk.new.account.seen
+            desk.new.buffers.ended_everywhere.items) }
         ensures refused { IfErr result (CallIsRefused D record_rules B.base self.now.core number (Process number)) }
         ensures err { OnErr result (desk.new.account ≡ desk.old.account) }
     {
@@ -216,6 +222,8 @@ impl<B: EngineName, D: Device, C: Clock + Drop> Engine<B, D, C> {
         ensures done { IfOk result (λ x. WasDone D B.base D.gives number desk.old.account (Process number) x.0 desk.new.account
             (world_of desk.new.buffers.store)) }
         ensures receipt { IfOk result (λ x. x.1 ≡ desk.new.account.seen) }
+        ensures ended { OnOk result (HaveEnded record_rules B.base (world_of desk.new.buffers.store).ended desk.new.account.seen
+            desk.new.buffers.ended_everywhere.items) }
         ensures refused { IfErr result (CallIsRefused D record_rules B.base self.now.core number (Process number)) }
         ensures err { OnErr result (desk.new.account ≡ desk.old.account) }
     {
@@ -243,6 +251,8 @@ impl<B: EngineName, D: Device, C: Clock + Drop> Engine<B, D, C> {
         ensures done { IfOk result (λ x. WasDone D B.base D.gives channel.number desk.old.account
             (Put channel.number channel.field given) x.0 desk.new.account (world_of desk.new.buffers.store)) }
         ensures receipt { IfOk result (λ x. x.1 ≡ desk.new.account.seen) }
+        ensures ended { OnOk result (HaveEnded record_rules B.base (world_of desk.new.buffers.store).ended desk.new.account.seen
+            desk.new.buffers.ended_everywhere.items) }
         ensures refused { IfErr result (CallIsRefused D record_rules B.base self.now.core channel.number
             (Put channel.number channel.field given)) }
         ensures err { OnErr result (desk.new.account ≡ desk.old.account) }
@@ -270,6 +280,8 @@ impl<B: EngineName, D: Device, C: Clock + Drop> Engine<B, D, C> {
         ensures done { IfOk result (λ x. WasDone D B.base D.gives number desk.old.account (Complete number wait finished) x.0
             desk.new.account (world_of desk.new.buffers.store)) }
         ensures receipt { IfOk result (λ x. x.1 ≡ desk.new.account.seen) }
+        ensures ended { OnOk result (HaveEnded record_rules B.base (world_of desk.new.buffers.store).ended desk.new.account.seen
+            desk.new.buffers.ended_everywhere.items) }
         ensures refused { IfErr result (CallIsRefused D record_rules B.base self.now.core number (Complete number wait finished)) }
         ensures err { OnErr result (desk.new.account ≡ desk.old.account) }
     {
@@ -291,10 +303,12 @@ impl<B: EngineName, D: Device, C: Clock + Drop> Engine<B, D, C> {
         ensures answered { IfOk result (λ x. WasAnswered D B.base channel.number desk.old.account
             (Get channel.number channel.field) x.0 desk.new.account) }
         ensures receipt { IfOk result (λ x. x.1 ≡ desk.new.account.seen) }
+        ensures ended { desk.new.buffers.ended_everywhere.items ≡ [] }
         ensures refused { IfErr result (CallIsRefused D record_rules B.base self.now.core channel.number
             (Get channel.number channel.field)) }
         ensures err { OnErr result (desk.new.account ≡ desk.old.account) }
     {
+        desk.buffers.ended_everywhere.clear();
         let moment = self.clock.now();
         self.core.get(
             rt,

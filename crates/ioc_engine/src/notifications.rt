@@ -1,14 +1,13 @@
 //! Puts with notification.
-ghost use Rattle.std.specs.Prelude.{◌≡◌, ◌⊎◌, ℕ, IfOk, IfErr, OnErr};
+ghost use Rattle.std.specs.Prelude.{◌≡◌, ◌⊎◌, ℕ, [], IfOk, IfErr, OnOk, OnErr};
 ghost use Rattle.ioc_values.specs.declared.error.IocError.TheVariants.{QueueFull, Stopped};
 ghost use Rattle.rec_types.specs.Record.{record_rules};
-ghost use Rattle.ioc_events.specs.declared.event.Event.TheVariants.{Put, Notify};
+ghost use Rattle.ioc_events.specs.declared.event.Event.TheVariants.{Put};
 ghost use Rattle.ioc_history.specs.Places.{IsNoPlace};
-ghost use Rattle.ioc_journaled_set.specs.Puts.{PutsView, WasAsked};
+ghost use Rattle.ioc_journaled_set.specs.Puts.{PutsView, WasAsked, NoneMayBegin, HaveEnded};
 ghost use Rattle.ioc_set_store.specs.SetStore.{world_of};
-ghost use Rattle.ioc_engine_core.specs.Served.{CallIsRefused};
+ghost use Rattle.ioc_engine_core.specs.Served.{WasBegun, CallIsRefused};
 ghost use Rattle.ioc_engine_core.specs.Cancelled.{WasCancelled};
-ghost use Rattle.ioc_engine.specs.Calls.{WasDone};
 
 use crate::Receipt;
 use crate::channel::Channel;
@@ -24,8 +23,9 @@ use std::sync::Wait;
 
 impl<B: EngineName, D: Device, C: Clock + Drop> Engine<B, D, C> {
     /// Puts a value into a field with notification (dbPutNotify): the records that are processed for
-    /// it become part of the put with notification, which ends when the last of them is done. Its
-    /// number is in the reply. If the record awaits its device, the put waits for it.
+    /// it become part of the put with notification, which ends when the last of them is done: the
+    /// call by which that happens has it in [`Desk::ended`]. Its number, one more than that of the
+    /// last one, is in the reply. If the record awaits its device, the put waits for it.
     ///
     /// # Errors
     ///
@@ -38,13 +38,16 @@ impl<B: EngineName, D: Device, C: Clock + Drop> Engine<B, D, C> {
         channel: Channel,
         given: Input,
     ) -> Result<(Reply, Receipt<B>), IocError>
-        ensures done { IfOk result (λ x. (n : ℕ) × WasDone D B.base D.gives channel.number desk.old.account
-            (Notify channel.number n channel.field given) x.0 desk.new.account (world_of desk.new.buffers.store)) }
+        ensures begun { IfOk result (λ x. (moment : ℕ) × WasBegun D record_rules B.base D.gives channel.number desk.old.account
+            moment channel.field given x.0 desk.new.account (world_of desk.new.buffers.store)) }
         ensures receipt { IfOk result (λ x. x.1 ≡ desk.new.account.seen) }
-        ensures refused { IfErr result (λ error. (error ≡ QueueFull) ⊎ CallIsRefused D record_rules B.base self.now.core
+        ensures ended { OnOk result (HaveEnded record_rules B.base (world_of desk.new.buffers.store).ended desk.new.account.seen
+            desk.new.buffers.ended_everywhere.items) }
+        ensures refused { IfErr result (λ error. ((error ≡ QueueFull) × NoneMayBegin record_rules B.base) ⊎ CallIsRefused D record_rules B.base self.now.core
             channel.number (Put channel.number channel.field given) error) }
         ensures err { OnErr result (desk.new.account ≡ desk.old.account) }
     {
+        desk.buffers.ended_everywhere.clear();
         let alloc = desk.alloc;
         let moment = self.clock.now();
         self.core.put_notify(
@@ -75,9 +78,11 @@ impl<B: EngineName, D: Device, C: Clock + Drop> Engine<B, D, C> {
         ensures asked { IfOk result (λ x. (moment : ℕ) × (puts puts_then : PutsView)
             × WasAsked record_rules B.base puts desk.old.account moment number x.0 puts_then desk.new.account) }
         ensures receipt { IfOk result (λ x. x.1 ≡ desk.new.account.seen) }
+        ensures ended { OnOk result (desk.new.buffers.ended_everywhere.items ≡ []) }
         ensures refused { IfErr result (λ error. (error ≡ Stopped) ⊎ IsNoPlace error) }
         ensures err { OnErr result (desk.new.account ≡ desk.old.account) }
     {
+        desk.buffers.ended_everywhere.clear();
         let moment = self.clock.now();
         self.core
             .live(rt, desk.alloc, &mut desk.account, number, moment)
@@ -99,9 +104,11 @@ impl<B: EngineName, D: Device, C: Clock + Drop> Engine<B, D, C> {
         ensures canceled { IfOk result (λ x. (moment : ℕ)
             × WasCancelled D record_rules B.base number desk.old.account moment x.0 desk.new.account) }
         ensures receipt { IfOk result (λ x. x.1 ≡ desk.new.account.seen) }
+        ensures ended { OnOk result (desk.new.buffers.ended_everywhere.items ≡ []) }
         ensures refused { IfErr result (λ error. (error ≡ Stopped) ⊎ IsNoPlace error) }
         ensures err { OnErr result (desk.new.account ≡ desk.old.account) }
     {
+        desk.buffers.ended_everywhere.clear();
         let alloc = desk.alloc;
         let moment = self.clock.now();
         self.core.cancel(

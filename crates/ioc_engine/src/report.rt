@@ -1,9 +1,10 @@
 //! The end of an engine.
-ghost use Rattle.std.specs.Prelude.{◌≡◌, IfOk, IfErr};
+ghost use Rattle.std.specs.Prelude.{◌≡◌, ◌++◌, map, IfOk, IfErr, OnOk};
 ghost use Rattle.rec_types.specs.Record.{record_rules};
 ghost use Rattle.ioc_history.specs.Account.{IsEntryOf};
 ghost use Rattle.ioc_engine_core.specs.Ended.{IsEnd, counts_in};
 ghost use Rattle.ioc_engine_core.specs.Once.{AreAllBack};
+ghost use Rattle.ioc_engine.specs.Stopped.{stopped_of, GivesBack};
 
 use crate::Receipt;
 use crate::engine::Engine;
@@ -11,7 +12,10 @@ use crate::engine_name::EngineName;
 use ioc_engine_core::{OnceTally, Report as CoreReport};
 use ioc_history::JournalEntry;
 use ioc_ledger::Tally;
+use ioc_names::RecordNo;
+use ioc_set_records::Slot;
 use rec_types::Record;
+use std::alloc::{AllocError, Global};
 use std::sync::Wait;
 
 /// What is left of an engine when it ends: its records with their devices, and its journal.
@@ -20,11 +24,43 @@ pub struct Report<B: EngineName, D: Drop> {
     pub(crate) core: CoreReport<Record, B, D>,
 }
 
-/// A record of an engine that was stopped, with its device, if it has one.
+/// A record of an engine that was stopped, with its number and its device, if it has one.
 #[derive(Drop)]
 pub struct StoppedRecord<D> {
+    pub number: RecordNo,
     pub record: Record,
     pub device: Option<D>,
+}
+
+impl<D> StoppedRecord<D> {
+    /// Returns the name of the record.
+    pub fn name(&self) -> &[u8] {
+        self.record.common.name.as_slice()
+    }
+}
+
+// Appends the records of these slots, each with its device.
+fn add_records<D: Drop>(
+    all: &mut Vec<StoppedRecord<D>>,
+    slots: Vec<Slot<Record, D>>,
+) -> Result<(), AllocError>
+    ensures { OnOk result (all.new.items ≡ all.old.items ++ map stopped_of slots.items) }
+{
+    for slot in slots {
+        let Slot {
+            number,
+            fields,
+            base: _,
+            is_changed: _,
+            device,
+        } = slot;
+        all.push(StoppedRecord {
+            number,
+            record: fields,
+            device,
+        })?;
+    }
+    Ok(())
 }
 
 impl<B: EngineName, D: Drop, C: Drop> Engine<B, D, C> {
@@ -85,5 +121,20 @@ impl<B: EngineName, D: Drop> Report<B, D> {
         ensures entry { IsEntryOf receipt.old self.old.core.journal.filled result.now }
     {
         self.core.journal.entry(rt, receipt)
+    }
+
+    /// Returns the records of all lock sets, those of one set after another, each with its device.
+    ///
+    /// # Errors
+    ///
+    /// [`AllocError`] if allocation fails; the records are dropped then.
+    pub fn into_records(self, alloc: Global) -> Result<Vec<StoppedRecord<D>>, AllocError>
+        ensures { IfOk result (λ all. GivesBack self.core.sets.items all.items) }
+    {
+        let mut all = Vec::new(alloc);
+        for set in self.core.sets {
+            add_records(&mut all, set.into_slots())?;
+        }
+        Ok(all)
     }
 }

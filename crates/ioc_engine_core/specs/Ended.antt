@@ -3,6 +3,7 @@
 use Rattle.std.specs.Prelude.{◌≡◌, ℕ, Bool, List, IsSome, All}
 use Rattle.std.specs.List.{sum_by}
 use Rattle.std.specs.FinMap.{get}
+use Rattle.ioc_notify.specs.Waits.{at_record}
 use Rattle.ioc_record.specs.RecordRules.{RecordRules}
 use Rattle.ioc_store.specs.World.{World}
 use Rattle.ioc_topology.specs.Gathered.{HoldEach}
@@ -14,14 +15,16 @@ use Rattle.ioc_ledger.specs.declared.tally.Tally.{Tally}
 use Rattle.ioc_ledger.specs.Requests.{filled}
 
 module _ {R D : Type 0} (k : RecordRules R) (base : World R) where
-  -- Holds if, at the set's numbers, the list leads to the records of the set.
-  abbrev pub IsAsTold : List Note → HeldView R D → Type 0
-  IsAsTold log h = (n : ℕ) → IsSome (get h.set.records n) → get (map_of k base log).records n ≡ get h.set.records n
+  -- Holds if, at the set's numbers, the list leads to the records of the set and to the puts with
+  -- notification that wait for them.
+  pub record IsAsTold (log : List Note) (h : HeldView R D) : Type 0 where
+    pub records : (n : ℕ) → IsSome (get h.set.records n) → get (map_of k base log).records n ≡ get h.set.records n
+    pub waiting : (n : ℕ) → IsSome (get h.set.records n) → at_record n (map_of k base log).waiting ≡ at_record n h.set.waiting
 
   -- The sets have each of the first `count` records, and none is in two of them. Each set is sound,
   -- so its records are one connected part, and exactly those records have a device that had one at
   -- the load. The list of all calls is legal, and leads from the world at the load to the records
-  -- of the sets.
+  -- of the sets and their waiting lists.
   pub record IsEnd (had : ℕ → Bool) (count : ℕ) (log : List Note) (sets : List (HeldView R D)) : Type 0 where
     pub each : HoldEach numbers_of sets count
     pub sound : All (IsSoundlyHeld k base) sets

@@ -2,7 +2,9 @@
 -- The journal is this project's own.
 use Rattle.std.specs.Prelude.{ℕ, ◌≡◌, ◌⊎◌, Some, Contains}
 use Rattle.ioc_values.specs.declared.error.IocError.{IocError}
+use Rattle.ioc_values.specs.declared.input.Input.{Input}
 use Rattle.ioc_values.specs.declared.error.IocError.TheVariants.{Stopped}
+use Rattle.ioc_fields.specs.declared.field_no.FieldNo.{FieldNo}
 use Rattle.ioc_device.specs.declared.Ask.{Ask}
 use Rattle.ioc_device.specs.declared.Answer.{Answer}
 use Rattle.ioc_record.specs.RecordRules.{RecordRules}
@@ -14,7 +16,7 @@ use Rattle.ioc_history.specs.Places.{IsNoPlace}
 use Rattle.ioc_set.specs.SetState.{now_of}
 use Rattle.ioc_set.specs.NoCalls.{no_call}
 use Rattle.ioc_topology.specs.Change.{IsRefused}
-use Rattle.ioc_journaled_set.specs.Holding.{HeldView, numbers_of, IsSoundlyHeld, Serves, Tells}
+use Rattle.ioc_journaled_set.specs.Holding.{HeldView, numbers_of, IsSoundlyHeld, Serves, Tells, Begins}
 
 module _ {R : Type 0} (D : Type 0) (k : RecordRules R) (base : World R) where
   -- A sound set has the record, and the record has no such field, or the field can't be put.
@@ -48,4 +50,14 @@ module _ {R : Type 0} (D : Type 0) (k : RecordRules R) (base : World R) where
     pub here : Contains (numbers_of held) number
     pub before : IsSoundlyHeld k base held
     pub serves : Serves k gives base held desk at_moment done reply held_then desk_then come_to
+    pub after : IsSoundlyHeld k base held_then
+
+  -- A put with notification of a desk began on the set of the record, which was sound before and is
+  -- sound afterwards.
+  pub record WasBegun (gives : D → Ask → ℕ → Answer → D → Type 0) (number : ℕ) (desk : DeskView) (at_moment : ℕ) (field : FieldNo) (given : Input) (reply : Reply) (desk_then : DeskView) (come_to : World R) : Type 0 where
+    pub held : HeldView R D
+    pub held_then : HeldView R D
+    pub here : Contains (numbers_of held) number
+    pub before : IsSoundlyHeld k base held
+    pub begins : Begins k gives base held desk at_moment number field given reply held_then desk_then come_to
     pub after : IsSoundlyHeld k base held_then

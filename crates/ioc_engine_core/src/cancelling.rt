@@ -1,5 +1,5 @@
 //! Cancels of puts with notification.
-ghost use Rattle.std.specs.Prelude.{◌≡◌, ◌⊎◌, All, IfOk, IfErr, IfNone, OnErr};
+ghost use Rattle.std.specs.Prelude.{◌≡◌, ◌⊎◌, [], All, IfOk, IfErr, IfNone, OnOk, OnErr};
 ghost use Rattle.std.specs.Option.{IfSome};
 ghost use Rattle.ioc_values.specs.declared.error.IocError.TheVariants.{Stopped};
 ghost use Rattle.ioc_history.specs.Places.{IsNoPlace};
@@ -68,6 +68,7 @@ impl<K: RecordKind + Drop, B: EngineName<K>, D: Device> EngineCore<K, B, D> {
     ) -> Result<Option<(Reply, Receipt<K, B>)>, IocError>
         ensures gave_up { IfOk result (λ told. IfSome told (λ x. WasGivenUp D K.rules B.base number desk.old moment x.0 desk.new)) }
         ensures receipt { IfOk result (λ told. IfSome told (λ x. x.1 ≡ desk.new.seen)) }
+        ensures ended { IfOk result (λ told. IfSome told (λ _. buffers.new.ended_everywhere.items ≡ [])) }
         ensures missing { IfOk result (λ told. IfNone told (desk.new ≡ desk.old)) }
         ensures refused { IfErr result IsNoPlace }
         ensures err { OnErr result (desk.new ≡ desk.old) }
@@ -109,6 +110,7 @@ impl<K: RecordKind + Drop, B: EngineName<K>, D: Device> EngineCore<K, B, D> {
     ) -> Result<(Reply, Receipt<K, B>), IocError>
         ensures cancelled { IfOk result (λ x. WasCancelled D K.rules B.base number desk.old moment x.0 desk.new) }
         ensures receipt { IfOk result (λ x. x.1 ≡ desk.new.seen) }
+        ensures ended { OnOk result (buffers.new.ended_everywhere.items ≡ []) }
         ensures refused { IfErr result (λ error. (error ≡ Stopped) ⊎ IsNoPlace error) }
         ensures err { OnErr result (desk.new ≡ desk.old) }
     {
@@ -117,6 +119,7 @@ impl<K: RecordKind + Drop, B: EngineName<K>, D: Device> EngineCore<K, B, D> {
         }
         let _guard = self.sets.guard_topology(rt);
         for _ in rt.forever() {
+            buffers.ended_everywhere.clear();
             if let Some(told) = self.refuse_stale(rt, alloc, desk, number, moment)? {
                 return Ok(told);
             }

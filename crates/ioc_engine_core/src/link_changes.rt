@@ -1,5 +1,5 @@
 //! Link changes of the engine.
-ghost use Rattle.std.specs.Prelude.{◌≡◌, IfOk, IfErr, OnOk, OnErr};
+ghost use Rattle.std.specs.Prelude.{◌≡◌, [], IfOk, IfErr, OnOk, OnErr};
 ghost use Rattle.ioc_set_store.specs.SetStore.{world_of};
 ghost use Rattle.ioc_topology.specs.Change.{AreKnown, AreLent};
 ghost use Rattle.ioc_journaled_set.specs.Holding.{numbers_of};
@@ -41,6 +41,7 @@ impl<K: RecordKind + Drop, B: EngineName<K>, D: Device> EngineCore<K, B, D> {
         ensures changed { IfOk result (λ c. WasLinked D K.rules B.base number field link desk.old moment c.reply c.moved desk.new
             (world_of buffers.new.store)) }
         ensures receipt { IfOk result (λ c. c.receipt ≡ desk.new.seen) }
+        ensures ended { OnOk result (buffers.new.ended_everywhere.items ≡ []) }
         ensures refused { IfErr result (LinkWasRefused D K.rules B.base self.now number field link) }
         ensures err { OnErr result (desk.new ≡ desk.old) }
     {
@@ -81,6 +82,7 @@ impl<K: RecordKind + Drop, B: EngineName<K>, D: Device> EngineCore<K, B, D> {
         ensures changed { IfOk result (λ c. WasLinked D K.rules B.base number field link desk.old moment c.reply c.moved desk.new
             (world_of buffers.new.store)) }
         ensures receipt { IfOk result (λ c. c.receipt ≡ desk.new.seen) }
+        ensures ended { OnOk result (buffers.new.ended_everywhere.items ≡ []) }
         ensures known { OnOk result (AreKnown self.now number (other_of link)) }
         ensures refused { IfErr result (LinkWasRefused D K.rules B.base self.now number field link) }
         ensures err { OnErr result (desk.new ≡ desk.old) }
@@ -116,6 +118,7 @@ impl<K: RecordKind + Drop, B: EngineName<K>, D: Device> EngineCore<K, B, D> {
         ensures changed { IfOk result (λ c. WasLinked D K.rules B.base number field link desk.old moment c.reply c.moved desk.new
             (world_of buffers.new.store)) }
         ensures receipt { IfOk result (λ c. c.receipt ≡ desk.new.seen) }
+        ensures ended { OnOk result (buffers.new.ended_everywhere.items ≡ []) }
         ensures known { OnOk result (AreKnown self.now number (other_of link)) }
         ensures refused { IfErr result (LinkWasRefused D K.rules B.base self.now number field link) }
         ensures err { OnErr result (desk.new ≡ desk.old) }

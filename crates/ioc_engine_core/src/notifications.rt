@@ -1,11 +1,11 @@
 //! Puts with notification.
-ghost use Rattle.std.specs.Prelude.{◌≡◌, ◌⊎◌, ℕ, IfOk, IfErr, OnErr};
+ghost use Rattle.std.specs.Prelude.{◌≡◌, ◌⊎◌, IfOk, IfErr, OnOk, OnErr};
 ghost use Rattle.ioc_values.specs.declared.error.IocError.TheVariants.{QueueFull, Stopped};
-ghost use Rattle.ioc_events.specs.declared.event.Event.TheVariants.{Put, Notify};
+ghost use Rattle.ioc_events.specs.declared.event.Event.TheVariants.{Put};
 ghost use Rattle.ioc_history.specs.Places.{IsNoPlace};
-ghost use Rattle.ioc_journaled_set.specs.Puts.{PutsView, WasAsked};
+ghost use Rattle.ioc_journaled_set.specs.Puts.{PutsView, WasAsked, NoneMayBegin, HaveEnded};
 ghost use Rattle.ioc_set_store.specs.SetStore.{world_of};
-ghost use Rattle.ioc_engine_core.specs.Served.{WasServed, CallIsRefused};
+ghost use Rattle.ioc_engine_core.specs.Served.{WasBegun, CallIsRefused};
 
 use crate::engine::EngineCore;
 use ioc_device::Device;
@@ -22,7 +22,7 @@ use std::alloc::Global;
 use std::sync::Wait;
 
 impl<K: RecordKind + Drop, B: EngineName<K>, D: Device> EngineCore<K, B, D> {
-    /// Puts a value into a field as [`EngineCore::put`] does, with a notification: the records that are
+    /// Puts a value into a field with a notification: the records that are
     /// processed for it become part of the put with notification, which ends when the last of them
     /// is done. Its number is in the reply. If the record awaits its device, the put waits for it.
     ///
@@ -45,11 +45,12 @@ impl<K: RecordKind + Drop, B: EngineName<K>, D: Device> EngineCore<K, B, D> {
         given: Input,
         moment: u64,
     ) -> Result<(Reply, Receipt<K, B>), IocError>
-        ensures served { IfOk result (λ x. (n : ℕ)
-            × WasServed D K.rules B.base D.gives number desk.old moment (Notify number n field given) x.0 desk.new
+        ensures begun { IfOk result (λ x. WasBegun D K.rules B.base D.gives number desk.old moment field given x.0 desk.new
             (world_of buffers.new.store)) }
+        ensures ended { OnOk result (HaveEnded K.rules B.base (world_of buffers.new.store).ended desk.new.seen
+            buffers.new.ended_everywhere.items) }
         ensures receipt { IfOk result (λ x. x.1 ≡ desk.new.seen) }
-        ensures refused { IfErr result (λ error. (error ≡ QueueFull)
+        ensures refused { IfErr result (λ error. ((error ≡ QueueFull) × NoneMayBegin K.rules B.base)
             ⊎ CallIsRefused D K.rules B.base self.now number (Put number field given) error) }
         ensures err { OnErr result (desk.new ≡ desk.old) }
     {

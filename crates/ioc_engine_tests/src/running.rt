@@ -85,6 +85,7 @@ fn done<
 // Ends an engine, and returns the numbers of its sets and of their records.
 fn end<B: EngineName, D: Device, C: Clock + Drop, R: Wait>(
     rt: &R,
+    alloc: Global,
     engine: Engine<B, D, C>,
 ) -> Option<(usize, usize)> {
     let Ok(parts) = engine.parts(rt) else {
@@ -93,7 +94,7 @@ fn end<B: EngineName, D: Device, C: Clock + Drop, R: Wait>(
     let Ok(report) = engine.stop(rt) else {
         return None;
     };
-    let Ok(records) = report.into_records() else {
+    let Ok(records) = report.into_records(alloc) else {
         return None;
     };
     Some((parts.len(), records.len()))
@@ -114,7 +115,7 @@ fn run<B: EngineName + Send + Sync, D: Device + Send + Sync, R: Threads + Wait +
         return None;
     };
     let held = done(rt, alloc, &engine, work);
-    let (sets, records) = end(rt, engine)?;
+    let (sets, records) = end(rt, alloc, engine)?;
     Some(Ended {
         held,
         sets,

@@ -15,6 +15,7 @@ loop-place-preserved g c =
     record {
       sets = map-set_same (λ (h : HeldView g.row.K.Denot g.row.D.Denot). h.set) c.loop-place.sets c.loop-place.place c.learn_all.new.self c.index-sets-place.result c.learn_all.ensures.set ∙ c.loop-place.invariant.sets;
       told = one_more (IsAsTold k base c.args.journal.now.filled) c.loop-place.sets c.loop-place.place c.learn_all.new.self within c.loop-place.invariant.told
-          (subst (λ (j : JournalOf Note). IsAsTold k base j.filled c.learn_all.new.self) c.loop-place.invariant.journal c.learn_all.ensures.told);
+          (subst (λ (j : JournalOf Note). IsAsTold k base j.filled c.learn_all.new.self) c.loop-place.invariant.journal
+          (record { records = c.learn_all.ensures.told; waiting = c.learn_all.ensures.waiting }));
       journal = c.learn_all.ensures.journal ∙ c.loop-place.invariant.journal;
     }

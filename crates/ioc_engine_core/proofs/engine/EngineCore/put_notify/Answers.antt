@@ -1,27 +1,24 @@
 use Rattle.std.proofs.lemmas.Result.{err_from_is_err_and}
 use Rattle.std.proofs.Common.{sym, ◌∙◌, subst, inl, inr, ⊎_elim, IsTrue, Contains, rules}
-use Rattle.ioc_events.specs.declared.event.Event.TheVariants.{Put, Notify}
+use Rattle.ioc_events.specs.declared.event.Event.TheVariants.{Put}
 use Rattle.ioc_set_store.specs.SetStore.{world_of}
 use Rattle.ioc_history.specs.Account.{DeskView}
-use Rattle.ioc_journaled_set.specs.Holding.{HeldView, numbers_of, IsSoundlyHeld, Serves}
+use Rattle.ioc_journaled_set.specs.Holding.{HeldView, numbers_of, IsSoundlyHeld, Begins}
 use Rattle.ioc_engine_core.proofs.Refusals.{refused_by_set}
 use Rattle.ioc_engine_core.proofs.engine.EngineCore.put_notify.Goals as goal
 
-pub returns-then-has-clause-served : goal.returns-then-has-clause-served
-returns-then-has-clause-served g c =
+pub returns-then-has-clause-begun : goal.returns-then-has-clause-begun
+returns-then-has-clause-begun g c =
     let there : IsTrue c.has.result = search rules in
     let k = g.K.RecordKind.rules in
-    let given = c.in_ok-reply.ensures.serves in (
-      given.0,
-      record {
-        held = c.deref_mut.result.now;
-        held_then = c.put_notify.new.self;
-        here = subst (λ (s : HeldView g.row.K.Denot g.row.D.Denot). Contains (numbers_of s) c.args.number) (c.deref-in-loop-2.ensures ∙ sym c.deref_mut.ensures.value) (c.has.ensures.0 there);
-        before = subst (λ (s : HeldView g.row.K.Denot g.row.D.Denot). IsSoundlyHeld k g.B.EngineName.base s) (c.deref-then-has.ensures ∙ sym c.deref_mut.ensures.value) c.is_sound.ensures;
-        serves = subst (λ (d : DeskView). Serves k g.D.Device.gives g.B.EngineName.base c.deref_mut.result.now d c.args.moment (Notify c.args.number given.0 c.args.field c.args.given) c.in_ok-reply.reply c.put_notify.new.self c.put_notify.new.desk (world_of c.put_notify.new.buffers.store)) c.loop.invariant given.1;
-        after = subst (λ (s : HeldView g.row.K.Denot g.row.D.Denot). IsSoundlyHeld k g.B.EngineName.base s) c.deref-then-has-2.ensures c.is_sound-then-has.ensures;
-      },
-    )
+    record {
+      held = c.deref_mut.result.now;
+      held_then = c.put_notify.new.self;
+      here = subst (λ (s : HeldView g.row.K.Denot g.row.D.Denot). Contains (numbers_of s) c.args.number) (c.deref-in-loop-2.ensures ∙ sym c.deref_mut.ensures.value) (c.has.ensures.0 there);
+      before = subst (λ (s : HeldView g.row.K.Denot g.row.D.Denot). IsSoundlyHeld k g.B.EngineName.base s) (c.deref-then-has.ensures ∙ sym c.deref_mut.ensures.value) c.is_sound.ensures;
+      begins = subst (λ (d : DeskView). Begins k g.D.Device.gives g.B.EngineName.base c.deref_mut.result.now d c.args.moment c.args.number c.args.field c.args.given c.in_ok-reply.reply c.put_notify.new.self c.put_notify.new.desk (world_of c.put_notify.new.buffers.store)) c.loop.invariant c.in_ok-reply.ensures.begins;
+      after = subst (λ (s : HeldView g.row.K.Denot g.row.D.Denot). IsSoundlyHeld k g.B.EngineName.base s) c.deref-then-has-2.ensures c.is_sound-then-has.ensures;
+    }
 
 pub returns-in_err-reply-clause-refused : goal.returns-in_err-reply-clause-refused
 returns-in_err-reply-clause-refused g c =

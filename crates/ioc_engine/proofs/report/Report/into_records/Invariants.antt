@@ -1,0 +1,6 @@
+use Rattle.ioc_engine.specs.Stopped.{GivesBack}
+use Rattle.ioc_engine.proofs.report.Report.into_records.Given as goal
+
+-- The records of the sets so far were appended.
+abbrev pub invariant-loop-set : goal.invariant-loop-set
+invariant-loop-set g l = GivesBack l.yielded l.all.items
