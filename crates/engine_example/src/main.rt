@@ -45,8 +45,7 @@ fn work<B: EngineName, R: Wait>(rt: &R, alloc: Global, seed: Seed<Tank>) -> Resu
     Ok(shown)
 }
 
-fn run(rt: &HostRuntime) -> Result<Reply, IocError> {
-    let alloc = rt.alloc();
+fn run<R: Wait>(rt: &R, alloc: Global) -> Result<Reply, IocError> {
     let mut devices = Vec::new(alloc);
     devices.push((DeviceName::cut(b"tank"), Tank(12)))?;
     let database = load(alloc, TEXT, &Macros::new(alloc))?;
@@ -55,7 +54,7 @@ fn run(rt: &HostRuntime) -> Result<Reply, IocError> {
 }
 
 fn main(rt: HostRuntime) -> io::Result<()> {
-    match run(&rt) {
+    match run(&rt, rt.alloc()) {
         Ok(Reply::Shown(text)) if text == FieldText::cut(b"MINOR") => println!(rt;
             "copy has the alarm of level"
         ),

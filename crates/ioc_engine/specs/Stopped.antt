@@ -9,7 +9,7 @@ use Rattle.ioc_engine.specs.declared.report.StoppedRecord.{StoppedRecord}
 module _ {D : Type 0} where
   -- The record of a slot with its number and its device.
   abbrev pub stopped_of : Slot Record D → StoppedRecord D
-  stopped_of s = record { number = s.number; record = s.fields; device = s.device }
+  stopped_of s = record { number = s.number; fields = s.fields; device = s.device }
 
   -- Holds if these are the records of a lock set with their devices, by their numbers.
   pub record AreOfSet (h : HeldView Record D) (all : List (StoppedRecord D)) : Type 0 where

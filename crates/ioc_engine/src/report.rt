@@ -28,14 +28,14 @@ pub struct Report<B: EngineName, D: Drop> {
 #[derive(Drop)]
 pub struct StoppedRecord<D> {
     pub number: RecordNo,
-    pub record: Record,
+    pub fields: Record,
     pub device: Option<D>,
 }
 
 impl<D> StoppedRecord<D> {
     /// Returns the name of the record.
     pub fn name(&self) -> &[u8] {
-        self.record.common.name.as_slice()
+        self.fields.common.name.as_slice()
     }
 }
 
@@ -56,7 +56,7 @@ fn add_records<D: Drop>(
         } = slot;
         all.push(StoppedRecord {
             number,
-            record: fields,
+            fields,
             device,
         })?;
     }
@@ -131,8 +131,15 @@ impl<B: EngineName, D: Drop> Report<B, D> {
     pub fn into_records(self, alloc: Global) -> Result<Vec<StoppedRecord<D>>, AllocError>
         ensures { IfOk result (λ all. GivesBack self.core.sets.items all.items) }
     {
+        let Report { core } = self;
+        let CoreReport {
+            sets,
+            journal: _,
+            once: _,
+            dropped: _,
+        } = core;
         let mut all = Vec::new(alloc);
-        for set in self.core.sets {
+        for set in sets {
             add_records(&mut all, set.into_slots())?;
         }
         Ok(all)
