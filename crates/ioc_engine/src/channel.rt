@@ -2,7 +2,8 @@
 use ioc_fields::FieldNo;
 use ioc_names::RecordNo;
 
-/// A field of a record, found by name, as EPICS' dbChannel. It can be used as often as needed.
+/// A field of a record, found by name, as EPICS' dbChannel. It can be used as often as needed, with
+/// the engine that found it: with another one it is the field that has its numbers there, if any.
 #[derive(Clone, Copy, PartialEq, Eq, Debug)]
 pub struct Channel {
     // The number of the record.

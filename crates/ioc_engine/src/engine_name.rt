@@ -6,7 +6,8 @@ use std::marker::Brand;
 ///
 /// A program does its work with an engine in a function that is generic over a name, with
 /// [`Engine::start`](crate::Engine::start)'s `requires` as its own, and calls this function with
-/// [`Brand`] for the name.
+/// [`Brand`] for the name. A file in the program's `proofs` picks what the name stands for: the seed
+/// that the engine is started with. `engine_example` is such a program.
 pub trait EngineName: ioc_history::EngineName<Record> {}
 
 impl EngineName for Brand {}

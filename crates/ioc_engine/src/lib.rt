@@ -4,7 +4,12 @@
 //! A program loads a database ([`load`]), makes a [`Seed`] of it with its devices, and starts an
 //! [`Engine`]. Each thread opens a [`Desk`] and makes its calls with it. Each call is answered with a
 //! [`Reply`] and a [`Receipt`], the place of the call in one journal of all calls. Records that links
-//! connect are in one lock set with a lock of its own, so calls on other records don't wait.
+//! connect are in one lock set with a lock of its own, and a call on a record takes the lock of its
+//! set alone.
+//!
+//! Scan lists, callback queues and worker threads aren't in it: no record is processed because of its
+//! SCAN or PINI, posted events call no record, and a record that RPRO puts down for reprocessing is
+//! queued and not processed again.
 //!
 //! EPICS Application Developer's Guide, "Runtime Database Access" and "Database Locking, Scanning,
 //! and Processing".

@@ -63,12 +63,12 @@ impl<B: EngineName, D: Device, C: Clock + Drop> Engine<B, D, C> {
     ///
     /// # Errors
     ///
-    /// [`IocError::Stopped`] if the engine was closed. [`IocError::NoField`] if the field is no link.
-    /// [`IocError::BadLink`] if the text spells no link that the field can hold.
-    /// [`IocError::JournalFull`] if the journal has no place left. [`IocError::NoMemory`] if
-    /// allocation fails. Nothing is added to the journal then, and no link has changed; the history of
-    /// a lock set may be forgotten. If DISP forbids the change, the refusal is a reply, which is added
-    /// to the journal.
+    /// [`IocError::NoField`] if the field is no link. [`IocError::BadLink`] if the text spells no link
+    /// that the field can hold. [`IocError::NoRecord`] if the channel is one of another engine, which
+    /// has no such record. [`IocError::Stopped`] if the engine was closed. [`IocError::JournalFull`]
+    /// if the journal has no place left. [`IocError::NoMemory`] if allocation fails. Nothing is added
+    /// to the journal then, and no link has changed; the history of a lock set may be forgotten. If
+    /// DISP forbids the change, the refusal is a reply, which is added to the journal.
     pub fn set_link<R: Wait>(
         &self,
         rt: &R,

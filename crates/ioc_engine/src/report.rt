@@ -93,7 +93,7 @@ impl<B: EngineName, D: Drop, C: Drop> Engine<B, D, C> {
 }
 
 impl<B: EngineName, D: Drop> Report<B, D> {
-    /// Returns the counts of requests and of asynchronous answers of all records.
+    /// Returns the counts of requests and of asynchronous answers of all lock sets together.
     pub fn tally(&self) -> Tally
         ensures { result ≡ counts_in self.now.core.sets.items }
     {
