@@ -4,8 +4,8 @@
 //! A program loads a database ([`load`]), makes a [`Seed`] of it with its devices, and starts an
 //! [`Engine`]. Each thread opens a [`Desk`] and makes its calls with it. Each call is answered with a
 //! [`Reply`] and a [`Receipt`], the place of the call in one journal of all calls. Records that links
-//! connect are in one lock set with a lock of its own, and a call on a record takes the lock of its
-//! set alone.
+//! connect are in one lock set with a lock of its own. A get, a put or a request takes the lock of its
+//! record's set and of no other set.
 //!
 //! Scan lists, callback queues and worker threads aren't in it: no record is processed because of its
 //! SCAN or PINI, posted events call no record, and a record that RPRO puts down for reprocessing is
