@@ -35,7 +35,7 @@ pub struct EngineCore<K: RecordKind + Drop, B: EngineName<K>, D: Drop> {
     pub(crate) book: SharedJournal<K, B>,
     // Locked while the lock of a set is held, and before the journal.
     pub(crate) puts: Mutex<SharedNotifications<K, B>>,
-    // Locked while no other lock is held but the topology guard.
+    // Locked while no other lock is held.
     pub(crate) once: Mutex<OnceQueue<OnceTickets<K, B>>>,
     // The number of items that events have dropped because 256 were sent already.
     pub(crate) dropped: AtomicU64,

@@ -22,10 +22,10 @@ impl<K, B: EngineName<K>> Ledger for OnceTickets<K, B> {
 }
 
 impl<K: RecordKind + Drop, B: EngineName<K>, D: Drop> EngineCore<K, B, D> {
-    // Takes what the last event has sent, while no lock of a set is held: its once requests are added
-    // to the list, and items that the event has dropped are counted. The requests aren't served yet,
-    // and posted events and changes of scan lists have no effect yet. The list is under a lock, so
-    // this has no contract; see that of `add_once`.
+    // Takes what the last event has sent, while no lock is held: its once requests are added to the
+    // list, and items that the event has dropped are counted. The requests aren't served yet, and
+    // posted events and changes of scan lists have no effect yet. The list is under a lock, so this
+    // has no contract; see that of `add_once`.
     pub(crate) fn do_sent<R: Wait>(&self, rt: &R, buffers: &EventBuffers<K, D>) {
         let items = buffers.items();
         if !items.is_empty() {
