@@ -1,6 +1,6 @@
 -- A loaded database is at rest, and its links lead to its records.
-use Rattle.std.proofs.Common.{◌≡◌, ℕ, zero, suc, List, [], ◌∷◌, map, Option, Some, None, IsTrue, ◌<◌, length, refl, sym, subst, arith}
-use Rattle.std.specs.Prelude.{All, slice_get, is_some, unwrap_or, IsSome, Contains}
+use Rattle.std.proofs.Common.{◌≡◌, ℕ, zero, suc, List, [], ◌∷◌, map, Some, IsTrue, refl, sym, subst, arith}
+use Rattle.std.specs.Prelude.{All, slice_get, is_some, IsSome, Contains}
 use Rattle.rec_types.specs.Record.{Record, record_rules}
 use Rattle.ioc_record.specs.RecordRules.{targets}
 use Rattle.ioc_set_records.specs.declared.loaded.Loaded.{Loaded}

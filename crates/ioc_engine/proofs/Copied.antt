@@ -1,5 +1,5 @@
 -- Loaded records have the devices that are bound to them.
-use Rattle.std.proofs.Common.{◌≡◌, ◌<◌, ℕ, List, Option, None, length, sym, ◌∙◌, subst}
+use Rattle.std.proofs.Common.{◌≡◌, ◌<◌, ℕ, List, Option, None, length, ◌∙◌, subst}
 use Rattle.std.specs.Prelude.{slice_index_or}
 use Rattle.rec_types.specs.Record.{Record}
 use Rattle.ioc_set_records.specs.declared.loaded.Loaded.{Loaded}

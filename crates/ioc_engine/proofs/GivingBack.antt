@@ -1,5 +1,5 @@
 -- The records of lock sets, one set after another.
-use Rattle.std.proofs.Common.{◌≡◌, List, [], ◌∷◌, ◌++◌, map, refl, sym, ap, ◌∙◌, subst, append-nil, append_assoc}
+use Rattle.std.proofs.Common.{◌≡◌, List, [], ◌∷◌, ◌++◌, map, refl, sym, ap, ◌∙◌, append-nil, append_assoc}
 use Rattle.rec_types.specs.Record.{Record}
 use Rattle.ioc_set_records.specs.declared.slots.Slot.{Slot}
 use Rattle.ioc_journaled_set.specs.Holding.{HeldView}

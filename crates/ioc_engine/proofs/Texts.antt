@@ -1,5 +1,5 @@
 -- Texts that spell no link.
-use Rattle.std.proofs.Common.{◌≡◌, ℕ, List, Option, Some, None, refl, inl, inr}
+use Rattle.std.proofs.Common.{◌≡◌, ℕ, List, Option, Some, None, refl, inr}
 use Rattle.std.specs.Prelude.{ok_or, IfErr, slice_get}
 use Rattle.ioc_values.specs.declared.error.IocError.TheVariants.{BadLink}
 use Rattle.ioc_links.specs.declared.link.Link.{Link}

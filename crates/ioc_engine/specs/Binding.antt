@@ -1,6 +1,6 @@
 -- The devices of records. Application Developer's Guide, "Device Support": a record is bound to the
 -- device that its link names.
-use Rattle.std.specs.Prelude.{ℕ, Bool, true, false, nat_eq, nat_lt, is_some, not, ◌&&◌, List, [], ◌∷◌, ◌++◌, Option, Some, None, if◌then◌else◌, length, slice_index_or, slice_set}
+use Rattle.std.specs.Prelude.{ℕ, Bool, false, nat_eq, nat_lt, is_some, not, ◌&&◌, List, [], ◌∷◌, ◌++◌, Option, Some, None, if◌then◌else◌, length, slice_index_or, slice_set}
 use Rattle.ioc_dbfile.specs.Finished.{Owner}
 
 abbrev pub is_number : ℕ → Option ℕ → Bool

@@ -1,6 +1,6 @@
 -- Link changes by text. Application Developer's Guide, "Database Links", and a put to a link field
 -- (dbPutField).
-use Rattle.std.specs.Prelude.{ℕ, ◌≡◌, ◌⊎◌, List, Option, Some, None, option_map, slice_get}
+use Rattle.std.specs.Prelude.{ℕ, ◌≡◌, ◌⊎◌, List, Option, Some, None, slice_get}
 use Rattle.std.specs.Option.{option_and_then}
 use Rattle.ioc_values.specs.declared.error.IocError.{IocError}
 use Rattle.ioc_values.specs.declared.error.IocError.TheVariants.{NoField, NoRecord, BadLink}
@@ -9,7 +9,6 @@ use Rattle.ioc_links.specs.declared.link.Link.{Link}
 use Rattle.ioc_links.specs.declared.link.LinkKind.{LinkKind}
 use Rattle.ioc_links.specs.Grammar.{link_of}
 use Rattle.ioc_fields.specs.declared.record_type.RecordType.{RecordType}
-use Rattle.ioc_fields.specs.declared.field_no.FieldNo.{FieldNo}
 use Rattle.ioc_fields.specs.declared.field_kind.FieldKind.{FieldKind}
 use Rattle.ioc_fields.specs.declared.field_kind.FieldKind.TheVariants.{Link as Link-kind}
 use Rattle.ioc_fields.specs.Kinds.{link_kind_of}

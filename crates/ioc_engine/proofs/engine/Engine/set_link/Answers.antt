@@ -1,6 +1,5 @@
 use Rattle.std.proofs.lemmas.Result.{err_from_is_err_and}
-use Rattle.std.proofs.Common.{ℕ, ◌≡◌, sym, ap, ◌∙◌, subst, inr}
-use Rattle.ioc_values.specs.declared.error.IocError.{IocError}
+use Rattle.std.proofs.Common.{ℕ, ◌≡◌, ap, ◌∙◌, subst, inr}
 use Rattle.ioc_dbcommon.specs.declared.link_field.LinkField.{LinkField}
 use Rattle.ioc_dbcommon.specs.declared.link_field.Lead.{Lead}
 use Rattle.ioc_dbfile.specs.Finished.{leads_to}
