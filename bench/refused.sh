@@ -1,6 +1,7 @@
 #!/bin/sh
-# Runs the examples of bench/refused.txt, calls of an engine: as they are they must be answered, and then once for each growth of memory in
-# them, which is refused there (failing.py).
+# Runs the examples of bench/refused.txt, calls of an engine, built without proof: as they are they
+# must have the expected replies, and then once for each allocation in them, which is refused there
+# (failing.py).
 # Usage: refused.sh FOLDER
 set -eu
 bench=$(cd "$(dirname "$0")" && pwd)

@@ -1,6 +1,7 @@
 #!/bin/sh
-# Counts what requests and link changes of lock sets take, by bench/sets.txt, built without proof (tools/unproved.sh): instructions by valgrind's
-# callgrind, memory as the system tells it, and the time of one thread and of four.
+# Measures requests, puts and link changes of lock sets by bench/sets.txt, built without proof
+# (tools/unproved.sh): instructions by valgrind's callgrind, memory as the system reports it, and
+# the time of one thread and of four.
 # Usage: sets.sh FOLDER
 set -eu
 bench=$(cd "$(dirname "$0")" && pwd)
@@ -62,6 +63,7 @@ for records in 1 4 10 16 32 100; do
     echo "a request of the first of a chain of $records, $mode: $(each "$folder/chains$records.db" $mode) instructions"
   done
 done
+echo "a put into VAL of a lone longin, engine: $(each "$folder/one.db" put) instructions"
 echo "a put with notification and its completion: $(each "$folder/device.db" notify) instructions"
 for db in few many; do
   echo "a link change between two sets of ten, $db records: $(each "$folder/$db.db" link) instructions"
