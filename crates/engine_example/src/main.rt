@@ -1,5 +1,4 @@
-//! The example of the README: a tank whose level is read from a device, put by an operator, and copied
-//! to a second record, while an archiver reads it.
+//! The example of the README: a record reads a tank's level, and another one copies it.
 #![tactic(auto)]
 
 ghost use Rattle.ioc_engine.specs.Named.{IsNamedBy};
@@ -45,20 +44,17 @@ fn work<B: EngineName, R: Wait>(rt: &R, alloc: Global, seed: Seed<Tank>) -> Resu
     Ok(shown)
 }
 
-fn run<R: Wait>(rt: &R, alloc: Global) -> Result<Reply, IocError> {
+fn run<R: Wait>(rt: &R, alloc: Global) -> Result<bool, IocError> {
     let mut devices = Vec::new(alloc);
     devices.push((DeviceName::cut(b"tank"), Tank(12)))?;
-    let database = load(alloc, TEXT, &Macros::new(alloc))?;
-    let seed = Seed::new(alloc, database, devices)?;
-    work::<Brand, _>(rt, alloc, seed)
+    let seed = Seed::new(alloc, load(alloc, TEXT, &Macros::new(alloc))?, devices)?;
+    Ok(work::<Brand, _>(rt, alloc, seed)? == Reply::Shown(FieldText::cut(b"MINOR")))
 }
 
 fn main(rt: HostRuntime) -> io::Result<()> {
     match run(&rt, rt.alloc()) {
-        Ok(Reply::Shown(text)) if text == FieldText::cut(b"MINOR") => println!(rt;
-            "copy has the alarm of level"
-        ),
-        Ok(_other) => println!(rt; "another reply"),
+        Ok(true) => println!(rt; "copy has the alarm of level"),
+        Ok(false) => println!(rt; "copy has no alarm"),
         Err(error) => println!(rt; "{error}"),
     }
 }

@@ -2,8 +2,8 @@ use Rattle.ioc_engine.specs.Named.{name_of, cell_of}
 use Rattle.ioc_engine_tests.proofs.running.run_text.Given as goal
 
 -- The name of the engine.
-abbrev pub ghosts-run-B-EngineName : goal.ghosts-run-B-EngineName
-ghosts-run-B-EngineName g a = name_of a.seed
+abbrev pub ghosts-run-B-EngineName-2 : goal.ghosts-run-B-EngineName-2
+ghosts-run-B-EngineName-2 g a = name_of a.seed
 
 abbrev pub ghosts-run-B-CellName : goal.ghosts-run-B-CellName
 ghosts-run-B-CellName g a = cell_of a.seed
