@@ -23,20 +23,19 @@ pub enum Call {
     Complete(&'static [u8], u64, i32),
 }
 
-/// The reply to a call, its place in the journal, and the number of records that it moved to other
-/// sets.
-#[derive(Clone, Copy)]
-pub struct Answered {
+/// The reply to a call, its receipt, and the number of records that it moved to other sets.
+#[derive(Drop)]
+pub struct Answered<B: EngineName> {
     pub reply: Reply,
-    pub place: u64,
+    pub receipt: Receipt<B>,
     pub moved: usize,
 }
 
 // Returns the outcome of a call that moves no records.
-fn answered<B: EngineName>(reply: Reply, receipt: &Receipt<B>) -> Answered {
+fn unmoved<B: EngineName>(reply: Reply, receipt: Receipt<B>) -> Answered<B> {
     Answered {
         reply,
-        place: receipt.place(),
+        receipt,
         moved: 0,
     }
 }
@@ -48,9 +47,9 @@ pub fn put<B: EngineName, D: Device, C: Clock + Drop, R: Wait>(
     desk: &mut Desk<B, D>,
     channel: Channel,
     text: &[u8],
-) -> Result<Answered, IocError> {
+) -> Result<Answered<B>, IocError> {
     let (reply, receipt) = engine.put(rt, desk, channel, Input::from_text(text))?;
-    Ok(answered(reply, &receipt))
+    Ok(unmoved(reply, receipt))
 }
 
 /// Gets a field.
@@ -59,9 +58,9 @@ pub fn get<B: EngineName, D: Device, C: Clock + Drop, R: Wait>(
     engine: &Engine<B, D, C>,
     desk: &mut Desk<B, D>,
     channel: Channel,
-) -> Result<Answered, IocError> {
+) -> Result<Answered<B>, IocError> {
     let (reply, receipt) = engine.get(rt, desk, channel)?;
-    Ok(answered(reply, &receipt))
+    Ok(unmoved(reply, receipt))
 }
 
 /// Requests a record.
@@ -70,9 +69,9 @@ pub fn process<B: EngineName, D: Device, C: Clock + Drop, R: Wait>(
     engine: &Engine<B, D, C>,
     desk: &mut Desk<B, D>,
     number: RecordNo,
-) -> Result<Answered, IocError> {
+) -> Result<Answered<B>, IocError> {
     let (reply, receipt) = engine.process(rt, desk, number)?;
-    Ok(answered(reply, &receipt))
+    Ok(unmoved(reply, receipt))
 }
 
 /// Changes a link.
@@ -82,11 +81,11 @@ pub fn set_link<B: EngineName, D: Device, C: Clock + Drop, R: Wait>(
     desk: &mut Desk<B, D>,
     channel: Channel,
     text: &[u8],
-) -> Result<Answered, IocError> {
+) -> Result<Answered<B>, IocError> {
     let (reply, receipt) = engine.set_link(rt, desk, channel, text)?;
     Ok(Answered {
         reply,
-        place: receipt.place(),
+        receipt,
         moved: desk.moved(),
     })
 }
@@ -98,9 +97,9 @@ pub fn put_notify<B: EngineName, D: Device, C: Clock + Drop, R: Wait>(
     desk: &mut Desk<B, D>,
     channel: Channel,
     text: &[u8],
-) -> Result<Answered, IocError> {
+) -> Result<Answered<B>, IocError> {
     let (reply, receipt) = engine.put_notify(rt, desk, channel, Input::from_text(text))?;
-    Ok(answered(reply, &receipt))
+    Ok(unmoved(reply, receipt))
 }
 
 /// Cancels a put with notification.
@@ -109,9 +108,9 @@ pub fn cancel<B: EngineName, D: Device, C: Clock + Drop, R: Wait>(
     engine: &Engine<B, D, C>,
     desk: &mut Desk<B, D>,
     number: u64,
-) -> Result<Answered, IocError> {
+) -> Result<Answered<B>, IocError> {
     let (reply, receipt) = engine.cancel(rt, desk, NotifyId::new(number))?;
-    Ok(answered(reply, &receipt))
+    Ok(unmoved(reply, receipt))
 }
 
 // Asks whether a put with notification is live.
@@ -120,9 +119,9 @@ fn live<B: EngineName, D: Device, C: Clock + Drop, R: Wait>(
     engine: &Engine<B, D, C>,
     desk: &mut Desk<B, D>,
     number: u64,
-) -> Result<Answered, IocError> {
+) -> Result<Answered<B>, IocError> {
     let (reply, receipt) = engine.live(rt, desk, NotifyId::new(number))?;
-    Ok(answered(reply, &receipt))
+    Ok(unmoved(reply, receipt))
 }
 
 /// Completes a record.
@@ -133,10 +132,10 @@ pub fn complete<B: EngineName, D: Device, C: Clock + Drop, R: Wait>(
     number: RecordNo,
     wait: u64,
     value: i32,
-) -> Result<Answered, IocError> {
+) -> Result<Answered<B>, IocError> {
     let given = Finished::Done(Value::Long(value));
     let (reply, receipt) = engine.complete(rt, desk, number, wait, given)?;
-    Ok(answered(reply, &receipt))
+    Ok(unmoved(reply, receipt))
 }
 
 /// Makes a call.
@@ -145,7 +144,7 @@ pub fn make<B: EngineName, D: Device, C: Clock + Drop, R: Wait>(
     engine: &Engine<B, D, C>,
     desk: &mut Desk<B, D>,
     call: Call,
-) -> Result<Answered, IocError> {
+) -> Result<Answered<B>, IocError> {
     match call {
         Call::Put(name, text) => put(rt, engine, desk, engine.channel(name)?, text),
         Call::Get(name) => get(rt, engine, desk, engine.channel(name)?),

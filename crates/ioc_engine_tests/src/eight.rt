@@ -1,6 +1,7 @@
 //! Eight threads on one engine, each with a desk of its own.
 use crate::calling::{Answered, cancel, complete, get, process, put, put_notify, set_link};
-use ioc_engine::{Channel, Clock, Desk, Device, Engine, EngineName, IocError};
+use crate::walk::are_walked;
+use ioc_engine::{Channel, Clock, Desk, Device, Engine, EngineName, FieldText, IocError};
 use std::alloc::{AllocError, Global};
 use std::fmt::Write;
 use std::sync::Wait;
@@ -24,16 +25,17 @@ fn record_of(seed: u64) -> usize {
     (seed >> 33) as usize % RECORDS
 }
 
-// The channels of a record's VAL and FLNK, and the text of a link to it.
+/// A record: its name, the channels of its VAL and FLNK, and what a get of a forward link to it shows.
 #[derive(Drop)]
-struct Target {
-    value: Channel,
-    forward: Channel,
-    name: String,
+pub struct Target {
+    pub name: String,
+    pub value: Channel,
+    pub forward: Channel,
+    pub link: FieldText,
 }
 
-// Finds all records.
-fn targets<B: EngineName, D: Device, C: Clock + Drop>(
+/// Finds all records.
+pub fn targets<B: EngineName, D: Device, C: Clock + Drop>(
     alloc: Global,
     engine: &Engine<B, D, C>,
 ) -> Result<Vec<Target>, IocError> {
@@ -41,9 +43,11 @@ fn targets<B: EngineName, D: Device, C: Clock + Drop>(
     for number in 0..RECORDS {
         let name = format!(in alloc; "r{number}")?;
         let field = format!(in alloc; "r{number}.FLNK")?;
+        let link = format!(in alloc; "r{number}.VAL NPP NMS")?;
         all.push(Target {
             value: engine.channel(name.as_bytes())?,
             forward: engine.channel(field.as_bytes())?,
+            link: FieldText::cut(link.as_bytes()),
             name,
         })?;
     }
@@ -57,7 +61,7 @@ fn call<B: EngineName, D: Device, C: Clock + Drop, R: Wait>(
     desk: &mut Desk<B, D>,
     targets: &[Target],
     seed: u64,
-) -> Result<Answered, IocError> {
+) -> Result<Answered<B>, IocError> {
     let (Some(target), Some(other)) = (
         targets.get(record_of(seed)),
         targets.get(record_of(next_of(seed))),
@@ -97,7 +101,8 @@ fn calls<B: EngineName, D: Device, C: Clock + Drop, R: Wait>(
     answered
 }
 
-/// Makes the calls of eight threads, and returns how many were answered.
+/// Makes the calls of eight threads, and returns how many were answered, or 0 if the lock sets are
+/// other than those that a walk over the forward links finds then.
 pub fn eight<
     B: EngineName + Send + Sync,
     D: Device + Send + Sync,
@@ -112,7 +117,11 @@ pub fn eight<
     for count in &counts {
         answered = answered.saturating_add(*count);
     }
-    answered
+    if are_walked(rt, alloc, engine) {
+        answered
+    } else {
+        0
+    }
 }
 
 /// Returns a database text with this many records without links.

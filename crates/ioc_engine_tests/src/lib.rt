@@ -13,3 +13,7 @@ mod sensor;
 mod sessions;
 #[cfg(test)]
 mod steps;
+#[cfg(test)]
+mod tests;
+#[cfg(test)]
+mod walk;
