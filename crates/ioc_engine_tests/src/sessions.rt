@@ -79,7 +79,7 @@ record(longin,\"a\"){field(INP,\"@d\")}
 record(longin,\"b\"){field(INP,\"@e\")}
 ";
 
-pub static SESSIONS: [Session; 18] = [
+pub static SESSIONS: [Session; 19] = [
     // A call on a missing field, a field that can't be put, or a missing record takes no place in
     // the journal. A put that DISP forbids takes one.
     Session {
@@ -140,7 +140,8 @@ pub static SESSIONS: [Session; 18] = [
         second: &[],
         end: &[AtEnd::Sets(2), AtEnd::Records(11), AtEnd::Counts(0, 0, 0)],
     },
-    // The put that awaits the device is live until the device answers; the other is done at once.
+    // The put that awaits the device is live until the device answers. One that is done at once, and
+    // one that processes nothing, end at once.
     Session {
         name: "live until done",
         text: NOTIFIED,
@@ -153,6 +154,7 @@ pub static SESSIONS: [Session; 18] = [
             Makes(Call::Live(1), At(3, Says::Live(false))),
             Ends(PutNotify(b"a.VAL", b"7"), At(4, Says::Notify(2)), &[2]),
             Makes(Call::Live(2), At(5, Says::Live(false))),
+            Ends(PutNotify(b"a.DESC", b"x"), At(6, Says::Notify(3)), &[3]),
         ],
         second: &[],
         end: &[
@@ -281,6 +283,23 @@ record(fanout,\"f\"){field(LNK1,\"a\") field(LNK2,\"p\")}
             Makes(Put(b"a.VAL", b"1x"), BAD_VALUE),
             Makes(Put(b"a.VAL", b"2147483648"), BAD_VALUE),
             Makes(SetLink(b"a.INP", b"a CP"), Fails(IocError::BadLink)),
+        ],
+        second: &[],
+        end: &[AtEnd::Sets(1), AtEnd::Records(1), AtEnd::Counts(0, 0, 0)],
+    },
+    // A put with notification that is refused isn't live, and changes nothing.
+    Session {
+        name: "refused puts with notification",
+        text: b"record(longin,\"a\"){}\n",
+        later: &[],
+        places: None,
+        steps: &[
+            Makes(PutNotify(b"a.PACT", b"1"), Fails(IocError::NoMod)),
+            Makes(PutNotify(b"a.VAL", b"1x"), BAD_VALUE),
+            Makes(Put(b"a.DISP", b"1"), PLAIN),
+            Makes(PutNotify(b"a.VAL", b"1"), PUT_DISABLED),
+            Makes(Call::Live(1), IS_OVER),
+            Makes(Get(b"a.VAL"), Shows(b"0")),
         ],
         second: &[],
         end: &[AtEnd::Sets(1), AtEnd::Records(1), AtEnd::Counts(0, 0, 0)],

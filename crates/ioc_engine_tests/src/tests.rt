@@ -179,18 +179,19 @@ static CHAINED: [Step; 3] = [
     ),
 ];
 
-// Returns a database text with a chain of forward links, in which no value is undefined.
+// Returns a database text with a chain of forward links, whose last record has a value.
 fn chain_text(alloc: Global) -> Result<String, AllocError> {
     let mut text = String::new(alloc);
     for number in 0..CHAIN {
         let next = number.saturating_add(1);
         let Ok(()) = writeln!(
             text,
-            "record(longin,\"c{number}\"){{field(VAL,1) field(FLNK,\"c{next}\")}}"
+            "record(longin,\"c{number}\"){{field(FLNK,\"c{next}\")}}"
         ) else {
             return Err(AllocError);
         };
     }
+    text.push_str("record(longin,\"c19999\"){field(VAL,1)}\n")?;
     Ok(text)
 }
 
