@@ -25,7 +25,8 @@ fn record_of(seed: u64) -> usize {
     (seed >> 33) as usize % RECORDS
 }
 
-/// A record: its name, the channels of its VAL and FLNK, and what a get of a forward link to it shows.
+/// A record: its name, the channels of its VAL and FLNK, and what a get of a forward link to it
+/// shows.
 #[derive(Drop)]
 pub struct Target {
     pub name: String,

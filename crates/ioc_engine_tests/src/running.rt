@@ -1,5 +1,5 @@
-//! Runs an engine from a database text to its end. All tests share one function, because a function
-//! that starts an engine is costly to prove.
+//! Runs an engine from a database text to its end. All tests share one function, because a
+//! function that starts an engine is costly to prove.
 ghost use Rattle.ioc_engine.specs.Named.{IsNamedBy};
 
 use crate::calling::Answered;
@@ -20,8 +20,8 @@ use std::thread::Threads;
 /// What is done with an engine.
 #[derive(Clone, Copy)]
 pub enum Work<'a> {
-    /// The calls of one desk, and then those of a second one, if it has any, which learns of the last
-    /// call of the first one before.
+    /// The calls of one desk, and then those of a second one, if it has any, which learns of the
+    /// last call of the first one before.
     Desks {
         first: &'a [Step],
         second: &'a [Step],

@@ -1,5 +1,5 @@
-//! Sessions with an engine: the calls of one or two desks on the records of a text, and what is found
-//! at the end.
+//! Sessions with an engine: the calls of one or two desks on the records of a text, and what is
+//! found at the end.
 use crate::calling::Call::{self, Cancel, Complete, Get, Process, Put, PutNotify, SetLink};
 use crate::steps::Step::{self, Closes, Ends, Makes, Parts};
 use crate::steps::Wanted::{At, Fails, Moves, Shows};
@@ -19,8 +19,8 @@ pub enum AtEnd {
     Idle,
     /// The record with this name awaits its device, and no other does.
     Awaits(&'static [u8]),
-    /// The number of requests, all of which were processed, and those of the answers of devices that
-    /// were to come later, and that came.
+    /// The number of requests, all of which were processed, and those of the answers of devices
+    /// that were to come later, and that came.
     Counts(u64, u64, u64),
 }
 
@@ -140,8 +140,8 @@ pub static SESSIONS: [Session; 19] = [
         second: &[],
         end: &[AtEnd::Sets(2), AtEnd::Records(11), AtEnd::Counts(0, 0, 0)],
     },
-    // The put that awaits the device is live until the device answers. One that is done at once, and
-    // one that processes nothing, end at once.
+    // The put that awaits the device is live until the device answers. One that is done at once,
+    // and one that processes nothing, end at once.
     Session {
         name: "live until done",
         text: NOTIFIED,
@@ -207,7 +207,9 @@ pub static SESSIONS: [Session; 19] = [
     // The forward link is gone when the answer comes, so the other record isn't processed.
     Session {
         name: "completed after a link change",
-        text: b"record(longin,\"a\"){field(INP,\"@d\") field(FLNK,\"b\")}\nrecord(longin,\"b\"){}\n",
+        text: b"record(longin,\"a\"){field(INP,\"@d\") field(FLNK,\"b\")}
+record(longin,\"b\"){}
+",
         later: &[b"d"],
         places: None,
         steps: &[
@@ -500,7 +502,9 @@ record(longin,\"b\"){field(INP,\"@e\")}
     // A record awaits its device, and a put with notification is live, when the engine is stopped.
     Session {
         name: "stopped while a record awaits its device",
-        text: b"record(longin,\"p\"){field(INP,\"@d\")}\nrecord(longin,\"q\"){field(INP,\"@e\")}\n",
+        text: b"record(longin,\"p\"){field(INP,\"@d\")}
+record(longin,\"q\"){field(INP,\"@e\")}
+",
         later: &[b"d", b"e"],
         places: None,
         steps: &[

@@ -184,8 +184,8 @@ fn holds<B: EngineName, D: Device, C: Clock + Drop, R: Wait>(
     }
 }
 
-/// Carries out steps with a desk of their own, up to the first with another result. The desk learns
-/// of a call first, if one is given.
+/// Carries out steps with a desk of their own, up to the first with another result. The desk
+/// learns of a call first, if one is given.
 pub fn follow<B: EngineName, D: Device, C: Clock + Drop, R: Wait>(
     rt: &R,
     alloc: Global,
