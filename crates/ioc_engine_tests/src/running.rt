@@ -165,7 +165,7 @@ fn awaiting<D>(records: &[StoppedRecord<D>]) -> (usize, Option<FieldText>) {
     let mut active = 0usize;
     let mut name = None;
     for stopped in records {
-        if stopped.record.common.active {
+        if stopped.fields.common.active {
             active = active.saturating_add(1);
             name = Some(FieldText::cut(stopped.name()));
         }
