@@ -1,6 +1,6 @@
 //! Link changes.
 ghost use Rattle.std.specs.Prelude.{◌≡◌, ◌⊎◌, ℕ, Some, None, slice_get, slice_index_or, option_map, [], IfOk, IfErr, OnOk, OnErr};
-ghost use Rattle.ioc_values.specs.declared.error.IocError.TheVariants.{NoField, BadLink, NoRecord, NoMemory};
+ghost use Rattle.ioc_values.specs.declared.error.IocError.TheVariants.{NoMemory, Stopped};
 ghost use Rattle.ioc_links.specs.declared.link.Link.{Link};
 ghost use Rattle.rec_types.specs.Record.{record_rules};
 ghost use Rattle.ioc_dbfile.specs.OwnerTable.{owner_in};
@@ -82,14 +82,17 @@ impl<B: EngineName, D: Device, C: Clock + Drop> Engine<B, D, C> {
             (world_of desk.new.buffers.store)) }
         ensures receipt { IfOk result (λ x. x.1 ≡ desk.new.account.seen) }
         ensures ended { OnOk result (desk.new.buffers.ended_everywhere.items ≡ []) }
-        ensures refused { IfErr result (λ error. IsBadText self.now.lookup.types.items channel text.now error
+        ensures refused { IfErr result (λ error. (error ≡ Stopped) ⊎ (IsBadText self.now.lookup.types.items channel text.now error
             ⊎ ((error ≡ NoMemory) ⊎ ((link : Link) × IsTextOf self.now.lookup.types.items channel text.now link
             × LinkWasRefused D record_rules B.base self.now.core channel.number channel.field
             (field_of_link self.now.lookup.names self.now.lookup.types.items (owner_in self.now.lookup.owners) channel.number link)
-            error))) }
+            error)))) }
         ensures err { OnErr result (desk.new.account ≡ desk.old.account) }
     {
         desk.buffers.ended_everywhere.clear();
+        if self.is_closed() {
+            return Err(IocError::Stopped);
+        }
         let number = channel.record();
         let link = self.lookup.link(channel, text)?;
         let lead = self.lookup.lead(number, &link);

@@ -19,9 +19,9 @@ returns-in_err-reply-clause-refused g c =
     let kept : c.in-Ok.kept ≡ field_of_link look.names look.types.items (owner_in look.owners) c.args.channel.number link =
     c.in-Ok.ensures ∙ ap (λ (l : Lead). record { link = link; lead = l }) lead in
     let refused = c.in_err-reply.ensures.refused in
-    rw (p.1, p.2) (inr (inr (
+    rw (p.1, p.2) (inr (inr (inr (
       link,
       c.in_ok-link.ensures.link,
       subst (λ (l : LinkField). LinkWasRefused g.row.D.Denot record_rules g.B.EngineName-2.base c.args.self.now.core c.args.channel.number c.args.channel.field l c.in_err-reply.field-0.0) kept
           (subst (λ (n : ℕ). LinkWasRefused g.row.D.Denot record_rules g.B.EngineName-2.base c.args.self.now.core n c.args.channel.field c.in-Ok.kept c.in_err-reply.field-0.0) c.record-number.ensures refused),
-    )))
+    ))))
