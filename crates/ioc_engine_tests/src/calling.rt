@@ -23,19 +23,20 @@ pub enum Call {
     Complete(&'static [u8], u64, i32),
 }
 
-/// The reply to a call, its receipt, and the number of records that it moved to other sets.
-#[derive(Drop)]
-pub struct Answered<B: EngineName> {
+/// The reply to a call, its place in the journal, and the number of records that it moved to other
+/// sets.
+#[derive(Clone, Copy)]
+pub struct Answered {
     pub reply: Reply,
-    pub receipt: Receipt<B>,
+    pub place: u64,
     pub moved: usize,
 }
 
 // Returns the outcome of a call that moves no records.
-fn unmoved<B: EngineName>(reply: Reply, receipt: Receipt<B>) -> Answered<B> {
+fn outcome_of<B: EngineName>(reply: Reply, receipt: &Receipt<B>) -> Answered {
     Answered {
         reply,
-        receipt,
+        place: receipt.place(),
         moved: 0,
     }
 }
@@ -47,9 +48,9 @@ pub fn put<B: EngineName, D: Device, C: Clock + Drop, R: Wait>(
     desk: &mut Desk<B, D>,
     channel: Channel,
     text: &[u8],
-) -> Result<Answered<B>, IocError> {
+) -> Result<Answered, IocError> {
     let (reply, receipt) = engine.put(rt, desk, channel, Input::from_text(text))?;
-    Ok(unmoved(reply, receipt))
+    Ok(outcome_of(reply, &receipt))
 }
 
 /// Gets a field.
@@ -58,9 +59,9 @@ pub fn get<B: EngineName, D: Device, C: Clock + Drop, R: Wait>(
     engine: &Engine<B, D, C>,
     desk: &mut Desk<B, D>,
     channel: Channel,
-) -> Result<Answered<B>, IocError> {
+) -> Result<Answered, IocError> {
     let (reply, receipt) = engine.get(rt, desk, channel)?;
-    Ok(unmoved(reply, receipt))
+    Ok(outcome_of(reply, &receipt))
 }
 
 /// Requests a record.
@@ -69,9 +70,9 @@ pub fn process<B: EngineName, D: Device, C: Clock + Drop, R: Wait>(
     engine: &Engine<B, D, C>,
     desk: &mut Desk<B, D>,
     number: RecordNo,
-) -> Result<Answered<B>, IocError> {
+) -> Result<Answered, IocError> {
     let (reply, receipt) = engine.process(rt, desk, number)?;
-    Ok(unmoved(reply, receipt))
+    Ok(outcome_of(reply, &receipt))
 }
 
 /// Changes a link.
@@ -81,11 +82,11 @@ pub fn set_link<B: EngineName, D: Device, C: Clock + Drop, R: Wait>(
     desk: &mut Desk<B, D>,
     channel: Channel,
     text: &[u8],
-) -> Result<Answered<B>, IocError> {
+) -> Result<Answered, IocError> {
     let (reply, receipt) = engine.set_link(rt, desk, channel, text)?;
     Ok(Answered {
         reply,
-        receipt,
+        place: receipt.place(),
         moved: desk.moved(),
     })
 }
@@ -97,9 +98,9 @@ pub fn put_notify<B: EngineName, D: Device, C: Clock + Drop, R: Wait>(
     desk: &mut Desk<B, D>,
     channel: Channel,
     text: &[u8],
-) -> Result<Answered<B>, IocError> {
+) -> Result<Answered, IocError> {
     let (reply, receipt) = engine.put_notify(rt, desk, channel, Input::from_text(text))?;
-    Ok(unmoved(reply, receipt))
+    Ok(outcome_of(reply, &receipt))
 }
 
 /// Cancels a put with notification.
@@ -108,9 +109,9 @@ pub fn cancel<B: EngineName, D: Device, C: Clock + Drop, R: Wait>(
     engine: &Engine<B, D, C>,
     desk: &mut Desk<B, D>,
     number: u64,
-) -> Result<Answered<B>, IocError> {
+) -> Result<Answered, IocError> {
     let (reply, receipt) = engine.cancel(rt, desk, NotifyId::new(number))?;
-    Ok(unmoved(reply, receipt))
+    Ok(outcome_of(reply, &receipt))
 }
 
 // Asks whether a put with notification is live.
@@ -119,9 +120,9 @@ fn live<B: EngineName, D: Device, C: Clock + Drop, R: Wait>(
     engine: &Engine<B, D, C>,
     desk: &mut Desk<B, D>,
     number: u64,
-) -> Result<Answered<B>, IocError> {
+) -> Result<Answered, IocError> {
     let (reply, receipt) = engine.live(rt, desk, NotifyId::new(number))?;
-    Ok(unmoved(reply, receipt))
+    Ok(outcome_of(reply, &receipt))
 }
 
 /// Completes a record.
@@ -132,10 +133,10 @@ pub fn complete<B: EngineName, D: Device, C: Clock + Drop, R: Wait>(
     number: RecordNo,
     wait: u64,
     value: i32,
-) -> Result<Answered<B>, IocError> {
+) -> Result<Answered, IocError> {
     let given = Finished::Done(Value::Long(value));
     let (reply, receipt) = engine.complete(rt, desk, number, wait, given)?;
-    Ok(unmoved(reply, receipt))
+    Ok(outcome_of(reply, &receipt))
 }
 
 /// Makes a call.
@@ -144,7 +145,7 @@ pub fn make<B: EngineName, D: Device, C: Clock + Drop, R: Wait>(
     engine: &Engine<B, D, C>,
     desk: &mut Desk<B, D>,
     call: Call,
-) -> Result<Answered<B>, IocError> {
+) -> Result<Answered, IocError> {
     match call {
         Call::Put(name, text) => put(rt, engine, desk, engine.channel(name)?, text),
         Call::Get(name) => get(rt, engine, desk, engine.channel(name)?),

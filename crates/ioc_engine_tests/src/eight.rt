@@ -1,7 +1,6 @@
 //! Eight threads on one engine, each with a desk of its own.
 use crate::calling::{Answered, cancel, complete, get, process, put, put_notify, set_link};
-use crate::walk::are_walked;
-use ioc_engine::{Channel, Clock, Desk, Device, Engine, EngineName, FieldText, IocError};
+use ioc_engine::{Channel, Clock, Desk, Device, Engine, EngineName, IocError};
 use std::alloc::{AllocError, Global};
 use std::fmt::Write;
 use std::sync::Wait;
@@ -25,18 +24,16 @@ fn record_of(seed: u64) -> usize {
     (seed >> 33) as usize % RECORDS
 }
 
-/// A record: its name, the channels of its VAL and FLNK, and what a get of a forward link to it
-/// shows.
+// The channels of a record's VAL and FLNK, and the text of a link to it.
 #[derive(Drop)]
-pub struct Target {
-    pub name: String,
-    pub value: Channel,
-    pub forward: Channel,
-    pub link: FieldText,
+struct Target {
+    value: Channel,
+    forward: Channel,
+    name: String,
 }
 
-/// Finds all records.
-pub fn targets<B: EngineName, D: Device, C: Clock + Drop>(
+// Finds all records.
+fn targets<B: EngineName, D: Device, C: Clock + Drop>(
     alloc: Global,
     engine: &Engine<B, D, C>,
 ) -> Result<Vec<Target>, IocError> {
@@ -44,11 +41,9 @@ pub fn targets<B: EngineName, D: Device, C: Clock + Drop>(
     for number in 0..RECORDS {
         let name = format!(in alloc; "r{number}")?;
         let field = format!(in alloc; "r{number}.FLNK")?;
-        let link = format!(in alloc; "r{number}.VAL NPP NMS")?;
         all.push(Target {
             value: engine.channel(name.as_bytes())?,
             forward: engine.channel(field.as_bytes())?,
-            link: FieldText::cut(link.as_bytes()),
             name,
         })?;
     }
@@ -62,7 +57,7 @@ fn call<B: EngineName, D: Device, C: Clock + Drop, R: Wait>(
     desk: &mut Desk<B, D>,
     targets: &[Target],
     seed: u64,
-) -> Result<Answered<B>, IocError> {
+) -> Result<Answered, IocError> {
     let (Some(target), Some(other)) = (
         targets.get(record_of(seed)),
         targets.get(record_of(next_of(seed))),
@@ -102,8 +97,7 @@ fn calls<B: EngineName, D: Device, C: Clock + Drop, R: Wait>(
     answered
 }
 
-/// Makes the calls of eight threads, and returns how many were answered, or 0 if the lock sets are
-/// other than those that a walk over the forward links finds then.
+/// Makes the calls of eight threads, and returns how many were answered.
 pub fn eight<
     B: EngineName + Send + Sync,
     D: Device + Send + Sync,
@@ -118,11 +112,7 @@ pub fn eight<
     for count in &counts {
         answered = answered.saturating_add(*count);
     }
-    if are_walked(rt, alloc, engine) {
-        answered
-    } else {
-        0
-    }
+    answered
 }
 
 /// Returns a database text with this many records without links.

@@ -13,7 +13,3 @@ mod sensor;
 mod sessions;
 #[cfg(test)]
 mod steps;
-#[cfg(test)]
-mod tests;
-#[cfg(test)]
-mod walk;
