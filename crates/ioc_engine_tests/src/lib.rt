@@ -13,3 +13,5 @@ mod sensor;
 mod sessions;
 #[cfg(test)]
 mod steps;
+#[cfg(test)]
+mod tests;

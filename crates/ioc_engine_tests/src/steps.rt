@@ -1,7 +1,8 @@
 //! The calls of one desk as lists of steps, each with its expected result.
 use crate::calling::{Answered, Call, make};
 use ioc_engine::{
-    Clock, Desk, Device, Engine, EngineName, FieldText, IocError, NotifyId, Outcome, Reply,
+    Clock, Desk, Device, Engine, EngineName, FieldText, IocError, NotifyId, Outcome, RecordNo,
+    Reply,
 };
 use std::sync::Wait;
 
@@ -22,6 +23,8 @@ pub enum Wanted {
     /// Any reply.
     Answered,
     Says(Says),
+    /// A reply with this text of a field.
+    Shows(&'static [u8]),
     /// This reply, with this place in the journal.
     At(u64, Says),
     /// A plain reply, with this many records moved.
@@ -33,9 +36,14 @@ pub enum Wanted {
 /// A step of a test.
 #[derive(Clone, Copy)]
 pub enum Step {
+    /// The call has this result, and ends no put with notification.
     Makes(Call, Wanted),
-    /// The engine has this many parts, each of one record, in order.
-    AreAlone(usize),
+    /// The call has this result, and ends the puts with notification with these numbers, in order.
+    Ends(Call, Wanted, &'static [u64]),
+    /// The lock sets have the records with these names.
+    Parts(&'static [&'static [&'static [u8]]]),
+    /// The engine is closed, which it wasn't before. It shows no sets and opens no desk any more.
+    Closes,
 }
 
 fn reply(says: Says) -> Reply {
@@ -54,37 +62,98 @@ fn is_as_wanted(told: &Answered, wanted: Wanted) -> bool {
     match wanted {
         Wanted::Answered => true,
         Wanted::Says(says) => told.reply == reply(says),
+        Wanted::Shows(text) => told.reply == reply(Says::Shown(text)),
         Wanted::At(place, says) => told.place == place && told.reply == reply(says),
         Wanted::Moves(moved) => told.moved == moved && told.reply == Reply::Plain,
         Wanted::Fails(_) => false,
     }
 }
 
-// Returns whether a call has the expected result.
-fn is_met(told: Result<Answered, IocError>, wanted: Wanted) -> bool {
-    match (told, wanted) {
-        (Ok(told), wanted) => is_as_wanted(&told, wanted),
+// Returns whether these puts with notification have these numbers.
+fn are_numbered(ended: &[NotifyId], numbers: &[u64]) -> bool {
+    for (id, number) in ended.iter().zip(numbers) {
+        if *id != NotifyId::new(*number) {
+            return false;
+        }
+    }
+    ended.len() == numbers.len()
+}
+
+// Makes a call, and returns whether it has the expected result and ends these puts with
+// notification.
+fn answers<B: EngineName, D: Device, C: Clock + Drop, R: Wait>(
+    rt: &R,
+    engine: &Engine<B, D, C>,
+    desk: &mut Desk<B, D>,
+    call: Call,
+    wanted: Wanted,
+    ended: &[u64],
+) -> bool {
+    match (make(rt, engine, desk, call), wanted) {
+        (Ok(told), wanted) => { is_as_wanted(&told, wanted) && are_numbered(desk.ended(), ended) }
         (Err(error), Wanted::Fails(expected)) => error == expected,
         (Err(_), _) => false,
     }
 }
 
-// Returns whether an engine has this many parts, each of one record, in order.
-fn are_alone<B: EngineName, D: Device, C: Clock + Drop, R: Wait>(
+// Returns whether a part has exactly the records with these names.
+fn is_part<B: EngineName, D: Device, C: Clock + Drop>(
+    engine: &Engine<B, D, C>,
+    part: &[RecordNo],
+    names: &[&[u8]],
+) -> bool {
+    for name in names {
+        let Ok(number) = engine.record(name) else {
+            return false;
+        };
+        if !part.contains(&number) {
+            return false;
+        }
+    }
+    part.len() == names.len()
+}
+
+// Returns whether one of the parts has exactly the records with these names.
+fn is_found<B: EngineName, D: Device, C: Clock + Drop>(
+    engine: &Engine<B, D, C>,
+    parts: &[Vec<RecordNo>],
+    names: &[&[u8]],
+) -> bool {
+    for part in parts {
+        if is_part(engine, part.as_slice(), names) {
+            return true;
+        }
+    }
+    false
+}
+
+// Returns whether the lock sets have the records with these names.
+fn are_parts<B: EngineName, D: Device, C: Clock + Drop, R: Wait>(
     rt: &R,
     engine: &Engine<B, D, C>,
-    count: usize,
+    wanted: &[&[&[u8]]],
 ) -> bool {
     let Ok(parts) = engine.parts(rt) else {
         return false;
     };
-    for (number, part) in parts.iter().enumerate() {
-        match part.as_slice() {
-            [only] if only.index() == number => {}
-            _ => return false,
+    for names in wanted {
+        if !is_found(engine, parts.as_slice(), names) {
+            return false;
         }
     }
-    parts.len() == count
+    parts.len() == wanted.len()
+}
+
+// Closes an engine that isn't closed, and returns whether it shows no sets and opens no desk then.
+fn closes<B: EngineName, D: Device, C: Clock + Drop, R: Wait>(
+    rt: &R,
+    engine: &Engine<B, D, C>,
+) -> bool {
+    let was_closed = engine.is_closed();
+    engine.close();
+    let is_silent = matches!(engine.parts(rt), Err(IocError::Stopped))
+        && matches!(engine.desk(rt), Err(IocError::Stopped));
+    !was_closed && engine.is_closed() && is_silent
 }
 
 // Carries out a step, and returns whether it has the expected result.
@@ -95,8 +164,10 @@ fn holds<B: EngineName, D: Device, C: Clock + Drop, R: Wait>(
     step: Step,
 ) -> bool {
     match step {
-        Step::Makes(call, wanted) => is_met(make(rt, engine, desk, call), wanted),
-        Step::AreAlone(count) => are_alone(rt, engine, count),
+        Step::Makes(call, wanted) => answers(rt, engine, desk, call, wanted, &[]),
+        Step::Ends(call, wanted, ended) => answers(rt, engine, desk, call, wanted, ended),
+        Step::Parts(wanted) => are_parts(rt, engine, wanted),
+        Step::Closes => closes(rt, engine),
     }
 }
 

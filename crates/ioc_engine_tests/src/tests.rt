@@ -1,0 +1,248 @@
+//! Engines from a database text to their end.
+use crate::calling::Call;
+use crate::eight::{CALLS, RECORDS, text};
+use crate::running::{Ended, Work, run_text};
+use crate::sensor::Sensor;
+use crate::sessions::AtEnd::{self, Counts, Devices, Records, Sets};
+use crate::sessions::{
+    CALLS as DESK_CALLS, LINK_CHANGES, MORE_PUTS_OVER_LINK_CHANGES, PUTS, PUTS_OVER_LINK_CHANGES,
+    Session,
+};
+use crate::steps::Step::{self, Makes};
+use crate::steps::{Says, Wanted};
+use ioc_engine::{DeviceName, IocError, Limits, Tally};
+use std::alloc::{AllocError, Global};
+use std::fmt::Write;
+use std::sync::atomic::AtomicU64;
+use std::sync::{Arc, Wait};
+use std::test::Fail;
+use std::thread::Threads;
+
+// Returns devices with asynchronous answers and these names.
+fn later(alloc: Global, names: &[&[u8]]) -> Result<Vec<(DeviceName, Sensor)>, AllocError> {
+    let mut devices = Vec::new(alloc);
+    for name in names {
+        devices.push((DeviceName::cut(name), Sensor::Later))?;
+    }
+    Ok(devices)
+}
+
+// Returns the counts where all requests were processed.
+fn tally_of(processed: u64, started: u64, completed: u64) -> Tally {
+    Tally {
+        begun: processed,
+        processed,
+        disabled: 0,
+        active: 0,
+        reprocess: 0,
+        started,
+        completed,
+    }
+}
+
+// Returns whether this is found at the end.
+fn is_found(ended: &Ended, wanted: AtEnd) -> bool {
+    match wanted {
+        Sets(count) => ended.sets == count,
+        Records(count) => ended.records == count,
+        Devices(count) => ended.devices == count,
+        AtEnd::Active(count) => ended.active == count,
+        Counts(processed, started, completed) => {
+            ended.tally == tally_of(processed, started, completed)
+        }
+    }
+}
+
+// Returns the number of steps with the expected result, and whether the end is as expected too.
+fn result(ended: Option<Ended>, wanted: &[AtEnd]) -> (usize, bool) {
+    let Some(ended) = ended else {
+        return (0, false);
+    };
+    for found in wanted {
+        if !is_found(&ended, *found) {
+            return (ended.held, false);
+        }
+    }
+    (ended.held, true)
+}
+
+// Runs the calls of a session.
+fn run_session<R: Threads + Wait + Sync>(
+    rt: &R,
+    alloc: Global,
+    session: &Session,
+) -> Result<(usize, bool), IocError> {
+    let limits = match session.places {
+        Some(journal) => Limits { journal },
+        None => Limits::default(),
+    };
+    let work = Work::Steps(session.steps);
+    let devices = later(alloc, session.later)?;
+    let ended = run_text(rt, alloc, session.text, devices, limits, work)?;
+    Ok(result(ended, session.end))
+}
+
+// Returns the name of the first of these sessions with another result, if there is one.
+fn failing<R: Threads + Wait + Sync>(
+    rt: &R,
+    alloc: Global,
+    sessions: &[Session],
+) -> Result<Option<&'static str>, IocError> {
+    for session in sessions {
+        if run_session(rt, alloc, session)? != (session.steps.len(), true) {
+            return Ok(Some(session.name));
+        }
+    }
+    Ok(None)
+}
+
+#[test]
+fn calls_of_a_desk(rt: HostRuntime) -> Result<(), Fail> {
+    assert_eq!(rt; failing(&rt, rt.alloc(), &DESK_CALLS)?, None);
+    Ok(())
+}
+
+#[test]
+fn link_changes(rt: HostRuntime) -> Result<(), Fail> {
+    assert_eq!(rt; failing(&rt, rt.alloc(), &LINK_CHANGES)?, None);
+    Ok(())
+}
+
+#[test]
+fn puts_with_notification(rt: HostRuntime) -> Result<(), Fail> {
+    assert_eq!(rt; failing(&rt, rt.alloc(), &PUTS)?, None);
+    Ok(())
+}
+
+#[test]
+fn puts_over_link_changes(rt: HostRuntime) -> Result<(), Fail> {
+    assert_eq!(rt; failing(&rt, rt.alloc(), &PUTS_OVER_LINK_CHANGES)?, None);
+    Ok(())
+}
+
+#[test]
+fn more_puts_over_link_changes(rt: HostRuntime) -> Result<(), Fail> {
+    assert_eq!(rt;
+        failing(&rt, rt.alloc(), &MORE_PUTS_OVER_LINK_CHANGES)?,
+        None
+    );
+    Ok(())
+}
+
+// A record with a device, and three others.
+const HELD: &[u8] = b"record(longin,\"d\"){field(INP,\"@d\")}
+record(longin,\"a\"){}
+record(longin,\"b\"){}
+record(longin,\"c\"){}
+";
+
+// The record with the device is processed, and shows the value from it.
+static HOLDS: [Step; 2] = [
+    Makes(Call::Process(b"d"), Wanted::Answered),
+    Makes(Call::Get(b"d.VAL"), Wanted::Says(Says::Shown(b"7"))),
+];
+
+static REQUEST: [Step; 1] = [Makes(Call::Process(b"a"), Wanted::Says(Says::Processed))];
+
+static LINK_CHANGE: [Step; 1] = [Makes(Call::SetLink(b"b.FLNK", b"c"), Wanted::Says(Says::Plain))];
+
+fn flag(alloc: Global) -> Result<Arc<AtomicU64, Global>, AllocError> {
+    Ok(Arc::new(alloc, AtomicU64::new(0))?)
+}
+
+// Processes a record whose device answers once a call on another set is answered. Returns whether
+// it did, was called before that call, and that call had the expected reply.
+fn are_both_answered<R: Threads + Wait + Sync>(
+    rt: &R,
+    alloc: Global,
+    others: &[Step],
+    sets: usize,
+) -> Result<bool, IocError> {
+    let asked = flag(alloc)?;
+    let answered = flag(alloc)?;
+    let device = Sensor::Holding(Arc::try_clone(&asked)?, Arc::try_clone(&answered)?);
+    let mut devices = Vec::new(alloc);
+    devices.push((DeviceName::cut(b"d"), device))?;
+    let work = Work::Beside {
+        first: &HOLDS,
+        others,
+        asked: &asked,
+        answered: &answered,
+    };
+    let ended = run_text(rt, alloc, HELD, devices, Limits::default(), work)?;
+    Ok(result(ended, &[Sets(sets), Records(4), Devices(1)]) == (3, true))
+}
+
+#[test]
+fn two_sets_at_once(rt: HostRuntime) -> Result<(), Fail> {
+    assert!(rt; are_both_answered(&rt, rt.alloc(), &REQUEST, 4)?);
+    Ok(())
+}
+
+#[test]
+fn link_beside_work(rt: HostRuntime) -> Result<(), Fail> {
+    assert!(rt; are_both_answered(&rt, rt.alloc(), &LINK_CHANGE, 3)?);
+    Ok(())
+}
+
+// Returns whether all calls of eight threads are answered, and all records are there at the end.
+fn are_all_answered<R: Threads + Wait + Sync>(rt: &R, alloc: Global) -> Result<bool, IocError> {
+    let text = text(alloc)?;
+    let bytes = text.as_bytes();
+    let none = Vec::new(alloc);
+    let Some(end) = run_text(rt, alloc, bytes, none, Limits::default(), Work::Eight)? else {
+        return Ok(false);
+    };
+    Ok(end.held == 8 * CALLS && end.records == RECORDS)
+}
+
+#[test]
+fn eight_threads(rt: HostRuntime) -> Result<(), Fail> {
+    assert!(rt; are_all_answered(&rt, rt.alloc())?);
+    Ok(())
+}
+
+// The number of records of the chain.
+const CHAIN: usize = 20_000;
+
+// A request of the first record of the chain processes them all.
+static CHAINED: [Step; 3] = [
+    Makes(Call::Get(b"c19999.STAT"), Wanted::Says(Says::Shown(b"UDF"))),
+    Makes(Call::Process(b"c0"), Wanted::Says(Says::Processed)),
+    Makes(
+        Call::Get(b"c19999.STAT"),
+        Wanted::Says(Says::Shown(b"NO_ALARM")),
+    ),
+];
+
+// Returns a database text with a chain of forward links, whose last record has a value.
+fn chain_text(alloc: Global) -> Result<String, AllocError> {
+    let mut text = String::new(alloc);
+    for number in 0..CHAIN {
+        let next = number.saturating_add(1);
+        let Ok(()) = writeln!(
+            text,
+            "record(longin,\"c{number}\"){{field(FLNK,\"c{next}\")}}"
+        ) else {
+            return Err(AllocError);
+        };
+    }
+    text.push_str("record(longin,\"c19999\"){field(VAL,1)}\n")?;
+    Ok(text)
+}
+
+// Returns whether all records of the chain are processed.
+fn is_all_processed<R: Threads + Wait + Sync>(rt: &R, alloc: Global) -> Result<bool, IocError> {
+    let text = chain_text(alloc)?;
+    let work = Work::Steps(&CHAINED);
+    let none = Vec::new(alloc);
+    let ended = run_text(rt, alloc, text.as_bytes(), none, Limits::default(), work)?;
+    let all = CHAIN as u64;
+    Ok(result(ended, &[Sets(1), Records(CHAIN), Counts(all, 0, 0)]) == (3, true))
+}
+
+#[test]
+fn long_chain(rt: HostRuntime) -> Result<(), Fail> {
+    assert!(rt; is_all_processed(&rt, rt.alloc())?);
+    Ok(())
+}
