@@ -6,8 +6,8 @@ use crate::eight::eight;
 use crate::sensor::{Sensor, seen};
 use crate::steps::{Step, follow};
 use ioc_engine::{
-    Clock, CountingClock, Device, DeviceName, Engine, EngineName, IocError, Limits, Macros, Seed,
-    StoppedRecord, Tally, load,
+    Clock, CountingClock, Device, DeviceName, Engine, EngineName, FieldText, Input, IocError,
+    Limits, Macros, Outcome, Receipt, Reply, Report, Seed, StoppedRecord, Tally, load,
 };
 use std::alloc::Global;
 use std::marker::Brand;
@@ -31,6 +31,8 @@ pub enum Work<'a> {
     },
     /// The calls of eight threads.
     Eight,
+    /// Two desks, of which the second learns of the call of the first, and their entries.
+    Learns,
 }
 
 /// What is found at the end of an engine.
@@ -86,6 +88,7 @@ fn done<
             one.saturating_add(other)
         }
         Work::Eight => eight(rt, alloc, engine),
+        Work::Learns => 0,
     }
 }
 
@@ -139,6 +142,51 @@ fn end<B: EngineName, D: Device, C: Clock + Drop, R: Wait>(
     })
 }
 
+// Puts a value by one desk, and gets it by a second one, which learns of the put before.
+fn put_and_learn<B: EngineName, D: Device, C: Clock + Drop, R: Wait>(
+    rt: &R,
+    engine: &Engine<B, D, C>,
+) -> Result<(Receipt<B>, Receipt<B>), IocError> {
+    let mut first = engine.desk(rt)?;
+    let mut second = engine.desk(rt)?;
+    let channel = engine.channel(b"a")?;
+    let (_, mut receipt) = engine.put(rt, &mut first, channel, Input::from_text(b"5"))?;
+    engine.learn(rt, &mut second, &mut receipt);
+    let (_, shown) = engine.get(rt, &mut second, channel)?;
+    Ok((receipt, shown))
+}
+
+// Returns whether the journal has a call of this desk, its first one, with this reply.
+fn has_entry<B: EngineName, D: Device, R: Wait>(
+    rt: &R,
+    report: &mut Report<B, D>,
+    receipt: &mut Receipt<B>,
+    desk: u64,
+    reply: &Reply,
+) -> bool {
+    let told = report.entry(rt, receipt);
+    told.desk == desk && told.call == 0 && told.entry.reply == *reply
+}
+
+// Returns whether the second desk's call came after the first one's, and both are in the journal.
+fn has_learnt<B: EngineName, D: Device, C: Clock + Drop, R: Wait>(
+    rt: &R,
+    engine: Engine<B, D, C>,
+) -> bool {
+    let Ok((mut put, mut shown)) = put_and_learn(rt, &engine) else {
+        return false;
+    };
+    let is_later = put.place() < shown.place();
+    let Ok(mut report) = engine.stop(rt) else {
+        return false;
+    };
+    let processed = Reply::Outcome(Outcome::Processed);
+    let five = Reply::Shown(FieldText::cut(b"5"));
+    let is_put = has_entry(rt, &mut report, &mut put, 0, &processed);
+    let is_shown = has_entry(rt, &mut report, &mut shown, 1, &five);
+    is_later && is_put && is_shown
+}
+
 // Runs an engine of any name, and returns the result, or `None` if it can't be started.
 fn run<B: EngineName + Send + Sync, D: Device + Send + Sync, R: Threads + Wait + Sync>(
     rt: &R,
@@ -153,6 +201,16 @@ fn run<B: EngineName + Send + Sync, D: Device + Send + Sync, R: Threads + Wait +
     let Ok(engine) = Engine::<B, D, CountingClock>::start(alloc, seed, clock, limits) else {
         return None;
     };
+    if let Work::Learns = work {
+        return Some(Ended {
+            held: usize::from(has_learnt(rt, engine)),
+            sets: 0,
+            records: 0,
+            active: 0,
+            devices: 0,
+            tally: Tally::default(),
+        });
+    }
     let held = done(rt, alloc, &engine, work);
     end(rt, alloc, engine, held)
 }

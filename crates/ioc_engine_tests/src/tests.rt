@@ -202,6 +202,23 @@ fn eight_threads(rt: HostRuntime) -> Result<(), Fail> {
     Ok(())
 }
 
+// Returns whether a desk that learns of a call makes its next call after it, and the journal has
+// both calls.
+fn is_learnt<R: Threads + Wait + Sync>(rt: &R, alloc: Global) -> Result<bool, IocError> {
+    let text = b"record(longin,\"a\"){}\n";
+    let none = Vec::new(alloc);
+    let Some(end) = run_text(rt, alloc, text, none, Limits::default(), Work::Learns)? else {
+        return Ok(false);
+    };
+    Ok(end.held == 1)
+}
+
+#[test]
+fn learnt_and_entered(rt: HostRuntime) -> Result<(), Fail> {
+    assert!(rt; is_learnt(&rt, rt.alloc())?);
+    Ok(())
+}
+
 // The number of records of the chain.
 const CHAIN: usize = 20_000;
 
