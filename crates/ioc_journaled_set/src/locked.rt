@@ -38,6 +38,11 @@ impl<K: RecordKind + Drop, B: EngineName<K>, D: Drop> Locked for JournaledSet<K,
         }
     }
 
+    // A set may be taken if a put with notification is live on it.
+    fn may_be_taken(&self) -> bool {
+        !self.set.none_is_live()
+    }
+
     fn is_sound(&self) {
         self.set.is_sound();
     }

@@ -5,7 +5,7 @@ ghost use Rattle.ioc_tests.specs.declared.numbers.Numbers.{Numbers};
 
 use crate::numbers::Numbers;
 use ioc_names::RecordNo;
-use ioc_topology::{Directory, LinkSets};
+use ioc_topology::{Directory, NewCells, are_lent};
 use ioc_values::IocError;
 use std::alloc::{AllocError, Global};
 use std::sync::Wait;
@@ -44,67 +44,77 @@ fn singles(alloc: Global, count: usize) -> Result<Directory<Numbers>, AllocError
     Ok(sets)
 }
 
-// Joins the sets of two records.
-fn join_sets(
-    rt: &impl Wait,
-    alloc: Global,
-    sets: &Directory<Numbers>,
+// Moves records among the sets of a link change: joins the first two, or parts a record from the
+// first.
+fn move_records(
+    first: &mut Numbers,
+    second: &mut Numbers,
+    spare: &mut Numbers,
     one: usize,
-    two: usize,
-) -> Result<(), IocError> {
-    let (joined, ()) = sets.relink(
-        rt,
-        alloc,
-        RecordNo::new(one),
-        Some(RecordNo::new(two)),
-        (),
-        |lent| join_lent(lent),
-    );
-    Ok(joined??)
-}
-
-// Moves all records of the second set to the first.
-fn join_lent(lent: &mut LinkSets<Numbers, ()>) -> Result<(), AllocError> {
-    lent.first.list.append(&mut lent.second.list)
-}
-
-// Parts a record from its set.
-fn part_set(
-    rt: &impl Wait,
-    alloc: Global,
-    sets: &Directory<Numbers>,
-    one: usize,
-) -> Result<(), IocError> {
-    let (parted, ()) = sets.relink(
-        rt,
-        alloc,
-        RecordNo::new(one),
-        None,
-        (),
-        |lent| part_lent(lent, one),
-    );
-    Ok(parted??)
-}
-
-// Moves a record from the first set to the spare one.
-fn part_lent(lent: &mut LinkSets<Numbers, ()>, one: usize) -> Result<(), AllocError> {
-    lent.spare.list.push(one)?;
-    lent.first.list.retain(|number| *number != one);
+    joins: bool,
+) -> Result<(), AllocError> {
+    if joins {
+        return first.list.append(&mut second.list);
+    }
+    spare.list.push(one)?;
+    first.list.retain(|number| *number != one);
     Ok(())
+}
+
+// Joins the sets of two records, or parts a record from its set if there is no other one.
+fn relink(
+    rt: &impl Wait,
+    alloc: Global,
+    sets: &Directory<Numbers>,
+    one: usize,
+    two: Option<usize>,
+) -> Result<(), IocError> {
+    let _guard = sets.guard_topology(rt);
+    let new = sets.new_cells(rt, alloc)?;
+    let changed = relink_in(rt, sets, &new, one, two);
+    if changed.is_err() {
+        sets.leave_new(rt, &new);
+    }
+    changed
+}
+
+// Does so under the locks of the sets.
+fn relink_in(
+    rt: &impl Wait,
+    sets: &Directory<Numbers>,
+    new: &NewCells<'_, Numbers>,
+    one: usize,
+    two: Option<usize>,
+) -> Result<(), IocError> {
+    let number = RecordNo::new(one);
+    let other = match two {
+        Some(two) => Some(RecordNo::new(two)),
+        None => None,
+    };
+    for _ in rt.forever() {
+        let Some(both) = sets.link_cells(new, number, &other)? else {
+            continue;
+        };
+        let (mut first_guard, mut second_guard) = both.lock(rt);
+        let mut spare_guard = new.lock_spare(rt);
+        let first = &mut *first_guard;
+        let second = &mut *second_guard;
+        let spare = &mut *spare_guard;
+        if are_lent(first, second, spare, number, &other) {
+            move_records(first, second, spare, one, two.is_some())?;
+            sets.settle_all(rt, &both, new, first, second, spare);
+            return Ok(());
+        }
+    }
+    unreachable!()
 }
 
 // Returns the number of records of the set of a record, which is that of some set with the record.
 fn size_of_set(rt: &impl Wait, sets: &Directory<Numbers>, number: usize) -> Result<usize, IocError>
     ensures { IfOk result (λ n. (s : Numbers) × Contains s.list.items number × (n ≡ vec_len s.list)) }
 {
-    let size = sets.with_set(
-        rt,
-        RecordNo::new(number),
-        |set: &mut Numbers| -> usize
-            ensures { result ≡ vec_len set.old.list }
-        { set.list.len() },
-    )?;
-    Ok(size)
+    let set = sets.lock_set(rt, RecordNo::new(number))?;
+    Ok(set.list.len())
 }
 
 /// A call or a link change, with its expected result.
@@ -121,8 +131,8 @@ enum Step {
 // Carries out a step, and returns whether it has the expected result.
 fn holds(rt: &impl Wait, alloc: Global, sets: &Directory<Numbers>, step: Step) -> bool {
     match step {
-        Step::Join(one, two, wanted) => join_sets(rt, alloc, sets, one, two) == wanted,
-        Step::Part(one) => part_set(rt, alloc, sets, one) == Ok(()),
+        Step::Join(one, two, wanted) => relink(rt, alloc, sets, one, Some(two)) == wanted,
+        Step::Part(one) => relink(rt, alloc, sets, one, None) == Ok(()),
         Step::Size(number, wanted) => size_of_set(rt, sets, number) == wanted,
     }
 }
@@ -142,6 +152,19 @@ fn first_wrong(
     None
 }
 
+// Keeps the set of a record locked until the other call is answered. Returns whether that was in
+// time.
+fn hold_set(
+    rt: &impl Wait,
+    sets: &Directory<Numbers>,
+    number: usize,
+    inside: &AtomicU64,
+    answered: &AtomicU64,
+) -> Result<bool, IocError> {
+    let _set = sets.lock_set(rt, RecordNo::new(number))?;
+    Ok(held_until(inside, answered))
+}
+
 // Keeps a call in progress until the steps are done. Returns whether it was in progress before the
 // steps, whether it ended after them, and the first step with another result.
 fn beside<R: Threads + Wait + Sync>(
@@ -155,11 +178,7 @@ fn beside<R: Threads + Wait + Sync>(
     let answered = AtomicU64::new(0);
     let (held, other) = thread::join(
         rt,
-        || sets.with_set(
-            rt,
-            RecordNo::new(number),
-            |_set| held_until(&inside, &answered),
-        ),
+        || hold_set(rt, sets, number, &inside, &answered),
         || {
             let began = seen(&inside);
             let wrong = first_wrong(rt, alloc, sets, steps);
@@ -221,35 +240,118 @@ static PAIR: [Step; 1] = [Step::Join(3, 0, Ok(()))];
 
 static PUT_BACK: [Step; 2] = [Step::Size(0, Ok(2)), Step::Size(2, Ok(1))];
 
-// Takes the sets of two records, then all others, and puts them back. Returns the number of the
-// former, whether record 3 is in the first of them, and the number of the others.
+// Takes the sets that may be taken and have this many records or more, and puts them back. Returns
+// how many these were, and whether record 3 is in the first of them.
 fn taken(
     rt: &impl Wait,
     alloc: Global,
     sets: &Directory<Numbers>,
-) -> Result<(usize, bool, usize), IocError> {
+    least: usize,
+) -> Result<(usize, bool), IocError> {
     let guard = sets.guard_topology(rt);
-    let taken = sets.take_where(rt, alloc, &|set: &Numbers| set.list.len() == 2)?;
-    let others = sets.take_where(rt, alloc, &|set: &Numbers| set.list.len() != 0);
+    let taken = sets.take_where(rt, alloc, &|set: &Numbers| set.list.len() >= least)?;
     let count = taken.sets.len();
     let has_third = match taken.sets.first() {
         Some(set) => set.list.contains(&3),
         None => false,
     };
     sets.put_back(rt, taken);
-    let others = others?;
-    let count_of_others = others.sets.len();
-    sets.put_back(rt, others);
     drop(guard);
-    Ok((count, has_third, count_of_others))
+    Ok((count, has_third))
 }
 
 #[test]
 fn sets_are_taken_and_put_back(rt: HostRuntime) -> Result<(), Fail> {
     let sets = singles(rt.alloc(), 4)?;
+    assert_eq!(rt; taken(&rt, rt.alloc(), &sets, 1)?, (0, false));
     assert_eq!(rt; first_wrong(&rt, rt.alloc(), &sets, &PAIR), None);
-    assert_eq!(rt; taken(&rt, rt.alloc(), &sets)?, (1, true, 2));
+    assert_eq!(rt; taken(&rt, rt.alloc(), &sets, 2)?, (1, true));
+    assert_eq!(rt; taken(&rt, rt.alloc(), &sets, 3)?, (0, false));
+    assert_eq!(rt; taken(&rt, rt.alloc(), &sets, 1)?, (1, true));
     assert_eq!(rt; first_wrong(&rt, rt.alloc(), &sets, &PUT_BACK), None);
+    Ok(())
+}
+
+// Takes sets while the set of a record is locked, with its flag down, and puts them back.
+fn taken_beside(
+    rt: &impl Wait,
+    alloc: Global,
+    sets: &Directory<Numbers>,
+    number: usize,
+) -> Result<(usize, bool), IocError> {
+    let set = sets.lock_set(rt, RecordNo::new(number))?;
+    let found = taken(rt, alloc, sets, 1);
+    drop(set);
+    found
+}
+
+#[test]
+fn others_may_be_locked(rt: HostRuntime) -> Result<(), Fail> {
+    let sets = singles(rt.alloc(), 4)?;
+    assert_eq!(rt; first_wrong(&rt, rt.alloc(), &sets, &PAIR), None);
+    assert_eq!(rt; taken_beside(&rt, rt.alloc(), &sets, 1)?, (1, true));
+    Ok(())
+}
+
+// Raises the flag of the set of a record, or settles it.
+fn flag(
+    rt: &impl Wait,
+    sets: &Directory<Numbers>,
+    number: usize,
+    raises: bool,
+) -> Result<(), IocError> {
+    let set = sets.lock_set(rt, RecordNo::new(number))?;
+    if raises {
+        sets.raise_flag(RecordNo::new(number));
+    } else {
+        sets.settle_flag(RecordNo::new(number), &set);
+    }
+    Ok(())
+}
+
+#[test]
+fn flags_are_settled(rt: HostRuntime) -> Result<(), Fail> {
+    let sets = singles(rt.alloc(), 4)?;
+    flag(&rt, &sets, 3, true)?;
+    assert_eq!(rt; taken(&rt, rt.alloc(), &sets, 1)?, (1, true));
+    // It was settled when the set was put back.
+    assert_eq!(rt; taken(&rt, rt.alloc(), &sets, 1)?, (0, false));
+    flag(&rt, &sets, 3, true)?;
+    flag(&rt, &sets, 3, false)?;
+    assert_eq!(rt; taken(&rt, rt.alloc(), &sets, 1)?, (0, false));
+    Ok(())
+}
+
+static CHANGES: [Step; 6] = [
+    Step::Join(0, 1, Ok(())),
+    Step::Join(2, 3, Ok(())),
+    Step::Join(0, 3, Ok(())),
+    Step::Part(1),
+    Step::Part(2),
+    Step::Part(3),
+];
+
+// Goes through the steps many times, and returns the first with another result. Cells that were
+// left are used again, otherwise there would be none left after a few of them.
+fn first_wrong_of_many(
+    rt: &impl Wait,
+    alloc: Global,
+    sets: &Directory<Numbers>,
+    steps: &[Step],
+) -> Option<usize> {
+    for _ in 0..100 {
+        if let Some(place) = first_wrong(rt, alloc, sets, steps) {
+            return Some(place);
+        }
+    }
+    None
+}
+
+#[test]
+fn cells_are_used_again(rt: HostRuntime) -> Result<(), Fail> {
+    let sets = singles(rt.alloc(), 4)?;
+    assert_eq!(rt; first_wrong_of_many(&rt, rt.alloc(), &sets, &CHANGES), None);
+    assert_eq!(rt; taken(&rt, rt.alloc(), &sets, 1)?, (0, false));
     Ok(())
 }
 

@@ -43,5 +43,10 @@ impl Locked for Numbers {
         RecordNo::new(self.list[place])
     }
 
+    // A set may be taken if it has several records.
+    fn may_be_taken(&self) -> bool {
+        self.list.len() > 1
+    }
+
     fn is_sound(&self) {}
 }

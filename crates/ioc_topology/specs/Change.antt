@@ -2,19 +2,18 @@
 -- and Processing", lock sets.
 use Rattle.std.specs.Prelude.{ℕ, ◌≡◌, ◌⊎◌, ◌≤◌, ◌<◌, List, [], Option, Some, Contains, IfSome, IfNone}
 use Rattle.ioc_values.specs.declared.error.IocError.{IocError}
-use Rattle.ioc_values.specs.declared.error.IocError.TheVariants.{NoRecord, NoMemory}
+use Rattle.ioc_values.specs.declared.error.IocError.TheVariants.{NoRecord}
 
 -- A call on a record is refused if the directory was made for fewer records.
 abbrev pub IsRefused : ℕ → ℕ → IocError → Type 0
 IsRefused count number error = (error ≡ NoRecord) × (count ≤ number)
 
--- A lookup of another record is refused if the directory was made for fewer records, or if
--- allocation fails.
+-- A lookup of another record, if there is one, is refused if the directory was made for fewer
+-- records.
 abbrev pub OtherIsRefused : ℕ → Option ℕ → IocError → Type 0
-OtherIsRefused count other error = (error ≡ NoMemory) ⊎ ((error ≡ NoRecord) × ((o : ℕ) × (other ≡ Some o) × (count ≤ o)))
+OtherIsRefused count other error = (error ≡ NoRecord) × ((o : ℕ) × (other ≡ Some o) × (count ≤ o))
 
--- A link change is refused if the directory was made for fewer records than either number, or if
--- allocation fails.
+-- A link change is refused if the directory was made for fewer records than either number.
 abbrev pub LinkIsRefused : ℕ → ℕ → Option ℕ → IocError → Type 0
 LinkIsRefused count number other error = IsRefused count number error ⊎ OtherIsRefused count other error
 

@@ -1,3 +1,2 @@
 pub mod Gathered
 pub mod Change
-pub mod Through

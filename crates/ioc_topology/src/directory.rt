@@ -1,41 +1,53 @@
 //! The locks of all sets, and the home of each record.
 ghost use Rattle.std.specs.Prelude.{◌≡◌, ◌<◌, ◌≤◌, Contains, OnOk, IfOk, IfErr};
-ghost use Rattle.std.specs.Fn.{FnOnceReturnsAtMut, FnOnceTakesAtMut};
+ghost use Rattle.std.specs.Sync.Mutex.{mutex_guard_value};
 ghost use Rattle.ioc_values.specs.declared.error.IocError.TheVariants.{NoRecord};
 ghost use Rattle.ioc_topology.specs.Change.{IsRefused};
 
+use crate::free_cells::FreeCells;
 use crate::locked::Locked;
 use ioc_names::RecordNo;
 use ioc_values::IocError;
-use slab::Slab;
 use std::alloc::{AllocError, Global};
 use std::marker::Model;
-use std::sync::atomic::{AtomicU64, Ordering};
-use std::sync::{Arc, Mutex, RwLock, Wait};
-
-/// The lock of a set. It is boxed, so that dropping a cell clears little memory.
-pub type Cell<S> = Arc<Box<Mutex<S>>, Global>;
+use std::sync::atomic::{AtomicBool, AtomicU64, Ordering};
+use std::sync::{Mutex, MutexGuard, OnceLock, Wait};
 
 // The home of a record whose set wasn't added yet. No cell has this key.
 const NOWHERE: u64 = u64::MAX;
 
-/// A cell with its key.
+/// A place for a set under its lock. Once made, the lock stays until the directory is dropped. It
+/// is boxed, so that a cell that isn't made takes little memory.
+pub(crate) type Cell<S> = OnceLock<Box<Mutex<S>>>;
+
+/// The lock of a cell, with the key of the cell.
 #[derive(Drop)]
-pub struct KeyedCell<S: Locked> {
+pub(crate) struct KeyedCell<'a, S: Locked> {
     pub(crate) key: usize,
-    pub(crate) cell: Cell<S>,
+    pub(crate) lock: &'a Mutex<S>,
 }
 
 /// The locks of all sets, and the home of each record. Contracts see the number of records that it
 /// was made for.
 ///
-/// Locks are taken in this order: the topology guard, then cells by rising key. The list of cells
-/// is locked only briefly, and never while the lock of a cell is awaited.
+/// There is room for a cell for each record, and for two more during a link change. A cell that was
+/// left is used again with the same lock. Callers that still wait for this lock don't find their
+/// record there, and look again.
+///
+/// Each cell has a flag. It is raised and lowered only while the lock of the cell is held. Whenever
+/// this lock is free and the set [may be taken](Locked::may_be_taken), the flag is up.
+///
+/// Locks are taken in this order: the topology guard, then cells by rising key. A cell without a
+/// set may be locked at any time, because other callers release its lock at once. The list of free
+/// cells is locked only briefly.
 #[derive(Drop)]
 pub struct Directory<S: Locked> {
     // The key of the cell of each record's set. It may be out of date by the time it is used.
     pub(crate) homes: Vec<AtomicU64>,
-    pub(crate) cells: RwLock<Slab<Cell<S>>>,
+    pub(crate) cells: Vec<Cell<S>>,
+    pub(crate) flags: Vec<AtomicBool>,
+    // Used only under the topology guard.
+    pub(crate) free: Mutex<FreeCells>,
     pub(crate) topology: Mutex<()>,
 }
 
@@ -48,7 +60,8 @@ impl<S: Locked> Model for Directory<S> {
 }
 
 impl<S: Locked> Directory<S> {
-    /// Creates a directory for the records with the numbers below `count`, without sets.
+    /// Creates a directory for the records with the numbers below `count`, without sets. It has
+    /// room for a set of each record.
     ///
     /// # Errors
     ///
@@ -56,13 +69,19 @@ impl<S: Locked> Directory<S> {
     pub fn new(alloc: Global, count: usize) -> Result<Directory<S>, AllocError>
         ensures { IfOk result (λ d. d ≡ count) }
     {
+        let Some(most) = count.checked_add(2) else {
+            return Err(AllocError);
+        };
         let mut homes = Vec::with_capacity(alloc, count)?;
         for _ in 0..count {
             homes.push_reserved(AtomicU64::new(NOWHERE));
         }
+        let (cells, flags) = empty_cells(alloc, most)?;
         Ok(Directory {
             homes,
-            cells: RwLock::new(Slab::new(alloc)),
+            cells,
+            flags,
+            free: Mutex::new(FreeCells::new(alloc, most)?),
             topology: Mutex::new(()),
         })
     }
@@ -79,39 +98,36 @@ impl<S: Locked> Directory<S> {
     ///
     /// # Errors
     ///
-    /// [`AllocError`] if allocation fails; the directory is unchanged then, and the set is dropped.
+    /// [`AllocError`] if allocation fails, or if there are more sets than records; the directory is
+    /// unchanged then, and the set is dropped.
     pub fn add(&mut self, alloc: Global, set: S) -> Result<(), AllocError>
         ensures { self.new ≡ self.old }
     {
-        let cells = self.cells.get_mut();
-        cells.reserve(1)?;
-        let mut cell = Arc::new(alloc, Box::new(alloc, Mutex::new(set))?)?;
-        // No one else has this cell yet.
-        let Some(mutex) = Arc::get_mut(&mut cell) else {
-            return Err(AllocError);
-        };
-        set_homes(&self.homes, mutex.get_mut(), cells.vacant_key());
-        cells.insert_reserved(cell);
+        let place = self.free.get_mut().make(alloc, self.cells.as_slice(), set)?;
+        let key = place.key;
+        if let Some(set) = set_in(self.cells.as_mut_slice(), key) {
+            set_homes(&self.homes, set, key);
+            let may_be_taken = set.may_be_taken();
+            self.set_flag(key, may_be_taken);
+        }
         Ok(())
     }
 
-    /// Returns the cell with a key, unless it was removed. Tries the lock of the list first,
-    /// because it is mostly free and that call is shorter.
+    /// Returns the lock of the cell with a key, if it was made.
     #[inline(always)]
-    pub(crate) fn cell_at(&self, rt: &impl Wait, key: usize) -> Option<Cell<S>> {
-        match self.cells.try_read() {
-            Some(cells) => listed_at(&cells, key),
-            None => listed_at(&self.cells.read(rt), key),
+    pub(crate) fn lock_at(&self, key: usize) -> Option<&Mutex<S>> {
+        match self.cells.get(key) {
+            Some(cell) => match cell.get() {
+                Some(lock) => Some(lock),
+                None => None,
+            },
+            None => None,
         }
     }
 
-    /// Returns the place of a record, or `None` if it is being moved.
+    /// Returns the place of a record, or `None` if its set wasn't added yet.
     #[inline(always)]
-    pub(crate) fn place_of(
-        &self,
-        rt: &impl Wait,
-        number: RecordNo,
-    ) -> Result<Option<KeyedCell<S>>, IocError>
+    pub(crate) fn place_of(&self, number: RecordNo) -> Result<Option<KeyedCell<'_, S>>, IocError>
         ensures known { OnOk result (number < self.now) }
         ensures refused { IfErr result (IsRefused self.now number) }
     {
@@ -119,73 +135,56 @@ impl<S: Locked> Directory<S> {
             return Err(IocError::NoRecord);
         };
         let key = home.load(Ordering::SeqCst) as usize;
-        match self.cell_at(rt, key) {
-            Some(cell) => Ok(Some(KeyedCell { key, cell })),
+        match self.lock_at(key) {
+            Some(lock) => Ok(Some(KeyedCell { key, lock })),
             None => Ok(None),
         }
     }
 
-    /// Returns the lock of the set in which a record was found. The record may have moved since:
-    /// once the lock is taken, the caller checks whether the record is there, and otherwise asks
-    /// again.
+    /// Locks the set of a record. While it is being moved, the set is looked for again. Waits
+    /// forever if no set with the record was added.
     ///
     /// # Errors
     ///
     /// [`IocError::NoRecord`] if the directory was made for fewer records.
     #[inline(always)]
-    pub fn lock_of(&self, rt: &impl Wait, number: RecordNo) -> Result<Cell<S>, IocError>
+    pub fn lock_set<R: Wait>(&self, rt: &R, number: RecordNo) -> Result<MutexGuard<'_, S>, IocError>
+        ensures here { IfOk result (λ set. Contains (S.numbers (mutex_guard_value set)) number) }
+        ensures sound { IfOk result (λ set. S.sound (mutex_guard_value set)) }
         ensures known { OnOk result (number < self.now) }
         ensures refused { IfErr result (IsRefused self.now number) }
     {
         for _ in rt.forever() {
-            if let Some(place) = self.place_of(rt, number)? {
-                return Ok(place.cell);
-            }
-        }
-        unreachable!()
-    }
-
-    /// Calls `work` with the set of a record, under its lock. `work` moves no record to another
-    /// set, and takes no other lock of the directory.
-    ///
-    /// # Errors
-    ///
-    /// [`IocError::NoRecord`] if the directory was made for fewer records.
-    pub fn with_set<T, F: FnOnce(&mut S) -> T, R: Wait>(
-        &self,
-        rt: &R,
-        number: RecordNo,
-        work: F,
-    ) -> Result<T, IocError>
-        requires { (s : S) → Contains (S.numbers s) number → S.sound s → FnOnceTakesAtMut F.FnOnce work s }
-        ensures answer { IfOk result (λ r. (s : S) × (t : S) × Contains (S.numbers s) number × S.sound s × FnOnceReturnsAtMut F.FnOnce work s r t × S.sound t) }
-        ensures known { OnOk result (number < self.now) }
-        ensures refused { IfErr result (IsRefused self.now number) }
-    {
-        for _ in rt.forever() {
-            let Some(place) = self.place_of(rt, number)? else {
+            let Some(place) = self.place_of(number)? else {
                 continue;
             };
-            let mut set = place.cell.lock(rt);
+            let set = place.lock.lock(rt);
             if set.has(number) {
                 set.is_sound();
-                let answer = work(&mut set);
-                set.is_sound();
-                return Ok(answer);
+                return Ok(set);
             }
         }
         unreachable!()
     }
 }
 
-// Returns the cell of a list with a key, unless it was removed. If its reference count is at the
-// maximum there is no cell either, and the caller tries again.
-#[inline(always)]
-fn listed_at<S>(cells: &Slab<Cell<S>>, key: usize) -> Option<Cell<S>> {
-    match cells.get(key) {
-        Some(cell) => Arc::try_clone(cell).ok(),
-        None => None,
+// Returns cells without locks, and their flags.
+fn empty_cells<S: Locked>(
+    alloc: Global,
+    most: usize,
+) -> Result<(Vec<Cell<S>>, Vec<AtomicBool>), AllocError> {
+    let mut cells = Vec::with_capacity(alloc, most)?;
+    let mut flags = Vec::with_capacity(alloc, most)?;
+    for _ in 0..most {
+        cells.push_reserved(OnceLock::new());
+        flags.push_reserved(AtomicBool::new(false));
     }
+    Ok((cells, flags))
+}
+
+/// Returns the set in the cell with a key, if it was made.
+pub(crate) fn set_in<S: Locked>(cells: &mut [Cell<S>], key: usize) -> Option<&mut S> {
+    Some(cells.get_mut(key)?.get_mut()?.get_mut())
 }
 
 /// Makes the cell with this key the home of a set's records.

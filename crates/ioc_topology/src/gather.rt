@@ -2,11 +2,11 @@
 ghost use Rattle.std.specs.Prelude.{◌≡◌, ◌↔◌, ◌<◌, ℕ, false, IsTrue, IfOk, slice_index_or, OnOk, OnErr};
 ghost use Rattle.ioc_topology.specs.Gathered.{HoldEach, IsMarked, IsClaimed};
 
-use crate::directory::{Cell, Directory};
+use crate::directory::{Cell, Directory, set_in};
 use crate::locked::Locked;
 use std::alloc::{AllocError, Global};
 use std::mem;
-use std::sync::{Arc, Wait};
+use std::sync::Wait;
 
 impl<S: Locked> Directory<S> {
     /// Takes all sets out of the directory, which is left for no record. Together they have each
@@ -23,13 +23,13 @@ impl<S: Locked> Directory<S> {
     {
         let count = self.homes.len();
         let mut seen = Vec::from_elem(alloc, false, count)?;
-        let cells = self.all_cells(rt, alloc)?;
-        let mut sets = Vec::with_capacity(alloc, cells.len())?;
+        let made = self.free.get_mut().made();
+        let mut sets = Vec::with_capacity(alloc, made)?;
         self.homes.clear();
-        self.cells.get_mut().clear();
-        for cell in cells.as_slice() {
-            let mut set = cell.lock(rt);
-            sets.push_reserved(mem::replace(&mut *set, S::empty(alloc)));
+        for key in 0..made {
+            if let Some(set) = take_set(alloc, self.cells.as_mut_slice(), key) {
+                sets.push_reserved(set);
+            }
         }
         if hold_each(sets.as_slice(), seen.as_mut_slice(), count) {
             return Ok(sets);
@@ -37,20 +37,15 @@ impl<S: Locked> Directory<S> {
         for _ in rt.forever() {}
         unreachable!()
     }
+}
 
-    // Returns the cells of all sets.
-    pub(crate) fn all_cells(
-        &self,
-        rt: &impl Wait,
-        alloc: Global,
-    ) -> Result<Vec<Cell<S>>, AllocError> {
-        let cells = self.cells.read(rt);
-        let mut all = Vec::with_capacity(alloc, cells.len())?;
-        for (_, cell) in cells.iter() {
-            all.push(Arc::try_clone(cell)?)?;
-        }
-        Ok(all)
+// Takes the set out of a cell, if it has records, and leaves a set without records there.
+fn take_set<S: Locked>(alloc: Global, cells: &mut [Cell<S>], key: usize) -> Option<S> {
+    let set = set_in(cells, key)?;
+    if set.len() == 0 {
+        return None;
     }
+    Some(mem::replace(set, S::empty(alloc)))
 }
 
 // Returns whether the sets have each of the first `count` records, and none twice. `marks` are

@@ -7,15 +7,14 @@
 #![tactic(auto)]
 
 pub mod directory;
+mod flags;
+mod free_cells;
 mod gather;
 pub mod link_cells;
-pub mod link_sets;
 pub mod locked;
-mod relink;
 pub mod taken;
 
-pub use directory::{Directory, KeyedCell};
+pub use directory::Directory;
 pub use link_cells::{LinkCells, NewCells, all_sound, are_lent};
-pub use link_sets::LinkSets;
 pub use locked::Locked;
 pub use taken::Taken;

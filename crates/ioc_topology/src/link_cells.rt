@@ -8,41 +8,41 @@ use crate::locked::Locked;
 use ioc_names::RecordNo;
 use ioc_values::IocError;
 use std::alloc::{AllocError, Global};
-use std::sync::{Arc, Mutex, MutexGuard, Wait};
+use std::sync::{MutexGuard, Wait};
 
-/// Two new cells with sets without records, in which no one looks for a record yet.
+/// Two cells with sets without records. They are the home of no record yet.
 #[derive(Drop)]
-pub struct NewCells<S: Locked> {
+pub struct NewCells<'a, S: Locked> {
     // The place of the second set, if no other set is concerned.
-    beside: KeyedCell<S>,
+    beside: KeyedCell<'a, S>,
     // The place of the spare set.
-    spare: KeyedCell<S>,
+    spare: KeyedCell<'a, S>,
 }
 
-impl<S: Locked> NewCells<S> {
+impl<'a, S: Locked> NewCells<'a, S> {
     /// Locks the spare set.
     pub fn lock_spare<R: Wait>(&self, rt: &R) -> MutexGuard<'_, S> {
-        self.spare.cell.lock(rt)
+        self.spare.lock.lock(rt)
     }
 }
 
 /// The places of the two sets of a link change.
 #[derive(Drop)]
-pub struct LinkCells<S: Locked> {
-    first: KeyedCell<S>,
-    second: KeyedCell<S>,
+pub struct LinkCells<'a, S: Locked> {
+    first: KeyedCell<'a, S>,
+    second: KeyedCell<'a, S>,
 }
 
-impl<S: Locked> LinkCells<S> {
+impl<'a, S: Locked> LinkCells<'a, S> {
     /// Locks both sets, by rising key.
     pub fn lock<R: Wait>(&self, rt: &R) -> (MutexGuard<'_, S>, MutexGuard<'_, S>) {
         if self.first.key < self.second.key {
-            let low = self.first.cell.lock(rt);
-            let high = self.second.cell.lock(rt);
+            let low = self.first.lock.lock(rt);
+            let high = self.second.lock.lock(rt);
             (low, high)
         } else {
-            let low = self.second.cell.lock(rt);
-            let high = self.first.cell.lock(rt);
+            let low = self.second.lock.lock(rt);
+            let high = self.first.lock.lock(rt);
             (high, low)
         }
     }
@@ -54,12 +54,12 @@ impl<S: Locked> Directory<S> {
         self.topology.lock(rt)
     }
 
-    /// Creates the cells that a link change may need.
+    /// Returns the cells that a link change may need, which were left or are made now.
     ///
     /// # Errors
     ///
     /// [`AllocError`] if allocation fails; nothing has changed then.
-    pub fn new_cells<R: Wait>(&self, rt: &R, alloc: Global) -> Result<NewCells<S>, AllocError> {
+    pub fn new_cells<R: Wait>(&self, rt: &R, alloc: Global) -> Result<NewCells<'_, S>, AllocError> {
         let beside = self.new_place(rt, alloc)?;
         match self.new_place(rt, alloc) {
             Ok(spare) => Ok(NewCells { beside, spare }),
@@ -70,45 +70,43 @@ impl<S: Locked> Directory<S> {
         }
     }
 
-    /// Returns the places of both records, or `None` if one of them is being moved. If there is no
+    /// Returns the places of both records, or `None` if one of them is in no set. If there is no
     /// other record, or both are in the same set, the second place is a new one.
     ///
     /// # Errors
     ///
-    /// [`IocError::NoRecord`] if the directory was made for fewer records. [`IocError::NoMemory`]
-    /// if the reference count of a cell is at the maximum.
-    pub fn link_cells<R: Wait>(
-        &self,
-        rt: &R,
-        new: &NewCells<S>,
+    /// [`IocError::NoRecord`] if the directory was made for fewer records.
+    pub fn link_cells<'a>(
+        &'a self,
+        new: &NewCells<'a, S>,
         number: RecordNo,
         other: &Option<RecordNo>,
-    ) -> Result<Option<LinkCells<S>>, IocError>
+    ) -> Result<Option<LinkCells<'a, S>>, IocError>
         ensures known { IfOk result (λ both. IfSome both (λ _. AreKnown self.now number other.now)) }
         ensures refused { IfErr result (LinkIsRefused self.now number other.now) }
     {
-        let Some(first) = self.place_of(rt, number)? else {
+        let Some(first) = self.place_of(number)? else {
             return Ok(None);
         };
-        let Some(second) = self.second_place(rt, &first, &new.beside, other)? else {
+        let Some(second) = self.second_place(&first, &new.beside, other)? else {
             return Ok(None);
         };
         Ok(Some(LinkCells { first, second }))
     }
 
-    /// Removes new cells, whose sets have no record.
-    pub fn leave_new<R: Wait>(&self, rt: &R, new: &NewCells<S>) {
+    /// Leaves new cells, whose sets have no record.
+    pub fn leave_new<R: Wait>(&self, rt: &R, new: &NewCells<'_, S>) {
         self.leave(rt, new.beside.key);
         self.leave(rt, new.spare.key);
     }
 
     /// Makes the three cells of a link change, whose sets are locked, the homes of the records that
-    /// they have now, and removes those without records.
+    /// they have now, and leaves those without records.
     pub fn settle_all<R: Wait>(
         &self,
         rt: &R,
-        both: &LinkCells<S>,
-        new: &NewCells<S>,
+        both: &LinkCells<'_, S>,
+        new: &NewCells<'_, S>,
         first: &S,
         second: &S,
         spare: &S,
@@ -122,18 +120,17 @@ impl<S: Locked> Directory<S> {
     }
 
     // Returns the place of the other record if it isn't the first place, otherwise `beside`.
-    fn second_place(
-        &self,
-        rt: &impl Wait,
-        first: &KeyedCell<S>,
-        beside: &KeyedCell<S>,
+    fn second_place<'a>(
+        &'a self,
+        first: &KeyedCell<'a, S>,
+        beside: &KeyedCell<'a, S>,
         other: &Option<RecordNo>,
-    ) -> Result<Option<KeyedCell<S>>, IocError>
+    ) -> Result<Option<KeyedCell<'a, S>>, IocError>
         ensures known { OnOk result (IfSome other.now (λ o. o < self.now)) }
         ensures refused { IfErr result (OtherIsRefused self.now other.now) }
     {
         if let Some(other) = other {
-            let Some(place) = self.place_of(rt, *other)? else {
+            let Some(place) = self.place_of(*other)? else {
                 return Ok(None);
             };
             if place.key != first.key {
@@ -142,21 +139,25 @@ impl<S: Locked> Directory<S> {
         }
         Ok(Some(KeyedCell {
             key: beside.key,
-            cell: Arc::try_clone(&beside.cell)?,
+            lock: beside.lock,
         }))
     }
 
-    // Creates a cell with a set without records.
-    fn new_place(&self, rt: &impl Wait, alloc: Global) -> Result<KeyedCell<S>, AllocError> {
-        let cell = Arc::new(alloc, Box::new(alloc, Mutex::new(S::empty(alloc)))?)?;
-        let listed = Arc::try_clone(&cell)?;
-        let key = self.cells.write(rt).insert(listed)?;
-        Ok(KeyedCell { key, cell })
+    // Returns a cell with a set without records: one that was left, or the next one.
+    fn new_place(&self, rt: &impl Wait, alloc: Global) -> Result<KeyedCell<'_, S>, AllocError> {
+        let mut free = self.free.lock(rt);
+        if let Some(key) = free.take() {
+            if let Some(lock) = self.lock_at(key) {
+                return Ok(KeyedCell { key, lock });
+            }
+        }
+        free.make(alloc, self.cells.as_slice(), S::empty(alloc))
     }
 
-    // Makes a cell the home of the records of its set, which is locked, or removes the cell if
-    // there are none.
+    // Makes a cell the home of the records of its set, which is locked, or leaves the cell if there
+    // are none. Its flag is as the set says.
     fn settle(&self, rt: &impl Wait, set: &S, key: usize) {
+        self.set_flag(key, set.may_be_taken());
         if set.len() == 0 {
             self.leave(rt, key);
         } else {
@@ -164,9 +165,9 @@ impl<S: Locked> Directory<S> {
         }
     }
 
-    // Removes a cell from the list. Callers that wait for it will look again.
+    // Leaves a cell, whose set has no records. Callers that wait for it will look again.
     fn leave(&self, rt: &impl Wait, key: usize) {
-        let _left = self.cells.write(rt).try_remove(key);
+        self.free.lock(rt).leave(key);
     }
 }
 

@@ -32,6 +32,10 @@ pub trait Locked: Drop {
         requires { place < length (numbers self.now) }
         ensures { result ≡ slice_index (numbers self.now) place };
 
+    /// Returns whether [`Directory::take_where`](crate::Directory::take_where) looks at the set.
+    /// It passes over all others, without waiting for their locks.
+    fn may_be_taken(&self) -> bool;
+
     /// States the invariant of the set. Does nothing.
     fn is_sound(&self)
         ensures { sound self.now };

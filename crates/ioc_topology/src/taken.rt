@@ -3,26 +3,27 @@ ghost use Rattle.std.specs.Prelude.{◌≡◌, true, All, IfOk, IfSome};
 ghost use Rattle.std.specs.Borrow.{Bor};
 ghost use Rattle.std.specs.Fn.{FnReturnsAt};
 
-use crate::directory::{Cell, Directory};
+use crate::directory::{Directory, KeyedCell};
 use crate::locked::Locked;
 use std::alloc::{AllocError, Global};
 use std::mem;
-use std::sync::Wait;
+use std::sync::{Mutex, Wait};
 
 /// Sets that were taken out of their cells. A caller that looks for one of their records meanwhile
 /// finds a set without records and looks again, as while a record is being moved. It can't be
 /// dropped: the sets have to be put back.
-pub struct Taken<S: Locked> {
+pub struct Taken<'a, S: Locked> {
     /// The sets. Their number must not change.
     pub sets: Vec<S>,
     // The cell of each, in the same order.
-    cells: Vec<Cell<S>>,
+    cells: Vec<KeyedCell<'a, S>>,
 }
 
 impl<S: Locked> Directory<S> {
-    /// Takes each set that passes the test out of its cell. The caller holds the topology guard
-    /// until all are put back, so no set parts or joins another meanwhile. The cells are locked one
-    /// after another, and the test takes no lock of the directory.
+    /// Takes each set that [may be taken](Locked::may_be_taken) and passes the test out of its
+    /// cell. The caller holds the topology guard until all are put back, so no set parts or joins
+    /// another meanwhile. The cells are locked one after another, only those of sets that may be
+    /// taken, and the test takes no lock of the directory.
     ///
     /// # Errors
     ///
@@ -32,16 +33,16 @@ impl<S: Locked> Directory<S> {
         rt: &R,
         alloc: Global,
         test: &F,
-    ) -> Result<Taken<S>, AllocError>
+    ) -> Result<Taken<'_, S>, AllocError>
         requires { (s : Bor S) → S.sound s.now → F.pre test.now s }
         ensures sound { IfOk result (λ t. All S.sound t.sets.items) }
         ensures met { IfOk result (λ t. All (λ s. FnReturnsAt F.Fn test.now s true) t.sets.items) }
     {
-        let mut all = self.all_cells(rt, alloc)?;
+        let mut all = self.flagged(rt, alloc)?;
         let mut sets = Vec::with_capacity(alloc, all.len())?;
         let mut cells = Vec::with_capacity(alloc, all.len())?;
         while let Some(cell) = all.pop() {
-            if let Some(set) = take_if(rt, alloc, &cell, test) {
+            if let Some(set) = take_if(rt, alloc, cell.lock, test) {
                 sets.push_reserved(set);
                 cells.push_reserved(cell);
             }
@@ -50,11 +51,12 @@ impl<S: Locked> Directory<S> {
     }
 
     /// Puts the sets back into their cells, where they are found again.
-    pub fn put_back<R: Wait>(&self, rt: &R, taken: Taken<S>) {
+    pub fn put_back<R: Wait>(&self, rt: &R, taken: Taken<'_, S>) {
         let Taken { sets, cells } = taken;
         for (cell, set) in cells.into_iter().zip(sets) {
-            let mut guard = cell.lock(rt);
+            let mut guard = cell.lock.lock(rt);
             put_in(&mut *guard, set);
+            self.set_flag(cell.key, guard.may_be_taken());
         }
     }
 }
@@ -70,14 +72,14 @@ fn put_in<S: Locked>(cell: &mut S, set: S)
 fn take_if<S: Locked, F: Fn(&S) -> bool, R: Wait>(
     rt: &R,
     alloc: Global,
-    cell: &Cell<S>,
+    lock: &Mutex<S>,
     test: &F,
 ) -> Option<S>
     requires { (s : Bor S) → S.sound s.now → F.pre test.now s }
     ensures sound { IfSome result S.sound }
     ensures met { IfSome result (λ s. FnReturnsAt F.Fn test.now s true) }
 {
-    let mut set = cell.lock(rt);
+    let mut set = lock.lock(rt);
     set.is_sound();
     if test(&set) {
         Some(mem::replace(&mut *set, S::empty(alloc)))
