@@ -68,6 +68,12 @@ echo "a put with notification and its completion: $(each "$folder/device.db" not
 for db in few many; do
   echo "a link change between two sets of ten, $db records: $(each "$folder/$db.db" link) instructions"
 done
+for db in few many; do
+  sed '1s/.*/record(longin,"r0"){field(INP,"@d")}/' "$folder/$db.db" > "$folder/cancel_$db.db"
+  for mode in notify cancel; do
+    echo "a put with notification and its completion, $mode, $db records: $(each "$folder/cancel_$db.db" $mode) instructions"
+  done
+done
 for mode in load start; do
   echo "131,072 records, $mode: $(memory "$program" "$folder/many.db" $mode 20)"
 done
