@@ -91,7 +91,8 @@ impl<K: RecordKind + Drop, B: EngineName<K>, D: Device> EngineCore<K, B, D> {
 
     /// Cancels the put with notification with this number, in one event of all lock sets with its
     /// records: no record is part of it any more, it waits nowhere, and it doesn't end. For that,
-    /// the sets are taken out of their cells under the topology guard.
+    /// the sets are taken out of their cells under the topology guard. Only sets on which a put
+    /// with notification may be live are locked.
     ///
     /// # Errors
     ///

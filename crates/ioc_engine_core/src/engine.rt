@@ -149,21 +149,18 @@ impl<K: RecordKind + Drop, B: EngineName<K>, D: Device> EngineCore<K, B, D> {
         if self.is_closed() {
             return Err(IocError::Stopped);
         }
-        for _ in rt.forever() {
-            let cell = self.sets.lock_of(rt, number)?;
-            let mut held = cell.lock(rt);
-            if held.has(number) {
-                held.is_sound();
-                let (reply, receipt) = held.serve(
-                    rt, alloc, &self.book, &self.puts, desk, buffers, event, moment,
-                )?;
-                held.is_sound();
-                drop(held);
-                self.do_sent(rt, buffers);
-                return Ok((reply, receipt));
-            }
+        let mut held = self.sets.lock_set(rt, number)?;
+        let may_end = held.may_be_taken();
+        let (reply, receipt) = held.serve(
+            rt, alloc, &self.book, &self.puts, desk, buffers, event, moment,
+        )?;
+        held.is_sound();
+        if may_end {
+            self.sets.settle_flag(number, &held);
         }
-        unreachable!()
+        drop(held);
+        self.do_sent(rt, buffers);
+        Ok((reply, receipt))
     }
 
     /// Returns the text of a field.
@@ -191,16 +188,9 @@ impl<K: RecordKind + Drop, B: EngineName<K>, D: Device> EngineCore<K, B, D> {
         if self.is_closed() {
             return Err(IocError::Stopped);
         }
-        for _ in rt.forever() {
-            let cell = self.sets.lock_of(rt, number)?;
-            let mut held = cell.lock(rt);
-            if held.has(number) {
-                held.is_sound();
-                let told = held.get(rt, alloc, &self.book, desk, number, field, moment);
-                held.is_sound();
-                return told;
-            }
-        }
-        unreachable!()
+        let mut held = self.sets.lock_set(rt, number)?;
+        let told = held.get(rt, alloc, &self.book, desk, number, field, moment);
+        held.is_sound();
+        told
     }
 }

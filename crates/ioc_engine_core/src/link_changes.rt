@@ -101,13 +101,13 @@ impl<K: RecordKind + Drop, B: EngineName<K>, D: Device> EngineCore<K, B, D> {
 
     // Finds and locks the sets of a link change, and changes the link. The caller holds the
     // topology guard.
-    fn relink<R: Wait>(
-        &self,
+    fn relink<'a, R: Wait>(
+        &'a self,
         rt: &R,
         alloc: Global,
         desk: &mut Desk<K, B>,
         buffers: &mut EventBuffers<K, D>,
-        new: &NewCells<JournaledSet<K, B, D>>,
+        new: &NewCells<'a, JournaledSet<K, B, D>>,
         number: RecordNo,
         field: FieldNo,
         link: LinkBox,
@@ -125,7 +125,7 @@ impl<K: RecordKind + Drop, B: EngineName<K>, D: Device> EngineCore<K, B, D> {
     {
         let other = link.record_named();
         for _ in rt.forever() {
-            let both = match self.sets.link_cells(rt, new, number, &other) {
+            let both = match self.sets.link_cells(new, number, &other) {
                 Ok(Some(both)) => both,
                 Ok(None) => continue,
                 Err(refused) => {

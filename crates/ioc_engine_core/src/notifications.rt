@@ -57,21 +57,17 @@ impl<K: RecordKind + Drop, B: EngineName<K>, D: Device> EngineCore<K, B, D> {
         if self.is_closed() {
             return Err(IocError::Stopped);
         }
-        for _ in rt.forever() {
-            let cell = self.sets.lock_of(rt, number)?;
-            let mut held = cell.lock(rt);
-            if held.has(number) {
-                held.is_sound();
-                let (reply, receipt) = held.put_notify(
-                    rt, alloc, &self.book, &self.puts, desk, buffers, number, field, given, moment,
-                )?;
-                held.is_sound();
-                drop(held);
-                self.do_sent(rt, buffers);
-                return Ok((reply, receipt));
-            }
-        }
-        unreachable!()
+        let mut held = self.sets.lock_set(rt, number)?;
+        self.sets.raise_flag(number);
+        let told = held.put_notify(
+            rt, alloc, &self.book, &self.puts, desk, buffers, number, field, given, moment,
+        );
+        held.is_sound();
+        self.sets.settle_flag(number, &held);
+        drop(held);
+        let (reply, receipt) = told?;
+        self.do_sent(rt, buffers);
+        Ok((reply, receipt))
     }
 
     /// Replies whether the put with notification with this number is live, which it is from its

@@ -61,18 +61,9 @@ impl<K: RecordKind + Drop, B: EngineName<K>, D: Drop> EngineCore<K, B, D> {
         ensures here { IfOk result (λ v. Contains v.items number) }
         ensures refused { IfErr result (λ error. IsRefused self.now number error ⊎ (error ≡ NoMemory)) }
     {
-        for _ in rt.forever() {
-            let cell = self.sets.lock_of(rt, number)?;
-            let held = cell.lock(rt);
-            if held.has(number) {
-                held.is_sound();
-                let Ok(numbers) = numbers_in(alloc, &held) else {
-                    return Err(IocError::NoMemory);
-                };
-                return Ok(numbers);
-            }
-        }
-        unreachable!()
+        let held = self.sets.lock_set(rt, number)?;
+        let numbers = numbers_in(alloc, &held)?;
+        Ok(numbers)
     }
 
     /// Returns the numbers of the records of each set, as they were while its lock was held: sets

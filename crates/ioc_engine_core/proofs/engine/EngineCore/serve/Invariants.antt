@@ -1,5 +1,0 @@
-use Rattle.std.proofs.Common.{◌≡◌}
-use Rattle.ioc_engine_core.proofs.engine.EngineCore.serve.Given as goal
-
-abbrev pub invariant-loop : goal.invariant-loop
-invariant-loop g l = l.desk ≡ l.fn.desk
