@@ -129,8 +129,9 @@ fn more_puts_over_link_changes(rt: HostRuntime) -> Result<(), Fail> {
     Ok(())
 }
 
-// A record with a device, and three others.
+// Two records with devices, and three others. The answers of the second device are asynchronous.
 const HELD: &[u8] = b"record(longin,\"d\"){field(INP,\"@d\")}
+record(longin,\"e\"){field(INP,\"@e\")}
 record(longin,\"a\"){}
 record(longin,\"b\"){}
 record(longin,\"c\"){}
@@ -146,12 +147,21 @@ static REQUEST: [Step; 1] = [Makes(Call::Process(b"a"), Wanted::Says(Says::Proce
 
 static LINK_CHANGE: [Step; 1] = [Makes(Call::SetLink(b"b.FLNK", b"c"), Wanted::Says(Says::Plain))];
 
+static CANCEL: [Step; 3] = [
+    Makes(
+        Call::PutNotify(b"e.VAL", b"3"),
+        Wanted::Says(Says::Notify(1)),
+    ),
+    Makes(Call::Cancel(1), Wanted::Says(Says::Plain)),
+    Makes(Call::Live(1), Wanted::Says(Says::Live(false))),
+];
+
 fn flag(alloc: Global) -> Result<Arc<AtomicU64, Global>, AllocError> {
     Ok(Arc::new(alloc, AtomicU64::new(0))?)
 }
 
-// Processes a record whose device answers once a call on another set is answered. Returns whether
-// it did, was called before that call, and that call had the expected reply.
+// Processes a record whose device answers once calls on other sets are answered. Returns whether it
+// did, was called before those calls, and these had the expected replies.
 fn are_both_answered<R: Threads + Wait + Sync>(
     rt: &R,
     alloc: Global,
@@ -163,6 +173,7 @@ fn are_both_answered<R: Threads + Wait + Sync>(
     let device = Sensor::Holding(Arc::try_clone(&asked)?, Arc::try_clone(&answered)?);
     let mut devices = Vec::new(alloc);
     devices.push((DeviceName::cut(b"d"), device))?;
+    devices.push((DeviceName::cut(b"e"), Sensor::Later))?;
     let work = Work::Beside {
         first: &HOLDS,
         others,
@@ -170,18 +181,25 @@ fn are_both_answered<R: Threads + Wait + Sync>(
         answered: &answered,
     };
     let ended = run_text(rt, alloc, HELD, devices, Limits::default(), work)?;
-    Ok(result(ended, &[Sets(sets), Records(4), Devices(1)]) == (3, true))
+    let steps = others.len().saturating_add(HOLDS.len());
+    Ok(result(ended, &[Sets(sets), Records(5), Devices(2)]) == (steps, true))
 }
 
 #[test]
 fn two_sets_at_once(rt: HostRuntime) -> Result<(), Fail> {
-    assert!(rt; are_both_answered(&rt, rt.alloc(), &REQUEST, 4)?);
+    assert!(rt; are_both_answered(&rt, rt.alloc(), &REQUEST, 5)?);
     Ok(())
 }
 
 #[test]
 fn link_beside_work(rt: HostRuntime) -> Result<(), Fail> {
-    assert!(rt; are_both_answered(&rt, rt.alloc(), &LINK_CHANGE, 3)?);
+    assert!(rt; are_both_answered(&rt, rt.alloc(), &LINK_CHANGE, 4)?);
+    Ok(())
+}
+
+#[test]
+fn cancel_beside_work(rt: HostRuntime) -> Result<(), Fail> {
+    assert!(rt; are_both_answered(&rt, rt.alloc(), &CANCEL, 5)?);
     Ok(())
 }
 
