@@ -14,12 +14,7 @@ use Rattle.ioc_fields.specs.declared.field_kind.FieldKind.TheVariants.{Link as L
 use Rattle.ioc_fields.specs.Kinds.{link_kind_of}
 use Rattle.ioc_fields.specs.Table.{kind_of}
 use Rattle.ioc_dbcommon.specs.declared.link_field.LinkField.{LinkField}
-use Rattle.rec_types.specs.Record.{Record, record_rules}
 use Rattle.ioc_dbfile.specs.Finished.{Owner, leads_to}
-use Rattle.ioc_store.specs.World.{World}
-use Rattle.ioc_events.specs.declared.reply.Reply.{Reply}
-use Rattle.ioc_history.specs.Account.{DeskView}
-use Rattle.ioc_engine_core.specs.Linked.{WasLinked}
 use Rattle.ioc_engine.specs.declared.channel.Channel.{Channel}
 
 -- The kind of links that a field can hold, if it is a link field.
@@ -47,10 +42,3 @@ IsBadText types c text error =
 -- load say.
 abbrev pub field_of_link : NameTable → List RecordType → Owner → ℕ → Link → LinkField
 field_of_link names types owner number link = record { link = link; lead = leads_to names types owner number link }
-
-module _ (D : Type 0) (base : World Record) where
-  -- A link of a desk was changed to this value, or the change was refused because of DISP, at some
-  -- time of the engine's clock.
-  abbrev pub WasRelinked : Channel → LinkField → DeskView → Reply → (moved : ℕ) → DeskView → World Record → Type 0
-  WasRelinked c link desk reply moved desk_then come_to =
-      (moment : ℕ) × WasLinked D record_rules base c.number c.field link desk moment reply moved desk_then come_to

@@ -1,6 +1,6 @@
 //! Engines.
-ghost use Rattle.std.specs.Prelude.{◌≡◌, ◌⊎◌, IfOk, IfErr, OnOk, OnErr, [], length};
-ghost use Rattle.ioc_values.specs.declared.error.IocError.TheVariants.{BadValue, JournalFull, NoMemory, Stopped};
+ghost use Rattle.std.specs.Prelude.{◌≡◌, ◌⊎◌, ◌∷◌, ℕ, true, [], length, ok_or, IfOk, IfErr, OnOk, OnErr};
+ghost use Rattle.ioc_values.specs.declared.error.IocError.TheVariants.{BadValue, JournalFull, NoMemory, NoRecord, Stopped};
 ghost use Rattle.rec_types.specs.Record.{record_rules};
 ghost use Rattle.ioc_events.specs.declared.event.Event.TheVariants.{Get, Process, Put, Complete};
 ghost use Rattle.ioc_events.specs.Step.{names};
@@ -10,11 +10,8 @@ ghost use Rattle.ioc_history.specs.Line.{longer, Begins};
 ghost use Rattle.ioc_history.specs.Account.{IsAccount, calls, calls_by};
 ghost use Rattle.ioc_history.specs.Places.{AreAllowed};
 ghost use Rattle.ioc_names.specs.NameTable.{number_of};
-ghost use Rattle.ioc_values.specs.declared.error.IocError.TheVariants.{NoRecord};
-ghost use Rattle.std.specs.Prelude.{ok_or, true, ◌∷◌};
 ghost use Rattle.ioc_journaled_set.specs.Puts.{HaveEnded};
-ghost use Rattle.ioc_engine_core.specs.Served.{CallIsRefused};
-ghost use Rattle.ioc_engine.specs.Calls.{WasAnswered, WasDone};
+ghost use Rattle.ioc_engine_core.specs.Served.{WasServed, WasTold, CallIsRefused};
 ghost use Rattle.ioc_engine.specs.Channels.{channel_of};
 ghost use Rattle.ioc_engine.specs.Named.{IsNamedBy};
 
@@ -37,7 +34,19 @@ use std::alloc::Global;
 use std::sync::Wait;
 
 /// An engine: the records of a loaded database in their lock sets, and the journal of all calls.
-/// Threads share it by reference.
+/// Threads share it by reference. `B` is its name in contracts, `D` the type of its devices, and
+/// `C` that of its clock.
+///
+/// A call is refused with an error if nothing was added to the journal. Any other refusal is a
+/// reply, [`Reply::Refused`], which has its place there.
+///
+/// ```rust
+/// let engine = Engine::<B, _, _>::start(alloc, seed, CountingClock::new(), Limits::default())?;
+/// let mut desk = engine.desk(rt)?;
+/// engine.set_link(rt, &mut desk, engine.channel(b"copy.INP")?, b"level PP MS")?;
+/// engine.process(rt, &mut desk, engine.record(b"copy")?)?;
+/// let (shown, _receipt) = engine.get(rt, &mut desk, engine.channel(b"copy.SEVR")?)?;
+/// ```
 #[derive(Drop)]
 pub struct Engine<B: EngineName, D: Drop, C: Drop> {
     pub(crate) core: EngineCore<Record, B, D>,
@@ -47,11 +56,13 @@ pub struct Engine<B: EngineName, D: Drop, C: Drop> {
 }
 
 impl<B: EngineName, D: Drop, C: Drop> Engine<B, D, C> {
-    /// Starts an engine. No record is processed by it.
+    /// Starts an engine. No record is processed by it. The journal takes as many calls as the
+    /// limits allow, and its memory grows with the calls.
     ///
     /// # Errors
     ///
-    /// [`IocError::BadValue`] if a limit is out of range. [`IocError::NoMemory`] if allocation fails.
+    /// [`IocError::BadValue`] if a limit is out of range. [`IocError::NoMemory`] if allocation
+    /// fails.
     pub fn start(alloc: Global, seed: Seed<D>, clock: C, limits: Limits) -> Result<Self, IocError>
         requires named { IsNamedBy B.table B.base B.had_device B.places B.tickets seed }
         ensures records { IfOk result (λ e. e.core ≡ length seed.records.items) }
@@ -86,8 +97,8 @@ impl<B: EngineName, D: Drop, C: Drop> Engine<B, D, C> {
     ///
     /// # Errors
     ///
-    /// [`IocError::Stopped`] if the engine was closed. [`IocError::JournalFull`] if no number is left
-    /// for a desk. [`IocError::NoMemory`] if allocation fails.
+    /// [`IocError::Stopped`] if the engine was closed. [`IocError::JournalFull`] if no number is
+    /// left for a desk. [`IocError::NoMemory`] if allocation fails.
     pub fn desk<R: Wait>(&self, rt: &R) -> Result<Desk<B, D>, IocError>
         ensures new { IfOk result (λ d. (d.account.next ≡ 0) × (calls_by d.account.number (calls d.account.seen) ≡ [])) }
         ensures refused { IfErr result (λ error. (error ≡ Stopped) ⊎ ((error ≡ JournalFull) ⊎ (error ≡ NoMemory))) }
@@ -102,7 +113,8 @@ impl<B: EngineName, D: Drop, C: Drop> Engine<B, D, C> {
         })
     }
 
-    /// Closes the engine: no call begins from then on. A call that has begun is finished.
+    /// Closes the engine: no call begins from then on. A call that has begun is finished. It
+    /// doesn't wait.
     pub fn close(&self) {
         self.core.close();
     }
@@ -112,7 +124,7 @@ impl<B: EngineName, D: Drop, C: Drop> Engine<B, D, C> {
         self.core.is_closed()
     }
 
-    /// Returns the number of the record with this name or alias.
+    /// Returns the number of the record with this name or alias. It takes no lock.
     ///
     /// # Errors
     ///
@@ -123,12 +135,13 @@ impl<B: EngineName, D: Drop, C: Drop> Engine<B, D, C> {
         self.lookup.record(name)
     }
 
-    /// Returns the channel of a text `RECORD.FIELD`, or `RECORD` for its field VAL.
+    /// Returns the channel of a text `RECORD.FIELD`, or `RECORD` for its field VAL. It takes no
+    /// lock.
     ///
     /// # Errors
     ///
-    /// [`IocError::NoRecord`] or [`IocError::NoField`], in this order, if there is no such record or
-    /// field.
+    /// [`IocError::NoRecord`] or [`IocError::NoField`], in this order, if there is no such record
+    /// or field.
     pub fn channel(&self, text: &[u8]) -> Result<Channel, IocError>
         ensures { result ≡ channel_of self.now.lookup.names self.now.lookup.types.items text.now }
     {
@@ -148,8 +161,8 @@ impl<B: EngineName, D: Drop, C: Drop> Engine<B, D, C> {
 }
 
 impl<B: EngineName, D: Device, C: Clock + Drop> Engine<B, D, C> {
-    // Performs an event on the set of a record, at a moment. Inlined, so that each call knows its kind
-    // of event.
+    // Performs an event on the set of a record, at a moment. Inlined, so that each call knows its
+    // kind of event.
     #[inline(always)]
     fn serve<R: Wait>(
         &self,
@@ -161,8 +174,8 @@ impl<B: EngineName, D: Device, C: Clock + Drop> Engine<B, D, C> {
     ) -> Result<(Reply, Receipt<B>), IocError>
         requires ordinary { is_ordinary event.now ≡ true }
         requires names { names event.now ≡ number ∷ [] }
-        ensures done { IfOk result (λ x. WasDone D B.base D.gives number desk.old.account event.now x.0 desk.new.account
-            (world_of desk.new.buffers.store)) }
+        ensures done { IfOk result (λ x. WasServed D record_rules B.base D.gives number desk.old.account moment event.now x.0
+            desk.new.account (world_of desk.new.buffers.store)) }
         ensures receipt { IfOk result (λ x. x.1 ≡ desk.new.account.seen) }
         ensures ended { OnOk result (HaveEnded record_rules B.base (world_of desk.new.buffers.store).ended desk.new.account.seen
             desk.new.buffers.ended_everywhere.items) }
@@ -182,7 +195,8 @@ impl<B: EngineName, D: Device, C: Clock + Drop> Engine<B, D, C> {
         )
     }
 
-    /// Requests a record to be processed (dbProcess).
+    /// Requests a record to be processed (dbProcess), at the time of the clock. The reply is the
+    /// [`Outcome`](crate::Outcome) of the request.
     ///
     /// # Errors
     ///
@@ -195,8 +209,8 @@ impl<B: EngineName, D: Device, C: Clock + Drop> Engine<B, D, C> {
         desk: &mut Desk<B, D>,
         number: RecordNo,
     ) -> Result<(Reply, Receipt<B>), IocError>
-        ensures done { IfOk result (λ x. WasDone D B.base D.gives number desk.old.account (Process number) x.0 desk.new.account
-            (world_of desk.new.buffers.store)) }
+        ensures done { IfOk result (λ x. (moment : ℕ) × C.gives self.now.clock moment × WasServed D record_rules B.base D.gives number
+            desk.old.account moment (Process number) x.0 desk.new.account (world_of desk.new.buffers.store)) }
         ensures receipt { IfOk result (λ x. x.1 ≡ desk.new.account.seen) }
         ensures ended { OnOk result (HaveEnded record_rules B.base (world_of desk.new.buffers.store).ended desk.new.account.seen
             desk.new.buffers.ended_everywhere.items) }
@@ -206,8 +220,8 @@ impl<B: EngineName, D: Device, C: Clock + Drop> Engine<B, D, C> {
         self.process_at(rt, desk, number, self.clock.now())
     }
 
-    /// Requests a record to be processed with this time stamp, in nanoseconds since 1970-01-01 00:00
-    /// UTC.
+    /// Requests a record to be processed with this time stamp, in nanoseconds since 1970-01-01
+    /// 00:00 UTC. It may be earlier than that of a call before.
     ///
     /// # Errors
     ///
@@ -219,8 +233,8 @@ impl<B: EngineName, D: Device, C: Clock + Drop> Engine<B, D, C> {
         number: RecordNo,
         moment: u64,
     ) -> Result<(Reply, Receipt<B>), IocError>
-        ensures done { IfOk result (λ x. WasDone D B.base D.gives number desk.old.account (Process number) x.0 desk.new.account
-            (world_of desk.new.buffers.store)) }
+        ensures done { IfOk result (λ x. WasServed D record_rules B.base D.gives number desk.old.account moment (Process number) x.0
+            desk.new.account (world_of desk.new.buffers.store)) }
         ensures receipt { IfOk result (λ x. x.1 ≡ desk.new.account.seen) }
         ensures ended { OnOk result (HaveEnded record_rules B.base (world_of desk.new.buffers.store).ended desk.new.account.seen
             desk.new.buffers.ended_everywhere.items) }
@@ -232,15 +246,16 @@ impl<B: EngineName, D: Device, C: Clock + Drop> Engine<B, D, C> {
     }
 
     /// Puts a value into a field, and processes the record if the field or the record asks for it
-    /// (dbPutField).
+    /// (dbPutField). The reply is the outcome of this request, or [`Reply::Plain`] if there was
+    /// none.
     ///
     /// # Errors
     ///
-    /// [`IocError::Stopped`] if the engine was closed. [`IocError::NoMod`] if the field can't be put.
-    /// [`IocError::JournalFull`] if the journal has no place left. [`IocError::NoMemory`] if
+    /// [`IocError::Stopped`] if the engine was closed. [`IocError::NoMod`] if the field can't be
+    /// put. [`IocError::JournalFull`] if the journal has no place left. [`IocError::NoMemory`] if
     /// allocation fails. Nothing has changed then. [`IocError::NoRecord`] and [`IocError::NoField`]
-    /// if the channel is one of another engine, which has no such record or field. Any other refusal
-    /// is a reply, which is added to the journal.
+    /// if the channel is one of another engine, which has no such record or field. Any other
+    /// refusal is a reply, which is added to the journal.
     pub fn put<R: Wait>(
         &self,
         rt: &R,
@@ -248,8 +263,9 @@ impl<B: EngineName, D: Device, C: Clock + Drop> Engine<B, D, C> {
         channel: Channel,
         given: Input,
     ) -> Result<(Reply, Receipt<B>), IocError>
-        ensures done { IfOk result (λ x. WasDone D B.base D.gives channel.number desk.old.account
-            (Put channel.number channel.field given) x.0 desk.new.account (world_of desk.new.buffers.store)) }
+        ensures done { IfOk result (λ x. (moment : ℕ) × C.gives self.now.clock moment × WasServed D record_rules B.base D.gives
+            channel.number desk.old.account moment (Put channel.number channel.field given) x.0 desk.new.account
+            (world_of desk.new.buffers.store)) }
         ensures receipt { IfOk result (λ x. x.1 ≡ desk.new.account.seen) }
         ensures ended { OnOk result (HaveEnded record_rules B.base (world_of desk.new.buffers.store).ended desk.new.account.seen
             desk.new.buffers.ended_everywhere.items) }
@@ -263,7 +279,8 @@ impl<B: EngineName, D: Device, C: Clock + Drop> Engine<B, D, C> {
     }
 
     /// Completes a record with the asynchronous answer of its device. `wait` is the number of the
-    /// completion that the record awaits: 1 for its first one, and so on.
+    /// completion that the record awaits: 1 for its first one, and so on. The reply is
+    /// [`Reply::Plain`].
     ///
     /// # Errors
     ///
@@ -277,8 +294,8 @@ impl<B: EngineName, D: Device, C: Clock + Drop> Engine<B, D, C> {
         wait: u64,
         finished: Finished,
     ) -> Result<(Reply, Receipt<B>), IocError>
-        ensures done { IfOk result (λ x. WasDone D B.base D.gives number desk.old.account (Complete number wait finished) x.0
-            desk.new.account (world_of desk.new.buffers.store)) }
+        ensures done { IfOk result (λ x. (moment : ℕ) × C.gives self.now.clock moment × WasServed D record_rules B.base D.gives number
+            desk.old.account moment (Complete number wait finished) x.0 desk.new.account (world_of desk.new.buffers.store)) }
         ensures receipt { IfOk result (λ x. x.1 ≡ desk.new.account.seen) }
         ensures ended { OnOk result (HaveEnded record_rules B.base (world_of desk.new.buffers.store).ended desk.new.account.seen
             desk.new.buffers.ended_everywhere.items) }
@@ -293,15 +310,15 @@ impl<B: EngineName, D: Device, C: Clock + Drop> Engine<B, D, C> {
     ///
     /// # Errors
     ///
-    /// As [`Engine::put`].
+    /// As [`Engine::put`], except that every field can be read.
     pub fn get<R: Wait>(
         &self,
         rt: &R,
         desk: &mut Desk<B, D>,
         channel: Channel,
     ) -> Result<(Reply, Receipt<B>), IocError>
-        ensures answered { IfOk result (λ x. WasAnswered D B.base channel.number desk.old.account
-            (Get channel.number channel.field) x.0 desk.new.account) }
+        ensures answered { IfOk result (λ x. (moment : ℕ) × C.gives self.now.clock moment × WasTold D record_rules B.base
+            channel.number desk.old.account moment (Get channel.number channel.field) x.0 desk.new.account) }
         ensures receipt { IfOk result (λ x. x.1 ≡ desk.new.account.seen) }
         ensures ended { desk.new.buffers.ended_everywhere.items ≡ [] }
         ensures refused { IfErr result (CallIsRefused D record_rules B.base self.now.core channel.number

@@ -5,8 +5,8 @@ ghost use Rattle.ioc_links.specs.declared.link.Link.{Link};
 ghost use Rattle.rec_types.specs.Record.{record_rules};
 ghost use Rattle.ioc_dbfile.specs.OwnerTable.{owner_in};
 ghost use Rattle.ioc_set_store.specs.SetStore.{world_of};
-ghost use Rattle.ioc_engine_core.specs.Linked.{LinkWasRefused};
-ghost use Rattle.ioc_engine.specs.Relinking.{link_kind_in, IsTextOf, IsBadText, field_of_link, WasRelinked};
+ghost use Rattle.ioc_engine_core.specs.Linked.{WasLinked, LinkWasRefused};
+ghost use Rattle.ioc_engine.specs.Relinking.{link_kind_in, IsTextOf, IsBadText, field_of_link};
 
 use crate::Receipt;
 use crate::channel::Channel;
@@ -39,8 +39,9 @@ impl Lookup {
     ///
     /// # Errors
     ///
-    /// [`IocError::NoRecord`] if there is no such record. [`IocError::NoField`] if the field is no link
-    /// of the record's type. [`IocError::BadLink`] if the text spells no link that the field can hold.
+    /// [`IocError::NoRecord`] if there is no such record. [`IocError::NoField`] if the field is no
+    /// link of the record's type. [`IocError::BadLink`] if the text spells no link that the field
+    /// can hold.
     pub fn link(&self, channel: Channel, text: &[u8]) -> Result<Link, IocError>
         ensures link { IfOk result (λ link. IsTextOf self.now.types.items channel text.now link) }
         ensures refused { IfErr result (IsBadText self.now.types.items channel text.now) }
@@ -57,18 +58,20 @@ impl Lookup {
 
 impl<B: EngineName, D: Device, C: Clock + Drop> Engine<B, D, C> {
     /// Changes a link of a record to the link of this text, as in a database text. It leads to the
-    /// record and field that it names, or to the device that it names if the record owned that device
-    /// at the load, or else nowhere. The record's lock set may part in two, or its part joins the set
-    /// of the record that the link leads to; [`Desk::moved`] returns how many records were moved.
+    /// record and field that it names, or to the device that it names if the record owned that
+    /// device at the load, or else nowhere. The record's lock set may part in two, or its part
+    /// joins the set of the record that the link leads to; [`Desk::moved`] returns how many records
+    /// were moved.
     ///
     /// # Errors
     ///
-    /// [`IocError::NoField`] if the field is no link. [`IocError::BadLink`] if the text spells no link
-    /// that the field can hold. [`IocError::NoRecord`] if the channel is one of another engine, which
-    /// has no such record. [`IocError::Stopped`] if the engine was closed. [`IocError::JournalFull`]
-    /// if the journal has no place left. [`IocError::NoMemory`] if allocation fails. Nothing is added
-    /// to the journal then, and no link has changed; the history of a lock set may be forgotten. If
-    /// DISP forbids the change, the refusal is a reply, which is added to the journal.
+    /// [`IocError::NoField`] if the field is no link. [`IocError::BadLink`] if the text spells no
+    /// link that the field can hold. [`IocError::NoRecord`] if the channel is one of another
+    /// engine, which has no such record. [`IocError::Stopped`] if the engine was closed.
+    /// [`IocError::JournalFull`] if the journal has no place left. [`IocError::NoMemory`] if
+    /// allocation fails. Nothing is added to the journal then, and no link has changed; the history
+    /// of a lock set may be forgotten. If DISP forbids the change, the refusal is a reply, which is
+    /// added to the journal.
     pub fn set_link<R: Wait>(
         &self,
         rt: &R,
@@ -77,9 +80,9 @@ impl<B: EngineName, D: Device, C: Clock + Drop> Engine<B, D, C> {
         text: &[u8],
     ) -> Result<(Reply, Receipt<B>), IocError>
         ensures changed { IfOk result (λ x. (link : Link) × IsTextOf self.now.lookup.types.items channel text.now link
-            × WasRelinked D B.base channel (field_of_link self.now.lookup.names self.now.lookup.types.items
-            (owner_in self.now.lookup.owners) channel.number link) desk.old.account x.0 desk.new.moved desk.new.account
-            (world_of desk.new.buffers.store)) }
+            × (moment : ℕ) × C.gives self.now.clock moment × WasLinked D record_rules B.base channel.number channel.field
+            (field_of_link self.now.lookup.names self.now.lookup.types.items (owner_in self.now.lookup.owners) channel.number link)
+            desk.old.account moment x.0 desk.new.moved desk.new.account (world_of desk.new.buffers.store)) }
         ensures receipt { IfOk result (λ x. x.1 ≡ desk.new.account.seen) }
         ensures ended { OnOk result (desk.new.buffers.ended_everywhere.items ≡ []) }
         ensures refused { IfErr result (λ error. (error ≡ Stopped) ⊎ (IsBadText self.now.lookup.types.items channel text.now error

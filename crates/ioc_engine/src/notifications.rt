@@ -22,10 +22,10 @@ use ioc_values::{Input, IocError};
 use std::sync::Wait;
 
 impl<B: EngineName, D: Device, C: Clock + Drop> Engine<B, D, C> {
-    /// Puts a value into a field with notification (dbPutNotify): the records that are processed for
-    /// it become part of the put with notification, which ends when the last of them is done: the
-    /// call by which that happens has it in [`Desk::ended`]. Its number, one more than that of the
-    /// last one, is in the reply. If the record awaits its device, the put waits for it.
+    /// Puts a value into a field with notification (dbPutNotify): the records that are processed
+    /// for it become part of the put with notification, which ends when the last of them is done:
+    /// the call by which that happens has it in [`Desk::ended`]. Its number, one more than that of
+    /// the last one, is in the reply. If the record awaits its device, the put waits for it.
     ///
     /// # Errors
     ///
@@ -38,13 +38,13 @@ impl<B: EngineName, D: Device, C: Clock + Drop> Engine<B, D, C> {
         channel: Channel,
         given: Input,
     ) -> Result<(Reply, Receipt<B>), IocError>
-        ensures begun { IfOk result (λ x. (moment : ℕ) × WasBegun D record_rules B.base D.gives channel.number desk.old.account
-            moment channel.field given x.0 desk.new.account (world_of desk.new.buffers.store)) }
+        ensures begun { IfOk result (λ x. (moment : ℕ) × C.gives self.now.clock moment × WasBegun D record_rules B.base D.gives
+            channel.number desk.old.account moment channel.field given x.0 desk.new.account (world_of desk.new.buffers.store)) }
         ensures receipt { IfOk result (λ x. x.1 ≡ desk.new.account.seen) }
         ensures ended { OnOk result (HaveEnded record_rules B.base (world_of desk.new.buffers.store).ended desk.new.account.seen
             desk.new.buffers.ended_everywhere.items) }
-        ensures refused { IfErr result (λ error. ((error ≡ QueueFull) × NoneMayBegin record_rules B.base) ⊎ CallIsRefused D record_rules B.base self.now.core
-            channel.number (Put channel.number channel.field given) error) }
+        ensures refused { IfErr result (λ error. ((error ≡ QueueFull) × NoneMayBegin record_rules B.base)
+            ⊎ CallIsRefused D record_rules B.base self.now.core channel.number (Put channel.number channel.field given) error) }
         ensures err { OnErr result (desk.new.account ≡ desk.old.account) }
     {
         desk.buffers.ended_everywhere.clear();
@@ -62,20 +62,20 @@ impl<B: EngineName, D: Device, C: Clock + Drop> Engine<B, D, C> {
         )
     }
 
-    /// Replies whether the put with notification with this number is live, which it is from its call
-    /// until the last of its records is done or it is canceled: [`Reply::Live`].
+    /// Replies whether the put with notification with this number is live, which it is from its
+    /// call until the last of its records is done or it is canceled: [`Reply::Live`].
     ///
     /// # Errors
     ///
-    /// [`IocError::Stopped`] if the engine was closed. [`IocError::JournalFull`] if the journal has no
-    /// place left. [`IocError::NoMemory`] if allocation fails. Nothing has changed then.
+    /// [`IocError::Stopped`] if the engine was closed. [`IocError::JournalFull`] if the journal has
+    /// no place left. [`IocError::NoMemory`] if allocation fails. Nothing has changed then.
     pub fn live<R: Wait>(
         &self,
         rt: &R,
         desk: &mut Desk<B, D>,
         number: NotifyId,
     ) -> Result<(Reply, Receipt<B>), IocError>
-        ensures asked { IfOk result (λ x. (moment : ℕ) × (puts puts_then : PutsView)
+        ensures asked { IfOk result (λ x. (moment : ℕ) × C.gives self.now.clock moment × (puts puts_then : PutsView)
             × WasAsked record_rules B.base puts desk.old.account moment number x.0 puts_then desk.new.account) }
         ensures receipt { IfOk result (λ x. x.1 ≡ desk.new.account.seen) }
         ensures ended { OnOk result (desk.new.buffers.ended_everywhere.items ≡ []) }
@@ -93,15 +93,15 @@ impl<B: EngineName, D: Device, C: Clock + Drop> Engine<B, D, C> {
     ///
     /// # Errors
     ///
-    /// As [`Engine::live`]. If the put with notification isn't live, [`IocError::Stale`] is the reply,
-    /// which is added to the journal.
+    /// As [`Engine::live`]. If the put with notification isn't live, [`IocError::Stale`] is the
+    /// reply, which is added to the journal.
     pub fn cancel<R: Wait>(
         &self,
         rt: &R,
         desk: &mut Desk<B, D>,
         number: NotifyId,
     ) -> Result<(Reply, Receipt<B>), IocError>
-        ensures canceled { IfOk result (λ x. (moment : ℕ)
+        ensures canceled { IfOk result (λ x. (moment : ℕ) × C.gives self.now.clock moment
             × WasCancelled D record_rules B.base number desk.old.account moment x.0 desk.new.account) }
         ensures receipt { IfOk result (λ x. x.1 ≡ desk.new.account.seen) }
         ensures ended { OnOk result (desk.new.buffers.ended_everywhere.items ≡ []) }
