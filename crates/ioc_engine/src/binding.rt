@@ -1,5 +1,6 @@
 //! Devices and the records that own them.
-ghost use Rattle.std.specs.Prelude.{◌≡◌, ◌<◌, ◌∷◌, ◌++◌, ℕ, None, Some, [], IfOk, OnOk, slice_index_or, slice_set, length, if◌then◌else◌, replicate};
+ghost use Rattle.std.specs.Prelude.{◌≡◌, ◌<◌, ◌∷◌, ◌++◌, ℕ, None, Some, [], IfOk, OnOk, if◌then◌else◌};
+ghost use Rattle.std.specs.Prelude.{slice_index_or, slice_set, length, replicate};
 ghost use Rattle.ioc_dbfile.specs.OwnerTable.{owner_in};
 ghost use Rattle.ioc_engine.specs.Binding.{device_of, spare_of, is_free, bound_to, spare_with};
 
@@ -55,8 +56,8 @@ fn no_devices<D: Drop>(alloc: Global, count: usize) -> Result<Vec<Option<D>>, Al
 }
 
 /// Gives each device to the record that owns its name: the first record with a link `@` and this
-/// name. If several devices have the same name the first one counts. The other ones, and those whose
-/// name no record owns, are spare.
+/// name. If several devices have the same name the first one counts. The other ones, and those
+/// whose name no record owns, are spare.
 ///
 /// # Errors
 ///
@@ -68,7 +69,8 @@ pub fn bind<D: Drop>(
     devices: Vec<(DeviceName, D)>,
 ) -> Result<Bound<D>, AllocError>
     ensures count { IfOk result (λ b. length b.devices.items ≡ count) }
-    ensures devices { IfOk result (λ b. (n : ℕ) → n < count → slice_index_or b.devices.items n None ≡ device_of (owner_in owners.now) devices.items n) }
+    ensures devices { IfOk result (λ b. (n : ℕ) → n < count
+        → slice_index_or b.devices.items n None ≡ device_of (owner_in owners.now) devices.items n) }
     ensures spare { IfOk result (λ b. b.spare.items ≡ spare_of (owner_in owners.now) count [] devices.items) }
 {
     let mut bound = Bound {

@@ -6,8 +6,20 @@ use ioc_set_store::EventBuffers;
 use rec_types::Record;
 use std::alloc::Global;
 
-/// A caller of an engine, with the memory that its calls need. A thread opens a desk of its own by
-/// [`Engine::desk`](crate::Engine::desk).
+/// A caller of an engine, with the memory that its calls need. It makes one call after another:
+/// each of its calls comes later in the journal than those before. A thread opens a desk of its own
+/// by [`Engine::desk`](crate::Engine::desk).
+///
+/// ```rust
+/// let mut desk = engine.desk(rt)?;
+/// let level = engine.channel(b"level")?;
+/// let (reply, _receipt) = engine.put_notify(rt, &mut desk, level, Input::from_text(b"5"))?;
+/// // Whether the put has ended by the call that began it.
+/// let is_done = match reply {
+///     Reply::Notify(number) => desk.ended().contains(&number),
+///     _ => false,
+/// };
+/// ```
 #[derive(Drop)]
 pub struct Desk<B: EngineName, D: Drop> {
     pub(crate) account: ioc_history::Desk<Record, B>,
@@ -19,15 +31,16 @@ pub struct Desk<B: EngineName, D: Drop> {
 impl<B: EngineName, D: Drop> Desk<B, D> {
     ghost use Rattle.std.specs.Prelude.{◌≡◌};
 
-    /// Returns the puts with notification that have ended by the desk's last call, in order: no record
-    /// of any lock set is part of them any more.
+    /// Returns the puts with notification that have ended by the desk's last call, in order, also
+    /// those that other desks have begun: no record of any lock set is part of them any more.
     pub fn ended(&self) -> &[NotifyId]
         ensures { result.now ≡ self.now.buffers.ended_everywhere.items }
     {
         self.buffers.ended()
     }
 
-    /// Returns the number of records that the desk's last link change moved to another lock set.
+    /// Returns the number of records that the desk's last link change moved to another lock set. It
+    /// is 0 before the first one.
     pub fn moved(&self) -> usize
         ensures { result ≡ self.now.moved }
     {

@@ -2,27 +2,27 @@
 //! read, put and process at once.
 //!
 //! A program loads a database ([`load`]), makes a [`Seed`] of it with its devices, and starts an
-//! [`Engine`]. Each thread opens a [`Desk`] and makes its calls with it. Each call is answered with a
-//! [`Reply`] and a [`Receipt`], the place of the call in one journal of all calls. Records that links
-//! connect are in one lock set with a lock of its own. A get, a put or a request takes the lock of its
-//! record's set and of no other set.
+//! [`Engine`]. Each thread opens a [`Desk`] and makes its calls with it. Each call is answered with
+//! a [`Reply`] and a [`Receipt`], the place of the call in one journal of all calls. Records that
+//! links connect are in one lock set with a lock of its own. A get, a put or a request takes the
+//! lock of its record's set and of no other set.
 //!
-//! Scan lists, callback queues and worker threads aren't in it: no record is processed because of its
-//! SCAN or PINI, posted events call no record, and a record that RPRO puts down for reprocessing is
-//! queued and not processed again.
+//! Scan lists, callback queues and worker threads aren't in it: no record is processed because of
+//! its SCAN or PINI, posted events call no record, and a record that RPRO puts down for
+//! reprocessing is queued and not processed again.
 //!
 //! EPICS Application Developer's Guide, "Runtime Database Access" and "Database Locking, Scanning,
 //! and Processing".
 #![tactic(auto)]
 
-pub mod binding;
+mod binding;
 pub mod channel;
 pub mod clock;
 pub mod desk;
 pub mod engine;
 pub mod engine_name;
 mod link_changes;
-pub mod lookup;
+mod lookup;
 mod notifications;
 mod parts;
 pub mod report;
@@ -33,11 +33,11 @@ pub use clock::{Clock, CountingClock, FixedClock, SystemClock};
 pub use desk::Desk;
 pub use engine::Engine;
 pub use engine_name::EngineName;
-pub use ioc_dbfile::{Database, DeviceName, Macros, load};
+pub use ioc_dbfile::{Database, Macros, load};
 pub use ioc_device::{Answer, Ask, Device};
 pub use ioc_engine_core::OnceTally;
 pub use ioc_events::Reply;
-pub use ioc_history::{JournalEntry, Limits};
+pub use ioc_history::JournalEntry;
 pub use ioc_ledger::{Outcome, Tally};
 pub use ioc_names::RecordNo;
 pub use ioc_notify::NotifyId;
@@ -47,5 +47,26 @@ pub use rec_types::Record;
 pub use report::{Report, StoppedRecord};
 pub use seed::Seed;
 
-/// The trace of a call in the journal of an engine.
+/// The name of a device: what follows the `@` in a link. It has 119 bytes at most, as in a link,
+/// and [`DeviceName::cut`] leaves the rest off. Two names are the same if they have the same bytes.
+///
+/// ```rust
+/// let mut devices = Vec::new(alloc);
+/// // The device of the record with the link `@tank`.
+/// devices.push((DeviceName::cut(b"tank"), Tank(12)))?;
+/// ```
+pub use ioc_dbfile::DeviceName;
+
+/// The limits of an engine. `journal` is the number of calls that it can take, from 1 to 4,194,304;
+/// [`Limits::default`] allows 100,000. [`Engine::start`] refuses any other number with
+/// [`IocError::BadValue`], and a call beyond the limit is refused with [`IocError::JournalFull`].
+///
+/// ```rust
+/// let limits = Limits { journal: 1_000_000 };
+/// let engine = Engine::<B, _, _>::start(alloc, seed, CountingClock::new(), limits)?;
+/// ```
+pub use ioc_history::Limits;
+
+/// The trace of a call in the journal of an engine. [`Engine::learn`] lets a desk's next call come
+/// after it, and [`Report::entry`] has the call's entry once the engine has stopped.
 pub type Receipt<B> = ioc_history::Receipt<Record, B>;

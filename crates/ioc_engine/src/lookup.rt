@@ -70,8 +70,8 @@ impl Lookup {
     ///
     /// # Errors
     ///
-    /// [`IocError::NoRecord`] or [`IocError::NoField`], in this order, if there is no such record or
-    /// field.
+    /// [`IocError::NoRecord`] or [`IocError::NoField`], in this order, if there is no such record
+    /// or field.
     #[tactic(auto, unfolding(crate::specs::Channels::channel_of))]
     pub fn channel(&self, text: &[u8]) -> Result<Channel, IocError>
         ensures { result ≡ channel_of self.now.names self.now.types.items text.now }

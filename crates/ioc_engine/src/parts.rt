@@ -12,8 +12,8 @@ use std::sync::Wait;
 
 impl<B: EngineName, D: Drop, C: Drop> Engine<B, D, C> {
     /// Returns the records of each lock set, as they were while its lock was held: sets that are
-    /// parted or joined by link changes meanwhile may be seen before or after the change. Each record
-    /// is in at least one list, and in exactly one if no link is changed meanwhile.
+    /// parted or joined by link changes meanwhile may be seen before or after the change. Each
+    /// record is in at least one list, and in exactly one if no link is changed meanwhile.
     ///
     /// # Errors
     ///

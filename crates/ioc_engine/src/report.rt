@@ -18,13 +18,32 @@ use rec_types::Record;
 use std::alloc::{AllocError, Global};
 use std::sync::Wait;
 
-/// What is left of an engine when it ends: its records with their devices, and its journal.
+/// What is left of an engine when it ends by [`Engine::stop`]: its records with their devices, its
+/// journal, and its counts.
+///
+/// ```rust
+/// let Ok(mut report) = engine.stop(rt) else {
+///     return Err(IocError::NoMemory);
+/// };
+/// // In nanoseconds since 1970-01-01 00:00 UTC.
+/// let moment = report.entry(rt, &mut receipt).entry.moment;
+/// let requests = report.tally().begun;
+/// let records = report.into_records(alloc)?;
+/// ```
 #[derive(Drop)]
 pub struct Report<B: EngineName, D: Drop> {
     pub(crate) core: CoreReport<Record, B, D>,
 }
 
 /// A record of an engine that was stopped, with its number and its device, if it has one.
+///
+/// ```rust
+/// for stopped in report.into_records(alloc)? {
+///     if stopped.name() == b"level" {
+///         return Ok(stopped.device);
+///     }
+/// }
+/// ```
 #[derive(Drop)]
 pub struct StoppedRecord<D> {
     pub number: RecordNo,
@@ -64,7 +83,7 @@ fn add_records<D: Drop>(
 }
 
 impl<B: EngineName, D: Drop, C: Drop> Engine<B, D, C> {
-    /// Ends the engine.
+    /// Ends the engine, once all its calls are finished, since it takes the engine by value.
     ///
     /// # Errors
     ///
@@ -93,7 +112,8 @@ impl<B: EngineName, D: Drop, C: Drop> Engine<B, D, C> {
 }
 
 impl<B: EngineName, D: Drop> Report<B, D> {
-    /// Returns the counts of requests and of asynchronous answers of all lock sets together.
+    /// Returns the counts of requests and of asynchronous answers of all lock sets together. Each
+    /// count stops at 2^64 - 1.
     pub fn tally(&self) -> Tally
         ensures { result ≡ counts_in self.now.core.sets.items }
     {
@@ -115,8 +135,8 @@ impl<B: EngineName, D: Drop> Report<B, D> {
         self.core.dropped
     }
 
-    /// Returns the entry of a call in the journal: the desk, the number of the call at its desk, the
-    /// event, its time stamp, the answers of devices, and the reply.
+    /// Returns the entry of a call in the journal: the desk, the number of the call at its desk,
+    /// the event, its time stamp, the answers of devices, and the reply.
     pub fn entry<R: Wait>(&mut self, rt: &R, receipt: &mut Receipt<B>) -> &JournalEntry
         ensures entry { IsEntryOf receipt.old self.old.core.journal.filled result.now }
     {

@@ -23,7 +23,17 @@ use rec_types::Record;
 use std::alloc::Global;
 use std::sync::ledger::Blank;
 
-/// A loaded database with its devices, from which an engine is started.
+/// A loaded database with its devices, from which [`Engine::start`](crate::Engine::start) makes an
+/// engine. `D` is the type of the devices.
+///
+/// ```rust
+/// // The text has record(longin,"level"){field(INP,"@tank")}.
+/// let database = load(alloc, text, &Macros::new(alloc))?;
+/// let mut devices = Vec::new(alloc);
+/// devices.push((DeviceName::cut(b"tank"), Tank(12)))?;
+/// let seed = Seed::new(alloc, database, devices)?;
+/// // Here `seed.spare` is empty, because a record has the device `tank`.
+/// ```
 #[derive(Drop)]
 pub struct Seed<D> {
     pub(crate) cell: Cell,
@@ -45,8 +55,10 @@ pub struct Seed<D> {
 }
 
 impl<D: Drop> Seed<D> {
-    /// Creates the seed of a database, in which each device belongs to the first record with a link
-    /// `@` and its name.
+    /// Creates the seed of a database. Each device belongs to the first record whose INP or OUT is
+    /// `@` and the device's name. If several devices have one name, the first of them counts; the
+    /// other ones, and those that no record names, are in `spare`. A record whose device isn't
+    /// among `devices` has none: each answer to it is a fault.
     ///
     /// # Errors
     ///
@@ -60,7 +72,8 @@ impl<D: Drop> Seed<D> {
         ensures records { IfOk result (λ s. map (λ l. l.fields) s.records.items ≡ database.records.items) }
         ensures names { IfOk result (λ s. s.lookup.names ≡ database.names) }
         ensures types { IfOk result (λ s. s.lookup.types.items ≡ map record_rules.record_type database.records.items) }
-        ensures owners { IfOk result (λ s. (text : List ℕ) → owner_in s.lookup.owners text ≡ owner_of record_rules database.records.items text) }
+        ensures owners { IfOk result (λ s. (text : List ℕ)
+            → owner_in s.lookup.owners text ≡ owner_of record_rules database.records.items text) }
         ensures devices { IfOk result (λ s. (n : ℕ) (l : Loaded Record D) → n < length s.records.items
             → (slice_index_or s.records.items n l).device ≡ device_of (owner_in s.lookup.owners) devices.items n) }
         ensures spare { IfOk result (λ s. s.spare.items
