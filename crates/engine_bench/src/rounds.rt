@@ -1,0 +1,206 @@
+//! Rounds of calls by many threads.
+use crate::later::Later;
+use crate::work::{Job, Work};
+use ioc_engine::{
+    Channel, Desk, Engine, EngineName, Finished, FixedClock, Input as Given, IocError, NotifyId,
+    Outcome, RecordNo, Reply, Value,
+};
+use std::alloc::Global;
+use std::sync::Wait;
+use std::thread;
+use std::thread::Threads;
+
+type Calls<B> = Engine<B, Later, FixedClock>;
+
+type OneDesk<B> = Desk<B, Later>;
+
+fn is_processed(reply: &Reply) -> bool {
+    matches!(reply, Reply::Outcome(Outcome::Processed))
+}
+
+// Requests a record in each round.
+fn requests<B: EngineName, R: Wait>(
+    rt: &R,
+    engine: &Calls<B>,
+    desk: &mut OneDesk<B>,
+    number: RecordNo,
+    rounds: u64,
+) -> Result<u64, IocError> {
+    let mut held = 0u64;
+    for _ in 0..rounds {
+        let (reply, _receipt) = engine.process(rt, desk, number)?;
+        held = held.saturating_add(u64::from(is_processed(&reply)));
+    }
+    Ok(held)
+}
+
+// Puts this value into a field in each round.
+fn puts<B: EngineName, R: Wait>(
+    rt: &R,
+    engine: &Calls<B>,
+    desk: &mut OneDesk<B>,
+    channel: Channel,
+    given: &Given,
+    rounds: u64,
+) -> Result<u64, IocError> {
+    let mut held = 0u64;
+    for _ in 0..rounds {
+        let (reply, _receipt) = engine.put(rt, desk, channel, *given)?;
+        held = held.saturating_add(u64::from(is_processed(&reply)));
+    }
+    Ok(held)
+}
+
+// Changes a link in each round, to a record of another set or to none. Counts the rounds that moved
+// records.
+fn link_changes<B: EngineName, R: Wait>(
+    rt: &R,
+    engine: &Calls<B>,
+    desk: &mut OneDesk<B>,
+    target: &Target,
+    rounds: u64,
+) -> Result<u64, IocError> {
+    let mut held = 0u64;
+    for round in 0..rounds {
+        let text: &[u8] = if round % 2 == 0 {
+            target.other.as_bytes()
+        } else {
+            b""
+        };
+        let (_reply, _receipt) = engine.set_link(rt, desk, target.channel, text)?;
+        held = held.saturating_add(u64::from(desk.moved() > 0));
+    }
+    Ok(held)
+}
+
+// Puts a value into a field with notification, and returns the number of the put.
+fn put_notify<B: EngineName, R: Wait>(
+    rt: &R,
+    engine: &Calls<B>,
+    desk: &mut OneDesk<B>,
+    channel: Channel,
+) -> Result<NotifyId, IocError> {
+    let (reply, _receipt) = engine.put_notify(rt, desk, channel, Given::from_text(b"3"))?;
+    match reply {
+        Reply::Notify(number) => Ok(number),
+        _ => Err(IocError::Stale),
+    }
+}
+
+// Completes a record, and returns whether it awaited this completion.
+fn complete<B: EngineName, R: Wait>(
+    rt: &R,
+    engine: &Calls<B>,
+    desk: &mut OneDesk<B>,
+    number: RecordNo,
+    wait: u64,
+) -> Result<bool, IocError> {
+    let answer = Finished::Done(Value::Long(5));
+    let (reply, _receipt) = engine.complete(rt, desk, number, wait, answer)?;
+    Ok(matches!(reply, Reply::Plain))
+}
+
+// Puts with notification in each round, and completes the record.
+fn notifications<B: EngineName, R: Wait>(
+    rt: &R,
+    engine: &Calls<B>,
+    desk: &mut OneDesk<B>,
+    channel: Channel,
+    rounds: u64,
+) -> Result<u64, IocError> {
+    let mut held = 0u64;
+    for round in 0..rounds {
+        let _number = put_notify(rt, engine, desk, channel)?;
+        let is_done = complete(rt, engine, desk, channel.record(), round + 1)?;
+        held = held.saturating_add(u64::from(is_done));
+    }
+    Ok(held)
+}
+
+// Puts with notification in each round, cancels the put, and completes the record.
+fn cancels<B: EngineName, R: Wait>(
+    rt: &R,
+    engine: &Calls<B>,
+    desk: &mut OneDesk<B>,
+    channel: Channel,
+    rounds: u64,
+) -> Result<u64, IocError> {
+    let mut held = 0u64;
+    for round in 0..rounds {
+        let number = put_notify(rt, engine, desk, channel)?;
+        let (_reply, _receipt) = engine.cancel(rt, desk, number)?;
+        let is_done = complete(rt, engine, desk, channel.record(), round + 1)?;
+        held = held.saturating_add(u64::from(is_done));
+    }
+    Ok(held)
+}
+
+// The field that a thread calls, and the record to which its link leads.
+#[derive(Drop)]
+struct Target {
+    channel: Channel,
+    other: String,
+}
+
+// Finds the target of a thread.
+fn target_of<B: EngineName>(
+    alloc: Global,
+    engine: &Calls<B>,
+    work: Work,
+    thread: usize,
+) -> Result<Target, IocError> {
+    let first = thread.saturating_mul(2);
+    let name = match work {
+        Work::Lone | Work::Chain | Work::Put => format!(in alloc; "c{thread}:0")?,
+        Work::Notify | Work::Cancel => format!(in alloc; "d{thread}")?,
+        Work::Link => format!(in alloc; "c{first}:9.FLNK")?,
+        Work::Hold => format!(in alloc; "o0")?,
+    };
+    let channel = engine.channel(name.as_bytes())?;
+    let other = format!(in alloc; "c{}:0", first.saturating_add(1))?;
+    Ok(Target { channel, other })
+}
+
+// Carries out the rounds of a thread, and returns the number of those with the expected replies.
+fn rounds<B: EngineName, R: Wait>(
+    rt: &R,
+    alloc: Global,
+    engine: &Calls<B>,
+    job: &Job,
+    thread: usize,
+) -> Result<u64, IocError> {
+    let mut desk = engine.desk(rt)?;
+    let target = target_of(alloc, engine, job.work, thread)?;
+    let channel = target.channel;
+    match job.work {
+        Work::Lone | Work::Chain => requests(rt, engine, &mut desk, channel.record(), job.rounds),
+        Work::Put => {
+            let given = Given::from_text(b"3");
+            puts(rt, engine, &mut desk, channel, &given, job.rounds)
+        }
+        Work::Notify => notifications(rt, engine, &mut desk, channel, job.rounds),
+        Work::Link => link_changes(rt, engine, &mut desk, &target, job.rounds),
+        Work::Cancel => cancels(rt, engine, &mut desk, channel, job.rounds),
+        Work::Hold => Ok(0),
+    }
+}
+
+/// Carries out the rounds of all threads, and returns the number of those with the expected
+/// replies.
+///
+/// # Errors
+///
+/// The first refusal of a call. [`IocError::NoMemory`] if allocation fails.
+pub fn in_threads<B: EngineName + Send + Sync, R: Threads + Wait + Sync>(
+    rt: &R,
+    alloc: Global,
+    engine: &Calls<B>,
+    job: &Job,
+) -> Result<u64, IocError> {
+    let each = |thread: usize| rounds(rt, alloc, engine, job, thread);
+    let mut held = 0u64;
+    for of_thread in thread::map_indices(rt, alloc, job.threads, &each)? {
+        held = held.saturating_add(of_thread?);
+    }
+    Ok(held)
+}
