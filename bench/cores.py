@@ -1,8 +1,9 @@
 #!/usr/bin/env python3
-"""Runs the program of sets.sh in a mode of one thread or four, each thread on a core of its own and before all other programs (SCHED_FIFO, which
-takes root), and prints what the program prints, the processor time, and how often a thread fell asleep. In mode `apart` four programs of one
-thread run at a time, each on a core of its own: as much as the machine gives to four threads that share nothing.
-Usage: cores.py PROGRAM DB MODE TIMES"""
+"""Runs requests of engine-bench by one thread or by four, each thread on a core of its own and before all other programs (SCHED_FIFO,
+which takes root), and prints what the program prints, the processor time, and how often a thread fell asleep. Each thread requests a
+chain of its own. In mode `apart` four programs of one thread run at a time, each on a core of its own: as much as the machine gives to
+four threads that share nothing.
+Usage: cores.py PROGRAM MODE CALLS RECORDS, where MODE is one, four or apart, and RECORDS the length of a chain."""
 import os
 import resource
 import subprocess
@@ -29,12 +30,14 @@ def pin(pid, count, first=0):
 
 
 def main():
-    program, database, mode, times = sys.argv[1:]
-    words = [program, database, "one" if mode == "apart" else mode, times]
-    runs = [subprocess.Popen(words, stdout=subprocess.PIPE, preexec_fn=put_first) for _ in range(4 if mode == "apart" else 1)]
+    program, mode, calls, records = sys.argv[1:]
+    threads = 4 if mode == "four" else 1
+    words = [program, calls, str(threads), records, "chain"]
+    pipes = {"stdout": subprocess.PIPE, "stderr": subprocess.STDOUT}
+    runs = [subprocess.Popen(words, **pipes, preexec_fn=put_first) for _ in range(4 if mode == "apart" else 1)]
     for place, run in enumerate(runs):
-        pin(run.pid, 4 if mode == "four" else 1, place)
-    said = "; ".join(run.communicate()[0].decode().strip() for run in runs)
+        pin(run.pid, threads, place)
+    said = "; ".join(run.communicate()[0].decode().split("chain: ")[-1].strip() for run in runs)
     used = resource.getrusage(resource.RUSAGE_CHILDREN)
     print(f"{said}, {used.ru_utime:.2f} s of its own and {used.ru_stime:.2f} s of the system's, fell asleep {used.ru_nvcsw} times")
 
