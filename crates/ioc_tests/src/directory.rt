@@ -79,10 +79,10 @@ fn relink(
 }
 
 // Does so under the locks of the sets.
-fn relink_in(
+fn relink_in<'a>(
     rt: &impl Wait,
-    sets: &Directory<Numbers>,
-    new: &NewCells<'_, Numbers>,
+    sets: &'a Directory<Numbers>,
+    new: &NewCells<'a, Numbers>,
     one: usize,
     two: Option<usize>,
 ) -> Result<(), IocError> {
