@@ -6,6 +6,8 @@ mod calling;
 #[cfg(test)]
 mod eight;
 #[cfg(test)]
+mod replayed;
+#[cfg(test)]
 mod running;
 #[cfg(test)]
 mod sensor;
@@ -15,3 +17,5 @@ mod sessions;
 mod steps;
 #[cfg(test)]
 mod tests;
+#[cfg(test)]
+mod walk;

@@ -29,7 +29,7 @@ pub enum Work<'a> {
         asked: &'a AtomicU64,
         answered: &'a AtomicU64,
     },
-    /// The calls of eight threads.
+    /// The calls of eight threads, and the same calls on one map.
     Eight,
     /// Two desks, of which the second learns of the call of the first, and their entries.
     Learns,
@@ -87,7 +87,7 @@ fn done<
             );
             one.saturating_add(other)
         }
-        Work::Eight => eight(rt, alloc, engine),
+        Work::Eight => eight(rt, alloc, engine).unwrap_or(0),
         Work::Learns => 0,
     }
 }

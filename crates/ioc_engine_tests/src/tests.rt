@@ -1,6 +1,6 @@
 //! Engines from a database text to their end.
 use crate::calling::Call;
-use crate::eight::{CALLS, RECORDS, text};
+use crate::eight::{CALLS, RECORDS, THREADS, text};
 use crate::running::{Ended, Work, run_text};
 use crate::sensor::Sensor;
 use crate::sessions::AtEnd::{self, Counts, Devices, Records, Sets};
@@ -203,15 +203,19 @@ fn cancel_beside_work(rt: HostRuntime) -> Result<(), Fail> {
     Ok(())
 }
 
-// Returns whether all calls of eight threads are answered, and all records are there at the end.
+// The devices of the eight threads.
+static EIGHT: [&[u8]; THREADS] = [b"d0", b"d1", b"d2", b"d3", b"d4", b"d5", b"d6", b"d7"];
+
+// Returns whether all calls of eight threads are answered as on one map, and all records are there
+// at the end.
 fn are_all_answered<R: Threads + Wait + Sync>(rt: &R, alloc: Global) -> Result<bool, IocError> {
     let text = text(alloc)?;
     let bytes = text.as_bytes();
-    let none = Vec::new(alloc);
-    let Some(end) = run_text(rt, alloc, bytes, none, Limits::default(), Work::Eight)? else {
+    let devices = later(alloc, &EIGHT)?;
+    let Some(end) = run_text(rt, alloc, bytes, devices, Limits::default(), Work::Eight)? else {
         return Ok(false);
     };
-    Ok(end.held == 8 * CALLS && end.records == RECORDS)
+    Ok(end.held == THREADS * CALLS && end.records == RECORDS && end.devices == THREADS)
 }
 
 #[test]
@@ -237,15 +241,49 @@ fn learnt_and_entered(rt: HostRuntime) -> Result<(), Fail> {
     Ok(())
 }
 
+// The number of puts with notification that can be live.
+const LIVE: u64 = 256;
+
+// Returns steps by which as many puts with notification are live as can be. The next one is refused,
+// and the one after a cancel isn't.
+fn steps_to_limit(alloc: Global) -> Result<Vec<Step>, AllocError> {
+    let put = Call::PutNotify(b"p.VAL", b"3");
+    let mut steps = Vec::new(alloc);
+    for number in 1..=LIVE {
+        steps.push(Makes(put, Wanted::Says(Says::Notify(number))))?;
+    }
+    steps.push(Makes(put, Wanted::Fails(IocError::QueueFull)))?;
+    steps.push(Makes(Call::Cancel(LIVE), Wanted::Says(Says::Plain)))?;
+    steps.push(Makes(put, Wanted::Says(Says::Notify(LIVE + 1))))?;
+    Ok(steps)
+}
+
+// Returns whether these steps have the expected results.
+fn is_limited<R: Threads + Wait + Sync>(rt: &R, alloc: Global) -> Result<bool, IocError> {
+    let text = b"record(longin,\"p\"){field(INP,\"@d\")}\n";
+    let devices = later(alloc, &[b"d"])?;
+    let steps = steps_to_limit(alloc)?;
+    let work = Work::Steps(steps.as_slice());
+    let ended = run_text(rt, alloc, text, devices, Limits::default(), work)?;
+    let wanted = [Sets(1), Records(1), Devices(1), AtEnd::Active(1)];
+    Ok(result(ended, &wanted) == (steps.len(), true))
+}
+
+#[test]
+fn limit_of_live_puts(rt: HostRuntime) -> Result<(), Fail> {
+    assert!(rt; is_limited(&rt, rt.alloc())?);
+    Ok(())
+}
+
 // The number of records of the chain.
-const CHAIN: usize = 20_000;
+const CHAIN: usize = 100_000;
 
 // A request of the first record of the chain processes them all.
 static CHAINED: [Step; 3] = [
-    Makes(Call::Get(b"c19999.STAT"), Wanted::Says(Says::Shown(b"UDF"))),
+    Makes(Call::Get(b"c99999.STAT"), Wanted::Says(Says::Shown(b"UDF"))),
     Makes(Call::Process(b"c0"), Wanted::Says(Says::Processed)),
     Makes(
-        Call::Get(b"c19999.STAT"),
+        Call::Get(b"c99999.STAT"),
         Wanted::Says(Says::Shown(b"NO_ALARM")),
     ),
 ];
@@ -262,7 +300,7 @@ fn chain_text(alloc: Global) -> Result<String, AllocError> {
             return Err(AllocError);
         };
     }
-    text.push_str("record(longin,\"c19999\"){field(VAL,1)}\n")?;
+    text.push_str("record(longin,\"c99999\"){field(VAL,1)}\n")?;
     Ok(text)
 }
 

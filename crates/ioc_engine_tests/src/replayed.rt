@@ -1,0 +1,198 @@
+//! The calls of many threads, made again by one thread on one map in the order of the journal.
+use ioc_engine::{
+    Database, Finished, Input, IocError, Macros, NotifyId, RecordNo, Reply, Value, load,
+};
+use ioc_events::{Effect, SetReply, run_get};
+use ioc_fields::{CommonField, FieldNo, OwnField};
+use ioc_links::{LinkKind, parse};
+use ioc_names::Names;
+use ioc_sim::Machine;
+use std::alloc::{AllocError, Global};
+
+const VALUE: FieldNo = FieldNo::Own(OwnField::Val);
+
+const FORWARD: FieldNo = FieldNo::Common(CommonField::Flnk);
+
+/// A call on the record with this number.
+#[derive(Clone, Copy)]
+pub enum Call {
+    Put(usize),
+    Process(usize),
+    Get(usize),
+    /// Gets the forward link.
+    GetLink(usize),
+    /// Changes the forward link to none.
+    Cut(usize),
+    /// Changes the forward link of the first record to the second.
+    Lead(usize, usize),
+    PutNotify(usize),
+    /// Cancels the put with notification with this number.
+    Cancel(u64),
+    /// Completes a record with its completion of this number.
+    Complete(usize, u64),
+}
+
+impl Call {
+    /// Returns the number of the record, or 0 for a cancel.
+    pub fn record(self) -> usize {
+        match self {
+            Call::Put(number)
+            | Call::Process(number)
+            | Call::Get(number)
+            | Call::GetLink(number)
+            | Call::Cut(number)
+            | Call::Lead(number, _)
+            | Call::PutNotify(number)
+            | Call::Complete(number, _) => number,
+            Call::Cancel(_) => 0,
+        }
+    }
+
+    /// Returns the record to which a link is changed, or 0.
+    pub fn other(self) -> usize {
+        match self {
+            Call::Lead(_, other) => other,
+            _ => 0,
+        }
+    }
+}
+
+/// A call that was answered, and its place in the journal.
+#[derive(Clone, Copy)]
+pub struct Kept {
+    pub place: u64,
+    pub call: Call,
+    pub reply: Reply,
+}
+
+/// Records on one map, with their names.
+#[derive(Drop)]
+pub struct OneThread {
+    machine: Machine,
+    names: Names,
+    // The numbers that puts with notification have here, by those that they have in the engine.
+    numbers: Vec<Option<NotifyId>>,
+}
+
+impl OneThread {
+    fn process(&mut self, number: RecordNo) -> Result<Reply, AllocError> {
+        Ok(reply_to(self.machine.process(number)?))
+    }
+
+    fn put(&mut self, number: RecordNo) -> Result<Reply, AllocError> {
+        Ok(reply_to(self.machine.put(number, VALUE, b"3")?))
+    }
+
+    fn put_notify(&mut self, number: RecordNo) -> Result<Reply, AllocError> {
+        self.machine.notify(number, VALUE, Input::from_text(b"4"))
+    }
+
+    // Cancels the put with notification that has this number in the engine.
+    fn cancel(&mut self, put: u64) -> Result<Reply, AllocError> {
+        match self.numbers.get(put as usize) {
+            Some(Some(number)) => self.machine.cancel(*number),
+            _ => Ok(Reply::Refused(IocError::Stale)),
+        }
+    }
+
+    // Keeps the numbers of a put with notification. Returns whether the engine's is a new one.
+    fn keep_number(&mut self, engine: NotifyId, here: NotifyId) -> bool {
+        match self.numbers.get_mut(engine.number() as usize) {
+            Some(kept) if kept.is_none() => {
+                *kept = Some(here);
+                true
+            }
+            _ => false,
+        }
+    }
+
+    // Makes a call of the engine, and returns whether the reply is the same, but for the number of
+    // a put with notification, which has to be a new one.
+    fn replies_alike(&mut self, alloc: Global, kept: Kept) -> Result<bool, IocError> {
+        match (self.answer(alloc, kept.call)?, kept.reply) {
+            (Reply::Notify(here), Reply::Notify(engine)) => Ok(self.keep_number(engine, here)),
+            (here, engine) => Ok(here == engine),
+        }
+    }
+
+    /// Returns the text of a field of a record.
+    pub fn shown(&self, record: usize, field: FieldNo) -> Reply {
+        run_get(self.machine.map(), RecordNo::new(record), field)
+    }
+
+    fn complete(&mut self, number: RecordNo, wait: u64) -> Result<Reply, AllocError> {
+        self.machine
+            .complete(number, wait, Finished::Done(Value::Long(5)))
+    }
+
+    fn set_link(&mut self, number: RecordNo, text: &[u8]) -> Result<Reply, IocError> {
+        let link = parse(LinkKind::NoDevice, text)?;
+        Ok(self.machine.link(&self.names, number, FORWARD, &link)?)
+    }
+
+    // Makes a call, and returns its reply.
+    fn answer(&mut self, alloc: Global, call: Call) -> Result<Reply, IocError> {
+        let number = RecordNo::new(call.record());
+        match call {
+            Call::Put(_) => Ok(self.put(number)?),
+            Call::Process(_) => Ok(self.process(number)?),
+            Call::Get(_) => Ok(run_get(self.machine.map(), number, VALUE)),
+            Call::GetLink(_) => Ok(run_get(self.machine.map(), number, FORWARD)),
+            Call::Cut(_) => self.set_link(number, b""),
+            Call::Lead(_, other) => {
+                let name = format!(in alloc; "r{other}")?;
+                self.set_link(number, name.as_bytes())
+            }
+            Call::PutNotify(_) => Ok(self.put_notify(number)?),
+            Call::Cancel(put) => Ok(self.cancel(put)?),
+            Call::Complete(_, wait) => Ok(self.complete(number, wait)?),
+        }
+    }
+}
+
+fn reply_to(effect: Effect) -> Reply {
+    SetReply::of(effect).reply()
+}
+
+// Returns the calls in the order of their places, or `None` if these aren't the first places.
+fn in_order(alloc: Global, calls: &[Kept]) -> Result<Option<Vec<Kept>>, AllocError> {
+    let mut places = vec![in alloc; None; calls.len()]?;
+    for kept in calls {
+        match places.get_mut(kept.place as usize) {
+            Some(place) if place.is_none() => *place = Some(*kept),
+            _ => return Ok(None),
+        }
+    }
+    let mut ordered = Vec::new(alloc);
+    for place in places {
+        let Some(kept) = place else {
+            return Ok(None);
+        };
+        ordered.push(kept)?;
+    }
+    Ok(Some(ordered))
+}
+
+/// Makes these calls on one map of the records of this text, in the order of their places. Returns
+/// the records, or `None` if the places aren't the first ones of the journal or a reply differs.
+///
+/// # Errors
+///
+/// The refusal of the text. [`IocError::NoMemory`] if allocation fails.
+pub fn replayed(alloc: Global, text: &[u8], calls: &[Kept]) -> Result<Option<OneThread>, IocError> {
+    let Some(ordered) = in_order(alloc, calls)? else {
+        return Ok(None);
+    };
+    let Database { names, records } = load(alloc, text, &Macros::new(alloc))?;
+    let mut one = OneThread {
+        machine: Machine::new(alloc, records)?,
+        names,
+        numbers: vec![in alloc; None; ordered.len().saturating_add(1)]?,
+    };
+    for kept in ordered {
+        if !one.replies_alike(alloc, kept)? {
+            return Ok(None);
+        }
+    }
+    Ok(Some(one))
+}
