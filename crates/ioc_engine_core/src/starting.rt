@@ -188,6 +188,11 @@ pub fn start<K: RecordKind + Drop, B: EngineName<K>, D: Drop>(
     ) else {
         return Err(StartError::NoMemory);
     };
-    let journal = Journal::new(alloc, master, blank, limits);
-    Ok(EngineCore::new(directory, SharedJournal::new(cell, journal), puts, once))
+    let Ok((journal, free)) = Journal::new(alloc, master, blank, limits) else {
+        return Err(StartError::NoMemory);
+    };
+    let Ok(book) = SharedJournal::new(alloc, cell, journal, free) else {
+        return Err(StartError::NoMemory);
+    };
+    Ok(EngineCore::new(directory, book, puts, once))
 }

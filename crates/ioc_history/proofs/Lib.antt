@@ -14,11 +14,12 @@ pub mod LiveFew
 mod Moves
 mod Moving
 pub mod Numbers
+mod Pieces
 pub mod Placing
 mod Replaying
 mod Rescanning
 mod Rewiring
-mod FreePlaces
 mod Sharing
 pub mod Summing
 mod Uniting
+mod Written

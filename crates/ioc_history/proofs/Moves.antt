@@ -6,7 +6,7 @@ use Rattle.crossbeam_utils.specs.Register.{Turns, Forks, Merges}
 use Rattle.atomic_table.proofs.Lists.{at_set, set_else}
 use Rattle.ioc_history.specs.declared.entry.Note.{Note}
 use Rattle.ioc_history.specs.declared.cell.View.{View}
-use Rattle.ioc_history.specs.Key.{Key, Has, record_keys}
+use Rattle.ioc_history.specs.Key.{Key, Has}
 use Rattle.ioc_history.specs.KeyLaws.{has_left, has_right, has_either, spares_append, spares_left, spares_right, continues_self}
 use Rattle.ioc_history.specs.Line.{Spares, Continues, Begins, keeper, holder, nobody, copied, claiming, claimed, owning, shown, took, learnt, added, given, TakenIn, Learnt, Appended, Fits, Holds, IsOneList}
 

@@ -1,5 +1,5 @@
 -- Lemmas on keys, and on lists that continue without them.
-use Rattle.std.proofs.Common.{◌≡◌, ◌⊎◌, ℕ, List, [], ◌∷◌, ◌++◌, refl, sym, ap, inl, inr, ⊎_elim, append-nil}
+use Rattle.std.proofs.Common.{◌≡◌, ◌⊎◌, ℕ, List, [], ◌∷◌, ◌++◌, sym, ap, inl, inr, ⊎_elim, append-nil}
 use Rattle.ioc_history.specs.declared.entry.Note.{Note}
 use Rattle.ioc_history.specs.Key.{Key, Has, record_keys}
 use Rattle.ioc_history.specs.Line.{Spares, Continues}

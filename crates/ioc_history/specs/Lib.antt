@@ -1,14 +1,15 @@
 pub mod Account
-pub mod DeskCode
-pub mod EventLaws
 pub mod Covering
+pub mod DeskCode
 pub mod Desks
+pub mod EventLaws
 pub mod Key
 pub mod KeyLaws
 pub mod Laws
 pub mod Legal
 pub mod Line
 pub mod LinkChange
+pub mod Pieces
 pub mod Places
 pub mod PlacesCode
 pub mod Unnamed

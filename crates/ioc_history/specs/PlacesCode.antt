@@ -10,7 +10,7 @@ use Rattle.ioc_history.specs.Places.{PlacesOf, JournalOf, places_of, journal_of}
 abbrev pub places_code : {X : Type 0} → Coded X → Coded (PlacesOf X)
 places_code {X} x =
     code_by (List X × (ℕ × ℕ)) (coded× (coded_list x) (coded× coded_ℕ coded_ℕ))
-    (λ p. (p.filled, (p.held, p.limit)))
+    (λ p. (p.filled, (p.given, p.limit)))
     (λ p. places_of p.0 p.1.0 p.1.1)
     (λ _. refl)
 
@@ -20,6 +20,6 @@ entries_code = places_code entry_row.the_row.coded
 abbrev pub journal_code : Coded (JournalOf Note)
 journal_code =
     code_by (List Note × (ℕ × (ℕ × ℕ))) (coded× (coded_list note_row.the_row.coded) (coded× coded_ℕ (coded× coded_ℕ coded_ℕ)))
-    (λ j. (j.filled, (j.held, (j.limit, j.desks))))
+    (λ j. (j.filled, (j.given, (j.limit, j.desks))))
     (λ p. journal_of p.0 p.1.0 p.1.1.0 p.1.1.1)
     (λ _. refl)

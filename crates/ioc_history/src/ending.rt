@@ -55,7 +55,11 @@ impl<K: RecordKind, B: EngineName<K>> SharedJournal<K, B> {
     pub fn into_parts(self) -> (Cell, Journal<K, B>)
         ensures { result.0.table.shared.table_id ≡ B.table }
     {
-        let SharedJournal { cell, journal } = self;
-        (cell, journal.into_inner())
+        let SharedJournal {
+            cell,
+            places: _places,
+            journal,
+        } = self;
+        (cell, journal.into_inner().into_inner())
     }
 }

@@ -1,49 +1,80 @@
-//! The entries of a journal, and places that are held before they are filled.
-ghost use Rattle.std.specs.Prelude.{◌≡◌, ◌≤◌, ◌+◌, ◌^◌, ◌-◌, [], ◌∷◌, ◌++◌, length, IfOk, IfErr, OnErr, slice_get};
+//! The entries of a journal.
+ghost use Rattle.std.specs.Prelude.{◌≡◌, ◌≤◌, ◌<◌, ◌↔◌, ◌⊎◌, ◌+◌, ◌-◌, ◌^◌, [], ◌∷◌, ◌++◌, length, IfOk, slice_get};
 ghost use Rattle.std.specs.Option.{option_map};
 ghost use Rattle.ioc_history.specs.Account.{journalled};
-ghost use Rattle.ioc_history.specs.Places.{AreAllowed, places_of, one_more_held, HoldsOne, HoldsNone};
+ghost use Rattle.ioc_history.specs.Places.{AreAllowed, places_of};
+ghost use Rattle.std.specs.Vec.{vec_len, vec_capacity};
+ghost use Rattle.ioc_history.specs.Pieces.{IsSpare, ArePieces, items_in};
 
 use crate::JournalEntry;
 use crate::engine_name::EngineName;
+use crate::free_places::{FreePlaces, Place, Places};
 use crate::limits::Limits;
-use ioc_events::Entry;
-use ioc_values::IocError;
-use std::alloc::Global;
-use std::marker::{Model, PhantomData};
-use std::sync::ledger::{Blank, Book, Ledger, Share};
+use ioc_events::{Entry, Event, KeptAnswers, Reply};
+use ioc_notify::NotifyId;
+use std::alloc::{AllocError, Global};
+use std::marker::Model;
+use std::mem;
+use std::sync::ledger::{Blank, Book, Share};
 
-/// The parts of the ledger of places: as many places can be held at once.
-pub const PLACES: u64 = u64::MAX;
+/// The number of entries in a piece of the journal's memory.
+pub const PIECE: usize = 256;
 
-/// The ledger of the places that are held in an engine's journal.
-pub struct Places<K, B: EngineName<K>> {
-    of: PhantomData<B>,
-    kind: PhantomData<K>,
+/// Memory for [`PIECE`] entries.
+#[derive(Drop)]
+pub struct Piece {
+    items: Vec<JournalEntry>,
+    ghost spare: { IsSpare items },
 }
 
-impl<K, B: EngineName<K>> Ledger for Places<K, B> {
-    ghost name = { B.places };
-
-    ghost parts = { 18446744073709551615 };
+impl Piece {
+    /// Allocates memory for entries, and writes to that of the first `count`, so that the system
+    /// provides it before the journal's lock is taken.
+    ///
+    /// # Errors
+    ///
+    /// [`AllocError`] if allocation fails.
+    pub fn new(alloc: Global, count: u64) -> Result<Self, AllocError> {
+        let mut items = Vec::with_capacity(alloc, PIECE)?;
+        write_to(alloc, &mut items, count);
+        items.clear();
+        Ok(Piece { items })
+    }
 }
 
-/// A held place of the journal, with memory reserved for its entry. It can't be dropped: it has to
-/// be filled or given back.
-pub struct Place<K, B: EngineName<K>> {
-    share: Share<Places<K, B>>,
-    ghost one: { (share.parts ≡ 1) × (share.amount ≡ 1) },
+// Adds as many entries, at most as many as there is room for.
+fn write_to(alloc: Global, items: &mut Vec<JournalEntry>, count: u64)
+    ensures { vec_capacity items.new ≡ vec_capacity items.old }
+{
+    for _ in 0..count {
+        if items.len() == items.capacity() {
+            return;
+        }
+        items.push_reserved(JournalEntry {
+            desk: 0,
+            call: 0,
+            entry: Entry {
+                moment: 0,
+                event: Event::IsLive(NotifyId::new(0)),
+                answers: KeptAnswers::new(Vec::new(alloc)),
+                reply: Reply::Plain,
+            },
+        });
+    }
 }
 
-/// Entries, with memory reserved for each held place. Contracts see the list of the entries, the
-/// number of held places, and the limit.
+/// The entries of a journal, in pieces, so that it grows without copying what is there. Contracts
+/// see the list of the entries, the number of places that have memory, and the limit of that
+/// number.
 #[derive(Drop)]
 pub struct Entries<K, B: EngineName<K>> {
-    items: Vec<JournalEntry>,
-    held: u64,
+    full: Vec<Vec<JournalEntry>>,
+    current: Vec<JournalEntry>,
+    spare: Vec<Vec<JournalEntry>>,
+    given: u64,
     limit: u64,
     book: Book<Places<K, B>>,
-    pool: Share<Places<K, B>>,
+    filled: Share<Places<K, B>>,
 }
 
 impl<K, B: EngineName<K>> Model for Entries<K, B> {
@@ -55,95 +86,185 @@ impl<K, B: EngineName<K>> Model for Entries<K, B> {
 
     ghost coded = { entries_code };
 
-    ghost use Rattle.std.specs.Prelude.{◌≡◌, ◌+◌, ◌≤◌, vec_len, vec_capacity};
+    ghost use Rattle.std.specs.Prelude.{◌≡◌, ◌≤◌, ◌+◌, length};
     ghost use Rattle.ioc_history.specs.Places.{places_of};
+    ghost use Rattle.ioc_history.specs.Pieces.{ArePieces, items_in};
 
-    ghost view = { λ e. places_of e.items.items e.held e.limit };
+    ghost view = { λ e. places_of (items_in e.full.items e.current.items) e.given e.limit };
 
-    ghost invariant = { λ e. (e.held ≡ e.book.total) × (vec_len e.items + e.held ≤ vec_capacity e.items) × (e.pool.amount ≡ 0) × (e.pool.parts + e.book.total ≡ 18446744073709551615)
-        × (vec_len e.items + e.held ≤ e.limit) × (e.limit ≤ 4194304) };
+    ghost invariant = { λ e. ArePieces e.full e.spare e.current e.given e.limit × (e.book.total ≡ e.given)
+        × (e.filled.amount ≡ length (items_in e.full.items e.current.items)) × (e.filled.amount ≤ e.given)
+        × (e.filled.parts + e.given ≡ 18446744073709551615 + e.filled.amount) };
 }
 
 impl<K, B: EngineName<K>> Entries<K, B> {
-    /// No entries and no held places. `blank` has [`PLACES`] parts.
-    pub fn new(alloc: Global, blank: Blank, limits: Limits) -> Self
+    /// Allocates the first piece and the lists of pieces. There are no entries yet, and the places
+    /// of the first piece are free. `blank` has [`PLACES`](crate::PLACES) parts.
+    ///
+    /// # Errors
+    ///
+    /// [`AllocError`] if allocation fails.
+    pub fn new(
+        alloc: Global,
+        blank: Blank,
+        limits: Limits,
+    ) -> Result<(Self, FreePlaces<K, B>), AllocError>
         requires name { blank.name ≡ B.places }
         requires parts { blank.parts ≡ 2 ^ 64 - 1 }
         requires limits { AreAllowed limits }
-        ensures { result ≡ places_of [] 0 limits.journal }
+        ensures { IfOk result (λ x. x.0 ≡ places_of [] x.1 limits.journal) }
     {
-        let (book, pool) = blank.open::<Places<K, B>>();
-        Entries {
-            items: Vec::new(alloc),
-            held: 0,
-            limit: limits.journal,
+        let limit = limits.journal;
+        let given = at_most_a_piece(limit);
+        let pieces = limit as usize / PIECE + 1;
+        let full = Vec::with_capacity(alloc, pieces)?;
+        let spare = Vec::with_capacity(alloc, pieces)?;
+        let Piece { items: current } = Piece::new(alloc, given)?;
+        let (mut book, mut filled) = blank.open::<Places<K, B>>();
+        book.add(&mut filled, given);
+        let free = FreePlaces::new(given, filled.split_off(given, given));
+        let entries = Entries {
+            full,
+            current,
+            spare,
+            given,
+            limit,
             book,
-            pool,
-        }
+            filled,
+        };
+        Ok((entries, free))
     }
 
     /// Returns the number of entries.
     pub fn len(&self) -> usize
         ensures count { result ≡ length self.now.filled }
-        ensures within { length self.now.filled + self.now.held ≤ self.now.limit }
+        ensures within { length self.now.filled ≤ self.now.limit }
         ensures few { self.now.limit ≤ 4194304 }
     {
-        self.items.len()
+        self.full.len() * PIECE + self.current.len()
     }
 
     /// Returns the entry at a place, from 0 on, or `None` past the last.
     pub fn at(&self, place: u64) -> Option<&JournalEntry>
         ensures { option_map (λ e. e.now) result ≡ slice_get self.now.filled place }
     {
-        self.items.get(place as usize)
+        let piece = place as usize / PIECE;
+        let index = place as usize % PIECE;
+        if piece < self.full.len() {
+            return item_at(&self.full[piece], index);
+        }
+        if piece == self.full.len() {
+            return item_at(&self.current, index);
+        }
+        None
     }
 
-    /// Reserves a place for one more entry.
-    ///
-    /// # Errors
-    ///
-    /// [`IocError::JournalFull`] if entries and held places reach the limit, otherwise
-    /// [`IocError::NoMemory`] if allocation fails.
-    #[inline(always)]
-    pub fn hold(&mut self) -> Result<Place<K, B>, IocError>
-        ensures held { IfOk result (λ _. HoldsOne self.old self.new) }
-        ensures refused { IfErr result (HoldsNone self.old) }
-        ensures same { OnErr result (self.new ≡ self.old) }
+    /// Returns the number of places that one more piece would have, which is 0 if the limit is
+    /// reached.
+    pub fn places_of_next(&self) -> u64
+        ensures { (result ≡ 0) ↔ (self.now.given ≡ self.now.limit) }
     {
-        if self.items.len() as u64 + self.held == self.limit {
-            return Err(IocError::JournalFull);
+        at_most_a_piece(self.limit - self.given)
+    }
+
+    /// Adds a piece, whose places are free.
+    pub fn add_piece(&mut self, piece: Piece) -> FreePlaces<K, B>
+        ensures given { self.new ≡ places_of self.old.filled (self.old.given + result) self.old.limit }
+        ensures none { (result ≡ 0) ↔ (self.old.given ≡ self.old.limit) }
+    {
+        let more = at_most_a_piece(self.limit - self.given);
+        if more != 0 {
+            let Piece { items } = piece;
+            self.spare.push_reserved(items);
+            self.given += more;
+            self.book.add(&mut self.filled, more);
         }
-        let Ok(()) = self.items.reserve(self.held as usize + 1) else {
-            return Err(IocError::NoMemory);
-        };
-        self.book.add(&mut self.pool, 1);
-        self.held += 1;
-        let share = self.pool.split_off(1, 1);
-        Ok(Place { share })
+        FreePlaces::new(more, self.filled.split_off(more, more))
     }
 
     /// Fills a place with a call of a desk. It doesn't allocate.
     #[inline(always)]
     pub fn fill(&mut self, place: Place<K, B>, desk: u64, call: u64, entry: Entry)
-        ensures held { self.old.held ≡ self.new.held + 1 }
-        ensures filled { self.new ≡ places_of (self.old.filled ++ journalled desk call entry ∷ []) self.new.held self.old.limit }
+        ensures { self.new ≡ places_of (self.old.filled ++ journalled desk call entry ∷ []) self.old.given self.old.limit }
     {
-        let Place { mut share } = place;
-        self.book.audit(&mut share);
-        self.book.sub(&mut share, 1);
-        self.pool.merge(share);
-        self.held -= 1;
-        self.items.push_reserved(JournalEntry { desk, call, entry });
+        let Place { share } = place;
+        self.filled.merge(share);
+        self.book.audit(&mut self.filled);
+        make_room(
+            &mut self.full,
+            &mut self.spare,
+            &mut self.current,
+            self.given,
+            self.limit,
+        );
+        self.current
+            .push_reserved(JournalEntry { desk, call, entry });
     }
 
-    /// Frees a place that wasn't filled.
-    pub fn give_back(&mut self, place: Place<K, B>)
-        ensures { self.old ≡ one_more_held self.new }
+    /// Compares the entries with free places: together they are no more than have memory.
+    pub fn compare_free(&mut self, free: &mut FreePlaces<K, B>)
+        ensures within { length self.old.filled + free.old ≤ self.old.given }
+        ensures limit { self.old.given ≤ self.old.limit }
+        ensures same { (self.new ≡ self.old) × (free.new ≡ free.old) }
     {
-        let Place { mut share } = place;
-        self.book.audit(&mut share);
-        self.book.sub(&mut share, 1);
-        self.pool.merge(share);
-        self.held -= 1;
+        free.lend_to(&mut self.book, &mut self.filled);
     }
+}
+
+// Returns the entry of a piece at an index.
+fn item_at(piece: &[JournalEntry], index: usize) -> Option<&JournalEntry>
+    ensures { option_map (λ e. e.now) result ≡ slice_get piece.now index }
+{
+    piece.get(index)
+}
+
+// Returns this number of places, or that of a piece if it is smaller.
+fn at_most_a_piece(count: u64) -> u64
+    ensures most { result ≤ 256 }
+    ensures count { result ≤ count }
+    ensures either { (result ≡ 256) ⊎ (result ≡ count) }
+{
+    if count < PIECE as u64 {
+        count
+    } else {
+        PIECE as u64
+    }
+}
+
+// Puts the current piece behind the full ones if it is full, and takes a spare one in its place.
+#[inline(always)]
+fn make_room(
+    full: &mut Vec<Vec<JournalEntry>>,
+    spare: &mut Vec<Vec<JournalEntry>>,
+    current: &mut Vec<JournalEntry>,
+    given: u64,
+    limit: u64,
+)
+    requires pieces { ArePieces full.old spare.old current.old given limit }
+    requires more { length (items_in full.old.items current.old.items) < given }
+    ensures pieces { ArePieces full.new spare.new current.new given limit }
+    ensures same { items_in full.new.items current.new.items ≡ items_in full.old.items current.old.items }
+    ensures room { length current.new.items < 256 }
+{
+    if current.len() == PIECE {
+        turn(full, spare, current);
+    }
+}
+
+// Puts the current piece behind the full ones, and takes a spare one in its place.
+fn turn(
+    full: &mut Vec<Vec<JournalEntry>>,
+    spare: &mut Vec<Vec<JournalEntry>>,
+    current: &mut Vec<JournalEntry>,
+)
+    requires full { vec_len full.old < vec_capacity full.old }
+    requires spare { 0 < vec_len spare.old }
+    ensures full { full.new.items ≡ full.old.items ++ current.old ∷ [] }
+    ensures spare { spare.old.items ≡ spare.new.items ++ current.new ∷ [] }
+    ensures room { (vec_capacity full.new ≡ vec_capacity full.old) × (vec_capacity spare.new ≡ vec_capacity spare.old) }
+{
+    let Some(next) = spare.pop() else {
+        unreachable!();
+    };
+    full.push_reserved(mem::replace(current, next));
 }

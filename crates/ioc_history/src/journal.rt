@@ -1,16 +1,17 @@
 //! All calls of an engine in one order.
-ghost use Rattle.std.specs.Prelude.{◌≡◌, ◌+◌, ◌-◌, ◌^◌, ◌++◌, [], IfOk, IfErr, OnOk, OnErr};
+ghost use Rattle.std.specs.Prelude.{◌≡◌, ◌↔◌, ◌+◌, ◌-◌, ◌^◌, ◌++◌, [], IfOk, IfErr, OnOk, OnErr};
 ghost use Rattle.crossbeam_utils.specs.Seq.{cell_view};
 ghost use Rattle.ioc_history.specs.Key.{Key, Has};
 ghost use Rattle.ioc_history.specs.Line.{keeper, holder, Continues};
 ghost use Rattle.ioc_history.specs.Legal.{IsLegal, IsSound};
 ghost use Rattle.ioc_values.specs.declared.error.IocError.TheVariants.{JournalFull};
 ghost use Rattle.ioc_history.specs.Account.{AreNoDesks, AreRecords, IsHolder, MayFollow, BothMayFollow, MayBegin, Call, Added, AddedByBoth, AreMerged, calls, calls_by};
-ghost use Rattle.ioc_history.specs.Places.{AreAllowed, places, journal_of, one_more_held, one_more_desk, HoldsOne, HoldsNone};
+ghost use Rattle.ioc_history.specs.Places.{AreAllowed, journal_of, one_more_desk};
 
 use crate::desk::Desk;
 use crate::engine_name::EngineName;
-use crate::entries::{Entries, Place};
+use crate::entries::{Entries, Piece};
+use crate::free_places::{FreePlaces, Place};
 use crate::key_division::{deal, take_over};
 use crate::limits::Limits;
 use crate::receipt::Receipt;
@@ -18,14 +19,14 @@ use crate::{Cell, KeyPass, Keys, pass};
 use ioc_events::Entry;
 use ioc_record::RecordKind;
 use ioc_values::IocError;
-use std::alloc::Global;
+use std::alloc::{AllocError, Global};
 use std::marker::{Model, PhantomData};
 use std::sync::Wait;
 use std::sync::ledger::Blank;
 
 /// All calls of an engine, each with its desk and its number. Contracts see them as one list with
-/// the keys that each call concerns, the number of held places, the limit, and the number of desks
-/// that were opened.
+/// the keys that each call concerns, the number of places that have memory, the limit of that
+/// number, and the number of desks that were opened.
 #[derive(Drop)]
 pub struct Journal<K: RecordKind, B: EngineName<K>> {
     pub(crate) entries: Entries<K, B>,
@@ -46,14 +47,24 @@ impl<K: RecordKind, B: EngineName<K>> Model for Journal<K, B> {
     ghost use Rattle.ioc_history.specs.Desks.{IsKept};
     ghost use Rattle.ioc_history.specs.Places.{journal_of};
 
-    ghost view = { λ j. journal_of (cell_view j.pass).seen j.entries.held j.entries.limit j.desks };
+    ghost view = { λ j. journal_of (cell_view j.pass).seen j.entries.given j.entries.limit j.desks };
 
     ghost invariant = { λ j. IsKept K.rules B.base B.table j.pass.table_id (cell_view j.pass) j.entries.filled j.desks };
 }
 
 impl<K: RecordKind, B: EngineName<K>> Journal<K, B> {
-    /// A journal without calls. The keeper's pass has created only keys of records.
-    pub fn new(alloc: Global, master: KeyPass, blank: Blank, limits: Limits) -> Self
+    /// Creates a journal without calls, and the free places that it has memory for. The keeper's
+    /// pass has created only keys of records.
+    ///
+    /// # Errors
+    ///
+    /// [`AllocError`] if allocation fails.
+    pub fn new(
+        alloc: Global,
+        master: KeyPass,
+        blank: Blank,
+        limits: Limits,
+    ) -> Result<(Self, FreePlaces<K, B>), AllocError>
         requires table { master.table_id ≡ B.table }
         requires pass { cell_view master ≡ keeper [] (cell_view master).born }
         requires given { AreNoDesks (cell_view master).born }
@@ -61,10 +72,23 @@ impl<K: RecordKind, B: EngineName<K>> Journal<K, B> {
         requires parts { blank.parts ≡ 2 ^ 64 - 1 }
         requires limits { AreAllowed limits }
         requires sound { IsSound K.rules B.base }
-        ensures { result ≡ journal_of [] 0 limits.journal 0 }
+        ensures { IfOk result (λ x. x.0 ≡ journal_of [] x.1 limits.journal 0) }
+    {
+        let (entries, free) = Entries::new(alloc, blank, limits)?;
+        Ok((Journal::without_calls(entries, master), free))
+    }
+
+    // Creates a journal with these entries, of which there are none.
+    fn without_calls(entries: Entries<K, B>, master: KeyPass) -> Self
+        requires none { entries.filled ≡ [] }
+        requires table { master.table_id ≡ B.table }
+        requires pass { cell_view master ≡ keeper [] (cell_view master).born }
+        requires given { AreNoDesks (cell_view master).born }
+        requires sound { IsSound K.rules B.base }
+        ensures { result ≡ journal_of [] entries.given entries.limit 0 }
     {
         Journal {
-            entries: Entries::new(alloc, blank, limits),
+            entries,
             desks: 0,
             pass: master,
         }
@@ -99,28 +123,20 @@ impl<K: RecordKind, B: EngineName<K>> Journal<K, B> {
         })
     }
 
-    /// Reserves a place for a call.
-    ///
-    /// # Errors
-    ///
-    /// [`IocError::JournalFull`] if entries and held places reach the limit, otherwise
-    /// [`IocError::NoMemory`] if allocation fails.
-    #[inline(always)]
-    pub fn reserve(&mut self) -> Result<Place<K, B>, IocError>
-        ensures held { IfOk result (λ _. HoldsOne (places self.old) (places self.new)) }
-        ensures refused { IfErr result (HoldsNone (places self.old)) }
-        ensures same { OnErr result (self.new ≡ self.old) }
-        ensures desks { self.new.desks ≡ self.old.desks }
+    /// Returns the number of places that one more piece of memory would have, which is 0 if the
+    /// limit is reached.
+    pub fn places_of_next(&self) -> u64
+        ensures { (result ≡ 0) ↔ (self.now.given ≡ self.now.limit) }
     {
-        self.entries.hold()
+        self.entries.places_of_next()
     }
 
-    /// Frees a place whose call wasn't made.
-    pub fn give_back(&mut self, place: Place<K, B>)
-        ensures free { places self.old ≡ one_more_held (places self.new) }
-        ensures desks { self.new.desks ≡ self.old.desks }
+    /// Adds a piece of memory, whose places are free.
+    pub fn add_piece(&mut self, piece: Piece) -> FreePlaces<K, B>
+        ensures given { self.new ≡ journal_of self.old.filled (self.old.given + result) self.old.limit self.old.desks }
+        ensures none { (result ≡ 0) ↔ (self.old.given ≡ self.old.limit) }
     {
-        self.entries.give_back(place);
+        self.entries.add_piece(piece)
     }
 
     /// Adds a call of a desk. The caller holds the lock of the set that the call concerns; all keys
@@ -141,8 +157,7 @@ impl<K: RecordKind, B: EngineName<K>> Journal<K, B> {
         requires begins { MayBegin (cell_view set.old).seen (cell_view set.old).owns entry.event }
         ensures call { Call K.rules B.base desk.old entry desk.new }
         ensures receipt { result ≡ desk.new.seen }
-        ensures list { self.new ≡ journal_of desk.new.seen self.new.held self.old.limit self.old.desks }
-        ensures held { self.old.held ≡ self.new.held + 1 }
+        ensures list { self.new ≡ journal_of desk.new.seen self.old.given self.old.limit self.old.desks }
         ensures set { (set.new.table_id ≡ set.old.table_id) × (cell_view set.new ≡ holder self.new.filled (cell_view set.old).owns) }
         ensures added { Added K.rules B.base (cell_view set.old).seen (cell_view set.old).owns entry self.old.filled self.new.filled }
     {
@@ -183,8 +198,7 @@ impl<K: RecordKind, B: EngineName<K>> Journal<K, B> {
         requires begins { MayBegin (cell_view other.old).seen (cell_view other.old).owns entry.event }
         ensures call { Call K.rules B.base desk.old entry desk.new }
         ensures receipt { result ≡ desk.new.seen }
-        ensures list { self.new ≡ journal_of desk.new.seen self.new.held self.old.limit self.old.desks }
-        ensures held { self.old.held ≡ self.new.held + 1 }
+        ensures list { self.new ≡ journal_of desk.new.seen self.old.given self.old.limit self.old.desks }
         ensures one { (one.new.table_id ≡ one.old.table_id) × (cell_view one.new ≡ holder self.new.filled P.keys) }
         ensures other { (other.new.table_id ≡ other.old.table_id) × (cell_view other.new ≡ holder self.new.filled P.rest) }
         ensures added { AddedByBoth K.rules B.base (cell_view one.old).seen (cell_view one.old).owns (cell_view other.old).seen

@@ -6,6 +6,7 @@ ghost use Rattle.ioc_history.specs.Line.{keeper, Begins};
 ghost use Rattle.ioc_history.specs.Account.{calls, IsEntryOf};
 
 use crate::engine_name::EngineName;
+use crate::free_places::FreePlaces;
 use crate::journal::Journal;
 use crate::receipt::Receipt;
 use crate::{Cell, JournalEntry, KeyPass, pass};
@@ -25,13 +26,22 @@ fn compare_one<R: Wait>(rt: &R, cell: &Cell, master: &mut KeyPass, one: &mut Key
 }
 
 impl<K: RecordKind, B: EngineName<K>> Journal<K, B> {
-    /// Returns the number of calls. With the held places it is at most the limit.
+    /// Returns the number of calls, which is at most the limit.
     pub fn len(&self) -> usize
         ensures count { result ≡ length self.now.filled }
-        ensures within { length self.now.filled + self.now.held ≤ self.now.limit }
+        ensures within { length self.now.filled ≤ self.now.limit }
         ensures few { self.now.limit ≤ 4194304 }
     {
         self.entries.len()
+    }
+
+    /// Compares the calls with free places: together they are no more than have memory.
+    pub fn compare_free(&mut self, free: &mut FreePlaces<K, B>)
+        ensures within { length self.old.filled + free.old ≤ self.old.given }
+        ensures limit { self.old.given ≤ self.old.limit }
+        ensures same { (self.new ≡ self.old) × (free.new ≡ free.old) }
+    {
+        self.entries.compare_free(free);
     }
 
     /// Returns the call at a place, from 0 on, or `None` past the last.

@@ -10,27 +10,31 @@ ghost use Rattle.ioc_values.specs.declared.error.IocError.TheVariants.{JournalFu
 
 use crate::desk::Desk;
 use crate::engine_name::EngineName;
-use crate::entries::Place;
+use crate::entries::Piece;
+use crate::free_places::{FreePlaces, Place};
 use crate::journal::Journal;
 use crate::receipt::Receipt;
+use crate::shared_places::SharedPlaces;
+use crate::short_lock::lock_soon;
 use crate::{Cell, KeyPass, Keys};
+use crossbeam_utils::CachePadded;
 use ioc_events::Entry;
 use ioc_record::RecordKind;
 use ioc_values::IocError;
-use std::hint;
+use std::alloc::{AllocError, Global};
 use std::marker::Model;
-use std::sync::{Mutex, MutexGuard, Wait};
+use std::sync::{Mutex, Wait};
 
-// The number of attempts at a locked journal before the thread sleeps.
-const TRIES: u64 = 500;
-
-/// The journal of an engine under its lock, and the cell that ties it to the passes under other
-/// locks. The lock is held only briefly, and no other lock is awaited meanwhile. Contracts see the
-/// identity of the cell.
+/// The journal of an engine under its lock, its free places, and the cell that ties it to the
+/// passes under other locks. A call takes a place without that lock, and takes the lock once, to
+/// fill it. The lock is held only briefly, and no other
+/// lock is awaited meanwhile. Contracts see the identity of the cell.
 #[derive(Drop)]
 pub struct SharedJournal<K: RecordKind, B: EngineName<K>> {
     pub(crate) cell: Cell,
-    pub(crate) journal: Mutex<Journal<K, B>>,
+    // Boxed, because an array in a type bounds the type's size in each contract that has it.
+    pub(crate) places: Box<SharedPlaces<K, B>>,
+    pub(crate) journal: CachePadded<Mutex<Journal<K, B>>>,
 }
 
 impl<K: RecordKind, B: EngineName<K>> Model for SharedJournal<K, B> {
@@ -47,26 +51,25 @@ impl<K: RecordKind, B: EngineName<K>> Model for SharedJournal<K, B> {
 }
 
 impl<K: RecordKind, B: EngineName<K>> SharedJournal<K, B> {
-    /// Puts a journal under a lock, with its cell.
-    pub fn new(cell: Cell, journal: Journal<K, B>) -> Self
+    /// Puts a journal under a lock, with its cell and its free places.
+    ///
+    /// # Errors
+    ///
+    /// [`AllocError`] if allocation fails.
+    pub fn new(
+        alloc: Global,
+        cell: Cell,
+        journal: Journal<K, B>,
+        free: FreePlaces<K, B>,
+    ) -> Result<Self, AllocError>
         requires table { cell.table.shared.table_id ≡ B.table }
     {
-        SharedJournal {
+        let places = Box::new(alloc, SharedPlaces::new(free))?;
+        Ok(SharedJournal {
             cell,
-            journal: Mutex::new(journal),
-        }
-    }
-
-    // Locks the journal. The lock is held for far less time than a thread takes to fall asleep and
-    // wake up, so a locked journal is tried repeatedly first.
-    fn lock<R: Wait>(&self, rt: &R) -> MutexGuard<'_, Journal<K, B>> {
-        for _ in 0..TRIES {
-            if let Some(guard) = self.journal.try_lock() {
-                return guard;
-            }
-            hint::spin_loop();
-        }
-        self.journal.lock(rt)
+            places,
+            journal: CachePadded::new(Mutex::new(journal)),
+        })
     }
 
     /// Opens a desk, which has seen all calls and made none.
@@ -78,7 +81,7 @@ impl<K: RecordKind, B: EngineName<K>> SharedJournal<K, B> {
         ensures new { IfOk result (λ d. (d.next ≡ 0) × (calls_by d.number (calls d.seen) ≡ [])) }
         ensures refused { IfErr result (λ error. error ≡ JournalFull) }
     {
-        self.lock(rt).open_desk(&self.cell)
+        lock_soon(rt, &self.journal).open_desk(&self.cell)
     }
 
     /// The cell that ties the passes together.
@@ -88,22 +91,58 @@ impl<K: RecordKind, B: EngineName<K>> SharedJournal<K, B> {
         &self.cell
     }
 
-    /// Reserves a place for a call.
+    /// Takes a place for a call of a desk. If its stripe has none, the journal gets more memory.
     ///
     /// # Errors
     ///
-    /// [`IocError::JournalFull`] if entries and held places reach the limit, otherwise
-    /// [`IocError::NoMemory`] if allocation fails.
+    /// [`IocError::JournalFull`] if no place is free and the limit is reached, or
+    /// [`IocError::NoMemory`] if none is free and allocation fails.
     #[inline(always)]
-    pub fn reserve<R: Wait>(&self, rt: &R) -> Result<Place<K, B>, IocError>
+    pub fn reserve<R: Wait>(
+        &self,
+        rt: &R,
+        alloc: Global,
+        desk: &Desk<K, B>,
+    ) -> Result<Place<K, B>, IocError>
         ensures refused { IfErr result IsNoPlace }
     {
-        self.lock(rt).reserve()
+        match self.places.take(rt, desk.number) {
+            Some(place) => Ok(place),
+            None => self.refill(rt, alloc, desk.number),
+        }
+    }
+
+    // Takes a place for a caller from a new piece of memory, or else from any stripe.
+    fn refill<R: Wait>(&self, rt: &R, alloc: Global, caller: u64) -> Result<Place<K, B>, IocError>
+        ensures refused { IfErr result IsNoPlace }
+    {
+        match self.grow(rt, alloc, caller) {
+            Ok(place) => Ok(place),
+            Err(refused) => self.places.collect(rt, caller).ok_or(refused),
+        }
+    }
+
+    // Adds a piece of memory, which is allocated without a lock, and takes a place of it. The
+    // caller's stripe is locked meanwhile, so that no one collects while its places are on the way.
+    fn grow<R: Wait>(&self, rt: &R, alloc: Global, caller: u64) -> Result<Place<K, B>, IocError>
+        ensures refused { IfErr result IsNoPlace }
+    {
+        let next = lock_soon(rt, &self.journal).places_of_next();
+        if next == 0 {
+            return Err(IocError::JournalFull);
+        }
+        let Ok(piece) = Piece::new(alloc, next) else {
+            return Err(IocError::NoMemory);
+        };
+        let mut stripe = self.places.lock_stripe(rt, caller);
+        let mut more = lock_soon(rt, &self.journal).add_piece(piece);
+        more.move_to(u64::MAX, &mut stripe);
+        stripe.take().ok_or(IocError::JournalFull)
     }
 
     /// Frees a place whose call wasn't made.
-    pub fn give_back<R: Wait>(&self, rt: &R, place: Place<K, B>) {
-        self.lock(rt).give_back(place);
+    pub fn give_back<R: Wait>(&self, rt: &R, desk: &Desk<K, B>, place: Place<K, B>) {
+        self.places.give_back(rt, desk.number, place);
     }
 
     /// Adds a call of a desk. The caller holds the lock of the set that the call concerns; all keys
@@ -126,7 +165,7 @@ impl<K: RecordKind, B: EngineName<K>> SharedJournal<K, B> {
         ensures set { (set.new.table_id ≡ set.old.table_id) × (cell_view set.new ≡ holder desk.new.seen (cell_view set.old).owns) }
         ensures added { (log : List Note) × Added K.rules B.base (cell_view set.old).seen (cell_view set.old).owns entry log desk.new.seen }
     {
-        let mut guard = self.lock(rt);
+        let mut guard = lock_soon(rt, &self.journal);
         let journal = &mut *guard;
         journal.append(rt, &self.cell, place, set, desk, entry)
     }
@@ -159,7 +198,7 @@ impl<K: RecordKind, B: EngineName<K>> SharedJournal<K, B> {
             × AddedByBoth K.rules B.base (cell_view one.old).seen (cell_view one.old).owns (cell_view other.old).seen
             (cell_view other.old).owns entry log desk.new.seen }
     {
-        let mut guard = self.lock(rt);
+        let mut guard = lock_soon(rt, &self.journal);
         let journal = &mut *guard;
         journal.append_two::<P, R>(rt, &self.cell, place, one, other, desk, entry)
     }
@@ -174,7 +213,7 @@ impl<K: RecordKind, B: EngineName<K>> SharedJournal<K, B> {
             (cell_view other.new) }
         ensures apart { (key : Key) → Has key (cell_view one.old).owns → Has key (cell_view other.old).owns → ⊥ }
     {
-        let mut guard = self.lock(rt);
+        let mut guard = lock_soon(rt, &self.journal);
         let journal = &mut *guard;
         journal.compare(rt, &self.cell, one, other);
     }
@@ -190,7 +229,7 @@ impl<K: RecordKind, B: EngineName<K>> SharedJournal<K, B> {
             (cell_view other.new) }
         ensures apart { (key : Key) → Has key (cell_view one.old).owns → Has key (cell_view other.old).owns → ⊥ }
     {
-        let mut guard = self.lock(rt);
+        let mut guard = lock_soon(rt, &self.journal);
         let journal = &mut *guard;
         journal.merge(rt, &self.cell, one, other);
     }

@@ -72,7 +72,7 @@ impl<K: RecordKind, B: EngineName<K>> SharedNotifications<K, B> {
         lists_leave_sound::<K>();
         lines_tell_holders();
         self.table.is_table();
-        let place = book.reserve(rt)?;
+        let place = book.reserve(rt, alloc, desk)?;
         let is_live = self.table.is_live(number);
         let entry = Entry {
             moment,
@@ -110,7 +110,7 @@ impl<K: RecordKind, B: EngineName<K>> SharedNotifications<K, B> {
         lists_leave_sound::<K>();
         lines_tell_holders();
         self.table.is_table();
-        let place = book.reserve(rt)?;
+        let place = book.reserve(rt, alloc, desk)?;
         let entry = Entry {
             moment,
             event: Event::Cancel(number),

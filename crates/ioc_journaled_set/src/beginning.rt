@@ -72,7 +72,16 @@ impl<K: RecordKind + Drop, B: EngineName<K>, D: Device> JournaledSet<K, B, D> {
         self.set.is_sound();
         all.is_counted();
         let event = Event::Notify(target, notification, field, given);
-        let ran = run_counted(rt, alloc, book, &mut self.set, buffers, &event, moment)?;
+        let ran = run_counted(
+            rt,
+            alloc,
+            book,
+            desk,
+            &mut self.set,
+            buffers,
+            &event,
+            moment,
+        )?;
         let Some(mut pass) = self.pass.take() else {
             unreachable!();
         };

@@ -179,7 +179,7 @@ impl<K: RecordKind + Drop, B: EngineName<K>, D: Device> JournaledSet<K, B, D> {
         those_ended_are_over::<K>();
         sets_stay_without_puts::<K, D>();
         self.set.is_sound();
-        let place = book.reserve(rt)?;
+        let place = book.reserve(rt, alloc, desk)?;
         let (reply, answers) = match run_with_answers(
             &mut self.set,
             buffers,
@@ -189,7 +189,7 @@ impl<K: RecordKind + Drop, B: EngineName<K>, D: Device> JournaledSet<K, B, D> {
         ) {
             Ok(done) => done,
             Err(_refused) => {
-                book.give_back(rt, place);
+                book.give_back(rt, desk, place);
                 return Err(IocError::NoMemory);
             }
         };
@@ -245,7 +245,7 @@ impl<K: RecordKind + Drop, B: EngineName<K>, D: Device> JournaledSet<K, B, D> {
         those_ended_are_over::<K>();
         lines_tell_holders();
         self.set.is_sound();
-        let ran = run_counted(rt, alloc, book, &mut self.set, buffers, event, moment)?;
+        let ran = run_counted(rt, alloc, book, desk, &mut self.set, buffers, event, moment)?;
         let Some(mut pass) = self.pass.take() else {
             unreachable!();
         };
@@ -330,7 +330,7 @@ impl<K: RecordKind + Drop, B: EngineName<K>, D: Device> JournaledSet<K, B, D> {
         events_are_held::<K>();
         let event = Event::Get(number, field);
         self.test_call(&event)?;
-        let place = book.reserve(rt)?;
+        let place = book.reserve(rt, alloc, desk)?;
         let reply = self.set.get(number, field);
         let text = &reply;
         let entry = Entry {

@@ -118,14 +118,14 @@ impl<K: RecordKind + Drop, B: EngineName<K>, D: Device> JournaledSet<K, B, D> {
         holding_lasts::<K>();
         parted_sets_are_held::<K, D>();
         let chosen = link.get();
-        let place = book.reserve(rt)?;
+        let place = book.reserve(rt, alloc, desk)?;
         let rest = match self
             .set
             .part(buffers, alloc, number, field, link, base_link, moment)
         {
             Ok(rest) => rest,
             Err(_refused) => {
-                book.give_back(rt, place);
+                book.give_back(rt, desk, place);
                 return Err(IocError::NoMemory);
             }
         };
@@ -221,7 +221,7 @@ impl<K: RecordKind + Drop, B: EngineName<K>, D: Device> JournaledSet<K, B, D> {
         let chosen = link.get();
         self.set.devices_are_owned();
         other.set.devices_are_owned();
-        let place = book.reserve(rt)?;
+        let place = book.reserve(rt, alloc, desk)?;
         let rest = match self.set.lead_into(
             &mut other.set,
             buffers,
@@ -234,7 +234,7 @@ impl<K: RecordKind + Drop, B: EngineName<K>, D: Device> JournaledSet<K, B, D> {
         ) {
             Ok(rest) => rest,
             Err(_refused) => {
-                book.give_back(rt, place);
+                book.give_back(rt, desk, place);
                 return Err(IocError::NoMemory);
             }
         };
@@ -300,7 +300,7 @@ impl<K: RecordKind + Drop, B: EngineName<K>, D: Device> JournaledSet<K, B, D> {
     {
         holding_lasts::<K>();
         lists_leave_sound::<K>();
-        let place = book.reserve(rt)?;
+        let place = book.reserve(rt, alloc, desk)?;
         let event = Event::Link(number, field, link);
         let entry = Entry {
             moment,

@@ -9,7 +9,7 @@ ghost use Rattle.ioc_set.specs.Sound.{IsSound};
 
 use ioc_device::Device;
 use ioc_events::{Entry, Event, KeptAnswers, Reply, SetReply};
-use ioc_history::{EngineName, Place, SharedJournal};
+use ioc_history::{Desk, EngineName, Place, SharedJournal};
 use ioc_notify::Live;
 use ioc_record::RecordKind;
 use ioc_set::LockSet;
@@ -89,7 +89,7 @@ pub(crate) fn run_with_answers<K: RecordKind + Drop, D: Device>(
     Ok((told.reply(), answers))
 }
 
-/// Reserves a place in the journal for an event, and performs the event on a set. The result has
+/// Reserves a place in the journal for an event of a desk, and performs the event on a set. The result has
 /// the set's live puts with notification before the event.
 ///
 /// # Errors
@@ -100,6 +100,7 @@ pub(crate) fn run_counted<K: RecordKind + Drop, B: EngineName<K>, D: Device, R: 
     rt: &R,
     alloc: Global,
     book: &SharedJournal<K, B>,
+    desk: &Desk<K, B>,
     set: &mut LockSet<K, D>,
     buffers: &mut EventBuffers<K, D>,
     event: &Event,
@@ -124,11 +125,11 @@ pub(crate) fn run_counted<K: RecordKind + Drop, B: EngineName<K>, D: Device, R: 
     let Ok(before) = set.live_puts().to_vec(alloc) else {
         return Err(IocError::NoMemory);
     };
-    let place = book.reserve(rt)?;
+    let place = book.reserve(rt, alloc, desk)?;
     let (reply, answers) = match run_with_answers(set, buffers, alloc, event, moment) {
         Ok(done) => done,
         Err(_refused) => {
-            book.give_back(rt, place);
+            book.give_back(rt, desk, place);
             return Err(IocError::NoMemory);
         }
     };

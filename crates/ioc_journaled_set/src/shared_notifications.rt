@@ -105,7 +105,7 @@ impl<K: RecordKind, B: EngineName<K>> SharedNotifications<K, B> {
 
 // Subtracts the counts that a set had before an event from the table, and adds those that it has
 // after it.
-fn count_anew(table: &mut NotificationCounts, before: &[Live], after: &[Live])
+fn recount(table: &mut NotificationCounts, before: &[Live], after: &[Live])
     requires there { (n : ℕ) → holders_in n before.now ≤ holders_in n table.old.live }
     requires fits { (n : ℕ) → holders_in n table.old.live + holders_in n after.now < 2 ^ 64 + holders_in n before.now }
     requires few { length table.old.live ≤ 256 }
@@ -161,7 +161,7 @@ pub(crate) fn keep_beside<K: RecordKind, B: EngineName<K>, D, R: Wait>(
     lines_tell_holders();
     tables_are_short();
     let receipt = book.append_two::<Brand, R>(rt, place, pass, &mut all.pass, desk, entry);
-    count_anew(&mut all.table, before, set.live_puts());
+    recount(&mut all.table, before, set.live_puts());
     all.table.is_table();
     all.last = last;
     buffers.tell_ended(&all.table);

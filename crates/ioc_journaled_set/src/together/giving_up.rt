@@ -73,9 +73,9 @@ pub fn give_up<K: RecordKind + Drop, B: EngineName<K>, D: Device, R: Wait>(
     holding_lasts::<K>();
     live_lasts::<K>();
     all_sound(sets);
-    let place = book.reserve(rt)?;
+    let place = book.reserve(rt, alloc, desk)?;
     if let Err(_refused) = cancel_all(rt, alloc, buffers, sets, number, moment) {
-        book.give_back(rt, place);
+        book.give_back(rt, desk, place);
         return Err(IocError::NoMemory);
     }
     merge_all(rt, book, keeper, passes);

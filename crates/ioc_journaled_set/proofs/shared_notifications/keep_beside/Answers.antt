@@ -34,8 +34,8 @@ append_two-receipt-requires-clause-begins g c =
     let owns = ap (λ (v : View). v.owns) (sym c.all.invariant.holds) in
     subst (λ (ks : List Key). MayBegin (cell_view c.all.inside.pass).seen ks c.args.entry.event) owns (subst (λ (s : List Note). MayBegin s puts_key c.args.entry.event) seen c.requires.begins)
 
-pub count_anew-requires-clause-there : goal.count_anew-requires-clause-there
-count_anew-requires-clause-there g c n =
+pub recount-requires-clause-there : goal.recount-requires-clause-there
+recount-requires-clause-there g c n =
     let k = g.K.RecordKind.rules in
     let base = g.B.EngineName.base in
     let one = cell_view c.args.pass.now in
@@ -47,8 +47,8 @@ count_anew-requires-clause-there g c n =
     let moved = c.requires.moves log longer (subst (λ (s : List Note). AddedByBoth k base one.seen one.owns s puts_key c.args.entry log longer) seen added) in
     before_there k c.live_lasts.ensures base (cell_view c.all.inside.pass).seen log longer c.all.inside.table.live c.args.before.now c.args.set.now.live c.all.invariant.counted added.also_goes_on added.legal moved n
 
-pub count_anew-requires-clause-fits : goal.count_anew-requires-clause-fits
-count_anew-requires-clause-fits g c n =
+pub recount-requires-clause-fits : goal.recount-requires-clause-fits
+recount-requires-clause-fits g c n =
     let k = g.K.RecordKind.rules in
     let base = g.B.EngineName.base in
     let one = cell_view c.args.pass.now in
@@ -72,19 +72,19 @@ invariant_of-all g c =
     let longer = c.append_two-receipt.new.desk.seen in
     let added = subst (λ (ks : List Key). AddedByBoth k base one.seen one.owns (cell_view c.all.inside.pass).seen ks c.args.entry log longer) owns c.append_two-receipt.ensures.added.1 in
     let moved = c.requires.moves log longer (subst (λ (s : List Note). AddedByBoth k base one.seen one.owns s puts_key c.args.entry log longer) seen added) in
-    let counts = subst (λ (ls : List Live). (n : ℕ) → holders_in n c.count_anew.new.table.live + holders_in n c.args.before.now ≡ holders_in n c.all.inside.table.live + holders_in n ls) c.live_puts.ensures c.count_anew.ensures.counts in
-    let told = counted_then k c.live_lasts.ensures base (cell_view c.all.inside.pass).seen log longer c.all.inside.table.live c.args.before.now c.args.set.now.live c.all.invariant.counted added.also_goes_on added.legal moved c.count_anew.new.table.live counts in
+    let counts = subst (λ (ls : List Live). (n : ℕ) → holders_in n c.recount.new.table.live + holders_in n c.args.before.now ≡ holders_in n c.all.inside.table.live + holders_in n ls) c.live_puts.ensures c.recount.ensures.counts in
+    let told = counted_then k c.live_lasts.ensures base (cell_view c.all.inside.pass).seen log longer c.all.inside.table.live c.args.before.now c.args.set.now.live c.all.invariant.counted added.also_goes_on added.legal moved c.recount.new.table.live counts in
     let other = c.append_two-receipt.ensures.other in
-    let short = c.tables_are_short.ensures c.count_anew.new.table.live (map_of k base longer).live c.is_table.ensures told in
+    let short = c.tables_are_short.ensures c.recount.new.table.live (map_of k base longer).live c.is_table.ensures told in
     let few = moved.few in
     record {
       same = other.0 ∙ c.all.invariant.same;
       holds = subst (λ (v : View). v ≡ holder v.seen puts_key) (sym other.1) refl;
-      counted = subst (λ (v : View). AreCounted k base c.count_anew.new.table.live v.seen) (sym other.1) told;
+      counted = subst (λ (v : View). AreCounted k base c.recount.new.table.live v.seen) (sym other.1) told;
       below = subst (λ (v : View). NoneIsAbove c.args.last v.seen) (sym other.1)
           (numbers_below (cell_view c.all.inside.pass).seen log longer puts_key (noted (journalled added.desk added.call c.args.entry) ((one.owns ++ puts_key) ++ added.own)) c.args.last added.also_goes_on added.ends (inl refl) c.append_two-receipt.ensures.call.legal.puts_keyed
           (still_below (numbers_given (calls (cell_view c.all.inside.pass).seen)) c.all.inside.last c.args.last (subst (λ (n : ℕ). n ≤ c.args.last) (ap (λ (v : PutsView). v.last) (sym c.all.view_is)) c.requires.last) c.all.invariant.below)
           c.requires.given);
       few = omega (arith, short, few);
-      room = subst (λ (n : ℕ). 512 ≤ n) (sym c.count_anew.ensures.room) c.all.invariant.room;
+      room = subst (λ (n : ℕ). 512 ≤ n) (sym c.recount.ensures.room) c.all.invariant.room;
     }

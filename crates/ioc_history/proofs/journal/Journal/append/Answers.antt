@@ -13,13 +13,13 @@ use Rattle.ioc_history.specs.Account.{DeskView, desk_view, desk_key, journalled,
 use Rattle.ioc_history.specs.Places.{PlacesOf, JournalOf}
 use Rattle.ioc_history.proofs.Calls.{calls-append, length-calls, below_other, no_longer, counted}
 use Rattle.ioc_history.proofs.Adding.{account_then, below_then, called}
-use Rattle.ioc_history.proofs.FreePlaces.{as_many, stands, is_added}
+use Rattle.ioc_history.proofs.Written.{as_many, stands, is_added}
 use Rattle.ioc_history.proofs.journal.Journal.append.Goals as goal
 
 pub unreachable-requires : goal.unreachable-requires
 unreachable-requires g c =
     stands c.self.inside.entries.filled (journalled c.desk.inside.number c.desk.inside.next c.args.entry) c.len-index.result c.len-index.ensures.count
-    (sym (ap (λ (p : PlacesOf JournalEntry). slice_get p.filled c.len-index.result) c.fill.ensures.filled) ∙ (sym c.at.ensures ∙ ap (option_map (λ (e : Bor JournalEntry). e.now)) c.in_default.is))
+    (sym (ap (λ (p : PlacesOf JournalEntry). slice_get p.filled c.len-index.result) c.fill.ensures) ∙ (sym c.at.ensures ∙ ap (option_map (λ (e : Bor JournalEntry). e.now)) c.in_default.is))
 
 pub append-pass-requires-clause-apart : goal.append-pass-requires-clause-apart
 append-pass-requires-clause-apart g c = λ key a b.
@@ -38,7 +38,7 @@ invariant_of-result g c =
     let k = g.K.RecordKind.rules in
     let leads = c.requires.follows log n next own i.sound e.goes_on.0 i.account.legal in
     let is_made = is_added c.self.inside.entries.filled (journalled n next c.args.entry) c.len-index.result c.in-Some.made.now c.len-index.ensures.count
-    (sym (ap (λ (p : PlacesOf JournalEntry). slice_get p.filled c.len-index.result) c.fill.ensures.filled) ∙ (sym c.at.ensures ∙ ap (option_map (λ (e : Bor JournalEntry). e.now)) c.in-Some.is)) in
+    (sym (ap (λ (p : PlacesOf JournalEntry). slice_get p.filled c.len-index.result) c.fill.ensures) ∙ (sym c.at.ensures ∙ ap (option_map (λ (e : Bor JournalEntry). e.now)) c.in-Some.is)) in
     let noted_so = ap (λ (m : JournalEntry). log ++ noted m (owns ++ own) ∷ []) is_made in
     let told = ap (λ (v : View). v.seen) e.receipt.2 in
     let seen = told ∙ noted_so in
@@ -63,7 +63,7 @@ invariant_of-self g c =
     let leads = c.requires.follows log n next own i.sound e.goes_on.0 i.account.legal in
     let made = journalled n next c.args.entry in
     let is_made = is_added c.self.inside.entries.filled (journalled n next c.args.entry) c.len-index.result c.in-Some.made.now c.len-index.ensures.count
-    (sym (ap (λ (p : PlacesOf JournalEntry). slice_get p.filled c.len-index.result) c.fill.ensures.filled) ∙ (sym c.at.ensures ∙ ap (option_map (λ (e : Bor JournalEntry). e.now)) c.in-Some.is)) in
+    (sym (ap (λ (p : PlacesOf JournalEntry). slice_get p.filled c.len-index.result) c.fill.ensures) ∙ (sym c.at.ensures ∙ ap (option_map (λ (e : Bor JournalEntry). e.now)) c.in-Some.is)) in
     let noted_so = ap (λ (m : JournalEntry). log ++ noted m (owns ++ own) ∷ []) is_made in
     let told = ap (λ (v : View). v.seen) e.keeper.1 in
     let seen = told ∙ noted_so in
@@ -72,7 +72,7 @@ invariant_of-self g c =
     record {
       same = e.keeper.0 ∙ i.same;
       keeps = e.keeper.1 ∙ ap₂ keeper (sym told) (sym born);
-      items_are = ap (λ (p : PlacesOf JournalEntry). p.filled) c.fill.ensures.filled ∙ (ap (λ l. l ++ made ∷ []) i.items_are ∙ (sym (calls-append log (noted made (owns ++ own) ∷ [])) ∙ ap calls (sym seen)));
+      items_are = ap (λ (p : PlacesOf JournalEntry). p.filled) c.fill.ensures ∙ (ap (λ l. l ++ made ∷ []) i.items_are ∙ (sym (calls-append log (noted made (owns ++ own) ∷ [])) ∙ ap calls (sym seen)));
       sound = i.sound;
       account = subst (IsAccount k g.B.EngineName.base) (sym seen) (account_then k g.B.EngineName.base log (cell_view c.desk.inside.pass).seen n next c.args.entry owns own (ap (λ (v : View). v.owns) d.holds) i.account e.goes_on.1 d.below leads (cell_view c.args.set.now).seen (cell_view c.args.set.now).owns e.goes_on.0 (λ key has. has_left key owns own has) c.requires.begins);
       given = λ key has kind. i.given key (subst (Has key) born has) kind;
@@ -92,7 +92,7 @@ invariant_of-desk g c =
     let k = g.K.RecordKind.rules in
     let leads = c.requires.follows log n next own i.sound e.goes_on.0 i.account.legal in
     let is_made = is_added c.self.inside.entries.filled (journalled n next c.args.entry) c.len-index.result c.in-Some.made.now c.len-index.ensures.count
-    (sym (ap (λ (p : PlacesOf JournalEntry). slice_get p.filled c.len-index.result) c.fill.ensures.filled) ∙ (sym c.at.ensures ∙ ap (option_map (λ (e : Bor JournalEntry). e.now)) c.in-Some.is)) in
+    (sym (ap (λ (p : PlacesOf JournalEntry). slice_get p.filled c.len-index.result) c.fill.ensures) ∙ (sym c.at.ensures ∙ ap (option_map (λ (e : Bor JournalEntry). e.now)) c.in-Some.is)) in
     let noted_so = ap (λ (m : JournalEntry). log ++ noted m (owns ++ own) ∷ []) is_made in
     let told = ap (λ (v : View). v.seen) e.desk.1 in
     let seen = told ∙ noted_so in
@@ -117,7 +117,7 @@ returns-clause-call g c =
     let k = g.K.RecordKind.rules in
     let leads = c.requires.follows log n next own i.sound e.goes_on.0 i.account.legal in
     let is_made = is_added c.self.inside.entries.filled (journalled n next c.args.entry) c.len-index.result c.in-Some.made.now c.len-index.ensures.count
-    (sym (ap (λ (p : PlacesOf JournalEntry). slice_get p.filled c.len-index.result) c.fill.ensures.filled) ∙ (sym c.at.ensures ∙ ap (option_map (λ (e : Bor JournalEntry). e.now)) c.in-Some.is)) in
+    (sym (ap (λ (p : PlacesOf JournalEntry). slice_get p.filled c.len-index.result) c.fill.ensures) ∙ (sym c.at.ensures ∙ ap (option_map (λ (e : Bor JournalEntry). e.now)) c.in-Some.is)) in
     let noted_so = ap (λ (m : JournalEntry). log ++ noted m (owns ++ own) ∷ []) is_made in
     let told = ap (λ (v : View). v.seen) e.desk.1 in
     let seen = told ∙ noted_so in
@@ -135,7 +135,7 @@ returns-clause-added g c =
     let log = (cell_view c.self.inside.pass).seen in
     let own = (cell_view c.desk.inside.pass).owns in
     let is_made = is_added c.self.inside.entries.filled (journalled n next c.args.entry) c.len-index.result c.in-Some.made.now c.len-index.ensures.count
-    (sym (ap (λ (p : PlacesOf JournalEntry). slice_get p.filled c.len-index.result) c.fill.ensures.filled) ∙ (sym c.at.ensures ∙ ap (option_map (λ (e : Bor JournalEntry). e.now)) c.in-Some.is)) in
+    (sym (ap (λ (p : PlacesOf JournalEntry). slice_get p.filled c.len-index.result) c.fill.ensures) ∙ (sym c.at.ensures ∙ ap (option_map (λ (e : Bor JournalEntry). e.now)) c.in-Some.is)) in
     let noted_so = ap (λ (m : JournalEntry). log ++ noted m (owns ++ own) ∷ []) is_made in
     subst (λ (l : List Note). Added g.K.RecordKind.rules g.B.EngineName.base seen owns c.args.entry l (cell_view c.append-pass.new.master).seen) (ap (λ (j : JournalOf Note). j.filled) c.self.view_is)
     (record { desk = c.desk.inside.number; call = c.desk.inside.next; own = (cell_view c.desk.inside.pass).owns; sound = i.sound; goes_on = e.goes_on.0; legal = i.account.legal; ends = ap (λ (v : View). v.seen) e.keeper.1 ∙ noted_so })

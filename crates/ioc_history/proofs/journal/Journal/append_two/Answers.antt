@@ -13,13 +13,13 @@ use Rattle.ioc_history.specs.Account.{DeskView, desk_view, desk_key, journalled,
 use Rattle.ioc_history.specs.Places.{PlacesOf, JournalOf}
 use Rattle.ioc_history.proofs.Calls.{calls-append, length-calls, below_other, no_longer, counted}
 use Rattle.ioc_history.proofs.Adding.{account_then, below_then, called}
-use Rattle.ioc_history.proofs.FreePlaces.{as_many, stands, is_added}
+use Rattle.ioc_history.proofs.Written.{as_many, stands, is_added}
 use Rattle.ioc_history.proofs.journal.Journal.append_two.Goals as goal
 
 pub unreachable-requires : goal.unreachable-requires
 unreachable-requires g c =
     stands c.self.inside.entries.filled (journalled c.desk.inside.number c.desk.inside.next c.args.entry) c.len-index.result c.len-index.ensures.count
-    (sym (ap (λ (p : PlacesOf JournalEntry). slice_get p.filled c.len-index.result) c.fill.ensures.filled) ∙ (sym c.at.ensures ∙ ap (option_map (λ (e : Bor JournalEntry). e.now)) c.in_default.is))
+    (sym (ap (λ (p : PlacesOf JournalEntry). slice_get p.filled c.len-index.result) c.fill.ensures) ∙ (sym c.at.ensures ∙ ap (option_map (λ (e : Bor JournalEntry). e.now)) c.in_default.is))
 
 pub deal-pass-requires-clause-apart_desk : goal.deal-pass-requires-clause-apart_desk
 deal-pass-requires-clause-apart_desk g c = λ key a b.
@@ -42,7 +42,7 @@ invariant_of-result g c =
     let leads = c.requires.follows log n next own i.sound e.goes_on.0 e.goes_on.1 i.account.legal in
     let told = ap (λ (v : View). v.seen) e.receipt.2 in
     let is_made = is_added c.self.inside.entries.filled (journalled n next c.args.entry) c.len-index.result c.in-Some.made.now c.len-index.ensures.count
-    (sym (ap (λ (p : PlacesOf JournalEntry). slice_get p.filled c.len-index.result) c.fill.ensures.filled) ∙ (sym c.at.ensures ∙ ap (option_map (λ (e : Bor JournalEntry). e.now)) c.in-Some.is)) in
+    (sym (ap (λ (p : PlacesOf JournalEntry). slice_get p.filled c.len-index.result) c.fill.ensures) ∙ (sym c.at.ensures ∙ ap (option_map (λ (e : Bor JournalEntry). e.now)) c.in-Some.is)) in
     let noted_so = ap (λ (m : JournalEntry). log ++ noted m (owns ++ own) ∷ []) is_made in
     let seen = told ∙ (ap (λ (v : View). v.seen) e.keeper.1 ∙ noted_so) in
     record {
@@ -66,7 +66,7 @@ invariant_of-self g c =
     let leads = c.requires.follows log n next own i.sound e.goes_on.0 e.goes_on.1 i.account.legal in
     let made = journalled n next c.args.entry in
     let is_made = is_added c.self.inside.entries.filled (journalled n next c.args.entry) c.len-index.result c.in-Some.made.now c.len-index.ensures.count
-    (sym (ap (λ (p : PlacesOf JournalEntry). slice_get p.filled c.len-index.result) c.fill.ensures.filled) ∙ (sym c.at.ensures ∙ ap (option_map (λ (e : Bor JournalEntry). e.now)) c.in-Some.is)) in
+    (sym (ap (λ (p : PlacesOf JournalEntry). slice_get p.filled c.len-index.result) c.fill.ensures) ∙ (sym c.at.ensures ∙ ap (option_map (λ (e : Bor JournalEntry). e.now)) c.in-Some.is)) in
     let noted_so = ap (λ (m : JournalEntry). log ++ noted m (owns ++ own) ∷ []) is_made in
     let told = ap (λ (v : View). v.seen) e.keeper.1 in
     let seen = told ∙ noted_so in
@@ -75,7 +75,7 @@ invariant_of-self g c =
     record {
       same = e.keeper.0 ∙ i.same;
       keeps = e.keeper.1 ∙ ap₂ keeper (sym told) (sym born);
-      items_are = ap (λ (p : PlacesOf JournalEntry). p.filled) c.fill.ensures.filled ∙ (ap (λ l. l ++ made ∷ []) i.items_are ∙ (sym (calls-append log (noted made (owns ++ own) ∷ [])) ∙ ap calls (sym seen)));
+      items_are = ap (λ (p : PlacesOf JournalEntry). p.filled) c.fill.ensures ∙ (ap (λ l. l ++ made ∷ []) i.items_are ∙ (sym (calls-append log (noted made (owns ++ own) ∷ [])) ∙ ap calls (sym seen)));
       sound = i.sound;
       account = subst (IsAccount k g.B.EngineName.base) (sym seen) (account_then k g.B.EngineName.base log (cell_view c.desk.inside.pass).seen n next c.args.entry owns own (ap (λ (v : View). v.owns) d.holds) i.account e.goes_on.2 d.below leads (cell_view c.args.other.now).seen (cell_view c.args.other.now).owns e.goes_on.1 (λ key has. has_left key owns own (has_right key (cell_view c.args.one.now).owns (cell_view c.args.other.now).owns has)) c.requires.begins);
       given = λ key has kind. i.given key (subst (Has key) born has) kind;
@@ -96,7 +96,7 @@ invariant_of-desk g c =
     let leads = c.requires.follows log n next own i.sound e.goes_on.0 e.goes_on.1 i.account.legal in
     let told = ap (λ (v : View). v.seen) e.desk.1 in
     let is_made = is_added c.self.inside.entries.filled (journalled n next c.args.entry) c.len-index.result c.in-Some.made.now c.len-index.ensures.count
-    (sym (ap (λ (p : PlacesOf JournalEntry). slice_get p.filled c.len-index.result) c.fill.ensures.filled) ∙ (sym c.at.ensures ∙ ap (option_map (λ (e : Bor JournalEntry). e.now)) c.in-Some.is)) in
+    (sym (ap (λ (p : PlacesOf JournalEntry). slice_get p.filled c.len-index.result) c.fill.ensures) ∙ (sym c.at.ensures ∙ ap (option_map (λ (e : Bor JournalEntry). e.now)) c.in-Some.is)) in
     let noted_so = ap (λ (m : JournalEntry). log ++ noted m (owns ++ own) ∷ []) is_made in
     let seen = told ∙ (ap (λ (v : View). v.seen) e.keeper.1 ∙ noted_so) in
     record {
@@ -120,7 +120,7 @@ returns-clause-call g c =
     let k = g.K.RecordKind.rules in
     let leads = c.requires.follows log n next own i.sound e.goes_on.0 e.goes_on.1 i.account.legal in
     let is_made = is_added c.self.inside.entries.filled (journalled n next c.args.entry) c.len-index.result c.in-Some.made.now c.len-index.ensures.count
-    (sym (ap (λ (p : PlacesOf JournalEntry). slice_get p.filled c.len-index.result) c.fill.ensures.filled) ∙ (sym c.at.ensures ∙ ap (option_map (λ (e : Bor JournalEntry). e.now)) c.in-Some.is)) in
+    (sym (ap (λ (p : PlacesOf JournalEntry). slice_get p.filled c.len-index.result) c.fill.ensures) ∙ (sym c.at.ensures ∙ ap (option_map (λ (e : Bor JournalEntry). e.now)) c.in-Some.is)) in
     let noted_so = ap (λ (m : JournalEntry). log ++ noted m (owns ++ own) ∷ []) is_made in
     let seen = ap (λ (v : View). v.seen) e.desk.1 ∙ (ap (λ (v : View). v.seen) e.keeper.1 ∙ noted_so) in
     subst (λ (v : DeskView). Call k g.B.EngineName.base v c.args.entry (desk_view n (next + 1) (cell_view c.deal-pass.new.desk).seen)) c.desk.view_is
@@ -136,7 +136,7 @@ returns-clause-added g c =
     let log = (cell_view c.self.inside.pass).seen in
     let own = (cell_view c.desk.inside.pass).owns in
     let is_made = is_added c.self.inside.entries.filled (journalled n next c.args.entry) c.len-index.result c.in-Some.made.now c.len-index.ensures.count
-    (sym (ap (λ (p : PlacesOf JournalEntry). slice_get p.filled c.len-index.result) c.fill.ensures.filled) ∙ (sym c.at.ensures ∙ ap (option_map (λ (e : Bor JournalEntry). e.now)) c.in-Some.is)) in
+    (sym (ap (λ (p : PlacesOf JournalEntry). slice_get p.filled c.len-index.result) c.fill.ensures) ∙ (sym c.at.ensures ∙ ap (option_map (λ (e : Bor JournalEntry). e.now)) c.in-Some.is)) in
     let noted_so = ap (λ (m : JournalEntry). log ++ noted m (owns ++ own) ∷ []) is_made in
     subst (λ (l : List Note). AddedByBoth g.K.RecordKind.rules g.B.EngineName.base (cell_view c.args.one.now).seen (cell_view c.args.one.now).owns (cell_view c.args.other.now).seen (cell_view c.args.other.now).owns c.args.entry l (cell_view c.deal-pass.new.master).seen) (ap (λ (j : JournalOf Note). j.filled) c.self.view_is)
     (record {

@@ -1,8 +1,8 @@
-use Rattle.std.proofs.Common.{◌≤◌, ◌+◌, length, ap, ◌∙◌, subst, arith}
+use Rattle.std.proofs.Common.{◌≤◌, length, ap, ◌∙◌, subst, arith}
 use Rattle.crossbeam_utils.specs.Seq.{cell_view}
 use Rattle.ioc_history.specs.declared.entry.Note.{Note}
 use Rattle.ioc_history.specs.Places.{JournalOf}
-use Rattle.ioc_history.proofs.FreePlaces.{as_many}
+use Rattle.ioc_history.proofs.Written.{as_many}
 use Rattle.ioc_history.proofs.journal.Journal.len.Goals as goal
 
 pub returns-clause-count : goal.returns-clause-count
@@ -15,4 +15,4 @@ returns-clause-within g c =
     let seen = (cell_view c.self.inside.pass).seen in
     let many = as_many c.self.inside.entries.filled seen c.self.invariant.items_are in
     let within = c.len.ensures.within in
-    subst (λ (j : JournalOf Note). length j.filled + j.held ≤ j.limit) c.self.view_is (omega (arith, many, within))
+    subst (λ (j : JournalOf Note). length j.filled ≤ j.limit) c.self.view_is (omega (arith, many, within))

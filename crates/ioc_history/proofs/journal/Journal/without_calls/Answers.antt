@@ -1,11 +1,9 @@
 use Rattle.std.proofs.Common.{sym, ap, ◌∙◌, subst, arith}
 use Rattle.crossbeam_utils.specs.Seq.{cell_view}
-use Rattle.ioc_history.specs.declared.entry.JournalEntry.{JournalEntry}
 use Rattle.ioc_history.specs.declared.cell.View.{View}
 use Rattle.ioc_history.specs.Line.{keeper}
 use Rattle.ioc_history.specs.Account.{calls, Below, IsAccount}
-use Rattle.ioc_history.specs.Places.{PlacesOf}
-use Rattle.ioc_history.proofs.journal.Journal.new.Goals as goal
+use Rattle.ioc_history.proofs.journal.Journal.without_calls.Goals as goal
 
 pub invariant_of-result : goal.invariant_of-result
 invariant_of-result g c =
@@ -14,7 +12,7 @@ invariant_of-result g c =
     record {
       same = c.requires.table;
       keeps = is ∙ ap (λ l. keeper l (cell_view c.args.master).born) (sym seen);
-      items_are = ap (λ (p : PlacesOf JournalEntry). p.filled) c.new.ensures ∙ ap calls (sym seen);
+      items_are = c.requires.none ∙ ap calls (sym seen);
       sound = c.requires.sound;
       account = subst (IsAccount g.K.RecordKind.rules g.B.EngineName.base) (sym seen) (record { legal = tt; rising = tt; keyed = tt; numbers = λ i j d lt within. absurd (let none : ⊥ = omega (arith, within) in none); puts_keyed = tt });
       given = λ key has kind. absurd (c.requires.given key has kind);

@@ -1,0 +1,12 @@
+use Rattle.std.proofs.Common.{◌≤◌, ◌+◌, length, subst, arith}
+use Rattle.crossbeam_utils.specs.Seq.{cell_view}
+use Rattle.ioc_history.specs.declared.entry.Note.{Note}
+use Rattle.ioc_history.specs.Places.{JournalOf}
+use Rattle.ioc_history.proofs.Written.{as_many}
+use Rattle.ioc_history.proofs.journal.Journal.compare_free.Goals as goal
+
+pub returns-clause-within : goal.returns-clause-within
+returns-clause-within g c =
+    let many = as_many c.self.inside.entries.filled (cell_view c.self.inside.pass).seen c.self.invariant.items_are in
+    let within = c.compare_free.ensures.within in
+    subst (λ (j : JournalOf Note). length j.filled + c.args.free.now ≤ j.given) c.self.view_is (omega (arith, many, within))

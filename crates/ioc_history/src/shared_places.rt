@@ -1,0 +1,109 @@
+//! The free places of a journal, which callers take without the journal's lock.
+ghost use Rattle.std.specs.Prelude.{◌<◌};
+
+use crate::engine_name::EngineName;
+use crate::free_places::{FreePlaces, Place};
+use crate::short_lock::lock_soon;
+use crossbeam_utils::CachePadded;
+use std::sync::{Mutex, MutexGuard, Wait};
+
+// The number of stripes.
+const STRIPES: usize = 8;
+
+// The number of places that stay in a caller's stripe when all are collected.
+const BATCH: u64 = 64;
+
+/// The free places of a journal, in stripes under their own locks, so that callers on several
+/// threads seldom meet. A caller takes places from its own stripe.
+#[derive(Drop)]
+pub struct SharedPlaces<K, B: EngineName<K>> {
+    stripes: [CachePadded<Mutex<FreePlaces<K, B>>>; STRIPES],
+}
+
+fn stripe<K, B: EngineName<K>>(free: FreePlaces<K, B>) -> CachePadded<Mutex<FreePlaces<K, B>>> {
+    CachePadded::new(Mutex::new(free))
+}
+
+// Returns the stripe of a caller.
+fn stripe_of(caller: u64) -> usize
+    ensures { result < 8 }
+{
+    (caller % STRIPES as u64) as usize
+}
+
+impl<K, B: EngineName<K>> SharedPlaces<K, B> {
+    /// Puts free places under locks.
+    pub fn new(free: FreePlaces<K, B>) -> Self {
+        let mut free = free;
+        let [a, b, c, d, e, f, g] = [
+            free.none(),
+            free.none(),
+            free.none(),
+            free.none(),
+            free.none(),
+            free.none(),
+            free.none(),
+        ];
+        SharedPlaces {
+            stripes: [
+                stripe(free),
+                stripe(a),
+                stripe(b),
+                stripe(c),
+                stripe(d),
+                stripe(e),
+                stripe(f),
+                stripe(g),
+            ],
+        }
+    }
+
+    /// Locks the stripe of a caller.
+    #[inline(always)]
+    pub fn lock_stripe<R: Wait>(&self, rt: &R, caller: u64) -> MutexGuard<'_, FreePlaces<K, B>> {
+        lock_soon(rt, &self.stripes[stripe_of(caller)])
+    }
+
+    /// Takes a place from the stripe of a caller, or returns `None` if it has none.
+    #[inline(always)]
+    pub fn take<R: Wait>(&self, rt: &R, caller: u64) -> Option<Place<K, B>> {
+        self.lock_stripe(rt, caller).take()
+    }
+
+    /// Frees a place of a caller.
+    pub fn give_back<R: Wait>(&self, rt: &R, caller: u64, place: Place<K, B>) {
+        self.lock_stripe(rt, caller).give_back(place);
+    }
+
+    /// Collects the places of all stripes, under all their locks, and takes one for a caller. Its
+    /// stripe keeps some of the others. Returns `None` only if no stripe has a place while all are
+    /// locked.
+    pub fn collect<R: Wait>(&self, rt: &R, caller: u64) -> Option<Place<K, B>> {
+        let mut first = lock_soon(rt, &self.stripes[0]);
+        let mut all = first.none();
+        first.move_to(u64::MAX, &mut all);
+        let found = self.collect_from(rt, 1, stripe_of(caller), &mut all);
+        all.move_to(u64::MAX, &mut first);
+        found
+    }
+
+    // Collects the places of the stripes from `at` on, and takes one when all are locked.
+    fn collect_from<R: Wait>(
+        &self,
+        rt: &R,
+        at: usize,
+        own: usize,
+        all: &mut FreePlaces<K, B>,
+    ) -> Option<Place<K, B>> {
+        if at >= STRIPES {
+            return all.take();
+        }
+        let mut stripe = lock_soon(rt, &self.stripes[at]);
+        stripe.move_to(u64::MAX, all);
+        let found = self.collect_from(rt, at + 1, own, all);
+        if at == own {
+            all.move_to(BATCH, &mut stripe);
+        }
+        found
+    }
+}
