@@ -24,13 +24,13 @@ use std::sync::Wait;
 impl<B: EngineName, D: Device, C: Clock + Drop> Engine<B, D, C> {
     /// Puts a value into a field with notification (dbPutNotify): the records that are processed
     /// for it become part of the put with notification, which ends when the last of them is done:
-    /// the call by which that happens has it in [`Desk::ended`]. Its number, one more than that of
-    /// the last one, is in the reply. If the record awaits its device, the put waits for it.
+    /// the call by which that happens has it in [`Desk::ended`]. Its number, which no other one has,
+    /// is in the reply. If the record awaits its device, the put waits for it.
     ///
     /// # Errors
     ///
-    /// As [`Engine::put`], and [`IocError::QueueFull`] if 256 puts with notification are live or no
-    /// number is left.
+    /// As [`Engine::put`], and [`IocError::QueueFull`] if 256 puts with notification are live or
+    /// about to begin or no number is left.
     pub fn put_notify<R: Wait>(
         &self,
         rt: &R,

@@ -31,9 +31,9 @@ impl<K: RecordKind + Drop, B: EngineName<K>, D: Device> EngineCore<K, B, D> {
     /// [`IocError::Stopped`] if the engine was closed. [`IocError::NoRecord`] if there is no record
     /// with this number. [`IocError::NoField`] if the record has no such field. [`IocError::NoMod`]
     /// if the field can't be put. [`IocError::QueueFull`] if 256 puts with notification are live or
-    /// no number is left. [`IocError::JournalFull`] if the journal has no place left.
-    /// [`IocError::NoMemory`] if allocation fails. Nothing has changed then. Any other refusal is a
-    /// reply, which is added to the journal.
+    /// about to begin or no number is left. [`IocError::JournalFull`] if the journal has no place
+    /// left. [`IocError::NoMemory`] if allocation fails. Nothing has changed then, but the number
+    /// may be used up. Any other refusal is a reply, which is added to the journal.
     pub fn put_notify<R: Wait>(
         &self,
         rt: &R,
@@ -58,7 +58,6 @@ impl<K: RecordKind + Drop, B: EngineName<K>, D: Device> EngineCore<K, B, D> {
             return Err(IocError::Stopped);
         }
         let mut held = self.sets.lock_set(rt, number)?;
-        self.sets.raise_flag(number);
         let told = held.put_notify(
             rt, alloc, &self.book, &self.puts, desk, buffers, number, field, given, moment,
         );

@@ -156,15 +156,37 @@ static CANCEL: [Step; 3] = [
     Makes(Call::Live(1), Wanted::Says(Says::Live(false))),
 ];
 
+// The same with a put with notification, which ends with its answer.
+static HOLDS_PUT: [Step; 2] = [
+    Step::Ends(
+        Call::PutNotify(b"d.VAL", b"3"),
+        Wanted::Says(Says::Notify(1)),
+        &[1],
+    ),
+    Makes(Call::Get(b"d.VAL"), Wanted::Says(Says::Shown(b"7"))),
+];
+
+static OTHER_PUT: [Step; 5] = [
+    Makes(
+        Call::PutNotify(b"e.VAL", b"3"),
+        Wanted::Says(Says::Notify(2)),
+    ),
+    Makes(Call::Live(1), Wanted::Says(Says::Live(false))),
+    Makes(Call::Live(2), Wanted::Says(Says::Live(true))),
+    Makes(Call::Cancel(2), Wanted::Says(Says::Plain)),
+    Makes(Call::Live(2), Wanted::Says(Says::Live(false))),
+];
+
 fn flag(alloc: Global) -> Result<Arc<AtomicU64, Global>, AllocError> {
     Ok(Arc::new(alloc, AtomicU64::new(0))?)
 }
 
-// Processes a record whose device answers once calls on other sets are answered. Returns whether it
-// did, was called before those calls, and these had the expected replies.
+// Makes calls of a record whose device answers once calls on other sets are answered. Returns
+// whether it did, was called before those calls, and all had the expected replies.
 fn are_both_answered<R: Threads + Wait + Sync>(
     rt: &R,
     alloc: Global,
+    first: &[Step],
     others: &[Step],
     sets: usize,
 ) -> Result<bool, IocError> {
@@ -175,31 +197,37 @@ fn are_both_answered<R: Threads + Wait + Sync>(
     devices.push((DeviceName::cut(b"d"), device))?;
     devices.push((DeviceName::cut(b"e"), Sensor::Later))?;
     let work = Work::Beside {
-        first: &HOLDS,
+        first,
         others,
         asked: &asked,
         answered: &answered,
     };
     let ended = run_text(rt, alloc, HELD, devices, Limits::default(), work)?;
-    let steps = others.len().saturating_add(HOLDS.len());
+    let steps = others.len().saturating_add(first.len());
     Ok(result(ended, &[Sets(sets), Records(5), Devices(2)]) == (steps, true))
 }
 
 #[test]
 fn two_sets_at_once(rt: HostRuntime) -> Result<(), Fail> {
-    assert!(rt; are_both_answered(&rt, rt.alloc(), &REQUEST, 5)?);
+    assert!(rt; are_both_answered(&rt, rt.alloc(), &HOLDS, &REQUEST, 5)?);
     Ok(())
 }
 
 #[test]
 fn link_beside_work(rt: HostRuntime) -> Result<(), Fail> {
-    assert!(rt; are_both_answered(&rt, rt.alloc(), &LINK_CHANGE, 4)?);
+    assert!(rt; are_both_answered(&rt, rt.alloc(), &HOLDS, &LINK_CHANGE, 4)?);
     Ok(())
 }
 
 #[test]
 fn cancel_beside_work(rt: HostRuntime) -> Result<(), Fail> {
-    assert!(rt; are_both_answered(&rt, rt.alloc(), &CANCEL, 5)?);
+    assert!(rt; are_both_answered(&rt, rt.alloc(), &HOLDS, &CANCEL, 5)?);
+    Ok(())
+}
+
+#[test]
+fn puts_beside_each_other(rt: HostRuntime) -> Result<(), Fail> {
+    assert!(rt; are_both_answered(&rt, rt.alloc(), &HOLDS_PUT, &OTHER_PUT, 5)?);
     Ok(())
 }
 
@@ -258,20 +286,44 @@ fn steps_to_limit(alloc: Global) -> Result<Vec<Step>, AllocError> {
     Ok(steps)
 }
 
-// Returns whether these steps have the expected results.
-fn is_limited<R: Threads + Wait + Sync>(rt: &R, alloc: Global) -> Result<bool, IocError> {
+// Returns steps by which more puts with notification are refused than can be live, since the journal
+// has one place.
+fn steps_in_full_journal(alloc: Global) -> Result<Vec<Step>, AllocError> {
+    let put = Call::PutNotify(b"p.VAL", b"3");
+    let mut steps = Vec::new(alloc);
+    steps.push(Makes(Call::Process(b"p"), Wanted::Answered))?;
+    for _ in 0..=LIVE {
+        steps.push(Makes(put, Wanted::Fails(IocError::JournalFull)))?;
+    }
+    Ok(steps)
+}
+
+// Returns whether these steps on a record with an asynchronous device have the expected results.
+fn are_limited<R: Threads + Wait + Sync>(
+    rt: &R,
+    alloc: Global,
+    limits: Limits,
+    steps: &[Step],
+) -> Result<bool, IocError> {
     let text = b"record(longin,\"p\"){field(INP,\"@d\")}\n";
     let devices = later(alloc, &[b"d"])?;
-    let steps = steps_to_limit(alloc)?;
-    let work = Work::Steps(steps.as_slice());
-    let ended = run_text(rt, alloc, text, devices, Limits::default(), work)?;
+    let ended = run_text(rt, alloc, text, devices, limits, Work::Steps(steps))?;
     let wanted = [Sets(1), Records(1), Devices(1), AtEnd::Active(1)];
     Ok(result(ended, &wanted) == (steps.len(), true))
 }
 
 #[test]
 fn limit_of_live_puts(rt: HostRuntime) -> Result<(), Fail> {
-    assert!(rt; is_limited(&rt, rt.alloc())?);
+    let steps = steps_to_limit(rt.alloc())?;
+    assert!(rt; are_limited(&rt, rt.alloc(), Limits::default(), steps.as_slice())?);
+    Ok(())
+}
+
+#[test]
+fn refused_puts_keep_no_places(rt: HostRuntime) -> Result<(), Fail> {
+    let steps = steps_in_full_journal(rt.alloc())?;
+    let limits = Limits { journal: 1 };
+    assert!(rt; are_limited(&rt, rt.alloc(), limits, steps.as_slice())?);
     Ok(())
 }
 

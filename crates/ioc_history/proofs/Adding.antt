@@ -10,7 +10,7 @@ use Rattle.ioc_history.specs.KeyLaws.{has_right}
 use Rattle.ioc_history.specs.Legal.{IsLegal}
 use Rattle.ioc_history.specs.Account.{desk_view, journalled, calls, calls_by, Below, Rising, desk_key, MayBegin, IsAccount, Call}
 use Rattle.ioc_history.proofs.Calls.{calls-append, keyed_append, below_append, below_more, by-append, own_one, rising_snoc, below_on, calls_on}
-use Rattle.ioc_history.proofs.Numbers.{numbers_rise, puts_stay_keyed}
+use Rattle.ioc_history.proofs.Numbers.{numbers_differ, puts_stay_keyed}
 
 -- The call is of a desk that has seen a beginning of the list.
 
@@ -31,7 +31,7 @@ module _ {R : Type 0} (k : RecordRules R) (base : World R) (log seen : List Note
     legal = legal;
     rising = subst Rising (sym (calls-append log (made ∷ []))) (rising_snoc (calls log) (journalled d c done) account.rising was_below);
     keyed = keyed_append log (made ∷ []) account.keyed (has_right (desk_key d) owns own (subst (Has (desk_key d)) (sym is) (inl refl)), tt);
-    numbers = numbers_rise known log owned made on account.puts_keyed account.numbers begins;
+    numbers = numbers_differ known log owned made on account.puts_keyed account.numbers begins;
     puts_keyed = puts_stay_keyed known log owned made within account.puts_keyed begins;
   }
 

@@ -308,7 +308,7 @@ module _ {R : Type 0} (k : RecordRules R) (lawful : IsLawful k) (laws : EventLaw
       let rest = kept-on notes (done k m n).world (done-counted k laws m n counted) in
       record { has = λ r h. rest.has r (first.has r h); only = λ r h. first.only r (rest.only r h); count = rest.count ∙ first.count }
 
-  counted-on : (notes : List Note) (m : World R) → IsCounted k m → IsCounted k (map_of k m notes)
+  pub counted-on : (notes : List Note) (m : World R) → IsCounted k m → IsCounted k (map_of k m notes)
   counted-on [] m counted = counted
   counted-on (n ∷ notes) m counted = counted-on notes (done k m n).world (done-counted k laws m n counted)
 

@@ -1,6 +1,7 @@
 mod Adding
 mod Asking
 pub mod Basics
+mod Begun
 mod Calls
 mod Doing
 mod Endings

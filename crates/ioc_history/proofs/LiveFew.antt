@@ -139,7 +139,7 @@ module _ {R : Type 0} (k : RecordRules R) where
         let room = ltb-true (length m.live + 0) 256 (and_parts _ _ place).0 in
         omega (arith, room)
 
-    gone : (number : ℕ) → IsCounted k m → IsCounted k next → is_live number m.live ≡ false → (entry_of n).reply ≢ Notify-reply number → is_live number next.live ≡ false
+    pub gone : (number : ℕ) → IsCounted k m → IsCounted k next → is_live number m.live ≡ false → (entry_of n).reply ≢ Notify-reply number → is_live number next.live ≡ false
     gone number counted then isnt other =
         let over = laws.free m next number (entry_of n) [] done-replay counted (λ held. not_both ((laws.live m number counted).1 held) isnt)
         (λ e c. subst (λ (x : Entry). x.reply ≢ Notify-reply number) (one-there (entry_of n) e c) other) in

@@ -1,8 +1,9 @@
 -- The numbers under which puts with notification begin in a list.
-use Rattle.std.proofs.Common.{◌≡◌, ℕ, zero, suc, ◌+◌, ◌<◌, ◌≤◌, List, [], ◌∷◌, ◌++◌, Option, Some, None, refl, sym, ap, ◌∙◌, subst, arith, append-nil}
+use Rattle.std.proofs.Common.{◌≡◌, ℕ, zero, suc, ◌≢◌, ◌+◌, ◌<◌, ◌≤◌, List, [], ◌∷◌, ◌++◌, Option, Some, None, refl, sym, ap, ◌∙◌, subst, arith, append-nil}
+use Rattle.std.proofs.lemmas.List.{get_or_default}
 use Rattle.std.proofs.lemmas.List.Elements.{All-append}
 use Rattle.std.proofs.lemmas.List.Quantifiers.{all_pairs_push}
-use Rattle.std.specs.List.{All, AllPairs, cons_option}
+use Rattle.std.specs.List.{All, AllPairs, Contains, cons_option}
 use Rattle.std.specs.Option.{IfSome}
 use Rattle.ioc_events.specs.declared.event.Event.{Event}
 use Rattle.ioc_history.specs.declared.entry.JournalEntry.{JournalEntry}
@@ -62,29 +63,29 @@ numbers_then seen log longer owned n go is has keyed =
 
 -- Lists with one more call.
 
-abbrev pub Rise : List ℕ → Type 0
-Rise xs = AllPairs (λ earlier later. earlier < later) xs
+abbrev pub Differ : List ℕ → Type 0
+Differ xs = AllPairs (λ earlier later. earlier ≢ later) xs
 
-rise_more : (o : Option ℕ) (xs : List ℕ) → Rise xs → IfSome o (λ number. All (λ earlier. earlier < number) xs) → Rise (xs ++ cons_option o [])
-rise_more None xs h g = subst Rise (sym (append-nil xs)) h
-rise_more (Some n) xs h g = all_pairs_push (λ earlier later. earlier < later) xs n h (λ k d lt. g k d lt)
+differ_more : (o : Option ℕ) (xs : List ℕ) → Differ xs → IfSome o (λ number. Contains xs number → ⊥) → Differ (xs ++ cons_option o [])
+differ_more None xs h g = subst Differ (sym (append-nil xs)) h
+differ_more (Some n) xs h g = all_pairs_push (λ earlier later. earlier ≢ later) xs n h (λ k d lt same. g (k, lt, get_or_default xs k n d lt ∙ same))
 
--- If the caller that begins a put with notification owns their key, the number is higher than all
--- those of the list.
-begins_above : (o : Option ℕ) (seen log : List Note) (owned : List Key) → Continues seen owned log → PutsAreKeyed log
-    → IfSome o (λ number. Has notifications_key owned × All (λ earlier. earlier < number) (numbers_given (calls seen))) → IfSome o (λ number. All (λ earlier. earlier < number) (numbers_given (calls log)))
-begins_above None seen log owned go keyed h = tt
-begins_above (Some n) seen log owned go keyed h = subst (λ l. All (λ earlier. earlier < n) l) (sym (numbers_on seen log owned go h.0 keyed)) h.1
+-- If the caller that begins a put with notification owns their key, the number is none of those of
+-- the list.
+begins_anew : (o : Option ℕ) (seen log : List Note) (owned : List Key) → Continues seen owned log → PutsAreKeyed log
+    → IfSome o (λ number. Has notifications_key owned × (Contains (numbers_given (calls seen)) number → ⊥)) → IfSome o (λ number. Contains (numbers_given (calls log)) number → ⊥)
+begins_anew None seen log owned go keyed h = tt
+begins_anew (Some n) seen log owned go keyed h = subst (λ (l : List ℕ). Contains l n → ⊥) (sym (numbers_on seen log owned go h.0 keyed)) h.1
 
 keyed_by : (o : Option ℕ) (seen : List Note) (owned keys : List Key) → ((key : Key) → Has key owned → Has key keys)
-    → IfSome o (λ number. Has notifications_key owned × All (λ earlier. earlier < number) (numbers_given (calls seen))) → IfSome o (λ _. Has notifications_key keys)
+    → IfSome o (λ number. Has notifications_key owned × (Contains (numbers_given (calls seen)) number → ⊥)) → IfSome o (λ _. Has notifications_key keys)
 keyed_by None seen owned keys within h = tt
 keyed_by (Some n) seen owned keys within h = within notifications_key h.0
 
-pub numbers_rise : (seen log : List Note) (owned : List Key) (n : Note) → Continues seen owned log → PutsAreKeyed log → Rise (numbers_given (calls log)) → MayBegin seen owned n.entry.entry.event → Rise (numbers_given (calls (log ++ n ∷ [])))
-numbers_rise seen log owned n go keyed rise begins =
-    subst Rise (sym (ap numbers_given (calls-append log (n ∷ [])) ∙ numbers-append (calls log) (n.entry ∷ [])))
-    (rise_more (number_given n.entry.entry.event) (numbers_given (calls log)) rise (begins_above (number_given n.entry.entry.event) seen log owned go keyed begins))
+pub numbers_differ : (seen log : List Note) (owned : List Key) (n : Note) → Continues seen owned log → PutsAreKeyed log → Differ (numbers_given (calls log)) → MayBegin seen owned n.entry.entry.event → Differ (numbers_given (calls (log ++ n ∷ [])))
+numbers_differ seen log owned n go keyed differ begins =
+    subst Differ (sym (ap numbers_given (calls-append log (n ∷ [])) ∙ numbers-append (calls log) (n.entry ∷ [])))
+    (differ_more (number_given n.entry.entry.event) (numbers_given (calls log)) differ (begins_anew (number_given n.entry.entry.event) seen log owned go keyed begins))
 
 pub puts_stay_keyed : (seen log : List Note) (owned : List Key) (n : Note) → ((key : Key) → Has key owned → Has key n.keys) → PutsAreKeyed log → MayBegin seen owned n.entry.entry.event → PutsAreKeyed (log ++ n ∷ [])
 puts_stay_keyed seen log owned n within keyed begins = puts_append log (n ∷ []) keyed (keyed_by (number_given n.entry.entry.event) seen owned n.keys within begins, tt)
@@ -92,7 +93,7 @@ puts_stay_keyed seen log owned n within keyed begins = puts_append log (n ∷ []
 -- Events that begin no put with notification, and what is known of the last number.
 
 pub begins_none : (seen : List Note) (owned : List Key) (event : Event) → number_given event ≡ None → MayBegin seen owned event
-begins_none seen owned event none = subst (λ (o : Option ℕ). IfSome o (λ number. Has notifications_key owned × All (λ earlier. earlier < number) (numbers_given (calls seen)))) (sym none) tt
+begins_none seen owned event none = subst (λ (o : Option ℕ). IfSome o (λ number. Has notifications_key owned × (Contains (numbers_given (calls seen)) number → ⊥))) (sym none) tt
 
 pub numbers_same : (seen log longer : List Note) (owned : List Key) (n : Note) → Continues seen owned log → longer ≡ log ++ n ∷ [] → Has notifications_key owned → PutsAreKeyed longer → number_given n.entry.entry.event ≡ None
     → numbers_given (calls longer) ≡ numbers_given (calls seen)
@@ -113,6 +114,9 @@ numbers_below seen log longer owned n last go is has keyed below given =
 pub still_below : (xs : List ℕ) (last later : ℕ) → last ≤ later → All (λ number. number ≤ last) xs → All (λ number. number ≤ later) xs
 still_below xs last later le h k d lt = let was = h k d lt in omega (arith, was, le)
 
--- The next number is higher than all before.
-pub next_above : (xs : List ℕ) (last next : ℕ) → next ≡ last + 1 → All (λ number. number ≤ last) xs → All (λ number. number < next) xs
-next_above xs last next is h k d lt = let was = h k d lt in omega (arith, was, is)
+-- The number after the last one is none of those before.
+pub next_is_new : (xs : List ℕ) (last next : ℕ) → next ≡ last + 1 → All (λ number. number ≤ last) xs → Contains xs next → ⊥
+next_is_new xs last next is h there =
+    let was = h there.0 next there.1 in
+    let here = there.2 in
+    omega (arith, was, is, here)

@@ -1,5 +1,5 @@
 -- Desks, and the calls that they made, in one list of all calls. The journal is this project's own.
-use Rattle.std.specs.Prelude.{◌≡◌, ◌≢◌, ℕ, ◌+◌, ◌<◌, List, [], ◌∷◌, ◌++◌, if◌then◌else◌, nat_eq, length, Option, Some, None, All, slice_get}
+use Rattle.std.specs.Prelude.{◌≡◌, ◌≢◌, ℕ, ◌+◌, ◌<◌, List, [], ◌∷◌, ◌++◌, if◌then◌else◌, nat_eq, length, Option, Some, None, Contains, slice_get}
 use Rattle.std.specs.List.{AllPairs, cons_option}
 use Rattle.std.specs.Option.{IfSome}
 use Rattle.atomic_table.specs.declared.shared.Seat.{Seat}
@@ -87,10 +87,10 @@ PutsAreKeyed [] = Unit {0}
 PutsAreKeyed (n ∷ ns) = IfSome (number_given n.entry.entry.event) (λ _. Has notifications_key n.keys) × PutsAreKeyed ns
 
 -- Holds if a caller that has seen a list and owns keys may make this event: it begins no put with
--- notification, or the caller owns the key of these and the number is higher than all those of that
--- list.
+-- notification, or the caller owns the key of these and no put with notification of that list began
+-- under the number.
 abbrev pub MayBegin : List Note → List Key → Event → Type 0
-MayBegin seen owned event = IfSome (number_given event) (λ number. Has notifications_key owned × All (λ earlier. earlier < number) (numbers_given (calls seen)))
+MayBegin seen owned event = IfSome (number_given event) (λ number. Has notifications_key owned × (Contains (numbers_given (calls seen)) number → ⊥))
 
 -- Holds if these are keys of records.
 abbrev pub AreRecords : List Key → Type 0
@@ -115,13 +115,13 @@ pub record IsEntryOf (receipt all : List Note) (entry : JournalEntry) : Type 0 w
 
 module _ {R : Type 0} (k : RecordRules R) (base : World R) where
   -- Holds if the calls are a run of an engine with all records in one map, the numbers of each
-  -- desk's calls rise, and the numbers of the puts with notification rise. Each note has its desk's
-  -- key, and the key of the puts with notification if it begins one.
+  -- desk's calls rise, and no two puts with notification have the same number. Each note has its
+  -- desk's key, and the key of the puts with notification if it begins one.
   pub record IsAccount (notes : List Note) : Type 0 where
     pub legal : IsLegal k base notes
     pub rising : Rising (calls notes)
     pub keyed : Keyed notes
-    pub numbers : AllPairs (λ earlier later. earlier < later) (numbers_given (calls notes))
+    pub numbers : AllPairs (λ earlier later. earlier ≢ later) (numbers_given (calls notes))
     pub puts_keyed : PutsAreKeyed notes
 
   -- A call of a desk: its list continues with calls of others and ends with this one, the only one

@@ -1,8 +1,8 @@
 -- The laws of held records: what stays, what an event does, how records are parted and joined, and
 -- where a legal list leads. Application Developer's Guide, "Database Locking, Scanning, and
 -- Processing".
-use Rattle.std.specs.Prelude.{◌≡◌, ◌↔◌, true, ℕ, ◌+◌, length, List, [], ◌∷◌, ◌++◌, ◌<◌, ◌≤◌, ◌^◌, Contains}
-use Rattle.std.specs.Prelude.{None as Nothing_}
+use Rattle.std.specs.Prelude.{◌≡◌, ◌≢◌, ◌↔◌, true, false, ℕ, ◌+◌, length, List, [], ◌∷◌, ◌++◌, ◌<◌, ◌≤◌, ◌^◌, Contains}
+use Rattle.std.specs.Prelude.{Some, None as Nothing_}
 use Rattle.std.specs.FinMap.{len}
 use Rattle.ioc_fields.specs.declared.field_no.FieldNo.{FieldNo}
 use Rattle.ioc_dbcommon.specs.declared.link_field.LinkField.{LinkField}
@@ -21,7 +21,8 @@ use Rattle.ioc_events.specs.Local.{AskAlike}
 use Rattle.ioc_events.specs.Starting.{NoneReady}
 use Rattle.ioc_events.specs.Step.{stepped, names}
 use Rattle.ioc_events.specs.StepRules.{Replay, KeepsRecords}
-use Rattle.ioc_history.specs.Legal.{IsLegal, IsSound, AreLiveAlike, notifications_key, entries_of, map_of}
+use Rattle.ioc_history.specs.Legal.{IsLegal, IsSound, AreLiveAlike, notifications_key, entry_of, entries_of, map_of}
+use Rattle.ioc_history.specs.Account.{number_given}
 use Rattle.ioc_history.specs.Covering.{Holds, AreSpared, IsDone, IsOf, Cover, AreHalves, WaitsWithin, is_question, question_note}
 use Rattle.ioc_history.specs.LinkChange.{TakesLink, link_note}
 
@@ -84,6 +85,12 @@ module _ {R : Type 0} (k : RecordRules R) where
   PlaceForOneMore = (m : World R) (numbers : List ℕ) (number moment : ℕ) → IsSound k m → ((n : ℕ) → is_live n m.live ≡ true → Contains numbers n)
       → length numbers < 256 → (Contains numbers number → ⊥)
       → (has_place (begun_at moment m) number ≡ true) × ((v : World R) → Holds k m v → IsCounted k v → has_place (begun_at moment v) number ≡ true)
+
+  -- After a legal note, the live puts with notification are among those before it and the one that
+  -- its event begins.
+  abbrev pub OneMayBegin : Type 0
+  OneMayBegin = (base : World R) (log : List Note) (n : Note) (number : ℕ) → IsSound k base → IsLegal k base (log ++ n ∷ []) → number_given (entry_of n).event ≢ Some number
+      → is_live number (map_of k base log).live ≡ false → is_live number (map_of k base (log ++ n ∷ [])).live ≡ false
 
   -- A held part stays held when a put with notification is canceled both in it and in the world of
   -- all.

@@ -1,7 +1,7 @@
 //! Laws of held records. The contract of each function is a law; its body only calls the functions
 //! whose laws it rests on.
 ghost use Rattle.ioc_history.specs.EventLaws.{EventLaws};
-ghost use Rattle.ioc_history.specs.Laws.{Lasts, LiveLasts, OneMore, HoldersMove, HoldersAreFew, HeldAreFewer, EndsOver, NobodyHas, PlaceForOneMore, CancelIsHeld, BeginningIsHeld, Asks, HeldAlike, Falls, Gathers, Opens, HoldsAll, Parts, Joins, LinkParts, LinkJoins, LinkMoves, RescansApart, BeginsSound, StaysSound, Replays};
+ghost use Rattle.ioc_history.specs.Laws.{Lasts, LiveLasts, OneMore, HoldersMove, HoldersAreFew, HeldAreFewer, EndsOver, NobodyHas, PlaceForOneMore, OneMayBegin, CancelIsHeld, BeginningIsHeld, Asks, HeldAlike, Falls, Gathers, Opens, HoldsAll, Parts, Joins, LinkParts, LinkJoins, LinkMoves, RescansApart, BeginsSound, StaysSound, Replays};
 
 use ioc_events::event_rules::{events_keep_records, rules_are_steps};
 use ioc_events::local::{counted_waits_keep_apart, events_are_local};
@@ -61,6 +61,14 @@ pub fn events_are_held<K: RecordKind>()
 pub fn one_more_has_a_place<K: RecordKind>()
     ensures { PlaceForOneMore K.rules }
 {}
+
+/// After an event, the live puts with notification are among those before it and the one that it
+/// begins.
+pub fn one_may_begin<K: RecordKind>()
+    ensures { OneMayBegin K.rules }
+{
+    events_have_laws::<K>();
+}
 
 /// A put with notification has ended among all records exactly if it has ended among the held ones
 /// and no other record is part of it: its count among all is zero then.

@@ -1,7 +1,7 @@
 -- What the table of the puts with notification knows of a longer list, and after an event that was
 -- counted.
 use Rattle.std.proofs.Common.{◌≡◌, ℕ, ◌+◌, ◌<◌, ◌≤◌, ◌^◌, List, [], ◌∷◌, ◌++◌, sym, ◌∙◌, subst, inl, refl, arith}
-use Rattle.std.specs.Prelude.{All}
+use Rattle.std.specs.Prelude.{All, Contains}
 use Rattle.ioc_notify.specs.declared.live_numbers.Live.{Live}
 use Rattle.ioc_notify.specs.Living.{holders_of}
 use Rattle.ioc_notify.specs.Counts.{IsTable, holders_in}
@@ -12,10 +12,10 @@ use Rattle.ioc_history.specs.Line.{Continues}
 use Rattle.ioc_history.specs.Legal.{IsLegal, map_of, notifications_key}
 use Rattle.ioc_history.specs.Laws.{LiveLasts}
 use Rattle.ioc_history.proofs.Numbers.{numbers_on}
-use Rattle.ioc_journaled_set.specs.Puts.{puts_view, AreCounted, AreMoved, IsUpToDate, NoneIsAbove}
-use Rattle.ioc_history.specs.Account.{puts_key, calls, numbers_given, PutsAreKeyed}
+use Rattle.ioc_journaled_set.specs.Puts.{puts_view, AreCounted, AreMoved, IsUpToDate, NoneIsAbove, AreTaken}
+use Rattle.ioc_history.specs.Account.{puts_key, PutsAreKeyed}
 
-keyed_before : (xs ys : List Note) → PutsAreKeyed (xs ++ ys) → PutsAreKeyed xs
+pub keyed_before : (xs ys : List Note) → PutsAreKeyed (xs ++ ys) → PutsAreKeyed xs
 keyed_before [] ys keyed = tt
 keyed_before (x ∷ xs) ys keyed = (keyed.0, keyed_before xs ys keyed.1)
 
@@ -29,13 +29,16 @@ module _ {R : Type 0} (k : RecordRules R) where
       (lasts base seen go.0 (go.2 notifications_key (inl refl)) (subst (λ (l : List Note). IsLegal k base l) go.1 legal) n)
 
   -- The table tells of all calls before the last one.
-  pub up_to_date_on : LiveLasts k → (base : World R) (seen log longer : List Note) (n : Note) (lines : List Live) (last : ℕ) → IsTable lines → AreCounted k base lines seen → NoneIsAbove last seen
-      → Continues seen puts_key log → IsLegal k base log → longer ≡ log ++ n ∷ [] → PutsAreKeyed longer → IsUpToDate k base (puts_view lines last log)
-  up_to_date_on lasts base seen log longer n lines last table counted below go legal ends keyed = record {
-    table = table;
-    counted = counted_on lasts base seen log lines counted go legal;
-    below = subst (λ (xs : List ℕ). All (λ number. number ≤ last) xs) (sym (numbers_on seen log puts_key go (inl refl) (keyed_before log (n ∷ []) (subst (λ (l : List Note). PutsAreKeyed l) ends keyed)))) below;
-  }
+  pub up_to_date_on : LiveLasts k → (base : World R) (seen log longer : List Note) (n : Note) (lines : List Live) (taken : List ℕ) (last : ℕ) → IsTable lines → AreCounted k base lines seen → NoneIsAbove last seen → AreTaken lines taken last seen
+      → Continues seen puts_key log → IsLegal k base log → longer ≡ log ++ n ∷ [] → PutsAreKeyed longer → IsUpToDate k base (puts_view lines taken last log)
+  up_to_date_on lasts base seen log longer n lines taken last table counted below were go legal ends keyed =
+      let same = numbers_on seen log puts_key go (inl refl) (keyed_before log (n ∷ []) (subst (λ (l : List Note). PutsAreKeyed l) ends keyed)) in
+      record {
+        table = table;
+        counted = counted_on lasts base seen log lines counted go legal;
+        taken = λ m there. let t = were m there in (t.0, (λ begun. t.1 (subst (λ (xs : List ℕ). Contains xs m) same begun)), t.2);
+        below = subst (λ (xs : List ℕ). All (λ number. number ≤ last) xs) (sym same) below;
+      }
 
   -- The event of a set is added: the counts of the set are at most those of the lines, the sums
   -- fit, and the counts afterwards are right.

@@ -9,7 +9,8 @@ mod GiveUpAmong
 mod GiveUpEvents
 mod GiveUpGiving
 mod GivingUp
-pub mod Keys
+pub mod Kept
+mod Keys
 mod KeysOfSets
 mod Leading
 mod LedSets
@@ -17,9 +18,11 @@ mod Lending
 mod Nothing
 mod PartedSets
 mod Parting
+mod Placed
 mod Places
 mod Refusing
 mod Serving
 mod SetsTogether
+mod Taken
 mod TakingOver
 mod Telling

@@ -61,6 +61,7 @@ module _ {R D : Type 0} (k : RecordRules R) (base : World R) (moment number : �
     pub seen : (i : ℕ) (d : HeldView R D) → i < length after → (slice_index_or after i d).seen ≡ desk_then.seen
     pub puts_seen : puts_then.seen ≡ desk_then.seen
     pub last : puts_then.last ≡ puts.last
+    pub taken : puts_then.taken ≡ puts.taken
     pub nobody : holders_in number puts_then.live ≡ 0
     pub others : (other : ℕ) → other ≢ number → holders_in other puts_then.live ≡ holders_in other puts.live
     pub none_ended : (map_of k base desk_then.seen).ended ≡ []

@@ -101,9 +101,10 @@ module _ {R D : Type 0} (k : RecordRules R) (gives : D → Ask → ℕ → Answe
     pub call : Call k base desk does.entry desk_then
     pub seen : held_then.seen ≡ desk_then.seen
 
-  -- A put with notification of a desk begins on a set, under the number after the last one. `puts`
-  -- is the table of all sets after all calls before this one: fewer than 256 are live in it, and
-  -- none has this number.
+  -- A put with notification of a desk begins on a set, under a number that was taken for it. `puts`
+  -- is the table of all sets after all calls before this one, without this number: fewer than 256
+  -- are live in it or have a number taken for them, none that is live has this number, and none has
+  -- begun under it.
   pub record Begins (held : HeldView R D) (desk : DeskView) (at_moment target : ℕ) (field : FieldNo) (given : Input) (reply : Reply) (held_then : HeldView R D) (desk_then : DeskView) (come_to : World R) : Type 0 where
     pub number : ℕ
     pub puts : PutsView

@@ -6,6 +6,7 @@ pub mod Holding
 pub mod LinkChanges
 pub mod LinkLaws
 pub mod Passes
+pub mod PutPlaces
 pub mod Puts
 pub mod PutsViewCode
 pub mod Sets

@@ -21,28 +21,46 @@ use Rattle.ioc_history.specs.declared.entry.Note.{Note}
 use Rattle.ioc_history.specs.declared.cell.View.{View}
 use Rattle.ioc_history.specs.Line.{holder}
 use Rattle.ioc_history.specs.Legal.{map_of}
+use Rattle.ioc_journaled_set.specs.PutPlaces.{Places}
 
--- The live puts with notification, each with its count, the last number assigned, and the beginning
--- of the journal's list that their pass has seen.
+-- The live puts with notification, each with its count, the numbers that were taken for calls whose
+-- puts with notification haven't begun yet, the last number taken, and the beginning of the
+-- journal's list that their pass has seen.
 pub record PutsView : Type 0 where
   pub live : List Live
+  pub taken : List ℕ
   pub last : ℕ
   pub seen : List Note
 
-abbrev pub puts_view : List Live → ℕ → List Note → PutsView
-puts_view live last seen = record { live = live; last = last; seen = seen }
+abbrev pub puts_view : List Live → List ℕ → ℕ → List Note → PutsView
+puts_view live taken last seen = record { live = live; taken = taken; last = last; seen = seen }
 
--- Holds if a put with notification may begin under the number after the last: fewer than 256 are
--- live, and none of them has this number.
-pub record CanBegin (p : PutsView) (number : ℕ) : Type 0 where
+-- Holds if the number after the last one may be taken: fewer than 256 puts with notification are
+-- live or have a number taken for them, and none that is live has this number.
+pub record MayTake (p : PutsView) (number : ℕ) : Type 0 where
   pub after : number ≡ p.last + 1
-  pub few : length p.live < 256
+  pub few : length p.live + length p.taken < 256
   pub free : is_live number p.live ≡ false
 
--- Holds if no put with notification may begin: 256 are live, no number is left, or a live one has
--- the next number.
-abbrev pub NoneCanBegin : PutsView → Type 0
-NoneCanBegin p = (256 ≤ length p.live) ⊎ ((p.last ≡ 2 ^ 64 - 1) ⊎ (is_live (p.last + 1) p.live ≡ true))
+-- Holds if no number may be taken: 256 puts with notification are live or have a number taken for
+-- them, no number is left, or a live one has the next number.
+abbrev pub NoneMayTake : PutsView → Type 0
+NoneMayTake p = (256 ≤ length p.live + length p.taken) ⊎ ((p.last ≡ 2 ^ 64 - 1) ⊎ (is_live (p.last + 1) p.live ≡ true))
+
+-- Holds if a put with notification may begin under a number that was taken for it: with the others,
+-- fewer than 256 are live or have a number taken for them, none that is live has this number, none
+-- began under it, and it isn't taken for another one.
+pub record CanBegin (p : PutsView) (number : ℕ) : Type 0 where
+  pub within : number ≤ p.last
+  pub few : length p.live + length p.taken < 256
+  pub free : is_live number p.live ≡ false
+  pub new : Contains (numbers_given (calls p.seen)) number → ⊥
+  pub own : Contains p.taken number → ⊥
+
+-- Holds if each of these numbers is at most the last number taken, none began under it, and none
+-- that is live has it.
+abbrev pub AreTaken : List Live → (taken : List ℕ) (last : ℕ) → List Note → Type 0
+AreTaken live taken last seen = (number : ℕ) → Contains taken number → (number ≤ last) × (Contains (numbers_given (calls seen)) number → ⊥) × (is_live number live ≡ false)
 
 -- Holds if no put with notification began under a number above this one.
 abbrev pub NoneIsAbove : ℕ → List Note → Type 0
@@ -54,18 +72,19 @@ module _ {R : Type 0} (k : RecordRules R) (base : World R) where
   AreCounted live seen = (n : ℕ) → holders_in n live ≡ holders_of n (map_of k base seen).live
 
   -- What is true of the table whenever its lock is free: its lines are the live puts with
-  -- notification of the world of all records, each with its count there, and none began under a
-  -- number above the last.
+  -- notification of the world of all records, each with its count there, none began under a number
+  -- above the last, and none has begun for which a number is taken.
   pub record IsUpToDate (p : PutsView) : Type 0 where
     pub table : IsTable p.live
     pub counted : AreCounted p.live p.seen
     pub below : NoneIsAbove p.last p.seen
+    pub taken : AreTaken p.live p.taken p.last p.seen
 
   -- Holds if no put with notification may begin by what such a table has.
   pub record NoneMayBegin : Type 0 where
     pub puts : PutsView
     pub up_to_date : IsUpToDate puts
-    pub none : NoneCanBegin puts
+    pub none : NoneMayTake puts
 
   -- Holds if these are the puts with notification that have ended by the last of these calls, among
   -- all records: those that ended on its set and that nothing in any set is part of, in the order
@@ -75,13 +94,17 @@ module _ {R : Type 0} (k : RecordRules R) (base : World R) where
     pub in_order : numbers ≡ filter (λ n. not (is_live n (map_of k base seen).live)) on_set
 
   -- The invariant of the table: the pass owns the key of the puts with notification, the table has
-  -- the counts of all, none began under a number above the last, and there is room for the lines of
-  -- a set.
-  pub record AreKept (table : TableId) (pass : Pass) (t : Table) (last : ℕ) : Type 0 where
+  -- the counts of all, none began under a number above the last, none has begun for which a number
+  -- is taken, each that is live has a place and each that has one has begun, and there is room for
+  -- the lines of a set.
+  pub record AreKept (table : TableId) (pass : Pass) (t : Table) (p : Places) (last : ℕ) : Type 0 where
     pub same : pass.table_id ≡ table
     pub holds : cell_view {V = View} pass ≡ holder (cell_view {V = View} pass).seen puts_key
     pub counted : AreCounted t.live (cell_view {V = View} pass).seen
     pub below : NoneIsAbove last (cell_view {V = View} pass).seen
+    pub taken : AreTaken t.live p.taken last (cell_view {V = View} pass).seen
+    pub placed : (n : ℕ) → is_live n t.live ≡ true → Contains p.begun n
+    pub begun : (n : ℕ) → Contains p.begun n → Contains (numbers_given (calls (cell_view {V = View} pass).seen)) n
     pub few : length t.live ≤ 256
     pub room : 512 ≤ t.room
 
@@ -105,7 +128,7 @@ module _ {R : Type 0} (k : RecordRules R) (base : World R) (puts : PutsView) (de
   pub record WasAsked : Type 0 where
     pub answer : reply ≡ Live-reply (is_live number puts.live)
     pub call : Call k base desk (told_at moment (IsLive number) reply) desk_then
-    pub kept : puts_then ≡ puts_view puts.live puts.last desk_then.seen
+    pub kept : puts_then ≡ puts_view puts.live puts.taken puts.last desk_then.seen
 
   -- A put with notification isn't canceled because it isn't live. The refusal is the last call of
   -- that list, and nothing else has changed.
@@ -113,4 +136,4 @@ module _ {R : Type 0} (k : RecordRules R) (base : World R) (puts : PutsView) (de
     pub none : is_live number puts.live ≡ false
     pub answer : reply ≡ Refused Stale
     pub call : Call k base desk (told_at moment (Cancel number) reply) desk_then
-    pub kept : puts_then ≡ puts_view puts.live puts.last desk_then.seen
+    pub kept : puts_then ≡ puts_view puts.live puts.taken puts.last desk_then.seen

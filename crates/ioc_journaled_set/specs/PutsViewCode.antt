@@ -9,7 +9,7 @@ use Rattle.ioc_journaled_set.specs.Puts.{PutsView, puts_view}
 
 abbrev pub puts_code : Coded PutsView
 puts_code =
-    code_by (List Live × (ℕ × List Note)) (coded× (coded_list live_row.the_row.coded) (coded× coded_ℕ (coded_list note_row.the_row.coded)))
-    (λ p. (p.live, (p.last, p.seen)))
-    (λ p. puts_view p.0 p.1.0 p.1.1)
+    code_by (List Live × (List ℕ × (ℕ × List Note))) (coded× (coded_list live_row.the_row.coded) (coded× (coded_list coded_ℕ) (coded× coded_ℕ (coded_list note_row.the_row.coded))))
+    (λ p. (p.live, (p.taken, (p.last, p.seen))))
+    (λ p. puts_view p.0 p.1.0 p.1.1.0 p.1.1.1)
     (λ _. refl)

@@ -42,7 +42,7 @@ impl<K: RecordKind, B: EngineName<K>> SharedNotifications<K, B> {
             → AreLiveAlike (map_of K.rules B.base log) (map_of K.rules B.base longer) }
         ensures call { Call K.rules B.base desk.old entry desk.new }
         ensures receipt { result ≡ desk.new.seen }
-        ensures kept { self.new ≡ puts_view self.old.live self.old.last desk.new.seen }
+        ensures kept { self.new ≡ puts_view self.old.live self.old.taken self.old.last desk.new.seen }
     {
         live_lasts::<K>();
         book.append(rt, place, &mut self.pass, desk, entry)

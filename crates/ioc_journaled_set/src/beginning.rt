@@ -7,11 +7,11 @@ ghost use Rattle.ioc_set_store.specs.SetStore.{world_of};
 ghost use Rattle.ioc_set.specs.SetState.{now_of};
 ghost use Rattle.ioc_set.specs.NoCalls.{no_call};
 ghost use Rattle.ioc_journaled_set.specs.Holding.{numbers_of, Begins, IsNoCall};
-ghost use Rattle.ioc_journaled_set.specs.Puts.{CanBegin, NoneMayBegin, HaveEnded};
+ghost use Rattle.ioc_journaled_set.specs.Puts.{NoneMayBegin, HaveEnded};
 
 use crate::journaled_set::JournaledSet;
 use crate::running::{Ran, run_counted};
-use crate::shared_notifications::{SharedNotifications, keep_beside};
+use crate::shared_notifications::{SharedNotifications, keep_beside, lock_taken, take_number};
 use ioc_device::Device;
 use ioc_events::event_rules::{events_keep_records, rules_are_steps};
 use ioc_events::{Event, Reply};
@@ -31,13 +31,13 @@ use std::alloc::Global;
 use std::sync::{Mutex, Wait};
 
 impl<K: RecordKind + Drop, B: EngineName<K>, D: Device> JournaledSet<K, B, D> {
-    // Makes a put with notification on the set, under a number that may begin.
+    // Makes a put with notification on the set, under a number that was taken for it.
     fn begin_counted<R: Wait>(
         &mut self,
         rt: &R,
         alloc: Global,
         book: &SharedJournal<K, B>,
-        all: &mut SharedNotifications<K, B>,
+        puts: &Mutex<SharedNotifications<K, B>>,
         desk: &mut Desk<K, B>,
         buffers: &mut EventBuffers<K, D>,
         notification: NotifyId,
@@ -48,15 +48,13 @@ impl<K: RecordKind + Drop, B: EngineName<K>, D: Device> JournaledSet<K, B, D> {
     ) -> Result<(Reply, Receipt<K, B>), IocError>
         requires there { Contains (numbers_of self.old) target }
         requires is_call { no_call K.rules (now_of self.old.set) (Notify target notification field given) ≡ None }
-        requires can { CanBegin all.old notification }
         ensures begins { IfOk result (λ x. Begins K.rules D.gives B.base self.old desk.old moment target field given x.0 self.new
             desk.new (world_of buffers.new.store)) }
         ensures receipt { IfOk result (λ x. x.1 ≡ desk.new.seen) }
-        ensures last { OnOk result (all.new.last ≡ notification) }
         ensures ended { OnOk result (HaveEnded K.rules B.base (world_of buffers.new.store).ended desk.new.seen
             buffers.new.ended_everywhere.items) }
         ensures refused { IfErr result IsNoPlace }
-        ensures err { OnErr result ((self.new ≡ self.old) × (desk.new ≡ desk.old) × (all.new ≡ all.old)) }
+        ensures err { OnErr result ((self.new ≡ self.old) × (desk.new ≡ desk.old)) }
     {
         rules_are_steps::<K>();
         events_keep_records::<K>();
@@ -70,7 +68,6 @@ impl<K: RecordKind + Drop, B: EngineName<K>, D: Device> JournaledSet<K, B, D> {
         those_ended_are_over::<K>();
         lines_tell_holders();
         self.set.is_sound();
-        all.is_counted();
         let event = Event::Notify(target, notification, field, given);
         let ran = run_counted(
             rt,
@@ -85,6 +82,9 @@ impl<K: RecordKind + Drop, B: EngineName<K>, D: Device> JournaledSet<K, B, D> {
         let Some(mut pass) = self.pass.take() else {
             unreachable!();
         };
+        let mut guard = lock_taken(rt, puts, notification);
+        let all = &mut *guard;
+        all.is_counted();
         let Ran {
             place,
             before,
@@ -92,17 +92,7 @@ impl<K: RecordKind + Drop, B: EngineName<K>, D: Device> JournaledSet<K, B, D> {
             entry,
         } = ran;
         let receipt = keep_beside(
-            rt,
-            book,
-            place,
-            &mut pass,
-            all,
-            desk,
-            buffers,
-            entry,
-            &before,
-            &self.set,
-            notification.number(),
+            rt, book, place, &mut pass, all, desk, buffers, entry, &before, &self.set,
         );
         self.pass = Some(pass);
         Ok((reply, receipt))
@@ -110,16 +100,16 @@ impl<K: RecordKind + Drop, B: EngineName<K>, D: Device> JournaledSet<K, B, D> {
 
     /// Puts a value into a field as [`JournaledSet::put`] does, with a notification, and adds the
     /// call to the journal. The put with notification ends when all that it has caused is done. Its
-    /// number is in the reply and is one more than the last number assigned. No other put with
-    /// notification begins during the call. [`EventBuffers::ended`] returns those that end by it.
+    /// number is in the reply, and no other has it. The table of all puts with notification isn't
+    /// locked while the put is done. [`EventBuffers::ended`] returns those that end by it.
     ///
     /// # Errors
     ///
     /// [`IocError::NoField`] if the record has no such field, [`IocError::NoMod`] if the field
-    /// can't be put, [`IocError::QueueFull`] if 256 puts with notification are live or no number is
-    /// left, [`IocError::JournalFull`] if the journal has no place left, and [`IocError::NoMemory`]
-    /// if allocation fails. Nothing has changed then. Any other refusal is a reply, which is added
-    /// to the journal too.
+    /// can't be put, [`IocError::QueueFull`] if 256 puts with notification are live or about to
+    /// begin or no number is left, [`IocError::JournalFull`] if the journal has no place left, and
+    /// [`IocError::NoMemory`] if allocation fails. Nothing has changed then but the number, which is
+    /// used up. Any other refusal is a reply, which is added to the journal too.
     #[tactic(auto, unfolding(ioc_set::specs::NoCalls::no_call))]
     pub fn put_notify<R: Wait>(
         &mut self,
@@ -146,14 +136,15 @@ impl<K: RecordKind + Drop, B: EngineName<K>, D: Device> JournaledSet<K, B, D> {
     {
         let value = &given;
         self.test_call(&Event::Put(target, field, *value))?;
-        let mut guard = puts.lock(rt);
-        let all = &mut *guard;
-        all.is_counted();
-        let Some(number) = all.next_number() else {
+        let Some(number) = take_number(rt, puts) else {
             return Err(IocError::QueueFull);
         };
-        self.begin_counted(
-            rt, alloc, book, all, desk, buffers, number, target, field, *value, moment,
-        )
+        let begun = self.begin_counted(
+            rt, alloc, book, puts, desk, buffers, number, target, field, *value, moment,
+        );
+        if begun.is_err() {
+            puts.lock(rt).give_back(number);
+        }
+        begun
     }
 }

@@ -179,6 +179,7 @@ pub fn cancel_on<K: RecordKind + Drop, B: EngineName<K>, D: Device, R: Wait>(
                 number,
                 holders: total,
             }]);
+            all.table.is_table();
             Ok(Some((Reply::Plain, receipt)))
         }
         Ok(None) => Ok(None),

@@ -251,7 +251,6 @@ impl<K: RecordKind + Drop, B: EngineName<K>, D: Device> JournaledSet<K, B, D> {
         };
         let mut guard = puts.lock(rt);
         let all = &mut *guard;
-        let last = all.last;
         let Ran {
             place,
             before,
@@ -259,7 +258,7 @@ impl<K: RecordKind + Drop, B: EngineName<K>, D: Device> JournaledSet<K, B, D> {
             entry,
         } = ran;
         let receipt = keep_beside(
-            rt, book, place, &mut pass, all, desk, buffers, entry, &before, &self.set, last,
+            rt, book, place, &mut pass, all, desk, buffers, entry, &before, &self.set,
         );
         self.pass = Some(pass);
         Ok((reply, receipt))

@@ -18,6 +18,7 @@ pub mod journaled_set;
 mod link_changes;
 pub mod link_laws;
 mod locked;
+pub mod put_places;
 mod running;
 pub mod shared_notifications;
 pub mod together;

@@ -1,18 +1,21 @@
 //! The puts with notification of all lock sets, in one table.
-ghost use Rattle.std.specs.Prelude.{◌≡◌, ◌+◌, ◌≤◌, ◌<◌, ◌^◌, ℕ, [], length, not, IfOk, IfErr, OnErr, IfNone, List};
+ghost use Rattle.std.specs.Prelude.{◌≡◌, ◌⊎◌, ◌+◌, ◌≤◌, ◌<◌, ◌^◌, ◌∷◌, ◌++◌, ℕ, [], true, false, length, not, IfOk, IfErr, OnErr, IfNone, List, Some, Contains};
 ghost use Rattle.std.specs.List.{filter};
 ghost use Rattle.std.specs.Option.{IfSome};
+ghost use Rattle.std.specs.Sync.Mutex.{mutex_guard_value};
 ghost use Rattle.crossbeam_utils.specs.Seq.{cell_view};
 ghost use Rattle.ioc_notify.specs.Living.{is_live};
 ghost use Rattle.ioc_notify.specs.Counts.{IsTable, holders_in};
 ghost use Rattle.ioc_history.specs.declared.entry.Note.{Note};
 ghost use Rattle.ioc_history.specs.Line.{holder};
-ghost use Rattle.ioc_history.specs.Account.{IsHolder, AreRecords, BothMayFollow, MayBegin, Call, AddedByBoth, number_given, puts_key};
+ghost use Rattle.ioc_history.specs.Account.{IsHolder, AreRecords, BothMayFollow, Call, AddedByBoth, number_given, puts_key};
 ghost use Rattle.ioc_set_store.specs.SetStore.{world_of};
-ghost use Rattle.ioc_journaled_set.specs.Puts.{puts_view, CanBegin, NoneCanBegin, NoneIsAbove, AreCounted, AreMoved};
+ghost use Rattle.ioc_journaled_set.specs.Puts.{puts_view, MayTake, NoneMayTake, CanBegin, NoneMayBegin, NoneIsAbove, AreTaken, AreCounted, AreMoved};
+ghost use Rattle.ioc_journaled_set.specs.PutPlaces.{without};
 
-use ioc_events::Entry;
-use ioc_history::legal_laws::live_lasts;
+use crate::put_places::PutPlaces;
+use ioc_events::{Entry, Event};
+use ioc_history::legal_laws::{lists_leave_sound, live_lasts, one_may_begin};
 use ioc_history::{Desk, EngineName, KeyPass, Place, Receipt, SharedJournal};
 use ioc_notify::table_laws::{lines_tell_holders, tables_are_short};
 use ioc_notify::{Live, NotificationCounts, NotifyId};
@@ -21,15 +24,17 @@ use ioc_set::LockSet;
 use ioc_set_store::EventBuffers;
 use std::alloc::{AllocError, Global};
 use std::marker::{Brand, Model, PhantomData};
-use std::sync::Wait;
+use std::sync::{Mutex, MutexGuard, Wait};
 
 /// The live puts with notification, each with the number of records and waiting lists of all sets
-/// that are part of it, and the pass that owns their key. Contracts see the lines of the table, the
-/// last number assigned, and the beginning of the journal's list that the pass has seen. The lines
-/// are the live puts with notification of the world of all records after that list.
+/// that are part of it, the numbers taken for those that are about to begin, and the pass that owns
+/// their key. Contracts see the lines of the table, these numbers, the last number taken, and the
+/// beginning of the journal's list that the pass has seen. The lines are the live puts with
+/// notification of the world of all records after that list.
 #[derive(Drop)]
 pub struct SharedNotifications<K: RecordKind, B: EngineName<K>> {
     pub table: NotificationCounts,
+    pub(crate) places: PutPlaces,
     pub(crate) last: u64,
     pub pass: KeyPass,
     of: PhantomData<B>,
@@ -47,14 +52,14 @@ impl<K: RecordKind, B: EngineName<K>> Model for SharedNotifications<K, B> {
     ghost use Rattle.crossbeam_utils.specs.Seq.{cell_view};
     ghost use Rattle.ioc_journaled_set.specs.Puts.{puts_view, AreKept};
 
-    ghost view = { λ p. puts_view p.table.live p.last (cell_view p.pass).seen };
+    ghost view = { λ p. puts_view p.table.live p.places.taken p.last (cell_view p.pass).seen };
 
-    ghost invariant = { λ p. AreKept K.rules B.base B.table p.pass p.table p.last };
+    ghost invariant = { λ p. AreKept K.rules B.base B.table p.pass p.table p.places p.last };
 }
 
 impl<K: RecordKind, B: EngineName<K>> SharedNotifications<K, B> {
-    /// An empty table: no put with notification is live, and no number is assigned. The pass owns
-    /// the key of the puts with notification, and has seen no call.
+    /// An empty table: no put with notification is live, and no number is taken. The pass owns the
+    /// key of the puts with notification, and has seen no call.
     ///
     /// # Errors
     ///
@@ -63,12 +68,14 @@ impl<K: RecordKind, B: EngineName<K>> SharedNotifications<K, B> {
         requires table { pass.table_id ≡ B.table }
         requires holds { cell_view pass ≡ holder [] puts_key }
         requires none { B.base.live ≡ [] }
-        ensures { IfOk result (λ p. p ≡ puts_view [] 0 []) }
+        ensures { IfOk result (λ p. p ≡ puts_view [] [] 0 []) }
     {
         let mut table = NotificationCounts::new(alloc);
         table.reserve(512)?;
+        let places = PutPlaces::new(alloc)?;
         Ok(SharedNotifications {
             table,
+            places,
             last: 0,
             pass,
             of: PhantomData,
@@ -77,29 +84,104 @@ impl<K: RecordKind, B: EngineName<K>> SharedNotifications<K, B> {
     }
 
     /// States the invariant: each put with notification has one line with its count in the world of
-    /// all records, and none began under a number above the last one assigned.
+    /// all records, none began under a number above the last one taken, and none has begun for which
+    /// a number is taken.
     pub fn is_counted(&self)
         ensures table { IsTable self.now.live }
         ensures counted { AreCounted K.rules B.base self.now.live self.now.seen }
         ensures below { NoneIsAbove self.now.last self.now.seen }
+        ensures taken { AreTaken self.now.live self.now.taken self.now.last self.now.seen }
     {
         self.table.is_table();
     }
 
-    /// Returns the number of the next put with notification, or `None` if none may begin.
-    pub fn next_number(&self) -> Option<NotifyId>
-        ensures next { IfSome result (λ n. CanBegin self.now n) }
-        ensures full { IfNone result (NoneCanBegin self.now) }
+    /// Takes the next number, with a place, for a put with notification that is about to begin.
+    /// Returns `None` if none may begin.
+    pub fn take(&mut self) -> Option<NotifyId>
+        ensures taken { IfSome result (λ n. MayTake self.old n × (self.new ≡ puts_view self.old.live (self.old.taken ++ n ∷ []) n self.old.seen)) }
+        ensures full { IfNone result (NoneMayTake self.old × (self.new ≡ self.old)) }
     {
+        self.table.is_table();
         if self.last == u64::MAX {
             return None;
         }
         let number = NotifyId::new(self.last + 1);
-        if self.table.has_place(number) {
-            Some(number)
-        } else {
-            None
+        if self.table.is_live(number) || !self.places.make_room(&self.table) {
+            return None;
         }
+        self.places.take(number);
+        self.last = number.number();
+        Some(number)
+    }
+
+    /// Frees the place of a number that was taken for a put with notification that doesn't begin.
+    /// The number isn't taken again.
+    pub fn give_back(&mut self, number: NotifyId)
+        ensures { self.new ≡ puts_view self.old.live (without number self.old.taken) self.old.last self.old.seen }
+    {
+        self.places.give_back(number);
+    }
+
+    /// Frees the place of a number that was taken for a put with notification, which begins then.
+    /// Returns whether it was taken. If not, nothing has changed.
+    pub fn release(&mut self, number: NotifyId) -> bool
+        ensures can { result ≡ true → CanBegin self.new number }
+        ensures none { result ≡ false → self.new ≡ self.old }
+    {
+        if !self.places.has_taken(number) {
+            return false;
+        }
+        self.table.is_table();
+        self.places.are_few();
+        self.places.give_back(number);
+        true
+    }
+}
+
+// Takes the next number for a put with notification that is about to begin. Returns `None` if none
+// may begin.
+pub(crate) fn take_number<K: RecordKind, B: EngineName<K>, R: Wait>(
+    rt: &R,
+    puts: &Mutex<SharedNotifications<K, B>>,
+) -> Option<NotifyId>
+    ensures full { IfNone result (NoneMayBegin K.rules B.base) }
+{
+    let mut guard = puts.lock(rt);
+    let all = &mut *guard;
+    all.is_counted();
+    all.take()
+}
+
+// Locks the table, in which a number was taken, for a put with notification that begins under it.
+// The first turn finds the number: it stays taken until its call begins or gives it back. No clause
+// says so, because the table was free meanwhile.
+pub(crate) fn lock_taken<'a, K: RecordKind, B: EngineName<K>, R: Wait>(
+    rt: &R,
+    puts: &'a Mutex<SharedNotifications<K, B>>,
+    number: NotifyId,
+) -> MutexGuard<'a, SharedNotifications<K, B>>
+    ensures can { CanBegin (mutex_guard_value result) number }
+{
+    for _ in rt.forever() {
+        let mut guard = puts.lock(rt);
+        if guard.release(number) {
+            return guard;
+        }
+    }
+    unreachable!()
+}
+
+// Gives a place to the put with notification that an event begins, if it begins one.
+fn place_begun(places: &mut PutPlaces, event: &Event, live: &NotificationCounts)
+    requires room { IfSome (number_given event.now) (λ _. length live.now.live + length places.old.taken < 256) }
+    requires new { IfSome (number_given event.now) (λ n. Contains places.old.begun n → ⊥) }
+    ensures taken { places.new.taken ≡ places.old.taken }
+    ensures own { IfSome (number_given event.now) (λ n. Contains places.new.begun n) }
+    ensures kept { (n : ℕ) → is_live n live.now.live ≡ true → Contains places.old.begun n → Contains places.new.begun n }
+    ensures within { (n : ℕ) → Contains places.new.begun n → (number_given event.now ≡ Some n) ⊎ Contains places.old.begun n }
+{
+    if let Event::Notify(_, number, _, _) = event {
+        places.begin(*number, live);
     }
 }
 
@@ -121,8 +203,7 @@ fn recount(table: &mut NotificationCounts, before: &[Live], after: &[Live])
 
 /// Adds an event that was done on a set to the journal, with the keys of the set's records and the
 /// key of the puts with notification, and updates the table by the set's counts before and after
-/// it. `last` becomes the last number assigned. The buffers of the event then tell what has ended
-/// among all sets.
+/// it. The buffers of the event then tell what has ended among all sets.
 pub(crate) fn keep_beside<K: RecordKind, B: EngineName<K>, D, R: Wait>(
     rt: &R,
     book: &SharedJournal<K, B>,
@@ -134,14 +215,11 @@ pub(crate) fn keep_beside<K: RecordKind, B: EngineName<K>, D, R: Wait>(
     entry: Entry,
     before: &[Live],
     set: &LockSet<K, D>,
-    last: u64,
 ) -> Receipt<K, B>
     requires table { pass.old.table_id ≡ B.table }
     requires set { IsHolder (cell_view pass.old) × AreRecords (cell_view pass.old).owns }
     requires follows { BothMayFollow K.rules B.base (cell_view pass.old).seen (cell_view pass.old).owns all.old.seen puts_key entry }
-    requires begins { MayBegin all.old.seen puts_key entry.event }
-    requires last { all.old.last ≤ last }
-    requires given { IfSome (number_given entry.event) (λ number. number ≤ last) }
+    requires begins { IfSome (number_given entry.event) (λ number. CanBegin all.old number) }
     requires moves { (log longer : List Note) → AddedByBoth K.rules B.base (cell_view pass.old).seen (cell_view pass.old).owns all.old.seen puts_key entry log longer →
         AreMoved K.rules B.base log longer before.now set.now.live }
     requires few { length set.now.live ≤ 256 }
@@ -149,7 +227,6 @@ pub(crate) fn keep_beside<K: RecordKind, B: EngineName<K>, D, R: Wait>(
     ensures receipt { result ≡ desk.new.seen }
     ensures pass { (pass.new.table_id ≡ B.table) × (cell_view pass.new ≡ holder desk.new.seen (cell_view pass.old).owns) }
     ensures seen { all.new.seen ≡ desk.new.seen }
-    ensures last { all.new.last ≡ last }
     ensures added { (log : List Note)
         × AddedByBoth K.rules B.base (cell_view pass.old).seen (cell_view pass.old).owns all.old.seen puts_key entry
         log desk.new.seen }
@@ -160,10 +237,13 @@ pub(crate) fn keep_beside<K: RecordKind, B: EngineName<K>, D, R: Wait>(
     live_lasts::<K>();
     lines_tell_holders();
     tables_are_short();
+    one_may_begin::<K>();
+    lists_leave_sound::<K>();
+    all.table.is_table();
+    place_begun(&mut all.places, &entry.event, &all.table);
     let receipt = book.append_two::<Brand, R>(rt, place, pass, &mut all.pass, desk, entry);
     recount(&mut all.table, before, set.live_puts());
     all.table.is_table();
-    all.last = last;
     buffers.tell_ended(&all.table);
     all.is_counted();
     receipt

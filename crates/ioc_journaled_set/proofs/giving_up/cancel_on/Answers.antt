@@ -7,6 +7,8 @@ use Rattle.ioc_set.specs.SetState.{SetState}
 use Rattle.ioc_journaled_set.specs.GiveUpLaws.{GivesUp}
 use Rattle.ioc_journaled_set.specs.Puts.{PutsView}
 use Rattle.ioc_journaled_set.specs.GivingUp.{HeldGaveUp, sets_of}
+use Rattle.ioc_history.specs.Account.{Pass}
+use Rattle.ioc_journaled_set.proofs.Kept.{none_gives, pass_exchanged, one_canceled}
 use Rattle.ioc_journaled_set.proofs.GivingUp.{set_at, sets_long, line_has, line_other}
 use Rattle.ioc_journaled_set.proofs.giving_up.cancel_on.Goals as goal
 
@@ -35,7 +37,39 @@ returns-in-Ok-Some-clause-gave_up g c =
       seen = gu.seen;
       puts_seen = ap (λ (v : View). v.seen) gu.keeps;
       last = ap (λ (v : PutsView). v.last) c.all.view_is;
+      taken = ap (λ (v : PutsView). v.taken) c.all.view_is;
       none_ended = gu.none_ended;
       nobody = let counts = c.take_off.ensures.counts number in let line = line_has number total in omega (arith, counts, line, tells);
       others = λ other apart. let counts = c.take_off.ensures.counts other in let line = line_other number other total apart in let same = ap (λ (l : List _). holders_in other l) was in omega (arith, counts, line, same);
     }
+
+pub invariant_of-all : goal.invariant_of-all
+invariant_of-all g c =
+    let k = g.K.RecordKind.rules in
+    let base = g.B.EngineName.base in
+    let held = c.args.held.now in
+    let then = c.give_up_lent-given.new.held in
+    let number = c.args.number in
+    let total = c.holders-total.result in
+    let table = c.all.inside.table.live in
+    let one = subst (λ (o : Option _). IfSome o (λ _. HeldGaveUp k base c.args.moment number c.args.desk.now c.as_mut_slice.result.now (cell_view c.lend_all.new.keeper) c.give_up_lent-given.new.desk then (cell_view c.give_up_lent-given.new.keeper)))
+    c.in-Ok-Some.field-0-is c.in-Ok-Some.ensures.gave_up in
+    let keeper = c.lend_all.ensures.keeper in
+    let gu = subst (λ (v : View). HeldGaveUp k base c.args.moment number c.args.desk.now c.as_mut_slice.result.now v c.give_up_lent-given.new.desk then (cell_view c.give_up_lent-given.new.keeper)) keeper.1 one in
+    let tells = c.holders-total.ensures ∙ c.lines_tell_holders.ensures.holders table number (c.is_table.ensures.once number) in
+    one_canceled k base g.B.CellName.table c.all.inside.pass c.give_up_lent-given.new.keeper c.all.inside.table c.all.inside.places c.all.inside.last c.all.invariant c.take_off.new.self c.give_up_lent-given.new.desk.seen number total
+    c.lines_tell_holders.ensures.held c.is_table.ensures c.is_table-in-Ok-Some.ensures c.take_off.ensures.counts tells c.give_up_lent-given.ensures.table gu.keeps gu.none_began gu.nobody gu.others c.take_off.ensures.fewer c.take_off.ensures.room
+
+pub invariant_of-all-in-Ok-None : goal.invariant_of-all-in-Ok-None
+invariant_of-all-in-Ok-None g c =
+    let none = none_gives c.in-Ok-None.field-0 c.in-Ok-None.field-0-is c.in-Ok-None.ensures.missing in
+    let keeper = c.lend_all.ensures.keeper in
+    pass_exchanged g.K.RecordKind.rules g.B.EngineName.base g.B.CellName.table c.all.inside.pass c.give_up_lent-given.new.keeper c.all.inside.table c.all.inside.places c.all.inside.last c.all.invariant
+    (ap (λ (p : Pass). p.table_id) none.1 ∙ keeper.0) (ap (λ (p : Pass). cell_view {V = View} p) none.1 ∙ keeper.1)
+
+pub invariant_of-all-in-Err : goal.invariant_of-all-in-Err
+invariant_of-all-in-Err g c =
+    let refused = c.in-Err.ensures.err in
+    let keeper = c.lend_all.ensures.keeper in
+    pass_exchanged g.K.RecordKind.rules g.B.EngineName.base g.B.CellName.table c.all.inside.pass c.give_up_lent-given.new.keeper c.all.inside.table c.all.inside.places c.all.inside.last c.all.invariant
+    (ap (λ (p : Pass). p.table_id) refused.1 ∙ keeper.0) (ap (λ (p : Pass). cell_view {V = View} p) refused.1 ∙ keeper.1)

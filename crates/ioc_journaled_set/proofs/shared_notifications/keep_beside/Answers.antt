@@ -1,4 +1,6 @@
-use Rattle.std.proofs.Common.{◌≡◌, ℕ, ◌+◌, ◌<◌, ◌≤◌, ◌^◌, List, ◌++◌, refl, sym, ap, ◌∙◌, subst, inl, ⊎_elim, arith}
+use Rattle.std.proofs.Common.{◌≡◌, ℕ, ◌+◌, ◌<◌, ◌≤◌, ◌^◌, List, ◌++◌, length, refl, sym, ap, ◌∙◌, subst, inl, ⊎_elim, arith}
+use Rattle.std.specs.Option.{IfSome}
+use Rattle.std.specs.Prelude.{Contains}
 use Rattle.crossbeam_utils.specs.Seq.{cell_view}
 use Rattle.ioc_notify.specs.declared.live_numbers.Live.{Live}
 use Rattle.ioc_notify.specs.Counts.{holders_in}
@@ -7,9 +9,10 @@ use Rattle.ioc_history.specs.declared.cell.View.{View}
 use Rattle.ioc_history.specs.Key.{Key}
 use Rattle.ioc_history.specs.Line.{holder, noted}
 use Rattle.ioc_history.specs.Legal.{map_of, notifications_key}
-use Rattle.ioc_history.specs.Account.{journalled, calls, numbers_given, BothMayFollow, MayBegin, AddedByBoth, puts_key}
-use Rattle.ioc_history.proofs.Numbers.{numbers_below, still_below}
-use Rattle.ioc_journaled_set.specs.Puts.{PutsView, NoneIsAbove, AreCounted}
+use Rattle.ioc_history.specs.Account.{journalled, calls, number_given, numbers_given, BothMayFollow, MayBegin, AddedByBoth, puts_key}
+use Rattle.ioc_history.proofs.Numbers.{numbers_below}
+use Rattle.ioc_journaled_set.specs.Puts.{PutsView, NoneIsAbove, AreCounted, AreTaken}
+use Rattle.ioc_journaled_set.proofs.Taken.{may_begin_by, room_by, new_by, own_by, within_by, still_taken, still_placed, still_begun}
 use Rattle.ioc_journaled_set.proofs.Counted.{before_there, sums_fit, counted_then}
 use Rattle.ioc_journaled_set.proofs.shared_notifications.keep_beside.Goals as goal
 
@@ -28,11 +31,20 @@ append_two-receipt-requires-clause-follows g c =
     subst (λ (ks : List Key). BothMayFollow k base one.seen one.owns (cell_view c.all.inside.pass).seen ks c.args.entry) owns
     (subst (λ (s : List Note). BothMayFollow k base one.seen one.owns s puts_key c.args.entry) seen c.requires.follows)
 
+pub place_begun-requires-clause-room : goal.place_begun-requires-clause-room
+place_begun-requires-clause-room g c =
+    subst (λ (v : PutsView). IfSome (number_given c.args.entry.event) (λ _. length v.live + length v.taken < 256)) (sym c.all.view_is) (room_by (number_given c.args.entry.event) c.args.all.now c.requires.begins)
+
+pub place_begun-requires-clause-new : goal.place_begun-requires-clause-new
+place_begun-requires-clause-new g c =
+    new_by (number_given c.args.entry.event) c.args.all.now c.all.inside.places.begun (λ n there. subst (λ (v : PutsView). Contains (numbers_given (calls v.seen)) n) c.all.view_is (c.all.invariant.begun n there)) c.requires.begins
+
 pub append_two-receipt-requires-clause-begins : goal.append_two-receipt-requires-clause-begins
 append_two-receipt-requires-clause-begins g c =
     let seen = ap (λ (v : PutsView). v.seen) (sym c.all.view_is) in
     let owns = ap (λ (v : View). v.owns) (sym c.all.invariant.holds) in
-    subst (λ (ks : List Key). MayBegin (cell_view c.all.inside.pass).seen ks c.args.entry.event) owns (subst (λ (s : List Note). MayBegin s puts_key c.args.entry.event) seen c.requires.begins)
+    subst (λ (ks : List Key). MayBegin (cell_view c.all.inside.pass).seen ks c.args.entry.event) owns
+    (subst (λ (s : List Note). MayBegin s puts_key c.args.entry.event) seen (may_begin_by (number_given c.args.entry.event) c.args.all.now c.requires.begins))
 
 pub recount-requires-clause-there : goal.recount-requires-clause-there
 recount-requires-clause-there g c n =
@@ -75,16 +87,44 @@ invariant_of-all g c =
     let counts = subst (λ (ls : List Live). (n : ℕ) → holders_in n c.recount.new.table.live + holders_in n c.args.before.now ≡ holders_in n c.all.inside.table.live + holders_in n ls) c.live_puts.ensures c.recount.ensures.counts in
     let told = counted_then k c.live_lasts.ensures base (cell_view c.all.inside.pass).seen log longer c.all.inside.table.live c.args.before.now c.args.set.now.live c.all.invariant.counted added.also_goes_on added.legal moved c.recount.new.table.live counts in
     let other = c.append_two-receipt.ensures.other in
-    let short = c.tables_are_short.ensures c.recount.new.table.live (map_of k base longer).live c.is_table.ensures told in
+    let short = c.tables_are_short.ensures c.recount.new.table.live (map_of k base longer).live c.is_table-2.ensures told in
     let few = moved.few in
+    let seen_before = (cell_view c.all.inside.pass).seen in
+    let note = noted (journalled added.desk added.call c.args.entry) ((one.owns ++ puts_key) ++ added.own) in
+    let legal = c.append_two-receipt.ensures.call.legal.legal in
+    let keyed = c.append_two-receipt.ensures.call.legal.puts_keyed in
     record {
       same = other.0 ∙ c.all.invariant.same;
       holds = subst (λ (v : View). v ≡ holder v.seen puts_key) (sym other.1) refl;
       counted = subst (λ (v : View). AreCounted k base c.recount.new.table.live v.seen) (sym other.1) told;
-      below = subst (λ (v : View). NoneIsAbove c.args.last v.seen) (sym other.1)
-          (numbers_below (cell_view c.all.inside.pass).seen log longer puts_key (noted (journalled added.desk added.call c.args.entry) ((one.owns ++ puts_key) ++ added.own)) c.args.last added.also_goes_on added.ends (inl refl) c.append_two-receipt.ensures.call.legal.puts_keyed
-          (still_below (numbers_given (calls (cell_view c.all.inside.pass).seen)) c.all.inside.last c.args.last (subst (λ (n : ℕ). n ≤ c.args.last) (ap (λ (v : PutsView). v.last) (sym c.all.view_is)) c.requires.last) c.all.invariant.below)
-          c.requires.given);
+      below = subst (λ (v : View). NoneIsAbove c.all.inside.last v.seen) (sym other.1)
+          (numbers_below seen_before log longer puts_key note c.all.inside.last added.also_goes_on added.ends (inl refl) keyed c.all.invariant.below
+          (subst (λ (v : PutsView). IfSome (number_given c.args.entry.event) (λ number. number ≤ v.last)) (sym c.all.view_is) (within_by (number_given c.args.entry.event) c.args.all.now c.requires.begins)));
+      taken = subst (λ (v : View). AreTaken c.recount.new.table.live c.place_begun.new.places.taken c.all.inside.last v.seen) (sym other.1)
+          (subst (λ (xs : List ℕ). AreTaken c.recount.new.table.live xs c.all.inside.last longer) (sym c.place_begun.ensures.taken)
+          (still_taken k c.live_lasts.ensures c.lists_leave_sound.ensures.after c.one_may_begin.ensures c.lines_tell_holders.ensures.live c.lines_tell_holders.ensures.held base seen_before log longer note c.all.inside.table.live c.recount.new.table.live
+          c.is_table.ensures c.is_table-2.ensures c.all.invariant.counted told added.sound added.also_goes_on added.legal added.ends legal c.all.inside.places.taken c.all.inside.last keyed c.all.invariant.taken
+          (subst (λ (v : PutsView). IfSome (number_given c.args.entry.event) (λ number. Contains v.taken number → ⊥)) (sym c.all.view_is) (own_by (number_given c.args.entry.event) c.args.all.now c.requires.begins))));
+      placed =
+          still_placed k c.live_lasts.ensures c.lists_leave_sound.ensures.after c.one_may_begin.ensures c.lines_tell_holders.ensures.live c.lines_tell_holders.ensures.held base seen_before log longer note c.all.inside.table.live c.recount.new.table.live
+          c.is_table.ensures c.is_table-2.ensures c.all.invariant.counted told added.sound added.also_goes_on added.legal added.ends legal c.all.inside.places.begun c.place_begun.new.places.begun c.all.invariant.placed
+          c.place_begun.ensures.kept c.place_begun.ensures.own;
+      begun = λ n there. subst (λ (v : View). Contains (numbers_given (calls v.seen)) n) (sym other.1)
+          (still_begun k c.live_lasts.ensures c.lists_leave_sound.ensures.after c.one_may_begin.ensures c.lines_tell_holders.ensures.live c.lines_tell_holders.ensures.held base seen_before log longer note c.all.inside.table.live c.recount.new.table.live
+          c.is_table.ensures c.is_table-2.ensures c.all.invariant.counted told added.sound added.also_goes_on added.legal added.ends legal c.all.inside.places.begun c.place_begun.new.places.begun keyed c.all.invariant.begun
+          c.place_begun.ensures.within n there);
       few = omega (arith, short, few);
       room = subst (λ (n : ℕ). 512 ≤ n) (sym c.recount.ensures.room) c.all.invariant.room;
     }
+
+pub returns-clause-added : goal.returns-clause-added
+returns-clause-added g c =
+    let k = g.K.RecordKind.rules in
+    let base = g.B.EngineName.base in
+    let one = cell_view c.args.pass.now in
+    let seen = ap (λ (v : PutsView). v.seen) c.all.view_is in
+    let owns = ap (λ (v : View). v.owns) c.all.invariant.holds in
+    let log = c.append_two-receipt.ensures.added.0 in
+    let longer = c.append_two-receipt.new.desk.seen in
+    let added = subst (λ (ks : List Key). AddedByBoth k base one.seen one.owns (cell_view c.all.inside.pass).seen ks c.args.entry log longer) owns c.append_two-receipt.ensures.added.1 in
+    (log, subst (λ (s : List Note). AddedByBoth k base one.seen one.owns s puts_key c.args.entry log longer) seen added)

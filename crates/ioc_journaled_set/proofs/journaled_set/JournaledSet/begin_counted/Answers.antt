@@ -1,4 +1,4 @@
-use Rattle.std.proofs.Common.{◌≡◌, ◌≤◌, ℕ, List, ◌++◌, Option, Some, None, refl, sym, ap, ◌∙◌, subst, inl, arith}
+use Rattle.std.proofs.Common.{◌≡◌, ℕ, List, [], ◌∷◌, ◌++◌, Option, Some, None, refl, sym, ap, ◌∙◌, subst, inl}
 use Rattle.std.specs.Option.{IfSome}
 use Rattle.std.specs.Prelude.{Contains}
 use Rattle.crossbeam_utils.specs.Seq.{cell_view}
@@ -11,23 +11,24 @@ use Rattle.ioc_history.specs.Covering.{Holds}
 use Rattle.ioc_history.specs.Legal.{map_of}
 use Rattle.ioc_history.specs.declared.entry.Note.{Note}
 use Rattle.ioc_history.specs.declared.cell.View.{View}
-use Rattle.ioc_history.specs.Account.{Call, Pass, MayBegin, number_given, numbers_given, calls, puts_key}
+use Rattle.ioc_history.specs.Account.{Call, Pass, PutsAreKeyed, number_given, puts_key}
 use Rattle.ioc_history.specs.Account.{journalled}
 use Rattle.ioc_history.specs.Line.{noted}
-use Rattle.ioc_history.proofs.Numbers.{next_above}
+use Rattle.ioc_history.proofs.Numbers.{numbers_on}
 use Rattle.ioc_set.specs.SetState.{now_of}
 use Rattle.ioc_set.specs.NoCalls.{no_call}
 use Rattle.ioc_set_store.specs.declared.set_store.SetStore.{SetStore}
 use Rattle.ioc_set_store.specs.SetStore.{world_of}
 use Rattle.ioc_journaled_set.specs.Holding.{HeldView, held_view, numbers_of, IsHeld, Serves}
-use Rattle.ioc_journaled_set.specs.Puts.{puts_view, AreMoved, AreCounted, HaveEnded}
+use Rattle.ioc_journaled_set.specs.Puts.{PutsView, puts_view, CanBegin, AreMoved, AreCounted, HaveEnded}
 use Rattle.ioc_journaled_set.proofs.Keys.{key_there}
 use Rattle.ioc_journaled_set.proofs.Devices.{worked_there, keeps_on}
 use Rattle.ioc_journaled_set.proofs.Serving.{one_there, owner_on, entry_is, only}
 use Rattle.ioc_journaled_set.proofs.Places.{place_alike}
 use Rattle.ioc_events.specs.declared.event.Event.TheVariants.{Notify}
 use Rattle.ioc_journaled_set.proofs.Beside.{both_follow, held_beside, moved_beside, ended_beside}
-use Rattle.ioc_journaled_set.proofs.Counted.{up_to_date_on}
+use Rattle.ioc_journaled_set.proofs.Counted.{up_to_date_on, keyed_before}
+use Rattle.ioc_journaled_set.proofs.Taken.{fewer_live}
 use Rattle.ioc_journaled_set.proofs.Ended.{have_ended}
 use Rattle.ioc_journaled_set.proofs.journaled_set.JournaledSet.begin_counted.Goals as goal
 
@@ -50,22 +51,19 @@ keep_beside-receipt-requires-clause-follows g c =
     let does = c.in_ok-ran.ensures.does in
     let come_to = world_of c.run_counted.new.buffers.store in
     let entry = entry_is k g.D.Device.gives c.self.inside.set c.run_counted.new.set c.args.moment event c.in_ok-ran.ran.reply come_to does there (answers_of come_to.calls) refl ∙ sym c.in_ok-ran.ensures.entry in
-    let also = c.args.all.now.seen in
+    let also = c.deref_mut-all.result.now.seen in
+    let can = subst (λ (v : PutsView). CanBegin v c.args.notification) (sym c.deref_mut-all.ensures.value) c.lock_taken-guard.ensures.can in
     both_follow k g.D.Device.gives c.self.inside.set c.run_counted.new.set c.args.moment event c.in_ok-ran.ran.reply come_to does there
     c.holding_lasts.ensures c.events_are_held.ensures.event c.holders_move.ensures.moves c.parts_share_what_is_held.ensures.alike
     base (cell_view c.in-Some.pass).seen also (cell_view c.in-Some.pass).owns held.owner.covers held.holds
     (λ log sound go legal h. tt)
-    (λ log sound go legal h. place_alike k c.one_more_has_a_place.ensures c.live_lasts.ensures c.lists_leave_sound.ensures.after c.lines_tell_holders.ensures.live c.lines_tell_holders.ensures.held base (now_of c.self.inside.set) also log c.args.all.now.live c.args.notification c.args.moment
-    c.is_counted.ensures.table c.is_counted.ensures.counted sound go legal h c.is_sound.ensures.counted c.requires.can.few c.requires.can.free) _ entry
+    (λ log sound go legal h. place_alike k c.one_more_has_a_place.ensures c.live_lasts.ensures c.lists_leave_sound.ensures.after c.lines_tell_holders.ensures.live c.lines_tell_holders.ensures.held base (now_of c.self.inside.set) also log c.deref_mut-all.result.now.live c.args.notification c.args.moment
+    c.is_counted.ensures.table c.is_counted.ensures.counted sound go legal h c.is_sound.ensures.counted (fewer_live c.deref_mut-all.result.now c.args.notification can) can.free) _ entry
 
 pub keep_beside-receipt-requires-clause-begins : goal.keep_beside-receipt-requires-clause-begins
 keep_beside-receipt-requires-clause-begins g c =
-    subst (λ (x : Entry). MayBegin c.args.all.now.seen puts_key x.event) (sym c.in_ok-ran.ensures.entry)
-    (inl refl, next_above (numbers_given (calls c.args.all.now.seen)) c.args.all.now.last c.args.notification c.requires.can.after c.is_counted.ensures.below)
-
-pub keep_beside-receipt-requires-clause-given : goal.keep_beside-receipt-requires-clause-given
-keep_beside-receipt-requires-clause-given g c =
-    subst (λ (x : Entry). IfSome (number_given x.event) (λ number. number ≤ c.number.result)) (sym c.in_ok-ran.ensures.entry) (let is = c.number.ensures in omega (arith, is))
+    let can = subst (λ (v : PutsView). CanBegin v c.args.notification) (sym c.deref_mut-all.ensures.value) c.lock_taken-guard.ensures.can in
+    subst (λ (x : Entry). IfSome (number_given x.event) (λ number. CanBegin c.deref_mut-all.result.now number)) (sym c.in_ok-ran.ensures.entry) can
 
 pub keep_beside-receipt-requires-clause-moves : goal.keep_beside-receipt-requires-clause-moves
 keep_beside-receipt-requires-clause-moves g c =
@@ -79,14 +77,15 @@ keep_beside-receipt-requires-clause-moves g c =
     let does = c.in_ok-ran.ensures.does in
     let come_to = world_of c.run_counted.new.buffers.store in
     let entry = entry_is k g.D.Device.gives c.self.inside.set c.run_counted.new.set c.args.moment event c.in_ok-ran.ran.reply come_to does there (answers_of come_to.calls) refl ∙ sym c.in_ok-ran.ensures.entry in
-    let also = c.args.all.now.seen in
+    let also = c.deref_mut-all.result.now.seen in
+    let can = subst (λ (v : PutsView). CanBegin v c.args.notification) (sym c.deref_mut-all.ensures.value) c.lock_taken-guard.ensures.can in
     λ log longer added. subst (λ (ls : List Live). AreMoved k base log longer ls c.run_counted.new.set.live) (sym (c.deref.ensures.value ∙ c.in_ok-ran.ensures.before))
     (moved_beside k g.D.Device.gives c.self.inside.set c.run_counted.new.set c.args.moment event c.in_ok-ran.ran.reply come_to does there
     c.holding_lasts.ensures c.events_are_held.ensures.event c.holders_move.ensures.moves c.parts_share_what_is_held.ensures.alike
     base (cell_view c.in-Some.pass).seen also (cell_view c.in-Some.pass).owns held.owner.covers held.holds
     (λ log sound go legal h. tt)
-    (λ log sound go legal h. place_alike k c.one_more_has_a_place.ensures c.live_lasts.ensures c.lists_leave_sound.ensures.after c.lines_tell_holders.ensures.live c.lines_tell_holders.ensures.held base (now_of c.self.inside.set) also log c.args.all.now.live c.args.notification c.args.moment
-    c.is_counted.ensures.table c.is_counted.ensures.counted sound go legal h c.is_sound.ensures.counted c.requires.can.few c.requires.can.free) _ entry log longer added
+    (λ log sound go legal h. place_alike k c.one_more_has_a_place.ensures c.live_lasts.ensures c.lists_leave_sound.ensures.after c.lines_tell_holders.ensures.live c.lines_tell_holders.ensures.held base (now_of c.self.inside.set) also log c.deref_mut-all.result.now.live c.args.notification c.args.moment
+    c.is_counted.ensures.table c.is_counted.ensures.counted sound go legal h c.is_sound.ensures.counted (fewer_live c.deref_mut-all.result.now c.args.notification can) can.free) _ entry log longer added
     c.holders_move.ensures.fewer c.holders_move.ensures.few c.lists_leave_sound.ensures.after c.lines_tell_holders.ensures.holders c.is_sound.ensures.counted c.in_ok-ran.ensures.sound.counted)
 
 pub invariant_of-self-2 : goal.invariant_of-self-2
@@ -101,7 +100,8 @@ invariant_of-self-2 g c =
     let does = c.in_ok-ran.ensures.does in
     let come_to = world_of c.run_counted.new.buffers.store in
     let entry = entry_is k g.D.Device.gives c.self.inside.set c.run_counted.new.set c.args.moment event c.in_ok-ran.ran.reply come_to does there (answers_of come_to.calls) refl ∙ sym c.in_ok-ran.ensures.entry in
-    let also = c.args.all.now.seen in
+    let also = c.deref_mut-all.result.now.seen in
+    let can = subst (λ (v : PutsView). CanBegin v c.args.notification) (sym c.deref_mut-all.ensures.value) c.lock_taken-guard.ensures.can in
     let pass = c.keep_beside-receipt.ensures.pass in
     let added = c.keep_beside-receipt.ensures.added in
     let came = only k g.D.Device.gives c.self.inside.set c.run_counted.new.set c.args.moment event c.in_ok-ran.ran.reply come_to does there c.rules_are_steps.ensures.allowed c.events_keep_records.ensures held.holds.shut in
@@ -113,8 +113,8 @@ invariant_of-self-2 g c =
           c.holding_lasts.ensures c.events_are_held.ensures.event c.holders_move.ensures.moves c.parts_share_what_is_held.ensures.alike
           base (cell_view c.in-Some.pass).seen also (cell_view c.in-Some.pass).owns held.owner.covers held.holds
           (λ log sound go legal h. tt)
-          (λ log sound go legal h. place_alike k c.one_more_has_a_place.ensures c.live_lasts.ensures c.lists_leave_sound.ensures.after c.lines_tell_holders.ensures.live c.lines_tell_holders.ensures.held base (now_of c.self.inside.set) also log c.args.all.now.live c.args.notification c.args.moment
-          c.is_counted.ensures.table c.is_counted.ensures.counted sound go legal h c.is_sound.ensures.counted c.requires.can.few c.requires.can.free) _ entry added.0 _ added.1);
+          (λ log sound go legal h. place_alike k c.one_more_has_a_place.ensures c.live_lasts.ensures c.lists_leave_sound.ensures.after c.lines_tell_holders.ensures.live c.lines_tell_holders.ensures.held base (now_of c.self.inside.set) also log c.deref_mut-all.result.now.live c.args.notification c.args.moment
+          c.is_counted.ensures.table c.is_counted.ensures.counted sound go legal h c.is_sound.ensures.counted (fewer_live c.deref_mut-all.result.now c.args.notification can) can.free) _ entry added.0 _ added.1);
     }
 
 pub returns-clause-begins : goal.returns-clause-begins
@@ -129,7 +129,8 @@ returns-clause-begins g c =
     let does = c.in_ok-ran.ensures.does in
     let come_to = world_of c.run_counted.new.buffers.store in
     let entry = entry_is k g.D.Device.gives c.self.inside.set c.run_counted.new.set c.args.moment event c.in_ok-ran.ran.reply come_to does there (answers_of come_to.calls) refl ∙ sym c.in_ok-ran.ensures.entry in
-    let also = c.args.all.now.seen in
+    let also = c.deref_mut-all.result.now.seen in
+    let can = subst (λ (v : PutsView). CanBegin v c.args.notification) (sym c.deref_mut-all.ensures.value) c.lock_taken-guard.ensures.can in
     let pass = c.keep_beside-receipt.ensures.pass in
     let served = subst (λ (v : HeldView g.row.K.Denot g.row.D.Denot). Serves k g.D.Device.gives base v c.args.desk.now c.args.moment event c.in_ok-ran.ran.reply
     (held_view c.run_counted.new.set (cell_view c.keep_beside-receipt.new.pass).seen) c.keep_beside-receipt.new.desk come_to) c.self.view_is
@@ -137,12 +138,13 @@ returns-clause-begins g c =
     let log = c.keep_beside-receipt.ensures.added.0 in
     let added = c.keep_beside-receipt.ensures.added.1 in
     let note = noted (journalled added.desk added.call c.in_ok-ran.ran.entry) (((cell_view c.in-Some.pass).owns ++ puts_key) ++ added.own) in
+    let same = numbers_on also log puts_key added.also_goes_on (inl refl) (keyed_before log (note ∷ []) (subst (λ (l : List Note). PutsAreKeyed l) added.ends c.keep_beside-receipt.ensures.call.legal.puts_keyed)) in
     record {
       number = c.args.notification;
-      puts = puts_view c.args.all.now.live c.args.all.now.last log;
-      can = record { after = c.requires.can.after; few = c.requires.can.few; free = c.requires.can.free };
-      up_to_date = up_to_date_on k c.live_lasts.ensures base also log c.keep_beside-receipt.new.desk.seen note c.args.all.now.live c.args.all.now.last
-          c.is_counted.ensures.table c.is_counted.ensures.counted c.is_counted.ensures.below added.also_goes_on added.legal added.ends c.keep_beside-receipt.ensures.call.legal.puts_keyed;
+      puts = puts_view c.deref_mut-all.result.now.live c.deref_mut-all.result.now.taken c.deref_mut-all.result.now.last log;
+      can = record { within = can.within; few = can.few; free = can.free; new = λ begun. can.new (subst (λ (xs : List ℕ). Contains xs c.args.notification) same begun); own = can.own };
+      up_to_date = up_to_date_on k c.live_lasts.ensures base also log c.keep_beside-receipt.new.desk.seen note c.deref_mut-all.result.now.live c.deref_mut-all.result.now.taken c.deref_mut-all.result.now.last
+          c.is_counted.ensures.table c.is_counted.ensures.counted c.is_counted.ensures.below c.is_counted.ensures.taken added.also_goes_on added.legal added.ends c.keep_beside-receipt.ensures.call.legal.puts_keyed;
       before = (note, added.ends);
       serves = subst (λ (x : SetStore g.row.K.Denot g.row.D.Denot). Serves k g.D.Device.gives base c.args.self.now c.args.desk.now c.args.moment event c.in_ok-ran.ran.reply
           (held_view c.run_counted.new.set (cell_view c.keep_beside-receipt.new.pass).seen) c.keep_beside-receipt.new.desk (world_of x)) (sym c.keep_beside-receipt.ensures.store) served;
@@ -160,7 +162,8 @@ returns-clause-ended g c =
     let does = c.in_ok-ran.ensures.does in
     let come_to = world_of c.run_counted.new.buffers.store in
     let entry = entry_is k g.D.Device.gives c.self.inside.set c.run_counted.new.set c.args.moment event c.in_ok-ran.ran.reply come_to does there (answers_of come_to.calls) refl ∙ sym c.in_ok-ran.ensures.entry in
-    let also = c.args.all.now.seen in
+    let also = c.deref_mut-all.result.now.seen in
+    let can = subst (λ (v : PutsView). CanBegin v c.args.notification) (sym c.deref_mut-all.ensures.value) c.lock_taken-guard.ensures.can in
     let kept = c.keep_beside-receipt.ensures in
     let added = kept.added in
     let longer = c.keep_beside-receipt.new.desk.seen in
@@ -168,8 +171,8 @@ returns-clause-ended g c =
     c.holding_lasts.ensures c.events_are_held.ensures.event c.holders_move.ensures.moves c.parts_share_what_is_held.ensures.alike
     base (cell_view c.in-Some.pass).seen also (cell_view c.in-Some.pass).owns held.owner.covers held.holds
     (λ log sound go legal h. tt)
-    (λ log sound go legal h. place_alike k c.one_more_has_a_place.ensures c.live_lasts.ensures c.lists_leave_sound.ensures.after c.lines_tell_holders.ensures.live c.lines_tell_holders.ensures.held base (now_of c.self.inside.set) also log c.args.all.now.live c.args.notification c.args.moment
-    c.is_counted.ensures.table c.is_counted.ensures.counted sound go legal h c.is_sound.ensures.counted c.requires.can.few c.requires.can.free) _ entry added.0 _ added.1
+    (λ log sound go legal h. place_alike k c.one_more_has_a_place.ensures c.live_lasts.ensures c.lists_leave_sound.ensures.after c.lines_tell_holders.ensures.live c.lines_tell_holders.ensures.held base (now_of c.self.inside.set) also log c.deref_mut-all.result.now.live c.args.notification c.args.moment
+    c.is_counted.ensures.table c.is_counted.ensures.counted sound go legal h c.is_sound.ensures.counted (fewer_live c.deref_mut-all.result.now c.args.notification can) can.free) _ entry added.0 _ added.1
     c.those_ended_are_over.ensures.over c.those_ended_are_over.ensures.nobody c.lists_leave_sound.ensures.after c.is_sound.ensures.counted in
     let counts = subst (λ (seen : List Note). AreCounted k base c.keep_beside-receipt.new.all.live seen) kept.seen kept.counted.1 in
     subst (λ (x : SetStore g.row.K.Denot g.row.D.Denot). HaveEnded k base (world_of x).ended longer c.keep_beside-receipt.new.buffers.ended_everywhere.items) (sym kept.store)

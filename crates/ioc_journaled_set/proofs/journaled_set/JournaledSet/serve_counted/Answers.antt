@@ -1,4 +1,4 @@
-use Rattle.std.proofs.Common.{◌≡◌, ◌≤◌, ℕ, List, Option, Some, None, refl, sym, ap, ◌∙◌, subst}
+use Rattle.std.proofs.Common.{◌≡◌, ℕ, List, Option, Some, None, refl, sym, ap, ◌∙◌, subst}
 use Rattle.std.specs.Option.{IfSome}
 use Rattle.std.specs.Prelude.{Contains}
 use Rattle.crossbeam_utils.specs.Seq.{cell_view}
@@ -11,14 +11,13 @@ use Rattle.ioc_history.specs.Covering.{Holds}
 use Rattle.ioc_history.specs.Legal.{map_of}
 use Rattle.ioc_history.specs.declared.entry.Note.{Note}
 use Rattle.ioc_history.specs.declared.cell.View.{View}
-use Rattle.ioc_history.specs.Account.{Call, Pass, MayBegin, number_given, puts_key}
-use Rattle.ioc_history.proofs.Numbers.{begins_none}
+use Rattle.ioc_history.specs.Account.{Call, Pass, number_given}
 use Rattle.ioc_set.specs.SetState.{now_of}
 use Rattle.ioc_set.specs.NoCalls.{no_call}
 use Rattle.ioc_set_store.specs.declared.set_store.SetStore.{SetStore}
 use Rattle.ioc_set_store.specs.SetStore.{world_of}
 use Rattle.ioc_journaled_set.specs.Holding.{HeldView, held_view, numbers_of, IsHeld, Serves}
-use Rattle.ioc_journaled_set.specs.Puts.{AreMoved, AreCounted, HaveEnded}
+use Rattle.ioc_journaled_set.specs.Puts.{CanBegin, AreMoved, AreCounted, HaveEnded}
 use Rattle.ioc_journaled_set.proofs.Keys.{key_there}
 use Rattle.ioc_journaled_set.proofs.Devices.{worked_there, keeps_on}
 use Rattle.ioc_journaled_set.proofs.Serving.{names_one, begins_no_put, no_cancel, asks_nothing, owner_on, entry_is, only}
@@ -54,12 +53,8 @@ keep_beside-receipt-requires-clause-follows g c =
 
 pub keep_beside-receipt-requires-clause-begins : goal.keep_beside-receipt-requires-clause-begins
 keep_beside-receipt-requires-clause-begins g c =
-    subst (λ (x : Entry). MayBegin c.deref_mut-all.result.now.seen puts_key x.event) (sym c.in_ok-ran.ensures.entry) (begins_none c.deref_mut-all.result.now.seen puts_key c.args.event.now (begins_no_put c.args.event.now c.requires.ordinary))
-
-pub keep_beside-receipt-requires-clause-given : goal.keep_beside-receipt-requires-clause-given
-keep_beside-receipt-requires-clause-given g c =
-    subst (λ (x : Entry). IfSome (number_given x.event) (λ number. number ≤ c.all.inside.last)) (sym c.in_ok-ran.ensures.entry)
-    (subst (λ (o : Option ℕ). IfSome o (λ number. number ≤ c.all.inside.last)) (sym (begins_no_put c.args.event.now c.requires.ordinary)) tt)
+    subst (λ (x : Entry). IfSome (number_given x.event) (λ number. CanBegin c.deref_mut-all.result.now number)) (sym c.in_ok-ran.ensures.entry)
+    (subst (λ (o : Option ℕ). IfSome o (λ number. CanBegin c.deref_mut-all.result.now number)) (sym (begins_no_put c.args.event.now c.requires.ordinary)) tt)
 
 pub keep_beside-receipt-requires-clause-moves : goal.keep_beside-receipt-requires-clause-moves
 keep_beside-receipt-requires-clause-moves g c =

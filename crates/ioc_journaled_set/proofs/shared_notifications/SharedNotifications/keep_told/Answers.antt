@@ -1,14 +1,16 @@
 use Rattle.std.proofs.Common.{◌≡◌, ◌≤◌, ℕ, List, ◌++◌, Option, refl, sym, ap, ◌∙◌, subst, inl}
 use Rattle.std.specs.Option.{IfSome}
+use Rattle.std.specs.Prelude.{Contains}
 use Rattle.crossbeam_utils.specs.Seq.{cell_view}
 use Rattle.ioc_history.specs.declared.entry.Note.{Note}
 use Rattle.ioc_history.specs.declared.cell.View.{View}
 use Rattle.ioc_history.specs.Key.{Key}
 use Rattle.ioc_history.specs.Line.{holder, noted}
-use Rattle.ioc_history.specs.Account.{journalled, MayFollow, Added, puts_key}
-use Rattle.ioc_history.proofs.Numbers.{begins_none, numbers_below}
-use Rattle.ioc_journaled_set.specs.Puts.{PutsView, NoneIsAbove, AreCounted}
+use Rattle.ioc_history.specs.Account.{journalled, calls, numbers_given, MayFollow, Added, puts_key}
+use Rattle.ioc_history.proofs.Numbers.{begins_none, numbers_below, numbers_same}
+use Rattle.ioc_journaled_set.specs.Puts.{PutsView, NoneIsAbove, AreCounted, AreTaken}
 use Rattle.ioc_journaled_set.proofs.Counted.{counted_on}
+use Rattle.ioc_journaled_set.proofs.Taken.{taken_as_before}
 use Rattle.ioc_journaled_set.proofs.shared_notifications.SharedNotifications.keep_told.Goals as goal
 
 pub append-requires-clause-follows : goal.append-requires-clause-follows
@@ -38,6 +40,7 @@ invariant_of-self g c =
     let at_log = counted_on k c.live_lasts.ensures base pass.seen log c.self.inside.table.live c.self.invariant.counted added.goes_on added.legal in
     let set = c.append.ensures.set in
     let is : cell_view c.append.new.set ≡ holder longer puts_key = set.1 ∙ ap (λ (ks : List Key). holder longer ks) owns in
+    let same = numbers_same pass.seen log longer puts_key (noted (journalled added.desk added.call c.args.entry) (puts_key ++ added.own)) added.goes_on added.ends (inl refl) c.append.ensures.call.legal.puts_keyed c.requires.begins_none in
     record {
       same = set.0 ∙ c.self.invariant.same;
       holds = subst (λ (v : View). v ≡ holder v.seen puts_key) (sym is) refl;
@@ -45,6 +48,10 @@ invariant_of-self g c =
       below = subst (λ (v : View). NoneIsAbove c.self.inside.last v.seen) (sym is)
           (numbers_below pass.seen log longer puts_key (noted (journalled added.desk added.call c.args.entry) (puts_key ++ added.own)) c.self.inside.last added.goes_on added.ends (inl refl) c.append.ensures.call.legal.puts_keyed c.self.invariant.below
           (subst (λ (o : Option ℕ). IfSome o (λ number. number ≤ c.self.inside.last)) (sym c.requires.begins_none) tt));
+      taken = subst (λ (v : View). AreTaken c.self.inside.table.live c.self.inside.places.taken c.self.inside.last v.seen) (sym is)
+          (taken_as_before c.self.inside.table.live c.self.inside.places.taken c.self.inside.last pass.seen longer same c.self.invariant.taken);
+      placed = c.self.invariant.placed;
+      begun = λ n there. subst (λ (v : View). Contains (numbers_given (calls v.seen)) n) (sym is) (subst (λ (xs : List ℕ). Contains xs n) (sym same) (c.self.invariant.begun n there));
       few = c.self.invariant.few;
       room = c.self.invariant.room;
     }
