@@ -1,5 +1,5 @@
 //! The puts with notification of all lock sets, in one table.
-ghost use Rattle.std.specs.Prelude.{◌≡◌, ◌⊎◌, ◌+◌, ◌≤◌, ◌<◌, ◌^◌, ◌∷◌, ◌++◌, ℕ, [], true, false, length, not, IfOk, IfErr, OnErr, IfNone, List, Some, Contains};
+ghost use Rattle.std.specs.Prelude.{◌≡◌, ◌⊎◌, ◌↔◌, ◌+◌, ◌≤◌, ◌<◌, ◌^◌, ◌∷◌, ◌++◌, ℕ, [], true, false, length, not, IfOk, IfErr, OnErr, IfNone, List, Some, Contains, IsTrue};
 ghost use Rattle.std.specs.List.{filter};
 ghost use Rattle.std.specs.Option.{IfSome};
 ghost use Rattle.std.specs.Sync.Mutex.{mutex_guard_value};
@@ -125,7 +125,9 @@ impl<K: RecordKind, B: EngineName<K>> SharedNotifications<K, B> {
     /// Frees the place of a number that was taken for a put with notification, which begins then.
     /// Returns whether it was taken. If not, nothing has changed.
     pub fn release(&mut self, number: NotifyId) -> bool
+        ensures taken { IsTrue result ↔ Contains self.old.taken number }
         ensures can { result ≡ true → CanBegin self.new number }
+        ensures freed { result ≡ true → self.new ≡ puts_view self.old.live (without number self.old.taken) self.old.last self.old.seen }
         ensures none { result ≡ false → self.new ≡ self.old }
     {
         if !self.places.has_taken(number) {
@@ -227,6 +229,7 @@ pub(crate) fn keep_beside<K: RecordKind, B: EngineName<K>, D, R: Wait>(
     ensures receipt { result ≡ desk.new.seen }
     ensures pass { (pass.new.table_id ≡ B.table) × (cell_view pass.new ≡ holder desk.new.seen (cell_view pass.old).owns) }
     ensures seen { all.new.seen ≡ desk.new.seen }
+    ensures taken { (all.new.taken ≡ all.old.taken) × (all.new.last ≡ all.old.last) }
     ensures added { (log : List Note)
         × AddedByBoth K.rules B.base (cell_view pass.old).seen (cell_view pass.old).owns all.old.seen puts_key entry
         log desk.new.seen }
