@@ -50,13 +50,13 @@ fn hold<R: Input>(rt: &R, alloc: Global) -> u64 {
 }
 
 // Carries out a job with an engine.
-fn carry_out<B: EngineName + Send + Sync, R: Clock + Input + Threads + Wait + Sync>(
+fn carry_out<B: EngineName<Later> + Send + Sync, R: Clock + Input + Threads + Wait + Sync>(
     rt: &R,
     alloc: Global,
     seed: Seed<Later>,
     job: &Job,
 ) -> Result<Measured, IocError>
-    requires named { IsNamedBy B.table B.base B.had_device B.places B.tickets seed }
+    requires named { IsNamedBy B.table B.base B.devices B.places B.tickets seed }
 {
     let engine = Engine::<B, _, _>::start(alloc, seed, FixedClock(1), LIMITS)?;
     let begun = Instant::now(rt);

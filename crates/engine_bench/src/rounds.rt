@@ -19,7 +19,7 @@ fn is_processed(reply: &Reply) -> bool {
 }
 
 // Requests a record in each round.
-fn requests<B: EngineName, R: Wait>(
+fn requests<B: EngineName<Later>, R: Wait>(
     rt: &R,
     engine: &Calls<B>,
     desk: &mut OneDesk<B>,
@@ -35,7 +35,7 @@ fn requests<B: EngineName, R: Wait>(
 }
 
 // Puts this value into a field in each round.
-fn puts<B: EngineName, R: Wait>(
+fn puts<B: EngineName<Later>, R: Wait>(
     rt: &R,
     engine: &Calls<B>,
     desk: &mut OneDesk<B>,
@@ -53,7 +53,7 @@ fn puts<B: EngineName, R: Wait>(
 
 // Changes a link in each round, to a record of another set or to none. Counts the rounds that moved
 // records.
-fn link_changes<B: EngineName, R: Wait>(
+fn link_changes<B: EngineName<Later>, R: Wait>(
     rt: &R,
     engine: &Calls<B>,
     desk: &mut OneDesk<B>,
@@ -74,7 +74,7 @@ fn link_changes<B: EngineName, R: Wait>(
 }
 
 // Puts a value into a field with notification, and returns the number of the put.
-fn put_notify<B: EngineName, R: Wait>(
+fn put_notify<B: EngineName<Later>, R: Wait>(
     rt: &R,
     engine: &Calls<B>,
     desk: &mut OneDesk<B>,
@@ -88,7 +88,7 @@ fn put_notify<B: EngineName, R: Wait>(
 }
 
 // Completes a record, and returns whether it awaited this completion.
-fn complete<B: EngineName, R: Wait>(
+fn complete<B: EngineName<Later>, R: Wait>(
     rt: &R,
     engine: &Calls<B>,
     desk: &mut OneDesk<B>,
@@ -101,7 +101,7 @@ fn complete<B: EngineName, R: Wait>(
 }
 
 // Puts with notification in each round, and completes the record.
-fn notifications<B: EngineName, R: Wait>(
+fn notifications<B: EngineName<Later>, R: Wait>(
     rt: &R,
     engine: &Calls<B>,
     desk: &mut OneDesk<B>,
@@ -118,7 +118,7 @@ fn notifications<B: EngineName, R: Wait>(
 }
 
 // Puts with notification in each round, cancels the put, and completes the record.
-fn cancels<B: EngineName, R: Wait>(
+fn cancels<B: EngineName<Later>, R: Wait>(
     rt: &R,
     engine: &Calls<B>,
     desk: &mut OneDesk<B>,
@@ -143,7 +143,7 @@ struct Target {
 }
 
 // Finds the target of a thread.
-fn target_of<B: EngineName>(
+fn target_of<B: EngineName<Later>>(
     alloc: Global,
     engine: &Calls<B>,
     work: Work,
@@ -162,7 +162,7 @@ fn target_of<B: EngineName>(
 }
 
 // Carries out the rounds of a thread, and returns the number of those with the expected replies.
-fn rounds<B: EngineName, R: Wait>(
+fn rounds<B: EngineName<Later>, R: Wait>(
     rt: &R,
     alloc: Global,
     engine: &Calls<B>,
@@ -191,7 +191,7 @@ fn rounds<B: EngineName, R: Wait>(
 /// # Errors
 ///
 /// The first refusal of a call. [`IocError::NoMemory`] if allocation fails.
-pub fn in_threads<B: EngineName + Send + Sync, R: Threads + Wait + Sync>(
+pub fn in_threads<B: EngineName<Later> + Send + Sync, R: Threads + Wait + Sync>(
     rt: &R,
     alloc: Global,
     engine: &Calls<B>,

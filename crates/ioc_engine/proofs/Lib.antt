@@ -3,3 +3,4 @@ mod Closing
 mod Bindings
 mod Copied
 mod GivingBack
+mod Numbers

@@ -1,5 +1,6 @@
 pub mod Channels
 pub mod Named
+pub mod Numbers
 pub mod Relinking
 pub mod Binding
 pub mod Stopped

@@ -1,5 +1,6 @@
 //! Desks.
 use crate::engine_name::EngineName;
+use ioc_device::Device;
 use ioc_history;
 use ioc_notify::NotifyId;
 use ioc_set_store::EventBuffers;
@@ -21,14 +22,14 @@ use std::alloc::Global;
 /// };
 /// ```
 #[derive(Drop)]
-pub struct Desk<B: EngineName, D: Drop> {
+pub struct Desk<B: EngineName<D>, D: Device> {
     pub(crate) account: ioc_history::Desk<Record, B>,
     pub(crate) buffers: EventBuffers<Record, D>,
     pub(crate) alloc: Global,
     pub(crate) moved: usize,
 }
 
-impl<B: EngineName, D: Drop> Desk<B, D> {
+impl<B: EngineName<D>, D: Device> Desk<B, D> {
     ghost use Rattle.std.specs.Prelude.{◌≡◌};
 
     /// Returns the puts with notification that have ended by the desk's last call, in order, also

@@ -48,14 +48,14 @@ use std::sync::Wait;
 /// let (shown, _receipt) = engine.get(rt, &mut desk, engine.channel(b"copy.SEVR")?)?;
 /// ```
 #[derive(Drop)]
-pub struct Engine<B: EngineName, D: Drop, C: Drop> {
+pub struct Engine<B: EngineName<D>, D: Device, C: Drop> {
     pub(crate) core: EngineCore<Record, B, D>,
     pub(crate) lookup: Lookup,
     pub(crate) clock: C,
     pub(crate) alloc: Global,
 }
 
-impl<B: EngineName, D: Drop, C: Drop> Engine<B, D, C> {
+impl<B: EngineName<D>, D: Device, C: Drop> Engine<B, D, C> {
     /// Starts an engine. No record is processed by it. The journal takes as many calls as the
     /// limits allow, and its memory grows with the calls.
     ///
@@ -64,7 +64,7 @@ impl<B: EngineName, D: Drop, C: Drop> Engine<B, D, C> {
     /// [`IocError::BadValue`] if a limit is out of range. [`IocError::NoMemory`] if allocation
     /// fails.
     pub fn start(alloc: Global, seed: Seed<D>, clock: C, limits: Limits) -> Result<Self, IocError>
-        requires named { IsNamedBy B.table B.base B.had_device B.places B.tickets seed }
+        requires named { IsNamedBy B.table B.base B.devices B.places B.tickets seed }
         ensures records { IfOk result (λ e. e.core ≡ length seed.records.items) }
         ensures names { IfOk result (λ e. e.lookup ≡ seed.lookup) }
         ensures limits { OnOk result (AreAllowed limits) }
@@ -160,7 +160,7 @@ impl<B: EngineName, D: Drop, C: Drop> Engine<B, D, C> {
     }
 }
 
-impl<B: EngineName, D: Device, C: Clock + Drop> Engine<B, D, C> {
+impl<B: EngineName<D>, D: Device, C: Clock + Drop> Engine<B, D, C> {
     // Performs an event on the set of a record, at a moment. Inlined, so that each call knows its
     // kind of event.
     #[inline(always)]

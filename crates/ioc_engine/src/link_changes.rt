@@ -56,7 +56,7 @@ impl Lookup {
     }
 }
 
-impl<B: EngineName, D: Device, C: Clock + Drop> Engine<B, D, C> {
+impl<B: EngineName<D>, D: Device, C: Clock + Drop> Engine<B, D, C> {
     /// Changes a link of a record to the link of this text, as in a database text. It leads to the
     /// record and field that it names, or to the device that it names if the record owned that
     /// device at the load, or else nowhere. The record's lock set may part in two, or its part

@@ -21,7 +21,7 @@ use ioc_notify::NotifyId;
 use ioc_values::{Input, IocError};
 use std::sync::Wait;
 
-impl<B: EngineName, D: Device, C: Clock + Drop> Engine<B, D, C> {
+impl<B: EngineName<D>, D: Device, C: Clock + Drop> Engine<B, D, C> {
     /// Puts a value into a field with notification (dbPutNotify): the records that are processed
     /// for it become part of the put with notification, which ends when the last of them is done:
     /// the call by which that happens has it in [`Desk::ended`]. Its number, which no other one has,

@@ -6,11 +6,12 @@ ghost use Rattle.ioc_engine_core.specs.Seen.{IsPartSeen};
 
 use crate::engine::Engine;
 use crate::engine_name::EngineName;
+use ioc_device::Device;
 use ioc_names::RecordNo;
 use ioc_values::IocError;
 use std::sync::Wait;
 
-impl<B: EngineName, D: Drop, C: Drop> Engine<B, D, C> {
+impl<B: EngineName<D>, D: Device, C: Drop> Engine<B, D, C> {
     /// Returns the records of each lock set, as they were while its lock was held: sets that are
     /// parted or joined by link changes meanwhile may be seen before or after the change. Each
     /// record is in at least one list, and in exactly one if no link is changed meanwhile.

@@ -2,6 +2,7 @@
 ghost use Rattle.std.specs.Prelude.{◌≡◌, ◌++◌, map, IfOk, IfErr, OnOk};
 ghost use Rattle.rec_types.specs.Record.{record_rules};
 ghost use Rattle.ioc_history.specs.Account.{IsEntryOf};
+ghost use Rattle.ioc_journaled_set.specs.SameDevice.{IsDeviceOf};
 ghost use Rattle.ioc_engine_core.specs.Ended.{IsEnd, counts_in};
 ghost use Rattle.ioc_engine_core.specs.Once.{AreAllBack};
 ghost use Rattle.ioc_engine.specs.Stopped.{stopped_of, GivesBack};
@@ -9,6 +10,7 @@ ghost use Rattle.ioc_engine.specs.Stopped.{stopped_of, GivesBack};
 use crate::Receipt;
 use crate::engine::Engine;
 use crate::engine_name::EngineName;
+use ioc_device::Device;
 use ioc_engine_core::{OnceTally, Report as CoreReport};
 use ioc_history::JournalEntry;
 use ioc_ledger::Tally;
@@ -31,7 +33,7 @@ use std::sync::Wait;
 /// let records = report.into_records(alloc)?;
 /// ```
 #[derive(Drop)]
-pub struct Report<B: EngineName, D: Drop> {
+pub struct Report<B: EngineName<D>, D: Device> {
     pub(crate) core: CoreReport<Record, B, D>,
 }
 
@@ -82,14 +84,15 @@ fn add_records<D: Drop>(
     Ok(())
 }
 
-impl<B: EngineName, D: Drop, C: Drop> Engine<B, D, C> {
+impl<B: EngineName<D>, D: Device, C: Drop> Engine<B, D, C> {
     /// Ends the engine, once all its calls are finished, since it takes the engine by value.
     ///
     /// # Errors
     ///
     /// The unchanged engine if allocation fails.
     pub fn stop<R: Wait>(self, rt: &R) -> Result<Report<B, D>, Engine<B, D, C>>
-        ensures end { IfOk result (λ r. IsEnd record_rules B.base B.had_device self.core r.core.journal.filled r.core.sets.items) }
+        ensures end { IfOk result (λ r. IsEnd record_rules B.base (IsDeviceOf D.gives B.devices) self.core r.core.journal.filled
+            r.core.sets.items) }
         ensures once { IfOk result (λ r. AreAllBack r.core.once) }
         ensures err { IfErr result (λ e. (e.core ≡ self.core) × (e.lookup ≡ self.lookup)) }
     {
@@ -111,7 +114,7 @@ impl<B: EngineName, D: Drop, C: Drop> Engine<B, D, C> {
     }
 }
 
-impl<B: EngineName, D: Drop> Report<B, D> {
+impl<B: EngineName<D>, D: Device> Report<B, D> {
     /// Returns the counts of requests and of asynchronous answers of all lock sets together. Each
     /// count stops at 2^64 - 1.
     pub fn tally(&self) -> Tally
@@ -143,13 +146,14 @@ impl<B: EngineName, D: Drop> Report<B, D> {
         self.core.journal.entry(rt, receipt)
     }
 
-    /// Returns the records of all lock sets, those of one set after another, each with its device.
+    /// Returns the records of all lock sets, those of one set after another, each with its device:
+    /// the one that the seed gave it, as its own answers left it.
     ///
     /// # Errors
     ///
     /// [`AllocError`] if allocation fails; the records are dropped then.
     pub fn into_records(self, alloc: Global) -> Result<Vec<StoppedRecord<D>>, AllocError>
-        ensures { IfOk result (λ all. GivesBack self.core.sets.items all.items) }
+        ensures { IfOk result (λ all. GivesBack (IsDeviceOf D.gives B.devices) self.core.sets.items all.items) }
     {
         let Report { core } = self;
         let CoreReport {
@@ -160,6 +164,7 @@ impl<B: EngineName, D: Drop> Report<B, D> {
         } = core;
         let mut all = Vec::new(alloc);
         for set in sets {
+            set.keeps_devices();
             add_records(&mut all, set.into_slots())?;
         }
         Ok(all)

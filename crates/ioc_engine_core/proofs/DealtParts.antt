@@ -23,7 +23,7 @@ use Rattle.ioc_set.specs.Linking.{anew, AreCalm, IsCalm, NoneAwaits}
 use Rattle.ioc_set_records.specs.declared.loaded.Loaded.{Loaded}
 use Rattle.ioc_set_records.specs.Dealing.{HasPart}
 use Rattle.ioc_set_records.specs.Linked.{AreParts, links_in}
-use Rattle.ioc_engine_core.specs.Loading.{loaded_world, have_device, AreOfPartsBelow, IsIdle, IsAtRest, IsSetOf, AreSetsFrom}
+use Rattle.ioc_engine_core.specs.Loading.{loaded_world, device_in, AreOfPartsBelow, IsIdle, IsAtRest, IsSetOf, AreSetsFrom}
 use Rattle.ioc_engine_core.proofs.Keys.{record_contains, key_there}
 
 none_in : {A : Type 0} (x : A) → Contains [] x → ⊥
@@ -74,7 +74,7 @@ idle_of [] q l found idle = absurd (none_some (Some l) (sym found) refl)
 idle_of {R = R} {D = D} {k = k} (x ∷ xs) zero l found idle = subst (λ (y : Loaded R D). IsIdle k y.fields) (some_same found) (idle zero x (omega arith))
 idle_of (x ∷ xs) (suc q) l found idle = idle_of xs q l found (λ i d lt. idle (suc i) d (omega (arith, lt)))
 
-module _ {R D : Type 0} (k : RecordRules R) (missing : targets k k.missing ≡ []) (base : World R) (had : ℕ → Bool) (parts : List ℕ) (all : List (Loaded R D)) (rest : IsAtRest k base had parts all)
+module _ {R D : Type 0} (k : RecordRules R) (missing : targets k k.missing ≡ []) (base : World R) (had : ℕ → Option D → Type 0) (parts : List ℕ) (all : List (Loaded R D)) (rest : IsAtRest k base had parts all)
     (part : ℕ) (c : Contents R D) (has : HasPart all parts part c) where
   -- The record of the database at a number.
   loaded : (q : ℕ) → get base.records q ≡ option_map (λ (l : Loaded R D). l.fields) (slice_get all q)
@@ -128,13 +128,13 @@ module _ {R D : Type 0} (k : RecordRules R) (missing : targets k k.missing ≡ [
       out (subst (λ (o : Option R). IsSome o) (sym (there a a_is)) (some_there a (slice_get all a) refl names.0 names.1))
 
   its_device : (b : Bool) (q : ℕ) (d : Option D) → d ≡ option_and_then (λ (l : Loaded R D). l.device) (cond b (slice_get all q) None) → b ≡ true
-      → is_some d ≡ have_device all q
-  its_device true q d is own = ap (λ (o : Option D). is_some o) is
+      → d ≡ device_in all q
+  its_device true q d is own = is
   its_device false q d is own = cc
 
   pub set_keeps_devices : KeepsDevices had (anew c.records c.devices [] [] no_counts)
   set_keeps_devices q some =
-      its_device (slice_index parts q == part) q (get c.devices q) (has.devices q) (is_same (slice_index parts q) part (here q some).0) ∙ sym (ap (λ (f : ℕ → Bool). f q) rest.devices)
+      subst (λ (o : Option D). had q o) (sym (its_device (slice_index parts q == part) q (get c.devices q) (has.devices q) (is_same (slice_index parts q) part (here q some).0))) (rest.devices q)
 
   pub set_holds : IsPart (links_of k c.records) → Holds k base (resting c.records [] [])
   set_holds p = record {
@@ -190,7 +190,7 @@ module _ {R D : Type 0} (k : RecordRules R) (missing : targets k k.missing ≡ [
   database_is_small n lt = omega (arith, lt, len-numbered (map (λ (l : Loaded R D). l.fields) all), length-map all (λ (l : Loaded R D). l.fields))
 
 -- The sets that remain after the first is taken.
-pub sets_left : {R D : Type 0} (k : RecordRules R) (base : World R) (had : ℕ → Bool) (parts : List ℕ) (from : ℕ) (sets : List (Contents R D)) (x : Contents R D) → AreSetsFrom k base had parts from sets → AreSetsFrom k base had parts (from + 1) (set sets from x)
+pub sets_left : {R D : Type 0} (k : RecordRules R) (base : World R) (had : ℕ → Option D → Type 0) (parts : List ℕ) (from : ℕ) (sets : List (Contents R D)) (x : Contents R D) → AreSetsFrom k base had parts from sets → AreSetsFrom k base had parts (from + 1) (set sets from x)
 sets_left {R} {D} k base had parts from sets x left =
     let as_long = length-set sets from x in
     let other = λ (p : ℕ) (le : from + 1 ≤ p). get_or-set_other sets from p x nothing (λ e. let m : p ≡ from = e in let z : ⊥ = omega (arith, le, m) in z) in
@@ -202,7 +202,7 @@ sets_left {R} {D} k base had parts from sets x left =
     }
 
 -- The first of the remaining sets.
-pub set_here : {R D : Type 0} (k : RecordRules R) (base : World R) (had : ℕ → Bool) (parts : List ℕ) (from : ℕ) (sets : List (Contents R D)) (c : Contents R D) → c ≡ get_or sets from nothing → from < length sets → AreSetsFrom k base had parts from sets → IsSetOf k base had parts from c
+pub set_here : {R D : Type 0} (k : RecordRules R) (base : World R) (had : ℕ → Option D → Type 0) (parts : List ℕ) (from : ℕ) (sets : List (Contents R D)) (c : Contents R D) → c ≡ get_or sets from nothing → from < length sets → AreSetsFrom k base had parts from sets → IsSetOf k base had parts from c
 set_here {R} {D} k base had parts from sets c is lt left = record {
   all = left.all;
   rest = left.rest;

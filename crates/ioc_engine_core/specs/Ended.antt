@@ -1,6 +1,6 @@
 -- What is left of an engine when it ends. Application Developer's Guide, "Database Locking,
 -- Scanning, and Processing", lock sets. The journal is this project's own.
-use Rattle.std.specs.Prelude.{◌≡◌, ℕ, Bool, List, IsSome, All}
+use Rattle.std.specs.Prelude.{◌≡◌, ℕ, List, Option, IsSome, All}
 use Rattle.std.specs.List.{sum_by}
 use Rattle.std.specs.FinMap.{get}
 use Rattle.ioc_notify.specs.Waits.{at_record}
@@ -22,10 +22,10 @@ module _ {R D : Type 0} (k : RecordRules R) (base : World R) where
     pub waiting : (n : ℕ) → IsSome (get h.set.records n) → at_record n (map_of k base log).waiting ≡ at_record n h.set.waiting
 
   -- The sets have each of the first `count` records, and none is in two of them. Each set is sound,
-  -- so its records are one connected part, and exactly those records have a device that had one at
-  -- the load. The list of all calls is legal, and leads from the world at the load to the records
-  -- of the sets and their waiting lists.
-  pub record IsEnd (had : ℕ → Bool) (count : ℕ) (log : List Note) (sets : List (HeldView R D)) : Type 0 where
+  -- so its records are one connected part, and each record has its device, of which `had` tells. The
+  -- list of all calls is legal, and leads from the world at the load to the records of the sets and
+  -- their waiting lists.
+  pub record IsEnd (had : ℕ → Option D → Type 0) (count : ℕ) (log : List Note) (sets : List (HeldView R D)) : Type 0 where
     pub each : HoldEach numbers_of sets count
     pub sound : All (IsSoundlyHeld k base) sets
     pub devices : All (λ (h : HeldView R D). KeepsDevices had h.set) sets

@@ -1,6 +1,6 @@
 -- A loaded database before its first event. Application Developer's Guide, "Database Locking,
 -- Scanning, and Processing": records that are connected by links are in one lock set.
-use Rattle.std.specs.Prelude.{◌≡◌, ℕ, ◌<◌, ◌≤◌, Bool, false, Option, None, List, [], map, length, All, is_some, slice_get, slice_index, slice_index_or}
+use Rattle.std.specs.Prelude.{◌≡◌, ℕ, ◌<◌, ◌≤◌, false, Option, None, List, [], map, length, All, slice_get, slice_index, slice_index_or}
 use Rattle.std.specs.Option.{option_and_then}
 use Rattle.ioc_record.specs.RecordRules.{RecordRules}
 use Rattle.ioc_set_records.specs.Contents.{Contents, nothing}
@@ -17,9 +17,9 @@ use Rattle.ioc_set_records.specs.Linked.{AreParts}
 abbrev pub loaded_world : {R D : Type 0} → List (Loaded R D) → World R
 loaded_world all = resting (numbered (map (λ l. l.fields) all)) [] []
 
--- The places of the records that have a device.
-abbrev pub have_device : {R D : Type 0} → List (Loaded R D) → ℕ → Bool
-have_device all number = is_some (option_and_then (λ l. l.device) (slice_get all number))
+-- The device of the record at a place.
+abbrev pub device_in : {R D : Type 0} → List (Loaded R D) → ℕ → Option D
+device_in all number = option_and_then (λ l. l.device) (slice_get all number)
 
 -- Holds if each record has the device at its place, or none if there is none at that place.
 abbrev pub HaveDevices : {R D : Type 0} → List (Loaded R D) → List (Option D) → Type 0
@@ -37,23 +37,23 @@ pub record IsIdle {R : Type 0} (k : RecordRules R) (r : R) : Type 0 where
   pub free : (k.common r).notification ≡ None
 
 module _ {R D : Type 0} (k : RecordRules R) where
-  -- Holds if the world is that of these records, which are idle, `had` tells which of them have a
-  -- device, and their links make these parts.
-  pub record IsAtRest (base : World R) (had : ℕ → Bool) (parts : List ℕ) (all : List (Loaded R D)) : Type 0 where
+  -- Holds if the world is that of these records, which are idle, `had` tells of their devices, and
+  -- their links make these parts.
+  pub record IsAtRest (base : World R) (had : ℕ → Option D → Type 0) (parts : List ℕ) (all : List (Loaded R D)) : Type 0 where
     pub world : base ≡ loaded_world all
-    pub devices : had ≡ have_device all
+    pub devices : (n : ℕ) → had n (device_in all n)
     pub idle : All (λ l. IsIdle k l.fields) all
     pub parts_are : AreParts k all parts
 
   -- Holds of a set with the records of one part of such a world.
-  pub record IsSetOf (base : World R) (had : ℕ → Bool) (parts : List ℕ) (part : ℕ) (members : Contents R D) : Type 0 where
+  pub record IsSetOf (base : World R) (had : ℕ → Option D → Type 0) (parts : List ℕ) (part : ℕ) (members : Contents R D) : Type 0 where
     pub all : List (Loaded R D)
     pub rest : IsAtRest base had parts all
     pub has : HasPart all parts part members
     pub one_part : IsPart (links_of k members.records)
 
   -- Holds of sets of which each, from a number on, has the records of the part with its number.
-  pub record AreSetsFrom (base : World R) (had : ℕ → Bool) (parts : List ℕ) (from : ℕ) (sets : List (Contents R D)) : Type 0 where
+  pub record AreSetsFrom (base : World R) (had : ℕ → Option D → Type 0) (parts : List ℕ) (from : ℕ) (sets : List (Contents R D)) : Type 0 where
     pub all : List (Loaded R D)
     pub rest : IsAtRest base had parts all
     pub each : (part : ℕ) → from ≤ part → part < length sets → HasPart all parts part (slice_index_or sets part nothing)

@@ -9,8 +9,8 @@ ghost use Rattle.ioc_engine_core.specs.Cancelled.{WasCancelled, WasGivenUp, WasN
 use crate::engine::EngineCore;
 use ioc_device::Device;
 use ioc_events::Reply;
-use ioc_history::{Desk, EngineName, Receipt};
-use ioc_journaled_set::{JournaledSet, cancel_on};
+use ioc_history::{Desk, Receipt};
+use ioc_journaled_set::{JournaledSet, SetsName, cancel_on};
 use ioc_notify::NotifyId;
 use ioc_record::RecordKind;
 use ioc_set_store::EventBuffers;
@@ -20,7 +20,7 @@ use std::alloc::Global;
 use std::sync::Wait;
 
 // States the invariant of each of these sets. Does nothing.
-pub(crate) fn all_sound<K: RecordKind + Drop, B: EngineName<K>, D: Drop>(
+pub(crate) fn all_sound<K: RecordKind + Drop, B: SetsName<K, D>, D: Device>(
     sets: &[JournaledSet<K, B, D>],
 )
     ensures { All (IsSoundlyHeld K.rules B.base) sets.now }
@@ -30,7 +30,7 @@ pub(crate) fn all_sound<K: RecordKind + Drop, B: EngineName<K>, D: Drop>(
     }
 }
 
-impl<K: RecordKind + Drop, B: EngineName<K>, D: Device> EngineCore<K, B, D> {
+impl<K: RecordKind + Drop, B: SetsName<K, D>, D: Device> EngineCore<K, B, D> {
     // Refuses to cancel a put with notification that isn't live. Returns `None` if it is live;
     // nothing is done then.
     fn refuse_stale<R: Wait>(

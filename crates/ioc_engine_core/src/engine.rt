@@ -15,8 +15,8 @@ use ioc_callback::OnceQueue;
 use ioc_device::Device;
 use ioc_events::{Event, Reply};
 use ioc_fields::FieldNo;
-use ioc_history::{Desk, EngineName, Receipt, SharedJournal};
-use ioc_journaled_set::{JournaledSet, SharedNotifications};
+use ioc_history::{Desk, Receipt, SharedJournal};
+use ioc_journaled_set::{JournaledSet, SetsName, SharedNotifications};
 use ioc_names::RecordNo;
 use ioc_record::RecordKind;
 use ioc_set_store::EventBuffers;
@@ -30,7 +30,7 @@ use std::sync::{Mutex, Wait};
 /// The records of a database in their lock sets, each set under its own lock, and the journal of
 /// all calls. Contracts see the number of records.
 #[derive(Drop)]
-pub struct EngineCore<K: RecordKind + Drop, B: EngineName<K>, D: Drop> {
+pub struct EngineCore<K: RecordKind + Drop, B: SetsName<K, D>, D: Device> {
     pub(crate) sets: Directory<JournaledSet<K, B, D>>,
     pub(crate) book: SharedJournal<K, B>,
     // Locked while the lock of a set is held, and before the journal.
@@ -43,7 +43,7 @@ pub struct EngineCore<K: RecordKind + Drop, B: EngineName<K>, D: Drop> {
     pub(crate) closed: AtomicBool,
 }
 
-impl<K: RecordKind + Drop, B: EngineName<K>, D: Drop> Model for EngineCore<K, B, D> {
+impl<K: RecordKind + Drop, B: SetsName<K, D>, D: Device> Model for EngineCore<K, B, D> {
     ghost use Rattle.std.specs.Prelude.{ℕ};
 
     ghost Value = { ℕ };
@@ -51,7 +51,7 @@ impl<K: RecordKind + Drop, B: EngineName<K>, D: Drop> Model for EngineCore<K, B,
     ghost view = { λ e. e.sets };
 }
 
-impl<K: RecordKind + Drop, B: EngineName<K>, D: Drop> EngineCore<K, B, D> {
+impl<K: RecordKind + Drop, B: SetsName<K, D>, D: Device> EngineCore<K, B, D> {
     /// Creates an engine with these sets, the journal of its calls, the table of its puts with
     /// notification, and the list of its once requests.
     pub fn new(
@@ -113,7 +113,7 @@ impl<K: RecordKind + Drop, B: EngineName<K>, D: Drop> EngineCore<K, B, D> {
     }
 }
 
-impl<K: RecordKind + Drop, B: EngineName<K>, D: Device> EngineCore<K, B, D> {
+impl<K: RecordKind + Drop, B: SetsName<K, D>, D: Device> EngineCore<K, B, D> {
     /// Performs a request, a put or a completion on the set of its record, and then takes what the
     /// event has sent. Inlined, as are its callees up to the journal, so that each call knows its
     /// kind of event and the entry is built in its place.

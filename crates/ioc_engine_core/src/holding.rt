@@ -11,10 +11,12 @@ ghost use Rattle.ioc_set_store.specs.Resting.{resting};
 ghost use Rattle.ioc_set.specs.Linking.{anew, AreCalm, NoneAwaits};
 ghost use Rattle.ioc_history.specs.Account.{AreRecords};
 ghost use Rattle.ioc_journaled_set.specs.Holding.{KeepsDevices, held_view};
+ghost use Rattle.ioc_journaled_set.specs.SameDevice.{IsDeviceOf};
 ghost use Rattle.ioc_engine_core.specs.Loading.{IsSetOf, AreSetsFrom, AreOfPartsBelow};
 
-use ioc_history::{Cell, EngineName, KeyPass, Keys, pass};
-use ioc_journaled_set::JournaledSet;
+use ioc_device::Device;
+use ioc_history::{Cell, KeyPass, Keys, pass};
+use ioc_journaled_set::{JournaledSet, SetsName};
 use ioc_record::RecordKind;
 use ioc_set::LockSet;
 use ioc_set_records::Members;
@@ -24,7 +26,7 @@ use std::marker::Brand;
 use std::mem;
 
 // A journaled set of these members, with a pass that owns the keys of `P`.
-fn hold_as<P: Keys, K: RecordKind, B: EngineName<K>, D>(
+fn hold_as<P: Keys, K: RecordKind, B: SetsName<K, D>, D: Device>(
     alloc: Global,
     cell: &Cell,
     master: &mut KeyPass,
@@ -39,7 +41,7 @@ fn hold_as<P: Keys, K: RecordKind, B: EngineName<K>, D>(
     requires calm { AreCalm K.rules members.records }
     requires idle { NoneAwaits K.rules members.records }
     requires holds { Holds K.rules B.base (resting members.records [] []) }
-    requires devices { KeepsDevices B.had_device (anew members.records members.devices [] [] no_counts) }
+    requires devices { KeepsDevices (IsDeviceOf D.gives B.devices) (anew members.records members.devices [] [] no_counts) }
     ensures table { master.new.table_id ≡ B.table }
     ensures master { cell_view master.new ≡ keeper [] (record_keys (map.keys members.records) ++ (cell_view master.old).born) }
     ensures held { result ≡ held_view (anew members.records members.devices [] [] no_counts) [] }
@@ -51,7 +53,7 @@ fn hold_as<P: Keys, K: RecordKind, B: EngineName<K>, D>(
 
 /// A journaled set of these members, with a pass that owns the keys of their records and has seen
 /// no call.
-pub fn hold<K: RecordKind, B: EngineName<K>, D>(
+pub fn hold<K: RecordKind, B: SetsName<K, D>, D: Device>(
     alloc: Global,
     cell: &Cell,
     master: &mut KeyPass,
@@ -65,7 +67,7 @@ pub fn hold<K: RecordKind, B: EngineName<K>, D>(
     requires calm { AreCalm K.rules members.records }
     requires idle { NoneAwaits K.rules members.records }
     requires holds { Holds K.rules B.base (resting members.records [] []) }
-    requires devices { KeepsDevices B.had_device (anew members.records members.devices [] [] no_counts) }
+    requires devices { KeepsDevices (IsDeviceOf D.gives B.devices) (anew members.records members.devices [] [] no_counts) }
     ensures table { master.new.table_id ≡ B.table }
     ensures master { cell_view master.new ≡ keeper [] (record_keys (map.keys members.records) ++ (cell_view master.old).born) }
     ensures held { result ≡ held_view (anew members.records members.devices [] [] no_counts) [] }
@@ -75,7 +77,7 @@ pub fn hold<K: RecordKind, B: EngineName<K>, D>(
 
 // A journaled set of the records of one part, with a pass that owns the keys of these records and
 // has seen no call.
-fn hold_part<K: RecordKind, B: EngineName<K>, D>(
+fn hold_part<K: RecordKind, B: SetsName<K, D>, D: Device>(
     alloc: Global,
     cell: &Cell,
     master: &mut KeyPass,
@@ -85,7 +87,7 @@ fn hold_part<K: RecordKind, B: EngineName<K>, D>(
 ) -> JournaledSet<K, B, D>
     requires table { (cell.now.table.shared.table_id ≡ B.table) × (master.old.table_id ≡ B.table) }
     requires master { cell_view master.old ≡ keeper [] (cell_view master.old).born }
-    requires part { IsSetOf K.rules B.base B.had_device parts.now part members }
+    requires part { IsSetOf K.rules B.base (IsDeviceOf D.gives B.devices) parts.now part members }
     requires born { AreOfPartsBelow parts.now part (cell_view master.old).born }
     ensures table { master.new.table_id ≡ B.table }
     ensures master { cell_view master.new ≡ keeper [] (cell_view master.new).born }
@@ -101,7 +103,7 @@ fn hold_part<K: RecordKind, B: EngineName<K>, D>(
 /// # Errors
 ///
 /// [`AllocError`] if allocation fails.
-pub fn hold_all<K: RecordKind + Drop, B: EngineName<K>, D: Drop>(
+pub fn hold_all<K: RecordKind + Drop, B: SetsName<K, D>, D: Device>(
     alloc: Global,
     cell: &Cell,
     master: &mut KeyPass,
@@ -110,7 +112,7 @@ pub fn hold_all<K: RecordKind + Drop, B: EngineName<K>, D: Drop>(
 ) -> Result<Directory<JournaledSet<K, B, D>>, AllocError>
     requires table { (cell.now.table.shared.table_id ≡ B.table) × (master.old.table_id ≡ B.table) }
     requires master { cell_view master.old ≡ keeper [] [] }
-    requires parts { AreSetsFrom K.rules B.base B.had_device parts.now 0 sets.old }
+    requires parts { AreSetsFrom K.rules B.base (IsDeviceOf D.gives B.devices) parts.now 0 sets.old }
     ensures count { IfOk result (λ d. d ≡ length parts.now) }
     ensures table { OnOk result (master.new.table_id ≡ B.table) }
     ensures master { OnOk result (cell_view master.new ≡ keeper [] (cell_view master.new).born) }

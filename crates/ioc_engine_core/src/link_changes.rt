@@ -9,8 +9,8 @@ use crate::engine::EngineCore;
 use ioc_dbcommon::LinkBox;
 use ioc_device::Device;
 use ioc_fields::FieldNo;
-use ioc_history::{Desk, EngineName};
-use ioc_journaled_set::{Changed, JournaledSet, change_link};
+use ioc_history::Desk;
+use ioc_journaled_set::{Changed, JournaledSet, SetsName, change_link};
 use ioc_names::RecordNo;
 use ioc_record::RecordKind;
 use ioc_set_store::EventBuffers;
@@ -19,7 +19,7 @@ use ioc_values::IocError;
 use std::alloc::Global;
 use std::sync::Wait;
 
-impl<K: RecordKind + Drop, B: EngineName<K>, D: Device> EngineCore<K, B, D> {
+impl<K: RecordKind + Drop, B: SetsName<K, D>, D: Device> EngineCore<K, B, D> {
     // Changes a link of a record of the first of these sets.
     fn change_lent<R: Wait>(
         &self,

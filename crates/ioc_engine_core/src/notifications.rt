@@ -11,7 +11,8 @@ use crate::engine::EngineCore;
 use ioc_device::Device;
 use ioc_events::Reply;
 use ioc_fields::FieldNo;
-use ioc_history::{Desk, EngineName, Receipt};
+use ioc_history::{Desk, Receipt};
+use ioc_journaled_set::SetsName;
 use ioc_names::RecordNo;
 use ioc_notify::NotifyId;
 use ioc_record::RecordKind;
@@ -21,7 +22,7 @@ use ioc_values::{Input, IocError};
 use std::alloc::Global;
 use std::sync::Wait;
 
-impl<K: RecordKind + Drop, B: EngineName<K>, D: Device> EngineCore<K, B, D> {
+impl<K: RecordKind + Drop, B: SetsName<K, D>, D: Device> EngineCore<K, B, D> {
     /// Puts a value into a field with a notification: the records that are
     /// processed for it become part of the put with notification, which ends when the last of them
     /// is done. Its number is in the reply. If the record awaits its device, the put waits for it.

@@ -7,8 +7,8 @@ ghost use Rattle.ioc_values.specs.declared.error.IocError.TheVariants.{NoMemory,
 ghost use Rattle.ioc_engine_core.specs.Seen.{IsPartSeen};
 
 use crate::engine::EngineCore;
-use ioc_history::EngineName;
-use ioc_journaled_set::JournaledSet;
+use ioc_device::Device;
+use ioc_journaled_set::{JournaledSet, SetsName};
 use ioc_names::RecordNo;
 use ioc_record::RecordKind;
 use ioc_topology::Locked;
@@ -17,7 +17,7 @@ use std::alloc::{AllocError, Global};
 use std::sync::Wait;
 
 // Returns the numbers of a set's records.
-fn numbers_in<K: RecordKind + Drop, B: EngineName<K>, D: Drop>(
+fn numbers_in<K: RecordKind + Drop, B: SetsName<K, D>, D: Device>(
     alloc: Global,
     held: &JournaledSet<K, B, D>,
 ) -> Result<Vec<RecordNo>, AllocError>
@@ -49,7 +49,7 @@ fn mark_all(numbers: &[RecordNo], marks: &mut Vec<bool>)
     }
 }
 
-impl<K: RecordKind + Drop, B: EngineName<K>, D: Drop> EngineCore<K, B, D> {
+impl<K: RecordKind + Drop, B: SetsName<K, D>, D: Device> EngineCore<K, B, D> {
     // Returns the numbers of the records of the set with this record.
     fn part_of<R: Wait>(
         &self,

@@ -1,6 +1,7 @@
 //! The end of the engine.
 ghost use Rattle.std.specs.Prelude.{◌≡◌, map, All, IfOk, IfErr};
 ghost use Rattle.ioc_journaled_set.specs.Holding.{KeepsDevices};
+ghost use Rattle.ioc_journaled_set.specs.SameDevice.{IsDeviceOf};
 ghost use Rattle.ioc_engine_core.specs.Ended.{IsAsTold, IsEnd, counts_in};
 ghost use Rattle.ioc_engine_core.specs.Once.{AreAllBack};
 
@@ -8,8 +9,9 @@ use crate::cancelling::all_sound;
 use crate::ended_journal::EndedJournal;
 use crate::engine::EngineCore;
 use ioc_callback::OnceQueue;
-use ioc_history::{Cell, EngineName, Journal};
-use ioc_journaled_set::JournaledSet;
+use ioc_device::Device;
+use ioc_history::{Cell, Journal};
+use ioc_journaled_set::{JournaledSet, SetsName};
 use ioc_ledger::Tally;
 use ioc_record::RecordKind;
 use ioc_set::linking::add_counts;
@@ -19,7 +21,7 @@ use std::sync::ledger::Ledger;
 
 /// What is left of an engine when it ends.
 #[derive(Drop)]
-pub struct Report<K: RecordKind + Drop, B: EngineName<K>, D: Drop> {
+pub struct Report<K: RecordKind + Drop, B: SetsName<K, D>, D: Device> {
     /// The lock sets, each with its records and their devices.
     pub sets: Vec<JournaledSet<K, B, D>>,
     /// All calls, in one order.
@@ -66,7 +68,7 @@ fn give_up_all<L: Ledger>(once: OnceQueue<L>) -> OnceTally
 }
 
 // Returns the counts of these sets together.
-fn counts_of<K: RecordKind + Drop, B: EngineName<K>, D: Drop>(
+fn counts_of<K: RecordKind + Drop, B: SetsName<K, D>, D: Device>(
     sets: &[JournaledSet<K, B, D>],
 ) -> Tally
     ensures { result ≡ counts_in sets.now }
@@ -79,8 +81,10 @@ fn counts_of<K: RecordKind + Drop, B: EngineName<K>, D: Drop>(
 }
 
 // States that each record of these sets has its device.
-fn all_keep_devices<K: RecordKind + Drop, B: EngineName<K>, D: Drop>(sets: &[JournaledSet<K, B, D>])
-    ensures { All (λ h. KeepsDevices B.had_device h.set) sets.now }
+fn all_keep_devices<K: RecordKind + Drop, B: SetsName<K, D>, D: Device>(
+    sets: &[JournaledSet<K, B, D>],
+)
+    ensures { All (λ h. KeepsDevices (IsDeviceOf D.gives B.devices) h.set) sets.now }
 {
     for held in sets {
         held.keeps_devices();
@@ -88,7 +92,7 @@ fn all_keep_devices<K: RecordKind + Drop, B: EngineName<K>, D: Drop>(sets: &[Jou
 }
 
 // Moves the sets on to the list of all calls.
-fn tell_all<K: RecordKind + Drop, B: EngineName<K>, D: Drop, R: Wait>(
+fn tell_all<K: RecordKind + Drop, B: SetsName<K, D>, D: Device, R: Wait>(
     rt: &R,
     cell: &Cell,
     journal: &mut Journal<K, B>,
@@ -104,7 +108,7 @@ fn tell_all<K: RecordKind + Drop, B: EngineName<K>, D: Drop, R: Wait>(
     }
 }
 
-impl<K: RecordKind + Drop, B: EngineName<K>, D: Drop> EngineCore<K, B, D> {
+impl<K: RecordKind + Drop, B: SetsName<K, D>, D: Device> EngineCore<K, B, D> {
     /// Ends the engine. Waits forever if a record is in no set.
     ///
     /// # Errors
@@ -115,7 +119,7 @@ impl<K: RecordKind + Drop, B: EngineName<K>, D: Drop> EngineCore<K, B, D> {
         rt: &R,
         alloc: Global,
     ) -> Result<Report<K, B, D>, EngineCore<K, B, D>>
-        ensures end { IfOk result (λ r. IsEnd K.rules B.base B.had_device self r.journal.filled r.sets.items) }
+        ensures end { IfOk result (λ r. IsEnd K.rules B.base (IsDeviceOf D.gives B.devices) self r.journal.filled r.sets.items) }
         ensures once { IfOk result (λ r. AreAllBack r.once) }
         ensures err { IfErr result (λ e. e ≡ self) }
     {
@@ -151,7 +155,7 @@ impl<K: RecordKind + Drop, B: EngineName<K>, D: Drop> EngineCore<K, B, D> {
     }
 }
 
-impl<K: RecordKind + Drop, B: EngineName<K>, D: Drop> Report<K, B, D> {
+impl<K: RecordKind + Drop, B: SetsName<K, D>, D: Device> Report<K, B, D> {
     /// Returns the counts of requests and of asynchronous answers of all sets together.
     pub fn tally(&self) -> Tally
         ensures { result ≡ counts_in self.now.sets.items }

@@ -1,7 +1,9 @@
 //! What the events of the engine send.
 use crate::engine::EngineCore;
 use crate::once_requests::add_once;
+use ioc_device::Device;
 use ioc_history::EngineName;
+use ioc_journaled_set::SetsName;
 use ioc_record::RecordKind;
 use ioc_set_store::EventBuffers;
 use std::marker::PhantomData;
@@ -21,7 +23,7 @@ impl<K, B: EngineName<K>> Ledger for OnceTickets<K, B> {
     ghost parts = { 18446744073709551615 };
 }
 
-impl<K: RecordKind + Drop, B: EngineName<K>, D: Drop> EngineCore<K, B, D> {
+impl<K: RecordKind + Drop, B: SetsName<K, D>, D: Device> EngineCore<K, B, D> {
     // Takes what the last event has sent, while no lock is held: its once requests are added to the
     // list, and items that the event has dropped are counted. The requests aren't served yet, and
     // posted events and changes of scan lists have no effect yet. The list is under a lock, so this

@@ -7,16 +7,17 @@ ghost use Rattle.ioc_history.specs.Places.{AreAllowed};
 ghost use Rattle.ioc_history.specs.Legal.{IsSound};
 ghost use Rattle.ioc_set_records.specs.Joined.{IsClosed};
 ghost use Rattle.ioc_set_records.specs.Linked.{AreParts, links_in};
-ghost use Rattle.ioc_engine_core.specs.Loading.{loaded_world, have_device, IsIdle};
+ghost use Rattle.ioc_engine_core.specs.Loading.{loaded_world, device_in, IsIdle};
 ghost use Rattle.ioc_engine_core.specs.declared.starting.StartError.TheVariants.{BadValue, NotAtRest, LinkLeaves};
 
 use crate::engine::EngineCore;
 use crate::holding::hold_all;
 use crate::sending::OnceTickets;
 use ioc_callback::OnceQueue;
+use ioc_device::Device;
 use ioc_history::legal_laws::lists_leave_sound;
 use ioc_history::{Cell, EngineName, Journal, KeyPass, Limits, SharedJournal, pass};
-use ioc_journaled_set::{JournaledSet, SharedNotifications};
+use ioc_journaled_set::{JournaledSet, SetsName, SharedNotifications};
 use ioc_record::RecordKind;
 use ioc_set_records::loaded_laws::dealt_sets_are_parts;
 use ioc_set_records::{Loaded, deal, parts_of};
@@ -107,7 +108,7 @@ fn startable_parts<K: RecordKind, D>(
 
 // Creates all that an engine has beside the journal: the sets of all parts, the table and the list.
 // The cell and the pass are passed by reference, so a failed allocation drops neither.
-fn holdings<K: RecordKind + Drop, B: EngineName<K>, D: Drop>(
+fn holdings<K: RecordKind + Drop, B: SetsName<K, D>, D: Device>(
     alloc: Global,
     cell: &Cell,
     master: &mut KeyPass,
@@ -126,7 +127,7 @@ fn holdings<K: RecordKind + Drop, B: EngineName<K>, D: Drop>(
     requires master { cell_view master.old ≡ keeper [] [] }
     requires tickets { (tickets.name ≡ B.tickets) × (tickets.parts ≡ 2 ^ 64 - 1) }
     requires base { B.base ≡ loaded_world all.items }
-    requires devices { B.had_device ≡ have_device all.items }
+    requires devices { B.devices ≡ device_in all.items }
     requires copies { All (λ l. l.base ≡ l.fields) all.items }
     requires idle { All (λ l. IsIdle K.rules l.fields) all.items }
     requires parts { AreParts K.rules all.items parts.now }
@@ -145,14 +146,14 @@ fn holdings<K: RecordKind + Drop, B: EngineName<K>, D: Drop>(
 }
 
 /// Starts an engine with these records, each with its device. No record was requested yet. `B`
-/// names the engine: its cell, the world at the load and the records with a device there, the
-/// ledger of places and that of once tickets. To start an engine, call a function that is generic
-/// over such a name with `Brand` for `B`.
+/// names the engine: its cell, the world and the devices of the records at the load, the ledger of
+/// places and that of once tickets. To start an engine, call a function that is generic over such a
+/// name with `Brand` for `B`.
 ///
 /// # Errors
 ///
 /// [`StartError`] if the engine can't be started.
-pub fn start<K: RecordKind + Drop, B: EngineName<K>, D: Drop>(
+pub fn start<K: RecordKind + Drop, B: SetsName<K, D>, D: Device>(
     alloc: Global,
     cell: Cell,
     master: KeyPass,
@@ -166,7 +167,7 @@ pub fn start<K: RecordKind + Drop, B: EngineName<K>, D: Drop>(
     requires places { (blank.name ≡ B.places) × (blank.parts ≡ 2 ^ 64 - 1) }
     requires tickets { (tickets.name ≡ B.tickets) × (tickets.parts ≡ 2 ^ 64 - 1) }
     requires base { B.base ≡ loaded_world all.items }
-    requires devices { B.had_device ≡ have_device all.items }
+    requires devices { B.devices ≡ device_in all.items }
     requires copies { All (λ l. l.base ≡ l.fields) all.items }
     ensures count { IfOk result (λ e. e ≡ length all.items) }
     ensures limits { OnOk result (AreAllowed limits) }

@@ -1,8 +1,8 @@
 //! Calls of a desk, each in a function of its own, so that the contract of one isn't carried along
 //! to the next. The calls of a test are data.
 use ioc_engine::{
-    Channel, Clock, Desk, Device, Engine, EngineName, Finished, Input, IocError, NotifyId, Receipt,
-    RecordNo, Reply, Value,
+    Channel, Clock, Desk, Device, Engine, EngineName, Finished, Input, IocError, NotifyId, RecordNo,
+    Reply, Value,
 };
 use std::sync::Wait;
 
@@ -33,16 +33,16 @@ pub struct Answered {
 }
 
 // Returns the outcome of a call that moves no records.
-fn outcome_of<B: EngineName>(reply: Reply, receipt: &Receipt<B>) -> Answered {
+fn outcome_of(reply: Reply, place: u64) -> Answered {
     Answered {
         reply,
-        place: receipt.place(),
+        place,
         moved: 0,
     }
 }
 
 /// Puts a text into a field.
-pub fn put<B: EngineName, D: Device, C: Clock + Drop, R: Wait>(
+pub fn put<B: EngineName<D>, D: Device, C: Clock + Drop, R: Wait>(
     rt: &R,
     engine: &Engine<B, D, C>,
     desk: &mut Desk<B, D>,
@@ -50,33 +50,33 @@ pub fn put<B: EngineName, D: Device, C: Clock + Drop, R: Wait>(
     text: &[u8],
 ) -> Result<Answered, IocError> {
     let (reply, receipt) = engine.put(rt, desk, channel, Input::from_text(text))?;
-    Ok(outcome_of(reply, &receipt))
+    Ok(outcome_of(reply, receipt.place()))
 }
 
 /// Gets a field.
-pub fn get<B: EngineName, D: Device, C: Clock + Drop, R: Wait>(
+pub fn get<B: EngineName<D>, D: Device, C: Clock + Drop, R: Wait>(
     rt: &R,
     engine: &Engine<B, D, C>,
     desk: &mut Desk<B, D>,
     channel: Channel,
 ) -> Result<Answered, IocError> {
     let (reply, receipt) = engine.get(rt, desk, channel)?;
-    Ok(outcome_of(reply, &receipt))
+    Ok(outcome_of(reply, receipt.place()))
 }
 
 /// Requests a record.
-pub fn process<B: EngineName, D: Device, C: Clock + Drop, R: Wait>(
+pub fn process<B: EngineName<D>, D: Device, C: Clock + Drop, R: Wait>(
     rt: &R,
     engine: &Engine<B, D, C>,
     desk: &mut Desk<B, D>,
     number: RecordNo,
 ) -> Result<Answered, IocError> {
     let (reply, receipt) = engine.process(rt, desk, number)?;
-    Ok(outcome_of(reply, &receipt))
+    Ok(outcome_of(reply, receipt.place()))
 }
 
 /// Changes a link.
-pub fn set_link<B: EngineName, D: Device, C: Clock + Drop, R: Wait>(
+pub fn set_link<B: EngineName<D>, D: Device, C: Clock + Drop, R: Wait>(
     rt: &R,
     engine: &Engine<B, D, C>,
     desk: &mut Desk<B, D>,
@@ -92,7 +92,7 @@ pub fn set_link<B: EngineName, D: Device, C: Clock + Drop, R: Wait>(
 }
 
 /// Puts a text into a field with notification.
-pub fn put_notify<B: EngineName, D: Device, C: Clock + Drop, R: Wait>(
+pub fn put_notify<B: EngineName<D>, D: Device, C: Clock + Drop, R: Wait>(
     rt: &R,
     engine: &Engine<B, D, C>,
     desk: &mut Desk<B, D>,
@@ -100,33 +100,33 @@ pub fn put_notify<B: EngineName, D: Device, C: Clock + Drop, R: Wait>(
     text: &[u8],
 ) -> Result<Answered, IocError> {
     let (reply, receipt) = engine.put_notify(rt, desk, channel, Input::from_text(text))?;
-    Ok(outcome_of(reply, &receipt))
+    Ok(outcome_of(reply, receipt.place()))
 }
 
 /// Cancels a put with notification.
-pub fn cancel<B: EngineName, D: Device, C: Clock + Drop, R: Wait>(
+pub fn cancel<B: EngineName<D>, D: Device, C: Clock + Drop, R: Wait>(
     rt: &R,
     engine: &Engine<B, D, C>,
     desk: &mut Desk<B, D>,
     number: u64,
 ) -> Result<Answered, IocError> {
     let (reply, receipt) = engine.cancel(rt, desk, NotifyId::new(number))?;
-    Ok(outcome_of(reply, &receipt))
+    Ok(outcome_of(reply, receipt.place()))
 }
 
 // Asks whether a put with notification is live.
-fn live<B: EngineName, D: Device, C: Clock + Drop, R: Wait>(
+fn live<B: EngineName<D>, D: Device, C: Clock + Drop, R: Wait>(
     rt: &R,
     engine: &Engine<B, D, C>,
     desk: &mut Desk<B, D>,
     number: u64,
 ) -> Result<Answered, IocError> {
     let (reply, receipt) = engine.live(rt, desk, NotifyId::new(number))?;
-    Ok(outcome_of(reply, &receipt))
+    Ok(outcome_of(reply, receipt.place()))
 }
 
 /// Completes a record.
-pub fn complete<B: EngineName, D: Device, C: Clock + Drop, R: Wait>(
+pub fn complete<B: EngineName<D>, D: Device, C: Clock + Drop, R: Wait>(
     rt: &R,
     engine: &Engine<B, D, C>,
     desk: &mut Desk<B, D>,
@@ -136,11 +136,11 @@ pub fn complete<B: EngineName, D: Device, C: Clock + Drop, R: Wait>(
 ) -> Result<Answered, IocError> {
     let given = Finished::Done(Value::Long(value));
     let (reply, receipt) = engine.complete(rt, desk, number, wait, given)?;
-    Ok(outcome_of(reply, &receipt))
+    Ok(outcome_of(reply, receipt.place()))
 }
 
 /// Makes a call.
-pub fn make<B: EngineName, D: Device, C: Clock + Drop, R: Wait>(
+pub fn make<B: EngineName<D>, D: Device, C: Clock + Drop, R: Wait>(
     rt: &R,
     engine: &Engine<B, D, C>,
     desk: &mut Desk<B, D>,

@@ -39,7 +39,7 @@ struct Target {
 }
 
 // Finds all records.
-fn targets<B: EngineName, D: Device, C: Clock + Drop>(
+fn targets<B: EngineName<D>, D: Device, C: Clock + Drop>(
     alloc: Global,
     engine: &Engine<B, D, C>,
 ) -> Result<Vec<Target>, IocError> {
@@ -74,7 +74,7 @@ fn drawn(seed: u64, own: usize, wait: u64) -> Call {
 }
 
 // Makes a call.
-fn make<B: EngineName, D: Device, C: Clock + Drop, R: Wait>(
+fn make<B: EngineName<D>, D: Device, C: Clock + Drop, R: Wait>(
     rt: &R,
     engine: &Engine<B, D, C>,
     desk: &mut Desk<B, D>,
@@ -100,7 +100,7 @@ fn make<B: EngineName, D: Device, C: Clock + Drop, R: Wait>(
 
 // Makes a call, or gets the record's value if the call is a put with notification and too many are
 // live.
-fn make_or_get<B: EngineName, D: Device, C: Clock + Drop, R: Wait>(
+fn make_or_get<B: EngineName<D>, D: Device, C: Clock + Drop, R: Wait>(
     rt: &R,
     engine: &Engine<B, D, C>,
     desk: &mut Desk<B, D>,
@@ -123,7 +123,7 @@ fn make_or_get<B: EngineName, D: Device, C: Clock + Drop, R: Wait>(
 }
 
 // Makes the calls of one thread.
-fn calls<B: EngineName, D: Device, C: Clock + Drop, R: Wait>(
+fn calls<B: EngineName<D>, D: Device, C: Clock + Drop, R: Wait>(
     rt: &R,
     alloc: Global,
     engine: &Engine<B, D, C>,
@@ -227,7 +227,7 @@ fn is_alike<B: EngineName, D: Device, C: Clock + Drop, R: Wait>(
 /// Makes the calls of eight threads, and returns how many were answered, or 0 if one thread would
 /// have other replies on one map, or other records or parts at the end.
 pub fn eight<
-    B: EngineName + Send + Sync,
+    B: EngineName<D> + Send + Sync,
     D: Device + Send + Sync,
     C: Clock + Drop + Send + Sync,
     R: Threads + Wait + Sync,

@@ -7,7 +7,8 @@ use crate::sensor::{Sensor, seen};
 use crate::steps::{Step, follow};
 use ioc_engine::{
     Clock, CountingClock, Device, DeviceName, Engine, EngineName, FieldText, Input, IocError,
-    Limits, Macros, Outcome, Receipt, Reply, Report, Seed, StoppedRecord, Tally, load,
+    Limits, Macros, Numbered, Outcome, Receipt, Reply, Report, Seed, StoppedRecord, Tally, load,
+    with_numbers,
 };
 use std::alloc::Global;
 use std::marker::Brand;
@@ -52,7 +53,7 @@ pub struct Ended {
 
 // Makes calls once the first flag is raised, then raises the second. Returns the number of calls
 // with the expected reply.
-fn follow_then<B: EngineName, D: Device, C: Clock + Drop, R: Wait>(
+fn follow_then<B: EngineName<D>, D: Device, C: Clock + Drop, R: Wait>(
     rt: &R,
     engine: &Engine<B, D, C>,
     others: &[Step],
@@ -67,7 +68,7 @@ fn follow_then<B: EngineName, D: Device, C: Clock + Drop, R: Wait>(
 
 // Returns the number of calls with the expected reply.
 fn done<
-    B: EngineName + Send + Sync,
+    B: EngineName<D> + Send + Sync,
     D: Device + Send + Sync,
     C: Clock + Drop + Send + Sync,
     R: Threads + Wait + Sync,
@@ -115,7 +116,7 @@ fn with_device<D>(records: &[StoppedRecord<D>]) -> usize {
 }
 
 // Ends an engine in which this many steps had the expected result.
-fn end<B: EngineName, D: Device, C: Clock + Drop, R: Wait>(
+fn end<B: EngineName<D>, D: Device, C: Clock + Drop, R: Wait>(
     rt: &R,
     alloc: Global,
     engine: Engine<B, D, C>,
@@ -143,7 +144,7 @@ fn end<B: EngineName, D: Device, C: Clock + Drop, R: Wait>(
 }
 
 // Puts a value by one desk, and gets it by a second one, which learns of the put before.
-fn put_and_learn<B: EngineName, D: Device, C: Clock + Drop, R: Wait>(
+fn put_and_learn<B: EngineName<D>, D: Device, C: Clock + Drop, R: Wait>(
     rt: &R,
     engine: &Engine<B, D, C>,
 ) -> Result<(Receipt<B>, Receipt<B>), IocError> {
@@ -157,7 +158,7 @@ fn put_and_learn<B: EngineName, D: Device, C: Clock + Drop, R: Wait>(
 }
 
 // Returns whether the journal has a call of this desk, its first one, with this reply.
-fn has_entry<B: EngineName, D: Device, R: Wait>(
+fn has_entry<B: EngineName<D>, D: Device, R: Wait>(
     rt: &R,
     report: &mut Report<B, D>,
     receipt: &mut Receipt<B>,
@@ -169,7 +170,7 @@ fn has_entry<B: EngineName, D: Device, R: Wait>(
 }
 
 // Returns whether the second desk's call came after the first one's, and both are in the journal.
-fn has_learnt<B: EngineName, D: Device, C: Clock + Drop, R: Wait>(
+fn has_learnt<B: EngineName<D>, D: Device, C: Clock + Drop, R: Wait>(
     rt: &R,
     engine: Engine<B, D, C>,
 ) -> bool {
@@ -188,14 +189,14 @@ fn has_learnt<B: EngineName, D: Device, C: Clock + Drop, R: Wait>(
 }
 
 // Runs an engine of any name, and returns the result, or `None` if it can't be started.
-fn run<B: EngineName + Send + Sync, D: Device + Send + Sync, R: Threads + Wait + Sync>(
+fn run<B: EngineName<D> + Send + Sync, D: Device + Send + Sync, R: Threads + Wait + Sync>(
     rt: &R,
     alloc: Global,
     seed: Seed<D>,
     limits: Limits,
     work: Work<'_>,
 ) -> Option<Ended>
-    requires named { IsNamedBy B.table B.base B.had_device B.places B.tickets seed }
+    requires named { IsNamedBy B.table B.base B.devices B.places B.tickets seed }
 {
     let clock = CountingClock::new();
     let Ok(engine) = Engine::<B, D, CountingClock>::start(alloc, seed, clock, limits) else {
@@ -220,9 +221,9 @@ fn seed_of(
     alloc: Global,
     text: &[u8],
     devices: Vec<(DeviceName, Sensor)>,
-) -> Result<Seed<Sensor>, IocError> {
+) -> Result<Seed<Numbered<Sensor>>, IocError> {
     let database = load(alloc, text, &Macros::new(alloc))?;
-    Seed::new(alloc, database, devices)
+    Seed::new(alloc, database, with_numbers(alloc, devices)?)
 }
 
 /// Runs an engine with the records of a text and these devices. Returns `None` if it can't be
@@ -236,5 +237,5 @@ pub fn run_text<R: Threads + Wait + Sync>(
     work: Work<'_>,
 ) -> Result<Option<Ended>, IocError> {
     let seed = seed_of(alloc, text, devices)?;
-    Ok(run::<Brand, Sensor, R>(rt, alloc, seed, limits, work))
+    Ok(run::<Brand, Numbered<Sensor>, R>(rt, alloc, seed, limits, work))
 }

@@ -81,7 +81,7 @@ fn are_numbered(ended: &[NotifyId], numbers: &[u64]) -> bool {
 
 // Makes a call, and returns whether it has the expected result and ends these puts with
 // notification.
-fn answers<B: EngineName, D: Device, C: Clock + Drop, R: Wait>(
+fn answers<B: EngineName<D>, D: Device, C: Clock + Drop, R: Wait>(
     rt: &R,
     engine: &Engine<B, D, C>,
     desk: &mut Desk<B, D>,
@@ -97,7 +97,7 @@ fn answers<B: EngineName, D: Device, C: Clock + Drop, R: Wait>(
 }
 
 // Returns whether a part has exactly the records with these names.
-fn is_part<B: EngineName, D: Device, C: Clock + Drop>(
+fn is_part<B: EngineName<D>, D: Device, C: Clock + Drop>(
     engine: &Engine<B, D, C>,
     part: &[RecordNo],
     names: &[&[u8]],
@@ -114,7 +114,7 @@ fn is_part<B: EngineName, D: Device, C: Clock + Drop>(
 }
 
 // Returns whether one of the parts has exactly the records with these names.
-fn is_found<B: EngineName, D: Device, C: Clock + Drop>(
+fn is_found<B: EngineName<D>, D: Device, C: Clock + Drop>(
     engine: &Engine<B, D, C>,
     parts: &[Vec<RecordNo>],
     names: &[&[u8]],
@@ -128,7 +128,7 @@ fn is_found<B: EngineName, D: Device, C: Clock + Drop>(
 }
 
 // Returns whether the lock sets have the records with these names.
-fn are_parts<B: EngineName, D: Device, C: Clock + Drop, R: Wait>(
+fn are_parts<B: EngineName<D>, D: Device, C: Clock + Drop, R: Wait>(
     rt: &R,
     engine: &Engine<B, D, C>,
     wanted: &[&[&[u8]]],
@@ -145,7 +145,7 @@ fn are_parts<B: EngineName, D: Device, C: Clock + Drop, R: Wait>(
 }
 
 // Closes an engine that isn't closed, and returns whether it shows no sets and opens no desk then.
-fn closes<B: EngineName, D: Device, C: Clock + Drop, R: Wait>(
+fn closes<B: EngineName<D>, D: Device, C: Clock + Drop, R: Wait>(
     rt: &R,
     engine: &Engine<B, D, C>,
 ) -> bool {
@@ -157,7 +157,7 @@ fn closes<B: EngineName, D: Device, C: Clock + Drop, R: Wait>(
 }
 
 // Carries out a step, and returns whether it has the expected result.
-fn holds<B: EngineName, D: Device, C: Clock + Drop, R: Wait>(
+fn holds<B: EngineName<D>, D: Device, C: Clock + Drop, R: Wait>(
     rt: &R,
     engine: &Engine<B, D, C>,
     desk: &mut Desk<B, D>,
@@ -173,7 +173,7 @@ fn holds<B: EngineName, D: Device, C: Clock + Drop, R: Wait>(
 
 /// Carries out steps with a desk of their own, up to the first with another result. Returns the
 /// number of steps with the expected result.
-pub fn follow<B: EngineName, D: Device, C: Clock + Drop, R: Wait>(
+pub fn follow<B: EngineName<D>, D: Device, C: Clock + Drop, R: Wait>(
     rt: &R,
     engine: &Engine<B, D, C>,
     steps: &[Step],

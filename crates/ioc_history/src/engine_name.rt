@@ -2,18 +2,14 @@
 use crate::CellName;
 use std::marker::Brand;
 
-/// Names an engine: its cell, the world at the load and the records with a device at that time, the
-/// ledger of the held places of its journal, and the ledger of its once tickets. Its records are of
-/// kind `K`.
+/// Names an engine: its cell, the world at the load, the ledger of the held places of its journal,
+/// and the ledger of its once tickets. Its records are of kind `K`.
 pub trait EngineName<K>: CellName {
-    ghost use Rattle.std.specs.Prelude.{ℕ, Bool};
+    ghost use Rattle.std.specs.Prelude.{ℕ};
     ghost use Rattle.ioc_store.specs.World.{World};
 
     /// The world at the load.
     ghost base: { World K };
-
-    /// The numbers of the records that have a device at the load.
-    ghost had_device: { ℕ → Bool };
 
     /// The name of the ledger of places.
     ghost places: { ℕ };
@@ -23,11 +19,9 @@ pub trait EngineName<K>: CellName {
 }
 
 impl<K> EngineName<K> for Brand {
-    ghost use Rattle.ioc_history.specs.Unnamed.{no_world, no_device};
+    ghost use Rattle.ioc_history.specs.Unnamed.{no_world};
 
     ghost base = { no_world };
-
-    ghost had_device = { no_device };
 
     ghost places = { 0 };
 

@@ -4,7 +4,7 @@ use Rattle.std.proofs.lemmas.List.Sums.{sum_by-cons}
 use Rattle.ioc_notify.specs.declared.live_numbers.Live.{Live}
 use Rattle.ioc_notify.specs.Counts.{holders_in, has_by}
 use Rattle.std.proofs.Common.{◌≡◌, ◌≢◌, Bool, cond, ℕ, zero, suc, ◌<◌, List, [], ◌∷◌, ◌++◌, length, get_or, Option, Some, None, Result, Ok, Err, refl, sym, ap, subst, ◌∙◌, below_more, arith, length-append}
-use Rattle.std.specs.Prelude.{IfOk, IfNone, OnErr, is_some}
+use Rattle.std.specs.Prelude.{IfOk, IfNone, OnErr}
 use Rattle.std.specs.Option.{IfSome}
 use Rattle.atomic_table.specs.Seated.{TableId}
 use Rattle.crossbeam_utils.specs.Seq.{cell_view}
@@ -24,7 +24,6 @@ use Rattle.ioc_set.specs.SetState.{SetState, now_of}
 use Rattle.ioc_journaled_set.specs.Holding.{HeldView, IsLent, IsOwner, KeepsDevices, held_view, seen_by}
 use Rattle.ioc_journaled_set.specs.GivingUp.{EachIsLent, sets_of, HeldGaveUp, AreSameSets}
 use Rattle.ioc_journaled_set.proofs.Dealing.{dealt_owner}
-use Rattle.ioc_journaled_set.proofs.Devices.{keeps_on}
 
 front : {X : Type 0} (xs ys : List X) (i : ℕ) (d : X) → i < length xs → get_or (xs ++ ys) i d ≡ get_or xs i d
 front [] ys i d lt = absurd (omega (arith, lt))
@@ -51,7 +50,7 @@ pub sets_long : {R D : Type 0} (xs : List (HeldView R D)) → length (sets_of xs
 sets_long [] = refl
 sets_long (x ∷ xs) = ap suc (sets_long xs)
 
-module _ {R D : Type 0} (k : RecordRules R) (base : World R) (had : ℕ → Bool) (table : TableId) where
+module _ {R D : Type 0} (k : RecordRules R) (base : World R) (had : ℕ → Option D → Type 0) (table : TableId) where
   pub lent_more : (sets : List (SetState R D)) (passes : List (Option Pass)) (h : SetState R D) (s : Option Pass) → length passes ≡ length sets → EachIsLent k base had table sets passes → IsLent k base had table h s
       → EachIsLent k base had table (sets ++ h ∷ []) (passes ++ s ∷ [])
   lent_more sets passes h s same each one i d e lt =
@@ -91,8 +90,8 @@ module _ {R D : Type 0} (k : RecordRules R) (base : World R) (had : ℕ → Bool
         there = dealt.there;
         owner = dealt_owner table dealt.pass.table_id (cell_view {V = View} dealt.pass) desk_then.seen (get_or sets_then i d) dealt.same dealt.holds;
         holds = subst (λ (l : List Note). Holds k (map_of k base l) (now_of (get_or sets_then i d))) (sym (ap (λ (v : View). v.seen) dealt.holds)) (gu.holds i d lt);
-        devices = keeps_on had (get_or sets i d) (get_or sets_then i d) (each i d e within).devices (λ n. ap (λ (f : ℕ → Option D). is_some (f n)) gives.devices)
-            (λ n has. sym (has-cancelled k number (now_of (get_or sets i d)) n) ∙ (sym (ap (λ rs. contains_key rs n) gives.records) ∙ has));
+        devices = λ n has. subst (λ (f : ℕ → Option D). had n (f n)) (sym gives.devices)
+            ((each i d e within).devices n (sym (has-cancelled k number (now_of (get_or sets i d)) n) ∙ (sym (ap (λ rs. contains_key rs n) gives.records) ∙ has)));
       }
 
   pub lent_then : {A E : Type 0} (Q S T : Type 0) (given : Result (Option A) E) (moment number : ℕ) (desk desk_then : DeskView) (sets sets_then : List (SetState R D)) (passes passes_then : List (Option Pass)) (kept kept_then : View)
@@ -153,7 +152,7 @@ module _ {R D : Type 0} (k : RecordRules R) (base : World R) (had : ℕ → Bool
 no_desks : (owns : List Key) → AreRecords owns → AreNoDesks owns
 no_desks owns records key has desk = let record_key = records key has in absurd (omega (arith, record_key, desk))
 
-module _ {R D : Type 0} (k : RecordRules R) (base : World R) (had : ℕ → Bool) (table : TableId) where
+module _ {R D : Type 0} (k : RecordRules R) (base : World R) (had : ℕ → Option D → Type 0) (table : TableId) where
   pub held_by : (sets : List (SetState R D)) (passes : List (Option Pass)) → EachIsLent k base had table sets passes → EachIsHeldBy k base table sets passes
   held_by sets passes each i d e lt =
       let one = each i d e lt in

@@ -1,6 +1,6 @@
 -- What two sets know after a link change that leads from one into the other.
-use Rattle.std.proofs.Common.{◌≡◌, ◌⊎◌, ℕ, Bool, List, [], ◌∷◌, ◌++◌, Option, None, sym, ap, ◌∙◌, subst, inl, inr, ⊎_elim}
-use Rattle.std.specs.Prelude.{IsSome, is_some}
+use Rattle.std.proofs.Common.{◌≡◌, ◌⊎◌, ℕ, List, [], ◌∷◌, ◌++◌, Option, None, sym, ap, ◌∙◌, subst, inl, inr, ⊎_elim}
+use Rattle.std.specs.Prelude.{IsSome}
 use Rattle.std.specs.FinMap.{get, insert}
 use Rattle.ioc_fields.specs.declared.field_no.FieldNo.{FieldNo}
 use Rattle.ioc_dbcommon.specs.declared.link_field.LinkField.{LinkField}
@@ -90,7 +90,7 @@ module _ {R D : Type 0} (k : RecordRules R) (before other after other_then rest 
       (λ q one two. ⊎_elim (λ a. not_both (get freed) (get led.stay.records) (get rest.records) led.falls.shared q a two) (λ b. none_some (get other.records q) (apart q (fell q two)) b) (led_back q one))
 
   -- Devices go with their records.
-  module _ (had : ℕ → Bool) (keeps : KeepsDevices had before) (others_keep : KeepsDevices had other) (own : AreOwned before) (others_own : AreOwned other) (owned_then : AreOwned after) (rest_own : AreOwned rest) where
+  module _ (had : ℕ → Option D → Type 0) (keeps : KeepsDevices had before) (others_keep : KeepsDevices had other) (own : AreOwned before) (others_own : AreOwned other) (owned_then : AreOwned after) (rest_own : AreOwned rest) where
     left_behind : (q : ℕ) → IsSome (get rest.records q) → IsSome (get led.stay.devices q) → ⊥
     left_behind q at_rest has = elim (led.joins.devices q) [
       | inl p ↦
@@ -101,7 +101,7 @@ module _ {R D : Type 0} (k : RecordRules R) (before other after other_then rest 
 
     pub rest_keeps : KeepsDevices had rest
     rest_keeps q has =
-        ap (λ (o : Option D). is_some o) (other_has (get before.devices) (get led.stay.devices) (get rest.devices) led.falls.devices q (left_behind q has)) ∙ keeps q (fell q has)
+        subst (λ (o : Option D). had q o) (sym (other_has (get before.devices) (get led.stay.devices) (get rest.devices) led.falls.devices q (left_behind q has))) (keeps q (fell q has))
 
     stay_has : (q : ℕ) → IsSome (get led.stay.records q) → get led.stay.devices q ≡ get before.devices q
     stay_has q has = first_has (get before.devices) (get led.stay.devices) (get rest.devices) led.falls.devices q
@@ -114,17 +114,17 @@ module _ {R D : Type 0} (k : RecordRules R) (before other after other_then rest 
       | inr p ↦ none_some (get led.stay.devices q) p.0 has
     ]
 
-    both_have : (q : ℕ) → IsSome (get led.stay.records q) ⊎ IsSome (get other.records q) → is_some (get led.both.devices q) ≡ had q
+    both_have : (q : ℕ) → IsSome (get led.stay.records q) ⊎ IsSome (get other.records q) → had q (get led.both.devices q)
     both_have q where_it_is = elim where_it_is [
       | inl a ↦
           let none : IsSome (get other.devices q) → ⊥ = λ there. none_some (get other.records q) (apart q (stayed q a)) (others_own q there) in
-          ap (λ (o : Option D). is_some o) (sym (first_has (get led.both.devices) (get led.stay.devices) (get other.devices) led.joins.devices q none) ∙ stay_has q a) ∙ keeps q (stayed q a)
+          subst (λ (o : Option D). had q o) (sym (stay_has q a) ∙ first_has (get led.both.devices) (get led.stay.devices) (get other.devices) led.joins.devices q none) (keeps q (stayed q a))
       | inr b ↦
-          ap (λ (o : Option D). is_some o) (sym (other_has (get led.both.devices) (get led.stay.devices) (get other.devices) led.joins.devices q (none_of_stay q b))) ∙ others_keep q b
+          subst (λ (o : Option D). had q o) (other_has (get led.both.devices) (get led.stay.devices) (get other.devices) led.joins.devices q (none_of_stay q b)) (others_keep q b)
     ]
 
     pub after_keeps : KeepsDevices had after
-    after_keeps q has = ap (λ (h : SetState R D). is_some (get h.devices q)) led.then_anew ∙ both_have q (led_back q has)
+    after_keeps q has = subst (λ (h : SetState R D). had q (get h.devices q)) (sym led.then_anew) (both_have q (led_back q has))
 
   module _ (lasts : Lasts k) (sets_lead : SetsLead D k)
       (to : (t : ℕ) × (named_by (use_of link) ≡ t ∷ []) × IsSome (get other.records t)) (rest_sound : IsSound-set k rest)

@@ -1,5 +1,5 @@
 -- A set without records is held as a part of any world.
-use Rattle.std.proofs.Common.{◌≡◌, ℕ, Bool, true, false, List, [], Option, None, sym, ap, ◌∙◌, subst, arith}
+use Rattle.std.proofs.Common.{◌≡◌, ℕ, true, false, List, [], Option, None, sym, ap, ◌∙◌, subst, arith}
 use Rattle.std.specs.Prelude.{Contains, is_some, unwrap_or}
 use Rattle.std.specs.Ordering.{nat_cmp}
 use Rattle.std.specs.FinMap.{empty, get, get-empty, keys}
@@ -29,7 +29,7 @@ module _ {R : Type 0} (k : RecordRules R) (missing : targets k k.missing ≡ [])
   unfolding at
   closed = record { closed = λ n target c. absurd (none_in target (subst (λ (l : List ℕ). Contains l target) (ap (λ (o : Option R). targets k (unwrap_or o k.missing)) (none_at R n) ∙ missing) c)) }
 
-  pub nothing_is_held : {D : Type 0} (base : World R) (had : ℕ → Bool) (table : TableId) (h : SetState R D) → h ≡ nothing_held → IsHeld k base had table None h
+  pub nothing_is_held : {D : Type 0} (base : World R) (had : ℕ → Option D → Type 0) (table : TableId) (h : SetState R D) → h ≡ nothing_held → IsHeld k base had table None h
   nothing_is_held {D} base had table h is = subst (λ (x : SetState R D). IsHeld k base had table None x) (sym is) (record {
     owner = λ n has. nowhere R n has;
     holds = record { records = λ n has. absurd (nowhere R n has); waiting = λ n has. absurd (nowhere R n has); within = λ x c. absurd (none_in x c); shut = closed; apart = λ a n out has names. nowhere R n has };

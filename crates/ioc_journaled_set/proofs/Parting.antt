@@ -1,5 +1,5 @@
 -- What a set knows after a link change within it.
-use Rattle.std.proofs.Common.{◌≡◌, ℕ, Bool, false, true, List, ◌++◌, Option, sym, ap, ◌∙◌, subst}
+use Rattle.std.proofs.Common.{◌≡◌, ℕ, false, true, List, ◌++◌, Option, sym, ap, subst}
 use Rattle.std.specs.Prelude.{Contains, IsSome, is_some, unwrap_or}
 use Rattle.std.specs.FinMap.{get}
 use Rattle.ioc_fields.specs.declared.field_no.FieldNo.{FieldNo}
@@ -84,18 +84,20 @@ module _ {R D : Type 0} (k : RecordRules R) (before stay rest : SetState R D) (m
         (λ q some. owned_there q (of_other (get all) (get stay.records) (get rest.records) falls.shared q some))
 
   -- Devices go with their records.
-  module _ (had : ℕ → Bool) (keeps : KeepsDevices had before) where
+  module _ (had : ℕ → Option D → Type 0) (keeps : KeepsDevices had before) where
     pub stay_keeps : ((q : ℕ) → IsSome (get rest.devices q) → IsSome (get rest.records q)) → KeepsDevices had stay
     stay_keeps own q has =
         let all = (link_change_of k before moment s field link).records in
-        ap (λ (o : Option D). is_some o) (first_has (get before.devices) (get stay.devices) (get rest.devices) falls.devices q (λ there. not_both (get all) (get stay.records) (get rest.records) falls.shared q has (own q there)))
-        ∙ keeps q (was_there q (of_first (get all) (get stay.records) (get rest.records) falls.shared q has))
+        subst (λ (o : Option D). had q o)
+        (sym (first_has (get before.devices) (get stay.devices) (get rest.devices) falls.devices q (λ there. not_both (get all) (get stay.records) (get rest.records) falls.shared q has (own q there))))
+        (keeps q (was_there q (of_first (get all) (get stay.records) (get rest.records) falls.shared q has)))
 
     pub rest_keeps : ((q : ℕ) → IsSome (get stay.devices q) → IsSome (get stay.records q)) → KeepsDevices had rest
     rest_keeps own q has =
         let all = (link_change_of k before moment s field link).records in
-        ap (λ (o : Option D). is_some o) (other_has (get before.devices) (get stay.devices) (get rest.devices) falls.devices q (λ there. not_both (get all) (get stay.records) (get rest.records) falls.shared q (own q there) has))
-        ∙ keeps q (was_there q (of_other (get all) (get stay.records) (get rest.records) falls.shared q has))
+        subst (λ (o : Option D). had q o)
+        (sym (other_has (get before.devices) (get stay.devices) (get rest.devices) falls.devices q (λ there. not_both (get all) (get stay.records) (get rest.records) falls.shared q (own q there) has)))
+        (keeps q (was_there q (of_other (get all) (get stay.records) (get rest.records) falls.shared q has)))
 
   pub part_apart : (key : Key) → Has_key key (keys_of stay) → Has_key key (keys_of rest) → ⊥
   part_apart = dealt_apart stay rest (λ q. not_both (get (link_change_of k before moment s field link).records) (get stay.records) (get rest.records) falls.shared q)

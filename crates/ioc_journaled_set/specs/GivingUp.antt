@@ -1,6 +1,6 @@
 -- A put with notification that is canceled in several journaled sets. Application Developer's
 -- Guide, "Put with Notification" (dbNotifyCancel). The journal is this project's own.
-use Rattle.std.specs.Prelude.{◌≡◌, ◌⊎◌, ℕ, Bool, ◌<◌, ◌≢◌, List, [], length, map, slice_index_or, Option}
+use Rattle.std.specs.Prelude.{◌≡◌, ◌⊎◌, ℕ, ◌<◌, ◌≢◌, List, [], length, map, slice_index_or, Option}
 use Rattle.atomic_table.specs.Seated.{TableId}
 use Rattle.ioc_notify.specs.Living.{holders_of}
 use Rattle.ioc_notify.specs.declared.live_numbers.Live.{Live}
@@ -21,7 +21,7 @@ use Rattle.ioc_set.specs.SetState.{SetState}
 use Rattle.ioc_journaled_set.specs.Holding.{HeldView, IsLent}
 
 module _ {R D : Type 0} (k : RecordRules R) (base : World R) where
-  abbrev pub EachIsLent : (ℕ → Bool) → TableId → List (SetState R D) → List (Option Pass) → Type 0
+  abbrev pub EachIsLent : (ℕ → Option D → Type 0) → TableId → List (SetState R D) → List (Option Pass) → Type 0
   EachIsLent had table sets passes = (i : ℕ) (d : SetState R D) (e : Option Pass) → i < length sets → IsLent k base had table (slice_index_or sets i d) (slice_index_or passes i e)
 
 -- The sets of these journaled sets.

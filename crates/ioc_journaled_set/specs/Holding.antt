@@ -1,6 +1,6 @@
 -- Sets under their locks, and the calls on them. Application Developer's Guide, "Database Locking,
 -- Scanning, and Processing". The journal is this project's own.
-use Rattle.std.specs.Prelude.{◌≡◌, ◌⊎◌, ℕ, Bool, List, [], ◌∷◌, ◌++◌, Option, Some, None, MatchOption, unwrap_or, is_some}
+use Rattle.std.specs.Prelude.{◌≡◌, ◌⊎◌, ℕ, List, [], ◌∷◌, ◌++◌, Option, Some, None, MatchOption, unwrap_or}
 use Rattle.std.specs.Option.{option_map}
 use Rattle.std.specs.FinMap.{get, keys}
 use Rattle.atomic_table.specs.Seated.{TableId}
@@ -41,9 +41,9 @@ held_view h seen = record { set = h; seen = seen }
 abbrev pub numbers_of : {R D : Type 0} → HeldView R D → List ℕ
 numbers_of v = keys v.set.records
 
--- Holds if exactly those of the set's records have a device that had one at the load.
-abbrev pub KeepsDevices : {R D : Type 0} → (ℕ → Bool) → SetState R D → Type 0
-KeepsDevices had h = (n : ℕ) → Has (now_of h) n → is_some (get h.devices n) ≡ had n
+-- Holds if each of the set's records has its device, of which `had` tells, or none if it had none.
+abbrev pub KeepsDevices : {R D : Type 0} → (ℕ → Option D → Type 0) → SetState R D → Type 0
+KeepsDevices had h = (n : ℕ) → Has (now_of h) n → had n (get h.devices n)
 
 -- The list that the pass has seen, which is empty without a pass.
 abbrev pub seen_by : Option Pass → List Note
@@ -64,14 +64,14 @@ IsNoCall k h event error = (no_call k (now_of h) event ≡ Some error) ⊎ IsNoP
 module _ {R D : Type 0} (k : RecordRules R) (base : World R) where
   -- The invariant of a journaled set: it has a pass for its records, the set is equal to the world
   -- of all records at its own records, and each record has its device.
-  pub record IsHeld (had : ℕ → Bool) (table : TableId) (pass : Option Pass) (h : SetState R D) : Type 0 where
+  pub record IsHeld (had : ℕ → Option D → Type 0) (table : TableId) (pass : Option Pass) (h : SetState R D) : Type 0 where
     pub owner : MatchOption pass ((n : ℕ) → Has (now_of h) n → ⊥) (λ (p : Pass). IsOwner table p.table_id (cell_view {V = View} p) (now_of h))
     pub holds : Holds k (map_of k base (seen_by pass)) (now_of h)
     pub devices : KeepsDevices had h
 
   -- Holds of a set that was taken from its journaled set, with the pass that owns the keys of its
   -- records.
-  pub record IsLent (had : ℕ → Bool) (table : TableId) (h : SetState R D) (slot : Option Pass) : Type 0 where
+  pub record IsLent (had : ℕ → Option D → Type 0) (table : TableId) (h : SetState R D) (slot : Option Pass) : Type 0 where
     pub pass : Pass
     pub there : slot ≡ Some pass
     pub owner : IsOwner table pass.table_id (cell_view {V = View} pass) (now_of h)

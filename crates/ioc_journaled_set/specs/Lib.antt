@@ -9,4 +9,5 @@ pub mod Passes
 pub mod PutPlaces
 pub mod Puts
 pub mod PutsViewCode
+pub mod SameDevice
 pub mod Sets

@@ -11,6 +11,7 @@ ghost use Rattle.ioc_journaled_set.specs.Puts.{NoneMayBegin, HaveEnded};
 
 use crate::journaled_set::JournaledSet;
 use crate::running::{Ran, run_counted};
+use crate::sets_name::SetsName;
 use crate::shared_notifications::{SharedNotifications, keep_beside, lock_taken, take_number};
 use ioc_device::Device;
 use ioc_events::event_rules::{events_keep_records, rules_are_steps};
@@ -20,7 +21,7 @@ use ioc_history::legal_laws::{
     events_are_held, holders_move, holding_lasts, lists_leave_sound, live_lasts,
     one_more_has_a_place, parts_share_what_is_held, those_ended_are_over,
 };
-use ioc_history::{Desk, EngineName, Receipt, SharedJournal};
+use ioc_history::{Desk, Receipt, SharedJournal};
 use ioc_names::RecordNo;
 use ioc_notify::NotifyId;
 use ioc_notify::table_laws::lines_tell_holders;
@@ -30,7 +31,7 @@ use ioc_values::{Input, IocError};
 use std::alloc::Global;
 use std::sync::{Mutex, Wait};
 
-impl<K: RecordKind + Drop, B: EngineName<K>, D: Device> JournaledSet<K, B, D> {
+impl<K: RecordKind + Drop, B: SetsName<K, D>, D: Device> JournaledSet<K, B, D> {
     // Makes a put with notification on the set, under a number that was taken for it.
     fn begin_counted<R: Wait>(
         &mut self,

@@ -14,6 +14,7 @@ ghost use Rattle.ioc_journaled_set.specs.Holding.{HeldView, numbers_of};
 ghost use Rattle.ioc_journaled_set.specs.Changing.{size_of, KeepsLarger, KeepsLargest, FellApart, WasLed, Relinks};
 
 use crate::JournaledSet;
+use crate::sets_name::SetsName;
 use ioc_dbcommon::LinkBox;
 use ioc_device::Device;
 use ioc_events::Reply;
@@ -41,7 +42,7 @@ pub struct Changed<K: RecordKind, B: EngineName<K>> {
 }
 
 // Returns the number of records of a set.
-fn size<K: RecordKind + Drop, B: EngineName<K>, D: Drop>(held: &JournaledSet<K, B, D>) -> usize
+fn size<K: RecordKind + Drop, B: SetsName<K, D>, D: Device>(held: &JournaledSet<K, B, D>) -> usize
     ensures size { result ≡ size_of held.now }
     ensures few { result < 2 ^ 63 }
 {
@@ -51,7 +52,7 @@ fn size<K: RecordKind + Drop, B: EngineName<K>, D: Drop>(held: &JournaledSet<K, 
 
 // Leaves the larger of two parts of a set in the first place, and returns the number of records of
 // the smaller one.
-fn keep_larger<K: RecordKind + Drop, B: EngineName<K>, D: Drop>(
+fn keep_larger<K: RecordKind + Drop, B: SetsName<K, D>, D: Device>(
     first: &mut JournaledSet<K, B, D>,
     spare: &mut JournaledSet<K, B, D>,
 ) -> usize
@@ -70,7 +71,7 @@ fn keep_larger<K: RecordKind + Drop, B: EngineName<K>, D: Drop>(
 // two sets before the change. Unless the part is the largest of the three, the joined set goes to
 // the second place, where the other set was, and the rest to the first. Returns the number of
 // records that were moved.
-fn keep_largest<K: RecordKind + Drop, B: EngineName<K>, D: Drop>(
+fn keep_largest<K: RecordKind + Drop, B: SetsName<K, D>, D: Device>(
     first: &mut JournaledSet<K, B, D>,
     second: &mut JournaledSet<K, B, D>,
     spare: &mut JournaledSet<K, B, D>,
@@ -90,7 +91,7 @@ fn keep_largest<K: RecordKind + Drop, B: EngineName<K>, D: Drop>(
 }
 
 // Changes a link of a record of the first set to a record of that set, or to none.
-fn part_first<K: RecordKind + Drop, B: EngineName<K>, D: Device, R: Wait>(
+fn part_first<K: RecordKind + Drop, B: SetsName<K, D>, D: Device, R: Wait>(
     rt: &R,
     alloc: Global,
     book: &SharedJournal<K, B>,
@@ -131,7 +132,7 @@ fn part_first<K: RecordKind + Drop, B: EngineName<K>, D: Device, R: Wait>(
 }
 
 // Changes a link of a record of the first set to a record of the second.
-fn lead_first<K: RecordKind + Drop, B: EngineName<K>, D: Device, R: Wait>(
+fn lead_first<K: RecordKind + Drop, B: SetsName<K, D>, D: Device, R: Wait>(
     rt: &R,
     alloc: Global,
     book: &SharedJournal<K, B>,
@@ -185,7 +186,7 @@ fn lead_first<K: RecordKind + Drop, B: EngineName<K>, D: Device, R: Wait>(
 /// [`IocError::JournalFull`] if the journal has no place left, and [`IocError::NoMemory`] if
 /// allocation fails; nothing has changed then, except that the history may be forgotten. If DISP
 /// forbids the change, the refusal is a reply, which is added to the journal.
-pub fn change_link<K: RecordKind + Drop, B: EngineName<K>, D: Device, R: Wait>(
+pub fn change_link<K: RecordKind + Drop, B: SetsName<K, D>, D: Device, R: Wait>(
     rt: &R,
     alloc: Global,
     book: &SharedJournal<K, B>,

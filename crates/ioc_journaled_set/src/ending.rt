@@ -10,16 +10,18 @@ ghost use Rattle.crossbeam_utils.specs.Seq.{cell_view};
 ghost use Rattle.ioc_history.specs.Legal.{map_of};
 
 use crate::journaled_set::JournaledSet;
+use crate::sets_name::SetsName;
+use ioc_device::Device;
 use ioc_events::Reply;
 use ioc_fields::FieldNo;
 use ioc_history::legal_laws::holding_lasts;
-use ioc_history::{Cell, EngineName, Journal};
+use ioc_history::{Cell, Journal};
 use ioc_ledger::Tally;
 use ioc_names::RecordNo;
 use ioc_record::RecordKind;
 use std::sync::Wait;
 
-impl<K: RecordKind, B: EngineName<K>, D> JournaledSet<K, B, D> {
+impl<K: RecordKind, B: SetsName<K, D>, D: Device> JournaledSet<K, B, D> {
     /// Returns the counts of the set's requests, and of asynchronous answers.
     pub fn tally(&self) -> Tally
         ensures { result ≡ self.now.set.tally }

@@ -12,13 +12,15 @@ ghost use Rattle.ioc_set.specs.SetState.{SetState};
 ghost use Rattle.ioc_journaled_set.specs.Holding.{HeldView, held_view, seen_by};
 ghost use Rattle.ioc_journaled_set.specs.Sets.{AreItsSets};
 ghost use Rattle.ioc_journaled_set.specs.GivingUp.{EachIsLent, HaveNotAll, sets_of, AreSameSets, HeldGaveUp, GaveUpOn};
+ghost use Rattle.ioc_journaled_set.specs.SameDevice.{IsDeviceOf};
 ghost use Rattle.ioc_history.specs.Account.{puts_key, Pass};
 
+use crate::sets_name::SetsName;
 use crate::together::giving_up::give_up_all;
 use crate::{JournaledSet, SharedNotifications};
 use ioc_device::Device;
 use ioc_events::Reply;
-use ioc_history::{Cell, Desk, EngineName, KeyPass, Receipt, SharedJournal};
+use ioc_history::{Cell, Desk, KeyPass, Receipt, SharedJournal};
 use ioc_notify::table_laws::lines_tell_holders;
 use ioc_notify::{Live, NotifyId};
 use ioc_record::RecordKind;
@@ -31,7 +33,7 @@ use std::mem;
 use std::sync::Wait;
 
 // Separates each of these journaled sets from its pass, into reserved memory.
-fn lend_all<K: RecordKind + Drop, B: EngineName<K>, D: Drop>(
+fn lend_all<K: RecordKind + Drop, B: SetsName<K, D>, D: Device>(
     alloc: Global,
     cell: &Cell,
     keeper: &mut KeyPass,
@@ -45,7 +47,7 @@ fn lend_all<K: RecordKind + Drop, B: EngineName<K>, D: Drop>(
     ensures keeper { (keeper.new.table_id ≡ keeper.old.table_id) × (cell_view keeper.new ≡ cell_view keeper.old) }
     ensures sets { sets.new.items ≡ sets_of held.old }
     ensures beside { length passes.new.items ≡ length held.old }
-    ensures lent { EachIsLent K.rules B.base B.had_device B.table sets.new.items passes.new.items }
+    ensures lent { EachIsLent K.rules B.base (IsDeviceOf D.gives B.devices) B.table sets.new.items passes.new.items }
 {
     for i in 0..held.len() {
         let one = mem::replace(&mut held[i], JournaledSet::empty(alloc));
@@ -56,14 +58,14 @@ fn lend_all<K: RecordKind + Drop, B: EngineName<K>, D: Drop>(
 }
 
 // Puts sets and passes together again.
-fn take_back_all<K: RecordKind + Drop, B: EngineName<K>, D: Drop>(
+fn take_back_all<K: RecordKind + Drop, B: SetsName<K, D>, D: Device>(
     alloc: Global,
     held: &mut [JournaledSet<K, B, D>],
     sets: &mut [LockSet<K, D>],
     passes: &mut [Option<KeyPass>],
 )
     requires count { (length sets.old ≡ length held.old) × (length passes.old ≡ length held.old) }
-    requires lent { EachIsLent K.rules B.base B.had_device B.table sets.old passes.old }
+    requires lent { EachIsLent K.rules B.base (IsDeviceOf D.gives B.devices) B.table sets.old passes.old }
     ensures { (i : ℕ) (d : HeldView K D) (e : SetState K D) (f : Option Pass) → i < length held.new →
         slice_index_or held.new i d ≡ held_view (slice_index_or sets.old i e) (seen_by (slice_index_or passes.old i f)) }
 {
@@ -78,7 +80,7 @@ fn take_back_all<K: RecordKind + Drop, B: EngineName<K>, D: Drop>(
 
 // Cancels a put with notification on sets that were separated from their passes, if they have all
 // its `total` records. Then puts sets and passes together again.
-fn give_up_lent<K: RecordKind + Drop, B: EngineName<K>, D: Device, R: Wait>(
+fn give_up_lent<K: RecordKind + Drop, B: SetsName<K, D>, D: Device, R: Wait>(
     rt: &R,
     alloc: Global,
     book: &SharedJournal<K, B>,
@@ -96,7 +98,7 @@ fn give_up_lent<K: RecordKind + Drop, B: EngineName<K>, D: Device, R: Wait>(
     requires total { total ≡ holders_of number (map_of K.rules B.base (cell_view keeper.old).seen).live }
     requires some { total ≢ 0 }
     requires count { (length sets.old ≡ length held.old) × (length passes.old ≡ length held.old) }
-    requires lent { EachIsLent K.rules B.base B.had_device B.table sets.old passes.old }
+    requires lent { EachIsLent K.rules B.base (IsDeviceOf D.gives B.devices) B.table sets.old passes.old }
     ensures gave_up { IfOk result (λ given. IfSome given (λ _. HeldGaveUp K.rules B.base moment number desk.old sets.old
         (cell_view keeper.old) desk.new held.new (cell_view keeper.new))) }
     ensures receipt { IfOk result (λ given. IfSome given (λ receipt. receipt ≡ desk.new.seen)) }
@@ -123,7 +125,7 @@ fn give_up_lent<K: RecordKind + Drop, B: EngineName<K>, D: Device, R: Wait>(
 ///
 /// [`IocError::JournalFull`] if the journal has no place left. [`IocError::NoMemory`] if allocation
 /// fails. Nothing has changed then.
-pub fn cancel_on<K: RecordKind + Drop, B: EngineName<K>, D: Device, R: Wait>(
+pub fn cancel_on<K: RecordKind + Drop, B: SetsName<K, D>, D: Device, R: Wait>(
     rt: &R,
     alloc: Global,
     book: &SharedJournal<K, B>,

@@ -14,8 +14,10 @@ ghost use Rattle.ioc_set_records.specs.Slots.{devices_of, records_of};
 ghost use Rattle.ioc_set_store.specs.SetStore.{world_of};
 ghost use Rattle.ioc_journaled_set.specs.Puts.{HaveEnded};
 ghost use Rattle.ioc_journaled_set.specs.Holding.{IsLent, IsOwner, KeepsDevices, held_view, numbers_of, Serves, Tells, IsNoCall};
+ghost use Rattle.ioc_journaled_set.specs.SameDevice.{IsDeviceOf};
 
 use crate::running::{Ran, run_counted, run_with_answers};
+use crate::sets_name::SetsName;
 use crate::shared_notifications::{SharedNotifications, keep_beside};
 use ioc_device::Device;
 use ioc_events::event_rules::{events_keep_records, rules_are_steps};
@@ -26,7 +28,7 @@ use ioc_history::legal_laws::{
     events_are_held, holders_move, holding_lasts, lists_leave_sound, parts_share_what_is_held,
     those_ended_are_over,
 };
-use ioc_history::{Cell, Desk, EngineName, KeyPass, Receipt, SharedJournal, pass};
+use ioc_history::{Cell, Desk, KeyPass, Receipt, SharedJournal, pass};
 use ioc_names::RecordNo;
 use ioc_notify::NotifyId;
 use ioc_notify::table_laws::lines_tell_holders;
@@ -43,13 +45,13 @@ use std::sync::{Mutex, Wait};
 /// Contracts see the set, and the beginning of the journal's list that the pass has seen: the set
 /// is equal to the world of all records at its own records.
 #[derive(Drop)]
-pub struct JournaledSet<K: RecordKind, B: EngineName<K>, D> {
+pub struct JournaledSet<K: RecordKind, B: SetsName<K, D>, D: Device> {
     pub set: LockSet<K, D>,
     pub(crate) pass: Option<KeyPass>,
     pub(crate) of: PhantomData<B>,
 }
 
-impl<K: RecordKind, B: EngineName<K>, D> Model for JournaledSet<K, B, D> {
+impl<K: RecordKind, B: SetsName<K, D>, D: Device> Model for JournaledSet<K, B, D> {
     ghost use Rattle.ioc_journaled_set.specs.Holding.{HeldView};
     ghost use Rattle.ioc_journaled_set.specs.JournaledSetCode.{held_view_code};
 
@@ -58,19 +60,20 @@ impl<K: RecordKind, B: EngineName<K>, D> Model for JournaledSet<K, B, D> {
     ghost coded = { held_view_code K.code D.code };
 
     ghost use Rattle.ioc_journaled_set.specs.Holding.{held_view, seen_by, IsHeld};
+    ghost use Rattle.ioc_journaled_set.specs.SameDevice.{IsDeviceOf};
 
     ghost view = { λ h. held_view h.set (seen_by h.pass) };
 
-    ghost invariant = { λ h. IsHeld K.rules B.base B.had_device B.table h.pass h.set };
+    ghost invariant = { λ h. IsHeld K.rules B.base (IsDeviceOf D.gives B.devices) B.table h.pass h.set };
 }
 
-impl<K: RecordKind, B: EngineName<K>, D> JournaledSet<K, B, D> {
-    /// A set with the pass of its records. The world has the set's records and the same devices for
-    /// them.
+impl<K: RecordKind, B: SetsName<K, D>, D: Device> JournaledSet<K, B, D> {
+    /// A set with the pass of its records. The world has the set's records, and each record has its
+    /// device.
     pub fn new(set: LockSet<K, D>, pass: KeyPass) -> Self
         requires owner { IsOwner B.table pass.table_id (cell_view pass) (now_of set) }
         requires holds { Holds K.rules (map_of K.rules B.base (cell_view pass).seen) (now_of set) }
-        requires devices { KeepsDevices B.had_device set }
+        requires devices { KeepsDevices (IsDeviceOf D.gives B.devices) set }
         ensures { result ≡ held_view set (cell_view pass).seen }
     {
         JournaledSet {
@@ -80,9 +83,10 @@ impl<K: RecordKind, B: EngineName<K>, D> JournaledSet<K, B, D> {
         }
     }
 
-    /// States that exactly those of its records have a device that had one at the load.
+    /// States that each of its records has the device of the load, as the device's own answers left
+    /// it, or none if it had none.
     pub fn keeps_devices(&self)
-        ensures { KeepsDevices B.had_device self.now.set }
+        ensures { KeepsDevices (IsDeviceOf D.gives B.devices) self.now.set }
     {
         let _ = &self.set;
     }
@@ -106,7 +110,7 @@ impl<K: RecordKind, B: EngineName<K>, D> JournaledSet<K, B, D> {
         requires table { (keeper.old.table_id ≡ B.table) × (cell.now.table.shared.table_id ≡ B.table) }
         ensures keeper { (keeper.new.table_id ≡ keeper.old.table_id) × (cell_view keeper.new ≡ cell_view keeper.old) }
         ensures set { result.0 ≡ self.set }
-        ensures lent { IsLent K.rules B.base B.had_device B.table result.0 (Some result.1) }
+        ensures lent { IsLent K.rules B.base (IsDeviceOf D.gives B.devices) B.table result.0 (Some result.1) }
     {
         let JournaledSet {
             set,
@@ -120,7 +124,7 @@ impl<K: RecordKind, B: EngineName<K>, D> JournaledSet<K, B, D> {
     }
 }
 
-impl<K: RecordKind + Drop, B: EngineName<K>, D: Device> JournaledSet<K, B, D> {
+impl<K: RecordKind + Drop, B: SetsName<K, D>, D: Device> JournaledSet<K, B, D> {
     /// Returns whether the put with notification with this number is live on the set.
     pub fn has_live(&self, number: NotifyId) -> bool
         ensures { result ≡ is_live number self.now.set.live }

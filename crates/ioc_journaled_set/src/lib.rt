@@ -20,10 +20,12 @@ pub mod link_laws;
 mod locked;
 pub mod put_places;
 mod running;
+pub mod sets_name;
 pub mod shared_notifications;
 pub mod together;
 
 pub use changing::{Changed, change_link};
 pub use giving_up::cancel_on;
 pub use journaled_set::JournaledSet;
+pub use sets_name::SetsName;
 pub use shared_notifications::SharedNotifications;

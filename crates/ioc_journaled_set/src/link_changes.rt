@@ -20,6 +20,7 @@ ghost use Rattle.ioc_journaled_set.specs.LinkChanges.{link_change, keys_of, IsKn
 
 use crate::journaled_set::JournaledSet;
 use crate::link_laws::{held_sets_may_be_one, led_sets_are_held, parted_sets_are_held};
+use crate::sets_name::SetsName;
 use ioc_dbcommon::{LinkBox, LinkField};
 use ioc_device::Device;
 use ioc_events::{Entry, Event, KeptAnswers, Reply};
@@ -79,7 +80,7 @@ fn keep_change<P: Keys, K: RecordKind, B: EngineName<K>, D, R: Wait>(
     book.append_two::<P, R>(rt, place, one, other, desk, entry)
 }
 
-impl<K: RecordKind + Drop, B: EngineName<K>, D: Device> JournaledSet<K, B, D> {
+impl<K: RecordKind + Drop, B: SetsName<K, D>, D: Device> JournaledSet<K, B, D> {
     /// Changes a link of a record to a record of this set, or to none, and adds the change to the
     /// journal. The set keeps the record's part, and the records that no link connects with it any
     /// more are returned as a journaled set of their own, which may be without records. Live puts

@@ -1,6 +1,7 @@
 //! Journaled sets under the locks of a directory.
 use crate::journaled_set::JournaledSet;
-use ioc_history::EngineName;
+use crate::sets_name::SetsName;
+use ioc_device::Device;
 use ioc_names::RecordNo;
 use ioc_record::RecordKind;
 use ioc_set::LockSet;
@@ -8,7 +9,7 @@ use ioc_topology::Locked;
 use std::alloc::Global;
 use std::marker::PhantomData;
 
-impl<K: RecordKind + Drop, B: EngineName<K>, D: Drop> Locked for JournaledSet<K, B, D> {
+impl<K: RecordKind + Drop, B: SetsName<K, D>, D: Device> Locked for JournaledSet<K, B, D> {
     ghost use Rattle.ioc_journaled_set.specs.Holding.{IsSoundlyHeld, numbers_of};
 
     ghost numbers = { λ h. numbers_of h };

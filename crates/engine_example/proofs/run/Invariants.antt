@@ -1,4 +1,4 @@
-use Rattle.ioc_engine.specs.Named.{name_of, cell_of}
+use Rattle.ioc_engine.specs.Named.{name_of, devices_of, cell_of}
 use Rattle.engine_example.proofs.run.Given as goal
 
 -- The name of the engine.
@@ -7,3 +7,6 @@ ghosts-work-B-EngineName-2 g a = name_of a.seed
 
 abbrev pub ghosts-work-B-CellName : goal.ghosts-work-B-CellName
 ghosts-work-B-CellName g a = cell_of a.seed
+
+abbrev pub ghosts-work-B-SetsName : goal.ghosts-work-B-SetsName
+ghosts-work-B-SetsName g a = devices_of a.seed

@@ -1,6 +1,7 @@
 use Rattle.std.proofs.Common.{◌≡◌, [], length}
 use Rattle.crossbeam_utils.specs.Seq.{cell_view}
 use Rattle.ioc_history.specs.Line.{keeper}
+use Rattle.ioc_journaled_set.specs.SameDevice.{IsDeviceOf}
 use Rattle.ioc_engine_core.specs.Loading.{AreSetsFrom, AreOfPartsBelow}
 use Rattle.ioc_engine_core.proofs.holding.hold_all.Given as goal
 
@@ -11,5 +12,5 @@ invariant-loop-part g l = record {
   table : l.master.table_id ≡ g.B.CellName.table;
   master : cell_view l.master ≡ keeper [] (cell_view l.master).born;
   born : AreOfPartsBelow l.parts l.part (cell_view l.master).born;
-  left : AreSetsFrom g.K.RecordKind.rules g.B.EngineName.base g.B.EngineName.had_device l.parts l.part l.sets;
+  left : AreSetsFrom g.K.RecordKind.rules g.B.EngineName.base (IsDeviceOf g.D.Device.gives g.B.SetsName.devices) l.parts l.part l.sets;
 }

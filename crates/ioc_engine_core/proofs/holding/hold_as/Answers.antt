@@ -9,6 +9,7 @@ use Rattle.ioc_history.specs.Account.{IsHolder, AreRecords}
 use Rattle.ioc_set.specs.SetState.{SetState, now_of}
 use Rattle.ioc_set_store.specs.Resting.{resting}
 use Rattle.ioc_journaled_set.specs.Holding.{IsOwner, KeepsDevices}
+use Rattle.ioc_journaled_set.specs.SameDevice.{IsDeviceOf}
 use Rattle.ioc_engine_core.proofs.Keys.{contains_record, there_key}
 use Rattle.ioc_engine_core.proofs.holding.hold_as.Goals as goal
 
@@ -16,7 +17,7 @@ pub claim-pass-requires-clause-fresh : goal.claim-pass-requires-clause-fresh
 claim-pass-requires-clause-fresh g c = λ key has. c.requires.fresh key (subst (λ (l : List Key). Has key l) c.requires.keys has)
 
 pub new-requires-clause-devices : goal.new-requires-clause-devices
-new-requires-clause-devices g c = subst (λ (h : SetState g.row.K.Denot g.row.D.Denot). KeepsDevices g.B.EngineName.had_device h) (sym c.of-set.ensures) c.requires.devices
+new-requires-clause-devices g c = subst (λ (h : SetState g.row.K.Denot g.row.D.Denot). KeepsDevices (IsDeviceOf g.D.Device.gives g.B.SetsName.devices) h) (sym c.of-set.ensures) c.requires.devices
 
 pub new-requires-clause-owner : goal.new-requires-clause-owner
 new-requires-clause-owner g c =

@@ -1,11 +1,12 @@
 use Rattle.std.proofs.Common.{ℕ, ◌<◌, length, get_or, subst, ◌∙◌, below_more, rules}
 use Rattle.ioc_journaled_set.specs.Holding.{HeldView, KeepsDevices}
+use Rattle.ioc_journaled_set.specs.SameDevice.{IsDeviceOf}
 use Rattle.std.proofs.lemmas.List.{get_or_default}
 use Rattle.ioc_engine_core.proofs.report.all_keep_devices.Goals as goal
 
 pub loop-held-preserved : goal.loop-held-preserved
 loop-held-preserved g c = λ i d lt.
-    let had = g.B.EngineName.had_device in
+    let had = (IsDeviceOf g.D.Device.gives g.B.SetsName.devices) in
     let sets = c.args.sets.now in
     let index = c.loop-held.held-index in
     let within : index < length sets = search rules in

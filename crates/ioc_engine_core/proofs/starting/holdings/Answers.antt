@@ -1,8 +1,10 @@
-use Rattle.std.proofs.Common.{◌<◌, ◌^◌, List, refl, sym, subst, length, arith, rules}
+use Rattle.std.proofs.Common.{ℕ, ◌<◌, ◌^◌, List, Option, refl, sym, subst, length, arith, rules}
 use Rattle.ioc_set_records.specs.Contents.{Contents, nothing}
 use Rattle.ioc_store.specs.World.{World}
 use Rattle.ioc_history.specs.Legal.{IsSound}
-use Rattle.ioc_engine_core.specs.Loading.{loaded_world, IsAtRest, AreSetsFrom}
+use Rattle.ioc_journaled_set.specs.SameDevice.{IsSameDevice, IsDeviceOf}
+use Rattle.ioc_engine_core.specs.Loading.{loaded_world, device_in, IsAtRest, AreSetsFrom}
+use Rattle.ioc_journaled_set.proofs.Devices.{unchanged}
 use Rattle.ioc_engine_core.proofs.DealtParts.{database_is_shut, database_is_free, database_is_small}
 use Rattle.ioc_engine_core.proofs.starting.holdings.Goals as goal
 
@@ -13,11 +15,12 @@ pub hold_all-requires-clause-parts : goal.hold_all-requires-clause-parts
 hold_all-requires-clause-parts g c =
     let k = g.K.RecordKind.rules in
     let base = g.B.EngineName.base in
-    let had = g.B.EngineName.had_device in
+    let gives = g.D.Device.gives in
+    let had = IsDeviceOf gives g.B.SetsName.devices in
     let all = c.args.all.items in
     let parts = c.args.parts.now in
     let sets = c.in_ok-sets.sets.items in
-    let rest : IsAtRest k base had parts all = record { world = c.requires.base; devices = c.requires.devices; idle = c.requires.idle; parts_are = c.requires.parts } in
+    let rest : IsAtRest k base had parts all = record { world = c.requires.base; devices = λ n. subst (λ (f : ℕ → Option g.row.D.Denot). IsSameDevice gives (f n) (device_in all n)) (sym c.requires.devices) (unchanged gives (device_in all n)); idle = c.requires.idle; parts_are = c.requires.parts } in
     let dealt = c.in_ok-sets.ensures in
     subst (λ (s : List (Contents g.row.K.Denot g.row.D.Denot)). AreSetsFrom k base had parts 0 s) (sym c.as_mut_slice.ensures.value)
     (record {

@@ -1,4 +1,4 @@
-use Rattle.ioc_engine.specs.Named.{name_of, cell_of}
+use Rattle.ioc_engine.specs.Named.{name_of, devices_of, cell_of}
 use Rattle.ioc_engine_tests.proofs.running.run_text.Given as goal
 
 -- The name of the engine.
@@ -7,3 +7,6 @@ ghosts-run-B-EngineName-2 g a = name_of a.seed
 
 abbrev pub ghosts-run-B-CellName : goal.ghosts-run-B-CellName
 ghosts-run-B-CellName g a = cell_of a.seed
+
+abbrev pub ghosts-run-B-SetsName : goal.ghosts-run-B-SetsName
+ghosts-run-B-SetsName g a = devices_of a.seed

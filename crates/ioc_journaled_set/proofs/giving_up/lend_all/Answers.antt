@@ -3,6 +3,7 @@ use Rattle.std.proofs.lemmas.List.{take_more}
 use Rattle.ioc_set.specs.SetState.{SetState}
 use Rattle.ioc_journaled_set.specs.Holding.{HeldView}
 use Rattle.ioc_journaled_set.specs.GivingUp.{EachIsLent, sets_of}
+use Rattle.ioc_journaled_set.specs.SameDevice.{IsDeviceOf}
 use Rattle.ioc_journaled_set.proofs.GivingUp.{lent_more, sets_push}
 use Rattle.ioc_history.specs.Account.{Pass}
 use Rattle.ioc_journaled_set.proofs.giving_up.lend_all.Goals as goal
@@ -37,8 +38,8 @@ loop-i-preserved g c =
           ∙ sym (sets_push (take i old) (get_or old i d)) ∙ ap (λ (l : List (HeldView g.row.K.Denot g.row.D.Denot)). sets_of l) (sym (take_more old i d within));
       count = (omega (arith, inv.count.0, c.push_reserved.ensures.len), omega (arith, inv.count.1, c.push_reserved-in-loop-i.ensures.len));
       lengths = (omega (arith, before, many, sets_long), omega (arith, before, others, passes_long));
-      lent = subst (λ (l : List (SetState g.row.K.Denot g.row.D.Denot)). EachIsLent k base g.B.EngineName.had_device table l c.push_reserved-in-loop-i.new.self.items) (sym sets)
-          (subst (λ (l : List (Option Pass)). EachIsLent k base g.B.EngineName.had_device table (c.loop-i.sets.items ++ set ∷ []) l) (sym passes)
-          (lent_more k base g.B.EngineName.had_device table c.loop-i.sets.items c.loop-i.passes.items set (Some own) (before.1 ∙ sym before.0) inv.lent e.lent));
+      lent = subst (λ (l : List (SetState g.row.K.Denot g.row.D.Denot)). EachIsLent k base (IsDeviceOf g.D.Device.gives g.B.SetsName.devices) table l c.push_reserved-in-loop-i.new.self.items) (sym sets)
+          (subst (λ (l : List (Option Pass)). EachIsLent k base (IsDeviceOf g.D.Device.gives g.B.SetsName.devices) table (c.loop-i.sets.items ++ set ∷ []) l) (sym passes)
+          (lent_more k base (IsDeviceOf g.D.Device.gives g.B.SetsName.devices) table c.loop-i.sets.items c.loop-i.passes.items set (Some own) (before.1 ∙ sym before.0) inv.lent e.lent));
       rest = λ j d le. let apart : j ≢ i = omega arith in get_or-set_other c.loop-i.held i j c.replace-one.new.dest d apart ∙ inv.rest j d (omega arith);
     }

@@ -5,6 +5,7 @@ use Rattle.crossbeam_utils.specs.Seq.{cell_view}
 use Rattle.ioc_history.specs.declared.cell.View.{View}
 use Rattle.ioc_journaled_set.specs.Holding.{HeldView}
 use Rattle.ioc_journaled_set.specs.GivingUp.{EachIsLent, sets_of}
+use Rattle.ioc_journaled_set.specs.SameDevice.{IsDeviceOf}
 use Rattle.ioc_journaled_set.proofs.giving_up.lend_all.Given as goal
 
 abbrev pub invariant-loop-i : goal.invariant-loop-i
@@ -15,6 +16,6 @@ invariant-loop-i g l = record {
   sets : l.sets.items ≡ sets_of (take l.i l.fn.held);
   count : (vec_len l.sets ≡ l.i) × (vec_len l.passes ≡ l.i);
   lengths : (length l.sets.items ≡ l.i) × (length l.passes.items ≡ l.i);
-  lent : EachIsLent g.K.RecordKind.rules g.B.EngineName.base g.B.EngineName.had_device g.B.CellName.table l.sets.items l.passes.items;
+  lent : EachIsLent g.K.RecordKind.rules g.B.EngineName.base (IsDeviceOf g.D.Device.gives g.B.SetsName.devices) g.B.CellName.table l.sets.items l.passes.items;
   rest : (j : ℕ) (d : HeldView g.row.K.Denot g.row.D.Denot) → l.i ≤ j → slice_index_or l.held j d ≡ slice_index_or l.fn.held j d;
 }

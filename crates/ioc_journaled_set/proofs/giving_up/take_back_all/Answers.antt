@@ -4,6 +4,7 @@ use Rattle.std.specs.Prelude.{slice_set}
 use Rattle.crossbeam_utils.specs.Seq.{cell_view}
 use Rattle.ioc_set.specs.SetState.{SetState}
 use Rattle.ioc_journaled_set.specs.Holding.{HeldView, held_view, seen_by}
+use Rattle.ioc_journaled_set.specs.SameDevice.{IsDeviceOf}
 use Rattle.ioc_journaled_set.proofs.GivingUp.{owns_at, has_devices, never_empty}
 use Rattle.ioc_history.specs.Account.{Pass}
 use Rattle.ioc_journaled_set.proofs.giving_up.take_back_all.Goals as goal
@@ -14,7 +15,7 @@ unreachable-requires g c =
     let set = c.index-sets-i.result in
     let slot = c.index-passes-i.result in
     let within : i < length c.args.sets.now = search rules in
-    never_empty g.K.RecordKind.rules g.B.EngineName.base g.B.EngineName.had_device g.B.CellName.table (get_or c.args.sets.now i set) (get_or c.args.passes.now i slot) (c.requires.lent i set slot within)
+    never_empty g.K.RecordKind.rules g.B.EngineName.base (IsDeviceOf g.D.Device.gives g.B.SetsName.devices) g.B.CellName.table (get_or c.args.sets.now i set) (get_or c.args.passes.now i slot) (c.requires.lent i set slot within)
     (sym (c.loop-i.invariant.passes i slot (omega arith)) ∙ (sym c.take.ensures.value ∙ c.in_default.is))
 
 pub new-requires-clause-owner : goal.new-requires-clause-owner
@@ -23,7 +24,7 @@ new-requires-clause-owner g c =
     let set = c.index-sets-i.result in
     let slot = c.index-passes-i.result in
     let within : i < length c.args.sets.now = search rules in
-    (owns_at g.K.RecordKind.rules g.B.EngineName.base g.B.EngineName.had_device g.B.CellName.table (get_or c.args.sets.now i set) c.replace-set.result (get_or c.args.passes.now i slot) c.in-Some.own (c.requires.lent i set slot within)
+    (owns_at g.K.RecordKind.rules g.B.EngineName.base (IsDeviceOf g.D.Device.gives g.B.SetsName.devices) g.B.CellName.table (get_or c.args.sets.now i set) c.replace-set.result (get_or c.args.passes.now i slot) c.in-Some.own (c.requires.lent i set slot within)
     (sym (c.loop-i.invariant.passes i slot (omega arith)) ∙ (sym c.take.ensures.value ∙ c.in-Some.is)) (c.replace-set.ensures.value ∙ c.loop-i.invariant.sets i set (omega arith))).0
 
 pub new-requires-clause-holds : goal.new-requires-clause-holds
@@ -32,7 +33,7 @@ new-requires-clause-holds g c =
     let set = c.index-sets-i.result in
     let slot = c.index-passes-i.result in
     let within : i < length c.args.sets.now = search rules in
-    (owns_at g.K.RecordKind.rules g.B.EngineName.base g.B.EngineName.had_device g.B.CellName.table (get_or c.args.sets.now i set) c.replace-set.result (get_or c.args.passes.now i slot) c.in-Some.own (c.requires.lent i set slot within)
+    (owns_at g.K.RecordKind.rules g.B.EngineName.base (IsDeviceOf g.D.Device.gives g.B.SetsName.devices) g.B.CellName.table (get_or c.args.sets.now i set) c.replace-set.result (get_or c.args.passes.now i slot) c.in-Some.own (c.requires.lent i set slot within)
     (sym (c.loop-i.invariant.passes i slot (omega arith)) ∙ (sym c.take.ensures.value ∙ c.in-Some.is)) (c.replace-set.ensures.value ∙ c.loop-i.invariant.sets i set (omega arith))).1
 
 pub new-requires-clause-devices : goal.new-requires-clause-devices
@@ -41,7 +42,7 @@ new-requires-clause-devices g c =
     let set = c.index-sets-i.result in
     let slot = c.index-passes-i.result in
     let within : i < length c.args.sets.now = search rules in
-    has_devices g.K.RecordKind.rules g.B.EngineName.base g.B.EngineName.had_device g.B.CellName.table (get_or c.args.sets.now i set) c.replace-set.result (get_or c.args.passes.now i slot) (c.requires.lent i set slot within)
+    has_devices g.K.RecordKind.rules g.B.EngineName.base (IsDeviceOf g.D.Device.gives g.B.SetsName.devices) g.B.CellName.table (get_or c.args.sets.now i set) c.replace-set.result (get_or c.args.passes.now i slot) (c.requires.lent i set slot within)
     (c.replace-set.ensures.value ∙ c.loop-i.invariant.sets i set (omega arith))
 
 pub loop-i-preserved : goal.loop-i-preserved

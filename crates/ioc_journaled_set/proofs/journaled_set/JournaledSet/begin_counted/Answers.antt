@@ -21,6 +21,7 @@ use Rattle.ioc_set_store.specs.declared.set_store.SetStore.{SetStore}
 use Rattle.ioc_set_store.specs.SetStore.{world_of}
 use Rattle.ioc_journaled_set.specs.Holding.{HeldView, held_view, numbers_of, IsHeld, Serves}
 use Rattle.ioc_journaled_set.specs.Puts.{PutsView, puts_view, CanBegin, AreMoved, AreCounted, HaveEnded}
+use Rattle.ioc_journaled_set.specs.SameDevice.{IsDeviceOf}
 use Rattle.ioc_journaled_set.proofs.Keys.{key_there}
 use Rattle.ioc_journaled_set.proofs.Devices.{worked_there, keeps_on}
 use Rattle.ioc_journaled_set.proofs.Serving.{one_there, owner_on, entry_is, only}
@@ -36,7 +37,7 @@ pub unreachable-requires : goal.unreachable-requires
 unreachable-requires g c =
     let k = g.K.RecordKind.rules in
     let none : c.self.inside.pass ≡ None = sym c.take.ensures.value ∙ c.in_default.is in
-    let held = subst (λ (o : Option Pass). IsHeld k g.B.EngineName.base g.B.EngineName.had_device g.B.CellName.table o c.self.inside.set) none c.self.invariant in
+    let held = subst (λ (o : Option Pass). IsHeld k g.B.EngineName.base (IsDeviceOf g.D.Device.gives g.B.SetsName.devices) g.B.CellName.table o c.self.inside.set) none c.self.invariant in
     held.owner c.args.target (key_there c.self.inside.set.records c.args.target (subst (λ (v : HeldView g.row.K.Denot g.row.D.Denot). Contains (numbers_of v) c.args.target) (sym c.self.view_is) c.requires.there))
 
 pub keep_beside-receipt-requires-clause-follows : goal.keep_beside-receipt-requires-clause-follows
@@ -45,7 +46,7 @@ keep_beside-receipt-requires-clause-follows g c =
     let base = g.B.EngineName.base in
     let event = Notify c.args.target c.args.notification c.args.field c.args.given in
     let is : c.self.inside.pass ≡ Some c.in-Some.pass = sym c.take.ensures.value ∙ c.in-Some.is in
-    let held = subst (λ (o : Option Pass). IsHeld k base g.B.EngineName.had_device g.B.CellName.table o c.self.inside.set) is c.self.invariant in
+    let held = subst (λ (o : Option Pass). IsHeld k base (IsDeviceOf g.D.Device.gives g.B.SetsName.devices) g.B.CellName.table o c.self.inside.set) is c.self.invariant in
     let own = key_there c.self.inside.set.records c.args.target (subst (λ (v : HeldView g.row.K.Denot g.row.D.Denot). Contains (numbers_of v) c.args.target) (sym c.self.view_is) c.requires.there) in
     let there : (n : ℕ) → Contains (names event) n → Has (now_of c.self.inside.set) n = λ n has. subst (λ (m : ℕ). Has (now_of c.self.inside.set) m) (one_there c.args.target n has) own in
     let does = c.in_ok-ran.ensures.does in
@@ -71,7 +72,7 @@ keep_beside-receipt-requires-clause-moves g c =
     let base = g.B.EngineName.base in
     let event = Notify c.args.target c.args.notification c.args.field c.args.given in
     let is : c.self.inside.pass ≡ Some c.in-Some.pass = sym c.take.ensures.value ∙ c.in-Some.is in
-    let held = subst (λ (o : Option Pass). IsHeld k base g.B.EngineName.had_device g.B.CellName.table o c.self.inside.set) is c.self.invariant in
+    let held = subst (λ (o : Option Pass). IsHeld k base (IsDeviceOf g.D.Device.gives g.B.SetsName.devices) g.B.CellName.table o c.self.inside.set) is c.self.invariant in
     let own = key_there c.self.inside.set.records c.args.target (subst (λ (v : HeldView g.row.K.Denot g.row.D.Denot). Contains (numbers_of v) c.args.target) (sym c.self.view_is) c.requires.there) in
     let there : (n : ℕ) → Contains (names event) n → Has (now_of c.self.inside.set) n = λ n has. subst (λ (m : ℕ). Has (now_of c.self.inside.set) m) (one_there c.args.target n has) own in
     let does = c.in_ok-ran.ensures.does in
@@ -94,7 +95,7 @@ invariant_of-self-2 g c =
     let base = g.B.EngineName.base in
     let event = Notify c.args.target c.args.notification c.args.field c.args.given in
     let is : c.self.inside.pass ≡ Some c.in-Some.pass = sym c.take.ensures.value ∙ c.in-Some.is in
-    let held = subst (λ (o : Option Pass). IsHeld k base g.B.EngineName.had_device g.B.CellName.table o c.self.inside.set) is c.self.invariant in
+    let held = subst (λ (o : Option Pass). IsHeld k base (IsDeviceOf g.D.Device.gives g.B.SetsName.devices) g.B.CellName.table o c.self.inside.set) is c.self.invariant in
     let own = key_there c.self.inside.set.records c.args.target (subst (λ (v : HeldView g.row.K.Denot g.row.D.Denot). Contains (numbers_of v) c.args.target) (sym c.self.view_is) c.requires.there) in
     let there : (n : ℕ) → Contains (names event) n → Has (now_of c.self.inside.set) n = λ n has. subst (λ (m : ℕ). Has (now_of c.self.inside.set) m) (one_there c.args.target n has) own in
     let does = c.in_ok-ran.ensures.does in
@@ -107,7 +108,7 @@ invariant_of-self-2 g c =
     let came = only k g.D.Device.gives c.self.inside.set c.run_counted.new.set c.args.moment event c.in_ok-ran.ran.reply come_to does there c.rules_are_steps.ensures.allowed c.events_keep_records.ensures held.holds.shut in
     record {
       owner = owner_on g.B.CellName.table _ _ (cell_view c.in-Some.pass) (cell_view c.keep_beside-receipt.new.pass) _ (now_of c.self.inside.set) (now_of c.run_counted.new.set) held.owner (pass.0 ∙ sym held.owner.same) pass.1 came;
-      devices = keeps_on g.B.EngineName.had_device c.self.inside.set c.run_counted.new.set held.devices (worked_there does.work) came;
+      devices = keeps_on g.D.Device.gives g.B.SetsName.devices c.self.inside.set c.run_counted.new.set held.devices (worked_there does.work) came;
       holds = subst (λ (x : View). Holds k (map_of k base x.seen) (now_of c.run_counted.new.set)) (sym pass.1)
           (held_beside k g.D.Device.gives c.self.inside.set c.run_counted.new.set c.args.moment event c.in_ok-ran.ran.reply come_to does there
           c.holding_lasts.ensures c.events_are_held.ensures.event c.holders_move.ensures.moves c.parts_share_what_is_held.ensures.alike
@@ -123,7 +124,7 @@ returns-clause-begins g c =
     let base = g.B.EngineName.base in
     let event = Notify c.args.target c.args.notification c.args.field c.args.given in
     let is : c.self.inside.pass ≡ Some c.in-Some.pass = sym c.take.ensures.value ∙ c.in-Some.is in
-    let held = subst (λ (o : Option Pass). IsHeld k base g.B.EngineName.had_device g.B.CellName.table o c.self.inside.set) is c.self.invariant in
+    let held = subst (λ (o : Option Pass). IsHeld k base (IsDeviceOf g.D.Device.gives g.B.SetsName.devices) g.B.CellName.table o c.self.inside.set) is c.self.invariant in
     let own = key_there c.self.inside.set.records c.args.target (subst (λ (v : HeldView g.row.K.Denot g.row.D.Denot). Contains (numbers_of v) c.args.target) (sym c.self.view_is) c.requires.there) in
     let there : (n : ℕ) → Contains (names event) n → Has (now_of c.self.inside.set) n = λ n has. subst (λ (m : ℕ). Has (now_of c.self.inside.set) m) (one_there c.args.target n has) own in
     let does = c.in_ok-ran.ensures.does in
@@ -156,7 +157,7 @@ returns-clause-ended g c =
     let base = g.B.EngineName.base in
     let event = Notify c.args.target c.args.notification c.args.field c.args.given in
     let is : c.self.inside.pass ≡ Some c.in-Some.pass = sym c.take.ensures.value ∙ c.in-Some.is in
-    let held = subst (λ (o : Option Pass). IsHeld k base g.B.EngineName.had_device g.B.CellName.table o c.self.inside.set) is c.self.invariant in
+    let held = subst (λ (o : Option Pass). IsHeld k base (IsDeviceOf g.D.Device.gives g.B.SetsName.devices) g.B.CellName.table o c.self.inside.set) is c.self.invariant in
     let own = key_there c.self.inside.set.records c.args.target (subst (λ (v : HeldView g.row.K.Denot g.row.D.Denot). Contains (numbers_of v) c.args.target) (sym c.self.view_is) c.requires.there) in
     let there : (n : ℕ) → Contains (names event) n → Has (now_of c.self.inside.set) n = λ n has. subst (λ (m : ℕ). Has (now_of c.self.inside.set) m) (one_there c.args.target n has) own in
     let does = c.in_ok-ran.ensures.does in

@@ -5,6 +5,7 @@ use Rattle.ioc_history.specs.Legal.{map_of}
 use Rattle.ioc_history.specs.Account.{IsHolder, AreRecords, Pass}
 use Rattle.ioc_set.specs.SetState.{now_of}
 use Rattle.ioc_journaled_set.specs.Holding.{IsHeld}
+use Rattle.ioc_journaled_set.specs.SameDevice.{IsDeviceOf}
 use Rattle.ioc_journaled_set.proofs.Nothing.{nothing_known}
 use Rattle.ioc_journaled_set.proofs.journaled_set.JournaledSet.into_parts.Goals as goal
 
@@ -12,7 +13,7 @@ pub returns-in-None-clause-lent : goal.returns-in-None-clause-lent
 returns-in-None-clause-lent g c =
     let k = g.K.RecordKind.rules in
     let base = g.B.EngineName.base in
-    let held = subst (λ (o : Option Pass). IsHeld k base g.B.EngineName.had_device g.B.CellName.table o c.self.inside.set) c.in-None.is c.self.invariant in
+    let held = subst (λ (o : Option Pass). IsHeld k base (IsDeviceOf g.D.Device.gives g.B.SetsName.devices) g.B.CellName.table o c.self.inside.set) c.in-None.is c.self.invariant in
     let given = c.copy.ensures.given in
     record {
       pass = c.copy.result;

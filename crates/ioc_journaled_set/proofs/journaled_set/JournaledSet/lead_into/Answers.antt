@@ -17,6 +17,7 @@ use Rattle.ioc_set.specs.Linking.{MayBeOne}
 use Rattle.ioc_set_store.specs.SetStore.{world_of}
 use Rattle.ioc_journaled_set.specs.Holding.{HeldView, IsHeld}
 use Rattle.ioc_journaled_set.specs.LinkChanges.{link_change}
+use Rattle.ioc_journaled_set.specs.SameDevice.{IsDeviceOf}
 use Rattle.ioc_journaled_set.proofs.Dealing.{dealt_owner, both_may_follow, known_then}
 use Rattle.ioc_journaled_set.proofs.Leading.{lead_within, lead_apart, after_keeps, rest_keeps, lead_goes_on}
 use Rattle.ioc_journaled_set.proofs.Nothing.{nothing_is_held}
@@ -36,7 +37,7 @@ lead_into-requires-clause-one g c =
 pub unreachable-requires-in_default-take : goal.unreachable-requires-in_default-take
 unreachable-requires-in_default-take g c =
     let none : c.other.inside.pass ≡ None = sym c.take-2.ensures.value ∙ c.in_default-take.is in
-    let held = subst (λ (o : Option Pass). IsHeld g.K.RecordKind.rules g.B.EngineName.base g.B.EngineName.had_device g.B.CellName.table o c.other.inside.set) none c.other.invariant in
+    let held = subst (λ (o : Option Pass). IsHeld g.K.RecordKind.rules g.B.EngineName.base (IsDeviceOf g.D.Device.gives g.B.SetsName.devices) g.B.CellName.table o c.other.inside.set) none c.other.invariant in
     let also_same : c.other.inside.set ≡ c.args.other.now.set = ap (λ (v : HeldView g.row.K.Denot g.row.D.Denot). v.set) c.other.view_is ∙ c.compare.ensures.same.1 in
     let there = subst (λ (h : SetState g.row.K.Denot g.row.D.Denot). IsSome (get h.records c.requires.to.0)) (sym also_same) c.requires.to.2 in
     held.owner c.requires.to.0 there
@@ -56,8 +57,8 @@ keep_change-receipt-requires-clause-within g c =
     (subst (λ (h : SetState g.row.K.Denot g.row.D.Denot). (q : ℕ) → IsSome (get c.args.self.now.set.records q) → get h.records q ≡ None) (sym also_same) c.compare.ensures.apart) in
     let pass = cell_view c.in-Some.pass in
     let beside = cell_view c.in-Some-take.beside in
-    let held = subst (λ (o : Option Pass). IsHeld k base g.B.EngineName.had_device g.B.CellName.table o before) (sym c.take.ensures.value ∙ c.in-Some.is) c.self.invariant in
-    let also_held = subst (λ (o : Option Pass). IsHeld k base g.B.EngineName.had_device g.B.CellName.table o also) (sym c.take-2.ensures.value ∙ c.in-Some-take.is) c.other.invariant in
+    let held = subst (λ (o : Option Pass). IsHeld k base (IsDeviceOf g.D.Device.gives g.B.SetsName.devices) g.B.CellName.table o before) (sym c.take.ensures.value ∙ c.in-Some.is) c.self.invariant in
+    let also_held = subst (λ (o : Option Pass). IsHeld k base (IsDeviceOf g.D.Device.gives g.B.SetsName.devices) g.B.CellName.table o also) (sym c.take-2.ensures.value ∙ c.in-Some-take.is) c.other.invariant in
     lead_within k before also c.lead_into.new.self c.lead_into.new.other c.in-Ok.rest c.args.moment c.args.number c.args.field c.args.link (world_of c.lead_into.new.place.store) takes c.in-Ok.ensures.led apart pass.owns beside.owns held.owner.covers also_held.owner.covers
 
 pub keep_change-receipt-requires-clause-apart : goal.keep_change-receipt-requires-clause-apart
@@ -90,8 +91,8 @@ keep_change-receipt-requires-clause-follows g c =
     (subst (λ (h : SetState g.row.K.Denot g.row.D.Denot). (q : ℕ) → IsSome (get c.args.self.now.set.records q) → get h.records q ≡ None) (sym also_same) c.compare.ensures.apart) in
     let pass = cell_view c.in-Some.pass in
     let beside = cell_view c.in-Some-take.beside in
-    let held = subst (λ (o : Option Pass). IsHeld k base g.B.EngineName.had_device g.B.CellName.table o before) (sym c.take.ensures.value ∙ c.in-Some.is) c.self.invariant in
-    let also_held = subst (λ (o : Option Pass). IsHeld k base g.B.EngineName.had_device g.B.CellName.table o also) (sym c.take-2.ensures.value ∙ c.in-Some-take.is) c.other.invariant in
+    let held = subst (λ (o : Option Pass). IsHeld k base (IsDeviceOf g.D.Device.gives g.B.SetsName.devices) g.B.CellName.table o before) (sym c.take.ensures.value ∙ c.in-Some.is) c.self.invariant in
+    let also_held = subst (λ (o : Option Pass). IsHeld k base (IsDeviceOf g.D.Device.gives g.B.SetsName.devices) g.B.CellName.table o also) (sym c.take-2.ensures.value ∙ c.in-Some-take.is) c.other.invariant in
     let to = subst (λ (h : SetState g.row.K.Denot g.row.D.Denot). (t : ℕ) × (named_by (use_of c.args.link) ≡ t ∷ []) × IsSome (get h.records t)) (sym also_same) c.requires.to in
     let goes = lead_goes_on k before also c.lead_into.new.self c.lead_into.new.other c.in-Ok.rest c.args.moment c.args.number c.args.field c.args.link (world_of c.lead_into.new.place.store) takes c.in-Ok.ensures.led apart
     c.holding_lasts.ensures c.led_sets_are_held.ensures to c.is_sound.ensures
@@ -114,8 +115,8 @@ invariant_of-self-2 g c =
     (subst (λ (h : SetState g.row.K.Denot g.row.D.Denot). (q : ℕ) → IsSome (get c.args.self.now.set.records q) → get h.records q ≡ None) (sym also_same) c.compare.ensures.apart) in
     let pass = cell_view c.in-Some.pass in
     let beside = cell_view c.in-Some-take.beside in
-    let held = subst (λ (o : Option Pass). IsHeld k base g.B.EngineName.had_device g.B.CellName.table o before) (sym c.take.ensures.value ∙ c.in-Some.is) c.self.invariant in
-    let also_held = subst (λ (o : Option Pass). IsHeld k base g.B.EngineName.had_device g.B.CellName.table o also) (sym c.take-2.ensures.value ∙ c.in-Some-take.is) c.other.invariant in
+    let held = subst (λ (o : Option Pass). IsHeld k base (IsDeviceOf g.D.Device.gives g.B.SetsName.devices) g.B.CellName.table o before) (sym c.take.ensures.value ∙ c.in-Some.is) c.self.invariant in
+    let also_held = subst (λ (o : Option Pass). IsHeld k base (IsDeviceOf g.D.Device.gives g.B.SetsName.devices) g.B.CellName.table o also) (sym c.take-2.ensures.value ∙ c.in-Some-take.is) c.other.invariant in
     let to = subst (λ (h : SetState g.row.K.Denot g.row.D.Denot). (t : ℕ) × (named_by (use_of c.args.link) ≡ t ∷ []) × IsSome (get h.records t)) (sym also_same) c.requires.to in
     let goes = lead_goes_on k before also c.lead_into.new.self c.lead_into.new.other c.in-Ok.rest c.args.moment c.args.number c.args.field c.args.link (world_of c.lead_into.new.place.store) takes c.in-Ok.ensures.led apart
     c.holding_lasts.ensures c.led_sets_are_held.ensures to c.is_sound.ensures
@@ -127,7 +128,7 @@ invariant_of-self-2 g c =
     record {
       owner = dealt_owner g.B.CellName.table _ (cell_view c.keep_change-receipt.new.one) c.keep_change-receipt.new.desk.seen c.lead_into.new.self one.0 one.1;
       holds = subst (λ (x : View). Holds k (map_of k base x.seen) (now_of c.lead_into.new.self)) (sym one.1) then.0;
-      devices = after_keeps k before also c.lead_into.new.self c.lead_into.new.other c.in-Ok.rest c.args.moment c.args.number c.args.field c.args.link (world_of c.lead_into.new.place.store) takes c.in-Ok.ensures.led apart g.B.EngineName.had_device held.devices also_held.devices c.devices_are_owned.ensures c.devices_are_owned-2.ensures c.devices_are_owned-3.ensures c.devices_are_owned-4.ensures;
+      devices = after_keeps k before also c.lead_into.new.self c.lead_into.new.other c.in-Ok.rest c.args.moment c.args.number c.args.field c.args.link (world_of c.lead_into.new.place.store) takes c.in-Ok.ensures.led apart (IsDeviceOf g.D.Device.gives g.B.SetsName.devices) held.devices also_held.devices c.devices_are_owned.ensures c.devices_are_owned-2.ensures c.devices_are_owned-3.ensures c.devices_are_owned-4.ensures;
     }
 
 pub invariant_of-rest : goal.invariant_of-rest
@@ -145,8 +146,8 @@ invariant_of-rest g c =
     (subst (λ (h : SetState g.row.K.Denot g.row.D.Denot). (q : ℕ) → IsSome (get c.args.self.now.set.records q) → get h.records q ≡ None) (sym also_same) c.compare.ensures.apart) in
     let pass = cell_view c.in-Some.pass in
     let beside = cell_view c.in-Some-take.beside in
-    let held = subst (λ (o : Option Pass). IsHeld k base g.B.EngineName.had_device g.B.CellName.table o before) (sym c.take.ensures.value ∙ c.in-Some.is) c.self.invariant in
-    let also_held = subst (λ (o : Option Pass). IsHeld k base g.B.EngineName.had_device g.B.CellName.table o also) (sym c.take-2.ensures.value ∙ c.in-Some-take.is) c.other.invariant in
+    let held = subst (λ (o : Option Pass). IsHeld k base (IsDeviceOf g.D.Device.gives g.B.SetsName.devices) g.B.CellName.table o before) (sym c.take.ensures.value ∙ c.in-Some.is) c.self.invariant in
+    let also_held = subst (λ (o : Option Pass). IsHeld k base (IsDeviceOf g.D.Device.gives g.B.SetsName.devices) g.B.CellName.table o also) (sym c.take-2.ensures.value ∙ c.in-Some-take.is) c.other.invariant in
     let to = subst (λ (h : SetState g.row.K.Denot g.row.D.Denot). (t : ℕ) × (named_by (use_of c.args.link) ≡ t ∷ []) × IsSome (get h.records t)) (sym also_same) c.requires.to in
     let goes = lead_goes_on k before also c.lead_into.new.self c.lead_into.new.other c.in-Ok.rest c.args.moment c.args.number c.args.field c.args.link (world_of c.lead_into.new.place.store) takes c.in-Ok.ensures.led apart
     c.holding_lasts.ensures c.led_sets_are_held.ensures to c.is_sound.ensures
@@ -158,11 +159,11 @@ invariant_of-rest g c =
     record {
       owner = dealt_owner g.B.CellName.table _ (cell_view c.keep_change-receipt.new.other) c.keep_change-receipt.new.desk.seen c.in-Ok.rest two.0 two.1;
       holds = subst (λ (x : View). Holds k (map_of k base x.seen) (now_of c.in-Ok.rest)) (sym two.1) then.1;
-      devices = rest_keeps k before also c.lead_into.new.self c.lead_into.new.other c.in-Ok.rest c.args.moment c.args.number c.args.field c.args.link (world_of c.lead_into.new.place.store) takes c.in-Ok.ensures.led apart g.B.EngineName.had_device held.devices also_held.devices c.devices_are_owned.ensures c.devices_are_owned-2.ensures c.devices_are_owned-3.ensures c.devices_are_owned-4.ensures;
+      devices = rest_keeps k before also c.lead_into.new.self c.lead_into.new.other c.in-Ok.rest c.args.moment c.args.number c.args.field c.args.link (world_of c.lead_into.new.place.store) takes c.in-Ok.ensures.led apart (IsDeviceOf g.D.Device.gives g.B.SetsName.devices) held.devices also_held.devices c.devices_are_owned.ensures c.devices_are_owned-2.ensures c.devices_are_owned-3.ensures c.devices_are_owned-4.ensures;
     }
 
 pub invariant_of-other-2 : goal.invariant_of-other-2
 invariant_of-other-2 g c =
     let k = g.K.RecordKind.rules in
-    let nothing = nothing_is_held k g.met.K.RecordKind.lawful.missing_targets g.B.EngineName.base g.B.EngineName.had_device g.B.CellName.table c.lead_into.new.other c.in-Ok.ensures.led.joins.emptied in
-    subst (λ (o : Option Pass). IsHeld k g.B.EngineName.base g.B.EngineName.had_device g.B.CellName.table o c.lead_into.new.other) (sym c.take-2.ensures.after) nothing
+    let nothing = nothing_is_held k g.met.K.RecordKind.lawful.missing_targets g.B.EngineName.base (IsDeviceOf g.D.Device.gives g.B.SetsName.devices) g.B.CellName.table c.lead_into.new.other c.in-Ok.ensures.led.joins.emptied in
+    subst (λ (o : Option Pass). IsHeld k g.B.EngineName.base (IsDeviceOf g.D.Device.gives g.B.SetsName.devices) g.B.CellName.table o c.lead_into.new.other) (sym c.take-2.ensures.after) nothing

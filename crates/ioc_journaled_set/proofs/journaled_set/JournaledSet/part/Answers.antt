@@ -15,6 +15,7 @@ use Rattle.ioc_history.specs.declared.cell.View.{View}
 use Rattle.ioc_set.specs.SetState.{now_of}
 use Rattle.ioc_journaled_set.specs.Holding.{HeldView, IsHeld}
 use Rattle.ioc_journaled_set.specs.LinkChanges.{link_change}
+use Rattle.ioc_journaled_set.specs.SameDevice.{IsDeviceOf}
 use Rattle.ioc_journaled_set.proofs.Dealing.{dealt_owner, both_may_follow, known_then}
 use Rattle.ioc_journaled_set.proofs.Parting.{takes_link, part_within, part_apart, stay_keeps, rest_keeps, part_goes_on}
 use Rattle.ioc_journaled_set.proofs.journaled_set.JournaledSet.part.Goals as goal
@@ -22,7 +23,7 @@ use Rattle.ioc_journaled_set.proofs.journaled_set.JournaledSet.part.Goals as goa
 pub keep_change-receipt-requires-clause-one : goal.keep_change-receipt-requires-clause-one
 keep_change-receipt-requires-clause-one g c =
     let is : c.self.inside.pass ≡ Some c.in-Some.pass = sym c.take.ensures.value ∙ c.in-Some.is in
-    let held = subst (λ (o : Option Pass). IsHeld g.K.RecordKind.rules g.B.EngineName.base g.B.EngineName.had_device g.B.CellName.table o c.self.inside.set) is c.self.invariant in
+    let held = subst (λ (o : Option Pass). IsHeld g.K.RecordKind.rules g.B.EngineName.base (IsDeviceOf g.D.Device.gives g.B.SetsName.devices) g.B.CellName.table o c.self.inside.set) is c.self.invariant in
     subst (λ (x : View). IsHolder x × AreRecords x.owns) (sym c.copy-other.ensures.kept.1) (held.owner.holder, held.owner.records)
 
 pub keep_change-receipt-requires-clause-within : goal.keep_change-receipt-requires-clause-within
@@ -31,7 +32,7 @@ keep_change-receipt-requires-clause-within g c =
     let base = g.B.EngineName.base in
     let before = c.self.inside.set in
     let is : c.self.inside.pass ≡ Some c.in-Some.pass = sym c.take.ensures.value ∙ c.in-Some.is in
-    let held = subst (λ (o : Option Pass). IsHeld k base g.B.EngineName.had_device g.B.CellName.table o before) is c.self.invariant in
+    let held = subst (λ (o : Option Pass). IsHeld k base (IsDeviceOf g.D.Device.gives g.B.SetsName.devices) g.B.CellName.table o before) is c.self.invariant in
     let has = subst (λ (v : HeldView g.row.K.Denot g.row.D.Denot). HasLink k v.set.records c.args.number c.args.field) (sym c.self.view_is) c.requires.field in
     let allowed = subst (λ (v : HeldView g.row.K.Denot g.row.D.Denot). stops_put (common_at k (now_of v.set) c.args.number) c.args.field ≡ false) (sym c.self.view_is) c.requires.allowed in
     let takes = takes_link k before c.args.number c.args.field has allowed in
@@ -45,7 +46,7 @@ keep_change-receipt-requires-clause-apart g c =
     let base = g.B.EngineName.base in
     let before = c.self.inside.set in
     let is : c.self.inside.pass ≡ Some c.in-Some.pass = sym c.take.ensures.value ∙ c.in-Some.is in
-    let held = subst (λ (o : Option Pass). IsHeld k base g.B.EngineName.had_device g.B.CellName.table o before) is c.self.invariant in
+    let held = subst (λ (o : Option Pass). IsHeld k base (IsDeviceOf g.D.Device.gives g.B.SetsName.devices) g.B.CellName.table o before) is c.self.invariant in
     let has = subst (λ (v : HeldView g.row.K.Denot g.row.D.Denot). HasLink k v.set.records c.args.number c.args.field) (sym c.self.view_is) c.requires.field in
     let allowed = subst (λ (v : HeldView g.row.K.Denot g.row.D.Denot). stops_put (common_at k (now_of v.set) c.args.number) c.args.field ≡ false) (sym c.self.view_is) c.requires.allowed in
     let takes = takes_link k before c.args.number c.args.field has allowed in
@@ -57,7 +58,7 @@ keep_change-receipt-requires-clause-follows g c =
     let base = g.B.EngineName.base in
     let before = c.self.inside.set in
     let is : c.self.inside.pass ≡ Some c.in-Some.pass = sym c.take.ensures.value ∙ c.in-Some.is in
-    let held = subst (λ (o : Option Pass). IsHeld k base g.B.EngineName.had_device g.B.CellName.table o before) is c.self.invariant in
+    let held = subst (λ (o : Option Pass). IsHeld k base (IsDeviceOf g.D.Device.gives g.B.SetsName.devices) g.B.CellName.table o before) is c.self.invariant in
     let has = subst (λ (v : HeldView g.row.K.Denot g.row.D.Denot). HasLink k v.set.records c.args.number c.args.field) (sym c.self.view_is) c.requires.field in
     let allowed = subst (λ (v : HeldView g.row.K.Denot g.row.D.Denot). stops_put (common_at k (now_of v.set) c.args.number) c.args.field ≡ false) (sym c.self.view_is) c.requires.allowed in
     let takes = takes_link k before c.args.number c.args.field has allowed in
@@ -77,7 +78,7 @@ invariant_of-self-2 g c =
     let base = g.B.EngineName.base in
     let before = c.self.inside.set in
     let is : c.self.inside.pass ≡ Some c.in-Some.pass = sym c.take.ensures.value ∙ c.in-Some.is in
-    let held = subst (λ (o : Option Pass). IsHeld k base g.B.EngineName.had_device g.B.CellName.table o before) is c.self.invariant in
+    let held = subst (λ (o : Option Pass). IsHeld k base (IsDeviceOf g.D.Device.gives g.B.SetsName.devices) g.B.CellName.table o before) is c.self.invariant in
     let has = subst (λ (v : HeldView g.row.K.Denot g.row.D.Denot). HasLink k v.set.records c.args.number c.args.field) (sym c.self.view_is) c.requires.field in
     let allowed = subst (λ (v : HeldView g.row.K.Denot g.row.D.Denot). stops_put (common_at k (now_of v.set) c.args.number) c.args.field ≡ false) (sym c.self.view_is) c.requires.allowed in
     let takes = takes_link k before c.args.number c.args.field has allowed in
@@ -95,7 +96,7 @@ invariant_of-self-2 g c =
     record {
       owner = dealt_owner g.B.CellName.table _ (cell_view c.keep_change-receipt.new.one) c.keep_change-receipt.new.desk.seen c.part.new.self one.0 one.1;
       holds = subst (λ (x : View). Holds k (map_of k base x.seen) (now_of c.part.new.self)) (sym one.1) then.0;
-      devices = stay_keeps k before c.part.new.self c.in-Ok.rest c.args.moment c.args.number c.args.field c.args.link takes c.in-Ok.ensures.apart g.B.EngineName.had_device held.devices c.devices_are_owned-2.ensures;
+      devices = stay_keeps k before c.part.new.self c.in-Ok.rest c.args.moment c.args.number c.args.field c.args.link takes c.in-Ok.ensures.apart (IsDeviceOf g.D.Device.gives g.B.SetsName.devices) held.devices c.devices_are_owned-2.ensures;
     }
 
 pub invariant_of-rest : goal.invariant_of-rest
@@ -104,7 +105,7 @@ invariant_of-rest g c =
     let base = g.B.EngineName.base in
     let before = c.self.inside.set in
     let is : c.self.inside.pass ≡ Some c.in-Some.pass = sym c.take.ensures.value ∙ c.in-Some.is in
-    let held = subst (λ (o : Option Pass). IsHeld k base g.B.EngineName.had_device g.B.CellName.table o before) is c.self.invariant in
+    let held = subst (λ (o : Option Pass). IsHeld k base (IsDeviceOf g.D.Device.gives g.B.SetsName.devices) g.B.CellName.table o before) is c.self.invariant in
     let has = subst (λ (v : HeldView g.row.K.Denot g.row.D.Denot). HasLink k v.set.records c.args.number c.args.field) (sym c.self.view_is) c.requires.field in
     let allowed = subst (λ (v : HeldView g.row.K.Denot g.row.D.Denot). stops_put (common_at k (now_of v.set) c.args.number) c.args.field ≡ false) (sym c.self.view_is) c.requires.allowed in
     let takes = takes_link k before c.args.number c.args.field has allowed in
@@ -122,5 +123,5 @@ invariant_of-rest g c =
     record {
       owner = dealt_owner g.B.CellName.table _ (cell_view c.keep_change-receipt.new.other) c.keep_change-receipt.new.desk.seen c.in-Ok.rest two.0 two.1;
       holds = subst (λ (x : View). Holds k (map_of k base x.seen) (now_of c.in-Ok.rest)) (sym two.1) then.1;
-      devices = rest_keeps k before c.part.new.self c.in-Ok.rest c.args.moment c.args.number c.args.field c.args.link takes c.in-Ok.ensures.apart g.B.EngineName.had_device held.devices c.devices_are_owned.ensures;
+      devices = rest_keeps k before c.part.new.self c.in-Ok.rest c.args.moment c.args.number c.args.field c.args.link takes c.in-Ok.ensures.apart (IsDeviceOf g.D.Device.gives g.B.SetsName.devices) held.devices c.devices_are_owned.ensures;
     }

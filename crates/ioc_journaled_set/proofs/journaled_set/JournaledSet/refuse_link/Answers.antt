@@ -14,6 +14,7 @@ use Rattle.ioc_history.specs.Account.{Call, Pass}
 use Rattle.ioc_set.specs.SetState.{now_of}
 use Rattle.ioc_journaled_set.specs.Holding.{HeldView, held_view, IsHeld}
 use Rattle.ioc_journaled_set.specs.LinkChanges.{Refuses}
+use Rattle.ioc_journaled_set.specs.SameDevice.{IsDeviceOf}
 use Rattle.ioc_journaled_set.proofs.Serving.{owner_on}
 use Rattle.ioc_journaled_set.proofs.Refusing.{link_there, link_has, refusal_may_follow, held_after_refusal}
 use Rattle.ioc_journaled_set.proofs.journaled_set.JournaledSet.refuse_link.Goals as goal
@@ -22,14 +23,14 @@ pub unreachable-requires : goal.unreachable-requires
 unreachable-requires g c =
     let k = g.K.RecordKind.rules in
     let none : c.self.inside.pass ≡ None = sym c.take.ensures.value ∙ c.in_default.is in
-    let held = subst (λ (o : Option Pass). IsHeld k g.B.EngineName.base g.B.EngineName.had_device g.B.CellName.table o c.self.inside.set) none c.self.invariant in
+    let held = subst (λ (o : Option Pass). IsHeld k g.B.EngineName.base (IsDeviceOf g.D.Device.gives g.B.SetsName.devices) g.B.CellName.table o c.self.inside.set) none c.self.invariant in
     let has = subst (λ (v : HeldView g.row.K.Denot g.row.D.Denot). HasLink k v.set.records c.args.number c.args.field) (sym c.self.view_is) c.requires.field in
     held.owner c.args.number (link_there k c.self.inside.set c.args.number c.args.field has)
 
 pub append-receipt-requires-clause-set : goal.append-receipt-requires-clause-set
 append-receipt-requires-clause-set g c =
     let is : c.self.inside.pass ≡ Some c.in-Some.pass = sym c.take.ensures.value ∙ c.in-Some.is in
-    let held = subst (λ (o : Option Pass). IsHeld g.K.RecordKind.rules g.B.EngineName.base g.B.EngineName.had_device g.B.CellName.table o c.self.inside.set) is c.self.invariant in
+    let held = subst (λ (o : Option Pass). IsHeld g.K.RecordKind.rules g.B.EngineName.base (IsDeviceOf g.D.Device.gives g.B.SetsName.devices) g.B.CellName.table o c.self.inside.set) is c.self.invariant in
     (held.owner.holder, λ key has desk. let record_key = held.owner.records key has in omega (arith, record_key, desk))
 
 pub append-receipt-requires-clause-follows : goal.append-receipt-requires-clause-follows
@@ -37,7 +38,7 @@ append-receipt-requires-clause-follows g c =
     let k = g.K.RecordKind.rules in
     let set = c.self.inside.set in
     let is : c.self.inside.pass ≡ Some c.in-Some.pass = sym c.take.ensures.value ∙ c.in-Some.is in
-    let held = subst (λ (o : Option Pass). IsHeld k g.B.EngineName.base g.B.EngineName.had_device g.B.CellName.table o set) is c.self.invariant in
+    let held = subst (λ (o : Option Pass). IsHeld k g.B.EngineName.base (IsDeviceOf g.D.Device.gives g.B.SetsName.devices) g.B.CellName.table o set) is c.self.invariant in
     let has = subst (λ (v : HeldView g.row.K.Denot g.row.D.Denot). HasLink k v.set.records c.args.number c.args.field) (sym c.self.view_is) c.requires.field in
     let stops = subst (λ (v : HeldView g.row.K.Denot g.row.D.Denot). stops_put (common_at k (now_of v.set) c.args.number) c.args.field ≡ true) (sym c.self.view_is) c.requires.forbidden in
     let none = c.new-2.ensures ∙ c.new.ensures.items in
@@ -51,7 +52,7 @@ invariant_of-self g c =
     let k = g.K.RecordKind.rules in
     let held_set = c.self.inside.set in
     let is : c.self.inside.pass ≡ Some c.in-Some.pass = sym c.take.ensures.value ∙ c.in-Some.is in
-    let held = subst (λ (o : Option Pass). IsHeld k g.B.EngineName.base g.B.EngineName.had_device g.B.CellName.table o held_set) is c.self.invariant in
+    let held = subst (λ (o : Option Pass). IsHeld k g.B.EngineName.base (IsDeviceOf g.D.Device.gives g.B.SetsName.devices) g.B.CellName.table o held_set) is c.self.invariant in
     let has = subst (λ (v : HeldView g.row.K.Denot g.row.D.Denot). HasLink k v.set.records c.args.number c.args.field) (sym c.self.view_is) c.requires.field in
     let stops = subst (λ (v : HeldView g.row.K.Denot g.row.D.Denot). stops_put (common_at k (now_of v.set) c.args.number) c.args.field ≡ true) (sym c.self.view_is) c.requires.forbidden in
     let none = c.new-2.ensures ∙ c.new.ensures.items in

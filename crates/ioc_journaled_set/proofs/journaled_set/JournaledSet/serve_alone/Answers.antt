@@ -13,6 +13,7 @@ use Rattle.ioc_set.specs.SetState.{NoneIsLive, now_of}
 use Rattle.ioc_set.specs.NoCalls.{no_call}
 use Rattle.ioc_set_store.specs.SetStore.{world_of}
 use Rattle.ioc_journaled_set.specs.Holding.{HeldView, held_view, numbers_of, IsHeld, Serves}
+use Rattle.ioc_journaled_set.specs.SameDevice.{IsDeviceOf}
 use Rattle.ioc_journaled_set.proofs.Keys.{key_there}
 use Rattle.ioc_journaled_set.proofs.Devices.{worked_there, keeps_on}
 use Rattle.ioc_journaled_set.proofs.Ended.{none_have_ended}
@@ -23,14 +24,14 @@ pub unreachable-requires : goal.unreachable-requires
 unreachable-requires g c =
     let k = g.K.RecordKind.rules in
     let none : c.self.inside.pass ≡ None = sym c.take.ensures.value ∙ c.in_default.is in
-    let held = subst (λ (o : Option Pass). IsHeld k g.B.EngineName.base g.B.EngineName.had_device g.B.CellName.table o c.self.inside.set) none c.self.invariant in
+    let held = subst (λ (o : Option Pass). IsHeld k g.B.EngineName.base (IsDeviceOf g.D.Device.gives g.B.SetsName.devices) g.B.CellName.table o c.self.inside.set) none c.self.invariant in
     let one = names_one c.args.event.now c.requires.ordinary in
     held.owner one.0 (key_there c.self.inside.set.records one.0 (subst (λ (v : HeldView g.row.K.Denot g.row.D.Denot). Contains (numbers_of v) one.0) (sym c.self.view_is) (c.requires.there one.0 one.1)))
 
 pub append-receipt-requires-clause-set : goal.append-receipt-requires-clause-set
 append-receipt-requires-clause-set g c =
     let is : c.self.inside.pass ≡ Some c.in-Some.pass = sym c.take.ensures.value ∙ c.in-Some.is in
-    let held = subst (λ (o : Option Pass). IsHeld g.K.RecordKind.rules g.B.EngineName.base g.B.EngineName.had_device g.B.CellName.table o c.self.inside.set) is c.self.invariant in
+    let held = subst (λ (o : Option Pass). IsHeld g.K.RecordKind.rules g.B.EngineName.base (IsDeviceOf g.D.Device.gives g.B.SetsName.devices) g.B.CellName.table o c.self.inside.set) is c.self.invariant in
     (held.owner.holder, λ key has desk. let record_key = held.owner.records key has in omega (arith, record_key, desk))
 
 pub append-receipt-requires-clause-follows : goal.append-receipt-requires-clause-follows
@@ -38,7 +39,7 @@ append-receipt-requires-clause-follows g c =
     let k = g.K.RecordKind.rules in
     let none = subst (λ (v : HeldView g.row.K.Denot g.row.D.Denot). NoneIsLive v.set) (sym c.self.view_is) c.requires.none in
     let is : c.self.inside.pass ≡ Some c.in-Some.pass = sym c.take.ensures.value ∙ c.in-Some.is in
-    let held = subst (λ (o : Option Pass). IsHeld k g.B.EngineName.base g.B.EngineName.had_device g.B.CellName.table o c.self.inside.set) is c.self.invariant in
+    let held = subst (λ (o : Option Pass). IsHeld k g.B.EngineName.base (IsDeviceOf g.D.Device.gives g.B.SetsName.devices) g.B.CellName.table o c.self.inside.set) is c.self.invariant in
     let there : (n : ℕ) → Contains (names c.args.event.now) n → Has (now_of c.self.inside.set) n = λ n has.
     key_there c.self.inside.set.records n (subst (λ (v : HeldView g.row.K.Denot g.row.D.Denot). Contains (numbers_of v) n) (sym c.self.view_is) (c.requires.there n has)) in
     let does = c.in-Ok.ensures.ok in
@@ -58,7 +59,7 @@ invariant_of-self-2 g c =
     let k = g.K.RecordKind.rules in
     let none = subst (λ (v : HeldView g.row.K.Denot g.row.D.Denot). NoneIsLive v.set) (sym c.self.view_is) c.requires.none in
     let is : c.self.inside.pass ≡ Some c.in-Some.pass = sym c.take.ensures.value ∙ c.in-Some.is in
-    let held = subst (λ (o : Option Pass). IsHeld k g.B.EngineName.base g.B.EngineName.had_device g.B.CellName.table o c.self.inside.set) is c.self.invariant in
+    let held = subst (λ (o : Option Pass). IsHeld k g.B.EngineName.base (IsDeviceOf g.D.Device.gives g.B.SetsName.devices) g.B.CellName.table o c.self.inside.set) is c.self.invariant in
     let there : (n : ℕ) → Contains (names c.args.event.now) n → Has (now_of c.self.inside.set) n = λ n has.
     key_there c.self.inside.set.records n (subst (λ (v : HeldView g.row.K.Denot g.row.D.Denot). Contains (numbers_of v) n) (sym c.self.view_is) (c.requires.there n has)) in
     let does = c.in-Ok.ensures.ok in
@@ -72,7 +73,7 @@ invariant_of-self-2 g c =
     c.rules_are_steps.ensures.allowed c.events_keep_records.ensures held.holds.shut in
     record {
       owner = owner_on g.B.CellName.table _ _ (cell_view c.in-Some.pass) (cell_view c.append-receipt.new.set) _ (now_of c.self.inside.set) (now_of c.run_with_answers.new.set) held.owner set.0 set.1 came;
-      devices = keeps_on g.B.EngineName.had_device c.self.inside.set c.run_with_answers.new.set held.devices (worked_there does.work) came;
+      devices = keeps_on g.D.Device.gives g.B.SetsName.devices c.self.inside.set c.run_with_answers.new.set held.devices (worked_there does.work) came;
       holds =
           subst (λ (x : View). Holds k (map_of k g.B.EngineName.base x.seen) (now_of c.run_with_answers.new.set)) (sym set.1)
           (held_then k g.D.Device.gives c.self.inside.set c.run_with_answers.new.set c.args.moment c.args.event.now c.in-Ok.done.0 (world_of c.run_with_answers.new.buffers.store) does there
@@ -84,7 +85,7 @@ pub returns-clause-serves : goal.returns-clause-serves
 returns-clause-serves g c =
     let k = g.K.RecordKind.rules in
     let is : c.self.inside.pass ≡ Some c.in-Some.pass = sym c.take.ensures.value ∙ c.in-Some.is in
-    let held = subst (λ (o : Option Pass). IsHeld k g.B.EngineName.base g.B.EngineName.had_device g.B.CellName.table o c.self.inside.set) is c.self.invariant in
+    let held = subst (λ (o : Option Pass). IsHeld k g.B.EngineName.base (IsDeviceOf g.D.Device.gives g.B.SetsName.devices) g.B.CellName.table o c.self.inside.set) is c.self.invariant in
     let there : (n : ℕ) → Contains (names c.args.event.now) n → Has (now_of c.self.inside.set) n = λ n has.
     key_there c.self.inside.set.records n (subst (λ (v : HeldView g.row.K.Denot g.row.D.Denot). Contains (numbers_of v) n) (sym c.self.view_is) (c.requires.there n has)) in
     let does = c.in-Ok.ensures.ok in
@@ -99,7 +100,7 @@ returns-clause-ended g c =
     let k = g.K.RecordKind.rules in
     let none = subst (λ (v : HeldView g.row.K.Denot g.row.D.Denot). NoneIsLive v.set) (sym c.self.view_is) c.requires.none in
     let is : c.self.inside.pass ≡ Some c.in-Some.pass = sym c.take.ensures.value ∙ c.in-Some.is in
-    let held = subst (λ (o : Option Pass). IsHeld k g.B.EngineName.base g.B.EngineName.had_device g.B.CellName.table o c.self.inside.set) is c.self.invariant in
+    let held = subst (λ (o : Option Pass). IsHeld k g.B.EngineName.base (IsDeviceOf g.D.Device.gives g.B.SetsName.devices) g.B.CellName.table o c.self.inside.set) is c.self.invariant in
     let there : (n : ℕ) → Contains (names c.args.event.now) n → Has (now_of c.self.inside.set) n = λ n has.
     key_there c.self.inside.set.records n (subst (λ (v : HeldView g.row.K.Denot g.row.D.Denot). Contains (numbers_of v) n) (sym c.self.view_is) (c.requires.there n has)) in
     let does = c.in-Ok.ensures.ok in
