@@ -38,7 +38,7 @@ pub use ioc_dbfile::{Database, Macros, load};
 pub use ioc_device::{Answer, Ask, Device};
 pub use ioc_engine_core::OnceTally;
 pub use ioc_events::Reply;
-pub use ioc_history::JournalEntry;
+pub use ioc_history::StoredEntry;
 pub use ioc_ledger::{Outcome, Tally};
 pub use ioc_names::RecordNo;
 pub use ioc_notify::NotifyId;

@@ -12,7 +12,7 @@ use crate::engine::Engine;
 use crate::engine_name::EngineName;
 use ioc_device::Device;
 use ioc_engine_core::{OnceTally, Report as CoreReport};
-use ioc_history::JournalEntry;
+use ioc_history::StoredEntry;
 use ioc_ledger::Tally;
 use ioc_names::RecordNo;
 use ioc_set_records::Slot;
@@ -28,7 +28,7 @@ use std::sync::Wait;
 ///     return Err(IocError::NoMemory);
 /// };
 /// // In nanoseconds since 1970-01-01 00:00 UTC.
-/// let moment = report.entry(rt, &mut receipt).entry.moment;
+/// let moment = report.entry(rt, &mut receipt).moment();
 /// let requests = report.tally().begun;
 /// let records = report.into_records(alloc)?;
 /// ```
@@ -140,7 +140,7 @@ impl<B: EngineName<D>, D: Device> Report<B, D> {
 
     /// Returns the entry of a call in the journal: the desk, the number of the call at its desk,
     /// the event, its time stamp, the answers of devices, and the reply.
-    pub fn entry<R: Wait>(&mut self, rt: &R, receipt: &mut Receipt<B>) -> &JournalEntry
+    pub fn entry<R: Wait>(&mut self, rt: &R, receipt: &mut Receipt<B>) -> &StoredEntry
         ensures entry { IsEntryOf receipt.old self.old.core.journal.filled result.now }
     {
         self.core.journal.entry(rt, receipt)

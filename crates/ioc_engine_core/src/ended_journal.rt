@@ -2,7 +2,7 @@
 ghost use Rattle.std.specs.Prelude.{◌≡◌};
 ghost use Rattle.ioc_history.specs.Account.{IsEntryOf};
 
-use ioc_history::{Cell, EngineName, Journal, JournalEntry, Receipt};
+use ioc_history::{Cell, EngineName, Journal, StoredEntry, Receipt};
 use ioc_record::RecordKind;
 use std::marker::Model;
 use std::sync::Wait;
@@ -41,7 +41,7 @@ impl<K: RecordKind, B: EngineName<K>> EndedJournal<K, B> {
 
     /// Returns the call of a receipt: it is at the receipt's place, and the receipt's list ends with
     /// it.
-    pub fn entry<R: Wait>(&mut self, rt: &R, receipt: &mut Receipt<K, B>) -> &JournalEntry
+    pub fn entry<R: Wait>(&mut self, rt: &R, receipt: &mut Receipt<K, B>) -> &StoredEntry
         ensures { IsEntryOf receipt.old self.old.filled result.now }
     {
         self.journal.compare_receipt(rt, &self.cell, receipt);

@@ -166,7 +166,7 @@ fn has_entry<B: EngineName<D>, D: Device, R: Wait>(
     reply: &Reply,
 ) -> bool {
     let told = report.entry(rt, receipt);
-    told.desk == desk && told.call == 0 && told.entry.reply == *reply
+    told.desk() == desk && told.call() == 0 && told.reply() == *reply
 }
 
 // Returns whether the second desk's call came after the first one's, and both are in the journal.

@@ -7,6 +7,7 @@ mod Doing
 mod Endings
 mod Ends
 mod Few
+mod Fitting
 mod Giving
 mod Lasting
 mod Linking

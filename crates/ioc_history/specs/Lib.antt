@@ -12,4 +12,5 @@ pub mod LinkChange
 pub mod Pieces
 pub mod Places
 pub mod PlacesCode
+pub mod Stored
 pub mod Unnamed

@@ -1,15 +1,16 @@
 //! The entries of a journal.
-ghost use Rattle.std.specs.Prelude.{◌≡◌, ◌≤◌, ◌<◌, ◌↔◌, ◌⊎◌, ◌+◌, ◌-◌, ◌^◌, [], ◌∷◌, ◌++◌, length, IfOk, slice_get};
+ghost use Rattle.std.specs.Prelude.{◌≡◌, true, ◌≤◌, ◌<◌, ◌↔◌, ◌⊎◌, ◌+◌, ◌-◌, ◌^◌, [], ◌∷◌, ◌++◌, length, IfOk, slice_get};
 ghost use Rattle.std.specs.Option.{option_map};
-ghost use Rattle.ioc_history.specs.Account.{journalled};
 ghost use Rattle.ioc_history.specs.Places.{AreAllowed, places_of};
+ghost use Rattle.ioc_history.specs.Stored.{may_reply};
 ghost use Rattle.std.specs.Vec.{vec_len, vec_capacity};
 ghost use Rattle.ioc_history.specs.Pieces.{IsSpare, ArePieces, items_in};
 
-use crate::JournalEntry;
 use crate::engine_name::EngineName;
+use crate::entry::JournalEntry;
 use crate::free_places::{FreePlaces, Place, Places};
 use crate::limits::Limits;
+use crate::stored_entry::StoredEntry;
 use ioc_events::{Entry, Event, KeptAnswers, Reply};
 use ioc_notify::NotifyId;
 use std::alloc::{AllocError, Global};
@@ -23,7 +24,7 @@ pub const PIECE: usize = 256;
 /// Memory for [`PIECE`] entries.
 #[derive(Drop)]
 pub struct Piece {
-    items: Vec<JournalEntry>,
+    items: Vec<StoredEntry>,
     ghost spare: { IsSpare items },
 }
 
@@ -43,14 +44,14 @@ impl Piece {
 }
 
 // Adds as many entries, at most as many as there is room for.
-fn write_to(alloc: Global, items: &mut Vec<JournalEntry>, count: u64)
+fn write_to(alloc: Global, items: &mut Vec<StoredEntry>, count: u64)
     ensures { vec_capacity items.new ≡ vec_capacity items.old }
 {
     for _ in 0..count {
         if items.len() == items.capacity() {
             return;
         }
-        items.push_reserved(JournalEntry {
+        items.push_reserved(StoredEntry::new(JournalEntry {
             desk: 0,
             call: 0,
             entry: Entry {
@@ -59,7 +60,7 @@ fn write_to(alloc: Global, items: &mut Vec<JournalEntry>, count: u64)
                 answers: KeptAnswers::new(Vec::new(alloc)),
                 reply: Reply::Plain,
             },
-        });
+        }));
     }
 }
 
@@ -68,9 +69,9 @@ fn write_to(alloc: Global, items: &mut Vec<JournalEntry>, count: u64)
 /// number.
 #[derive(Drop)]
 pub struct Entries<K, B: EngineName<K>> {
-    full: Vec<Vec<JournalEntry>>,
-    current: Vec<JournalEntry>,
-    spare: Vec<Vec<JournalEntry>>,
+    full: Vec<Vec<StoredEntry>>,
+    current: Vec<StoredEntry>,
+    spare: Vec<Vec<StoredEntry>>,
     given: u64,
     limit: u64,
     book: Book<Places<K, B>>,
@@ -145,7 +146,7 @@ impl<K, B: EngineName<K>> Entries<K, B> {
     }
 
     /// Returns the entry at a place, from 0 on, or `None` past the last.
-    pub fn at(&self, place: u64) -> Option<&JournalEntry>
+    pub fn at(&self, place: u64) -> Option<&StoredEntry>
         ensures { option_map (λ e. e.now) result ≡ slice_get self.now.filled place }
     {
         let piece = place as usize / PIECE;
@@ -184,8 +185,9 @@ impl<K, B: EngineName<K>> Entries<K, B> {
 
     /// Fills a place with a call of a desk. It doesn't allocate.
     #[inline(always)]
-    pub fn fill(&mut self, place: Place<K, B>, desk: u64, call: u64, entry: Entry)
-        ensures { self.new ≡ places_of (self.old.filled ++ journalled desk call entry ∷ []) self.old.given self.old.limit }
+    pub fn fill(&mut self, place: Place<K, B>, made: JournalEntry)
+        requires fits { may_reply made.entry.event made.entry.reply ≡ true }
+        ensures { self.new ≡ places_of (self.old.filled ++ made ∷ []) self.old.given self.old.limit }
     {
         let Place { share } = place;
         self.filled.merge(share);
@@ -197,8 +199,7 @@ impl<K, B: EngineName<K>> Entries<K, B> {
             self.given,
             self.limit,
         );
-        self.current
-            .push_reserved(JournalEntry { desk, call, entry });
+        self.current.push_reserved(StoredEntry::new(made));
     }
 
     /// Compares the entries with free places: together they are no more than have memory.
@@ -212,7 +213,7 @@ impl<K, B: EngineName<K>> Entries<K, B> {
 }
 
 // Returns the entry of a piece at an index.
-fn item_at(piece: &[JournalEntry], index: usize) -> Option<&JournalEntry>
+fn item_at(piece: &[StoredEntry], index: usize) -> Option<&StoredEntry>
     ensures { option_map (λ e. e.now) result ≡ slice_get piece.now index }
 {
     piece.get(index)
@@ -234,9 +235,9 @@ fn at_most_a_piece(count: u64) -> u64
 // Puts the current piece behind the full ones if it is full, and takes a spare one in its place.
 #[inline(always)]
 fn make_room(
-    full: &mut Vec<Vec<JournalEntry>>,
-    spare: &mut Vec<Vec<JournalEntry>>,
-    current: &mut Vec<JournalEntry>,
+    full: &mut Vec<Vec<StoredEntry>>,
+    spare: &mut Vec<Vec<StoredEntry>>,
+    current: &mut Vec<StoredEntry>,
     given: u64,
     limit: u64,
 )
@@ -253,9 +254,9 @@ fn make_room(
 
 // Puts the current piece behind the full ones, and takes a spare one in its place.
 fn turn(
-    full: &mut Vec<Vec<JournalEntry>>,
-    spare: &mut Vec<Vec<JournalEntry>>,
-    current: &mut Vec<JournalEntry>,
+    full: &mut Vec<Vec<StoredEntry>>,
+    spare: &mut Vec<Vec<StoredEntry>>,
+    current: &mut Vec<StoredEntry>,
 )
     requires full { vec_len full.old < vec_capacity full.old }
     requires spare { 0 < vec_len spare.old }

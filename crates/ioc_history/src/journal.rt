@@ -11,6 +11,7 @@ ghost use Rattle.ioc_history.specs.Places.{AreAllowed, journal_of, one_more_desk
 use crate::desk::Desk;
 use crate::engine_name::EngineName;
 use crate::entries::{Entries, Piece};
+use crate::entry::JournalEntry;
 use crate::free_places::{FreePlaces, Place};
 use crate::key_division::{deal, take_over};
 use crate::limits::Limits;
@@ -161,12 +162,14 @@ impl<K: RecordKind, B: EngineName<K>> Journal<K, B> {
         ensures set { (set.new.table_id ≡ set.old.table_id) × (cell_view set.new ≡ holder self.new.filled (cell_view set.old).owns) }
         ensures added { Added K.rules B.base (cell_view set.old).seen (cell_view set.old).owns entry self.old.filled self.new.filled }
     {
-        let index = self.entries.len() as u64;
-        self.entries.fill(place, desk.number, desk.next, entry);
-        let Some(made) = self.entries.at(index) else {
-            unreachable!();
+        let made = JournalEntry {
+            desk: desk.number,
+            call: desk.next,
+            entry,
         };
-        let pass = pass::append(rt, cell, &mut self.pass, set, &mut desk.pass, made);
+        let index = self.entries.len() as u64;
+        let pass = pass::append(rt, cell, &mut self.pass, set, &mut desk.pass, &made);
+        self.entries.fill(place, made);
         desk.next += 1;
         Receipt {
             place: index,
@@ -205,12 +208,14 @@ impl<K: RecordKind, B: EngineName<K>> Journal<K, B> {
             (cell_view other.old).owns entry self.old.filled self.new.filled }
     {
         let call = desk.next;
-        let index = self.entries.len() as u64;
-        self.entries.fill(place, desk.number, call, entry);
-        let Some(made) = self.entries.at(index) else {
-            unreachable!();
+        let made = JournalEntry {
+            desk: desk.number,
+            call,
+            entry,
         };
-        let pass = deal::<P, R>(rt, cell, &mut self.pass, one, other, &mut desk.pass, made);
+        let index = self.entries.len() as u64;
+        let pass = deal::<P, R>(rt, cell, &mut self.pass, one, other, &mut desk.pass, &made);
+        self.entries.fill(place, made);
         desk.next = call + 1;
         Receipt {
             place: index,

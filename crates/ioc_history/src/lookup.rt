@@ -9,7 +9,8 @@ use crate::engine_name::EngineName;
 use crate::free_places::FreePlaces;
 use crate::journal::Journal;
 use crate::receipt::Receipt;
-use crate::{Cell, JournalEntry, KeyPass, pass};
+use crate::stored_entry::StoredEntry;
+use crate::{Cell, KeyPass, pass};
 use ioc_record::RecordKind;
 use std::sync::Wait;
 
@@ -45,7 +46,7 @@ impl<K: RecordKind, B: EngineName<K>> Journal<K, B> {
     }
 
     /// Returns the call at a place, from 0 on, or `None` past the last.
-    pub fn entry_at(&self, place: u64) -> Option<&JournalEntry>
+    pub fn entry_at(&self, place: u64) -> Option<&StoredEntry>
         ensures { option_map (λ e. e.now) result ≡ slice_get (calls self.now.filled) place }
     {
         self.entries.at(place)
@@ -63,7 +64,7 @@ impl<K: RecordKind, B: EngineName<K>> Journal<K, B> {
 
     /// Returns the call of a receipt: it is at the receipt's place, and the receipt's list ends
     /// with it. The list of calls has to begin with the receipt's list.
-    pub fn entry_of(&self, receipt: &Receipt<K, B>) -> &JournalEntry
+    pub fn entry_of(&self, receipt: &Receipt<K, B>) -> &StoredEntry
         requires begins { Begins receipt.now self.now.filled }
         ensures { IsEntryOf receipt.now self.now.filled result.now }
     {

@@ -1,7 +1,4 @@
 use Rattle.std.proofs.Common.{◌≡◌, ◌+◌, ◌<◌, ◌≤◌, List, [], ◌∷◌, ◌++◌, length, refl, sym, ap, ◌∙◌, subst, inl, ⊎_elim, arith, length-append, ap₂}
-use Rattle.std.specs.Option.{option_map}
-use Rattle.std.specs.Borrow.{Bor}
-use Rattle.std.specs.Prelude.{slice_get}
 use Rattle.crossbeam_utils.specs.Seq.{cell_view}
 use Rattle.ioc_history.specs.declared.entry.JournalEntry.{JournalEntry}
 use Rattle.ioc_history.specs.declared.entry.Note.{Note}
@@ -13,17 +10,24 @@ use Rattle.ioc_history.specs.Account.{DeskView, desk_view, desk_key, journalled,
 use Rattle.ioc_history.specs.Places.{PlacesOf, JournalOf}
 use Rattle.ioc_history.proofs.Calls.{calls-append, length-calls, below_other, no_longer, counted}
 use Rattle.ioc_history.proofs.Adding.{account_then, below_then, called}
-use Rattle.ioc_history.proofs.Written.{as_many, stands, is_added}
+use Rattle.ioc_history.proofs.Fitting.{last_fits}
+use Rattle.ioc_history.proofs.Written.{as_many}
 use Rattle.ioc_history.proofs.journal.Journal.append.Goals as goal
-
-pub unreachable-requires : goal.unreachable-requires
-unreachable-requires g c =
-    stands c.self.inside.entries.filled (journalled c.desk.inside.number c.desk.inside.next c.args.entry) c.len-index.result c.len-index.ensures.count
-    (sym (ap (λ (p : PlacesOf JournalEntry). slice_get p.filled c.len-index.result) c.fill.ensures) ∙ (sym c.at.ensures ∙ ap (option_map (λ (e : Bor JournalEntry). e.now)) c.in_default.is))
 
 pub append-pass-requires-clause-apart : goal.append-pass-requires-clause-apart
 append-pass-requires-clause-apart g c = λ key a b.
     ⊎_elim (λ (e : desk_key c.desk.inside.number ≡ key). c.requires.set.1 key a (sym (ap (λ (p : Key). p.0) e))) (λ (b : ⊥). b) (subst (λ (v : View). Has key v.owns) c.desk.invariant.holds b)
+
+pub fill-requires-clause-fits : goal.fill-requires-clause-fits
+fill-requires-clause-fits g c =
+    let i = c.self.invariant in
+    let n = c.desk.inside.number in
+    let next = c.desk.inside.next in
+    let log = (cell_view c.self.inside.pass).seen in
+    let e = c.append-pass.ensures in
+    let keys = ((cell_view c.args.set.now).owns) ++ (cell_view c.desk.inside.pass).owns in
+    let leads = c.requires.follows log n next (cell_view c.desk.inside.pass).owns i.sound e.goes_on.0 i.account.legal in
+    last_fits g.K.RecordKind.rules g.B.EngineName.base log (noted (journalled n next c.args.entry) keys) leads
 
 pub invariant_of-result : goal.invariant_of-result
 invariant_of-result g c =
@@ -37,11 +41,8 @@ invariant_of-result g c =
     let own = (cell_view c.desk.inside.pass).owns in
     let k = g.K.RecordKind.rules in
     let leads = c.requires.follows log n next own i.sound e.goes_on.0 i.account.legal in
-    let is_made = is_added c.self.inside.entries.filled (journalled n next c.args.entry) c.len-index.result c.in-Some.made.now c.len-index.ensures.count
-    (sym (ap (λ (p : PlacesOf JournalEntry). slice_get p.filled c.len-index.result) c.fill.ensures) ∙ (sym c.at.ensures ∙ ap (option_map (λ (e : Bor JournalEntry). e.now)) c.in-Some.is)) in
-    let noted_so = ap (λ (m : JournalEntry). log ++ noted m (owns ++ own) ∷ []) is_made in
     let told = ap (λ (v : View). v.seen) e.receipt.2 in
-    let seen = told ∙ noted_so in
+    let seen = told in
     record {
       same = e.receipt.0 ∙ i.same;
       holds = e.receipt.2 ∙ ap (λ l. holder l []) (sym told);
@@ -62,11 +63,8 @@ invariant_of-self g c =
     let k = g.K.RecordKind.rules in
     let leads = c.requires.follows log n next own i.sound e.goes_on.0 i.account.legal in
     let made = journalled n next c.args.entry in
-    let is_made = is_added c.self.inside.entries.filled (journalled n next c.args.entry) c.len-index.result c.in-Some.made.now c.len-index.ensures.count
-    (sym (ap (λ (p : PlacesOf JournalEntry). slice_get p.filled c.len-index.result) c.fill.ensures) ∙ (sym c.at.ensures ∙ ap (option_map (λ (e : Bor JournalEntry). e.now)) c.in-Some.is)) in
-    let noted_so = ap (λ (m : JournalEntry). log ++ noted m (owns ++ own) ∷ []) is_made in
     let told = ap (λ (v : View). v.seen) e.keeper.1 in
-    let seen = told ∙ noted_so in
+    let seen = told in
     let born = ap (λ (v : View). v.born) e.keeper.1 in
     let known : n < c.self.inside.desks = i.given (desk_key n) (e.born (desk_key n) (has_right (desk_key n) owns own (subst (Has (desk_key n)) (sym (ap (λ (v : View). v.owns) d.holds)) (inl refl)))) refl in
     record {
@@ -91,11 +89,8 @@ invariant_of-desk g c =
     let own = (cell_view c.desk.inside.pass).owns in
     let k = g.K.RecordKind.rules in
     let leads = c.requires.follows log n next own i.sound e.goes_on.0 i.account.legal in
-    let is_made = is_added c.self.inside.entries.filled (journalled n next c.args.entry) c.len-index.result c.in-Some.made.now c.len-index.ensures.count
-    (sym (ap (λ (p : PlacesOf JournalEntry). slice_get p.filled c.len-index.result) c.fill.ensures) ∙ (sym c.at.ensures ∙ ap (option_map (λ (e : Bor JournalEntry). e.now)) c.in-Some.is)) in
-    let noted_so = ap (λ (m : JournalEntry). log ++ noted m (owns ++ own) ∷ []) is_made in
     let told = ap (λ (v : View). v.seen) e.desk.1 in
-    let seen = told ∙ noted_so in
+    let seen = told in
     record {
       same = e.desk.0 ∙ d.same;
       holds = e.desk.1 ∙ ap₂ holder (sym told) (ap (λ (v : View). v.owns) d.holds);
@@ -116,11 +111,8 @@ returns-clause-call g c =
     let own = (cell_view c.desk.inside.pass).owns in
     let k = g.K.RecordKind.rules in
     let leads = c.requires.follows log n next own i.sound e.goes_on.0 i.account.legal in
-    let is_made = is_added c.self.inside.entries.filled (journalled n next c.args.entry) c.len-index.result c.in-Some.made.now c.len-index.ensures.count
-    (sym (ap (λ (p : PlacesOf JournalEntry). slice_get p.filled c.len-index.result) c.fill.ensures) ∙ (sym c.at.ensures ∙ ap (option_map (λ (e : Bor JournalEntry). e.now)) c.in-Some.is)) in
-    let noted_so = ap (λ (m : JournalEntry). log ++ noted m (owns ++ own) ∷ []) is_made in
     let told = ap (λ (v : View). v.seen) e.desk.1 in
-    let seen = told ∙ noted_so in
+    let seen = told in
     subst (λ (v : DeskView). Call k g.B.EngineName.base v c.args.entry (desk_view n (next + 1) (cell_view c.append-pass.new.desk).seen)) c.desk.view_is
     (subst (λ (l : List Note). Call k g.B.EngineName.base (desk_view n next (cell_view c.desk.inside.pass).seen) c.args.entry (desk_view n (next + 1) l)) (sym seen) (called k g.B.EngineName.base log (cell_view c.desk.inside.pass).seen n next c.args.entry owns own (ap (λ (v : View). v.owns) d.holds) i.account e.goes_on.1 d.below leads (cell_view c.args.set.now).seen (cell_view c.args.set.now).owns e.goes_on.0 (λ key has. has_left key owns own has) c.requires.begins))
 
@@ -134,11 +126,8 @@ returns-clause-added g c =
     let next = c.desk.inside.next in
     let log = (cell_view c.self.inside.pass).seen in
     let own = (cell_view c.desk.inside.pass).owns in
-    let is_made = is_added c.self.inside.entries.filled (journalled n next c.args.entry) c.len-index.result c.in-Some.made.now c.len-index.ensures.count
-    (sym (ap (λ (p : PlacesOf JournalEntry). slice_get p.filled c.len-index.result) c.fill.ensures) ∙ (sym c.at.ensures ∙ ap (option_map (λ (e : Bor JournalEntry). e.now)) c.in-Some.is)) in
-    let noted_so = ap (λ (m : JournalEntry). log ++ noted m (owns ++ own) ∷ []) is_made in
     subst (λ (l : List Note). Added g.K.RecordKind.rules g.B.EngineName.base seen owns c.args.entry l (cell_view c.append-pass.new.master).seen) (ap (λ (j : JournalOf Note). j.filled) c.self.view_is)
-    (record { desk = c.desk.inside.number; call = c.desk.inside.next; own = (cell_view c.desk.inside.pass).owns; sound = i.sound; goes_on = e.goes_on.0; legal = i.account.legal; ends = ap (λ (v : View). v.seen) e.keeper.1 ∙ noted_so })
+    (record { desk = c.desk.inside.number; call = c.desk.inside.next; own = (cell_view c.desk.inside.pass).owns; sound = i.sound; goes_on = e.goes_on.0; legal = i.account.legal; ends = ap (λ (v : View). v.seen) e.keeper.1 })
 
 pub overflow_add-desk : goal.overflow_add-desk
 overflow_add-desk g c =
