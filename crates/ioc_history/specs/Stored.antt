@@ -1,11 +1,12 @@
 -- Calls as a journal stores them: an event and its reply in little memory. This project's own.
-use Rattle.std.specs.Prelude.{Bool, true, false, not}
+use Rattle.std.specs.Prelude.{◌≡◌, Bool, true, false, not}
 use Rattle.ioc_values.specs.declared.error.IocError.{IocError}
 use Rattle.ioc_values.specs.declared.error.IocError.TheVariants.{NoRecord, NoField, PutDisabled}
 use Rattle.ioc_events.specs.declared.event.Event.{Event}
 use Rattle.ioc_events.specs.declared.event.Event.TheVariants.{Get, Process, Put, Complete, Link, Notify, Cancel, IsLive}
 use Rattle.ioc_events.specs.declared.reply.Reply.{Reply}
 use Rattle.ioc_events.specs.declared.reply.Reply.TheVariants.{Plain, Outcome, Shown, Notify as Notify-reply, Live, Refused}
+use Rattle.ioc_history.specs.declared.entry.JournalEntry.{JournalEntry}
 use Rattle.ioc_history.specs.declared.event_with_reply.ShortEvent.{ShortEvent}
 use Rattle.ioc_history.specs.declared.event_with_reply.ShortEvent.TheVariants.{Get as get, Process as process, Put as put, Complete as complete, Notify as notify, Cancel as cancel, IsLive as is_live}
 use Rattle.ioc_history.specs.declared.event_with_reply.ShortReply.{ShortReply}
@@ -39,6 +40,10 @@ abbrev pub may_reply : Event → Reply → Bool
 may_reply (Get s field) reply = true
 may_reply (Link s field link) reply = is_link_reply reply
 may_reply _ reply = not (is_text reply)
+
+-- Holds if a call is stored whole, provided that its reply is one that its event may have.
+abbrev pub IsStored : (call stored : JournalEntry) → Type 0
+IsStored call stored = may_reply call.entry.event call.entry.reply ≡ true → stored ≡ call
 
 -- What the stored forms stand for.
 abbrev pub short_event : ShortEvent → Event

@@ -50,6 +50,19 @@ impl NoteName for Brand {
     ghost note = { no_note };
 }
 
+/// Names the event of a call that is stored already.
+pub trait EntryName {
+    ghost use Rattle.ioc_events.specs.declared.event.Entry.{Entry};
+
+    ghost entry: { Entry };
+}
+
+impl EntryName for Brand {
+    ghost use Rattle.ioc_history.specs.Line.{no_note};
+
+    ghost entry = { no_note.entry.entry };
+}
+
 /// What a pass knows. It exists in contracts only: no value of it is made.
 pub struct View {
     /// Whether the pass is the keeper's, which knows the whole list.

@@ -1,13 +1,11 @@
 //! The entries of a journal.
-ghost use Rattle.std.specs.Prelude.{◌≡◌, true, ◌≤◌, ◌<◌, ◌↔◌, ◌⊎◌, ◌+◌, ◌-◌, ◌^◌, [], ◌∷◌, ◌++◌, length, IfOk, slice_get};
+ghost use Rattle.std.specs.Prelude.{◌≡◌, ◌≤◌, ◌<◌, ◌↔◌, ◌⊎◌, ◌+◌, ◌-◌, ◌^◌, [], ◌∷◌, ◌++◌, length, IfOk, slice_get};
 ghost use Rattle.std.specs.Option.{option_map};
 ghost use Rattle.ioc_history.specs.Places.{AreAllowed, places_of};
-ghost use Rattle.ioc_history.specs.Stored.{may_reply};
 ghost use Rattle.std.specs.Vec.{vec_len, vec_capacity};
 ghost use Rattle.ioc_history.specs.Pieces.{IsSpare, ArePieces, items_in};
 
 use crate::engine_name::EngineName;
-use crate::entry::JournalEntry;
 use crate::free_places::{FreePlaces, Place, Places};
 use crate::limits::Limits;
 use crate::stored_entry::StoredEntry;
@@ -51,16 +49,13 @@ fn write_to(alloc: Global, items: &mut Vec<StoredEntry>, count: u64)
         if items.len() == items.capacity() {
             return;
         }
-        items.push_reserved(StoredEntry::new(JournalEntry {
-            desk: 0,
-            call: 0,
-            entry: Entry {
-                moment: 0,
-                event: Event::IsLive(NotifyId::new(0)),
-                answers: KeptAnswers::new(Vec::new(alloc)),
-                reply: Reply::Plain,
-            },
-        }));
+        let entry = Entry {
+            moment: 0,
+            event: Event::IsLive(NotifyId::new(0)),
+            answers: KeptAnswers::new(Vec::new(alloc)),
+            reply: Reply::Plain,
+        };
+        items.push_reserved(StoredEntry::new(0, 0, entry));
     }
 }
 
@@ -185,8 +180,7 @@ impl<K, B: EngineName<K>> Entries<K, B> {
 
     /// Fills a place with a call of a desk. It doesn't allocate.
     #[inline(always)]
-    pub fn fill(&mut self, place: Place<K, B>, made: JournalEntry)
-        requires fits { may_reply made.entry.event made.entry.reply ≡ true }
+    pub fn fill(&mut self, place: Place<K, B>, made: StoredEntry)
         ensures { self.new ≡ places_of (self.old.filled ++ made ∷ []) self.old.given self.old.limit }
     {
         let Place { share } = place;
@@ -199,7 +193,7 @@ impl<K, B: EngineName<K>> Entries<K, B> {
             self.given,
             self.limit,
         );
-        self.current.push_reserved(StoredEntry::new(made));
+        self.current.push_reserved(made);
     }
 
     /// Compares the entries with free places: together they are no more than have memory.

@@ -58,8 +58,7 @@ pub enum EventWithReply {
 // Returns the short form of a reply that isn't the text of a field.
 #[inline(always)]
 fn shortened(reply: &Reply) -> ShortReply
-    requires { is_text reply.now ≡ false }
-    ensures { short_reply result ≡ reply.now }
+    ensures { is_text reply.now ≡ false → short_reply result ≡ reply.now }
 {
     match reply {
         Reply::Plain => ShortReply::Plain,
@@ -67,21 +66,19 @@ fn shortened(reply: &Reply) -> ShortReply
         Reply::Notify(number) => ShortReply::Notify(*number),
         Reply::Live(live) => ShortReply::Live(*live),
         Reply::Refused(error) => ShortReply::Refused(*error),
-        Reply::Shown(_) => unreachable!(),
+        Reply::Shown(_) => ShortReply::Plain,
     }
 }
 
 // Returns the short form of the reply to a link change.
 fn link_shortened(reply: &Reply) -> LinkReply
-    requires { is_link_reply reply.now ≡ true }
-    ensures { link_reply result ≡ reply.now }
+    ensures { is_link_reply reply.now ≡ true → link_reply result ≡ reply.now }
 {
     match reply {
-        Reply::Plain => LinkReply::Plain,
         Reply::Refused(IocError::NoRecord) => LinkReply::NoRecord,
         Reply::Refused(IocError::NoField) => LinkReply::NoField,
         Reply::Refused(IocError::PutDisabled) => LinkReply::PutDisabled,
-        _ => unreachable!(),
+        _ => LinkReply::Plain,
     }
 }
 
@@ -97,12 +94,12 @@ fn got(number: RecordNo, field: FieldNo, reply: &Reply) -> EventWithReply
 }
 
 impl EventWithReply {
-    /// Returns the short form of an event with a reply that it may have.
+    /// Returns the short form of an event with a reply. The reply is kept if it is one that the
+    /// event may have.
     #[inline(always)]
     pub fn new(event: &Event, reply: &Reply) -> Self
-        requires fits { may_reply event.now reply.now ≡ true }
         ensures event { event_of result ≡ event.now }
-        ensures reply { reply_of result ≡ reply.now }
+        ensures reply { may_reply event.now reply.now ≡ true → reply_of result ≡ reply.now }
     {
         let short = match event {
             Event::Get(number, field) => return got(*number, *field, reply),

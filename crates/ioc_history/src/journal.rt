@@ -5,19 +5,19 @@ ghost use Rattle.ioc_history.specs.Key.{Key, Has};
 ghost use Rattle.ioc_history.specs.Line.{keeper, holder, Continues};
 ghost use Rattle.ioc_history.specs.Legal.{IsLegal, IsSound};
 ghost use Rattle.ioc_values.specs.declared.error.IocError.TheVariants.{JournalFull};
-ghost use Rattle.ioc_history.specs.Account.{AreNoDesks, AreRecords, IsHolder, MayFollow, BothMayFollow, MayBegin, Call, Added, AddedByBoth, AreMerged, calls, calls_by};
+ghost use Rattle.ioc_history.specs.Account.{AreNoDesks, AreRecords, IsHolder, MayFollow, BothMayFollow, MayBegin, Call, Added, AddedByBoth, AreMerged, calls, calls_by, journalled};
+ghost use Rattle.ioc_history.specs.Stored.{IsStored};
 ghost use Rattle.ioc_history.specs.Places.{AreAllowed, journal_of, one_more_desk};
 
 use crate::desk::Desk;
 use crate::engine_name::EngineName;
 use crate::entries::{Entries, Piece};
-use crate::entry::JournalEntry;
 use crate::free_places::{FreePlaces, Place};
 use crate::key_division::{deal, take_over};
 use crate::limits::Limits;
 use crate::receipt::Receipt;
-use crate::{Cell, KeyPass, Keys, pass};
-use ioc_events::Entry;
+use crate::stored_entry::StoredEntry;
+use crate::{Cell, EntryName, KeyPass, Keys, pass};
 use ioc_record::RecordKind;
 use ioc_values::IocError;
 use std::alloc::{AllocError, Global};
@@ -140,33 +140,29 @@ impl<K: RecordKind, B: EngineName<K>> Journal<K, B> {
         self.entries.add_piece(piece)
     }
 
-    /// Adds a call of a desk. The caller holds the lock of the set that the call concerns; all keys
-    /// of the set's pass are noted.
+    /// Adds the next call of a desk, of the event that `S` names. The caller holds the lock of the set
+    /// that the call concerns; all keys of the set's pass are noted.
     #[inline(always)]
-    pub fn append<R: Wait>(
+    pub fn append<S: EntryName, R: Wait>(
         &mut self,
         rt: &R,
         cell: &Cell,
         place: Place<K, B>,
         set: &mut KeyPass,
         desk: &mut Desk<K, B>,
-        entry: Entry,
+        made: StoredEntry,
     ) -> Receipt<K, B>
         requires table { (cell.now.table.shared.table_id ≡ B.table) × (set.old.table_id ≡ B.table) }
         requires set { IsHolder (cell_view set.old) × AreNoDesks (cell_view set.old).owns }
-        requires follows { MayFollow K.rules B.base (cell_view set.old).seen (cell_view set.old).owns entry }
-        requires begins { MayBegin (cell_view set.old).seen (cell_view set.old).owns entry.event }
-        ensures call { Call K.rules B.base desk.old entry desk.new }
+        requires stored { IsStored (journalled desk.old.number desk.old.next S.entry) made }
+        requires follows { MayFollow K.rules B.base (cell_view set.old).seen (cell_view set.old).owns S.entry }
+        requires begins { MayBegin (cell_view set.old).seen (cell_view set.old).owns S.entry.event }
+        ensures call { Call K.rules B.base desk.old S.entry desk.new }
         ensures receipt { result ≡ desk.new.seen }
         ensures list { self.new ≡ journal_of desk.new.seen self.old.given self.old.limit self.old.desks }
         ensures set { (set.new.table_id ≡ set.old.table_id) × (cell_view set.new ≡ holder self.new.filled (cell_view set.old).owns) }
-        ensures added { Added K.rules B.base (cell_view set.old).seen (cell_view set.old).owns entry self.old.filled self.new.filled }
+        ensures added { Added K.rules B.base (cell_view set.old).seen (cell_view set.old).owns S.entry self.old.filled self.new.filled }
     {
-        let made = JournalEntry {
-            desk: desk.number,
-            call: desk.next,
-            entry,
-        };
         let index = self.entries.len() as u64;
         let pass = pass::append(rt, cell, &mut self.pass, set, &mut desk.pass, &made);
         self.entries.fill(place, made);
@@ -179,9 +175,9 @@ impl<K: RecordKind, B: EngineName<K>> Journal<K, B> {
         }
     }
 
-    /// Adds a call of a desk that concerns two sets, both of whose locks the caller holds.
-    /// Afterwards the first pass owns the keys of `P` and the second the rest of `P`.
-    pub fn append_two<P: Keys, R: Wait>(
+    /// Adds the next call of a desk, of the event that `S` names, which concerns two sets. The caller
+    /// holds the locks of both. Afterwards the first pass owns the keys of `P` and the second the rest of `P`.
+    pub fn append_two<P: Keys, S: EntryName, R: Wait>(
         &mut self,
         rt: &R,
         cell: &Cell,
@@ -189,30 +185,26 @@ impl<K: RecordKind, B: EngineName<K>> Journal<K, B> {
         one: &mut KeyPass,
         other: &mut KeyPass,
         desk: &mut Desk<K, B>,
-        entry: Entry,
+        made: StoredEntry,
     ) -> Receipt<K, B>
         requires table { (cell.now.table.shared.table_id ≡ B.table) × (one.old.table_id ≡ B.table) × (other.old.table_id ≡ B.table) }
         requires one { IsHolder (cell_view one.old) × AreRecords (cell_view one.old).owns }
         requires other { IsHolder (cell_view other.old) × AreNoDesks (cell_view other.old).owns }
         requires within { (key : Key) → Has key (P.keys ++ P.rest) → Has key ((cell_view one.old).owns ++ (cell_view other.old).owns) }
         requires apart { (key : Key) → Has key P.keys → Has key P.rest → ⊥ }
+        requires stored { IsStored (journalled desk.old.number desk.old.next S.entry) made }
         requires follows { BothMayFollow K.rules B.base (cell_view one.old).seen (cell_view one.old).owns (cell_view other.old).seen
-            (cell_view other.old).owns entry }
-        requires begins { MayBegin (cell_view other.old).seen (cell_view other.old).owns entry.event }
-        ensures call { Call K.rules B.base desk.old entry desk.new }
+            (cell_view other.old).owns S.entry }
+        requires begins { MayBegin (cell_view other.old).seen (cell_view other.old).owns S.entry.event }
+        ensures call { Call K.rules B.base desk.old S.entry desk.new }
         ensures receipt { result ≡ desk.new.seen }
         ensures list { self.new ≡ journal_of desk.new.seen self.old.given self.old.limit self.old.desks }
         ensures one { (one.new.table_id ≡ one.old.table_id) × (cell_view one.new ≡ holder self.new.filled P.keys) }
         ensures other { (other.new.table_id ≡ other.old.table_id) × (cell_view other.new ≡ holder self.new.filled P.rest) }
         ensures added { AddedByBoth K.rules B.base (cell_view one.old).seen (cell_view one.old).owns (cell_view other.old).seen
-            (cell_view other.old).owns entry self.old.filled self.new.filled }
+            (cell_view other.old).owns S.entry self.old.filled self.new.filled }
     {
         let call = desk.next;
-        let made = JournalEntry {
-            desk: desk.number,
-            call,
-            entry,
-        };
         let index = self.entries.len() as u64;
         let pass = deal::<P, R>(rt, cell, &mut self.pass, one, other, &mut desk.pass, &made);
         self.entries.fill(place, made);

@@ -6,7 +6,8 @@ ghost use Rattle.ioc_history.specs.Line.{keeper, holder, noted, Continues};
 ghost use Rattle.ioc_history.specs.Account.{IsHolder};
 
 use crate::relink::relink;
-use crate::{Cell, JournalEntry, KeyPass, Keys, NoteName, pass};
+use crate::stored_entry::StoredEntry;
+use crate::{Cell, KeyPass, Keys, NoteName, pass};
 use std::marker::Brand;
 use std::sync::Wait;
 
@@ -18,7 +19,7 @@ fn relink_as<K: Keys, L: Keys, S: NoteName, R: Wait>(
     one: &mut KeyPass,
     other: &mut KeyPass,
     desk: &mut KeyPass,
-    entry: &JournalEntry,
+    entry: &StoredEntry,
 ) -> KeyPass
     requires table { (master.old.table_id ≡ cell.now.table.shared.table_id) × (one.old.table_id ≡ master.old.table_id)
         × (other.old.table_id ≡ master.old.table_id) × (desk.old.table_id ≡ master.old.table_id) }
@@ -60,7 +61,7 @@ pub(crate) fn deal<P: Keys, R: Wait>(
     one: &mut KeyPass,
     other: &mut KeyPass,
     desk: &mut KeyPass,
-    entry: &JournalEntry,
+    entry: &StoredEntry,
 ) -> KeyPass
     requires table { (master.old.table_id ≡ cell.now.table.shared.table_id) × (one.old.table_id ≡ master.old.table_id)
         × (other.old.table_id ≡ master.old.table_id) × (desk.old.table_id ≡ master.old.table_id) }

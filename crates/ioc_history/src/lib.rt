@@ -39,7 +39,7 @@ pub mod shared_places;
 mod short_lock;
 pub mod stored_entry;
 
-pub use cell::{Cell, CellName, KeyPass, Keys, NoteName};
+pub use cell::{Cell, CellName, EntryName, KeyPass, Keys, NoteName};
 pub use desk::Desk;
 pub use engine_name::EngineName;
 pub use entries::{Entries, Piece};

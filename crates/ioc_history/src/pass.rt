@@ -9,7 +9,7 @@ use crate::cell::{
     Again, Appends, Cell, Claims, KeyPass, Keys, Learns, NoteName, Parts, Rest, Shows, TakesIn,
     View, Whole,
 };
-use crate::entry::JournalEntry;
+use crate::stored_entry::StoredEntry;
 use atomic_table::Split;
 use crossbeam_utils::rule::Outcome;
 use std::marker::Brand;
@@ -146,7 +146,7 @@ fn append_as<K: Keys, S: NoteName, R: Wait>(
     master: &mut KeyPass,
     set: &mut KeyPass,
     desk: &mut KeyPass,
-    entry: &JournalEntry,
+    entry: &StoredEntry,
 ) -> KeyPass
     requires table { (master.old.table_id ≡ cell.now.table.shared.table_id) × (set.old.table_id ≡ master.old.table_id)
         × (desk.old.table_id ≡ master.old.table_id) }
@@ -188,7 +188,7 @@ pub fn append<R: Wait>(
     master: &mut KeyPass,
     set: &mut KeyPass,
     desk: &mut KeyPass,
-    entry: &JournalEntry,
+    entry: &StoredEntry,
 ) -> KeyPass
     requires table { (master.old.table_id ≡ cell.now.table.shared.table_id) × (set.old.table_id ≡ master.old.table_id)
         × (desk.old.table_id ≡ master.old.table_id) }

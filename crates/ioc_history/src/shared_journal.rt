@@ -16,13 +16,14 @@ use crate::journal::Journal;
 use crate::receipt::Receipt;
 use crate::shared_places::SharedPlaces;
 use crate::short_lock::lock_soon;
-use crate::{Cell, KeyPass, Keys};
+use crate::stored_entry::StoredEntry;
+use crate::{Cell, EntryName, KeyPass, Keys};
 use crossbeam_utils::CachePadded;
 use ioc_events::Entry;
 use ioc_record::RecordKind;
 use ioc_values::IocError;
 use std::alloc::{AllocError, Global};
-use std::marker::Model;
+use std::marker::{Brand, Model};
 use std::sync::{Mutex, Wait};
 
 /// The journal of an engine under its lock, its free places, and the cell that ties it to the
@@ -145,6 +146,32 @@ impl<K: RecordKind, B: EngineName<K>> SharedJournal<K, B> {
         self.places.give_back(rt, desk.number, place);
     }
 
+    // Adds a call of a desk, of the event that `S` names.
+    #[inline(always)]
+    fn append_as<S: EntryName, R: Wait>(
+        &self,
+        rt: &R,
+        place: Place<K, B>,
+        set: &mut KeyPass,
+        desk: &mut Desk<K, B>,
+        entry: Entry,
+    ) -> Receipt<K, B>
+        requires entry { S.entry ≡ entry }
+        requires table { set.old.table_id ≡ B.table }
+        requires set { IsHolder (cell_view set.old) × AreNoDesks (cell_view set.old).owns }
+        requires follows { MayFollow K.rules B.base (cell_view set.old).seen (cell_view set.old).owns S.entry }
+        requires begins { MayBegin (cell_view set.old).seen (cell_view set.old).owns S.entry.event }
+        ensures call { Call K.rules B.base desk.old S.entry desk.new }
+        ensures receipt { result ≡ desk.new.seen }
+        ensures set { (set.new.table_id ≡ set.old.table_id) × (cell_view set.new ≡ holder desk.new.seen (cell_view set.old).owns) }
+        ensures added { (log : List Note) × Added K.rules B.base (cell_view set.old).seen (cell_view set.old).owns S.entry log desk.new.seen }
+    {
+        let made = StoredEntry::new(desk.number, desk.next, entry);
+        let mut guard = lock_soon(rt, &self.journal);
+        let journal = &mut *guard;
+        journal.append::<S, R>(rt, &self.cell, place, set, desk, made)
+    }
+
     /// Adds a call of a desk. The caller holds the lock of the set that the call concerns; all keys
     /// of the set's pass are noted. Afterwards desk and pass know the whole list.
     #[inline(always)]
@@ -165,9 +192,42 @@ impl<K: RecordKind, B: EngineName<K>> SharedJournal<K, B> {
         ensures set { (set.new.table_id ≡ set.old.table_id) × (cell_view set.new ≡ holder desk.new.seen (cell_view set.old).owns) }
         ensures added { (log : List Note) × Added K.rules B.base (cell_view set.old).seen (cell_view set.old).owns entry log desk.new.seen }
     {
+        self.append_as::<Brand, R>(rt, place, set, desk, entry)
+    }
+
+    // Adds a call of a desk, of the event that `S` names.
+    #[inline(always)]
+    fn append_two_as<P: Keys, S: EntryName, R: Wait>(
+        &self,
+        rt: &R,
+        place: Place<K, B>,
+        one: &mut KeyPass,
+        other: &mut KeyPass,
+        desk: &mut Desk<K, B>,
+        entry: Entry,
+    ) -> Receipt<K, B>
+        requires entry { S.entry ≡ entry }
+        requires table { (one.old.table_id ≡ B.table) × (other.old.table_id ≡ B.table) }
+        requires one { IsHolder (cell_view one.old) × AreRecords (cell_view one.old).owns }
+        requires other { IsHolder (cell_view other.old) × AreNoDesks (cell_view other.old).owns }
+        requires within { (key : Key) → Has key (P.keys ++ P.rest) → Has key ((cell_view one.old).owns ++ (cell_view other.old).owns) }
+        requires apart { (key : Key) → Has key P.keys → Has key P.rest → ⊥ }
+        requires follows { BothMayFollow K.rules B.base (cell_view one.old).seen (cell_view one.old).owns (cell_view other.old).seen
+            (cell_view other.old).owns S.entry }
+        requires begins { MayBegin (cell_view other.old).seen (cell_view other.old).owns S.entry.event }
+        ensures call { Call K.rules B.base desk.old S.entry desk.new }
+        ensures receipt { result ≡ desk.new.seen }
+        ensures one { (one.new.table_id ≡ one.old.table_id) × (cell_view one.new ≡ holder desk.new.seen P.keys) }
+        ensures other { (other.new.table_id ≡ other.old.table_id) × (cell_view other.new ≡ holder desk.new.seen P.rest) }
+        ensures added { (log : List Note)
+            × AddedByBoth K.rules B.base (cell_view one.old).seen (cell_view one.old).owns (cell_view other.old).seen
+            (cell_view other.old).owns S.entry log desk.new.seen }
+    {
+        let call = desk.next;
+        let made = StoredEntry::new(desk.number, call, entry);
         let mut guard = lock_soon(rt, &self.journal);
         let journal = &mut *guard;
-        journal.append(rt, &self.cell, place, set, desk, entry)
+        journal.append_two::<P, S, R>(rt, &self.cell, place, one, other, desk, made)
     }
 
     /// Adds a call of a desk that concerns two sets, both of whose locks the caller holds.
@@ -198,9 +258,7 @@ impl<K: RecordKind, B: EngineName<K>> SharedJournal<K, B> {
             × AddedByBoth K.rules B.base (cell_view one.old).seen (cell_view one.old).owns (cell_view other.old).seen
             (cell_view other.old).owns entry log desk.new.seen }
     {
-        let mut guard = lock_soon(rt, &self.journal);
-        let journal = &mut *guard;
-        journal.append_two::<P, R>(rt, &self.cell, place, one, other, desk, entry)
+        self.append_two_as::<P, Brand, R>(rt, place, one, other, desk, entry)
     }
 
     /// Compares two passes: they have no key in common. Afterwards both know the same list.

@@ -1,14 +1,14 @@
 //! The entries of a journal as it stores them.
-ghost use Rattle.std.specs.Prelude.{◌≡◌, true};
-ghost use Rattle.ioc_history.specs.Stored.{may_reply};
+ghost use Rattle.std.specs.Prelude.{◌≡◌};
+ghost use Rattle.ioc_history.specs.Account.{journalled};
+ghost use Rattle.ioc_history.specs.Stored.{IsStored};
 
-use crate::entry::JournalEntry;
 use crate::event_with_reply::EventWithReply;
 use ioc_events::{Entry, Event, KeptAnswers, Reply};
 use std::marker::Model;
 
-/// A call of a desk and its effect, as a journal stores it: 232 bytes in place of the 368 of a
-/// [`JournalEntry`], which contracts see.
+/// A call of a desk and its effect, as a journal stores it: in 232 bytes in place of the 368 of a
+/// [`JournalEntry`](crate::JournalEntry), which contracts see.
 #[derive(Drop)]
 pub struct StoredEntry {
     desk: u64,
@@ -32,13 +32,12 @@ impl Model for StoredEntry {
 }
 
 impl StoredEntry {
-    /// Stores a call.
+    /// Stores a call of a desk, with this number among its calls. The reply has to be one that the
+    /// event may have, as in a legal list of calls.
     #[inline(always)]
-    pub fn new(made: JournalEntry) -> Self
-        requires fits { may_reply made.entry.event made.entry.reply ≡ true }
-        ensures { result ≡ made }
+    pub fn new(desk: u64, call: u64, entry: Entry) -> Self
+        ensures { IsStored (journalled desk call entry) result }
     {
-        let JournalEntry { desk, call, entry } = made;
         let Entry {
             moment,
             event,

@@ -8,6 +8,7 @@ use Rattle.ioc_history.specs.Line.{keeper, holder, noted}
 use Rattle.ioc_history.specs.KeyLaws.{has_left, has_right}
 use Rattle.ioc_history.specs.Account.{DeskView, desk_view, desk_key, journalled, calls, Below, IsAccount, Call, Added}
 use Rattle.ioc_history.specs.Places.{PlacesOf, JournalOf}
+use Rattle.ioc_history.specs.Stored.{IsStored}
 use Rattle.ioc_history.proofs.Calls.{calls-append, length-calls, below_other, no_longer, counted}
 use Rattle.ioc_history.proofs.Adding.{account_then, below_then, called}
 use Rattle.ioc_history.proofs.Fitting.{last_fits}
@@ -17,17 +18,6 @@ use Rattle.ioc_history.proofs.journal.Journal.append.Goals as goal
 pub append-pass-requires-clause-apart : goal.append-pass-requires-clause-apart
 append-pass-requires-clause-apart g c = λ key a b.
     ⊎_elim (λ (e : desk_key c.desk.inside.number ≡ key). c.requires.set.1 key a (sym (ap (λ (p : Key). p.0) e))) (λ (b : ⊥). b) (subst (λ (v : View). Has key v.owns) c.desk.invariant.holds b)
-
-pub fill-requires-clause-fits : goal.fill-requires-clause-fits
-fill-requires-clause-fits g c =
-    let i = c.self.invariant in
-    let n = c.desk.inside.number in
-    let next = c.desk.inside.next in
-    let log = (cell_view c.self.inside.pass).seen in
-    let e = c.append-pass.ensures in
-    let keys = ((cell_view c.args.set.now).owns) ++ (cell_view c.desk.inside.pass).owns in
-    let leads = c.requires.follows log n next (cell_view c.desk.inside.pass).owns i.sound e.goes_on.0 i.account.legal in
-    last_fits g.K.RecordKind.rules g.B.EngineName.base log (noted (journalled n next c.args.entry) keys) leads
 
 pub invariant_of-result : goal.invariant_of-result
 invariant_of-result g c =
@@ -41,13 +31,15 @@ invariant_of-result g c =
     let own = (cell_view c.desk.inside.pass).owns in
     let k = g.K.RecordKind.rules in
     let leads = c.requires.follows log n next own i.sound e.goes_on.0 i.account.legal in
+    let is_made = subst (λ (v : DeskView). IsStored (journalled v.number v.next g.S.EntryName.entry) c.args.made) (sym c.desk.view_is) c.requires.stored (last_fits k g.B.EngineName.base log (noted (journalled n next g.S.EntryName.entry) (owns ++ own)) leads) in
+    let noted_so = ap (λ (m : JournalEntry). log ++ noted m (owns ++ own) ∷ []) is_made in
     let told = ap (λ (v : View). v.seen) e.receipt.2 in
-    let seen = told in
+    let seen = told ∙ noted_so in
     record {
       same = e.receipt.0 ∙ i.same;
       holds = e.receipt.2 ∙ ap (λ l. holder l []) (sym told);
-      ends = ap length seen ∙ omega (arith, length-append log (noted (journalled n next c.args.entry) (owns ++ own) ∷ []), length-calls log, ap length i.items_are, c.len-index.ensures.count);
-      account = subst (IsAccount k g.B.EngineName.base) (sym seen) (account_then k g.B.EngineName.base log (cell_view c.desk.inside.pass).seen n next c.args.entry owns own (ap (λ (v : View). v.owns) d.holds) i.account e.goes_on.1 d.below leads (cell_view c.args.set.now).seen (cell_view c.args.set.now).owns e.goes_on.0 (λ key has. has_left key owns own has) c.requires.begins);
+      ends = ap length seen ∙ omega (arith, length-append log (noted (journalled n next g.S.EntryName.entry) (owns ++ own) ∷ []), length-calls log, ap length i.items_are, c.len-index.ensures.count);
+      account = subst (IsAccount k g.B.EngineName.base) (sym seen) (account_then k g.B.EngineName.base log (cell_view c.desk.inside.pass).seen n next g.S.EntryName.entry owns own (ap (λ (v : View). v.owns) d.holds) i.account e.goes_on.1 d.below leads (cell_view c.args.set.now).seen (cell_view c.args.set.now).owns e.goes_on.0 (λ key has. has_left key owns own has) c.requires.begins);
     }
 
 pub invariant_of-self : goal.invariant_of-self
@@ -62,17 +54,19 @@ invariant_of-self g c =
     let own = (cell_view c.desk.inside.pass).owns in
     let k = g.K.RecordKind.rules in
     let leads = c.requires.follows log n next own i.sound e.goes_on.0 i.account.legal in
-    let made = journalled n next c.args.entry in
+    let made = journalled n next g.S.EntryName.entry in
+    let is_made = subst (λ (v : DeskView). IsStored (journalled v.number v.next g.S.EntryName.entry) c.args.made) (sym c.desk.view_is) c.requires.stored (last_fits k g.B.EngineName.base log (noted (journalled n next g.S.EntryName.entry) (owns ++ own)) leads) in
+    let noted_so = ap (λ (m : JournalEntry). log ++ noted m (owns ++ own) ∷ []) is_made in
     let told = ap (λ (v : View). v.seen) e.keeper.1 in
-    let seen = told in
+    let seen = told ∙ noted_so in
     let born = ap (λ (v : View). v.born) e.keeper.1 in
     let known : n < c.self.inside.desks = i.given (desk_key n) (e.born (desk_key n) (has_right (desk_key n) owns own (subst (Has (desk_key n)) (sym (ap (λ (v : View). v.owns) d.holds)) (inl refl)))) refl in
     record {
       same = e.keeper.0 ∙ i.same;
       keeps = e.keeper.1 ∙ ap₂ keeper (sym told) (sym born);
-      items_are = ap (λ (p : PlacesOf JournalEntry). p.filled) c.fill.ensures ∙ (ap (λ l. l ++ made ∷ []) i.items_are ∙ (sym (calls-append log (noted made (owns ++ own) ∷ [])) ∙ ap calls (sym seen)));
+      items_are = ap (λ (p : PlacesOf JournalEntry). p.filled) c.fill.ensures ∙ (ap (λ (m : JournalEntry). c.self.inside.entries.filled ++ m ∷ []) is_made ∙ (ap (λ l. l ++ made ∷ []) i.items_are ∙ (sym (calls-append log (noted made (owns ++ own) ∷ [])) ∙ ap calls (sym seen))));
       sound = i.sound;
-      account = subst (IsAccount k g.B.EngineName.base) (sym seen) (account_then k g.B.EngineName.base log (cell_view c.desk.inside.pass).seen n next c.args.entry owns own (ap (λ (v : View). v.owns) d.holds) i.account e.goes_on.1 d.below leads (cell_view c.args.set.now).seen (cell_view c.args.set.now).owns e.goes_on.0 (λ key has. has_left key owns own has) c.requires.begins);
+      account = subst (IsAccount k g.B.EngineName.base) (sym seen) (account_then k g.B.EngineName.base log (cell_view c.desk.inside.pass).seen n next g.S.EntryName.entry owns own (ap (λ (v : View). v.owns) d.holds) i.account e.goes_on.1 d.below leads (cell_view c.args.set.now).seen (cell_view c.args.set.now).owns e.goes_on.0 (λ key has. has_left key owns own has) c.requires.begins);
       given = λ key has kind. i.given key (subst (Has key) born has) kind;
       new_desk = λ m le. subst (λ l. Below m 0 (calls l)) (sym seen) (below_other log made (owns ++ own) m (λ same. omega arith) (i.new_desk m le));
     }
@@ -89,14 +83,16 @@ invariant_of-desk g c =
     let own = (cell_view c.desk.inside.pass).owns in
     let k = g.K.RecordKind.rules in
     let leads = c.requires.follows log n next own i.sound e.goes_on.0 i.account.legal in
+    let is_made = subst (λ (v : DeskView). IsStored (journalled v.number v.next g.S.EntryName.entry) c.args.made) (sym c.desk.view_is) c.requires.stored (last_fits k g.B.EngineName.base log (noted (journalled n next g.S.EntryName.entry) (owns ++ own)) leads) in
+    let noted_so = ap (λ (m : JournalEntry). log ++ noted m (owns ++ own) ∷ []) is_made in
     let told = ap (λ (v : View). v.seen) e.desk.1 in
-    let seen = told in
+    let seen = told ∙ noted_so in
     record {
       same = e.desk.0 ∙ d.same;
       holds = e.desk.1 ∙ ap₂ holder (sym told) (ap (λ (v : View). v.owns) d.holds);
-      below = subst (λ l. Below n (next + 1) (calls l)) (sym seen) (below_then k g.B.EngineName.base log (cell_view c.desk.inside.pass).seen n next c.args.entry owns own (ap (λ (v : View). v.owns) d.holds) i.account e.goes_on.1 d.below leads (cell_view c.args.set.now).seen (cell_view c.args.set.now).owns e.goes_on.0 (λ key has. has_left key owns own has) c.requires.begins);
-      count = subst (λ (l : List Note). next + 1 ≤ length l) (sym seen) (counted (cell_view c.desk.inside.pass).seen log own (noted (journalled n next c.args.entry) (owns ++ own)) next d.count e.goes_on.1);
-      account = subst (IsAccount k g.B.EngineName.base) (sym seen) (account_then k g.B.EngineName.base log (cell_view c.desk.inside.pass).seen n next c.args.entry owns own (ap (λ (v : View). v.owns) d.holds) i.account e.goes_on.1 d.below leads (cell_view c.args.set.now).seen (cell_view c.args.set.now).owns e.goes_on.0 (λ key has. has_left key owns own has) c.requires.begins);
+      below = subst (λ l. Below n (next + 1) (calls l)) (sym seen) (below_then k g.B.EngineName.base log (cell_view c.desk.inside.pass).seen n next g.S.EntryName.entry owns own (ap (λ (v : View). v.owns) d.holds) i.account e.goes_on.1 d.below leads (cell_view c.args.set.now).seen (cell_view c.args.set.now).owns e.goes_on.0 (λ key has. has_left key owns own has) c.requires.begins);
+      count = subst (λ (l : List Note). next + 1 ≤ length l) (sym seen) (counted (cell_view c.desk.inside.pass).seen log own (noted (journalled n next g.S.EntryName.entry) (owns ++ own)) next d.count e.goes_on.1);
+      account = subst (IsAccount k g.B.EngineName.base) (sym seen) (account_then k g.B.EngineName.base log (cell_view c.desk.inside.pass).seen n next g.S.EntryName.entry owns own (ap (λ (v : View). v.owns) d.holds) i.account e.goes_on.1 d.below leads (cell_view c.args.set.now).seen (cell_view c.args.set.now).owns e.goes_on.0 (λ key has. has_left key owns own has) c.requires.begins);
     }
 
 pub returns-clause-call : goal.returns-clause-call
@@ -111,10 +107,12 @@ returns-clause-call g c =
     let own = (cell_view c.desk.inside.pass).owns in
     let k = g.K.RecordKind.rules in
     let leads = c.requires.follows log n next own i.sound e.goes_on.0 i.account.legal in
+    let is_made = subst (λ (v : DeskView). IsStored (journalled v.number v.next g.S.EntryName.entry) c.args.made) (sym c.desk.view_is) c.requires.stored (last_fits k g.B.EngineName.base log (noted (journalled n next g.S.EntryName.entry) (owns ++ own)) leads) in
+    let noted_so = ap (λ (m : JournalEntry). log ++ noted m (owns ++ own) ∷ []) is_made in
     let told = ap (λ (v : View). v.seen) e.desk.1 in
-    let seen = told in
-    subst (λ (v : DeskView). Call k g.B.EngineName.base v c.args.entry (desk_view n (next + 1) (cell_view c.append-pass.new.desk).seen)) c.desk.view_is
-    (subst (λ (l : List Note). Call k g.B.EngineName.base (desk_view n next (cell_view c.desk.inside.pass).seen) c.args.entry (desk_view n (next + 1) l)) (sym seen) (called k g.B.EngineName.base log (cell_view c.desk.inside.pass).seen n next c.args.entry owns own (ap (λ (v : View). v.owns) d.holds) i.account e.goes_on.1 d.below leads (cell_view c.args.set.now).seen (cell_view c.args.set.now).owns e.goes_on.0 (λ key has. has_left key owns own has) c.requires.begins))
+    let seen = told ∙ noted_so in
+    subst (λ (v : DeskView). Call k g.B.EngineName.base v g.S.EntryName.entry (desk_view n (next + 1) (cell_view c.append-pass.new.desk).seen)) c.desk.view_is
+    (subst (λ (l : List Note). Call k g.B.EngineName.base (desk_view n next (cell_view c.desk.inside.pass).seen) g.S.EntryName.entry (desk_view n (next + 1) l)) (sym seen) (called k g.B.EngineName.base log (cell_view c.desk.inside.pass).seen n next g.S.EntryName.entry owns own (ap (λ (v : View). v.owns) d.holds) i.account e.goes_on.1 d.below leads (cell_view c.args.set.now).seen (cell_view c.args.set.now).owns e.goes_on.0 (λ key has. has_left key owns own has) c.requires.begins))
 
 pub returns-clause-added : goal.returns-clause-added
 returns-clause-added g c =
@@ -126,8 +124,12 @@ returns-clause-added g c =
     let next = c.desk.inside.next in
     let log = (cell_view c.self.inside.pass).seen in
     let own = (cell_view c.desk.inside.pass).owns in
-    subst (λ (l : List Note). Added g.K.RecordKind.rules g.B.EngineName.base seen owns c.args.entry l (cell_view c.append-pass.new.master).seen) (ap (λ (j : JournalOf Note). j.filled) c.self.view_is)
-    (record { desk = c.desk.inside.number; call = c.desk.inside.next; own = (cell_view c.desk.inside.pass).owns; sound = i.sound; goes_on = e.goes_on.0; legal = i.account.legal; ends = ap (λ (v : View). v.seen) e.keeper.1 })
+    let k = g.K.RecordKind.rules in
+    let leads = c.requires.follows log n next own i.sound e.goes_on.0 i.account.legal in
+    let is_made = subst (λ (v : DeskView). IsStored (journalled v.number v.next g.S.EntryName.entry) c.args.made) (sym c.desk.view_is) c.requires.stored (last_fits k g.B.EngineName.base log (noted (journalled n next g.S.EntryName.entry) (owns ++ own)) leads) in
+    let noted_so = ap (λ (m : JournalEntry). log ++ noted m (owns ++ own) ∷ []) is_made in
+    subst (λ (l : List Note). Added g.K.RecordKind.rules g.B.EngineName.base seen owns g.S.EntryName.entry l (cell_view c.append-pass.new.master).seen) (ap (λ (j : JournalOf Note). j.filled) c.self.view_is)
+    (record { desk = c.desk.inside.number; call = c.desk.inside.next; own = (cell_view c.desk.inside.pass).owns; sound = i.sound; goes_on = e.goes_on.0; legal = i.account.legal; ends = ap (λ (v : View). v.seen) e.keeper.1 ∙ noted_so })
 
 pub overflow_add-desk : goal.overflow_add-desk
 overflow_add-desk g c =

@@ -8,6 +8,7 @@ use Rattle.ioc_history.specs.Line.{keeper, holder, noted}
 use Rattle.ioc_history.specs.KeyLaws.{has_left, has_right, has_either}
 use Rattle.ioc_history.specs.Account.{DeskView, desk_view, desk_key, journalled, calls, Below, IsAccount, Call, AddedByBoth}
 use Rattle.ioc_history.specs.Places.{PlacesOf, JournalOf}
+use Rattle.ioc_history.specs.Stored.{IsStored}
 use Rattle.ioc_history.proofs.Calls.{calls-append, length-calls, below_other, no_longer, counted}
 use Rattle.ioc_history.proofs.Adding.{account_then, below_then, called}
 use Rattle.ioc_history.proofs.Fitting.{last_fits}
@@ -20,17 +21,6 @@ deal-pass-requires-clause-apart_desk g c = λ key a b.
     let more = (cell_view c.args.other.now).owns in
     let no_desk : key.0 ≢ 1 = ⊎_elim (λ (x : Has key owns). λ (desk : key.0 ≡ 1). let record_key = c.requires.one.1 key x in absurd (omega (arith, record_key, desk))) (λ (y : Has key more). c.requires.other.1 key y) (has_either key owns more (c.requires.within key a)) in
     ⊎_elim (λ (e : desk_key c.desk.inside.number ≡ key). no_desk (sym (ap (λ (p : Key). p.0) e))) (λ (b : ⊥). b) (subst (λ (v : View). Has key v.owns) c.desk.invariant.holds b)
-
-pub fill-requires-clause-fits : goal.fill-requires-clause-fits
-fill-requires-clause-fits g c =
-    let i = c.self.invariant in
-    let n = c.desk.inside.number in
-    let next = c.desk.inside.next in
-    let log = (cell_view c.self.inside.pass).seen in
-    let e = c.deal-pass.ensures in
-    let keys = ((cell_view c.args.one.now).owns ++ (cell_view c.args.other.now).owns) ++ (cell_view c.desk.inside.pass).owns in
-    let leads = c.requires.follows log n next (cell_view c.desk.inside.pass).owns i.sound e.goes_on.0 e.goes_on.1 i.account.legal in
-    last_fits g.K.RecordKind.rules g.B.EngineName.base log (noted (journalled n next c.args.entry) keys) leads
 
 pub invariant_of-result : goal.invariant_of-result
 invariant_of-result g c =
@@ -45,12 +35,14 @@ invariant_of-result g c =
     let k = g.K.RecordKind.rules in
     let leads = c.requires.follows log n next own i.sound e.goes_on.0 e.goes_on.1 i.account.legal in
     let told = ap (λ (v : View). v.seen) e.receipt.2 in
-    let seen = told ∙ ap (λ (v : View). v.seen) e.keeper.1 in
+    let is_made = subst (λ (v : DeskView). IsStored (journalled v.number v.next g.S.EntryName.entry) c.args.made) (sym c.desk.view_is) c.requires.stored (last_fits k g.B.EngineName.base log (noted (journalled n next g.S.EntryName.entry) (owns ++ own)) leads) in
+    let noted_so = ap (λ (m : JournalEntry). log ++ noted m (owns ++ own) ∷ []) is_made in
+    let seen = told ∙ (ap (λ (v : View). v.seen) e.keeper.1 ∙ noted_so) in
     record {
       same = e.receipt.0 ∙ i.same;
       holds = e.receipt.2 ∙ ap (λ l. holder l []) (sym told);
-      ends = ap length seen ∙ omega (arith, length-append log (noted (journalled n next c.args.entry) (owns ++ own) ∷ []), length-calls log, ap length i.items_are, c.len-index.ensures.count);
-      account = subst (IsAccount k g.B.EngineName.base) (sym seen) (account_then k g.B.EngineName.base log (cell_view c.desk.inside.pass).seen n next c.args.entry owns own (ap (λ (v : View). v.owns) d.holds) i.account e.goes_on.2 d.below leads (cell_view c.args.other.now).seen (cell_view c.args.other.now).owns e.goes_on.1 (λ key has. has_left key owns own (has_right key (cell_view c.args.one.now).owns (cell_view c.args.other.now).owns has)) c.requires.begins);
+      ends = ap length seen ∙ omega (arith, length-append log (noted (journalled n next g.S.EntryName.entry) (owns ++ own) ∷ []), length-calls log, ap length i.items_are, c.len-index.ensures.count);
+      account = subst (IsAccount k g.B.EngineName.base) (sym seen) (account_then k g.B.EngineName.base log (cell_view c.desk.inside.pass).seen n next g.S.EntryName.entry owns own (ap (λ (v : View). v.owns) d.holds) i.account e.goes_on.2 d.below leads (cell_view c.args.other.now).seen (cell_view c.args.other.now).owns e.goes_on.1 (λ key has. has_left key owns own (has_right key (cell_view c.args.one.now).owns (cell_view c.args.other.now).owns has)) c.requires.begins);
     }
 
 pub invariant_of-self : goal.invariant_of-self
@@ -65,17 +57,19 @@ invariant_of-self g c =
     let own = (cell_view c.desk.inside.pass).owns in
     let k = g.K.RecordKind.rules in
     let leads = c.requires.follows log n next own i.sound e.goes_on.0 e.goes_on.1 i.account.legal in
-    let made = journalled n next c.args.entry in
+    let made = journalled n next g.S.EntryName.entry in
+    let is_made = subst (λ (v : DeskView). IsStored (journalled v.number v.next g.S.EntryName.entry) c.args.made) (sym c.desk.view_is) c.requires.stored (last_fits k g.B.EngineName.base log (noted (journalled n next g.S.EntryName.entry) (owns ++ own)) leads) in
+    let noted_so = ap (λ (m : JournalEntry). log ++ noted m (owns ++ own) ∷ []) is_made in
     let told = ap (λ (v : View). v.seen) e.keeper.1 in
-    let seen = told in
+    let seen = told ∙ noted_so in
     let born = ap (λ (v : View). v.born) e.keeper.1 in
     let known : n < c.self.inside.desks = i.given (desk_key n) (e.born (desk_key n) (subst (Has (desk_key n)) (sym (ap (λ (v : View). v.owns) d.holds)) (inl refl))) refl in
     record {
       same = e.keeper.0 ∙ i.same;
       keeps = e.keeper.1 ∙ ap₂ keeper (sym told) (sym born);
-      items_are = ap (λ (p : PlacesOf JournalEntry). p.filled) c.fill.ensures ∙ (ap (λ l. l ++ made ∷ []) i.items_are ∙ (sym (calls-append log (noted made (owns ++ own) ∷ [])) ∙ ap calls (sym seen)));
+      items_are = ap (λ (p : PlacesOf JournalEntry). p.filled) c.fill.ensures ∙ (ap (λ (m : JournalEntry). c.self.inside.entries.filled ++ m ∷ []) is_made ∙ (ap (λ l. l ++ made ∷ []) i.items_are ∙ (sym (calls-append log (noted made (owns ++ own) ∷ [])) ∙ ap calls (sym seen))));
       sound = i.sound;
-      account = subst (IsAccount k g.B.EngineName.base) (sym seen) (account_then k g.B.EngineName.base log (cell_view c.desk.inside.pass).seen n next c.args.entry owns own (ap (λ (v : View). v.owns) d.holds) i.account e.goes_on.2 d.below leads (cell_view c.args.other.now).seen (cell_view c.args.other.now).owns e.goes_on.1 (λ key has. has_left key owns own (has_right key (cell_view c.args.one.now).owns (cell_view c.args.other.now).owns has)) c.requires.begins);
+      account = subst (IsAccount k g.B.EngineName.base) (sym seen) (account_then k g.B.EngineName.base log (cell_view c.desk.inside.pass).seen n next g.S.EntryName.entry owns own (ap (λ (v : View). v.owns) d.holds) i.account e.goes_on.2 d.below leads (cell_view c.args.other.now).seen (cell_view c.args.other.now).owns e.goes_on.1 (λ key has. has_left key owns own (has_right key (cell_view c.args.one.now).owns (cell_view c.args.other.now).owns has)) c.requires.begins);
       given = λ key has kind. i.given key (subst (Has key) born has) kind;
       new_desk = λ m le. subst (λ l. Below m 0 (calls l)) (sym seen) (below_other log made (owns ++ own) m (λ same. omega arith) (i.new_desk m le));
     }
@@ -93,13 +87,15 @@ invariant_of-desk g c =
     let k = g.K.RecordKind.rules in
     let leads = c.requires.follows log n next own i.sound e.goes_on.0 e.goes_on.1 i.account.legal in
     let told = ap (λ (v : View). v.seen) e.desk.1 in
-    let seen = told ∙ ap (λ (v : View). v.seen) e.keeper.1 in
+    let is_made = subst (λ (v : DeskView). IsStored (journalled v.number v.next g.S.EntryName.entry) c.args.made) (sym c.desk.view_is) c.requires.stored (last_fits k g.B.EngineName.base log (noted (journalled n next g.S.EntryName.entry) (owns ++ own)) leads) in
+    let noted_so = ap (λ (m : JournalEntry). log ++ noted m (owns ++ own) ∷ []) is_made in
+    let seen = told ∙ (ap (λ (v : View). v.seen) e.keeper.1 ∙ noted_so) in
     record {
       same = e.desk.0 ∙ d.same;
       holds = e.desk.1 ∙ ap₂ holder (sym told) (ap (λ (v : View). v.owns) d.holds);
-      below = subst (λ l. Below n (next + 1) (calls l)) (sym seen) (below_then k g.B.EngineName.base log (cell_view c.desk.inside.pass).seen n next c.args.entry owns own (ap (λ (v : View). v.owns) d.holds) i.account e.goes_on.2 d.below leads (cell_view c.args.other.now).seen (cell_view c.args.other.now).owns e.goes_on.1 (λ key has. has_left key owns own (has_right key (cell_view c.args.one.now).owns (cell_view c.args.other.now).owns has)) c.requires.begins);
-      count = subst (λ (l : List Note). next + 1 ≤ length l) (sym seen) (counted (cell_view c.desk.inside.pass).seen log own (noted (journalled n next c.args.entry) (owns ++ own)) next d.count e.goes_on.2);
-      account = subst (IsAccount k g.B.EngineName.base) (sym seen) (account_then k g.B.EngineName.base log (cell_view c.desk.inside.pass).seen n next c.args.entry owns own (ap (λ (v : View). v.owns) d.holds) i.account e.goes_on.2 d.below leads (cell_view c.args.other.now).seen (cell_view c.args.other.now).owns e.goes_on.1 (λ key has. has_left key owns own (has_right key (cell_view c.args.one.now).owns (cell_view c.args.other.now).owns has)) c.requires.begins);
+      below = subst (λ l. Below n (next + 1) (calls l)) (sym seen) (below_then k g.B.EngineName.base log (cell_view c.desk.inside.pass).seen n next g.S.EntryName.entry owns own (ap (λ (v : View). v.owns) d.holds) i.account e.goes_on.2 d.below leads (cell_view c.args.other.now).seen (cell_view c.args.other.now).owns e.goes_on.1 (λ key has. has_left key owns own (has_right key (cell_view c.args.one.now).owns (cell_view c.args.other.now).owns has)) c.requires.begins);
+      count = subst (λ (l : List Note). next + 1 ≤ length l) (sym seen) (counted (cell_view c.desk.inside.pass).seen log own (noted (journalled n next g.S.EntryName.entry) (owns ++ own)) next d.count e.goes_on.2);
+      account = subst (IsAccount k g.B.EngineName.base) (sym seen) (account_then k g.B.EngineName.base log (cell_view c.desk.inside.pass).seen n next g.S.EntryName.entry owns own (ap (λ (v : View). v.owns) d.holds) i.account e.goes_on.2 d.below leads (cell_view c.args.other.now).seen (cell_view c.args.other.now).owns e.goes_on.1 (λ key has. has_left key owns own (has_right key (cell_view c.args.one.now).owns (cell_view c.args.other.now).owns has)) c.requires.begins);
     }
 
 pub returns-clause-call : goal.returns-clause-call
@@ -114,9 +110,11 @@ returns-clause-call g c =
     let own = (cell_view c.desk.inside.pass).owns in
     let k = g.K.RecordKind.rules in
     let leads = c.requires.follows log n next own i.sound e.goes_on.0 e.goes_on.1 i.account.legal in
-    let seen = ap (λ (v : View). v.seen) e.desk.1 ∙ ap (λ (v : View). v.seen) e.keeper.1 in
-    subst (λ (v : DeskView). Call k g.B.EngineName.base v c.args.entry (desk_view n (next + 1) (cell_view c.deal-pass.new.desk).seen)) c.desk.view_is
-    (subst (λ (l : List Note). Call k g.B.EngineName.base (desk_view n next (cell_view c.desk.inside.pass).seen) c.args.entry (desk_view n (next + 1) l)) (sym seen) (called k g.B.EngineName.base log (cell_view c.desk.inside.pass).seen n next c.args.entry owns own (ap (λ (v : View). v.owns) d.holds) i.account e.goes_on.2 d.below leads (cell_view c.args.other.now).seen (cell_view c.args.other.now).owns e.goes_on.1 (λ key has. has_left key owns own (has_right key (cell_view c.args.one.now).owns (cell_view c.args.other.now).owns has)) c.requires.begins))
+    let is_made = subst (λ (v : DeskView). IsStored (journalled v.number v.next g.S.EntryName.entry) c.args.made) (sym c.desk.view_is) c.requires.stored (last_fits k g.B.EngineName.base log (noted (journalled n next g.S.EntryName.entry) (owns ++ own)) leads) in
+    let noted_so = ap (λ (m : JournalEntry). log ++ noted m (owns ++ own) ∷ []) is_made in
+    let seen = ap (λ (v : View). v.seen) e.desk.1 ∙ (ap (λ (v : View). v.seen) e.keeper.1 ∙ noted_so) in
+    subst (λ (v : DeskView). Call k g.B.EngineName.base v g.S.EntryName.entry (desk_view n (next + 1) (cell_view c.deal-pass.new.desk).seen)) c.desk.view_is
+    (subst (λ (l : List Note). Call k g.B.EngineName.base (desk_view n next (cell_view c.desk.inside.pass).seen) g.S.EntryName.entry (desk_view n (next + 1) l)) (sym seen) (called k g.B.EngineName.base log (cell_view c.desk.inside.pass).seen n next g.S.EntryName.entry owns own (ap (λ (v : View). v.owns) d.holds) i.account e.goes_on.2 d.below leads (cell_view c.args.other.now).seen (cell_view c.args.other.now).owns e.goes_on.1 (λ key has. has_left key owns own (has_right key (cell_view c.args.one.now).owns (cell_view c.args.other.now).owns has)) c.requires.begins))
 
 pub returns-clause-added : goal.returns-clause-added
 returns-clause-added g c =
@@ -127,7 +125,11 @@ returns-clause-added g c =
     let next = c.desk.inside.next in
     let log = (cell_view c.self.inside.pass).seen in
     let own = (cell_view c.desk.inside.pass).owns in
-    subst (λ (l : List Note). AddedByBoth g.K.RecordKind.rules g.B.EngineName.base (cell_view c.args.one.now).seen (cell_view c.args.one.now).owns (cell_view c.args.other.now).seen (cell_view c.args.other.now).owns c.args.entry l (cell_view c.deal-pass.new.master).seen) (ap (λ (j : JournalOf Note). j.filled) c.self.view_is)
+    let k = g.K.RecordKind.rules in
+    let leads = c.requires.follows log n next own i.sound e.goes_on.0 e.goes_on.1 i.account.legal in
+    let is_made = subst (λ (v : DeskView). IsStored (journalled v.number v.next g.S.EntryName.entry) c.args.made) (sym c.desk.view_is) c.requires.stored (last_fits k g.B.EngineName.base log (noted (journalled n next g.S.EntryName.entry) (owns ++ own)) leads) in
+    let noted_so = ap (λ (m : JournalEntry). log ++ noted m (owns ++ own) ∷ []) is_made in
+    subst (λ (l : List Note). AddedByBoth g.K.RecordKind.rules g.B.EngineName.base (cell_view c.args.one.now).seen (cell_view c.args.one.now).owns (cell_view c.args.other.now).seen (cell_view c.args.other.now).owns g.S.EntryName.entry l (cell_view c.deal-pass.new.master).seen) (ap (λ (j : JournalOf Note). j.filled) c.self.view_is)
     (record {
       desk = c.desk.inside.number;
       call = c.desk.inside.next;
@@ -136,7 +138,7 @@ returns-clause-added g c =
       goes_on = e.goes_on.0;
       also_goes_on = e.goes_on.1;
       legal = i.account.legal;
-      ends = ap (λ (v : View). v.seen) e.keeper.1;
+      ends = ap (λ (v : View). v.seen) e.keeper.1 ∙ noted_so;
     })
 
 pub overflow_add-desk : goal.overflow_add-desk
