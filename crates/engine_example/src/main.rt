@@ -33,7 +33,11 @@ impl Device for Tank {
 }
 
 // Links `copy` to `level`, processes `copy`, and returns what it shows then.
-fn work<B: EngineName<Tank>, R: Wait>(rt: &R, alloc: Global, seed: Seed<Tank>) -> Result<Reply, IocError>
+fn work<B: EngineName<Tank>, R: Wait>(
+    rt: &R,
+    alloc: Global,
+    seed: Seed<Tank>,
+) -> Result<Reply, IocError>
     requires named { IsNamedBy B.table B.base B.devices B.places B.tickets seed }
 {
     let engine = Engine::<B, _, _>::start(alloc, seed, CountingClock::new(), Limits::default())?;

@@ -2,7 +2,7 @@
 ghost use Rattle.std.specs.Prelude.{◌≡◌};
 ghost use Rattle.ioc_history.specs.Account.{IsEntryOf};
 
-use ioc_history::{Cell, EngineName, Journal, StoredEntry, Receipt};
+use ioc_history::{Cell, EngineName, Journal, Receipt, StoredEntry};
 use ioc_record::RecordKind;
 use std::marker::Model;
 use std::sync::Wait;

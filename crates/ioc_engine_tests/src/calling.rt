@@ -1,8 +1,8 @@
 //! Calls of a desk, each in a function of its own, so that the contract of one isn't carried along
 //! to the next. The calls of a test are data.
 use ioc_engine::{
-    Channel, Clock, Desk, Device, Engine, EngineName, Finished, Input, IocError, NotifyId, RecordNo,
-    Reply, Value,
+    Channel, Clock, Desk, Device, Engine, EngineName, Finished, Input, IocError, NotifyId,
+    RecordNo, Reply, Value,
 };
 use std::sync::Wait;
 

@@ -188,7 +188,12 @@ fn leads_to(shown: Reply) -> Option<usize> {
             break;
         }
         let digit = usize::from(byte.wrapping_sub(b'0'));
-        record = Some(record.unwrap_or(0usize).wrapping_mul(10).wrapping_add(digit));
+        record = Some(
+            record
+                .unwrap_or(0usize)
+                .wrapping_mul(10)
+                .wrapping_add(digit),
+        );
     }
     record
 }
