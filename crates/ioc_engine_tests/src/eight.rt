@@ -159,7 +159,7 @@ static FIELDS: [(&str, FieldNo); 8] = [
 ];
 
 // Returns whether a record has the same fields in an engine and on one map.
-fn is_shown_alike<B: EngineName, D: Device, C: Clock + Drop, R: Wait>(
+fn is_shown_alike<B: EngineName<D>, D: Device, C: Clock + Drop, R: Wait>(
     rt: &R,
     alloc: Global,
     engine: &Engine<B, D, C>,
@@ -199,7 +199,7 @@ fn leads_to(shown: Reply) -> Option<usize> {
 }
 
 // Returns whether an engine has the parts that a walk over the links of one map finds.
-fn are_parts_alike<B: EngineName, D: Device, C: Clock + Drop, R: Wait>(
+fn are_parts_alike<B: EngineName<D>, D: Device, C: Clock + Drop, R: Wait>(
     rt: &R,
     alloc: Global,
     engine: &Engine<B, D, C>,
@@ -214,7 +214,7 @@ fn are_parts_alike<B: EngineName, D: Device, C: Clock + Drop, R: Wait>(
 }
 
 // Returns whether an engine has the records and the parts of one map.
-fn is_alike<B: EngineName, D: Device, C: Clock + Drop, R: Wait>(
+fn is_alike<B: EngineName<D>, D: Device, C: Clock + Drop, R: Wait>(
     rt: &R,
     alloc: Global,
     engine: &Engine<B, D, C>,
