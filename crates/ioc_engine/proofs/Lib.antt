@@ -4,3 +4,7 @@ mod Bindings
 mod Copied
 mod GivingBack
 mod Numbers
+mod TypesKept
+mod TypeRefusals
+mod LoadedTypes
+mod LinkRefusals

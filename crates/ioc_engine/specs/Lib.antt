@@ -4,3 +4,5 @@ pub mod Numbers
 pub mod Relinking
 pub mod Binding
 pub mod Stopped
+pub mod Types
+pub mod Refusals

@@ -1,6 +1,6 @@
 -- Link changes by text. Application Developer's Guide, "Database Links", and a put to a link field
 -- (dbPutField).
-use Rattle.std.specs.Prelude.{ℕ, ◌≡◌, ◌⊎◌, List, Option, Some, None, slice_get}
+use Rattle.std.specs.Prelude.{ℕ, ◌≡◌, ◌⊎◌, List, Option, Some, None, IsSome, slice_get}
 use Rattle.std.specs.Option.{option_and_then}
 use Rattle.ioc_values.specs.declared.error.IocError.{IocError}
 use Rattle.ioc_values.specs.declared.error.IocError.TheVariants.{NoField, NoRecord, BadLink}
@@ -36,7 +36,7 @@ pub record IsTextOf (types : List RecordType) (c : Channel) (text : List ℕ) (l
 -- record, the field is no link, or the text isn't one that the field can hold.
 abbrev pub IsBadText : List RecordType → Channel → List ℕ → IocError → Type 0
 IsBadText types c text error =
-    ((error ≡ NoRecord) × (slice_get types c.number ≡ None)) ⊎ (((error ≡ NoField) × (kind_at types c ≡ None)) ⊎ ((error ≡ BadLink) × (kind : LinkKind) × (kind_at types c ≡ Some kind) × (link_of kind text ≡ None)))
+    ((error ≡ NoRecord) × (slice_get types c.number ≡ None)) ⊎ (((error ≡ NoField) × IsSome (slice_get types c.number) × (kind_at types c ≡ None)) ⊎ ((error ≡ BadLink) × (kind : LinkKind) × (kind_at types c ≡ Some kind) × (link_of kind text ≡ None)))
 
 -- The value of a link field with this link, which leads where the names, types and owners of the
 -- load say.

@@ -14,6 +14,8 @@ ghost use Rattle.ioc_journaled_set.specs.Puts.{HaveEnded};
 ghost use Rattle.ioc_engine_core.specs.Served.{WasServed, WasTold, CallIsRefused};
 ghost use Rattle.ioc_engine.specs.Channels.{channel_of};
 ghost use Rattle.ioc_engine.specs.Named.{IsNamedBy};
+ghost use Rattle.ioc_engine.specs.Types.{AreTypesOf};
+ghost use Rattle.ioc_engine.specs.Refusals.{HasField, CanBePut, IsGetError, IsPutError, IsOfEngine};
 
 use crate::Receipt;
 use crate::channel::Channel;
@@ -22,6 +24,7 @@ use crate::desk::Desk;
 use crate::engine_name::EngineName;
 use crate::lookup::Lookup;
 use crate::seed::Seed;
+use crate::type_laws::types_stay;
 use ioc_device::Device;
 use ioc_engine_core::{EngineCore, StartError, start};
 use ioc_events::{Event, Reply};
@@ -67,6 +70,7 @@ impl<B: EngineName<D>, D: Device, C: Drop> Engine<B, D, C> {
         requires named { IsNamedBy B.table B.base B.devices B.places B.tickets seed }
         ensures records { IfOk result (λ e. e.core ≡ length seed.records.items) }
         ensures names { IfOk result (λ e. e.lookup ≡ seed.lookup) }
+        ensures types { IfOk result (λ e. AreTypesOf B.base e.core e.lookup.types.items) }
         ensures limits { OnOk result (AreAllowed limits) }
         ensures refused { IfErr result (λ error. ((error ≡ BadValue) × (AreAllowed limits → ⊥)) ⊎ (error ≡ NoMemory)) }
     {
@@ -136,14 +140,17 @@ impl<B: EngineName<D>, D: Device, C: Drop> Engine<B, D, C> {
     }
 
     /// Returns the channel of a text `RECORD.FIELD`, or `RECORD` for its field VAL. It takes no
-    /// lock.
+    /// lock. The record's type has the field, and no event changes the type of a record, so a get
+    /// or a put of this engine with the channel gives neither of the errors below.
     ///
     /// # Errors
     ///
     /// [`IocError::NoRecord`] or [`IocError::NoField`], in this order, if there is no such record
     /// or field.
     pub fn channel(&self, text: &[u8]) -> Result<Channel, IocError>
-        ensures { result ≡ channel_of self.now.lookup.names self.now.lookup.types.items text.now }
+        ensures channel { result ≡ channel_of self.now.lookup.names self.now.lookup.types.items text.now }
+        ensures known { AreTypesOf B.base self.now.core self.now.lookup.types.items
+            → IfOk result (IsOfEngine B.base self.now.core) }
     {
         self.lookup.channel(text)
     }
@@ -271,8 +278,11 @@ impl<B: EngineName<D>, D: Device, C: Clock + Drop> Engine<B, D, C> {
             desk.new.buffers.ended_everywhere.items) }
         ensures refused { IfErr result (CallIsRefused D record_rules B.base self.now.core channel.number
             (Put channel.number channel.field given)) }
+        ensures refused_by_type { IfErr result (IsPutError B.base channel) }
+        ensures can_be_put { OnOk result (CanBePut B.base channel) }
         ensures err { OnErr result (desk.new.account ≡ desk.old.account) }
     {
+        types_stay::<Record>();
         let number = channel.record();
         let event = Event::Put(number, channel.field, given);
         self.serve(rt, desk, number, &event, self.clock.now())
@@ -323,8 +333,11 @@ impl<B: EngineName<D>, D: Device, C: Clock + Drop> Engine<B, D, C> {
         ensures ended { desk.new.buffers.ended_everywhere.items ≡ [] }
         ensures refused { IfErr result (CallIsRefused D record_rules B.base self.now.core channel.number
             (Get channel.number channel.field)) }
+        ensures refused_by_type { IfErr result (IsGetError B.base channel) }
+        ensures has_field { OnOk result (HasField B.base channel) }
         ensures err { OnErr result (desk.new.account ≡ desk.old.account) }
     {
+        types_stay::<Record>();
         desk.buffers.ended_everywhere.clear();
         let moment = self.clock.now();
         self.core.get(

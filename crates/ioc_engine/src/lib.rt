@@ -28,6 +28,7 @@ pub mod numbered;
 mod parts;
 pub mod report;
 pub mod seed;
+pub mod type_laws;
 
 pub use channel::Channel;
 pub use clock::{Clock, CountingClock, FixedClock, SystemClock};

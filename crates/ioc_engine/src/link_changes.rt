@@ -7,6 +7,8 @@ ghost use Rattle.ioc_dbfile.specs.OwnerTable.{owner_in};
 ghost use Rattle.ioc_set_store.specs.SetStore.{world_of};
 ghost use Rattle.ioc_engine_core.specs.Linked.{WasLinked, LinkWasRefused};
 ghost use Rattle.ioc_engine.specs.Relinking.{link_kind_in, IsTextOf, IsBadText, field_of_link};
+ghost use Rattle.ioc_engine.specs.Types.{AreTypesOf};
+ghost use Rattle.ioc_engine.specs.Refusals.{IsLinkField, IsLinkError};
 
 use crate::Receipt;
 use crate::channel::Channel;
@@ -15,6 +17,7 @@ use crate::desk::Desk;
 use crate::engine::Engine;
 use crate::engine_name::EngineName;
 use crate::lookup::Lookup;
+use crate::type_laws::types_stay;
 use ioc_dbcommon::{LinkBox, LinkField};
 use ioc_device::Device;
 use ioc_events::Reply;
@@ -22,6 +25,7 @@ use ioc_fields::{FieldKind, kind_of};
 use ioc_journaled_set::Changed;
 use ioc_links::{Link, LinkKind, parse};
 use ioc_values::IocError;
+use rec_types::Record;
 use std::sync::Wait;
 
 // Returns the kind of links that a field can hold, if it is a link field.
@@ -90,8 +94,13 @@ impl<B: EngineName<D>, D: Device, C: Clock + Drop> Engine<B, D, C> {
             × LinkWasRefused D record_rules B.base self.now.core channel.number channel.field
             (field_of_link self.now.lookup.names self.now.lookup.types.items (owner_in self.now.lookup.owners) channel.number link)
             error)))) }
+        ensures refused_by_type { AreTypesOf B.base self.now.core self.now.lookup.types.items
+            → IfErr result (IsLinkError B.base channel) }
+        ensures is_link { AreTypesOf B.base self.now.core self.now.lookup.types.items
+            → OnOk result (IsLinkField B.base channel) }
         ensures err { OnErr result (desk.new.account ≡ desk.old.account) }
     {
+        types_stay::<Record>();
         desk.buffers.ended_everywhere.clear();
         if self.is_closed() {
             return Err(IocError::Stopped);

@@ -8,6 +8,7 @@ ghost use Rattle.ioc_journaled_set.specs.Puts.{PutsView, WasAsked, NoneMayBegin,
 ghost use Rattle.ioc_set_store.specs.SetStore.{world_of};
 ghost use Rattle.ioc_engine_core.specs.Served.{WasBegun, CallIsRefused};
 ghost use Rattle.ioc_engine_core.specs.Cancelled.{WasCancelled};
+ghost use Rattle.ioc_engine.specs.Refusals.{CanBePut, IsPutError};
 
 use crate::Receipt;
 use crate::channel::Channel;
@@ -15,10 +16,12 @@ use crate::clock::Clock;
 use crate::desk::Desk;
 use crate::engine::Engine;
 use crate::engine_name::EngineName;
+use crate::type_laws::types_stay;
 use ioc_device::Device;
 use ioc_events::Reply;
 use ioc_notify::NotifyId;
 use ioc_values::{Input, IocError};
+use rec_types::Record;
 use std::sync::Wait;
 
 impl<B: EngineName<D>, D: Device, C: Clock + Drop> Engine<B, D, C> {
@@ -45,8 +48,11 @@ impl<B: EngineName<D>, D: Device, C: Clock + Drop> Engine<B, D, C> {
             desk.new.buffers.ended_everywhere.items) }
         ensures refused { IfErr result (λ error. ((error ≡ QueueFull) × NoneMayBegin record_rules B.base)
             ⊎ CallIsRefused D record_rules B.base self.now.core channel.number (Put channel.number channel.field given) error) }
+        ensures refused_by_type { IfErr result (IsPutError B.base channel) }
+        ensures can_be_put { OnOk result (CanBePut B.base channel) }
         ensures err { OnErr result (desk.new.account ≡ desk.old.account) }
     {
+        types_stay::<Record>();
         desk.buffers.ended_everywhere.clear();
         let alloc = desk.alloc;
         let moment = self.clock.now();

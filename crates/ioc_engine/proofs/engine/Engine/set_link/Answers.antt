@@ -7,6 +7,7 @@ use Rattle.ioc_dbfile.specs.OwnerTable.{owner_in}
 use Rattle.rec_types.specs.Record.{record_rules}
 use Rattle.ioc_engine_core.specs.Linked.{LinkWasRefused}
 use Rattle.ioc_engine.specs.Relinking.{field_of_link}
+use Rattle.ioc_engine.proofs.LinkRefusals.{link-there, refused-text, refused-link}
 use Rattle.ioc_engine.proofs.engine.Engine.set_link.Goals as goal
 
 pub returns-in_err-reply-clause-refused : goal.returns-in_err-reply-clause-refused
@@ -25,3 +26,20 @@ returns-in_err-reply-clause-refused g c =
       subst (λ (l : LinkField). LinkWasRefused g.row.D.Denot record_rules g.B.EngineName-2.base c.args.self.now.core c.args.channel.number c.args.channel.field l c.in_err-reply.field-0.0) kept
           (subst (λ (n : ℕ). LinkWasRefused g.row.D.Denot record_rules g.B.EngineName-2.base c.args.self.now.core n c.args.channel.field c.in-Ok.kept c.in_err-reply.field-0.0) c.record-number.ensures refused),
     ))))
+
+pub returns-in_err-link-clause-refused_by_type : goal.returns-in_err-link-clause-refused_by_type
+returns-in_err-link-clause-refused_by_type g c types =
+    let p = err_from_is_err_and c.from_residual.result c.from_residual.ensures.1 in
+    let self = c.args.self.now in
+    rw (p.1, p.2) (refused-text g.B.EngineName-2.base c.args.channel self.core self.lookup.types.items types c.args.text.now _ c.in_err-link.ensures.refused)
+
+pub returns-in_err-reply-clause-refused_by_type : goal.returns-in_err-reply-clause-refused_by_type
+returns-in_err-reply-clause-refused_by_type g c types =
+    let p = err_from_is_err_and c.from_residual-in_err-reply.result c.from_residual-in_err-reply.ensures.1 in
+    rw (p.1, p.2) (refused-link g.B.EngineName-2.base c.args.channel c.types_stay.ensures.held c.record-number.result c.record-number.ensures c.args.self.now.core c.in-Ok.kept _ c.in_err-reply.ensures.refused)
+
+pub returns-clause-is_link : goal.returns-clause-is_link
+returns-clause-is_link g c types =
+    let self = c.args.self.now in
+    let text = c.in_ok-link.ensures.link in
+    link-there g.B.EngineName-2.base c.args.channel self.core self.lookup.types.items types text.kind text.field

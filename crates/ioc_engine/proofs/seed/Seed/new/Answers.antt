@@ -1,6 +1,6 @@
-use Rattle.std.proofs.Common.{rules, ◌≡◌, List, length, sym, ap, ◌∙◌}
+use Rattle.std.proofs.Common.{rules, ◌≡◌, List, map, length, sym, ap, ◌∙◌}
 use Rattle.std.proofs.lemmas.List.{length-map}
-use Rattle.rec_types.specs.Record.{Record}
+use Rattle.rec_types.specs.Record.{Record, record_rules}
 use Rattle.ioc_dbfile.specs.OwnerTable.{owner_in}
 use Rattle.ioc_set_records.specs.declared.loaded.Loaded.{Loaded}
 use Rattle.ioc_engine.specs.Binding.{device_of}
@@ -19,6 +19,7 @@ invariant_of-result g c =
       copies = c.in_ok-loaded.ensures.copies;
       idle = idle_in c.args.database.records.items c.in_ok-loaded.loaded.items same c.args.database.idle;
       closed = closed_in c.args.database.records.items c.in_ok-loaded.loaded.items same c.args.database.closed;
+      types = c.in_ok-lookup.ensures.types ∙ ap (λ (rs : List Record). map record_rules.record_type rs) (c.as_slice.ensures.value ∙ sym same);
     }
 
 pub returns-clause-devices : goal.returns-clause-devices

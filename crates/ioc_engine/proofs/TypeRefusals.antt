@@ -1,0 +1,132 @@
+-- What the refusals and the replies of calls tell of the types of records.
+use Rattle.std.proofs.Common.{◌≡◌, ◌≢◌, ◌⊎◌, ℕ, Bool, true, false, cond, List, Option, Some, None, Result, Ok, Err, refl, sym, ap, subst, ◌∙◌, inl, inr}
+use Rattle.std.specs.Prelude.{Contains, IfOk, IfErr, is_some}
+use Rattle.std.specs.Option.{option_map_or}
+use Rattle.std.specs.FinMap.{get, keys, contains_key, contains_key-keys}
+use Rattle.std.specs.Ordering.{nat_cmp}
+use Rattle.std.proofs.lemmas.Cmp.{eq_by_cmp_equiv, nat_cmp_total}
+use Rattle.std.proofs.lemmas.Map.Views.{list_any-from_Contains}
+use Rattle.ioc_values.specs.declared.error.IocError.{IocError}
+use Rattle.ioc_values.specs.declared.error.IocError.TheVariants.{NoField, NoMod, NoRecord, NoMemory, JournalFull, Stopped}
+use Rattle.ioc_values.specs.declared.input.Input.{Input}
+use Rattle.ioc_device.specs.declared.Ask.{Ask}
+use Rattle.ioc_device.specs.declared.Answer.{Answer}
+use Rattle.ioc_fields.specs.declared.record_type.RecordType.{RecordType}
+use Rattle.ioc_fields.specs.declared.row.Row.{Row}
+use Rattle.ioc_fields.specs.Table.{row_of}
+use Rattle.ioc_record.specs.Values.{kind_to_put, kind_to_put_by}
+use Rattle.rec_types.specs.Record.{Record, record_rules}
+use Rattle.ioc_store.specs.World.{World, at}
+use Rattle.ioc_events.specs.declared.reply.Reply.{Reply}
+use Rattle.ioc_events.specs.declared.event.Event.TheVariants.{Get, Put, Notify}
+use Rattle.ioc_set.specs.SetState.{now_of}
+use Rattle.ioc_set.specs.NoCalls.{no_call, why_not_shown, why_not_put}
+use Rattle.ioc_journaled_set.specs.Holding.{HeldView, numbers_of, IsSoundlyHeld}
+use Rattle.ioc_history.specs.Account.{DeskView}
+use Rattle.ioc_engine_core.specs.Served.{CallIsRefused, WasTold, WasServed, WasBegun}
+use Rattle.ioc_engine.specs.declared.channel.Channel.{Channel}
+use Rattle.ioc_engine.specs.Types.{type_at, HeldKeepTypes}
+use Rattle.ioc_engine.specs.Refusals.{type_of, HasField, CanBePut, IsGetError, IsPutError}
+
+-- What follows from a result, and from an error.
+pub ok_then : {A E : Type 0} (P Q : A → Type 0) (r : Result A E) → ((x : A) → P x → Q x) → IfOk r P → IfOk r Q
+ok_then P Q (Ok x) then is = then x is
+ok_then P Q (Err e) then is = is
+
+pub err_then : {A E : Type 0} (P Q : E → Type 0) (r : Result A E) → ((e : E) → P e → Q e) → IfErr r P → IfErr r Q
+err_then P Q (Ok x) then is = is
+err_then P Q (Err e) then is = then e is
+
+-- Why a field isn't shown or put, by its row.
+shown_row : (row : Option Row) (error : IocError) → why_not_shown row ≡ Some error → (row ≡ None) × (error ≡ NoField)
+shown_row None error is = (refl, cc)
+shown_row (Some row) error is = cc
+
+shown_there : (row : Option Row) → why_not_shown row ≡ None → is_some row ≡ true
+shown_there None is = cc
+shown_there (Some row) is = refl
+
+abbrev puts_row : Option Row → Bool
+puts_row row = option_map_or (λ r. r.can_put) row false
+
+put_row : (row : Option Row) (error : IocError) → why_not_put (kind_to_put_by row) ≡ Some error → ((error ≡ NoField) × (is_some row ≡ false)) ⊎ ((error ≡ NoMod) × (is_some row ≡ true) × (puts_row row ≡ false))
+put_row None error is = inl (cc, refl)
+put_row (Some row) error is = elim row.can_put as (λ b. row.can_put ≡ b → why_not_put (cond b (Ok row.kind) (Err NoMod)) ≡ Some error
+    → ((error ≡ NoField) × (true ≡ false)) ⊎ ((error ≡ NoMod) × (true ≡ true) × (row.can_put ≡ false))) [
+      | true ↦ λ can why. cc
+      | false ↦ λ cannot why. inr (cc, refl, cannot)
+    ] refl is
+
+put_there : (row : Option Row) → why_not_put (kind_to_put_by row) ≡ None → puts_row row ≡ true
+put_there None is = cc
+put_there (Some row) is = elim row.can_put as (λ b. row.can_put ≡ b → why_not_put (cond b (Ok row.kind) (Err NoMod)) ≡ None → row.can_put ≡ true) [
+  | true ↦ λ can why. can
+  | false ↦ λ cannot why. cc
+] refl is
+
+module _ (base : World Record) (c : Channel) where
+  agrees-get : (error : IocError) → why_not_shown (row_of (type_of base c) c.field) ≡ Some error → IsGetError base c error
+  agrees-get error is =
+      let p = shown_row (row_of (type_of base c) c.field) error is in
+      subst (IsGetError base c) (sym p.1) (λ has. let e = ap is_some p.0 in cc)
+
+  agrees-put : (error : IocError) → why_not_put (kind_to_put (type_of base c) c.field) ≡ Some error → IsPutError base c error
+  unfolding kind_to_put
+  agrees-put error is = elim (put_row (row_of (type_of base c) c.field) error is) [
+    | inl lacks ↦ subst (IsPutError base c) (sym lacks.0) (λ has. let e = lacks.1 in cc)
+    | inr cannot ↦ subst (IsPutError base c) (sym cannot.0) (cannot.1, λ can. let e = cannot.2 in cc)
+  ]
+
+  can-put : why_not_put (kind_to_put (type_of base c) c.field) ≡ None → CanBePut base c
+  unfolding kind_to_put
+  can-put is = put_there (row_of (type_of base c) c.field) is
+
+  -- A call on the record with this number, which is that of the channel.
+  module _ {D : Type 0} (keep : HeldKeepTypes record_rules) (n : ℕ) (same : n ≡ c.number) where
+    -- The record has the type that it had at the load.
+    pub held-type : (held : HeldView Record D) → Contains (numbers_of held) n → IsSoundlyHeld record_rules base held → type_at record_rules (now_of held.set) n ≡ type_of base c
+    held-type held here sound =
+        keep base (now_of held.set) held.seen sound.holds n (contains_key-keys held.set.records n ∙ list_any-from_Contains (eq_by_cmp_equiv nat_cmp_total) n (keys held.set.records) here)
+        ∙ ap (λ (m : ℕ). type_at record_rules base m) same
+
+    get-why : (held : HeldView Record D) → Contains (numbers_of held) n → IsSoundlyHeld record_rules base held
+        → no_call record_rules (now_of held.set) (Get n c.field) ≡ why_not_shown (row_of (type_of base c) c.field)
+    unfolding no_call
+    get-why held here sound = ap (λ (t : RecordType). why_not_shown (row_of t c.field)) (held-type held here sound)
+
+    put-why : (held : HeldView Record D) → Contains (numbers_of held) n → IsSoundlyHeld record_rules base held → (given : Input)
+        → no_call record_rules (now_of held.set) (Put n c.field given) ≡ why_not_put (kind_to_put (type_of base c) c.field)
+    unfolding no_call
+    put-why held here sound given = ap (λ (t : RecordType). why_not_put (kind_to_put t c.field)) (held-type held here sound)
+
+    notify-why : (held : HeldView Record D) → Contains (numbers_of held) n → IsSoundlyHeld record_rules base held → (number : ℕ) (given : Input)
+        → no_call record_rules (now_of held.set) (Notify n number c.field given) ≡ why_not_put (kind_to_put (type_of base c) c.field)
+    unfolding no_call
+    notify-why held here sound number given = ap (λ (t : RecordType). why_not_put (kind_to_put t c.field)) (held-type held here sound)
+
+    -- A call that was answered had a field of the record's type.
+    pub told-has : {desk desk_then : DeskView} {at_moment : ℕ} {reply : Reply} → WasTold D record_rules base n desk at_moment (Get n c.field) reply desk_then → HasField base c
+    told-has was = shown_there (row_of (type_of base c) c.field) (sym (get-why was.held was.here was.before) ∙ was.tells.is_call)
+
+    pub served-can : {gives : D → Ask → ℕ → Answer → D → Type 0} {desk desk_then : DeskView} {at_moment : ℕ} {given : Input} {reply : Reply} {come_to : World Record}
+        → WasServed D record_rules base gives n desk at_moment (Put n c.field given) reply desk_then come_to → CanBePut base c
+    served-can {gives} {desk} {desk_then} {at_moment} {given} was = can-put (sym (put-why was.held was.here was.before given) ∙ was.serves.is_call)
+
+    pub begun-can : {gives : D → Ask → ℕ → Answer → D → Type 0} {desk desk_then : DeskView} {at_moment : ℕ} {given : Input} {reply : Reply} {come_to : World Record}
+        → WasBegun D record_rules base gives n desk at_moment c.field given reply desk_then come_to → CanBePut base c
+    begun-can {gives} {desk} {desk_then} {at_moment} {given} was = can-put (sym (notify-why was.held was.here was.before was.begins.number given) ∙ was.begins.serves.is_call)
+
+    -- The error of a get that was refused, and that of a put.
+    pub refused-get : (count : ℕ) (error : IocError) → CallIsRefused D record_rules base count n (Get n c.field) error → IsGetError base c error
+    refused-get count error (inl e) = subst (IsGetError base c) (sym e) tt
+    refused-get count error (inr (inl (inl e))) = subst (IsGetError base c) (sym e) tt
+    refused-get count error (inr (inl (inr e))) = subst (IsGetError base c) (sym e) tt
+    refused-get count error (inr (inr (inl e))) = subst (IsGetError base c) (sym e.0) tt
+    refused-get count error (inr (inr (inr vain))) = agrees-get error (sym (get-why vain.held vain.here vain.sound) ∙ vain.none)
+
+    pub refused-put : (count : ℕ) (error : IocError) {given : Input} → CallIsRefused D record_rules base count n (Put n c.field given) error → IsPutError base c error
+    refused-put count error (inl e) = subst (IsPutError base c) (sym e) tt
+    refused-put count error (inr (inl (inl e))) = subst (IsPutError base c) (sym e) tt
+    refused-put count error (inr (inl (inr e))) = subst (IsPutError base c) (sym e) tt
+    refused-put count error (inr (inr (inl e))) = subst (IsPutError base c) (sym e.0) tt
+    refused-put count error {given} (inr (inr (inr vain))) = agrees-put error (sym (put-why vain.held vain.here vain.sound given) ∙ vain.none)
