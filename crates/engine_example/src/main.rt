@@ -4,8 +4,8 @@
 ghost use Rattle.ioc_engine.specs.Named.{IsNamedBy};
 
 use ioc_engine::{
-    Answer, CountingClock, Device, DeviceName, Engine, EngineName, FieldText, Input, IocError,
-    Limits, Macros, Reply, Seed, Value, load,
+    Answer, CountingClock, Device, DeviceName, Engine, EngineName, FieldText, IocError, Limits,
+    Macros, Reply, Seed, Value, load,
 };
 use std::alloc::Global;
 use std::io;
@@ -13,10 +13,8 @@ use std::marker::Brand;
 use std::sync::Wait;
 
 const TEXT: &[u8] = b"record(longin,\"level\"){field(INP,\"@tank\") field(HIGH,10) field(HSV,MINOR)}
-record(longin,\"copy\"){}
-";
+record(longin,\"copy\"){}";
 
-/// A tank with this level.
 #[derive(Drop)]
 struct Tank(i32);
 
@@ -32,7 +30,6 @@ impl Device for Tank {
     }
 }
 
-// Links `copy` to `level`, processes `copy`, and returns what it shows then.
 fn work<B: EngineName<Tank>, R: Wait>(
     rt: &R,
     alloc: Global,
@@ -49,8 +46,7 @@ fn work<B: EngineName<Tank>, R: Wait>(
 }
 
 fn run<R: Wait>(rt: &R, alloc: Global) -> Result<bool, IocError> {
-    let mut devices = Vec::new(alloc);
-    devices.push((DeviceName::cut(b"tank"), Tank(12)))?;
+    let devices = vec![in alloc; (DeviceName::cut(b"tank"), Tank(12))]?;
     let seed = Seed::new(alloc, load(alloc, TEXT, &Macros::new(alloc))?, devices)?;
     Ok(work::<Brand, _>(rt, alloc, seed)? == Reply::Shown(FieldText::cut(b"MINOR")))
 }
