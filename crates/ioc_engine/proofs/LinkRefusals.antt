@@ -1,13 +1,11 @@
 -- What the refusals and the replies of link changes tell of the types of records.
-use Rattle.std.proofs.Common.{◌≡◌, ◌≢◌, ◌⊎◌, ℕ, Bool, true, false, List, Option, Some, None, refl, sym, ap, subst, ◌∙◌, inl, inr}
-use Rattle.std.specs.Prelude.{Contains, is_some, slice_get, unwrap_or}
+use Rattle.std.proofs.Common.{◌≡◌, ℕ, true, false, List, Option, Some, None, refl, sym, subst, ◌∙◌, inl, inr}
+use Rattle.std.specs.Prelude.{is_some, slice_get, unwrap_or}
 use Rattle.std.specs.Option.{option_and_then}
-use Rattle.std.specs.FinMap.{get, keys, contains_key, contains_key-keys}
-use Rattle.std.specs.Ordering.{nat_cmp}
+use Rattle.std.specs.FinMap.{get, keys, contains_key-keys}
 use Rattle.std.proofs.lemmas.Cmp.{eq_by_cmp_equiv, nat_cmp_total}
 use Rattle.std.proofs.lemmas.Map.Views.{list_any-from_Contains}
 use Rattle.ioc_values.specs.declared.error.IocError.{IocError}
-use Rattle.ioc_values.specs.declared.error.IocError.TheVariants.{NoField, NoMod, NoRecord, NoMemory, BadLink, JournalFull, Stopped}
 use Rattle.ioc_links.specs.declared.link.LinkKind.{LinkKind}
 use Rattle.ioc_fields.specs.declared.record_type.RecordType.{RecordType}
 use Rattle.ioc_fields.specs.declared.field_kind.FieldKind.{FieldKind}
@@ -16,14 +14,11 @@ use Rattle.ioc_fields.specs.Table.{kind_of, is_link, is_link_kind}
 use Rattle.ioc_dbcommon.specs.declared.link_field.LinkField.{LinkField}
 use Rattle.rec_types.specs.Record.{Record, record_rules}
 use Rattle.rec_types.specs.RecordLaws.{record_lawful}
-use Rattle.ioc_set_records.specs.Joined.{HasLink}
 use Rattle.ioc_store.specs.World.{World, at}
-use Rattle.ioc_set.specs.SetState.{now_of}
-use Rattle.ioc_journaled_set.specs.Holding.{HeldView, numbers_of, IsSoundlyHeld}
 use Rattle.ioc_engine_core.specs.Linked.{IsNoLink, LinkWasRefused}
 use Rattle.ioc_engine.specs.declared.channel.Channel.{Channel}
 use Rattle.ioc_engine.specs.Relinking.{link_kind_in, kind_at, IsBadText}
-use Rattle.ioc_engine.specs.Types.{type_at, HeldKeepTypes, AreTypesOf}
+use Rattle.ioc_engine.specs.Types.{HeldKeepTypes, AreTypesOf}
 use Rattle.ioc_engine.specs.Refusals.{type_of, IsLinkField, IsLinkError}
 use Rattle.ioc_engine.proofs.TypeRefusals.{held-type}
 

@@ -1,14 +1,13 @@
 -- The types of the loaded records, and the channels that they have.
-use Rattle.std.proofs.Common.{◌≡◌, ◌<◌, ℕ, zero, suc, Bool, true, false, cond, ◌&&◌, List, [], ◌∷◌, length, map, Option, Some, None, Result, Ok, Err, refl, sym, ap, subst, ◌∙◌}
-use Rattle.std.specs.Prelude.{IfOk, is_some, slice_get, find, bytes_eq}
-use Rattle.std.specs.FinMap.{get}
+use Rattle.std.proofs.Common.{◌≡◌, ◌<◌, ℕ, zero, suc, Bool, true, false, cond, ◌&&◌, List, [], ◌∷◌, length, map, Option, Some, None, Result, refl, sym, ap, subst, ◌∙◌}
+use Rattle.std.specs.Prelude.{IfOk, is_some, slice_get, find}
 use Rattle.std.proofs.lemmas.List.{length-map}
 use Rattle.std.proofs.lemmas.Option.{slice_get_within}
 use Rattle.ioc_values.specs.declared.error.IocError.{IocError}
 use Rattle.ioc_names.specs.NameTable.{NameTable, number_of}
 use Rattle.ioc_fields.specs.declared.record_type.RecordType.{RecordType}
 use Rattle.ioc_fields.specs.declared.field_no.FieldNo.{FieldNo}
-use Rattle.ioc_fields.specs.Names.{name_of, all_fields, field_of}
+use Rattle.ioc_fields.specs.Names.{all_fields, field_of}
 use Rattle.ioc_fields.specs.Table.{row_of}
 use Rattle.ioc_set_records.specs.declared.loaded.Loaded.{Loaded}
 use Rattle.rec_types.specs.Record.{Record, record_rules}
@@ -18,7 +17,7 @@ use Rattle.ioc_engine_core.specs.Loading.{loaded_world}
 use Rattle.ioc_dblex.specs.Macros.{front_of, back_of}
 use Rattle.ioc_engine.specs.declared.channel.Channel.{Channel}
 use Rattle.ioc_engine.specs.Channels.{field_name, channel_at, channel_in, channel_by, channel_of}
-use Rattle.ioc_engine.specs.Types.{type_at, AreTypesOf}
+use Rattle.ioc_engine.specs.Types.{AreTypesOf}
 use Rattle.ioc_engine.specs.Refusals.{IsOfEngine}
 
 mapped_at : (rs : List Record) (n : ℕ) (type : RecordType) → slice_get (map record_rules.record_type rs) n ≡ Some type → (r : Record) × (slice_get rs n ≡ Some r) × (record_rules.record_type r ≡ type)

@@ -1,13 +1,12 @@
 -- What the refusals and the replies of calls tell of the types of records.
-use Rattle.std.proofs.Common.{◌≡◌, ◌≢◌, ◌⊎◌, ℕ, Bool, true, false, cond, List, Option, Some, None, Result, Ok, Err, refl, sym, ap, subst, ◌∙◌, inl, inr}
+use Rattle.std.proofs.Common.{◌≡◌, ◌⊎◌, ℕ, Bool, true, false, cond, Option, Some, None, Result, Ok, Err, refl, sym, ap, subst, ◌∙◌, inl, inr}
 use Rattle.std.specs.Prelude.{Contains, IfOk, IfErr, is_some}
 use Rattle.std.specs.Option.{option_map_or}
-use Rattle.std.specs.FinMap.{get, keys, contains_key, contains_key-keys}
-use Rattle.std.specs.Ordering.{nat_cmp}
+use Rattle.std.specs.FinMap.{keys, contains_key-keys}
 use Rattle.std.proofs.lemmas.Cmp.{eq_by_cmp_equiv, nat_cmp_total}
 use Rattle.std.proofs.lemmas.Map.Views.{list_any-from_Contains}
 use Rattle.ioc_values.specs.declared.error.IocError.{IocError}
-use Rattle.ioc_values.specs.declared.error.IocError.TheVariants.{NoField, NoMod, NoRecord, NoMemory, JournalFull, Stopped}
+use Rattle.ioc_values.specs.declared.error.IocError.TheVariants.{NoField, NoMod}
 use Rattle.ioc_values.specs.declared.input.Input.{Input}
 use Rattle.ioc_device.specs.declared.Ask.{Ask}
 use Rattle.ioc_device.specs.declared.Answer.{Answer}
@@ -16,7 +15,7 @@ use Rattle.ioc_fields.specs.declared.row.Row.{Row}
 use Rattle.ioc_fields.specs.Table.{row_of}
 use Rattle.ioc_record.specs.Values.{kind_to_put, kind_to_put_by}
 use Rattle.rec_types.specs.Record.{Record, record_rules}
-use Rattle.ioc_store.specs.World.{World, at}
+use Rattle.ioc_store.specs.World.{World}
 use Rattle.ioc_events.specs.declared.reply.Reply.{Reply}
 use Rattle.ioc_events.specs.declared.event.Event.TheVariants.{Get, Put, Notify}
 use Rattle.ioc_set.specs.SetState.{now_of}

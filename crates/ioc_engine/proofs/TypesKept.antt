@@ -1,29 +1,26 @@
 -- No event changes the type of a record.
-use Rattle.std.proofs.Common.{◌≡◌, ◌≢◌, ℕ, true, false, eqb, Ok, IsTrue, Option, Some, None as Nothing_, Bool, refl, ap, sym, subst, ◌∙◌, arith, cond, length, List, [], ◌∷◌, ◌++◌, unwrap_or}
+use Rattle.std.proofs.Common.{◌≡◌, ◌≢◌, ℕ, true, false, eqb, Ok, Option, Some, None as Nothing_, refl, ap, sym, subst, ◌∙◌, arith, cond, length, [], ◌∷◌, ◌++◌, unwrap_or}
 use Rattle.std.specs.Prelude.{nat_lt}
-use Rattle.std.specs.FinMap.{get}
 use Rattle.std.proofs.lemmas.Grind.{common_steps}
 use Rattle.ioc_values.specs.declared.input.Input.{Input}
 use Rattle.ioc_values.specs.declared.value.Finished.{Finished}
-use Rattle.ioc_values.specs.declared.value.Value.{Value}
 use Rattle.ioc_values.specs.declared.error.IocError.{IocError}
 use Rattle.std.specs.Prelude.{Result, Err}
 use Rattle.ioc_fields.specs.declared.field_no.FieldNo.{FieldNo}
 use Rattle.ioc_dbcommon.specs.declared.common.Common.{Common}
-use Rattle.ioc_dbcommon.specs.declared.link_field.LinkField.{LinkField}
 use Rattle.ioc_dbcommon.specs.Steps.{with_put_mark, with_reprocess_mark, with_notification, change_numbered}
 use Rattle.ioc_ledger.specs.Requests.{Requests, more}
 use Rattle.ioc_notify.specs.declared.waiting_lists.Waiting.{Waiting}
 use Rattle.ioc_record.specs.RecordRules.{RecordRules}
 use Rattle.ioc_record.specs.Laws.{IsLawful}
 use Rattle.ioc_record.specs.Values.{put_field, put_untested, put_tested, put_once_tested, converted_for}
-use Rattle.ioc_store.specs.World.{World, Has, at, common_at, put, changed, begun, begun_at, called, sent, lost, taken_on, let_go, admitted, queued, unqueued, cancelled}
+use Rattle.ioc_store.specs.World.{World, at, put, changed, begun, begun_at, called, sent, lost, taken_on, let_go, admitted, queued, unqueued, cancelled}
 use Rattle.ioc_store.specs.declared.call.Call.{Call}
 use Rattle.ioc_store.specs.declared.outbox.OutboxItem.{OutboxItem}
 use Rattle.ioc_store.specs.Given.{Answers, listed}
 use Rattle.ioc_store.specs.Worlds.{at-put_same, at-put_other}
 use Rattle.ioc_store.specs.StepFrames.{stored_with}
-use Rattle.ioc_store.specs.Scanning.{device_of, moved, rescanned, rewired}
+use Rattle.ioc_store.specs.Scanning.{device_of, moved, rescanned}
 use Rattle.ioc_store.specs.ScanLaws.{moved-either, rescanned-either, rewired-either}
 use Rattle.ioc_store.specs.Notifying.{passed_on, notified}
 use Rattle.ioc_store.specs.NotifyLaws.{passed-either, notified-either}
@@ -38,8 +35,7 @@ use Rattle.ioc_events.specs.Starting.{taken_and_stored}
 use Rattle.ioc_events.specs.Step.{stepped}
 use Rattle.ioc_events.specs.StepRules.{Does, Step, by_itself, then_others, Starts, to_be_processed, at_once_told, StartsAll, no_more, next_starts, no_such_record, no_such_field, shows_field, processes_record, refuses_value, stores_alone, stores_while_active, stores_and_processes, not_awaited, completes_at_last, leads_to_no_record, no_link_field, keeps_its_link, takes_link, refuses_notified_value, no_place, waits_its_turn, starts_now, not_live, cancels, tells_if_live}
 use Rattle.ioc_history.specs.declared.entry.Note.{Note}
-use Rattle.ioc_history.specs.Legal.{entry_of, done, map_of}
-use Rattle.ioc_history.specs.Covering.{Holds}
+use Rattle.ioc_history.specs.Legal.{entry_of, done}
 use Rattle.ioc_engine.specs.Types.{type_at, HaveSameTypes, EventsKeepTypes, ListsKeepTypes, HeldKeepTypes}
 
 module _ {R : Type 0} (k : RecordRules R) (lawful : IsLawful k) where
@@ -51,10 +47,12 @@ module _ {R : Type 0} (k : RecordRules R) (lawful : IsLawful k) where
 
   -- Putting a record of the same type keeps the types.
   same-put : (w0 w : World R) (s : ℕ) (r : R) → k.record_type r ≡ type_at k w0 s → HaveSameTypes k w0 w → HaveSameTypes k w0 (put w s r)
-  same-put w0 w s r own same = record { types = λ n. elim (eqb n s) as (λ b. eqb n s ≡ b → type_at k (put w s r) n ≡ type_at k w0 n) [
-    | true ↦ λ is. let e : n ≡ s = grind (arith, common_steps) in rw (type_at, e, at-put_same k w s r) own
-    | false ↦ λ is. let apart : n ≢ s = grind (arith, common_steps) in rw (type_at, at-put_other k w s n r apart) (same.types n)
-  ] refl }
+  same-put w0 w s r own same = record {
+    types = λ n. elim (eqb n s) as (λ b. eqb n s ≡ b → type_at k (put w s r) n ≡ type_at k w0 n) [
+      | true ↦ λ is. let e : n ≡ s = grind (arith, common_steps) in rw (type_at, e, at-put_same k w s r) own
+      | false ↦ λ is. let apart : n ≢ s = grind (arith, common_steps) in rw (type_at, at-put_other k w s n r apart) (same.types n)
+    ] refl;
+  }
 
   same-one : (w : World R) (s : ℕ) (r : R) → k.record_type r ≡ type_at k w s → HaveSameTypes k w (put w s r)
   same-one w s r own = same-put w w s r own (same-all w)
