@@ -187,8 +187,26 @@ fn place_begun(places: &mut PutPlaces, event: &Event, live: &NotificationCounts)
     }
 }
 
+// Returns whether a set's live puts with notification and their counts are the same after an event.
+fn are_same(before: &[Live], after: &[Live]) -> bool
+    ensures { IsTrue result → before.now ≡ after.now }
+{
+    let count = before.len();
+    if after.len() != count {
+        return false;
+    }
+    for i in 0..count {
+        let one = before[i];
+        let other = after[i];
+        if one.number.number() != other.number.number() || one.holders != other.holders {
+            return false;
+        }
+    }
+    true
+}
+
 // Subtracts the counts that a set had before an event from the table, and adds those that it has
-// after it.
+// after it. Most events change no count.
 fn recount(table: &mut NotificationCounts, before: &[Live], after: &[Live])
     requires there { (n : ℕ) → holders_in n before.now ≤ holders_in n table.old.live }
     requires fits { (n : ℕ) → holders_in n table.old.live + holders_in n after.now < 2 ^ 64 + holders_in n before.now }
@@ -199,6 +217,9 @@ fn recount(table: &mut NotificationCounts, before: &[Live], after: &[Live])
         → holders_in n table.new.live + holders_in n before.now ≡ holders_in n table.old.live + holders_in n after.now }
     ensures room { table.new.room ≡ table.old.room }
 {
+    if are_same(before, after) {
+        return;
+    }
     table.take_off(before);
     table.add_on(after);
 }
