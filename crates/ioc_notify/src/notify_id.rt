@@ -3,7 +3,7 @@ ghost use Rattle.std.specs.Prelude.{◌≡◌};
 
 use std::marker::Model;
 
-/// The number of a put with notification: 1, 2, 3 and so on, in the order of the calls.
+/// The number of a put with notification: 1, 2, 3 and so on, in the order in which they are taken.
 #[derive(Clone, Copy, PartialEq, Eq, Debug)]
 pub struct NotifyId {
     number: u64,
