@@ -109,9 +109,10 @@ impl OneThread {
     // Makes a call of the engine, and returns whether the reply is the same, but for the number of
     // a put with notification, which has to be a new one.
     fn replies_alike(&mut self, alloc: Global, kept: Kept) -> Result<bool, IocError> {
-        match (self.answer(alloc, kept.call)?, kept.reply) {
-            (Reply::Notify(here), Reply::Notify(engine)) => Ok(self.keep_number(engine, here)),
-            (here, engine) => Ok(here == engine),
+        let here = self.answer(alloc, kept.call)?;
+        match (number_in(&here), number_in(&kept.reply)) {
+            (Some(own), Some(given)) => Ok(self.keep_number(given, own)),
+            _ => Ok(here == kept.reply),
         }
     }
 
@@ -147,6 +148,14 @@ impl OneThread {
             Call::Cancel(put) => Ok(self.cancel(put)?),
             Call::Complete(_, wait) => Ok(self.complete(number, wait)?),
         }
+    }
+}
+
+// Returns the number of the put with notification that a reply names.
+fn number_in(reply: &Reply) -> Option<NotifyId> {
+    match reply {
+        Reply::Notify(number) => Some(*number),
+        _ => None,
     }
 }
 
