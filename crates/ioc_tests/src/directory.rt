@@ -5,7 +5,7 @@ ghost use Rattle.ioc_tests.specs.declared.numbers.Numbers.{Numbers};
 
 use crate::numbers::Numbers;
 use ioc_names::RecordNo;
-use ioc_topology::{Directory, NewCells, are_lent};
+use ioc_topology::{Directory, NewCells, are_lent, hold_each};
 use ioc_values::IocError;
 use std::alloc::{AllocError, Global};
 use std::sync::Wait;
@@ -272,6 +272,76 @@ fn sets_are_taken_and_put_back(rt: HostRuntime) -> Result<(), Fail> {
     Ok(())
 }
 
+// The number of times that a thread lets others run while it keeps all sets out of their cells.
+const PAUSE: u64 = 1_000;
+
+// Takes all sets out of their cells, keeps them while other threads run, and puts them back.
+// Returns whether they had each record, and whether the other call was answered before that.
+fn all_taken(
+    rt: &impl Wait,
+    alloc: Global,
+    sets: &Directory<Numbers>,
+    inside: &AtomicU64,
+    answered: &AtomicU64,
+) -> Result<(bool, bool), IocError> {
+    let mut marks = Vec::from_elem(alloc, false, sets.len())?;
+    let guard = sets.guard_topology(rt);
+    let taken = sets.take_all(rt, alloc)?;
+    let complete = hold_each(taken.sets.as_slice(), marks.as_mut_slice(), sets.len());
+    inside.store(1, Ordering::SeqCst);
+    for _ in 0..PAUSE {
+        thread::yield_now();
+    }
+    let found = answered.load(Ordering::SeqCst) != 0;
+    sets.put_back(rt, taken);
+    drop(guard);
+    Ok((complete, found))
+}
+
+// Takes all sets and puts them back while another thread does the steps. Returns what `all_taken`
+// does, whether the sets were out before the steps, and the first step with another result.
+fn all_taken_beside<R: Threads + Wait + Sync>(
+    rt: &R,
+    alloc: Global,
+    sets: &Directory<Numbers>,
+    steps: &[Step],
+) -> (Result<(bool, bool), IocError>, bool, Option<usize>) {
+    let inside = AtomicU64::new(0);
+    let answered = AtomicU64::new(0);
+    let (taken, other) = thread::join(
+        rt,
+        || all_taken(rt, alloc, sets, &inside, &answered),
+        || {
+            let began = seen(&inside);
+            let wrong = first_wrong(rt, alloc, sets, steps);
+            answered.store(1, Ordering::SeqCst);
+            (began, wrong)
+        },
+    );
+    (taken, other.0, other.1)
+}
+
+static ALL_BACK: [Step; 5] = [
+    Step::Size(0, Ok(2)),
+    Step::Size(1, Ok(1)),
+    Step::Size(2, Ok(1)),
+    Step::Size(3, Ok(2)),
+    Step::Join(2, 1, Ok(())),
+];
+
+#[test]
+fn all_sets_are_taken_and_put_back(rt: HostRuntime) -> Result<(), Fail> {
+    let sets = singles(rt.alloc(), 4)?;
+    assert_eq!(rt; first_wrong(&rt, rt.alloc(), &sets, &PAIR), None);
+    assert_eq!(rt;
+        all_taken_beside(&rt, rt.alloc(), &sets, &ALL_BACK),
+        (Ok((true, false)), true, None)
+    );
+    // The flag of each set was settled.
+    assert_eq!(rt; taken(&rt, rt.alloc(), &sets, 1)?, (2, true));
+    Ok(())
+}
+
 // Takes sets while the set of a record is locked, with its flag down, and puts them back.
 fn taken_beside(
     rt: &impl Wait,
@@ -373,20 +443,16 @@ fn sizes(sets: &[Numbers]) -> u32 {
 }
 
 // Gathers the sets, and returns their number and their sizes.
-fn gathered(
-    rt: &impl Wait,
-    alloc: Global,
-    sets: &mut Directory<Numbers>,
-) -> Result<(usize, u32), IocError> {
-    let all = sets.gather(rt, alloc)?;
-    Ok((all.len(), sizes(all.as_slice())))
+fn gathered(rt: &impl Wait, alloc: Global, sets: &mut Directory<Numbers>) -> (usize, u32) {
+    let all = sets.gather(rt, alloc);
+    (all.len(), sizes(all.as_slice()))
 }
 
 #[test]
 fn gather_finds_all(rt: HostRuntime) -> Result<(), Fail> {
     let mut sets = singles(rt.alloc(), 4)?;
     assert_eq!(rt; first_wrong(&rt, rt.alloc(), &sets, &CHANGED), None);
-    assert_eq!(rt; gathered(&rt, rt.alloc(), &mut sets)?, (3, 6));
+    assert_eq!(rt; gathered(&rt, rt.alloc(), &mut sets), (3, 6));
     assert_eq!(rt; sets.len(), 0);
     assert_eq!(rt; first_wrong(&rt, rt.alloc(), &sets, &GONE), None);
     Ok(())

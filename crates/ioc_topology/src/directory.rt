@@ -6,6 +6,8 @@ ghost use Rattle.ioc_topology.specs.Change.{IsRefused};
 
 use crate::free_cells::FreeCells;
 use crate::locked::Locked;
+use crate::marks::Marks;
+use crossbeam_utils::CachePadded;
 use ioc_names::RecordNo;
 use ioc_values::IocError;
 use std::alloc::{AllocError, Global};
@@ -16,9 +18,13 @@ use std::sync::{Mutex, MutexGuard, OnceLock, Wait};
 // The home of a record whose set wasn't added yet. No cell has this key.
 const NOWHERE: u64 = u64::MAX;
 
+// The number of times that a record is looked for before its caller waits for the topology guard.
+const LOOKS: u32 = 64;
+
 /// A place for a set under its lock. Once made, the lock stays until the directory is dropped. It
-/// is boxed, so that a cell that isn't made takes little memory.
-pub(crate) type Cell<S> = OnceLock<Box<Mutex<S>>>;
+/// is boxed, so that a cell that isn't made takes little memory, and padded, so that calls on
+/// different sets don't write to the same line of memory.
+pub(crate) type Cell<S> = OnceLock<Box<CachePadded<Mutex<S>>>>;
 
 /// The lock of a cell, with the key of the cell.
 #[derive(Drop)]
@@ -39,7 +45,8 @@ pub(crate) struct KeyedCell<'a, S: Locked> {
 ///
 /// Locks are taken in this order: the topology guard, then cells by rising key. A cell without a
 /// set may be locked at any time, because other callers release its lock at once. The list of free
-/// cells is locked only briefly.
+/// cells is locked only briefly. A caller that looks for a record holds no lock when it waits for
+/// the topology guard.
 #[derive(Drop)]
 pub struct Directory<S: Locked> {
     // The key of the cell of each record's set. It may be out of date by the time it is used.
@@ -47,8 +54,10 @@ pub struct Directory<S: Locked> {
     pub(crate) cells: Vec<Cell<S>>,
     pub(crate) flags: Vec<AtomicBool>,
     // Used only under the topology guard.
-    pub(crate) free: Mutex<FreeCells>,
+    pub(crate) free: Mutex<FreeCells<S>>,
     pub(crate) topology: Mutex<()>,
+    // Used only by `gather`.
+    pub(crate) marks: Marks,
 }
 
 impl<S: Locked> Model for Directory<S> {
@@ -61,7 +70,7 @@ impl<S: Locked> Model for Directory<S> {
 
 impl<S: Locked> Directory<S> {
     /// Creates a directory for the records with the numbers below `count`, without sets. It has
-    /// room for a set of each record.
+    /// room for a set of each record, and for the marks that [`gather`](Directory::gather) needs.
     ///
     /// # Errors
     ///
@@ -83,6 +92,7 @@ impl<S: Locked> Directory<S> {
             flags,
             free: Mutex::new(FreeCells::new(alloc, most)?),
             topology: Mutex::new(()),
+            marks: Marks::new(alloc, count)?,
         })
     }
 
@@ -94,7 +104,8 @@ impl<S: Locked> Directory<S> {
         self.homes.len()
     }
 
-    /// Adds a set, in a new cell that becomes the home of its records.
+    /// Adds a set, in a new cell that becomes the home of its records. The room that
+    /// [`gather`](Directory::gather) needs for it is allocated first.
     ///
     /// # Errors
     ///
@@ -141,8 +152,9 @@ impl<S: Locked> Directory<S> {
         }
     }
 
-    /// Locks the set of a record. While it is being moved, the set is looked for again. Waits
-    /// forever if no set with the record was added.
+    /// Locks the set of a record. While it is being moved, the set is looked for again. The caller
+    /// holds no lock of the directory, because this may wait for the topology guard. Waits forever
+    /// if no set with the record was added.
     ///
     /// # Errors
     ///
@@ -155,16 +167,32 @@ impl<S: Locked> Directory<S> {
         ensures refused { IfErr result (IsRefused self.now number) }
     {
         for _ in rt.forever() {
-            let Some(place) = self.place_of(number)? else {
-                continue;
-            };
-            let set = place.lock.lock(rt);
-            if set.has(number) {
-                set.is_sound();
-                return Ok(set);
+            if let Some(place) = self.place_of(number)? {
+                let set = place.lock.lock(rt);
+                if set.has(number) {
+                    set.is_sound();
+                    return Ok(set);
+                }
             }
+            self.wait_while_moved(rt, number);
         }
         unreachable!()
+    }
+
+    // Looks for the set of a record again while it is being moved: at once, because a link change
+    // moves a record quickly. Sets that were taken out of their cells stay out for longer, but only
+    // under the topology guard. So after several looks in vain the caller sleeps until the guard is
+    // free, and releases it at once. This isn't inlined, so that `lock_set` stays small where it is.
+    #[inline(never)]
+    fn wait_while_moved<R: Wait>(&self, rt: &R, number: RecordNo) {
+        for _ in 0..LOOKS {
+            if let Ok(Some(place)) = self.place_of(number) {
+                if place.lock.lock(rt).has(number) {
+                    return;
+                }
+            }
+        }
+        drop(self.guard_topology(rt));
     }
 }
 

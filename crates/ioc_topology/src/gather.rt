@@ -1,38 +1,33 @@
 //! Gathers all sets when the engine ends.
-ghost use Rattle.std.specs.Prelude.{◌≡◌, ◌↔◌, ◌<◌, ℕ, false, IsTrue, IfOk, slice_index_or, OnOk, OnErr};
+ghost use Rattle.std.specs.Prelude.{◌≡◌, ◌↔◌, ◌<◌, ℕ, false, IsTrue, slice_index_or};
 ghost use Rattle.ioc_topology.specs.Gathered.{HoldEach, IsMarked, IsClaimed};
 
 use crate::directory::{Cell, Directory, set_in};
 use crate::locked::Locked;
-use std::alloc::{AllocError, Global};
+use std::alloc::Global;
 use std::mem;
 use std::sync::Wait;
 
 impl<S: Locked> Directory<S> {
     /// Takes all sets out of the directory, which is left for no record. Together they have each
     /// record that the directory was made for, and none twice. Waits forever if a record is
-    /// missing. Takes time proportional to the number of records.
-    ///
-    /// # Errors
-    ///
-    /// [`AllocError`] if allocation fails; nothing has changed then.
-    pub fn gather<R: Wait>(&mut self, rt: &R, alloc: Global) -> Result<Vec<S>, AllocError>
-        ensures all { IfOk result (λ v. HoldEach S.numbers v.items self.old) }
-        ensures left { OnOk result (self.new ≡ 0) }
-        ensures err { OnErr result (self.new ≡ self.old) }
+    /// missing. Takes time proportional to the number of records. Allocates nothing: what it needs
+    /// has its room since the directory or the cells were made.
+    pub fn gather<R: Wait>(&mut self, rt: &R, alloc: Global) -> Vec<S>
+        ensures all { HoldEach S.numbers result.items self.old }
+        ensures left { self.new ≡ 0 }
     {
         let count = self.homes.len();
-        let mut seen = Vec::from_elem(alloc, false, count)?;
-        let made = self.free.get_mut().made();
-        let mut sets = Vec::with_capacity(alloc, made)?;
+        let mut marks = self.marks.take(alloc);
+        let (made, mut sets) = self.free.get_mut().take_room(alloc);
         self.homes.clear();
         for key in 0..made {
             if let Some(set) = take_set(alloc, self.cells.as_mut_slice(), key) {
                 sets.push_reserved(set);
             }
         }
-        if hold_each(sets.as_slice(), seen.as_mut_slice(), count) {
-            return Ok(sets);
+        if hold_each(sets.as_slice(), marks.as_mut_slice(), count) {
+            return sets;
         }
         for _ in rt.forever() {}
         unreachable!()
@@ -48,9 +43,9 @@ fn take_set<S: Locked>(alloc: Global, cells: &mut [Cell<S>], key: usize) -> Opti
     Some(mem::replace(set, S::empty(alloc)))
 }
 
-// Returns whether the sets have each of the first `count` records, and none twice. `marks` are
-// those of the records found so far.
-fn hold_each<S: Locked>(sets: &[S], marks: &mut [bool], count: usize) -> bool
+/// Returns whether the sets have each of the first `count` records, and none twice. There is a mark
+/// for each record, and none is set yet. Those of the records that were found are set afterwards.
+pub fn hold_each<S: Locked>(sets: &[S], marks: &mut [bool], count: usize) -> bool
     requires { (q : ℕ) → slice_index_or marks.old q false ≡ false }
     ensures { IsTrue result → HoldEach S.numbers sets.now count }
 {

@@ -9,12 +9,14 @@
 pub mod directory;
 mod flags;
 mod free_cells;
-mod gather;
+pub mod gather;
 pub mod link_cells;
 pub mod locked;
+mod marks;
 pub mod taken;
 
 pub use directory::Directory;
+pub use gather::hold_each;
 pub use link_cells::{LinkCells, NewCells, all_sound, are_lent};
 pub use locked::Locked;
 pub use taken::Taken;

@@ -10,8 +10,8 @@ use std::mem;
 use std::sync::{Mutex, Wait};
 
 /// Sets that were taken out of their cells. A caller that looks for one of their records meanwhile
-/// finds a set without records and looks again, as while a record is being moved. It can't be
-/// dropped: the sets have to be put back.
+/// finds a set without records. It looks again, as while a record is being moved, and after some
+/// looks waits for the topology guard. It can't be dropped: the sets have to be put back.
 pub struct Taken<'a, S: Locked> {
     /// The sets. Their number must not change.
     pub sets: Vec<S>,
@@ -45,6 +45,31 @@ impl<S: Locked> Directory<S> {
             if let Some(set) = take_if(rt, alloc, cell.lock, test) {
                 sets.push_reserved(set);
                 cells.push_reserved(cell);
+            }
+        }
+        Ok(Taken { sets, cells })
+    }
+
+    /// Takes each set with records out of its cell. The caller holds the topology guard until all
+    /// are put back, so no set parts or joins another meanwhile, and no cell is made. The cells are
+    /// locked one after another, by rising key.
+    ///
+    /// # Errors
+    ///
+    /// [`AllocError`] if allocation fails; nothing has changed then.
+    pub fn take_all<R: Wait>(&self, rt: &R, alloc: Global) -> Result<Taken<'_, S>, AllocError>
+        ensures sound { IfOk result (λ t. All S.sound t.sets.items) }
+    {
+        let made = self.free.lock(rt).made();
+        let mut sets = Vec::with_capacity(alloc, made)?;
+        let mut cells = Vec::with_capacity(alloc, made)?;
+        for key in 0..made {
+            let Some(lock) = self.lock_at(key) else {
+                continue;
+            };
+            if let Some(set) = take_filled(rt, alloc, lock) {
+                sets.push_reserved(set);
+                cells.push_reserved(KeyedCell { key, lock });
             }
         }
         Ok(Taken { sets, cells })
@@ -86,4 +111,16 @@ fn take_if<S: Locked, F: Fn(&S) -> bool, R: Wait>(
     } else {
         None
     }
+}
+
+// Takes the set of a cell if it has records, and leaves a set without records there.
+fn take_filled<S: Locked, R: Wait>(rt: &R, alloc: Global, lock: &Mutex<S>) -> Option<S>
+    ensures { IfSome result S.sound }
+{
+    let mut set = lock.lock(rt);
+    if set.len() == 0 {
+        return None;
+    }
+    set.is_sound();
+    Some(mem::replace(&mut *set, S::empty(alloc)))
 }
