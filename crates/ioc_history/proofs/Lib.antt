@@ -1,5 +1,6 @@
 mod Adding
 mod Asking
+mod Bases
 pub mod Basics
 mod Begun
 mod Calls

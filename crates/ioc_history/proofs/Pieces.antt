@@ -92,6 +92,7 @@ module _ {X Z : Type 0} where
           part = ((let none = taken.0 in omega (arith, none)), taken.1);
           empty = front IsSpare spare'.items next empty;
           room = subst (λ (n : ℕ). given ≤ 256 * n) same h.room;
+          few = (let few = h.few in omega (arith, few, more, fewer));
           last = λ lt. subst (λ (n : ℕ). given ≡ 256 * n) same (h.last lt);
           most = h.most;
           lists = (subst (λ (n : ℕ). limit < 256 * n) (sym room) h.lists.0, subst (λ (n : ℕ). limit < 256 * n) (sym room') h.lists.1);
@@ -106,7 +107,55 @@ module _ {X Z : Type 0} where
       part = (few, subst (λ (n : ℕ). 256 ≤ n) (sym room) h.part.1);
       empty = h.empty;
       room = h.room;
+      few = h.few;
       last = h.last;
       most = h.most;
       lists = h.lists;
     }
+
+    -- There is room for all full pieces behind the spare ones.
+    pub room_behind : 0 < length full.items → length spare.items < vec_capacity spare
+    room_behind some =
+        let few = h.few in
+        let lists = h.lists.1 in
+        omega (arith, some, few, lists)
+
+    -- The last full piece, without its items, is put behind the spare ones.
+    pub spared_pieces : (full' spare' : Vec (Vec X Z) Y) (piece emptied : Vec X Z) → full.items ≡ full'.items ++ piece ∷ [] → spare'.items ≡ spare.items ++ emptied ∷ []
+        → length emptied.items ≡ 0 → vec_capacity emptied ≡ vec_capacity piece → length piece.items ≤ vec_capacity piece
+        → vec_capacity full' ≡ vec_capacity full → vec_capacity spare' ≡ vec_capacity spare → ArePieces full' spare' current given limit
+    spared_pieces full' spare' piece emptied is_full is_spare none kept within room room' =
+        let whole = subst (All IsFull) is_full h.whole in
+        let long = last IsFull full'.items piece whole in
+        let fewer : length full.items ≡ length full'.items + 1 = ap length is_full ∙ length-append full'.items (piece ∷ []) in
+        let more : length spare'.items ≡ length spare.items + 1 = ap length is_spare ∙ length-append spare.items (emptied ∷ []) in
+        let same : length full.items + (1 + length spare.items) ≡ length full'.items + (1 + length spare'.items) = omega (arith, more, fewer) in
+        record {
+          whole = front IsFull full'.items piece whole;
+          part = h.part;
+          empty = subst (All IsSpare) (sym is_spare) (All-push IsSpare spare.items emptied h.empty (none, omega (arith, kept, within, long)));
+          room = subst (λ (n : ℕ). given ≤ 256 * n) same h.room;
+          few = (let few = h.few in omega (arith, few, more, fewer));
+          last = λ lt. subst (λ (n : ℕ). given ≡ 256 * n) same (h.last lt);
+          most = h.most;
+          lists = (subst (λ (n : ℕ). limit < 256 * n) (sym room) h.lists.0, subst (λ (n : ℕ). limit < 256 * n) (sym room') h.lists.1);
+        }
+
+    -- Pieces without items.
+    pub emptied_pieces : (current' : Vec X Z) → length current'.items ≡ 0 → vec_capacity current' ≡ vec_capacity current → ArePieces full spare current' given limit
+    emptied_pieces current' none room = record {
+      whole = h.whole;
+      part = (omega (arith, none), subst (λ (n : ℕ). 256 ≤ n) (sym room) h.part.1);
+      empty = h.empty;
+      room = h.room;
+      few = h.few;
+      last = h.last;
+      most = h.most;
+      lists = h.lists;
+    }
+
+  -- Without full pieces and without items in the current one there are none.
+  pub no_items : (full : List (Vec X Z)) (current : List X) → length full ≡ 0 → length current ≡ 0 → items_in full current ≡ []
+  no_items [] [] none none' = refl
+  no_items [] (x ∷ xs) none none' = absurd (omega (arith, none'))
+  no_items (v ∷ vs) current none none' = absurd (omega (arith, none))

@@ -1,22 +1,34 @@
 -- The invariants of the journal, a desk and a receipt.
-use Rattle.std.specs.Prelude.{◌≡◌, ℕ, ◌+◌, ◌<◌, ◌≤◌, List, [], ◌∷◌, length}
+use Rattle.std.specs.Prelude.{◌≡◌, ℕ, ◌+◌, ◌<◌, ◌≤◌, ◌^◌, List, [], ◌∷◌, length, take, drop, Option, MatchOption}
 use Rattle.atomic_table.specs.Seated.{TableId}
 use Rattle.ioc_record.specs.RecordRules.{RecordRules}
 use Rattle.ioc_store.specs.World.{World}
 use Rattle.ioc_history.specs.declared.entry.JournalEntry.{JournalEntry}
+use Rattle.ioc_history.specs.declared.entry.Note.{Note}
+use Rattle.ioc_history.specs.declared.base.JournalBase.{JournalBase}
 use Rattle.ioc_history.specs.declared.cell.View.{View}
 use Rattle.ioc_history.specs.Key.{Key, Has}
 use Rattle.ioc_history.specs.Line.{keeper, holder}
-use Rattle.ioc_history.specs.Legal.{IsSound}
+use Rattle.ioc_history.specs.Legal.{IsSound, map_of}
+use Rattle.ioc_history.specs.Base.{IsBaseOf}
 use Rattle.ioc_history.specs.Account.{calls, desk_key, Below, IsAccount}
 
+-- The first of these calls were dropped. They lead to the base, if there is one; otherwise none were
+-- dropped.
+abbrev pub LeadsFrom : {R : Type 0} → RecordRules R → World R → Option (JournalBase R) → ℕ → List Note → Type 0
+LeadsFrom {R} k base from dropped seen = MatchOption from (dropped ≡ 0) (λ (b : JournalBase R). IsBaseOf (map_of k base (take dropped seen)) b.records.items b.waiting.items)
+
 module _ {R : Type 0} (k : RecordRules R) (base : World R) (table id : TableId) (v : View) where
-  -- The invariant of a journal: its pass is the keeper's, its entries are the calls of the list,
-  -- and the list is legal from a sound world on.
-  pub record IsKept (items : List JournalEntry) (desks : ℕ) : Type 0 where
+  -- The invariant of a journal: its pass is the keeper's, its entries are the calls of the list
+  -- behind those that were dropped, these lead to the base, if some were, and the list is legal from
+  -- a sound world on.
+  pub record IsKept (items : List JournalEntry) (dropped : ℕ) (from : Option (JournalBase R)) (desks : ℕ) : Type 0 where
     pub same : id ≡ table
     pub keeps : v ≡ keeper v.seen v.born
-    pub items_are : items ≡ calls v.seen
+    pub items_are : items ≡ drop dropped (calls v.seen)
+    pub within : dropped ≤ length v.seen
+    pub few : dropped ≤ 2 ^ 63
+    pub leads_from : LeadsFrom k base from dropped v.seen
     pub sound : IsSound k base
     pub account : IsAccount k base v.seen
     -- Only desks below this number have keys and calls.

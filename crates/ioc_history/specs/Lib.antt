@@ -1,4 +1,5 @@
 pub mod Account
+pub mod Base
 pub mod Covering
 pub mod DeskCode
 pub mod Desks

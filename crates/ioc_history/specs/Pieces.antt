@@ -20,6 +20,7 @@ module _ {X Z : Type 0} where
     pub part : (length current.items ≤ 256) × (256 ≤ vec_capacity current)
     pub empty : All IsSpare spare.items
     pub room : given ≤ 256 * (length full.items + (1 + length spare.items))
+    pub few : 256 * (length full.items + length spare.items) < limit
     pub last : given < limit → given ≡ 256 * (length full.items + (1 + length spare.items))
     pub most : (given ≤ limit) × (limit ≤ 4194304)
     pub lists : (limit < 256 * vec_capacity full) × (limit < 256 * vec_capacity spare)

@@ -13,25 +13,27 @@ pub record PlacesOf (X : Type 0) : Type 0 where
 abbrev pub places_of : {X : Type 0} → List X → ℕ → ℕ → PlacesOf X
 places_of filled given limit = record { filled = filled; given = given; limit = limit }
 
--- A journal: its filled places, the number of places that have memory, the limit of that number,
--- and the number of desks that were opened.
+-- A journal: the list of all that was added, the number of those whose entries were dropped, the
+-- number of places that have memory, the limit of that number, and the number of desks that were
+-- opened.
 pub record JournalOf (X : Type 0) : Type 0 where
   pub filled : List X
+  pub dropped : ℕ
   pub given : ℕ
   pub limit : ℕ
   pub desks : ℕ
 
-abbrev pub journal_of : {X : Type 0} → List X → ℕ → ℕ → ℕ → JournalOf X
-journal_of filled given limit desks = record { filled = filled; given = given; limit = limit; desks = desks }
+abbrev pub journal_of : {X : Type 0} → List X → ℕ → ℕ → ℕ → ℕ → JournalOf X
+journal_of filled dropped given limit desks = record { filled = filled; dropped = dropped; given = given; limit = limit; desks = desks }
 
 -- The same with one more desk opened.
 abbrev pub one_more_desk : {X : Type 0} → JournalOf X → JournalOf X
-one_more_desk j = journal_of j.filled j.given j.limit (j.desks + 1)
+one_more_desk j = journal_of j.filled j.dropped j.given j.limit (j.desks + 1)
 
 -- The errors of a call for which no place can be held.
 abbrev pub IsNoPlace : IocError → Type 0
 IsNoPlace error = (error ≡ JournalFull) ⊎ (error ≡ NoMemory)
 
--- The number of places that a journal may have.
+-- The number of places that a journal may have, and that may be free when a checkpoint is made.
 abbrev pub AreAllowed : Limits → Type 0
-AreAllowed limits = (1 ≤ limits.journal) × (limits.journal ≤ 4194304)
+AreAllowed limits = (1 ≤ limits.journal) × (limits.journal ≤ 4194304) × (limits.checkpoint_at ≤ limits.journal)

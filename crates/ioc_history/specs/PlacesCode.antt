@@ -19,7 +19,7 @@ entries_code = places_code entry_row.the_row.coded
 
 abbrev pub journal_code : Coded (JournalOf Note)
 journal_code =
-    code_by (List Note × (ℕ × (ℕ × ℕ))) (coded× (coded_list note_row.the_row.coded) (coded× coded_ℕ (coded× coded_ℕ coded_ℕ)))
-    (λ j. (j.filled, (j.given, (j.limit, j.desks))))
-    (λ p. journal_of p.0 p.1.0 p.1.1.0 p.1.1.1)
+    code_by (List Note × (ℕ × (ℕ × (ℕ × ℕ)))) (coded× (coded_list note_row.the_row.coded) (coded× coded_ℕ (coded× coded_ℕ (coded× coded_ℕ coded_ℕ))))
+    (λ j. (j.filled, (j.dropped, (j.given, (j.limit, j.desks)))))
+    (λ p. journal_of p.0 p.1.0 p.1.1.0 p.1.1.1.0 p.1.1.1.1)
     (λ _. refl)

@@ -1,4 +1,4 @@
-//! What is known of the journal when the engine ends.
+//! What is known of the journal at the end of an engine and at checkpoints.
 ghost use Rattle.std.specs.Prelude.{◌≡◌, []};
 ghost use Rattle.crossbeam_utils.specs.Seq.{cell_view};
 ghost use Rattle.ioc_history.specs.Line.{keeper, holder, Continues};
@@ -58,6 +58,8 @@ impl<K: RecordKind, B: EngineName<K>> SharedJournal<K, B> {
         let SharedJournal {
             cell,
             places: _places,
+            gate: _,
+            checkpoint_at: _,
             journal,
         } = self;
         (cell, journal.into_inner().into_inner())

@@ -64,8 +64,9 @@ fn write_to(alloc: Global, items: &mut Vec<StoredEntry>, count: u64)
 /// number.
 #[derive(Drop)]
 pub struct Entries<K, B: EngineName<K>> {
-    full: Vec<Vec<StoredEntry>>,
+    // First, so that it lies beside the lock of the journal: each call changes both.
     current: Vec<StoredEntry>,
+    full: Vec<Vec<StoredEntry>>,
     spare: Vec<Vec<StoredEntry>>,
     given: u64,
     limit: u64,
@@ -155,12 +156,19 @@ impl<K, B: EngineName<K>> Entries<K, B> {
         None
     }
 
+    /// Returns the number of places that have no memory yet.
+    pub fn places_left(&self) -> u64
+        ensures { self.now.given + result ≡ self.now.limit }
+    {
+        self.limit - self.given
+    }
+
     /// Returns the number of places that one more piece would have, which is 0 if the limit is
     /// reached.
     pub fn places_of_next(&self) -> u64
         ensures { (result ≡ 0) ↔ (self.now.given ≡ self.now.limit) }
     {
-        at_most_a_piece(self.limit - self.given)
+        at_most_a_piece(self.places_left())
     }
 
     /// Adds a piece, whose places are free.
@@ -194,6 +202,22 @@ impl<K, B: EngineName<K>> Entries<K, B> {
             self.limit,
         );
         self.current.push_reserved(made);
+    }
+
+    /// Drops all entries. Their places are free then, and keep their memory. It allocates nothing.
+    pub fn clear(&mut self) -> FreePlaces<K, B>
+        ensures cleared { self.new ≡ places_of [] self.old.given self.old.limit }
+        ensures freed { result ≡ length self.old.filled }
+    {
+        let count = self.len() as u64;
+        empty_all(
+            &mut self.full,
+            &mut self.spare,
+            &mut self.current,
+            self.given,
+            self.limit,
+        );
+        FreePlaces::new(count, self.filled.split_off(count, count))
     }
 
     /// Compares the entries with free places: together they are no more than have memory.
@@ -244,6 +268,45 @@ fn make_room(
     if current.len() == PIECE {
         turn(full, spare, current);
     }
+}
+
+// Drops the entries of all pieces, and leaves the full ones among the spare ones.
+fn empty_all(
+    full: &mut Vec<Vec<StoredEntry>>,
+    spare: &mut Vec<Vec<StoredEntry>>,
+    current: &mut Vec<StoredEntry>,
+    given: u64,
+    limit: u64,
+)
+    requires pieces { ArePieces full.old spare.old current.old given limit }
+    ensures pieces { ArePieces full.new spare.new current.new given limit }
+    ensures none { items_in full.new.items current.new.items ≡ [] }
+{
+    current.clear();
+    let count = full.len();
+    for done in 0..count {
+        spare_last(full, spare, current, given, limit);
+    }
+}
+
+// Drops the entries of the last full piece, and puts it behind the spare ones.
+fn spare_last(
+    full: &mut Vec<Vec<StoredEntry>>,
+    spare: &mut Vec<Vec<StoredEntry>>,
+    current: &Vec<StoredEntry>,
+    given: u64,
+    limit: u64,
+)
+    requires pieces { ArePieces full.old spare.old current.now given limit }
+    requires some { 0 < vec_len full.old }
+    ensures pieces { ArePieces full.new spare.new current.now given limit }
+    ensures fewer { vec_len full.old ≡ vec_len full.new + 1 }
+{
+    let Some(mut piece) = full.pop() else {
+        unreachable!();
+    };
+    piece.clear();
+    spare.push_reserved(piece);
 }
 
 // Puts the current piece behind the full ones, and takes a spare one in its place.

@@ -68,6 +68,27 @@ impl<K, B: EngineName<K>> FreePlaces<K, B> {
         Some(Place { share })
     }
 
+    /// Takes one of these places if there are two or more.
+    #[inline(always)]
+    pub fn take_spare(&mut self) -> Option<Place<K, B>>
+        ensures taken { IfSome result (λ _. self.old ≡ self.new + 1) }
+        ensures none { IfNone result ((self.old ≤ 1) × (self.new ≡ self.old)) }
+    {
+        if self.count <= 1 {
+            return None;
+        }
+        self.count -= 1;
+        let share = self.share.split_off(1, 1);
+        Some(Place { share })
+    }
+
+    /// Returns the number of these places.
+    pub fn len(&self) -> u64
+        ensures { result ≡ self.now }
+    {
+        self.count
+    }
+
     /// Adds a place that was taken.
     pub fn give_back(&mut self, place: Place<K, B>)
         ensures { self.new ≡ self.old + 1 }

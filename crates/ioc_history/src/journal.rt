@@ -9,6 +9,7 @@ ghost use Rattle.ioc_history.specs.Account.{AreNoDesks, AreRecords, IsHolder, Ma
 ghost use Rattle.ioc_history.specs.Stored.{IsStored};
 ghost use Rattle.ioc_history.specs.Places.{AreAllowed, journal_of, one_more_desk};
 
+use crate::base::JournalBase;
 use crate::desk::Desk;
 use crate::engine_name::EngineName;
 use crate::entries::{Entries, Piece};
@@ -26,11 +27,15 @@ use std::sync::Wait;
 use std::sync::ledger::Blank;
 
 /// All calls of an engine, each with its desk and its number. Contracts see them as one list with
-/// the keys that each call concerns, the number of places that have memory, the limit of that
-/// number, and the number of desks that were opened.
+/// the keys that each call concerns, the number of those calls whose entries were dropped, the
+/// number of places that have memory, the limit of that number, and the number of desks that were
+/// opened.
 #[derive(Drop)]
 pub struct Journal<K: RecordKind, B: EngineName<K>> {
     pub(crate) entries: Entries<K, B>,
+    // The number of calls whose entries were dropped, and where these lead.
+    pub(crate) dropped: u64,
+    pub(crate) from: Option<JournalBase<K>>,
     desks: u64,
     pub(crate) pass: KeyPass,
 }
@@ -48,9 +53,9 @@ impl<K: RecordKind, B: EngineName<K>> Model for Journal<K, B> {
     ghost use Rattle.ioc_history.specs.Desks.{IsKept};
     ghost use Rattle.ioc_history.specs.Places.{journal_of};
 
-    ghost view = { λ j. journal_of (cell_view j.pass).seen j.entries.given j.entries.limit j.desks };
+    ghost view = { λ j. journal_of (cell_view j.pass).seen j.dropped j.entries.given j.entries.limit j.desks };
 
-    ghost invariant = { λ j. IsKept K.rules B.base B.table j.pass.table_id (cell_view j.pass) j.entries.filled j.desks };
+    ghost invariant = { λ j. IsKept K.rules B.base B.table j.pass.table_id (cell_view j.pass) j.entries.filled j.dropped j.from j.desks };
 }
 
 impl<K: RecordKind, B: EngineName<K>> Journal<K, B> {
@@ -73,7 +78,7 @@ impl<K: RecordKind, B: EngineName<K>> Journal<K, B> {
         requires parts { blank.parts ≡ 2 ^ 64 - 1 }
         requires limits { AreAllowed limits }
         requires sound { IsSound K.rules B.base }
-        ensures { IfOk result (λ x. x.0 ≡ journal_of [] x.1 limits.journal 0) }
+        ensures { IfOk result (λ x. x.0 ≡ journal_of [] 0 x.1 limits.journal 0) }
     {
         let (entries, free) = Entries::new(alloc, blank, limits)?;
         Ok((Journal::without_calls(entries, master), free))
@@ -86,10 +91,12 @@ impl<K: RecordKind, B: EngineName<K>> Journal<K, B> {
         requires pass { cell_view master ≡ keeper [] (cell_view master).born }
         requires given { AreNoDesks (cell_view master).born }
         requires sound { IsSound K.rules B.base }
-        ensures { result ≡ journal_of [] entries.given entries.limit 0 }
+        ensures { result ≡ journal_of [] 0 entries.given entries.limit 0 }
     {
         Journal {
             entries,
+            dropped: 0,
+            from: None,
             desks: 0,
             pass: master,
         }
@@ -124,6 +131,13 @@ impl<K: RecordKind, B: EngineName<K>> Journal<K, B> {
         })
     }
 
+    /// Returns the number of places that have no memory yet.
+    pub fn places_left(&self) -> u64
+        ensures { self.now.given + result ≡ self.now.limit }
+    {
+        self.entries.places_left()
+    }
+
     /// Returns the number of places that one more piece of memory would have, which is 0 if the
     /// limit is reached.
     pub fn places_of_next(&self) -> u64
@@ -134,7 +148,7 @@ impl<K: RecordKind, B: EngineName<K>> Journal<K, B> {
 
     /// Adds a piece of memory, whose places are free.
     pub fn add_piece(&mut self, piece: Piece) -> FreePlaces<K, B>
-        ensures given { self.new ≡ journal_of self.old.filled (self.old.given + result) self.old.limit self.old.desks }
+        ensures given { self.new ≡ journal_of self.old.filled self.old.dropped (self.old.given + result) self.old.limit self.old.desks }
         ensures none { (result ≡ 0) ↔ (self.old.given ≡ self.old.limit) }
     {
         self.entries.add_piece(piece)
@@ -159,11 +173,11 @@ impl<K: RecordKind, B: EngineName<K>> Journal<K, B> {
         requires begins { MayBegin (cell_view set.old).seen (cell_view set.old).owns S.entry.event }
         ensures call { Call K.rules B.base desk.old S.entry desk.new }
         ensures receipt { result ≡ desk.new.seen }
-        ensures list { self.new ≡ journal_of desk.new.seen self.old.given self.old.limit self.old.desks }
+        ensures list { self.new ≡ journal_of desk.new.seen self.old.dropped self.old.given self.old.limit self.old.desks }
         ensures set { (set.new.table_id ≡ set.old.table_id) × (cell_view set.new ≡ holder self.new.filled (cell_view set.old).owns) }
         ensures added { Added K.rules B.base (cell_view set.old).seen (cell_view set.old).owns S.entry self.old.filled self.new.filled }
     {
-        let index = self.entries.len() as u64;
+        let index = self.dropped + self.entries.len() as u64;
         let pass = pass::append(rt, cell, &mut self.pass, set, &mut desk.pass, &made);
         self.entries.fill(place, made);
         desk.next += 1;
@@ -198,14 +212,14 @@ impl<K: RecordKind, B: EngineName<K>> Journal<K, B> {
         requires begins { MayBegin (cell_view other.old).seen (cell_view other.old).owns S.entry.event }
         ensures call { Call K.rules B.base desk.old S.entry desk.new }
         ensures receipt { result ≡ desk.new.seen }
-        ensures list { self.new ≡ journal_of desk.new.seen self.old.given self.old.limit self.old.desks }
+        ensures list { self.new ≡ journal_of desk.new.seen self.old.dropped self.old.given self.old.limit self.old.desks }
         ensures one { (one.new.table_id ≡ one.old.table_id) × (cell_view one.new ≡ holder self.new.filled P.keys) }
         ensures other { (other.new.table_id ≡ other.old.table_id) × (cell_view other.new ≡ holder self.new.filled P.rest) }
         ensures added { AddedByBoth K.rules B.base (cell_view one.old).seen (cell_view one.old).owns (cell_view other.old).seen
             (cell_view other.old).owns S.entry self.old.filled self.new.filled }
     {
         let call = desk.next;
-        let index = self.entries.len() as u64;
+        let index = self.dropped + self.entries.len() as u64;
         let pass = deal::<P, R>(rt, cell, &mut self.pass, one, other, &mut desk.pass, &made);
         self.entries.fill(place, made);
         desk.next = call + 1;

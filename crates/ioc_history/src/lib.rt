@@ -5,20 +5,21 @@
 //! to the list meanwhile concerns other records, because no two passes own the same key. Passes
 //! have no bytes, and the cell that ties them together is never written to.
 //!
-//! What the caller that holds some records knows of the list of all events.
-//!
 //! The records are kept in separately locked sets. Each call on a set is noted in one list, with
 //! the keys of the set's records. Read as one list, the notes are a possible run of an engine with
 //! all records in one map, and each set is equal to that map at its own records.
 //!
-//! All calls in one order: the journal, the desks that call, and the receipts of their calls.
+//! All calls are in one order in the journal, and each leaves a receipt to the desk that made it. A
+//! checkpoint drops the entries of all calls so far and keeps the records that they lead to.
 //!
 //! A call is added to the journal while the lock of the set that it concerns is held. A desk knows
 //! a beginning of the journal's list that includes all its own calls. This list is legal: it is a
 //! possible run of an engine with all records in one map.
 #![tactic(auto)]
 
+pub mod base;
 pub mod cell;
+mod checkpoint;
 pub mod desk;
 mod ending;
 pub mod engine_name;
@@ -26,6 +27,7 @@ pub mod entries;
 pub mod entry;
 pub mod event_with_reply;
 pub mod free_places;
+pub mod gate;
 pub mod journal;
 mod key_division;
 pub mod legal_laws;
@@ -39,12 +41,14 @@ pub mod shared_places;
 mod short_lock;
 pub mod stored_entry;
 
+pub use base::JournalBase;
 pub use cell::{Cell, CellName, EntryName, KeyPass, Keys, NoteName};
 pub use desk::Desk;
 pub use engine_name::EngineName;
 pub use entries::{Entries, Piece};
 pub use entry::JournalEntry;
 pub use free_places::{FreePlaces, PLACES, Place, Places};
+pub use gate::Gate;
 pub use journal::Journal;
 pub use limits::Limits;
 pub use receipt::Receipt;

@@ -3,19 +3,25 @@ ghost use Rattle.std.specs.Prelude.{◌≡◌, ◌↔◌, IsTrue};
 ghost use Rattle.ioc_history.specs.Places.{AreAllowed};
 
 /// The limits of an engine. The number of places in its journal is the number of calls that it can
-/// take.
+/// take from one checkpoint to the next.
 #[derive(Clone, Copy, PartialEq, Eq, Debug)]
 pub struct Limits {
     /// The number of places in the journal, for entries and for calls on their way: from 1 to
     /// 4,194,304.
     pub journal: u64,
+    /// If fewer places than this are free, a call makes a checkpoint first: at most `journal`. If it
+    /// is 0, checkpoints are made only by `checkpoint`.
+    pub checkpoint_at: u64,
 }
 
 impl Default for Limits {
-    ghost is_default = { λ limits. limits.journal ≡ 100000 };
+    ghost is_default = { λ limits. (limits.journal ≡ 100000) × (limits.checkpoint_at ≡ 0) };
 
     fn default() -> Limits {
-        Limits { journal: 100_000 }
+        Limits {
+            journal: 100_000,
+            checkpoint_at: 0,
+        }
     }
 }
 
@@ -24,6 +30,6 @@ impl Limits {
     pub fn are_allowed(&self) -> bool
         ensures { IsTrue result ↔ AreAllowed self.now }
     {
-        self.journal >= 1 && self.journal <= 4_194_304
+        self.journal >= 1 && self.journal <= 4_194_304 && self.checkpoint_at <= self.journal
     }
 }

@@ -1,9 +1,8 @@
-//! The entries of the journal, and the entry of a receipt.
-ghost use Rattle.std.specs.Prelude.{◌≡◌, ◌≤◌, ◌+◌, length, slice_get};
-ghost use Rattle.std.specs.Option.{option_map};
+//! The entry of a receipt.
+ghost use Rattle.std.specs.Prelude.{◌≡◌, ◌<◌, ◌≤◌, ◌+◌, length, IfSome, IfNone};
 ghost use Rattle.crossbeam_utils.specs.Seq.{cell_view};
 ghost use Rattle.ioc_history.specs.Line.{keeper, Begins};
-ghost use Rattle.ioc_history.specs.Account.{calls, IsEntryOf};
+ghost use Rattle.ioc_history.specs.Account.{IsEntryOf};
 
 use crate::engine_name::EngineName;
 use crate::free_places::FreePlaces;
@@ -27,29 +26,13 @@ fn compare_one<R: Wait>(rt: &R, cell: &Cell, master: &mut KeyPass, one: &mut Key
 }
 
 impl<K: RecordKind, B: EngineName<K>> Journal<K, B> {
-    /// Returns the number of calls, which is at most the limit.
-    pub fn len(&self) -> usize
-        ensures count { result ≡ length self.now.filled }
-        ensures within { length self.now.filled ≤ self.now.limit }
-        ensures few { self.now.limit ≤ 4194304 }
-    {
-        self.entries.len()
-    }
-
-    /// Compares the calls with free places: together they are no more than have memory.
+    /// Compares the entries with free places: together they are no more than have memory.
     pub fn compare_free(&mut self, free: &mut FreePlaces<K, B>)
-        ensures within { length self.old.filled + free.old ≤ self.old.given }
+        ensures within { length self.old.filled + free.old ≤ self.old.dropped + self.old.given }
         ensures limit { self.old.given ≤ self.old.limit }
         ensures same { (self.new ≡ self.old) × (free.new ≡ free.old) }
     {
         self.entries.compare_free(free);
-    }
-
-    /// Returns the call at a place, from 0 on, or `None` past the last.
-    pub fn entry_at(&self, place: u64) -> Option<&StoredEntry>
-        ensures { option_map (λ e. e.now) result ≡ slice_get (calls self.now.filled) place }
-    {
-        self.entries.at(place)
     }
 
     /// Compares a receipt with the list of calls, which begins with what the receipt knows.
@@ -63,14 +46,20 @@ impl<K: RecordKind, B: EngineName<K>> Journal<K, B> {
     }
 
     /// Returns the call of a receipt: it is at the receipt's place, and the receipt's list ends
-    /// with it. The list of calls has to begin with the receipt's list.
-    pub fn entry_of(&self, receipt: &Receipt<K, B>) -> &StoredEntry
+    /// with it. Returns `None` exactly if its entry was dropped. The list of calls has to begin with
+    /// the receipt's list.
+    pub fn entry_of(&self, receipt: &Receipt<K, B>) -> Option<&StoredEntry>
         requires begins { Begins receipt.now self.now.filled }
-        ensures { IsEntryOf receipt.now self.now.filled result.now }
+        ensures entry { IfSome result (λ e. IsEntryOf receipt.now self.now.filled e.now) }
+        ensures kept { IfSome result (λ _. self.now.dropped < length receipt.now) }
+        ensures dropped { IfNone result (length receipt.now ≤ self.now.dropped) }
     {
-        let Some(entry) = self.entries.at(receipt.place) else {
+        if receipt.place < self.dropped {
+            return None;
+        }
+        let Some(entry) = self.entries.at(receipt.place - self.dropped) else {
             unreachable!()
         };
-        entry
+        Some(entry)
     }
 }

@@ -12,6 +12,7 @@ use crate::desk::Desk;
 use crate::engine_name::EngineName;
 use crate::entries::Piece;
 use crate::free_places::{FreePlaces, Place};
+use crate::gate::Gate;
 use crate::journal::Journal;
 use crate::receipt::Receipt;
 use crate::shared_places::SharedPlaces;
@@ -24,17 +25,22 @@ use ioc_record::RecordKind;
 use ioc_values::IocError;
 use std::alloc::{AllocError, Global};
 use std::marker::{Brand, Model};
-use std::sync::{Mutex, Wait};
+use std::sync::{Mutex, MutexGuard, Wait};
 
 /// The journal of an engine under its lock, its free places, and the cell that ties it to the
 /// passes under other locks. A call takes a place without that lock, and takes the lock once, to
-/// fill it. The lock is held only briefly, and no other
-/// lock is awaited meanwhile. Contracts see the identity of the cell.
+/// fill it. The lock is held briefly, but for a checkpoint, and no other lock is awaited meanwhile.
+/// Contracts see the identity of the cell.
 #[derive(Drop)]
 pub struct SharedJournal<K: RecordKind, B: EngineName<K>> {
     pub(crate) cell: Cell,
-    // Boxed, because an array in a type bounds the type's size in each contract that has it.
-    pub(crate) places: Box<SharedPlaces<K, B>>,
+    // Boxed, because an array in a type bounds the type's size in each contract that has it. Padded,
+    // as is the gate, because each call reads them, and calls on other threads write to the journal's
+    // lock.
+    pub(crate) places: CachePadded<Box<SharedPlaces<K, B>>>,
+    pub(crate) gate: CachePadded<Gate>,
+    // If fewer places are free, a checkpoint is wanted.
+    pub(crate) checkpoint_at: u64,
     pub(crate) journal: CachePadded<Mutex<Journal<K, B>>>,
 }
 
@@ -51,8 +57,9 @@ impl<K: RecordKind, B: EngineName<K>> Model for SharedJournal<K, B> {
     ghost invariant = { λ b. b.cell.table.shared.table_id ≡ B.table };
 }
 
-impl<K: RecordKind, B: EngineName<K>> SharedJournal<K, B> {
-    /// Puts a journal under a lock, with its cell and its free places.
+impl<K: RecordKind + Drop, B: EngineName<K>> SharedJournal<K, B> {
+    /// Puts a journal under a lock, with its cell and its free places. A checkpoint is wanted if
+    /// fewer than `checkpoint_at` are free.
     ///
     /// # Errors
     ///
@@ -62,17 +69,22 @@ impl<K: RecordKind, B: EngineName<K>> SharedJournal<K, B> {
         cell: Cell,
         journal: Journal<K, B>,
         free: FreePlaces<K, B>,
+        checkpoint_at: u64,
     ) -> Result<Self, AllocError>
         requires table { cell.table.shared.table_id ≡ B.table }
     {
         let places = Box::new(alloc, SharedPlaces::new(free))?;
         Ok(SharedJournal {
             cell,
-            places,
+            places: CachePadded::new(places),
+            gate: CachePadded::new(Gate::new()),
+            checkpoint_at,
             journal: CachePadded::new(Mutex::new(journal)),
         })
     }
+}
 
+impl<K: RecordKind, B: EngineName<K>> SharedJournal<K, B> {
     /// Opens a desk, which has seen all calls and made none.
     ///
     /// # Errors
@@ -85,11 +97,21 @@ impl<K: RecordKind, B: EngineName<K>> SharedJournal<K, B> {
         lock_soon(rt, &self.journal).open_desk(&self.cell)
     }
 
-    /// The cell that ties the passes together.
+    /// Returns the cell that ties the passes together.
     pub fn cell(&self) -> &Cell
         ensures { result.now.table.shared.table_id ≡ B.table }
     {
         &self.cell
+    }
+
+    /// Locks the journal, for a checkpoint. No call is added meanwhile.
+    pub fn lock<R: Wait>(&self, rt: &R) -> MutexGuard<'_, Journal<K, B>> {
+        lock_soon(rt, &self.journal)
+    }
+
+    /// Locks free places, to which others can be moved. It is locked before the journal.
+    pub fn lock_places<R: Wait>(&self, rt: &R) -> MutexGuard<'_, FreePlaces<K, B>> {
+        self.places.lock_stripe(rt, 0)
     }
 
     /// Takes a place for a call of a desk. If its stripe has none, the journal gets more memory.
@@ -107,10 +129,43 @@ impl<K: RecordKind, B: EngineName<K>> SharedJournal<K, B> {
     ) -> Result<Place<K, B>, IocError>
         ensures refused { IfErr result IsNoPlace }
     {
-        match self.places.take(rt, desk.number) {
+        match self.places.take_spare(rt, desk.number) {
             Some(place) => Ok(place),
-            None => self.refill(rt, alloc, desk.number),
+            None => self.take_last(rt, alloc, desk.number),
         }
+    }
+
+    // Takes the last place of a stripe, or else refills it. If checkpoints are wanted, the next call
+    // counts the free places.
+    #[inline(never)]
+    fn take_last<R: Wait>(
+        &self,
+        rt: &R,
+        alloc: Global,
+        caller: u64,
+    ) -> Result<Place<K, B>, IocError>
+        ensures refused { IfErr result IsNoPlace }
+    {
+        if self.checkpoint_at != 0 {
+            self.gate.ask_to_count();
+        }
+        match self.places.take(rt, caller) {
+            Some(place) => Ok(place),
+            None => self.refill(rt, alloc, caller),
+        }
+    }
+
+    /// Returns the gate that each call looks at before it begins.
+    #[inline(always)]
+    pub fn gate(&self) -> &Gate {
+        &self.gate
+    }
+
+    /// Counts the free places, and returns whether there are fewer than `checkpoint_at`. Places that
+    /// move between stripes meanwhile may be missed or counted twice.
+    pub fn is_short<R: Wait>(&self, rt: &R) -> bool {
+        let left = lock_soon(rt, &self.journal).places_left();
+        self.places.len(rt).saturating_add(left) < self.checkpoint_at
     }
 
     // Takes a place for a caller from a new piece of memory, or else from any stripe.

@@ -64,10 +64,24 @@ impl<K, B: EngineName<K>> SharedPlaces<K, B> {
         lock_soon(rt, &self.stripes[stripe_of(caller)])
     }
 
-    /// Takes a place from the stripe of a caller, or returns `None` if it has none.
+    /// Takes a place from the stripe of a caller if it has two or more.
     #[inline(always)]
+    pub fn take_spare<R: Wait>(&self, rt: &R, caller: u64) -> Option<Place<K, B>> {
+        lock_soon(rt, &self.stripes[stripe_of(caller)]).take_spare()
+    }
+
+    /// Takes a place from the stripe of a caller, or returns `None` if it has none.
     pub fn take<R: Wait>(&self, rt: &R, caller: u64) -> Option<Place<K, B>> {
-        self.lock_stripe(rt, caller).take()
+        lock_soon(rt, &self.stripes[stripe_of(caller)]).take()
+    }
+
+    /// Returns the number of places in all stripes, each of which is locked in turn.
+    pub fn len<R: Wait>(&self, rt: &R) -> u64 {
+        let mut count = 0u64;
+        for stripe in &self.stripes {
+            count = count.saturating_add(lock_soon(rt, stripe).len());
+        }
+        count
     }
 
     /// Frees a place of a caller.

@@ -1,4 +1,4 @@
-use Rattle.std.proofs.Common.{◌≡◌, ◌+◌, ◌<◌, ◌≤◌, List, [], ◌∷◌, ◌++◌, length, refl, sym, ap, ◌∙◌, subst, inl, ⊎_elim, arith, length-append, ap₂}
+use Rattle.std.proofs.Common.{◌≡◌, ◌+◌, ◌<◌, ◌≤◌, List, [], ◌∷◌, ◌++◌, length, drop, refl, sym, ap, ◌∙◌, subst, inl, ⊎_elim, arith, length-append, ap₂}
 use Rattle.crossbeam_utils.specs.Seq.{cell_view}
 use Rattle.ioc_history.specs.declared.entry.JournalEntry.{JournalEntry}
 use Rattle.ioc_history.specs.declared.entry.Note.{Note}
@@ -7,12 +7,14 @@ use Rattle.ioc_history.specs.Key.{Key, Has}
 use Rattle.ioc_history.specs.Line.{keeper, holder, noted}
 use Rattle.ioc_history.specs.KeyLaws.{has_left, has_right}
 use Rattle.ioc_history.specs.Account.{DeskView, desk_view, desk_key, journalled, calls, Below, IsAccount, Call, Added}
+use Rattle.ioc_history.specs.Desks.{LeadsFrom}
 use Rattle.ioc_history.specs.Places.{PlacesOf, JournalOf}
 use Rattle.ioc_history.specs.Stored.{IsStored}
-use Rattle.ioc_history.proofs.Calls.{calls-append, length-calls, below_other, no_longer, counted}
+use Rattle.ioc_history.proofs.Calls.{below_other, no_longer, counted}
 use Rattle.ioc_history.proofs.Adding.{account_then, below_then, called}
 use Rattle.ioc_history.proofs.Fitting.{last_fits}
-use Rattle.ioc_history.proofs.Written.{as_many}
+use Rattle.ioc_history.proofs.Written.{as_many, one_more_entry}
+use Rattle.ioc_history.proofs.Bases.{still_leads}
 use Rattle.ioc_history.proofs.journal.Journal.append.Goals as goal
 
 pub append-pass-requires-clause-apart : goal.append-pass-requires-clause-apart
@@ -38,7 +40,7 @@ invariant_of-result g c =
     record {
       same = e.receipt.0 ∙ i.same;
       holds = e.receipt.2 ∙ ap (λ l. holder l []) (sym told);
-      ends = ap length seen ∙ omega (arith, length-append log (noted (journalled n next g.S.EntryName.entry) (owns ++ own) ∷ []), length-calls log, ap length i.items_are, c.len-index.ensures.count);
+      ends = ap length seen ∙ omega (arith, length-append log (noted (journalled n next g.S.EntryName.entry) (owns ++ own) ∷ []), as_many c.self.inside.entries.filled c.self.inside.dropped log i.items_are i.within, c.len.ensures.count);
       account = subst (IsAccount k g.B.EngineName.base) (sym seen) (account_then k g.B.EngineName.base log (cell_view c.desk.inside.pass).seen n next g.S.EntryName.entry owns own (ap (λ (v : View). v.owns) d.holds) i.account e.goes_on.1 d.below leads (cell_view c.args.set.now).seen (cell_view c.args.set.now).owns e.goes_on.0 (λ key has. has_left key owns own has) c.requires.begins);
     }
 
@@ -64,7 +66,10 @@ invariant_of-self g c =
     record {
       same = e.keeper.0 ∙ i.same;
       keeps = e.keeper.1 ∙ ap₂ keeper (sym told) (sym born);
-      items_are = ap (λ (p : PlacesOf JournalEntry). p.filled) c.fill.ensures ∙ (ap (λ (m : JournalEntry). c.self.inside.entries.filled ++ m ∷ []) is_made ∙ (ap (λ l. l ++ made ∷ []) i.items_are ∙ (sym (calls-append log (noted made (owns ++ own) ∷ [])) ∙ ap calls (sym seen))));
+      items_are = ap (λ (p : PlacesOf JournalEntry). p.filled) c.fill.ensures ∙ (ap (λ (m : JournalEntry). c.self.inside.entries.filled ++ m ∷ []) is_made ∙ (one_more_entry c.self.inside.entries.filled c.self.inside.dropped log made (owns ++ own) i.items_are i.within ∙ ap (λ l. drop c.self.inside.dropped (calls l)) (sym seen)));
+      within = subst (λ (l : List Note). c.self.inside.dropped ≤ length l) (sym seen) (omega (arith, i.within, length-append log (noted made (owns ++ own) ∷ [])));
+      few = i.few;
+      leads_from = subst (λ (l : List Note). LeadsFrom k g.B.EngineName.base c.self.inside.from c.self.inside.dropped l) (sym seen) (still_leads k g.B.EngineName.base c.self.inside.from c.self.inside.dropped log (noted made (owns ++ own)) i.within i.leads_from);
       sound = i.sound;
       account = subst (IsAccount k g.B.EngineName.base) (sym seen) (account_then k g.B.EngineName.base log (cell_view c.desk.inside.pass).seen n next g.S.EntryName.entry owns own (ap (λ (v : View). v.owns) d.holds) i.account e.goes_on.1 d.below leads (cell_view c.args.set.now).seen (cell_view c.args.set.now).owns e.goes_on.0 (λ key has. has_left key owns own has) c.requires.begins);
       given = λ key has kind. i.given key (subst (Has key) born has) kind;
@@ -135,9 +140,19 @@ pub overflow_add-desk : goal.overflow_add-desk
 overflow_add-desk g c =
     let log = (cell_view c.self.inside.pass).seen in
     let d = c.desk.invariant in
-    let many = as_many c.self.inside.entries.filled log c.self.invariant.items_are in
+    let i = c.self.invariant in
+    let many = as_many c.self.inside.entries.filled c.self.inside.dropped log i.items_are i.within in
+    let dropped = i.few in
     let count = d.count in
     let longer = no_longer (cell_view c.desk.inside.pass).seen log (cell_view c.desk.inside.pass).owns c.append-pass.ensures.goes_on.1 in
-    let within = c.len-index.ensures.within in
-    let few = c.len-index.ensures.few in
-    omega (arith, many, count, longer, within, few)
+    let within = c.len.ensures.within in
+    let few = c.len.ensures.few in
+    omega (arith, many, dropped, count, longer, within, few)
+
+pub overflow_add-index : goal.overflow_add-index
+overflow_add-index g c =
+    let dropped = c.self.invariant.few in
+    let within = c.len.ensures.within in
+    let few = c.len.ensures.few in
+    let count = c.len.ensures.count in
+    omega (arith, dropped, within, few, count)

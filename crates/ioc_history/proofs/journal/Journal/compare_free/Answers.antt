@@ -7,6 +7,7 @@ use Rattle.ioc_history.proofs.journal.Journal.compare_free.Goals as goal
 
 pub returns-clause-within : goal.returns-clause-within
 returns-clause-within g c =
-    let many = as_many c.self.inside.entries.filled (cell_view c.self.inside.pass).seen c.self.invariant.items_are in
+    let i = c.self.invariant in
+    let many = as_many c.self.inside.entries.filled c.self.inside.dropped (cell_view c.self.inside.pass).seen i.items_are i.within in
     let within = c.compare_free.ensures.within in
-    subst (λ (j : JournalOf Note). length j.filled + c.args.free.now ≤ j.given) c.self.view_is (omega (arith, many, within))
+    subst (λ (j : JournalOf Note). length j.filled + c.args.free.now ≤ j.dropped + j.given) c.self.view_is (omega (arith, many, within))

@@ -1,10 +1,11 @@
-use Rattle.std.proofs.Common.{◌≡◌, ◌<◌, [], ◌∷◌, refl, sym, ap, ap₂, ◌∙◌, subst, ⊎_elim, arith}
+use Rattle.std.proofs.Common.{◌≡◌, ◌<◌, ◌≤◌, List, [], ◌∷◌, length, drop, refl, sym, ap, ap₂, ◌∙◌, subst, ⊎_elim, arith}
 use Rattle.crossbeam_utils.specs.Seq.{cell_view}
 use Rattle.ioc_history.specs.declared.entry.Note.{Note}
 use Rattle.ioc_history.specs.declared.cell.View.{View}
 use Rattle.ioc_history.specs.Key.{Key, Has}
 use Rattle.ioc_history.specs.Line.{keeper, claiming}
 use Rattle.ioc_history.specs.Account.{desk_key, calls, calls_by, Below, IsAccount}
+use Rattle.ioc_history.specs.Desks.{LeadsFrom}
 use Rattle.ioc_history.specs.Places.{JournalOf}
 use Rattle.ioc_history.proofs.Calls.{none_below}
 use Rattle.ioc_history.proofs.journal.Journal.open_desk.Goals as goal
@@ -23,7 +24,10 @@ invariant_of-self g c =
     record {
       same = e.0 ∙ i.same;
       keeps = is ∙ ap₂ keeper (sym seen) (sym born);
-      items_are = i.items_are ∙ ap calls (sym seen);
+      items_are = i.items_are ∙ ap (λ l. drop c.self.inside.dropped (calls l)) (sym seen);
+      within = subst (λ (l : List Note). c.self.inside.dropped ≤ length l) (sym seen) i.within;
+      few = i.few;
+      leads_from = subst (λ (l : List Note). LeadsFrom g.K.RecordKind.rules g.B.EngineName.base c.self.inside.from c.self.inside.dropped l) (sym seen) i.leads_from;
       sound = i.sound;
       account = subst (IsAccount g.K.RecordKind.rules g.B.EngineName.base) (sym seen) i.account;
       given = λ k has kind.

@@ -1,4 +1,4 @@
-use Rattle.std.proofs.Common.{sym, ap, ◌∙◌, subst, arith}
+use Rattle.std.proofs.Common.{refl, sym, ap, ◌∙◌, subst, arith}
 use Rattle.crossbeam_utils.specs.Seq.{cell_view}
 use Rattle.ioc_history.specs.declared.cell.View.{View}
 use Rattle.ioc_history.specs.Line.{keeper}
@@ -13,6 +13,9 @@ invariant_of-result g c =
       same = c.requires.table;
       keeps = is ∙ ap (λ l. keeper l (cell_view c.args.master).born) (sym seen);
       items_are = c.requires.none ∙ ap calls (sym seen);
+      within = omega arith;
+      few = omega arith;
+      leads_from = refl;
       sound = c.requires.sound;
       account = subst (IsAccount g.K.RecordKind.rules g.B.EngineName.base) (sym seen) (record { legal = tt; rising = tt; keyed = tt; numbers = λ i j d lt within. absurd (let none : ⊥ = omega (arith, within) in none); puts_keyed = tt });
       given = λ key has kind. absurd (c.requires.given key has kind);
