@@ -1,9 +1,12 @@
+mod BaseOf
 mod Beside
+mod Copied
 mod Counted
 mod Counting
 pub mod Dealing
 pub mod Devices
 mod Ended
+mod Folding
 mod Following
 mod GiveUpAmong
 mod GiveUpEvents
@@ -21,6 +24,7 @@ mod Parting
 mod Placed
 mod Places
 mod Refusing
+mod Replaced
 mod Serving
 mod SetsTogether
 mod Taken

@@ -1,4 +1,5 @@
 pub mod Changing
+pub mod Copies
 pub mod GiveUpLaws
 pub mod GivingUp
 pub mod JournaledSetCode

@@ -1,10 +1,7 @@
-//! What a journaled set knows and reports when the engine ends.
+//! What a journaled set knows and reports at the end of an engine and at checkpoints.
 ghost use Rattle.std.specs.Prelude.{◌≡◌, ℕ, IsSome};
-ghost use Rattle.ioc_events.specs.declared.event.Event.TheVariants.{Get};
-ghost use Rattle.ioc_events.specs.Step.{stepped};
 ghost use Rattle.ioc_notify.specs.Waits.{at_record};
 ghost use Rattle.ioc_set.specs.SetState.{now_of};
-ghost use Rattle.ioc_store.specs.Given.{Answers};
 ghost use Rattle.std.specs.FinMap.{get};
 ghost use Rattle.crossbeam_utils.specs.Seq.{cell_view};
 ghost use Rattle.ioc_history.specs.Legal.{map_of};
@@ -12,12 +9,9 @@ ghost use Rattle.ioc_history.specs.Legal.{map_of};
 use crate::journaled_set::JournaledSet;
 use crate::sets_name::SetsName;
 use ioc_device::Device;
-use ioc_events::Reply;
-use ioc_fields::FieldNo;
 use ioc_history::legal_laws::holding_lasts;
 use ioc_history::{Cell, Journal};
 use ioc_ledger::Tally;
-use ioc_names::RecordNo;
 use ioc_record::RecordKind;
 use std::sync::Wait;
 
@@ -27,19 +21,6 @@ impl<K: RecordKind, B: SetsName<K, D>, D: Device> JournaledSet<K, B, D> {
         ensures { result ≡ self.now.set.tally }
     {
         self.set.tally()
-    }
-
-    /// Returns the text of a field of one of the set's records, without adding the call to the
-    /// journal.
-    ///
-    /// # Errors
-    ///
-    /// The reply is a refusal if there is no such record or field:
-    /// [`ioc_values::IocError::NoRecord`] or [`ioc_values::IocError::NoField`], in this order.
-    pub fn text(&self, number: RecordNo, field: FieldNo) -> Reply
-        ensures { (answers : Answers) → result ≡ (stepped K.rules answers (now_of self.now.set) (Get number field)).reply }
-    {
-        self.set.get(number, field)
     }
 
     /// Moves the set on to the whole list of the journal. At the set's numbers, the list leads to

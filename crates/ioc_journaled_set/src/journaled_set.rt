@@ -6,7 +6,7 @@ ghost use Rattle.ioc_events.specs.Step.{names};
 ghost use Rattle.ioc_notify.specs.Living.{is_live};
 ghost use Rattle.ioc_history.specs.Covering.{Holds};
 ghost use Rattle.ioc_history.specs.Legal.{map_of};
-ghost use Rattle.ioc_set.specs.SetState.{NoneIsLive, now_of};
+ghost use Rattle.ioc_set.specs.SetState.{NoneIsLive, folded, now_of};
 ghost use Rattle.ioc_set.specs.NoCalls.{no_call};
 ghost use Rattle.ioc_set.specs.Doing.{is_ordinary};
 ghost use Rattle.ioc_history.specs.Places.{IsNoPlace};
@@ -89,6 +89,14 @@ impl<K: RecordKind, B: SetsName<K, D>, D: Device> JournaledSet<K, B, D> {
         ensures { KeepsDevices (IsDeviceOf D.gives B.devices) self.now.set }
     {
         let _ = &self.set;
+    }
+
+    /// Clears the set's history.
+    pub fn fold(&mut self)
+        ensures set { self.new.set ≡ folded self.old.set }
+        ensures seen { self.new.seen ≡ self.old.seen }
+    {
+        self.set.fold();
     }
 
     /// Returns the records in ascending order of their numbers, each with its device.

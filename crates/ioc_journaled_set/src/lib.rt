@@ -11,6 +11,8 @@
 mod asking;
 mod beginning;
 pub mod changing;
+mod checkpoint;
+mod copying;
 mod ending;
 pub mod give_up_laws;
 mod giving_up;
@@ -25,6 +27,7 @@ pub mod shared_notifications;
 pub mod together;
 
 pub use changing::{Changed, change_link};
+pub use checkpoint::checkpoint_on;
 pub use giving_up::cancel_on;
 pub use journaled_set::JournaledSet;
 pub use sets_name::SetsName;

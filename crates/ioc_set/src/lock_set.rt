@@ -1,5 +1,5 @@
 //! Lock sets.
-ghost use Rattle.std.specs.Prelude.{◌≡◌, ◌<◌, ◌≤◌, ◌^◌, ◌↔◌, ℕ, List, [], ◌∷◌, length, None, IsSome, IsTrue, Contains, IfOk, slice_get};
+ghost use Rattle.std.specs.Prelude.{◌≡◌, ◌<◌, ◌≤◌, ◌^◌, ◌↔◌, ℕ, List, [], ◌∷◌, length, None, Some, IsSome, IsTrue, Contains, IfOk, slice_get};
 ghost use Rattle.std.specs.FinMap as map;
 ghost use Rattle.ioc_notify.specs.declared.live_numbers.Live.{Live};
 ghost use Rattle.ioc_notify.specs.declared.waiting_lists.Waiting.{Waiting};
@@ -31,7 +31,7 @@ use ioc_fields::{FieldNo, row_of};
 use ioc_ledger::Tally;
 use ioc_links::MAX_DEVICE_BYTES;
 use ioc_names::RecordNo;
-use ioc_notify::{Live, NotifyId};
+use ioc_notify::{Live, NotifyId, Waiting};
 use ioc_process::scanning::device_of;
 use ioc_record::{RecordKind, stops_put, text_of};
 use ioc_set_records::Members;
@@ -151,6 +151,14 @@ impl<K: RecordKind, D> LockSet<K, D> {
         self.members.number_at(place)
     }
 
+    /// Returns the record of this set with this number.
+    pub fn record(&self, number: RecordNo) -> &K
+        requires { Has (now_of self.now) number }
+        ensures { map.get self.now.records number ≡ Some result.now }
+    {
+        self.members.record(number)
+    }
+
     /// Returns the counts of requests, and of calls that are answered later. If a set is divided,
     /// they stay with one part, except for the answers that the other still awaits; if two become
     /// one, they are added.
@@ -213,6 +221,14 @@ impl<K: RecordKind, D> LockSet<K, D> {
         ensures { result.now ≡ self.now.live }
     {
         self.puts.live()
+    }
+
+    /// Returns the puts with notification that wait for records of the set, in the order in which
+    /// they came.
+    pub fn waiting_puts(&self) -> &[Waiting]
+        ensures { result.now ≡ self.now.waiting }
+    {
+        self.puts.waiting()
     }
 
     /// At most 256 are live on the set, since there is no room for more.

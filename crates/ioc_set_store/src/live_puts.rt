@@ -133,6 +133,16 @@ impl LivePuts {
         }
     }
 
+    /// Returns those that wait, in the order in which they came.
+    pub fn waiting(&self) -> &[Waiting]
+        ensures { result.now ≡ self.now.waiting }
+    {
+        match &self.kept {
+            Some(kept) => kept.waiting(),
+            None => &[],
+        }
+    }
+
     /// If no memory was reserved, none is live.
     pub fn none_without_room(&self)
         ensures { self.now.has_room ≡ false → AreNone self.now }
