@@ -27,7 +27,10 @@ use std::time::{Clock, Instant};
 use std::{env, io};
 
 // The largest journal that an engine can have.
-const LIMITS: Limits = Limits { journal: 4_194_304 };
+const LIMITS: Limits = Limits {
+    journal: 4_194_304,
+    checkpoint_at: 0,
+};
 
 // What was measured.
 #[derive(Clone, Copy)]

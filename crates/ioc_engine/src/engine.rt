@@ -14,15 +14,14 @@ ghost use Rattle.ioc_journaled_set.specs.Puts.{HaveEnded};
 ghost use Rattle.ioc_engine_core.specs.Served.{WasServed, WasTold, CallIsRefused};
 ghost use Rattle.ioc_engine.specs.Channels.{channel_of};
 ghost use Rattle.ioc_engine.specs.Named.{IsNamedBy};
-ghost use Rattle.ioc_engine.specs.Types.{AreTypesOf};
 ghost use Rattle.ioc_engine.specs.Refusals.{HasField, CanBePut, IsGetError, IsPutError, IsOfEngine};
 
 use crate::Receipt;
 use crate::channel::Channel;
 use crate::clock::Clock;
 use crate::desk::Desk;
+use crate::engine_lookup::EngineLookup;
 use crate::engine_name::EngineName;
-use crate::lookup::Lookup;
 use crate::seed::Seed;
 use crate::type_laws::types_stay;
 use ioc_device::Device;
@@ -53,9 +52,10 @@ use std::sync::Wait;
 #[derive(Drop)]
 pub struct Engine<B: EngineName<D>, D: Device, C: Drop> {
     pub(crate) core: EngineCore<Record, B, D>,
-    pub(crate) lookup: Lookup,
+    pub(crate) lookup: EngineLookup<B, D>,
     pub(crate) clock: C,
     pub(crate) alloc: Global,
+    pub ghost counted: { length lookup.types.items ≡ core },
 }
 
 impl<B: EngineName<D>, D: Device, C: Drop> Engine<B, D, C> {
@@ -70,7 +70,6 @@ impl<B: EngineName<D>, D: Device, C: Drop> Engine<B, D, C> {
         requires named { IsNamedBy B.table B.base B.devices B.places B.tickets seed }
         ensures records { IfOk result (λ e. e.core ≡ length seed.records.items) }
         ensures names { IfOk result (λ e. e.lookup ≡ seed.lookup) }
-        ensures types { IfOk result (λ e. AreTypesOf B.base e.core e.lookup.types.items) }
         ensures limits { OnOk result (AreAllowed limits) }
         ensures refused { IfErr result (λ error. ((error ≡ BadValue) × (AreAllowed limits → ⊥)) ⊎ (error ≡ NoMemory)) }
     {
@@ -86,7 +85,7 @@ impl<B: EngineName<D>, D: Device, C: Drop> Engine<B, D, C> {
         match start::<Record, B, D>(alloc, cell, master, places, tickets, records, limits) {
             Ok(core) => Ok(Engine {
                 core,
-                lookup,
+                lookup: EngineLookup::new(lookup),
                 clock,
                 alloc,
             }),
@@ -136,7 +135,7 @@ impl<B: EngineName<D>, D: Device, C: Drop> Engine<B, D, C> {
     pub fn record(&self, name: &[u8]) -> Result<RecordNo, IocError>
         ensures { result ≡ ok_or (number_of self.now.lookup.names name.now) NoRecord }
     {
-        self.lookup.record(name)
+        self.lookup.get().record(name)
     }
 
     /// Returns the channel of a text `RECORD.FIELD`, or `RECORD` for its field VAL. It takes no
@@ -149,10 +148,9 @@ impl<B: EngineName<D>, D: Device, C: Drop> Engine<B, D, C> {
     /// or field.
     pub fn channel(&self, text: &[u8]) -> Result<Channel, IocError>
         ensures channel { result ≡ channel_of self.now.lookup.names self.now.lookup.types.items text.now }
-        ensures known { AreTypesOf B.base self.now.core self.now.lookup.types.items
-            → IfOk result (IsOfEngine B.base self.now.core) }
+        ensures known { IfOk result (IsOfEngine B.base self.now.core) }
     {
-        self.lookup.channel(text)
+        self.lookup.get().channel(text)
     }
 
     /// Moves a desk on to the list of a receipt, if that is longer than the list that the desk has

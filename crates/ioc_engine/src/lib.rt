@@ -5,7 +5,8 @@
 //! [`Engine`]. Each thread opens a [`Desk`] and makes its calls with it. Each call is answered with
 //! a [`Reply`] and a [`Receipt`], the place of the call in one journal of all calls. Records that
 //! links connect are in one lock set with a lock of its own. A get, a put or a request takes the
-//! lock of its record's set and of no other set.
+//! lock of its record's set and of no other set, unless calls make checkpoints ([`Limits`]): a call
+//! may make one before it begins, which takes all sets.
 //!
 //! Scan lists, callback queues and worker threads aren't in it: no record is processed because of
 //! its SCAN or PINI, posted events call no record, and a record that RPRO puts down for
@@ -17,9 +18,11 @@
 
 mod binding;
 pub mod channel;
+mod checkpoint;
 pub mod clock;
 pub mod desk;
 pub mod engine;
+mod engine_lookup;
 pub mod engine_name;
 mod link_changes;
 mod lookup;
@@ -39,10 +42,10 @@ pub use ioc_dbfile::{Database, Macros, load};
 pub use ioc_device::{Answer, Ask, Device};
 pub use ioc_engine_core::OnceTally;
 pub use ioc_events::Reply;
-pub use ioc_history::StoredEntry;
+pub use ioc_history::{JournalBase, StoredEntry};
 pub use ioc_ledger::{Outcome, Tally};
 pub use ioc_names::RecordNo;
-pub use ioc_notify::NotifyId;
+pub use ioc_notify::{NotifyId, Waiting};
 pub use ioc_record::FieldText;
 pub use ioc_values::{Finished, Input, IocError, Text, Value};
 pub use numbered::{Numbered, numbers_stay, with_numbers};
@@ -60,12 +63,21 @@ pub use seed::Seed;
 /// ```
 pub use ioc_dbfile::DeviceName;
 
-/// The limits of an engine. `journal` is the number of calls that it can take, from 1 to 4,194,304;
-/// [`Limits::default`] allows 100,000. [`Engine::start`] refuses any other number with
-/// [`IocError::BadValue`], and a call beyond the limit is refused with [`IocError::JournalFull`].
+/// The limits of an engine. `journal` is the number of calls that it can take from one checkpoint to
+/// the next, from 1 to 4,194,304; [`Limits::default`] allows 100,000. A call beyond the limit is
+/// refused with [`IocError::JournalFull`]. If `checkpoint_at` is 0, as it is by default, checkpoints
+/// are made only by [`Engine::checkpoint`]. Otherwise a call makes one before it begins if it counts
+/// fewer free places than that; if the call is refused then, the checkpoint was made nevertheless.
+/// Places are counted only after a call that found at most one at hand, so `checkpoint_at` should be
+/// at least the number of desks. [`Engine::start`] refuses limits out of their ranges with
+/// [`IocError::BadValue`].
 ///
 /// ```rust
-/// let limits = Limits { journal: 1_000_000 };
+/// // A call makes a checkpoint first if fewer than 1,000 places are free.
+/// let limits = Limits {
+///     journal: 1_000_000,
+///     checkpoint_at: 1_000,
+/// };
 /// let engine = Engine::<B, _, _>::start(alloc, seed, CountingClock::new(), limits)?;
 /// ```
 pub use ioc_history::Limits;

@@ -7,7 +7,6 @@ ghost use Rattle.ioc_dbfile.specs.OwnerTable.{owner_in};
 ghost use Rattle.ioc_set_store.specs.SetStore.{world_of};
 ghost use Rattle.ioc_engine_core.specs.Linked.{WasLinked, LinkWasRefused};
 ghost use Rattle.ioc_engine.specs.Relinking.{link_kind_in, IsTextOf, IsBadText, field_of_link};
-ghost use Rattle.ioc_engine.specs.Types.{AreTypesOf};
 ghost use Rattle.ioc_engine.specs.Refusals.{IsLinkField, IsLinkError};
 
 use crate::Receipt;
@@ -94,10 +93,8 @@ impl<B: EngineName<D>, D: Device, C: Clock + Drop> Engine<B, D, C> {
             × LinkWasRefused D record_rules B.base self.now.core channel.number channel.field
             (field_of_link self.now.lookup.names self.now.lookup.types.items (owner_in self.now.lookup.owners) channel.number link)
             error)))) }
-        ensures refused_by_type { AreTypesOf B.base self.now.core self.now.lookup.types.items
-            → IfErr result (IsLinkError B.base channel) }
-        ensures is_link { AreTypesOf B.base self.now.core self.now.lookup.types.items
-            → OnOk result (IsLinkField B.base channel) }
+        ensures refused_by_type { IfErr result (IsLinkError B.base channel) }
+        ensures is_link { OnOk result (IsLinkField B.base channel) }
         ensures err { OnErr result (desk.new.account ≡ desk.old.account) }
     {
         types_stay::<Record>();
@@ -106,8 +103,9 @@ impl<B: EngineName<D>, D: Device, C: Clock + Drop> Engine<B, D, C> {
             return Err(IocError::Stopped);
         }
         let number = channel.record();
-        let link = self.lookup.link(channel, text)?;
-        let lead = self.lookup.lead(number, &link);
+        let lookup = self.lookup.get();
+        let link = lookup.link(channel, text)?;
+        let lead = lookup.lead(number, &link);
         let alloc = desk.alloc;
         let Ok(kept) = LinkBox::new(alloc, LinkField { link, lead }) else {
             return Err(IocError::NoMemory);

@@ -1,7 +1,9 @@
 //! The end of an engine.
-ghost use Rattle.std.specs.Prelude.{◌≡◌, ◌++◌, map, IfOk, IfErr, OnOk};
+ghost use Rattle.std.specs.Prelude.{◌≡◌, ◌<◌, ◌≤◌, ◌++◌, length, map, take, drop, IfOk, IfSome, IfNone, OnOk};
 ghost use Rattle.rec_types.specs.Record.{record_rules};
 ghost use Rattle.ioc_history.specs.Account.{IsEntryOf};
+ghost use Rattle.ioc_history.specs.Base.{IsBaseOf};
+ghost use Rattle.ioc_history.specs.Legal.{IsLegal, map_of};
 ghost use Rattle.ioc_journaled_set.specs.SameDevice.{IsDeviceOf};
 ghost use Rattle.ioc_engine_core.specs.Ended.{IsEnd, counts_in};
 ghost use Rattle.ioc_engine_core.specs.Once.{AreAllBack};
@@ -12,7 +14,7 @@ use crate::engine::Engine;
 use crate::engine_name::EngineName;
 use ioc_device::Device;
 use ioc_engine_core::{OnceTally, Report as CoreReport};
-use ioc_history::StoredEntry;
+use ioc_history::{JournalBase, StoredEntry};
 use ioc_ledger::Tally;
 use ioc_names::RecordNo;
 use ioc_set_records::Slot;
@@ -24,11 +26,9 @@ use std::sync::Wait;
 /// journal, and its counts.
 ///
 /// ```rust
-/// let Ok(mut report) = engine.stop(rt) else {
-///     return Err(IocError::NoMemory);
-/// };
+/// let mut report = engine.stop(rt);
 /// // In nanoseconds since 1970-01-01 00:00 UTC.
-/// let moment = report.entry(rt, &mut receipt).moment();
+/// let moment = report.entry(rt, &mut receipt).map(|entry| entry.moment());
 /// let requests = report.tally().begun;
 /// let records = report.into_records(alloc)?;
 /// ```
@@ -85,31 +85,21 @@ fn add_records<D: Drop>(
 }
 
 impl<B: EngineName<D>, D: Device, C: Drop> Engine<B, D, C> {
-    /// Ends the engine, once all its calls are finished, since it takes the engine by value.
-    ///
-    /// # Errors
-    ///
-    /// The unchanged engine if allocation fails.
-    pub fn stop<R: Wait>(self, rt: &R) -> Result<Report<B, D>, Engine<B, D, C>>
-        ensures end { IfOk result (λ r. IsEnd record_rules B.base (IsDeviceOf D.gives B.devices) self.core r.core.journal.filled
-            r.core.sets.items) }
-        ensures once { IfOk result (λ r. AreAllBack r.core.once) }
-        ensures err { IfErr result (λ e. (e.core ≡ self.core) × (e.lookup ≡ self.lookup)) }
+    /// Ends the engine, once all its calls are finished, since it takes the engine by value. It
+    /// allocates nothing, so an engine can be stopped even if memory is short.
+    pub fn stop<R: Wait>(self, rt: &R) -> Report<B, D>
+        ensures end { IsEnd record_rules B.base (IsDeviceOf D.gives B.devices) self.core result.core.journal.filled
+            result.core.sets.items }
+        ensures once { AreAllBack result.core.once }
     {
         let Engine {
             core,
-            lookup,
-            clock,
+            lookup: _,
+            clock: _,
             alloc,
         } = self;
-        match core.stop(rt, alloc) {
-            Ok(core) => Ok(Report { core }),
-            Err(core) => Err(Engine {
-                core,
-                lookup,
-                clock,
-                alloc,
-            }),
+        Report {
+            core: core.stop(rt, alloc),
         }
     }
 }
@@ -139,11 +129,37 @@ impl<B: EngineName<D>, D: Device> Report<B, D> {
     }
 
     /// Returns the entry of a call in the journal: the desk, the number of the call at its desk,
-    /// the event, its time stamp, the answers of devices, and the reply.
-    pub fn entry<R: Wait>(&mut self, rt: &R, receipt: &mut Receipt<B>) -> &StoredEntry
-        ensures entry { IsEntryOf receipt.old self.old.core.journal.filled result.now }
+    /// the event, its time stamp, the answers of devices, and the reply. Returns `None` exactly for
+    /// a place before [`Report::first_place`].
+    pub fn entry<R: Wait>(&mut self, rt: &R, receipt: &mut Receipt<B>) -> Option<&StoredEntry>
+        ensures entry { IfSome result (λ e. IsEntryOf receipt.old self.old.core.journal.filled e.now) }
+        ensures kept { IfSome result (λ _. self.old.core.journal.dropped < length receipt.old) }
+        ensures dropped { IfNone result (length receipt.old ≤ self.old.core.journal.dropped) }
     {
         self.core.journal.entry(rt, receipt)
+    }
+
+    /// Returns the place of the first entry that the journal has, which is the number of calls
+    /// before the last checkpoint, or 0 if there was none.
+    pub fn first_place(&self) -> u64
+        ensures { result ≡ self.now.core.journal.dropped }
+    {
+        self.core.journal.dropped()
+    }
+
+    /// Returns the records as they were at the last checkpoint, and the puts with notification that
+    /// waited then, or `None` if there was no checkpoint. The calls before it lead from the load to
+    /// these records, and the entries of the journal from there to those at the end.
+    pub fn base(&self) -> Option<&JournalBase<Record>>
+        ensures base { IfSome result (λ base. IsBaseOf
+            (map_of record_rules B.base (take self.now.core.journal.dropped self.now.core.journal.filled))
+            base.now.records.items base.now.waiting.items) }
+        ensures none { IfNone result (self.now.core.journal.dropped ≡ 0) }
+        ensures legal { IsLegal record_rules
+            (map_of record_rules B.base (take self.now.core.journal.dropped self.now.core.journal.filled))
+            (drop self.now.core.journal.dropped self.now.core.journal.filled) }
+    {
+        self.core.journal.base()
     }
 
     /// Returns the records of all lock sets, those of one set after another, each with its device:

@@ -1,8 +1,10 @@
 //! The journal of an engine that has ended.
-ghost use Rattle.std.specs.Prelude.{◌≡◌};
+ghost use Rattle.std.specs.Prelude.{◌≡◌, ◌<◌, ◌≤◌, length, take, drop, IfSome, IfNone};
 ghost use Rattle.ioc_history.specs.Account.{IsEntryOf};
+ghost use Rattle.ioc_history.specs.Base.{IsBaseOf};
+ghost use Rattle.ioc_history.specs.Legal.{IsLegal, map_of};
 
-use ioc_history::{Cell, EngineName, Journal, Receipt, StoredEntry};
+use ioc_history::{Cell, EngineName, Journal, JournalBase, Receipt, StoredEntry};
 use ioc_record::RecordKind;
 use std::marker::Model;
 use std::sync::Wait;
@@ -40,11 +42,32 @@ impl<K: RecordKind, B: EngineName<K>> EndedJournal<K, B> {
     }
 
     /// Returns the call of a receipt: it is at the receipt's place, and the receipt's list ends with
-    /// it.
-    pub fn entry<R: Wait>(&mut self, rt: &R, receipt: &mut Receipt<K, B>) -> &StoredEntry
-        ensures { IsEntryOf receipt.old self.old.filled result.now }
+    /// it. Returns `None` exactly if its entry was dropped at a checkpoint.
+    pub fn entry<R: Wait>(&mut self, rt: &R, receipt: &mut Receipt<K, B>) -> Option<&StoredEntry>
+        ensures entry { IfSome result (λ e. IsEntryOf receipt.old self.old.filled e.now) }
+        ensures kept { IfSome result (λ _. self.old.dropped < length receipt.old) }
+        ensures dropped { IfNone result (length receipt.old ≤ self.old.dropped) }
     {
         self.journal.compare_receipt(rt, &self.cell, receipt);
         self.journal.entry_of(receipt)
+    }
+
+    /// Returns the number of calls whose entries were dropped at checkpoints.
+    pub fn dropped(&self) -> u64
+        ensures { result ≡ self.now.dropped }
+    {
+        self.journal.dropped()
+    }
+
+    /// Returns the records to which the calls before the last checkpoint lead, or `None` if there
+    /// was none. The other calls are legal from there on.
+    pub fn base(&self) -> Option<&JournalBase<K>>
+        ensures base { IfSome result (λ base. IsBaseOf (map_of K.rules B.base (take self.now.dropped self.now.filled))
+            base.now.records.items base.now.waiting.items) }
+        ensures none { IfNone result (self.now.dropped ≡ 0) }
+        ensures legal { IsLegal K.rules (map_of K.rules B.base (take self.now.dropped self.now.filled))
+            (drop self.now.dropped self.now.filled) }
+    {
+        self.journal.base()
     }
 }

@@ -1,10 +1,11 @@
 //! Calls on records by their numbers.
-ghost use Rattle.std.specs.Prelude.{◌≡◌, true, [], ◌∷◌, ◌⊎◌, IfOk, IfErr, OnOk, OnErr};
+ghost use Rattle.std.specs.Prelude.{◌≡◌, ◌<◌, ℕ, true, [], ◌∷◌, ◌⊎◌, IfOk, IfErr, OnOk, OnErr};
 ghost use Rattle.ioc_values.specs.declared.error.IocError.TheVariants.{JournalFull, Stopped};
 ghost use Rattle.ioc_events.specs.declared.event.Event.TheVariants.{Get};
 ghost use Rattle.ioc_events.specs.Step.{names};
 ghost use Rattle.ioc_history.specs.Line.{longer, Begins};
 ghost use Rattle.ioc_set.specs.Doing.{is_ordinary};
+ghost use Rattle.ioc_store.specs.World.{Has};
 ghost use Rattle.ioc_set_store.specs.SetStore.{world_of};
 ghost use Rattle.ioc_history.specs.Account.{IsAccount, calls, calls_by};
 ghost use Rattle.ioc_journaled_set.specs.Puts.{HaveEnded};
@@ -24,7 +25,7 @@ use ioc_topology::{Directory, Locked};
 use ioc_values::IocError;
 use std::alloc::Global;
 use std::marker::Model;
-use std::sync::atomic::{AtomicBool, AtomicU64, Ordering};
+use std::sync::atomic::AtomicU64;
 use std::sync::{Mutex, Wait};
 
 /// The records of a database in their lock sets, each set under its own lock, and the journal of
@@ -39,8 +40,6 @@ pub struct EngineCore<K: RecordKind + Drop, B: SetsName<K, D>, D: Device> {
     pub(crate) once: Mutex<OnceQueue<OnceTickets<K, B>>>,
     // The number of items that events have dropped because 256 were sent already.
     pub(crate) dropped: AtomicU64,
-    // Set once, and never cleared.
-    pub(crate) closed: AtomicBool,
 }
 
 impl<K: RecordKind + Drop, B: SetsName<K, D>, D: Device> Model for EngineCore<K, B, D> {
@@ -48,18 +47,25 @@ impl<K: RecordKind + Drop, B: SetsName<K, D>, D: Device> Model for EngineCore<K,
 
     ghost Value = { ℕ };
 
+    ghost use Rattle.std.specs.Prelude.{◌<◌};
+    ghost use Rattle.ioc_store.specs.World.{Has};
+
     ghost view = { λ e. e.sets };
+
+    ghost invariant = { λ e. (n : ℕ) → Has B.base n → n < e.sets };
 }
 
 impl<K: RecordKind + Drop, B: SetsName<K, D>, D: Device> EngineCore<K, B, D> {
     /// Creates an engine with these sets, the journal of its calls, the table of its puts with
-    /// notification, and the list of its once requests.
+    /// notification, and the list of its once requests. The sets were made for all records of the
+    /// load.
     pub fn new(
         sets: Directory<JournaledSet<K, B, D>>,
         book: SharedJournal<K, B>,
         puts: SharedNotifications<K, B>,
         once: OnceQueue<OnceTickets<K, B>>,
     ) -> Self
+        requires known { (n : ℕ) → Has B.base n → n < sets }
         ensures { result ≡ sets }
     {
         EngineCore {
@@ -68,18 +74,33 @@ impl<K: RecordKind + Drop, B: SetsName<K, D>, D: Device> EngineCore<K, B, D> {
             puts: Mutex::new(puts),
             once: Mutex::new(once),
             dropped: AtomicU64::new(0),
-            closed: AtomicBool::new(false),
         }
     }
 
     /// Closes the engine: no call begins from then on. A call that has begun is finished.
     pub fn close(&self) {
-        self.closed.store(true, Ordering::SeqCst);
+        self.book.gate().close();
     }
 
     /// Returns whether the engine was closed.
     pub fn is_closed(&self) -> bool {
-        self.closed.load(Ordering::SeqCst)
+        self.book.gate().is_closed()
+    }
+
+    // Returns whether a call may begin: the engine wasn't closed. If the gate asks for it, the free
+    // places are counted first, and if they are too few a checkpoint is made. If the checkpoint
+    // fails, the call goes on without it.
+    #[inline(always)]
+    pub(crate) fn may_begin<R: Wait>(&self, rt: &R, alloc: Global) -> bool {
+        self.book.gate().is_open() || self.may_begin_after_count(rt, alloc)
+    }
+
+    #[inline(never)]
+    fn may_begin_after_count<R: Wait>(&self, rt: &R, alloc: Global) -> bool {
+        if self.book.gate().takes_count() && self.book.is_short(rt) {
+            let _ = self.checkpoint(rt, alloc);
+        }
+        !self.is_closed()
     }
 
     /// Opens a desk, by which a caller makes its calls. It has made none yet.
@@ -146,7 +167,7 @@ impl<K: RecordKind + Drop, B: SetsName<K, D>, D: Device> EngineCore<K, B, D> {
         ensures refused { IfErr result (CallIsRefused D K.rules B.base self.now number event.now) }
         ensures err { OnErr result (desk.new ≡ desk.old) }
     {
-        if self.is_closed() {
+        if !self.may_begin(rt, alloc) {
             return Err(IocError::Stopped);
         }
         let mut held = self.sets.lock_set(rt, number)?;
@@ -185,7 +206,7 @@ impl<K: RecordKind + Drop, B: SetsName<K, D>, D: Device> EngineCore<K, B, D> {
         ensures refused { IfErr result (CallIsRefused D K.rules B.base self.now number (Get number field)) }
         ensures err { OnErr result (desk.new ≡ desk.old) }
     {
-        if self.is_closed() {
+        if !self.may_begin(rt, alloc) {
             return Err(IocError::Stopped);
         }
         let mut held = self.sets.lock_set(rt, number)?;

@@ -11,6 +11,7 @@
 #![tactic(auto)]
 
 mod cancelling;
+mod checkpoint;
 pub mod ended_journal;
 pub mod engine;
 pub mod holding;

@@ -87,7 +87,7 @@ impl<K: RecordKind + Drop, B: SetsName<K, D>, D: Device> EngineCore<K, B, D> {
         ensures refused { IfErr result (LinkWasRefused D K.rules B.base self.now number field link) }
         ensures err { OnErr result (desk.new ≡ desk.old) }
     {
-        if self.is_closed() {
+        if !self.may_begin(rt, alloc) {
             return Err(IocError::Stopped);
         }
         let _guard = self.sets.guard_topology(rt);

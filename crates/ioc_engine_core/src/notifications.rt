@@ -55,7 +55,7 @@ impl<K: RecordKind + Drop, B: SetsName<K, D>, D: Device> EngineCore<K, B, D> {
             ⊎ CallIsRefused D K.rules B.base self.now number (Put number field given) error) }
         ensures err { OnErr result (desk.new ≡ desk.old) }
     {
-        if self.is_closed() {
+        if !self.may_begin(rt, alloc) {
             return Err(IocError::Stopped);
         }
         let mut held = self.sets.lock_set(rt, number)?;
@@ -91,7 +91,7 @@ impl<K: RecordKind + Drop, B: SetsName<K, D>, D: Device> EngineCore<K, B, D> {
         ensures refused { IfErr result (λ error. (error ≡ Stopped) ⊎ IsNoPlace error) }
         ensures err { OnErr result (desk.new ≡ desk.old) }
     {
-        if self.is_closed() {
+        if !self.may_begin(rt, alloc) {
             return Err(IocError::Stopped);
         }
         let mut puts = self.puts.lock(rt);

@@ -1,5 +1,5 @@
 //! The end of the engine.
-ghost use Rattle.std.specs.Prelude.{◌≡◌, map, All, IfOk, IfErr};
+ghost use Rattle.std.specs.Prelude.{◌≡◌, map, All};
 ghost use Rattle.ioc_journaled_set.specs.Holding.{KeepsDevices};
 ghost use Rattle.ioc_journaled_set.specs.SameDevice.{IsDeviceOf};
 ghost use Rattle.ioc_engine_core.specs.Ended.{IsAsTold, IsEnd, counts_in};
@@ -109,49 +109,30 @@ fn tell_all<K: RecordKind + Drop, B: SetsName<K, D>, D: Device, R: Wait>(
 }
 
 impl<K: RecordKind + Drop, B: SetsName<K, D>, D: Device> EngineCore<K, B, D> {
-    /// Ends the engine. Waits forever if a record is in no set.
-    ///
-    /// # Errors
-    ///
-    /// The unchanged engine if allocation fails.
-    pub fn stop<R: Wait>(
-        self,
-        rt: &R,
-        alloc: Global,
-    ) -> Result<Report<K, B, D>, EngineCore<K, B, D>>
-        ensures end { IfOk result (λ r. IsEnd K.rules B.base (IsDeviceOf D.gives B.devices) self r.journal.filled r.sets.items) }
-        ensures once { IfOk result (λ r. AreAllBack r.once) }
-        ensures err { IfErr result (λ e. e ≡ self) }
+    /// Ends the engine. Allocates nothing. Waits forever if a record is in no set.
+    pub fn stop<R: Wait>(self, rt: &R, alloc: Global) -> Report<K, B, D>
+        ensures end { IsEnd K.rules B.base (IsDeviceOf D.gives B.devices) self result.journal.filled result.sets.items }
+        ensures once { AreAllBack result.once }
     {
         let EngineCore {
             mut sets,
             book,
-            puts,
+            puts: _,
             once,
             dropped,
-            closed,
         } = self;
-        let Ok(mut all) = sets.gather(rt, alloc) else {
-            return Err(EngineCore {
-                sets,
-                book,
-                puts,
-                once,
-                dropped,
-                closed,
-            });
-        };
+        let mut all = sets.gather(rt, alloc);
         let (cell, mut journal) = book.into_parts();
         journal.is_legal();
         tell_all(rt, &cell, &mut journal, all.as_mut_slice());
         all_sound(all.as_slice());
         all_keep_devices(all.as_slice());
-        Ok(Report {
+        Report {
             sets: all,
             journal: EndedJournal::new(journal, cell),
             once: give_up_all(once.into_inner()),
             dropped: dropped.into_inner(),
-        })
+        }
     }
 }
 

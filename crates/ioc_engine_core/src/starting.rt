@@ -1,10 +1,11 @@
 //! The start of an engine.
-ghost use Rattle.std.specs.Prelude.{◌≡◌, ◌-◌, ◌^◌, ◌↔◌, [], All, IsTrue, IfOk, IfErr, OnOk, length};
+ghost use Rattle.std.specs.Prelude.{◌≡◌, ◌<◌, ◌-◌, ℕ, ◌^◌, ◌↔◌, [], All, IsTrue, IfOk, IfErr, OnOk, length};
 ghost use Rattle.crossbeam_utils.specs.Seq.{cell_view};
 ghost use Rattle.ioc_history.specs.Line.{keeper};
 ghost use Rattle.ioc_history.specs.Account.{AreNoDesks, AreRecords};
 ghost use Rattle.ioc_history.specs.Places.{AreAllowed};
 ghost use Rattle.ioc_history.specs.Legal.{IsSound};
+ghost use Rattle.ioc_store.specs.World.{Has};
 ghost use Rattle.ioc_set_records.specs.Joined.{IsClosed};
 ghost use Rattle.ioc_set_records.specs.Linked.{AreParts, links_in};
 ghost use Rattle.ioc_engine_core.specs.Loading.{loaded_world, device_in, IsIdle};
@@ -132,6 +133,7 @@ fn holdings<K: RecordKind + Drop, B: SetsName<K, D>, D: Device>(
     requires idle { All (λ l. IsIdle K.rules l.fields) all.items }
     requires parts { AreParts K.rules all.items parts.now }
     ensures count { IfOk result (λ x. x.0 ≡ length all.items) }
+    ensures known { IfOk result (λ x. (n : ℕ) → Has B.base n → n < x.0) }
     ensures table { OnOk result (master.new.table_id ≡ B.table) }
     ensures master { OnOk result (cell_view master.new ≡ keeper [] (cell_view master.new).born) }
     ensures born { OnOk result (AreNoDesks (cell_view master.new).born) }
@@ -192,7 +194,7 @@ pub fn start<K: RecordKind + Drop, B: SetsName<K, D>, D: Device>(
     let Ok((journal, free)) = Journal::new(alloc, master, blank, limits) else {
         return Err(StartError::NoMemory);
     };
-    let Ok(book) = SharedJournal::new(alloc, cell, journal, free) else {
+    let Ok(book) = SharedJournal::new(alloc, cell, journal, free, limits.checkpoint_at) else {
         return Err(StartError::NoMemory);
     };
     Ok(EngineCore::new(directory, book, puts, once))

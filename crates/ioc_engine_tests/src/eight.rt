@@ -19,6 +19,9 @@ pub const THREADS: usize = 8;
 /// The number of calls of each thread.
 pub const CALLS: usize = 1000;
 
+// The number of calls of the first thread between two checkpoints.
+const BETWEEN: usize = 100;
+
 // Returns the next of a sequence of pseudorandom numbers.
 fn next_of(seed: u64) -> u64 {
     seed.wrapping_mul(6364136223846793005)
@@ -122,7 +125,7 @@ fn make_or_get<B: EngineName<D>, D: Device, C: Clock + Drop, R: Wait>(
     })
 }
 
-// Makes the calls of one thread.
+// Makes the calls of one thread. The first one also makes checkpoints.
 fn calls<B: EngineName<D>, D: Device, C: Clock + Drop, R: Wait>(
     rt: &R,
     alloc: Global,
@@ -134,14 +137,17 @@ fn calls<B: EngineName<D>, D: Device, C: Clock + Drop, R: Wait>(
     let mut kept = Vec::with_capacity(alloc, CALLS)?;
     let mut seed = thread as u64;
     let mut wait = 1u64;
-    for _ in 0..CALLS {
+    for made in 0..CALLS {
+        if thread == 0 && made % BETWEEN == 0 {
+            engine.checkpoint(rt)?;
+        }
         seed = next_of(seed);
         let call = drawn(seed, thread, wait);
-        let made = make_or_get(rt, engine, &mut desk, targets.as_slice(), call)?;
-        if matches!(call, Call::Complete(_, _)) && made.reply == Reply::Plain {
+        let answered = make_or_get(rt, engine, &mut desk, targets.as_slice(), call)?;
+        if matches!(call, Call::Complete(_, _)) && answered.reply == Reply::Plain {
             wait = wait.saturating_add(1);
         }
-        kept.push(made)?;
+        kept.push(answered)?;
     }
     Ok(kept)
 }

@@ -10,12 +10,16 @@ use ioc_engine::{
     Limits, Macros, Numbered, Outcome, Receipt, Reply, Report, Seed, StoppedRecord, Tally, load,
     with_numbers,
 };
+use ioc_fields::{FieldNo, OwnField};
+use ioc_record::text_of;
 use std::alloc::Global;
 use std::marker::Brand;
 use std::sync::Wait;
 use std::sync::atomic::{AtomicU64, Ordering};
 use std::thread;
 use std::thread::Threads;
+
+const VALUE: FieldNo = FieldNo::Own(OwnField::Val);
 
 /// What is done with an engine.
 #[derive(Clone, Copy)]
@@ -34,6 +38,8 @@ pub enum Work<'a> {
     Eight,
     /// Two desks, of which the second learns of the call of the first, and their entries.
     Learns,
+    /// A call before a checkpoint and one after it, and their entries.
+    Drops,
 }
 
 /// What is found at the end of an engine.
@@ -49,6 +55,11 @@ pub struct Ended {
     /// The number of records that are given back with a device.
     pub devices: usize,
     pub tally: Tally,
+    /// The place of the first entry that the journal has.
+    pub first_place: u64,
+    /// The field VAL of the first record at the last checkpoint, and the number of puts with
+    /// notification that waited then.
+    pub base: Option<(FieldText, usize)>,
 }
 
 // Makes calls once the first flag is raised, then raises the second. Returns the number of calls
@@ -89,7 +100,7 @@ fn done<
             one.saturating_add(other)
         }
         Work::Eight => eight(rt, alloc, engine).unwrap_or(0),
-        Work::Learns => 0,
+        Work::Learns | Work::Drops => 0,
     }
 }
 
@@ -115,6 +126,16 @@ fn with_device<D>(records: &[StoppedRecord<D>]) -> usize {
     devices
 }
 
+// Returns the field VAL of the first record at the last checkpoint, and the number of puts with
+// notification that waited then.
+fn base_of<B: EngineName<D>, D: Device>(report: &Report<B, D>) -> Option<(FieldText, usize)> {
+    let base = report.base()?;
+    match base.records.first() {
+        Some(Some(record)) => Some((text_of(record, VALUE), base.waiting.len())),
+        _ => None,
+    }
+}
+
 // Ends an engine in which this many steps had the expected result.
 fn end<B: EngineName<D>, D: Device, C: Clock + Drop, R: Wait>(
     rt: &R,
@@ -126,10 +147,10 @@ fn end<B: EngineName<D>, D: Device, C: Clock + Drop, R: Wait>(
         Ok(parts) => parts.len(),
         Err(_closed) => 0,
     };
-    let Ok(report) = engine.stop(rt) else {
-        return None;
-    };
+    let report = engine.stop(rt);
     let tally = report.tally();
+    let first_place = report.first_place();
+    let base = base_of(&report);
     let Ok(records) = report.into_records(alloc) else {
         return None;
     };
@@ -140,6 +161,8 @@ fn end<B: EngineName<D>, D: Device, C: Clock + Drop, R: Wait>(
         active: awaiting(records.as_slice()),
         devices: with_device(records.as_slice()),
         tally,
+        first_place,
+        base,
     })
 }
 
@@ -165,8 +188,10 @@ fn has_entry<B: EngineName<D>, D: Device, R: Wait>(
     desk: u64,
     reply: &Reply,
 ) -> bool {
-    let told = report.entry(rt, receipt);
-    told.desk() == desk && told.call() == 0 && told.reply() == *reply
+    match report.entry(rt, receipt) {
+        Some(told) => told.desk() == desk && told.call() == 0 && told.reply() == *reply,
+        None => false,
+    }
 }
 
 // Returns whether the second desk's call came after the first one's, and both are in the journal.
@@ -178,14 +203,56 @@ fn has_learnt<B: EngineName<D>, D: Device, C: Clock + Drop, R: Wait>(
         return false;
     };
     let is_later = put.place() < shown.place();
-    let Ok(mut report) = engine.stop(rt) else {
-        return false;
-    };
+    let mut report = engine.stop(rt);
     let processed = Reply::Outcome(Outcome::Processed);
     let five = Reply::Shown(FieldText::cut(b"5"));
     let is_put = has_entry(rt, &mut report, &mut put, 0, &processed);
     let is_shown = has_entry(rt, &mut report, &mut shown, 1, &five);
     is_later && is_put && is_shown
+}
+
+// Puts a value before a checkpoint, and gets it after it.
+fn put_and_drop<B: EngineName<D>, D: Device, C: Clock + Drop, R: Wait>(
+    rt: &R,
+    engine: &Engine<B, D, C>,
+) -> Result<(Receipt<B>, Receipt<B>), IocError> {
+    let mut desk = engine.desk(rt)?;
+    let channel = engine.channel(b"a")?;
+    let (_, put) = engine.put(rt, &mut desk, channel, Input::from_text(b"5"))?;
+    engine.checkpoint(rt)?;
+    let (_, shown) = engine.get(rt, &mut desk, channel)?;
+    Ok((put, shown))
+}
+
+// Returns whether the journal has the call after a checkpoint and not the one before it.
+fn has_dropped<B: EngineName<D>, D: Device, C: Clock + Drop, R: Wait>(
+    rt: &R,
+    engine: Engine<B, D, C>,
+) -> bool {
+    let Ok((mut put, mut shown)) = put_and_drop(rt, &engine) else {
+        return false;
+    };
+    let mut report = engine.stop(rt);
+    let is_gone = report.entry(rt, &mut put).is_none();
+    let is_there = match report.entry(rt, &mut shown) {
+        Some(entry) => entry.call() == 1 && entry.reply() == Reply::Shown(FieldText::cut(b"5")),
+        None => false,
+    };
+    is_gone && is_there && shown.place() == 1 && report.first_place() == 1
+}
+
+// Returns whether something was found, as one step or none.
+fn told(is_found: bool) -> Ended {
+    Ended {
+        held: usize::from(is_found),
+        sets: 0,
+        records: 0,
+        active: 0,
+        devices: 0,
+        tally: Tally::default(),
+        first_place: 0,
+        base: None,
+    }
 }
 
 // Runs an engine of any name, and returns the result, or `None` if it can't be started.
@@ -202,15 +269,10 @@ fn run<B: EngineName<D> + Send + Sync, D: Device + Send + Sync, R: Threads + Wai
     let Ok(engine) = Engine::<B, D, CountingClock>::start(alloc, seed, clock, limits) else {
         return None;
     };
-    if let Work::Learns = work {
-        return Some(Ended {
-            held: usize::from(has_learnt(rt, engine)),
-            sets: 0,
-            records: 0,
-            active: 0,
-            devices: 0,
-            tally: Tally::default(),
-        });
+    match work {
+        Work::Learns => return Some(told(has_learnt(rt, engine))),
+        Work::Drops => return Some(told(has_dropped(rt, engine))),
+        _ => (),
     }
     let held = done(rt, alloc, &engine, work);
     end(rt, alloc, engine, held)

@@ -1,7 +1,7 @@
 //! Sessions with an engine: the calls of a desk on the records of a text, and what is
 //! found at the end.
 use crate::calling::Call::{self, Cancel, Complete, Get, Process, Put, PutNotify, SetLink};
-use crate::steps::Step::{self, Closes, Ends, Makes, Parts};
+use crate::steps::Step::{self, Checkpoint, Closes, Ends, Makes, Parts};
 use crate::steps::Wanted::{At, Fails, Moves, Shows};
 use crate::steps::{Says, Wanted};
 use ioc_engine::IocError;
@@ -17,6 +17,11 @@ pub enum AtEnd {
     Devices(usize),
     /// The number of records that await their devices.
     Active(usize),
+    /// The place of the first entry that the journal has.
+    FirstPlace(u64),
+    /// The field VAL of the first record at the last checkpoint, and the number of puts with
+    /// notification that waited then.
+    Base(&'static [u8], usize),
     /// The number of requests, all of which were processed, and those of the answers of devices
     /// that were to come later, and that came.
     Counts(u64, u64, u64),
@@ -155,6 +160,97 @@ pub static CALLS: [Session; 4] = [
             Makes(Put(b"a.PACT", b"1"), Fails(IocError::Stopped)),
         ],
         end: &[AtEnd::Records(1), AtEnd::Active(0), AtEnd::Counts(3, 0, 0)],
+    },
+];
+
+/// Checkpoints of the journal.
+pub static CHECKPOINTS: [Session; 4] = [
+    Session {
+        name: "places after a checkpoint",
+        text: b"record(longin,\"a\"){}\n",
+        later: &[],
+        places: Some(2),
+        steps: &[
+            Makes(Put(b"a.VAL", b"1"), At(0, Says::Processed)),
+            Makes(Put(b"a.VAL", b"2"), At(1, Says::Processed)),
+            Makes(Get(b"a.VAL"), Fails(IocError::JournalFull)),
+            Checkpoint,
+            Makes(Get(b"a.VAL"), At(2, Says::Shown(b"2"))),
+        ],
+        end: &[
+            AtEnd::Counts(2, 0, 0),
+            AtEnd::FirstPlace(2),
+            AtEnd::Base(b"2", 0),
+        ],
+    },
+    Session {
+        name: "one checkpoint after the other",
+        text: b"record(longin,\"a\"){}\n",
+        later: &[],
+        places: Some(1),
+        steps: &[
+            Checkpoint,
+            Makes(Put(b"a.VAL", b"1"), At(0, Says::Processed)),
+            Makes(Put(b"a.VAL", b"2"), Fails(IocError::JournalFull)),
+            Checkpoint,
+            Checkpoint,
+            Makes(Put(b"a.VAL", b"3"), At(1, Says::Processed)),
+            Makes(Put(b"a.VAL", b"4"), Fails(IocError::JournalFull)),
+            Checkpoint,
+            Makes(Put(b"a.VAL", b"5"), At(2, Says::Processed)),
+        ],
+        end: &[
+            AtEnd::Counts(3, 0, 0),
+            AtEnd::FirstPlace(2),
+            AtEnd::Base(b"3", 0),
+        ],
+    },
+    // The second put waits for the device at the checkpoint, and both end afterwards as ever.
+    Session {
+        name: "a put that waits at a checkpoint",
+        text: NOTIFIED,
+        later: &[b"d"],
+        places: None,
+        steps: &[
+            Makes(PutNotify(b"p.VAL", b"7"), At(0, Says::Notify(1))),
+            Makes(PutNotify(b"p.VAL", b"8"), At(1, Says::Notify(2))),
+            Checkpoint,
+            Makes(Call::Live(2), At(2, Says::Live(true))),
+            Ends(Complete(b"p", 1, 5), At(3, Says::Plain), &[1]),
+            Makes(Get(b"p.VAL"), Shows(b"8")),
+            Ends(Complete(b"p", 2, 9), At(5, Says::Plain), &[2]),
+            Makes(Call::Live(2), At(6, Says::Live(false))),
+        ],
+        end: &[
+            AtEnd::Sets(2),
+            AtEnd::Active(0),
+            AtEnd::Counts(2, 2, 2),
+            AtEnd::FirstPlace(2),
+            AtEnd::Base(b"7", 1),
+        ],
+    },
+    // Sets that were joined before a checkpoint part after it.
+    Session {
+        name: "link changes beside checkpoints",
+        text: b"record(longin,\"a\"){}\nrecord(longin,\"b\"){}\n",
+        later: &[],
+        places: None,
+        steps: &[
+            Makes(SetLink(b"a.FLNK", b"b"), Moves(1)),
+            Checkpoint,
+            Parts(&[&[b"a", b"b"]]),
+            Makes(Put(b"a.VAL", b"1"), At(1, Says::Processed)),
+            Makes(SetLink(b"a.FLNK", b""), Moves(1)),
+            Checkpoint,
+            Parts(&[&[b"a"], &[b"b"]]),
+            Makes(Process(b"a"), At(3, Says::Processed)),
+        ],
+        end: &[
+            AtEnd::Sets(2),
+            AtEnd::Counts(3, 0, 0),
+            AtEnd::FirstPlace(3),
+            AtEnd::Base(b"1", 0),
+        ],
     },
 ];
 

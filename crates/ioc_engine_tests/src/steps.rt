@@ -42,7 +42,10 @@ pub enum Step {
     Ends(Call, Wanted, &'static [u64]),
     /// The lock sets have the records with these names.
     Parts(&'static [&'static [&'static [u8]]]),
-    /// The engine is closed, which it wasn't before. It shows no sets and opens no desk any more.
+    /// A checkpoint of the journal is made.
+    Checkpoint,
+    /// The engine is closed, which it wasn't before. It shows no sets, opens no desk and makes no
+    /// checkpoint any more.
     Closes,
 }
 
@@ -144,7 +147,8 @@ fn are_parts<B: EngineName<D>, D: Device, C: Clock + Drop, R: Wait>(
     parts.len() == wanted.len()
 }
 
-// Closes an engine that isn't closed, and returns whether it shows no sets and opens no desk then.
+// Closes an engine that isn't closed, and returns whether it shows no sets, opens no desk and makes
+// no checkpoint then.
 fn closes<B: EngineName<D>, D: Device, C: Clock + Drop, R: Wait>(
     rt: &R,
     engine: &Engine<B, D, C>,
@@ -152,7 +156,8 @@ fn closes<B: EngineName<D>, D: Device, C: Clock + Drop, R: Wait>(
     let was_closed = engine.is_closed();
     engine.close();
     let is_silent = matches!(engine.parts(rt), Err(IocError::Stopped))
-        && matches!(engine.desk(rt), Err(IocError::Stopped));
+        && matches!(engine.desk(rt), Err(IocError::Stopped))
+        && matches!(engine.checkpoint(rt), Err(IocError::Stopped));
     !was_closed && engine.is_closed() && is_silent
 }
 
@@ -167,6 +172,7 @@ fn holds<B: EngineName<D>, D: Device, C: Clock + Drop, R: Wait>(
         Step::Makes(call, wanted) => answers(rt, engine, desk, call, wanted, &[]),
         Step::Ends(call, wanted, ended) => answers(rt, engine, desk, call, wanted, ended),
         Step::Parts(wanted) => are_parts(rt, engine, wanted),
+        Step::Checkpoint => engine.checkpoint(rt).is_ok(),
         Step::Closes => closes(rt, engine),
     }
 }

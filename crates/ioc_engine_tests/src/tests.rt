@@ -5,12 +5,12 @@ use crate::running::{Ended, Work, run_text};
 use crate::sensor::Sensor;
 use crate::sessions::AtEnd::{self, Counts, Devices, Records, Sets};
 use crate::sessions::{
-    CALLS as DESK_CALLS, LINK_CHANGES, MORE_PUTS_OVER_LINK_CHANGES, PUTS, PUTS_OVER_LINK_CHANGES,
-    Session,
+    CALLS as DESK_CALLS, CHECKPOINTS, LINK_CHANGES, MORE_PUTS_OVER_LINK_CHANGES, PUTS,
+    PUTS_OVER_LINK_CHANGES, Session,
 };
 use crate::steps::Step::{self, Makes};
 use crate::steps::{Says, Wanted};
-use ioc_engine::{DeviceName, IocError, Limits, Tally};
+use ioc_engine::{DeviceName, FieldText, IocError, Limits, Tally};
 use std::alloc::{AllocError, Global};
 use std::fmt::Write;
 use std::sync::atomic::AtomicU64;
@@ -47,6 +47,8 @@ fn is_found(ended: &Ended, wanted: AtEnd) -> bool {
         Records(count) => ended.records == count,
         Devices(count) => ended.devices == count,
         AtEnd::Active(count) => ended.active == count,
+        AtEnd::FirstPlace(place) => ended.first_place == place,
+        AtEnd::Base(text, waiting) => ended.base == Some((FieldText::cut(text), waiting)),
         Counts(processed, started, completed) => {
             ended.tally == tally_of(processed, started, completed)
         }
@@ -66,6 +68,14 @@ fn result(ended: Option<Ended>, wanted: &[AtEnd]) -> (usize, bool) {
     (ended.held, true)
 }
 
+// Returns the limits of a journal with this many places, whose checkpoints are made by steps.
+fn limited(journal: u64) -> Limits {
+    Limits {
+        journal,
+        checkpoint_at: 0,
+    }
+}
+
 // Runs the calls of a session.
 fn run_session<R: Threads + Wait + Sync>(
     rt: &R,
@@ -73,7 +83,7 @@ fn run_session<R: Threads + Wait + Sync>(
     session: &Session,
 ) -> Result<(usize, bool), IocError> {
     let limits = match session.places {
-        Some(journal) => Limits { journal },
+        Some(journal) => limited(journal),
         None => Limits::default(),
     };
     let work = Work::Steps(session.steps);
@@ -99,6 +109,12 @@ fn failing<R: Threads + Wait + Sync>(
 #[test]
 fn calls_of_a_desk(rt: HostRuntime) -> Result<(), Fail> {
     assert_eq!(rt; failing(&rt, rt.alloc(), &DESK_CALLS)?, None);
+    Ok(())
+}
+
+#[test]
+fn checkpoints(rt: HostRuntime) -> Result<(), Fail> {
+    assert_eq!(rt; failing(&rt, rt.alloc(), &CHECKPOINTS)?, None);
     Ok(())
 }
 
@@ -252,20 +268,30 @@ fn eight_threads(rt: HostRuntime) -> Result<(), Fail> {
     Ok(())
 }
 
-// Returns whether a desk that learns of a call makes its next call after it, and the journal has
-// both calls.
-fn is_learnt<R: Threads + Wait + Sync>(rt: &R, alloc: Global) -> Result<bool, IocError> {
+// Returns whether this work with one record has what is looked for.
+fn is_there<R: Threads + Wait + Sync>(
+    rt: &R,
+    alloc: Global,
+    work: Work<'_>,
+) -> Result<bool, IocError> {
     let text = b"record(longin,\"a\"){}\n";
     let none = Vec::new(alloc);
-    let Some(end) = run_text(rt, alloc, text, none, Limits::default(), Work::Learns)? else {
+    let Some(end) = run_text(rt, alloc, text, none, Limits::default(), work)? else {
         return Ok(false);
     };
     Ok(end.held == 1)
 }
 
+// A desk that learns of a call makes its next call after it, and the journal has both calls.
 #[test]
 fn learnt_and_entered(rt: HostRuntime) -> Result<(), Fail> {
-    assert!(rt; is_learnt(&rt, rt.alloc())?);
+    assert!(rt; is_there(&rt, rt.alloc(), Work::Learns)?);
+    Ok(())
+}
+
+#[test]
+fn entries_after_a_checkpoint(rt: HostRuntime) -> Result<(), Fail> {
+    assert!(rt; is_there(&rt, rt.alloc(), Work::Drops)?);
     Ok(())
 }
 
@@ -322,7 +348,7 @@ fn limit_of_live_puts(rt: HostRuntime) -> Result<(), Fail> {
 #[test]
 fn refused_puts_keep_no_places(rt: HostRuntime) -> Result<(), Fail> {
     let steps = steps_in_full_journal(rt.alloc())?;
-    let limits = Limits { journal: 1 };
+    let limits = limited(1);
     assert!(rt; are_limited(&rt, rt.alloc(), limits, steps.as_slice())?);
     Ok(())
 }
@@ -369,5 +395,29 @@ fn is_all_processed<R: Threads + Wait + Sync>(rt: &R, alloc: Global) -> Result<b
 #[test]
 fn long_chain(rt: HostRuntime) -> Result<(), Fail> {
     assert!(rt; is_all_processed(&rt, rt.alloc())?);
+    Ok(())
+}
+
+// The number of puts of an engine that makes its checkpoints itself.
+const PUTS_WITHOUT_END: usize = 1000;
+
+// Returns whether all these puts are answered by an engine with ten places in its journal.
+fn is_without_end<R: Threads + Wait + Sync>(rt: &R, alloc: Global) -> Result<bool, IocError> {
+    let text = b"record(longin,\"a\"){}\n";
+    let put = Makes(Call::Put(b"a.VAL", b"1"), Wanted::Says(Says::Processed));
+    let steps = vec![in alloc; put; PUTS_WITHOUT_END]?;
+    let limits = Limits {
+        journal: 10,
+        checkpoint_at: 1,
+    };
+    let none = Vec::new(alloc);
+    let ended = run_text(rt, alloc, text, none, limits, Work::Steps(&steps))?;
+    let wanted = [Counts(1000, 0, 0), AtEnd::FirstPlace(990)];
+    Ok(result(ended, &wanted) == (PUTS_WITHOUT_END, true))
+}
+
+#[test]
+fn checkpoints_of_its_own(rt: HostRuntime) -> Result<(), Fail> {
+    assert!(rt; is_without_end(&rt, rt.alloc())?);
     Ok(())
 }

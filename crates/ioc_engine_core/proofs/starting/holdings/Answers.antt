@@ -1,6 +1,9 @@
-use Rattle.std.proofs.Common.{ℕ, ◌<◌, ◌^◌, List, Option, refl, sym, subst, length, arith, rules}
+use Rattle.std.proofs.Common.{◌≡◌, ℕ, ◌<◌, ◌^◌, List, Option, map, refl, sym, subst, length, arith, rules}
 use Rattle.ioc_set_records.specs.Contents.{Contents, nothing}
-use Rattle.ioc_store.specs.World.{World}
+use Rattle.std.proofs.lemmas.List.{length-map}
+use Rattle.ioc_set_records.specs.declared.loaded.Loaded.{Loaded}
+use Rattle.ioc_store.specs.OneMapLaws.{has_within}
+use Rattle.ioc_store.specs.World.{World, Has}
 use Rattle.ioc_history.specs.Legal.{IsSound}
 use Rattle.ioc_journaled_set.specs.SameDevice.{IsSameDevice, IsDeviceOf}
 use Rattle.ioc_engine_core.specs.Loading.{loaded_world, device_in, IsAtRest, AreSetsFrom}
@@ -39,3 +42,12 @@ returns-clause-sound g c =
     let few : length all < 2 ^ 63 = search rules in
     subst (λ (w : World g.row.K.Denot). IsSound k w) (sym c.requires.base)
     (c.lists_leave_sound.ensures.first (loaded_world all) (database_is_shut k missing parts all c.requires.idle c.requires.parts) (database_is_small k missing parts all c.requires.idle c.requires.parts (2 ^ 63) few) refl refl (database_is_free k missing parts all c.requires.idle c.requires.parts))
+
+pub returns-clause-known : goal.returns-clause-known
+returns-clause-known g c = λ n has.
+    let all = c.args.all.items in
+    let fields = map (λ (l : Loaded g.row.K.Denot g.row.D.Denot). l.fields) all in
+    let lt = has_within fields n (subst (λ (w : World g.row.K.Denot). Has w n) c.requires.base has) in
+    let long = length-map all (λ (l : Loaded g.row.K.Denot g.row.D.Denot). l.fields) in
+    let count : c.in_ok-directory.directory ≡ length all = search rules in
+    omega (arith, lt, long, count)

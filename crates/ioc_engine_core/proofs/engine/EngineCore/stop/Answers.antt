@@ -19,12 +19,12 @@ returns-clause-end g c =
     let base = g.B.EngineName.base in
     let e = c.tell_all.ensures in
     let count : c.self.inside.sets ≡ c.args.self = c.self.view_is in
-    let all = subst (λ (n : ℕ). HoldEach numbers_of c.in-Ok.all.items n) count c.in-Ok.ensures.all in
-    let list = c.in-Ok.all.items in
+    let all = subst (λ (n : ℕ). HoldEach numbers_of c.gather-all.result.items n) count c.gather-all.ensures.all in
+    let list = c.gather-all.result.items in
     let kept = e.sets ∙ ap (λ (l : List (HeldView g.row.K.Denot g.row.D.Denot)). map (λ (h : HeldView g.row.K.Denot g.row.D.Denot). h.set) l) c.as_mut_slice.ensures.value in
     let many : length c.tell_all.new.sets ≡ length list = sym (length-map c.tell_all.new.sets (λ (h : HeldView g.row.K.Denot g.row.D.Denot). h.set)) ∙ ap (λ (l : List (SetState g.row.K.Denot g.row.D.Denot)). length l) kept ∙ length-map list (λ (h : HeldView g.row.K.Denot g.row.D.Denot). h.set) in
-    let as_long : c.in-Ok.all.len ≡ length list = search rules in
-    let same = sym (whole c.tell_all.new.sets (drop (length c.tell_all.new.sets) list) c.in-Ok.all.len (as_long ∙ sym many)) in
+    let as_long : c.gather-all.result.len ≡ length list = search rules in
+    let same = sym (whole c.tell_all.new.sets (drop (length c.tell_all.new.sets) list) c.gather-all.result.len (as_long ∙ sym many)) in
     subst (λ (l : List (HeldView g.row.K.Denot g.row.D.Denot)). IsEnd k base (IsDeviceOf g.D.Device.gives g.B.SetsName.devices) c.args.self c.new.result.filled l) same (record {
       each = still_hold_each (λ (h : HeldView g.row.K.Denot g.row.D.Denot). h.set) (λ (h : SetState g.row.K.Denot g.row.D.Denot). keys h.records) list c.tell_all.new.sets kept c.args.self all;
       sound = subst (λ (l : List (HeldView g.row.K.Denot g.row.D.Denot)). All (IsSoundlyHeld k base) l) (c.as_slice.ensures.value ∙ sym same) c.all_sound.ensures;
