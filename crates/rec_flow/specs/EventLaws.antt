@@ -1,84 +1,25 @@
 -- The type event keeps the laws of record types.
-use Rattle.std.proofs.Common.{◌≡◌, true, [], Some, refl, ap}
-use Rattle.std.specs.Prelude.{is_some}
-use Rattle.ioc_values.specs.declared.value.Value.{Value}
-use Rattle.ioc_values.specs.Shapes.{IsValueOf}
-use Rattle.ioc_fields.specs.declared.field_no.FieldNo.TheVariants.{Own}
-use Rattle.ioc_fields.specs.declared.field_no.OwnField.{OwnField}
-use Rattle.ioc_fields.specs.declared.field_no.OwnField.TheVariants.{Val, Inp}
-use Rattle.ioc_fields.specs.declared.record_type.RecordType.TheVariants.{Event as Event-type}
-use Rattle.ioc_fields.specs.Table.{row_of, own_row, text_input_row, text_row, can_put, is_link, kind_of}
-use Rattle.ioc_fields.specs.Types.{reads_device}
-use Rattle.ioc_fields.specs.Defaults.{zero_of, own_default}
-use Rattle.ioc_dbcommon.specs.declared.source.Source.{Source}
+use Rattle.std.proofs.Common.{◌≡◌, refl}
+use Rattle.ioc_fields.specs.declared.field_no.OwnField.TheVariants.{Val}
+use Rattle.ioc_fields.specs.Table.{row_of, own_row}
+use Rattle.ioc_fields.specs.Defaults.{own_default}
 use Rattle.ioc_dbcommon.specs.declared.body.Got.{Got}
 use Rattle.ioc_dbcommon.specs.declared.body.Got.TheVariants as got
-use Rattle.ioc_dbcommon.specs.Links.{no_link, use_of, named_by_field}
-use Rattle.ioc_record.specs.Values.{field_sort, sort_in}
-use Rattle.ioc_dbcommon.specs.Source.{new_source, source_link, source_set_here, source_set_there, source_set_others, source_set_twice, source_begin_leads}
 use Rattle.ioc_record.specs.BodyRules.{BodyState}
-use Rattle.ioc_record.specs.BodyLaws.{IsLawfulBody, IsNewBody}
-use Rattle.rec_text.specs.TextInput.{new_text_input, text_input_get, text_input_stored, stored-source, put-source}
-use Rattle.rec_flow.specs.declared.event.Event.{Event}
-use Rattle.rec_flow.specs.Event.{event, new_event, inner, event_taken, event_output, event_loaded}
+use Rattle.ioc_record.specs.BodyLaws.{IsLawfulBody}
+use Rattle.rec_text.specs.declared.text_input.TextInput.{TextInput}
+use Rattle.rec_text.specs.TextInput.{stored-source}
+use Rattle.rec_text.specs.TextBodyLaws.{IsLawfulText, text_body_lawful}
+use Rattle.rec_flow.specs.Event.{posted, event, event_taken}
 
-taken-source : (h : BodyState Event) (got : Got) → (event_taken h got).body.text.source ≡ h.body.text.source
+taken-source : (h : BodyState TextInput) (got : Got) → (event_taken h got).body.source ≡ h.body.source
 unfolding event_taken
-taken-source h (got.Value v) = stored-source (inner h) Val v
+taken-source h (got.Value v) = stored-source h Val v
 taken-source h _ = refl
 
-loaded-source : (h : BodyState Event) → (event_loaded h).body.text.source ≡ h.body.text.source
-unfolding event_loaded
-loaded-source h = put-source (inner h) h.body.text.source.input.link
-
-link-there : (b : Event) (f : OwnField) → is_some (source_link b.text.source.input f) ≡ is_link Event-type (Own f)
-unfolding row_of own_row text_input_row text_row
-link-there b Inp = refl
-link-there b _ = refl
-
-missing-links : (f : OwnField) → named_by_field (source_link new_event.text.source.input f) ≡ []
-unfolding new_event new_text_input new_source use_of
-missing-links Inp = refl
-missing-links _ = refl
-
-reads_back : (h : BodyState Event) (f : OwnField) (v : Value) → can_put Event-type (Own f) ≡ true → IsValueOf (sort_in [] (kind_of Event-type (Own f))) v
-    → text_input_get (text_input_stored (inner h) f v).body f ≡ Some v
-unfolding row_of own_row text_input_row text_row text_input_get text_input_stored field_sort
-reads_back h Val v can is = rw is.1 refl
-reads_back h _ v can is = cc
+pub posted_lawful : IsLawfulText posted
+unfolding own_row row_of own_default
+posted_lawful = record { taken_source = taken-source; row = λ f. refl; default = λ f. refl; writes_no_link = λ t link v is. cc; writes_no_device = λ t v is. cc }
 
 pub event_lawful : IsLawfulBody event
-unfolding reads_device event_output text_input_get
-event_lawful = record {
-  missing_links = missing-links;
-  link_there = link-there;
-  taken_type = λ h got. refl;
-  taken_links = λ h got. ap (λ (s : Source). source_link s.input) (taken-source h got);
-  stored_type = λ h f v. refl;
-  stored_links = λ h f v. ap (λ (s : Source). source_link s.input) (stored-source (inner h) f v);
-  set_here = λ b f l is. source_set_here b.text.source f l is;
-  set_there = λ b f g l. source_set_there b.text.source f g l;
-  set_others = λ b f g l apart. source_set_others b.text.source f g l apart;
-  set_twice = λ b f l m. ap (λ s. record b { text = record b.text { source = s } }) (source_set_twice b.text.source f l m);
-  set_type = λ b f l. refl;
-  set_values = λ b f l g. refl;
-  loaded_type = λ h. refl;
-  loaded_links = λ h. ap (λ (s : Source). source_link s.input) (loaded-source h);
-  put_reads_back = reads_back;
-  begin_named = λ b t is. record { field = Inp; link = b.text.source.input; is = refl; leads = source_begin_leads b.text.source.input t is };
-  output_named = λ h got t v is. cc;
-  readers_write_none = λ h got v reads is. cc;
-}
-
-new_values : (f : OwnField) → text_input_get new_event.text f ≡ own_default Event-type f
-unfolding new_event new_text_input text_input_get own_default zero_of row_of own_row text_input_row text_row
-new_values Val = refl
-new_values _ = refl
-
-new_links : (f : OwnField) → is_link Event-type (Own f) ≡ true → source_link new_event.text.source.input f ≡ Some no_link
-unfolding new_event new_text_input new_source row_of own_row text_input_row text_row
-new_links Inp is = refl
-new_links _ is = cc
-
-pub event_new : IsNewBody event new_event
-event_new = record { values = new_values; links = new_links }
+event_lawful = text_body_lawful posted posted_lawful

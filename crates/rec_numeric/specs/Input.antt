@@ -2,9 +2,6 @@
 -- Input Record".
 use Rattle.std.specs.Prelude.{ℤ, [], Option, Some, None}
 use Rattle.ioc_values.specs.declared.value.Value.{Value}
-use Rattle.ioc_values.specs.Conversion.{Numbers, of_number}
-use Rattle.ioc_links.specs.declared.link.Link.{Link}
-use Rattle.ioc_links.specs.declared.link.Link.TheVariants.{Constant}
 use Rattle.ioc_fields.specs.declared.field_no.OwnField.{OwnField}
 use Rattle.ioc_fields.specs.declared.field_no.OwnField.TheVariants.{Val, Inp}
 use Rattle.ioc_dbcommon.specs.declared.body.Got.{Got}
@@ -14,8 +11,9 @@ use Rattle.ioc_dbcommon.specs.declared.body.InputKind.TheVariants as input
 use Rattle.ioc_dbcommon.specs.declared.body.Output.TheVariants.{NoOutput}
 use Rattle.ioc_dbcommon.specs.Source.{new_source, source_link, source_with_link, source_begin}
 use Rattle.ioc_record.specs.BodyRules.{BodyRules, BodyState}
-use Rattle.rec_numeric.specs.Number.{NumberRules, long_number, int64_number}
-use Rattle.rec_numeric.specs.Numeric.{new_numeric, numeric_get, numeric_stored, tested}
+use Rattle.rec_numeric.specs.Number.{NumberRules}
+use Rattle.rec_numeric.specs.Constant.{constant_put}
+use Rattle.rec_numeric.specs.Numeric.{new_numeric, numeric_get, numeric_stored, tested, with_last_alarmed}
 use Rattle.rec_numeric.specs.declared.input.NumericInput.{NumericInput}
 
 -- ---- Fields
@@ -55,22 +53,9 @@ abbrev pub input_constant_kind : {N : Type 0} → NumberRules N → OwnField →
 input_constant_kind k Inp = Some (input.Number k.range)
 input_constant_kind k _ = None
 
--- The fields with VAL set to a value, if there is one.
-abbrev pub stored_if : {N : Type 0} → NumberRules N → BodyState (NumericInput N) → Option Value → BodyState (NumericInput N)
-stored_if k h None = h
-stored_if k h (Some v) = input_stored k h Val v
-
--- The fields with a constant INP put into VAL.
-abbrev pub constant_put : {N : Type 0} → NumberRules N → BodyState (NumericInput N) → Link → BodyState (NumericInput N)
-constant_put k h (Constant z) = stored_if k h (of_number (Numbers k.range) z)
-constant_put k h _ = h
-
--- The fields with LALM set to VAL.
-abbrev pub settled : {N : Type 0} → BodyState (NumericInput N) → BodyState (NumericInput N)
-settled h = record h { body = record h.body { numbers = record h.body.numbers { last_alarmed = h.body.numbers.value } } }
-
-unfoldable pub input_loaded : {N : Type 0} → NumberRules N → BodyState (NumericInput N) → BodyState (NumericInput N)
-input_loaded k h = settled (constant_put k h h.body.source.input.link)
+-- The fields after the end of a load: a constant link is put into VAL, and then LALM becomes VAL.
+abbrev pub input_loaded : {N : Type 0} → NumberRules N → BodyState (NumericInput N) → BodyState (NumericInput N)
+input_loaded k h = let p = constant_put (input_stored k) k.range h h.body.source.input.link in record p { body = record p.body { numbers = with_last_alarmed p.body.numbers } }
 
 -- ---- All of it
 
@@ -90,10 +75,3 @@ numeric_input k whole = record {
   constant_kind = λ h. input_constant_kind k;
   loaded = input_loaded k;
 }
-
--- The rules of longin and int64in, in which each number is its own integer.
-abbrev pub longin : BodyRules (NumericInput ℤ)
-longin = numeric_input long_number (λ z. z)
-
-abbrev pub int64in : BodyRules (NumericInput ℤ)
-int64in = numeric_input int64_number (λ z. z)

@@ -22,11 +22,12 @@ use Rattle.ioc_dbcommon.specs.Source.{new_source, source_link, source_set_here, 
 use Rattle.ioc_record.specs.BodyRules.{BodyState}
 use Rattle.ioc_record.specs.BodyLaws.{IsLawfulBody, IsNewBody}
 use Rattle.ioc_record.specs.ByRow.{can_put_by, default_by, is_link_by}
-use Rattle.rec_numeric.specs.Number.{NumberRules, long_number, int64_number}
-use Rattle.rec_numeric.specs.NumberLaws.{IsLawfulNumber, long_lawful, int64_lawful}
+use Rattle.rec_numeric.specs.Number.{NumberRules}
+use Rattle.rec_numeric.specs.NumberLaws.{IsLawfulNumber}
+use Rattle.rec_numeric.specs.Constant.{stored_if, constant_put}
 use Rattle.rec_numeric.specs.Numeric.{new_numeric, numeric_get}
 use Rattle.rec_numeric.specs.NumericLaws.{IsValueBy, numeric_reads_back, numeric_defaults}
-use Rattle.rec_numeric.specs.Input.{numeric_input, longin, int64in, new_input, input_stored, came, input_taken, stored_if, constant_put, input_loaded}
+use Rattle.rec_numeric.specs.Input.{numeric_input, new_input, input_stored, came, input_taken}
 use Rattle.rec_numeric.specs.declared.input.NumericInput.{NumericInput}
 
 links_by : (input : LinkField) (range : Range) (f : OwnField) → is_some (source_link input f) ≡ is_link_by (numeric_input_row range f)
@@ -49,17 +50,13 @@ module _ {N : Type 0} (k : NumberRules N) (whole : N → ℤ) (lawful : IsLawful
   unfolding input_taken
   taken-source h got = came-source h got
 
-  stored_if-source : (h : BodyState (NumericInput N)) (o : Option Value) → (stored_if k h o).body.source ≡ h.body.source
+  stored_if-source : (h : BodyState (NumericInput N)) (o : Option Value) → (stored_if (input_stored k) h o).body.source ≡ h.body.source
   stored_if-source h None = refl
   stored_if-source h (Some v) = stored-source h Val v
 
-  put-source : (h : BodyState (NumericInput N)) (l : Link) → (constant_put k h l).body.source ≡ h.body.source
+  put-source : (h : BodyState (NumericInput N)) (l : Link) → (constant_put (input_stored k) k.range h l).body.source ≡ h.body.source
   put-source h (Constant z) = stored_if-source h (of_number (Numbers k.range) z)
   put-source h _ = refl
-
-  loaded-source : (h : BodyState (NumericInput N)) → (input_loaded k h).body.source ≡ h.body.source
-  unfolding input_loaded
-  loaded-source h = put-source h h.body.source.input.link
 
   link-there : (b : NumericInput N) (f : OwnField) → is_some (source_link b.source.input f) ≡ is_link k.input_type (Own f)
   unfolding row_of
@@ -95,7 +92,7 @@ module _ {N : Type 0} (k : NumberRules N) (whole : N → ℤ) (lawful : IsLawful
     set_type = λ b f l. refl;
     set_values = λ b f l g. refl;
     loaded_type = λ h. refl;
-    loaded_links = λ h. ap (λ (s : Source). source_link s.input) (loaded-source h);
+    loaded_links = λ h. ap (λ (s : Source). source_link s.input) (put-source h h.body.source.input.link);
     put_reads_back = reads_back;
     begin_named = λ b t is. record { field = Inp; link = b.source.input; is = refl; leads = source_begin_leads b.source.input t is };
     output_named = λ h got t v is. cc;
@@ -122,9 +119,3 @@ module _ {N : Type 0} (k : NumberRules N) (whole : N → ℤ) (lawful : IsLawful
 
   pub input_new : IsNewBody (numeric_input k whole) (new_input k)
   input_new = record { values = new_values; links = new_links }
-
-pub longin_lawful : IsLawfulBody longin
-longin_lawful = input_lawful long_number (λ z. z) long_lawful
-
-pub int64in_lawful : IsLawfulBody int64in
-int64in_lawful = input_lawful int64_number (λ z. z) int64_lawful

@@ -5,8 +5,6 @@ use Rattle.ioc_values.specs.declared.value.Value.{Value}
 use Rattle.ioc_values.specs.Shapes.{IsInRange}
 use Rattle.ioc_fields.specs.declared.field_kind.FieldKind.TheVariants.{Number}
 use Rattle.ioc_fields.specs.declared.field_no.OwnField.{OwnField}
-use Rattle.ioc_fields.specs.declared.field_no.OwnField.TheVariants.{Val}
-use Rattle.ioc_fields.specs.declared.record_type.RecordType.TheVariants.{Longin, Longout, Int64in, Int64out}
 use Rattle.ioc_fields.specs.Table.{row_of, own_row, numeric_input_row, numeric_output_row}
 use Rattle.ioc_fields.specs.Types.{reads_device}
 use Rattle.ioc_fields.specs.Defaults.{zero_of, own_default}
@@ -25,48 +23,10 @@ pub record IsLawfulNumber {N : Type 0} (k : NumberRules N) : Type 0 where
   pub output_default : (f : OwnField) → own_default k.output_type f ≡ default_by (numeric_output_row k.range f)
   pub writes : reads_device k.output_type ≡ false
 
-long_input_default : (f : OwnField) → own_default Longin f ≡ default_by (numeric_input_row long_number.range f)
-unfolding own_default row_of own_row
-long_input_default Val = refl
-long_input_default _ = refl
-
-long_output_default : (f : OwnField) → own_default Longout f ≡ default_by (numeric_output_row long_number.range f)
-unfolding own_default row_of own_row
-long_output_default Val = refl
-long_output_default _ = refl
-
 pub long_lawful : IsLawfulNumber long_number
-unfolding zero_of own_row reads_device
-long_lawful = record {
-  of_range = λ v is. is;
-  back = λ n. refl;
-  zero_is = refl;
-  input_row = λ f. refl;
-  output_row = λ f. refl;
-  input_default = long_input_default;
-  output_default = long_output_default;
-  writes = refl;
-}
-
-int64_input_default : (f : OwnField) → own_default Int64in f ≡ default_by (numeric_input_row int64_number.range f)
-unfolding own_default row_of own_row
-int64_input_default Val = refl
-int64_input_default _ = refl
-
-int64_output_default : (f : OwnField) → own_default Int64out f ≡ default_by (numeric_output_row int64_number.range f)
-unfolding own_default row_of own_row
-int64_output_default Val = refl
-int64_output_default _ = refl
+unfolding zero_of own_row row_of own_default reads_device
+long_lawful = record { of_range = λ v is. is; back = λ n. refl; zero_is = refl; input_row = λ f. refl; output_row = λ f. refl; input_default = λ f. refl; output_default = λ f. refl; writes = refl }
 
 pub int64_lawful : IsLawfulNumber int64_number
-unfolding zero_of own_row reads_device
-int64_lawful = record {
-  of_range = λ v is. is;
-  back = λ n. refl;
-  zero_is = refl;
-  input_row = λ f. refl;
-  output_row = λ f. refl;
-  input_default = int64_input_default;
-  output_default = int64_output_default;
-  writes = refl;
-}
+unfolding zero_of own_row row_of own_default reads_device
+int64_lawful = record { of_range = λ v is. is; back = λ n. refl; zero_is = refl; input_row = λ f. refl; output_row = λ f. refl; input_default = λ f. refl; output_default = λ f. refl; writes = refl }

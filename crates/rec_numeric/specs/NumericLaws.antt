@@ -1,7 +1,7 @@
 -- The laws of the shared numeric fields: what is put reads back, and a new record has the defaults.
-use Rattle.std.proofs.Common.{◌≡◌, ℕ, true, [], Option, Some, refl, sym, ap}
+use Rattle.std.proofs.Common.{◌≡◌, ℕ, [], Option, Some, refl, sym, ap}
 use Rattle.std.specs.Option.{option_map}
-use Rattle.std.specs.Prelude.{◌<◌, unwrap_or, false}
+use Rattle.std.specs.Prelude.{◌<◌, unwrap_or}
 use Rattle.ioc_values.specs.declared.value.Value.{Value}
 use Rattle.ioc_values.specs.declared.value.Value.TheVariants as value
 use Rattle.ioc_values.specs.Shapes.{IsValueOf, IsInRange}
@@ -34,20 +34,20 @@ module _ {N : Type 0} (k : NumberRules N) (lawful : IsLawfulNumber k) where
   pub numeric_reads_back : (b : Numeric N) (f : OwnField) (v : Value) → can_put_by (numeric_row k.range f) → IsValueBy (numeric_row k.range f) v → numeric_get k (numeric_stored k b f v) f ≡ Some v
   unfolding numeric_row numeric_get numeric_stored field_sort
   numeric_reads_back b Val v can is = number_shown v b.value is
-  numeric_reads_back b Hihi v can is = number_shown v b.hihi is
-  numeric_reads_back b Lolo v can is = number_shown v b.lolo is
-  numeric_reads_back b High v can is = number_shown v b.high is
-  numeric_reads_back b Low v can is = number_shown v b.low is
-  numeric_reads_back b Hyst v can is = number_shown v b.hysteresis is
+  numeric_reads_back b Hihi v can is = number_shown v b.limits.hihi is
+  numeric_reads_back b Lolo v can is = number_shown v b.limits.lolo is
+  numeric_reads_back b High v can is = number_shown v b.limits.high is
+  numeric_reads_back b Low v can is = number_shown v b.limits.low is
+  numeric_reads_back b Hyst v can is = number_shown v b.limits.hysteresis is
   numeric_reads_back b Adel v can is = number_shown v b.archive_deadband is
   numeric_reads_back b Mdel v can is = number_shown v b.monitor_deadband is
   numeric_reads_back b Hopr v can is = number_shown v b.high_range is
   numeric_reads_back b Lopr v can is = number_shown v b.low_range is
   numeric_reads_back b Egu v can is = rw is.1 refl
-  numeric_reads_back b Hhsv v can is = severity_shown v b.hihi_severity is
-  numeric_reads_back b Llsv v can is = severity_shown v b.lolo_severity is
-  numeric_reads_back b Hsv v can is = severity_shown v b.high_severity is
-  numeric_reads_back b Lsv v can is = severity_shown v b.low_severity is
+  numeric_reads_back b Hhsv v can is = severity_shown v b.limits.hihi_severity is
+  numeric_reads_back b Llsv v can is = severity_shown v b.limits.lolo_severity is
+  numeric_reads_back b Hsv v can is = severity_shown v b.limits.high_severity is
+  numeric_reads_back b Lsv v can is = severity_shown v b.limits.low_severity is
   numeric_reads_back b _ v can is = cc
 
   pub numeric_defaults : (f : OwnField) → numeric_get k (new_numeric k) f ≡ default_by (numeric_row k.range f)

@@ -2,9 +2,6 @@
 -- Output Record".
 use Rattle.std.specs.Prelude.{ℤ, int_lt, if◌then◌else◌, [], Option, Some, None, unwrap_or}
 use Rattle.ioc_values.specs.declared.value.Value.{Value}
-use Rattle.ioc_values.specs.Conversion.{Numbers, of_number}
-use Rattle.ioc_links.specs.declared.link.Link.{Link}
-use Rattle.ioc_links.specs.declared.link.Link.TheVariants.{Constant}
 use Rattle.ioc_fields.specs.declared.field_no.OwnField.{OwnField}
 use Rattle.ioc_fields.specs.declared.field_no.OwnField.TheVariants.{Val, Dol, Omsl, Drvh, Drvl, Ivoa, Ivov}
 use Rattle.ioc_dbcommon.specs.declared.body.Got.{Got}
@@ -15,8 +12,9 @@ use Rattle.ioc_dbcommon.specs.declared.body.Output.{Output}
 use Rattle.ioc_dbcommon.specs.declared.body.Output.TheVariants.{NoOutput}
 use Rattle.ioc_dbcommon.specs.Drive.{new_drive, drive_link, drive_with_link, drive_get, drive_stored, drive_begin, sets, drives, written}
 use Rattle.ioc_record.specs.BodyRules.{BodyRules, BodyState}
-use Rattle.rec_numeric.specs.Number.{NumberRules, long_number, int64_number}
-use Rattle.rec_numeric.specs.Numeric.{new_numeric, numeric_get, numeric_stored, tested}
+use Rattle.rec_numeric.specs.Number.{NumberRules}
+use Rattle.rec_numeric.specs.Constant.{constant_put}
+use Rattle.rec_numeric.specs.Numeric.{new_numeric, numeric_get, numeric_stored, tested, with_last_alarmed}
 use Rattle.rec_numeric.specs.declared.output.NumericOutput.{NumericOutput}
 
 -- ---- Fields
@@ -104,22 +102,9 @@ abbrev pub output_constant_kind : {N : Type 0} → NumberRules N → OwnField �
 output_constant_kind k Dol = Some (input.Number k.range)
 output_constant_kind k _ = None
 
--- The fields with VAL set to a value, if there is one.
-abbrev pub stored_if : {N : Type 0} → NumberRules N → BodyState (NumericOutput N) → Option Value → BodyState (NumericOutput N)
-stored_if k h None = h
-stored_if k h (Some v) = output_stored k h Val v
-
--- The fields with a constant DOL put into VAL.
-abbrev pub constant_put : {N : Type 0} → NumberRules N → BodyState (NumericOutput N) → Link → BodyState (NumericOutput N)
-constant_put k h (Constant z) = stored_if k h (of_number (Numbers k.range) z)
-constant_put k h _ = h
-
--- The fields with LALM set to VAL.
-abbrev pub last_alarmed : {N : Type 0} → BodyState (NumericOutput N) → BodyState (NumericOutput N)
-last_alarmed h = record h { body = record h.body { numbers = record h.body.numbers { last_alarmed = h.body.numbers.value } } }
-
-unfoldable pub output_loaded : {N : Type 0} → NumberRules N → BodyState (NumericOutput N) → BodyState (NumericOutput N)
-output_loaded k h = last_alarmed (constant_put k h h.body.drive.desired.link)
+-- The fields after the end of a load: a constant link is put into VAL, and then LALM becomes VAL.
+abbrev pub output_loaded : {N : Type 0} → NumberRules N → BodyState (NumericOutput N) → BodyState (NumericOutput N)
+output_loaded k h = let p = constant_put (output_stored k) k.range h h.body.drive.desired.link in record p { body = record p.body { numbers = with_last_alarmed p.body.numbers } }
 
 -- ---- All of it
 
@@ -139,10 +124,3 @@ numeric_output k whole = record {
   constant_kind = λ h. output_constant_kind k;
   loaded = output_loaded k;
 }
-
--- The rules of longout and int64out, in which each number is its own integer.
-abbrev pub longout : BodyRules (NumericOutput ℤ)
-longout = numeric_output long_number (λ z. z)
-
-abbrev pub int64out : BodyRules (NumericOutput ℤ)
-int64out = numeric_output int64_number (λ z. z)

@@ -26,11 +26,12 @@ use Rattle.ioc_dbcommon.specs.Drive.{new_drive, drive_link, drive_with_link, dri
 use Rattle.ioc_record.specs.BodyRules.{BodyState}
 use Rattle.ioc_record.specs.BodyLaws.{IsLawfulBody, IsNewBody}
 use Rattle.ioc_record.specs.ByRow.{can_put_by, default_by, is_link_by}
-use Rattle.rec_numeric.specs.Number.{NumberRules, long_number, int64_number}
-use Rattle.rec_numeric.specs.NumberLaws.{IsLawfulNumber, long_lawful, int64_lawful}
+use Rattle.rec_numeric.specs.Number.{NumberRules}
+use Rattle.rec_numeric.specs.NumberLaws.{IsLawfulNumber}
+use Rattle.rec_numeric.specs.Constant.{stored_if, constant_put}
 use Rattle.rec_numeric.specs.Numeric.{numeric_get}
 use Rattle.rec_numeric.specs.NumericLaws.{IsValueBy, number_shown, numeric_reads_back, numeric_defaults}
-use Rattle.rec_numeric.specs.Output.{numeric_output, longout, int64out, new_output, output_get, output_stored, with_value, worked, settled, output_taken, output_driven, stored_if, constant_put, output_loaded}
+use Rattle.rec_numeric.specs.Output.{numeric_output, new_output, output_get, output_stored, with_value, worked, settled, output_taken, output_driven}
 use Rattle.rec_numeric.specs.declared.output.NumericOutput.{NumericOutput}
 
 links_by : (out dol : LinkField) (range : Range) (f : OwnField) → is_some (drive_link out dol f) ≡ is_link_by (numeric_output_row range f)
@@ -70,18 +71,14 @@ module _ {N : Type 0} (k : NumberRules N) (whole : N → ℤ) (lawful : IsLawful
   unfolding output_taken
   taken-drive h got = settled-drive (worked k whole h got) ∙ worked-drive h got
 
-  stored_if-drive : (h : BodyState (NumericOutput N)) (o : Option Value) → (stored_if k h o).body.drive ≡ h.body.drive
+  stored_if-drive : (h : BodyState (NumericOutput N)) (o : Option Value) → (stored_if (output_stored k) h o).body.drive ≡ h.body.drive
   unfolding output_stored
   stored_if-drive h None = refl
   stored_if-drive h (Some v) = refl
 
-  put-drive : (h : BodyState (NumericOutput N)) (l : Link) → (constant_put k h l).body.drive ≡ h.body.drive
+  put-drive : (h : BodyState (NumericOutput N)) (l : Link) → (constant_put (output_stored k) k.range h l).body.drive ≡ h.body.drive
   put-drive h (Constant z) = stored_if-drive h (of_number (Numbers k.range) z)
   put-drive h _ = refl
-
-  loaded-drive : (h : BodyState (NumericOutput N)) → (output_loaded k h).body.drive ≡ h.body.drive
-  unfolding output_loaded
-  loaded-drive h = put-drive h h.body.drive.desired.link
 
   link-there : (b : NumericOutput N) (f : OwnField) → is_some (links b.drive f) ≡ is_link k.output_type (Own f)
   unfolding row_of
@@ -144,7 +141,7 @@ module _ {N : Type 0} (k : NumberRules N) (whole : N → ℤ) (lawful : IsLawful
     set_type = λ b f l. refl;
     set_values = set_values-of;
     loaded_type = λ h. refl;
-    loaded_links = λ h. ap links (loaded-drive h);
+    loaded_links = λ h. ap links (put-drive h h.body.drive.desired.link);
     put_reads_back = reads_back;
     begin_named = λ b t is. record { field = Dol; link = b.drive.desired; is = refl; leads = begin_leads b.drive.mode b.drive.desired t is };
     output_named = λ h got t v is. record { field = Out; link = h.body.drive.output; is = refl; leads = output_leads h got t v is };
@@ -178,9 +175,3 @@ module _ {N : Type 0} (k : NumberRules N) (whole : N → ℤ) (lawful : IsLawful
 
   pub output_new : IsNewBody (numeric_output k whole) (new_output k)
   output_new = record { values = new_values; links = new_links }
-
-pub longout_lawful : IsLawfulBody longout
-longout_lawful = output_lawful long_number (λ z. z) long_lawful
-
-pub int64out_lawful : IsLawfulBody int64out
-int64out_lawful = output_lawful int64_number (λ z. z) int64_lawful

@@ -1,17 +1,15 @@
 //! The types longin and int64in.
-ghost use Rattle.std.specs.Prelude.{◌≡◌, is_some};
-ghost use Rattle.ioc_values.specs.Conversion.{value_in};
-ghost use Rattle.ioc_record.specs.BodyRules.{number_stored};
+ghost use Rattle.std.specs.Prelude.{◌≡◌};
 ghost use Rattle.ioc_record.specs.BodyLaws.{IsNewBody};
 ghost use Rattle.rec_numeric.specs.Input.{numeric_input, new_input};
 
 use crate::number::Number;
 use crate::numeric::Numeric;
+use crate::storing::{Storing, put_constant, store_number};
 use ioc_dbcommon::{Condition, Fresh, Got, InputKind, LinkBox, LinkUse, Need, Output, Source};
 use ioc_fields::{OwnField, RecordType};
-use ioc_links::Link;
 use ioc_record::RecordBody;
-use ioc_values::{Kind, Range, Text, Value, of_number};
+use ioc_values::{Range, Text, Value};
 use std::alloc::{AllocError, Global};
 
 /// The type-specific fields of a numeric input. Record Reference Manual, "Long Input Record" and
@@ -42,30 +40,6 @@ impl<N: Number> NumericInput<N> {
             source: Source::new(),
         }
     }
-
-    // Stores a number as a value of this range in a field of any kind. Returns whether it is in
-    // range. This isn't inlined, so that VAL doesn't clear the memory for the value.
-    #[inline(never)]
-    #[tactic(auto, unfolding(ioc_values::specs::Conversion::of_number, ioc_values::specs::Conversion::sort_of))]
-    fn store_converted(
-        &mut self,
-        condition: &mut Condition,
-        field: OwnField,
-        range: Range,
-        number: i64,
-    ) -> bool
-        ensures fits { result ≡ is_some (value_in range number) }
-        ensures stored { record { body = self.new; condition = condition.new }
-            ≡ number_stored (numeric_input N.number N.whole) (record { body = self.old; condition = condition.old }) field (value_in range number) }
-    {
-        match of_number(Kind::Number(range), number) {
-            Some(value) => {
-                self.store(condition, field, value);
-                true
-            }
-            None => false,
-        }
-    }
 }
 
 impl<N: Number> Fresh for NumericInput<N> {
@@ -75,6 +49,29 @@ impl<N: Number> Fresh for NumericInput<N> {
 
     fn fresh() -> Self {
         NumericInput::new()
+    }
+}
+
+impl<N: Number> Storing<N> for NumericInput<N> {
+    ghost use Rattle.rec_numeric.specs.Stored.{input_with, input_put};
+
+    ghost rules = { numeric_input N.number N.whole };
+
+    ghost with = { input_with };
+
+    ghost stored_as = { input_put N.number N.whole };
+
+    fn put_value(&mut self, condition: &mut Condition, value: N) {
+        self.numbers.value = value;
+        condition.undefined = 0;
+    }
+
+    #[tactic(auto, unfolding(crate::specs::Input::input_stored))]
+    fn store_value(&mut self, condition: &mut Condition, field: OwnField, value: Value) {
+        self.numbers.store(field, value);
+        if let OwnField::Val = field {
+            condition.undefined = 0;
+        }
     }
 }
 
@@ -109,15 +106,10 @@ impl<N: Number> RecordBody for NumericInput<N> {
         self.numbers.number(field)
     }
 
-    #[tactic(auto, unfolding(crate::specs::Input::input_stored))]
     fn store(&mut self, condition: &mut Condition, field: OwnField, value: Value) {
-        self.numbers.store(field, value);
-        if let OwnField::Val = field {
-            condition.undefined = 0;
-        }
+        self.store_value(condition, field, value);
     }
 
-    #[tactic(auto, using(crate::proofs::Stored::is_there, crate::proofs::Stored::input_put))]
     fn store_number(
         &mut self,
         condition: &mut Condition,
@@ -125,14 +117,7 @@ impl<N: Number> RecordBody for NumericInput<N> {
         range: Range,
         number: i64,
     ) -> bool {
-        match (field, N::in_range(range, number)) {
-            (OwnField::Val, Some(value)) => {
-                self.numbers.value = value;
-                condition.undefined = 0;
-                true
-            }
-            _ => self.store_converted(condition, field, range, number),
-        }
+        store_number::<N, Self>(self, condition, field, range, number)
     }
 
     fn begin(&self) -> Need {
@@ -164,13 +149,9 @@ impl<N: Number> RecordBody for NumericInput<N> {
         }
     }
 
-    #[tactic(auto, unfolding(crate::specs::Input::input_loaded, ioc_values::specs::Conversion::sort_of))]
     fn load(&mut self, condition: &mut Condition) {
-        if let Link::Constant(constant) = self.source.input.get().link {
-            if let Some(value) = of_number(Kind::Number(N::range()), constant) {
-                self.store(condition, OwnField::Val, value);
-            }
-        }
+        let link = self.source.input.get().link;
+        put_constant::<N, Self>(self, condition, link);
         self.numbers.last_alarmed = self.numbers.value;
     }
 

@@ -1,19 +1,17 @@
 //! The types longout and int64out.
-ghost use Rattle.std.specs.Prelude.{◌≡◌, is_some};
-ghost use Rattle.ioc_values.specs.Conversion.{value_in};
-ghost use Rattle.ioc_record.specs.BodyRules.{number_stored};
+ghost use Rattle.std.specs.Prelude.{◌≡◌};
 ghost use Rattle.ioc_record.specs.BodyRules.{BodyState};
 ghost use Rattle.ioc_record.specs.BodyLaws.{IsNewBody};
 ghost use Rattle.rec_numeric.specs.Output.{numeric_output, new_output, within, limited_value, worked};
 
 use crate::number::Number;
 use crate::numeric::Numeric;
+use crate::storing::{Storing, put_constant, store_number};
 use ioc_dbcommon::{Condition, Drive, Fresh, Got, InputKind, LinkBox, LinkUse, Need, Output};
 use ioc_fields::{OwnField, RecordType};
-use ioc_links::Link;
 use ioc_record::RecordBody;
 use ioc_record::shown::number_in;
-use ioc_values::{Kind, Range, Text, Value, of_number};
+use ioc_values::{Range, Text, Value};
 use std::alloc::{AllocError, Global};
 
 /// The type-specific fields of a numeric output. Record Reference Manual, "Long Output Record" and
@@ -95,30 +93,6 @@ impl<N: Number> NumericOutput<N> {
         }
         self.numbers.test(condition);
     }
-
-    // Stores a number as a value of this range in a field of any kind. Returns whether it is in
-    // range. This isn't inlined, so that VAL doesn't clear the memory for the value.
-    #[inline(never)]
-    #[tactic(auto, unfolding(ioc_values::specs::Conversion::of_number, ioc_values::specs::Conversion::sort_of))]
-    fn store_converted(
-        &mut self,
-        condition: &mut Condition,
-        field: OwnField,
-        range: Range,
-        number: i64,
-    ) -> bool
-        ensures fits { result ≡ is_some (value_in range number) }
-        ensures stored { record { body = self.new; condition = condition.new }
-            ≡ number_stored (numeric_output N.number N.whole) (record { body = self.old; condition = condition.old }) field (value_in range number) }
-    {
-        match of_number(Kind::Number(range), number) {
-            Some(value) => {
-                self.store(condition, field, value);
-                true
-            }
-            None => false,
-        }
-    }
 }
 
 impl<N: Number> Fresh for NumericOutput<N> {
@@ -128,6 +102,36 @@ impl<N: Number> Fresh for NumericOutput<N> {
 
     fn fresh() -> Self {
         NumericOutput::new()
+    }
+}
+
+impl<N: Number> Storing<N> for NumericOutput<N> {
+    ghost use Rattle.rec_numeric.specs.Stored.{output_with, output_put};
+
+    ghost rules = { numeric_output N.number N.whole };
+
+    ghost with = { output_with };
+
+    ghost stored_as = { output_put N.number N.whole };
+
+    fn put_value(&mut self, condition: &mut Condition, value: N) {
+        self.numbers.value = value;
+        condition.undefined = 0;
+    }
+
+    #[tactic(auto, unfolding(crate::specs::Output::output_stored))]
+    fn store_value(&mut self, condition: &mut Condition, field: OwnField, value: Value) {
+        match field {
+            OwnField::Val => {
+                self.numbers.store(field, value);
+                condition.undefined = 0;
+            }
+            OwnField::Drvh => self.drive_high = N::in_value(value).unwrap_or(self.drive_high),
+            OwnField::Drvl => self.drive_low = N::in_value(value).unwrap_or(self.drive_low),
+            OwnField::Ivov => self.invalid_value = N::in_value(value).unwrap_or(self.invalid_value),
+            OwnField::Omsl | OwnField::Ivoa => self.drive.store(field, value),
+            _ => self.numbers.store(field, value),
+        }
     }
 }
 
@@ -176,22 +180,10 @@ impl<N: Number> RecordBody for NumericOutput<N> {
         }
     }
 
-    #[tactic(auto, unfolding(crate::specs::Output::output_stored))]
     fn store(&mut self, condition: &mut Condition, field: OwnField, value: Value) {
-        match field {
-            OwnField::Val => {
-                self.numbers.store(field, value);
-                condition.undefined = 0;
-            }
-            OwnField::Drvh => self.drive_high = N::in_value(value).unwrap_or(self.drive_high),
-            OwnField::Drvl => self.drive_low = N::in_value(value).unwrap_or(self.drive_low),
-            OwnField::Ivov => self.invalid_value = N::in_value(value).unwrap_or(self.invalid_value),
-            OwnField::Omsl | OwnField::Ivoa => self.drive.store(field, value),
-            _ => self.numbers.store(field, value),
-        }
+        self.store_value(condition, field, value);
     }
 
-    #[tactic(auto, using(crate::proofs::Stored::is_there, crate::proofs::Stored::output_put))]
     fn store_number(
         &mut self,
         condition: &mut Condition,
@@ -199,14 +191,7 @@ impl<N: Number> RecordBody for NumericOutput<N> {
         range: Range,
         number: i64,
     ) -> bool {
-        match (field, N::in_range(range, number)) {
-            (OwnField::Val, Some(value)) => {
-                self.numbers.value = value;
-                condition.undefined = 0;
-                true
-            }
-            _ => self.store_converted(condition, field, range, number),
-        }
+        store_number::<N, Self>(self, condition, field, range, number)
     }
 
     fn begin(&self) -> Need {
@@ -242,13 +227,10 @@ impl<N: Number> RecordBody for NumericOutput<N> {
         }
     }
 
-    #[tactic(auto, unfolding(crate::specs::Output::output_loaded, crate::specs::Output::output_stored, ioc_values::specs::Conversion::sort_of))]
+    #[tactic(auto, unfolding(crate::specs::Output::output_stored))]
     fn load(&mut self, condition: &mut Condition) {
-        if let Link::Constant(constant) = self.drive.desired.get().link {
-            if let Some(value) = of_number(Kind::Number(N::range()), constant) {
-                self.store(condition, OwnField::Val, value);
-            }
-        }
+        let link = self.drive.desired.get().link;
+        put_constant::<N, Self>(self, condition, link);
         self.numbers.last_alarmed = self.numbers.value;
     }
 

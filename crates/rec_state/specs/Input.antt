@@ -15,11 +15,7 @@ use Rattle.ioc_dbcommon.specs.Raw.{is_raw}
 use Rattle.ioc_dbcommon.specs.Source.{new_source, source_link, source_with_link, source_begin}
 use Rattle.ioc_record.specs.BodyRules.{BodyRules, BodyState}
 use Rattle.rec_state.specs.States.{StateRules}
-use Rattle.rec_state.specs.TwoStates.{two_states}
-use Rattle.rec_state.specs.SixteenStates.{sixteen_states}
 use Rattle.rec_state.specs.StateFields.{new_fields, fields_get, put, input_worked, constant_put, mask_made, settled}
-use Rattle.rec_state.specs.declared.two_states.TwoStates.{TwoStates}
-use Rattle.rec_state.specs.declared.sixteen_states.SixteenStates.{SixteenStates}
 use Rattle.rec_state.specs.declared.state_fields.StateFields.{StateFields}
 use Rattle.rec_state.specs.declared.input.StateInput.{StateInput}
 
@@ -87,16 +83,3 @@ state_input k = record {
   constant_kind = λ h. input_constant_kind;
   loaded = input_loaded k;
 }
-
--- The rules of bi and mbbi.
-abbrev pub bi : BodyRules (StateInput TwoStates)
-bi = state_input two_states
-
-abbrev pub mbbi : BodyRules (StateInput SixteenStates)
-mbbi = state_input sixteen_states
-
-abbrev pub new_bi : StateInput TwoStates
-new_bi = new_input two_states
-
-abbrev pub new_mbbi : StateInput SixteenStates
-new_mbbi = new_input sixteen_states

@@ -18,11 +18,9 @@ use Rattle.ioc_record.specs.ByRow.{can_put_by, default_by, is_link_by}
 use Rattle.rec_state.specs.StateRows.{state_input_row, IsValueBy}
 use Rattle.rec_state.specs.States.{StateRules}
 use Rattle.rec_state.specs.StatesLaws.{IsLawfulStates}
-use Rattle.rec_state.specs.TwoStates.{two_states, two_lawful}
-use Rattle.rec_state.specs.SixteenStates.{sixteen_states, sixteen_lawful}
 use Rattle.rec_state.specs.StateFields.{new_fields, fields_get}
 use Rattle.rec_state.specs.StateFieldsLaws.{fields_read_back, fields_defaults, fields_no_links}
-use Rattle.rec_state.specs.Input.{state_input, bi, mbbi, new_input, fields_of, input_stored, input_taken, input_loaded}
+use Rattle.rec_state.specs.Input.{state_input, new_input, fields_of, input_stored, input_taken, input_loaded}
 use Rattle.rec_state.specs.declared.input.StateInput.{StateInput}
 
 module _ {S : Type 0} (k : StateRules S) (lawful : IsLawfulStates k) where
@@ -35,7 +33,7 @@ module _ {S : Type 0} (k : StateRules S) (lawful : IsLawfulStates k) where
 
   link-there : (b : StateInput S) (f : OwnField) → is_some (source_link b.source.input f) ≡ is_link k.input_type (Own f)
   unfolding row_of
-  link-there b f = links_by b.source.input f ∙ ap is_link_by (sym (lawful.input_row f))
+  link-there b f = links_by b.source.input f ∙ ap is_link_by (sym (lawful.fields f).input_row)
 
   missing-links : (f : OwnField) → named_by_field (source_link (new_input k).source.input f) ≡ []
   unfolding new_input new_source use_of
@@ -56,7 +54,7 @@ module _ {S : Type 0} (k : StateRules S) (lawful : IsLawfulStates k) where
   unfolding row_of
   reads_back h f v can is =
       let texts = k.texts h.body.fields.states in
-      reads_back_by h texts f v (subst can_put_by (lawful.input_row f) can) (subst (λ r. IsValueBy texts r v) (lawful.input_row f) is)
+      reads_back_by h texts f v (subst can_put_by (lawful.fields f).input_row can) (subst (λ r. IsValueBy texts r v) (lawful.fields f).input_row is)
 
   pub input_lawful : IsLawfulBody (state_input k)
   unfolding input_taken input_stored input_loaded
@@ -88,7 +86,7 @@ module _ {S : Type 0} (k : StateRules S) (lawful : IsLawfulStates k) where
 
   new_values : (f : OwnField) → fields_get k (new_input k).fields f ≡ own_default k.input_type f
   unfolding new_input
-  new_values f = new_by f ∙ sym (lawful.input_default f)
+  new_values f = new_by f ∙ sym (lawful.fields f).input_default
 
   new_links_by : (f : OwnField) → is_link_by (state_input_row k.row f) ≡ true → source_link (new_input k).source.input f ≡ Some no_link
   unfolding new_input new_source state_input_row
@@ -97,13 +95,7 @@ module _ {S : Type 0} (k : StateRules S) (lawful : IsLawfulStates k) where
 
   new_links : (f : OwnField) → is_link k.input_type (Own f) ≡ true → source_link (new_input k).source.input f ≡ Some no_link
   unfolding row_of
-  new_links f is = new_links_by f (subst (λ r. is_link_by r ≡ true) (lawful.input_row f) is)
+  new_links f is = new_links_by f (subst (λ r. is_link_by r ≡ true) (lawful.fields f).input_row is)
 
   pub input_new : IsNewBody (state_input k) (new_input k)
   input_new = record { values = new_values; links = new_links }
-
-pub bi_lawful : IsLawfulBody bi
-bi_lawful = input_lawful two_states two_lawful
-
-pub mbbi_lawful : IsLawfulBody mbbi
-mbbi_lawful = input_lawful sixteen_states sixteen_lawful

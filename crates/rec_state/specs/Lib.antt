@@ -11,3 +11,4 @@ pub mod Input
 pub mod InputLaws
 pub mod Output
 pub mod OutputLaws
+pub mod Types

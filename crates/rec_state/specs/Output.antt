@@ -20,11 +20,7 @@ use Rattle.ioc_dbcommon.specs.Raw.{is_raw}
 use Rattle.ioc_dbcommon.specs.Drive.{new_drive, drive_link, drive_with_link, drive_get, drive_stored, drive_begin, sets, drives, written}
 use Rattle.ioc_record.specs.BodyRules.{BodyRules, BodyState}
 use Rattle.rec_state.specs.States.{StateRules}
-use Rattle.rec_state.specs.TwoStates.{two_states}
-use Rattle.rec_state.specs.SixteenStates.{sixteen_states}
 use Rattle.rec_state.specs.StateFields.{new_fields, fields_get, put, value_taken_if, converted, output_worked, mask_made, settled}
-use Rattle.rec_state.specs.declared.two_states.TwoStates.{TwoStates}
-use Rattle.rec_state.specs.declared.sixteen_states.SixteenStates.{SixteenStates}
 use Rattle.rec_state.specs.declared.state_fields.StateFields.{StateFields}
 use Rattle.rec_state.specs.declared.output.StateOutput.{StateOutput}
 
@@ -114,16 +110,3 @@ state_output k = record {
   constant_kind = λ h. output_constant_kind;
   loaded = output_loaded k;
 }
-
--- The rules of bo and mbbo.
-abbrev pub bo : BodyRules (StateOutput TwoStates)
-bo = state_output two_states
-
-abbrev pub mbbo : BodyRules (StateOutput SixteenStates)
-mbbo = state_output sixteen_states
-
-abbrev pub new_bo : StateOutput TwoStates
-new_bo = new_output two_states
-
-abbrev pub new_mbbo : StateOutput SixteenStates
-new_mbbo = new_output sixteen_states

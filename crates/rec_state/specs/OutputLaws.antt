@@ -24,11 +24,9 @@ use Rattle.ioc_record.specs.ByRow.{can_put_by, default_by, is_link_by}
 use Rattle.rec_state.specs.StateRows.{state_output_row, IsValueBy}
 use Rattle.rec_state.specs.States.{StateRules}
 use Rattle.rec_state.specs.StatesLaws.{IsLawfulStates}
-use Rattle.rec_state.specs.TwoStates.{two_states, two_lawful}
-use Rattle.rec_state.specs.SixteenStates.{sixteen_states, sixteen_lawful}
 use Rattle.rec_state.specs.StateFields.{new_fields, fields_get}
 use Rattle.rec_state.specs.StateFieldsLaws.{fields_read_back, fields_defaults, fields_no_links}
-use Rattle.rec_state.specs.Output.{state_output, bo, mbbo, new_output, output_get, output_stored, fields_of, output_taken, driven_value, output_driven, output_loaded}
+use Rattle.rec_state.specs.Output.{state_output, new_output, output_get, output_stored, fields_of, output_taken, driven_value, output_driven, output_loaded}
 use Rattle.rec_state.specs.declared.output.StateOutput.{StateOutput}
 
 -- The links of a drive.
@@ -66,7 +64,7 @@ module _ {S : Type 0} (k : StateRules S) (lawful : IsLawfulStates k) where
 
   link-there : (b : StateOutput S) (f : OwnField) → is_some (links b.drive f) ≡ is_link k.output_type (Own f)
   unfolding row_of
-  link-there b f = links_by b.drive.output b.drive.desired f ∙ ap is_link_by (sym (lawful.output_row f))
+  link-there b f = links_by b.drive.output b.drive.desired f ∙ ap is_link_by (sym (lawful.fields f).output_row)
 
   missing-links : (f : OwnField) → named_by_field (links (new_output k).drive f) ≡ []
   unfolding new_output new_drive use_of
@@ -91,7 +89,7 @@ module _ {S : Type 0} (k : StateRules S) (lawful : IsLawfulStates k) where
   unfolding row_of
   reads_back h f v can is =
       let texts = k.texts h.body.fields.states in
-      reads_back_by h texts f v (subst can_put_by (lawful.output_row f) can) (subst (λ r. IsValueBy texts r v) (lawful.output_row f) is)
+      reads_back_by h texts f v (subst can_put_by (lawful.fields f).output_row can) (subst (λ r. IsValueBy texts r v) (lawful.fields f).output_row is)
 
   set_values-of : (b : StateOutput S) (f : OwnField) (l : LinkField) (g : OwnField)
       → output_get k (record b { drive = drive_with_link b.drive f l }) g ≡ output_get k b g
@@ -147,7 +145,7 @@ module _ {S : Type 0} (k : StateRules S) (lawful : IsLawfulStates k) where
   new_by f = fields_defaults k lawful f
 
   new_values : (f : OwnField) → output_get k (new_output k) f ≡ own_default k.output_type f
-  new_values f = new_by f ∙ sym (lawful.output_default f)
+  new_values f = new_by f ∙ sym (lawful.fields f).output_default
 
   new_links_by : (f : OwnField) → is_link_by (state_output_row k.row f) ≡ true → links (new_output k).drive f ≡ Some no_link
   unfolding new_output new_drive state_output_row output_row
@@ -160,13 +158,7 @@ module _ {S : Type 0} (k : StateRules S) (lawful : IsLawfulStates k) where
 
   new_links : (f : OwnField) → is_link k.output_type (Own f) ≡ true → links (new_output k).drive f ≡ Some no_link
   unfolding row_of
-  new_links f is = new_links_by f (subst (λ r. is_link_by r ≡ true) (lawful.output_row f) is)
+  new_links f is = new_links_by f (subst (λ r. is_link_by r ≡ true) (lawful.fields f).output_row is)
 
   pub output_new : IsNewBody (state_output k) (new_output k)
   output_new = record { values = new_values; links = new_links }
-
-pub bo_lawful : IsLawfulBody bo
-bo_lawful = output_lawful two_states two_lawful
-
-pub mbbo_lawful : IsLawfulBody mbbo
-mbbo_lawful = output_lawful sixteen_states sixteen_lawful

@@ -13,7 +13,7 @@ use Rattle.ioc_menus.specs.declared.menu.Menu.TheVariants as menu
 use Rattle.ioc_menus.specs.Numbers.{severity_number, severities}
 use Rattle.ioc_fields.specs.declared.field_kind.FieldKind.TheVariants.{Number, Text, Menu}
 use Rattle.ioc_fields.specs.declared.field_no.OwnField.{OwnField}
-use Rattle.ioc_fields.specs.declared.field_no.OwnField.TheVariants.{Inp, Ivov, Shft, Nobt, Unsv, StateValue, StateText, StateSeverity}
+use Rattle.ioc_fields.specs.declared.field_no.OwnField.TheVariants.{Shft, Nobt, Unsv, StateValue, StateText, StateSeverity}
 use Rattle.ioc_fields.specs.declared.field_no.Slot.{Slot}
 use Rattle.ioc_fields.specs.declared.record_type.RecordType.TheVariants as type
 use Rattle.ioc_fields.specs.declared.row.Row.{Row}
@@ -26,12 +26,12 @@ use Rattle.ioc_dbcommon.specs.declared.body.Got.TheVariants as got
 use Rattle.ioc_dbcommon.specs.Parts.{ulong_in, ushort_in, text_in, severity_in, severity_back}
 use Rattle.ioc_dbcommon.specs.Raw.{state_constant}
 use Rattle.ioc_record.specs.Values.{field_sort}
-use Rattle.ioc_record.specs.ByRow.{can_put_by, default_by, is_link_by}
+use Rattle.ioc_record.specs.ByRow.{can_put_by}
 use Rattle.rec_state.specs.Bits.{shifted_left, shifted_right, made_mask}
 use Rattle.rec_state.specs.Slotted.{slot_at, slotted, slotted-here, new_slot}
 use Rattle.rec_state.specs.StateRows.{state_row, state_input_row, state_output_row, IsValueBy}
 use Rattle.rec_state.specs.States.{StateRules}
-use Rattle.rec_state.specs.StatesLaws.{IsLawfulStates}
+use Rattle.rec_state.specs.StatesLaws.{IsLawfulField, IsLawfulStates}
 use Rattle.rec_state.specs.declared.sixteen_states.SixteenStates.{SixteenStates}
 
 -- ---- Fields
@@ -166,48 +166,13 @@ sixteen_reads_back t texts (StateText s) v can is = rw is.1 (ap (λ x. Some (val
 sixteen_reads_back t texts (StateSeverity s) v can is = rw is.1 (ap (λ n. Some (value.Enum n)) (severity_back_at t s is.0 is.2))
 sixteen_reads_back t texts _ v can is = cc
 
-sixteen_defaults : (f : OwnField) → sixteen_get new_sixteen f ≡ default_by (sixteen_row f)
-unfolding sixteen_row sixteen_get new_sixteen zero_of
-sixteen_defaults (StateValue s) = ap (λ n. Some (value.ULong n)) (new_slot 0 s)
-sixteen_defaults (StateText s) = ap (λ x. Some (value.Text x)) (new_slot [] s)
-sixteen_defaults (StateSeverity s) = ap (λ x. Some (value.Enum (severity_number x))) (new_slot NoAlarm s)
-sixteen_defaults _ = refl
-
-sixteen_no_links : (f : OwnField) → is_link_by (sixteen_row f) ≡ false
-unfolding sixteen_row
-sixteen_no_links Shft = refl
-sixteen_no_links _ = refl
-
-mbbi_rows : (f : OwnField) → own_row type.Mbbi f ≡ state_input_row sixteen_row f
-unfolding own_row mbbi_row multi_state_row state_input_row state_row sixteen_row
-mbbi_rows Inp = refl
-mbbi_rows _ = refl
-
-mbbo_rows : (f : OwnField) → own_row type.Mbbo f ≡ state_output_row sixteen_row f
-unfolding own_row mbbo_row output_row multi_state_row state_output_row state_row sixteen_row
-mbbo_rows Ivov = refl
-mbbo_rows _ = refl
-
-mbbi_defaults : (f : OwnField) → own_default type.Mbbi f ≡ default_by (state_input_row sixteen_row f)
-unfolding own_default row_of
-mbbi_defaults f = ap default_by (mbbi_rows f)
-
-mbbo_defaults : (f : OwnField) → own_default type.Mbbo f ≡ default_by (state_output_row sixteen_row f)
-unfolding own_default row_of
-mbbo_defaults f = ap default_by (mbbo_rows f)
+sixteen_fields : (f : OwnField) → IsLawfulField sixteen_states f
+unfolding own_row row_of own_default mbbi_row mbbo_row output_row multi_state_row state_input_row state_output_row state_row sixteen_row sixteen_get new_sixteen zero_of
+sixteen_fields (StateValue s) = record { default = ap (λ n. Some (value.ULong n)) (new_slot 0 s); no_link = refl; input_row = refl; output_row = refl; input_default = refl; output_default = refl }
+sixteen_fields (StateText s) = record { default = ap (λ x. Some (value.Text x)) (new_slot [] s); no_link = refl; input_row = refl; output_row = refl; input_default = refl; output_default = refl }
+sixteen_fields (StateSeverity s) = record { default = ap (λ x. Some (value.Enum (severity_number x))) (new_slot NoAlarm s); no_link = refl; input_row = refl; output_row = refl; input_default = refl; output_default = refl }
+sixteen_fields _ = record { default = refl; no_link = refl; input_row = refl; output_row = refl; input_default = refl; output_default = refl }
 
 pub sixteen_lawful : IsLawfulStates sixteen_states
 unfolding reads_device sixteen_get
-sixteen_lawful = record {
-  reads_back = sixteen_reads_back;
-  defaults = sixteen_defaults;
-  no_links = sixteen_no_links;
-  no_input = refl;
-  no_output = refl;
-  no_desired = refl;
-  input_row = mbbi_rows;
-  output_row = mbbo_rows;
-  input_default = mbbi_defaults;
-  output_default = mbbo_defaults;
-  writes = refl;
-}
+sixteen_lawful = record { reads_back = sixteen_reads_back; fields = sixteen_fields; no_input = refl; no_output = refl; no_desired = refl; writes = refl }

@@ -34,7 +34,7 @@ module _ {S : Type 0} (k : StateRules S) (lawful : IsLawfulStates k) where
   fields_defaults Cosv = refl
   fields_defaults Mask = refl
   fields_defaults Lalm = refl
-  fields_defaults f = lawful.defaults f
+  fields_defaults f = (lawful.fields f).default
 
   pub fields_no_links : (f : OwnField) → is_link_by (state_row k.row f) ≡ false
   unfolding state_row
@@ -43,4 +43,4 @@ module _ {S : Type 0} (k : StateRules S) (lawful : IsLawfulStates k) where
   fields_no_links Cosv = refl
   fields_no_links Mask = refl
   fields_no_links Lalm = refl
-  fields_no_links f = lawful.no_links f
+  fields_no_links f = (lawful.fields f).no_link

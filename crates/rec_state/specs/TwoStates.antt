@@ -4,13 +4,12 @@ use Rattle.std.proofs.Common.{◌≡◌, ℕ, ℤ, pos, negsuc, Bool, true, fals
 use Rattle.std.specs.Prelude.{◌==◌, nat_lt, bit_and, if◌then◌else◌, slice_get, unwrap_or}
 use Rattle.ioc_values.specs.declared.value.Value.{Value}
 use Rattle.ioc_values.specs.declared.value.Value.TheVariants as value
-use Rattle.ioc_menus.specs.declared.severity.Severity.{Severity}
 use Rattle.ioc_menus.specs.declared.severity.Severity.TheVariants.{NoAlarm}
 use Rattle.ioc_menus.specs.declared.menu.Menu.TheVariants as menu
 use Rattle.ioc_menus.specs.Numbers.{severity_number}
 use Rattle.ioc_fields.specs.declared.field_kind.FieldKind.TheVariants.{Text, Menu}
 use Rattle.ioc_fields.specs.declared.field_no.OwnField.{OwnField}
-use Rattle.ioc_fields.specs.declared.field_no.OwnField.TheVariants.{Inp, Ivov, Znam, Onam, Zsv, Osv}
+use Rattle.ioc_fields.specs.declared.field_no.OwnField.TheVariants.{Inp, Znam, Onam, Zsv, Osv}
 use Rattle.ioc_fields.specs.declared.record_type.RecordType.TheVariants as type
 use Rattle.ioc_fields.specs.declared.row.Row.{Row}
 use Rattle.ioc_fields.specs.Rows.{passive}
@@ -19,10 +18,10 @@ use Rattle.ioc_fields.specs.Types.{reads_device}
 use Rattle.ioc_fields.specs.Defaults.{zero_of, own_default}
 use Rattle.ioc_dbcommon.specs.Parts.{text_in, severity_in, severity_back}
 use Rattle.ioc_record.specs.Values.{field_sort}
-use Rattle.ioc_record.specs.ByRow.{can_put_by, default_by, is_link_by}
+use Rattle.ioc_record.specs.ByRow.{can_put_by}
 use Rattle.rec_state.specs.StateRows.{state_row, state_input_row, state_output_row, IsValueBy}
 use Rattle.rec_state.specs.States.{StateRules}
-use Rattle.rec_state.specs.StatesLaws.{IsLawfulStates}
+use Rattle.rec_state.specs.StatesLaws.{IsLawfulField, IsLawfulStates}
 use Rattle.rec_state.specs.declared.two_states.TwoStates.{TwoStates}
 
 -- ---- Fields
@@ -59,18 +58,6 @@ two_row _ = None
 
 -- ---- VAL and RVAL
 
--- The severity of the state: ZSV if VAL is 0, else OSV.
-abbrev pub two_severity : TwoStates → ℕ → Severity
-two_severity t value = if value == 0 then t.zero_severity else t.one_severity
-
--- The bits of the number that are in MASK, if MASK isn't 0.
-abbrev pub two_masked : ℕ → ℕ → ℕ
-two_masked mask raw = if mask == 0 then raw else bit_and raw mask
-
--- VAL, which is 0 if RVAL is 0, else 1.
-abbrev pub two_state_of : TwoStates → ℕ → ℕ
-two_state_of t raw = if raw == 0 then 0 else 1
-
 -- RVAL, which is 0 if VAL is 0, else MASK if that isn't 0, else VAL.
 abbrev pub two_raw_of : TwoStates → ℕ → ℕ → Option ℕ
 two_raw_of t mask value = Some (if value == 0 then 0 else if mask == 0 then value else mask)
@@ -92,10 +79,12 @@ two_states = record {
   stored = two_stored;
   row = two_row;
   texts = λ t. t.names;
-  severity = two_severity;
+  -- ZSV if VAL is 0, else OSV.
+  severity = λ t value. if value == 0 then t.zero_severity else t.one_severity;
   has_alarms = λ value. nat_lt value 2;
-  masked = two_masked;
-  state_of = two_state_of;
+  -- The bits of a raw input that are in MASK, if MASK isn't 0. VAL is 0 if RVAL is 0, else 1.
+  masked = λ mask raw. if mask == 0 then raw else bit_and raw mask;
+  state_of = λ t raw. if raw == 0 then 0 else 1;
   raw_of = two_raw_of;
   converts = λ got undefined. true;
   driven = λ mask raw. raw;
@@ -116,46 +105,11 @@ two_reads_back t texts Zsv v can is = rw is.1 (ap (λ n. Some (value.Enum n)) (s
 two_reads_back t texts Osv v can is = rw is.1 (ap (λ n. Some (value.Enum n)) (severity_back is.0 t.one_severity is.2))
 two_reads_back t texts _ v can is = cc
 
-two_defaults : (f : OwnField) → two_get new_two f ≡ default_by (two_row f)
-unfolding two_row two_get new_two zero_of
-two_defaults Znam = refl
-two_defaults _ = refl
-
-two_no_links : (f : OwnField) → is_link_by (two_row f) ≡ false
-unfolding two_row
-two_no_links Znam = refl
-two_no_links _ = refl
-
-bi_rows : (f : OwnField) → own_row type.Bi f ≡ state_input_row two_row f
-unfolding own_row bi_row two_state_row state_input_row state_row two_row
-bi_rows Inp = refl
-bi_rows _ = refl
-
-bo_rows : (f : OwnField) → own_row type.Bo f ≡ state_output_row two_row f
-unfolding own_row bo_row output_row two_state_row state_output_row state_row two_row
-bo_rows Ivov = refl
-bo_rows _ = refl
-
-bi_defaults : (f : OwnField) → own_default type.Bi f ≡ default_by (state_input_row two_row f)
-unfolding own_default row_of
-bi_defaults f = ap default_by (bi_rows f)
-
-bo_defaults : (f : OwnField) → own_default type.Bo f ≡ default_by (state_output_row two_row f)
-unfolding own_default row_of
-bo_defaults f = ap default_by (bo_rows f)
+two_fields : (f : OwnField) → IsLawfulField two_states f
+unfolding own_row row_of own_default bi_row bo_row output_row two_state_row state_input_row state_output_row state_row two_row two_get new_two zero_of
+two_fields Inp = record { default = refl; no_link = refl; input_row = refl; output_row = refl; input_default = refl; output_default = refl }
+two_fields _ = record { default = refl; no_link = refl; input_row = refl; output_row = refl; input_default = refl; output_default = refl }
 
 pub two_lawful : IsLawfulStates two_states
 unfolding reads_device two_get
-two_lawful = record {
-  reads_back = two_reads_back;
-  defaults = two_defaults;
-  no_links = two_no_links;
-  no_input = refl;
-  no_output = refl;
-  no_desired = refl;
-  input_row = bi_rows;
-  output_row = bo_rows;
-  input_default = bi_defaults;
-  output_default = bo_defaults;
-  writes = refl;
-}
+two_lawful = record { reads_back = two_reads_back; fields = two_fields; no_input = refl; no_output = refl; no_desired = refl; writes = refl }

@@ -18,22 +18,24 @@ use Rattle.ioc_record.specs.BodyRules.{BodyRules, BodyState}
 use Rattle.rec_numeric.specs.declared.input.NumericInput.{NumericInput}
 use Rattle.rec_numeric.specs.declared.output.NumericOutput.{NumericOutput}
 use Rattle.rec_numeric.specs.Number.{long_number, int64_number}
-use Rattle.rec_numeric.specs.Input.{longin, int64in, new_input}
-use Rattle.rec_numeric.specs.Output.{longout, int64out, new_output}
+use Rattle.rec_numeric.specs.Types.{longin, int64in, longout, int64out}
+use Rattle.rec_numeric.specs.Input.{new_input}
+use Rattle.rec_numeric.specs.Output.{new_output}
 use Rattle.rec_state.specs.declared.two_states.TwoStates.{TwoStates}
 use Rattle.rec_state.specs.declared.sixteen_states.SixteenStates.{SixteenStates}
 use Rattle.rec_state.specs.declared.input.StateInput.{StateInput}
 use Rattle.rec_state.specs.declared.output.StateOutput.{StateOutput}
-use Rattle.rec_state.specs.Input.{bi, mbbi, new_bi, new_mbbi}
-use Rattle.rec_state.specs.Output.{bo, mbbo, new_bo, new_mbbo}
-use Rattle.rec_text.specs.declared.stringin.Stringin.{Stringin as Stringin-fields}
-use Rattle.rec_text.specs.Stringin.{stringin, new_stringin}
+use Rattle.rec_state.specs.Types.{bi, mbbi, bo, mbbo, new_bi, new_mbbi, new_bo, new_mbbo}
+use Rattle.rec_text.specs.declared.text_body.TextBody.{TextBody}
+use Rattle.rec_text.specs.declared.stringin.Kept.{Kept}
+use Rattle.rec_text.specs.TextBody.{new_text_body}
+use Rattle.rec_text.specs.Stringin.{kept, stringin}
 use Rattle.rec_text.specs.declared.stringout.Stringout.{Stringout as Stringout-fields}
 use Rattle.rec_text.specs.Stringout.{stringout, new_stringout}
 use Rattle.rec_flow.specs.declared.fanout.Fanout.{Fanout as Fanout-fields}
 use Rattle.rec_flow.specs.Fanout.{fanout, new_fanout}
-use Rattle.rec_flow.specs.declared.event.Event.{Event as Event-fields}
-use Rattle.rec_flow.specs.Event.{event, new_event}
+use Rattle.rec_flow.specs.declared.event.Posted.{Posted}
+use Rattle.rec_flow.specs.Event.{posted, event}
 use Rattle.rec_types.specs.declared.record.Body.{Body}
 use Rattle.rec_types.specs.declared.record.Body.TheVariants.{Longin, Longout, Int64in, Int64out, Bi, Bo, Mbbi, Mbbo, Stringin, Stringout, Fanout, Event}
 
@@ -47,10 +49,10 @@ new_body type.Bi = Bi new_bi
 new_body type.Bo = Bo new_bo
 new_body type.Mbbi = Mbbi new_mbbi
 new_body type.Mbbo = Mbbo new_mbbo
-new_body type.Stringin = Stringin new_stringin
+new_body type.Stringin = Stringin (new_text_body kept)
 new_body type.Stringout = Stringout new_stringout
 new_body type.Fanout = Fanout new_fanout
-new_body type.Event = Event new_event
+new_body type.Event = Event (new_text_body posted)
 
 -- The type-specific fields of a record with the rules of their type, and how they become a body of
 -- any type.
@@ -70,10 +72,10 @@ typed (Bi b) = record { Of = StateInput TwoStates; rules = bi; it = b; back = Bi
 typed (Bo b) = record { Of = StateOutput TwoStates; rules = bo; it = b; back = Bo }
 typed (Mbbi b) = record { Of = StateInput SixteenStates; rules = mbbi; it = b; back = Mbbi }
 typed (Mbbo b) = record { Of = StateOutput SixteenStates; rules = mbbo; it = b; back = Mbbo }
-typed (Stringin b) = record { Of = Stringin-fields; rules = stringin; it = b; back = Stringin }
+typed (Stringin b) = record { Of = TextBody Kept; rules = stringin; it = b; back = Stringin }
 typed (Stringout b) = record { Of = Stringout-fields; rules = stringout; it = b; back = Stringout }
 typed (Fanout b) = record { Of = Fanout-fields; rules = fanout; it = b; back = Fanout }
-typed (Event b) = record { Of = Event-fields; rules = event; it = b; back = Event }
+typed (Event b) = record { Of = TextBody Posted; rules = event; it = b; back = Event }
 
 -- The fields with the condition of the record.
 abbrev pub held : (b : Body) → Condition → BodyState (typed b).Of

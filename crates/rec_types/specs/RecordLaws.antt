@@ -20,11 +20,8 @@ use Rattle.ioc_record.specs.BodyRules.{BodyRules}
 use Rattle.ioc_record.specs.Laws.{IsLawful}
 use Rattle.ioc_record.specs.WholeLaws.{whole_lawful}
 use Rattle.ioc_record.specs.BodyLaws.{IsLawfulBody, LeadsTo}
-use Rattle.rec_numeric.specs.Input.{longin}
-use Rattle.rec_numeric.specs.InputLaws.{longin_lawful, int64in_lawful}
-use Rattle.rec_numeric.specs.OutputLaws.{longout_lawful, int64out_lawful}
-use Rattle.rec_state.specs.InputLaws.{bi_lawful, mbbi_lawful}
-use Rattle.rec_state.specs.OutputLaws.{bo_lawful, mbbo_lawful}
+use Rattle.rec_numeric.specs.Types.{longin, longin_lawful, int64in_lawful, longout_lawful, int64out_lawful}
+use Rattle.rec_state.specs.Types.{bi_lawful, mbbi_lawful, bo_lawful, mbbo_lawful}
 use Rattle.rec_text.specs.StringinLaws.{stringin_lawful}
 use Rattle.rec_text.specs.StringoutLaws.{stringout_lawful}
 use Rattle.rec_flow.specs.FanoutLaws.{fanout_lawful}

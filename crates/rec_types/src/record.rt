@@ -33,48 +33,29 @@ pub enum Body {
 /// A record of any type.
 pub type Record = ioc_record::Record<Body>;
 
+// Calls a query on a body on the heap.
+macro_rules! in_box {
+    ($kept:ident, $body:ident => $call:expr) => {{
+        let $body = $kept.get();
+        $call
+    }};
+}
+
 // Calls a query on a body, by its type.
 macro_rules! ask {
     ($on:expr, $body:ident => $call:expr) => {
         match $on {
             Body::Longin($body) => $call,
-            Body::Longout(kept) => {
-                let $body = kept.get();
-                $call
-            }
-            Body::Int64in(kept) => {
-                let $body = kept.get();
-                $call
-            }
-            Body::Int64out(kept) => {
-                let $body = kept.get();
-                $call
-            }
-            Body::Bi(kept) => {
-                let $body = kept.get();
-                $call
-            }
-            Body::Bo(kept) => {
-                let $body = kept.get();
-                $call
-            }
-            Body::Mbbi(kept) => {
-                let $body = kept.get();
-                $call
-            }
-            Body::Mbbo(kept) => {
-                let $body = kept.get();
-                $call
-            }
+            Body::Longout(kept) => in_box!(kept, $body => $call),
+            Body::Int64in(kept) => in_box!(kept, $body => $call),
+            Body::Int64out(kept) => in_box!(kept, $body => $call),
+            Body::Bi(kept) => in_box!(kept, $body => $call),
+            Body::Bo(kept) => in_box!(kept, $body => $call),
+            Body::Mbbi(kept) => in_box!(kept, $body => $call),
+            Body::Mbbo(kept) => in_box!(kept, $body => $call),
             Body::Stringin($body) => $call,
-            Body::Stringout(kept) => {
-                let $body = kept.get();
-                $call
-            }
-            Body::Fanout(kept) => {
-                let $body = kept.get();
-                $call
-            }
+            Body::Stringout(kept) => in_box!(kept, $body => $call),
+            Body::Fanout(kept) => in_box!(kept, $body => $call),
             Body::Event($body) => $call,
         }
     };
@@ -97,6 +78,15 @@ macro_rules! work {
             Body::Stringout($body) => $on_heap,
             Body::Fanout($body) => $on_heap,
             Body::Event($body) => $here,
+        }
+    };
+}
+
+// Calls an operation with the fields of another body, if it is of this type.
+macro_rules! where_same {
+    ($other:ident, $type:ident => $call:expr) => {
+        if let Body::$type($other) = $other {
+            $call;
         }
     };
 }
@@ -225,66 +215,19 @@ impl RecordBody for Body {
 
     fn copy_from(&mut self, other: &Self) {
         match self {
-            Body::Longin(body) => {
-                if let Body::Longin(other) = other {
-                    body.copy_from(other);
-                }
-            }
-            Body::Longout(kept) => {
-                if let Body::Longout(other) = other {
-                    on_heap::copy_from(kept, other);
-                }
-            }
-            Body::Int64in(kept) => {
-                if let Body::Int64in(other) = other {
-                    on_heap::copy_from(kept, other);
-                }
-            }
-            Body::Int64out(kept) => {
-                if let Body::Int64out(other) = other {
-                    on_heap::copy_from(kept, other);
-                }
-            }
-            Body::Bi(kept) => {
-                if let Body::Bi(other) = other {
-                    on_heap::copy_from(kept, other);
-                }
-            }
-            Body::Bo(kept) => {
-                if let Body::Bo(other) = other {
-                    on_heap::copy_from(kept, other);
-                }
-            }
-            Body::Mbbi(kept) => {
-                if let Body::Mbbi(other) = other {
-                    on_heap::copy_from(kept, other);
-                }
-            }
-            Body::Mbbo(kept) => {
-                if let Body::Mbbo(other) = other {
-                    on_heap::copy_from(kept, other);
-                }
-            }
-            Body::Stringin(body) => {
-                if let Body::Stringin(other) = other {
-                    body.copy_from(other);
-                }
-            }
-            Body::Stringout(kept) => {
-                if let Body::Stringout(other) = other {
-                    on_heap::copy_from(kept, other);
-                }
-            }
-            Body::Fanout(kept) => {
-                if let Body::Fanout(other) = other {
-                    on_heap::copy_from(kept, other);
-                }
-            }
-            Body::Event(body) => {
-                if let Body::Event(other) = other {
-                    body.copy_from(other);
-                }
-            }
+            Body::Longin(body) => where_same!(other, Longin => body.copy_from(other)),
+            Body::Longout(kept) => where_same!(other, Longout => on_heap::copy_from(kept, other)),
+            Body::Int64in(kept) => where_same!(other, Int64in => on_heap::copy_from(kept, other)),
+            Body::Int64out(kept) => where_same!(other, Int64out => on_heap::copy_from(kept, other)),
+            Body::Bi(kept) => where_same!(other, Bi => on_heap::copy_from(kept, other)),
+            Body::Bo(kept) => where_same!(other, Bo => on_heap::copy_from(kept, other)),
+            Body::Mbbi(kept) => where_same!(other, Mbbi => on_heap::copy_from(kept, other)),
+            Body::Mbbo(kept) => where_same!(other, Mbbo => on_heap::copy_from(kept, other)),
+            Body::Stringin(body) => where_same!(other, Stringin => body.copy_from(other)),
+            Body::Stringout(kept) =>
+                where_same!(other, Stringout => on_heap::copy_from(kept, other)),
+            Body::Fanout(kept) => where_same!(other, Fanout => on_heap::copy_from(kept, other)),
+            Body::Event(body) => where_same!(other, Event => body.copy_from(other)),
         }
     }
 }
