@@ -44,85 +44,44 @@ fn raised_where_graver(rt: HostRuntime) {
     assert!(rt; a == SETTLED);
 }
 
+const NO_ALARM: (Status, Severity) = (Status::NoAlarm, Severity::NoAlarm);
+
 // A mode and the severity of a record in the alarm HIGH, with the alarm that a record without alarm
 // inherits.
-static INHERITED: [(Mode, Severity, Status, Severity); 16] = [
-    (
-        Mode::Nms,
-        Severity::NoAlarm,
-        Status::NoAlarm,
-        Severity::NoAlarm,
-    ),
-    (
-        Mode::Nms,
-        Severity::Minor,
-        Status::NoAlarm,
-        Severity::NoAlarm,
-    ),
-    (
-        Mode::Nms,
-        Severity::Major,
-        Status::NoAlarm,
-        Severity::NoAlarm,
-    ),
-    (
-        Mode::Nms,
-        Severity::Invalid,
-        Status::NoAlarm,
-        Severity::NoAlarm,
-    ),
+static INHERITED: [(Mode, Severity, (Status, Severity)); 16] = [
+    (Mode::Nms, Severity::NoAlarm, NO_ALARM),
+    (Mode::Nms, Severity::Minor, NO_ALARM),
+    (Mode::Nms, Severity::Major, NO_ALARM),
+    (Mode::Nms, Severity::Invalid, NO_ALARM),
+    (Mode::Ms, Severity::NoAlarm, NO_ALARM),
+    (Mode::Ms, Severity::Minor, (Status::Link, Severity::Minor)),
+    (Mode::Ms, Severity::Major, (Status::Link, Severity::Major)),
     (
         Mode::Ms,
-        Severity::NoAlarm,
-        Status::NoAlarm,
-        Severity::NoAlarm,
+        Severity::Invalid,
+        (Status::Link, Severity::Invalid),
     ),
-    (Mode::Ms, Severity::Minor, Status::Link, Severity::Minor),
-    (Mode::Ms, Severity::Major, Status::Link, Severity::Major),
-    (Mode::Ms, Severity::Invalid, Status::Link, Severity::Invalid),
-    (
-        Mode::Msi,
-        Severity::NoAlarm,
-        Status::NoAlarm,
-        Severity::NoAlarm,
-    ),
-    (
-        Mode::Msi,
-        Severity::Minor,
-        Status::NoAlarm,
-        Severity::NoAlarm,
-    ),
-    (
-        Mode::Msi,
-        Severity::Major,
-        Status::NoAlarm,
-        Severity::NoAlarm,
-    ),
+    (Mode::Msi, Severity::NoAlarm, NO_ALARM),
+    (Mode::Msi, Severity::Minor, NO_ALARM),
+    (Mode::Msi, Severity::Major, NO_ALARM),
     (
         Mode::Msi,
         Severity::Invalid,
-        Status::Link,
-        Severity::Invalid,
+        (Status::Link, Severity::Invalid),
     ),
-    (
-        Mode::Mss,
-        Severity::NoAlarm,
-        Status::NoAlarm,
-        Severity::NoAlarm,
-    ),
-    (Mode::Mss, Severity::Minor, Status::High, Severity::Minor),
-    (Mode::Mss, Severity::Major, Status::High, Severity::Major),
+    (Mode::Mss, Severity::NoAlarm, NO_ALARM),
+    (Mode::Mss, Severity::Minor, (Status::High, Severity::Minor)),
+    (Mode::Mss, Severity::Major, (Status::High, Severity::Major)),
     (
         Mode::Mss,
         Severity::Invalid,
-        Status::High,
-        Severity::Invalid,
+        (Status::High, Severity::Invalid),
     ),
 ];
 
 #[test]
 fn inherited_by_mode(rt: HostRuntime) {
-    for (mode, severity, new_status, new_severity) in &INHERITED {
+    for (mode, severity, (new_status, new_severity)) in &INHERITED {
         let mut a = QUIET;
         a.inherit(*mode, Status::High, *severity);
         assert!(rt; a == alarms(*new_status, *new_severity));
@@ -141,17 +100,20 @@ fn are_reached(rt: &impl Abort, limits: &AlarmLimits<i64>, table: &[Reached]) {
     }
 }
 
-static HIGH_LIMIT: AlarmLimits<i64> = AlarmLimits {
-    hihi: 0,
-    lolo: 0,
-    high: 10,
-    low: 0,
-    hihi_severity: Severity::NoAlarm,
-    lolo_severity: Severity::NoAlarm,
-    high_severity: Severity::Minor,
-    low_severity: Severity::NoAlarm,
-    hysteresis: 2,
-};
+// Returns limits of which only HIGH is tested, with the severity MINOR.
+fn only_high(high: i64, hysteresis: i64) -> AlarmLimits<i64> {
+    AlarmLimits {
+        hihi: 0,
+        lolo: 0,
+        high,
+        low: 0,
+        hihi_severity: Severity::NoAlarm,
+        lolo_severity: Severity::NoAlarm,
+        high_severity: Severity::Minor,
+        low_severity: Severity::NoAlarm,
+        hysteresis,
+    }
+}
 
 // The alarm HIGH ends when the value is below the hysteresis.
 static BELOW: [Reached; 3] = [
@@ -160,35 +122,11 @@ static BELOW: [Reached; 3] = [
     (7, 10, Status::NoAlarm, 7),
 ];
 
-static LOW_LIMIT: AlarmLimits<i64> = AlarmLimits {
-    hihi: 0,
-    lolo: 0,
-    high: -2_000_000_000,
-    low: 0,
-    hihi_severity: Severity::NoAlarm,
-    lolo_severity: Severity::NoAlarm,
-    high_severity: Severity::Minor,
-    low_severity: Severity::NoAlarm,
-    hysteresis: 2_000_000_000,
-};
-
 // The sums of hysteresis don't wrap.
 static FAR_BELOW: [Reached; 2] = [
     (-2_000_000_000, 0, Status::High, -2_000_000_000),
     (-2_147_483_648, -2_000_000_000, Status::High, -2_000_000_000),
 ];
-
-static LEAST_LIMIT: AlarmLimits<i64> = AlarmLimits {
-    hihi: 0,
-    lolo: 0,
-    high: i64::MIN,
-    low: 0,
-    hihi_severity: Severity::NoAlarm,
-    lolo_severity: Severity::NoAlarm,
-    high_severity: Severity::Minor,
-    low_severity: Severity::NoAlarm,
-    hysteresis: i64::MAX,
-};
 
 static LEAST: [Reached; 1] = [(i64::MIN, i64::MIN, Status::High, i64::MIN)];
 
@@ -216,9 +154,9 @@ static FIRST_REACHED: [Reached; 6] = [
 
 #[test]
 fn limits_raised(rt: HostRuntime) {
-    are_reached(&rt, &HIGH_LIMIT, &BELOW);
-    are_reached(&rt, &LOW_LIMIT, &FAR_BELOW);
-    are_reached(&rt, &LEAST_LIMIT, &LEAST);
+    are_reached(&rt, &only_high(10, 2), &BELOW);
+    are_reached(&rt, &only_high(-2_000_000_000, 2_000_000_000), &FAR_BELOW);
+    are_reached(&rt, &only_high(i64::MIN, i64::MAX), &LEAST);
     are_reached(&rt, &FOUR_LIMITS, &FIRST_REACHED);
 }
 

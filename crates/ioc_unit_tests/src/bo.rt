@@ -1,40 +1,24 @@
 //! A single bo record.
 use crate::steps::Step::{
-    Answer, AnswerFault, Begin, Converts, Copied, Has, Lists, Load, OwnsDevice, Put, PutNumber,
-    PutRefused, Raised, ReadAsNumber, ReadAsText, Set, SetRefused, Stands, Take, Test,
+    Answer, AnswerFault, Begin, Converts, Has, HasAll, Lists, Load, OwnsDevice, Put, PutRefused,
+    Raised, Raises, ReadAsNumber, ReadAsText, Set, SetAll, SetRefused, Stands, Take, Test,
 };
-use crate::steps::{Came, Does, SHOW, Step, Wants};
+use crate::steps::{Came, Does, OUT, SHOW, Step, TAKE_FAULT, TAKE_NOTHING, Wants, follow};
 use ioc_dbcommon::InputKind;
 use ioc_fields::{FieldNo, OwnField};
 use ioc_links::Mode;
 use ioc_values::{IocError, Range};
+use rec_state::Bo;
 
-const OUT: FieldNo = FieldNo::Own(OwnField::Out);
-
-const DOL: FieldNo = FieldNo::Own(OwnField::Dol);
-
-const TAKE_NOTHING: Step<'static> = Take(Came::Nothing, Does::Nothing);
-
-pub static TESTS: [Step<'static>; 236] = [
-    Test("texts of states"),
-    Set("ZNAM", "shut"),
-    Set("ONAM", "open"),
-    Load,
-    Has("VAL", "shut"),
-    Has("UDF", "1"),
-    Put("VAL", "open"),
-    Copied,
-    Has("VAL", "open"),
-    Has("UDF", "0"),
-    Put("VAL", "0"),
-    Has("VAL", "shut"),
-    PutRefused("VAL", "2", IocError::BadValue),
-    PutRefused("VAL", "Open", IocError::BadValue),
-    Has("VAL", "shut"),
-    PutNumber("VAL", 2),
+pub static TESTS: [Step<'static>; 94] = [
     // A text is put as the lowest state with that text. A state with an empty text is shown as its
     // number.
-    Has("VAL", "2"),
+    Test("same texts of states"),
+    SetAll(&[("ZNAM", "shut"), ("ONAM", "open")]),
+    Put("VAL", "0"),
+    Has("VAL", "shut"),
+    PutRefused("VAL", "Open", IocError::BadValue),
+    Has("VAL", "shut"),
     Put("ONAM", ""),
     Put("VAL", "1"),
     Has("VAL", "1"),
@@ -42,59 +26,8 @@ pub static TESTS: [Step<'static>; 236] = [
     Put("VAL", "shut"),
     Put("ZNAM", ""),
     Has("VAL", "0"),
-    // RVAL is 0 if VAL is 0, otherwise MASK if that isn't 0, otherwise VAL.
-    Test("MASK 0, VAL 1"),
-    Set("MASK", "0"),
-    Set("RVAL", "77"),
-    Load,
-    Take(Came::UShort(1), Does::Nothing),
-    Has("RVAL", "1"),
-    Has("UDF", "0"),
-    PutRefused("MASK", "1", IocError::NoMod),
-    Test("MASK 8, VAL 1"),
-    Set("MASK", "8"),
-    Set("RVAL", "77"),
-    Load,
-    Take(Came::UShort(1), Does::Nothing),
-    Has("RVAL", "8"),
-    Has("UDF", "0"),
-    PutRefused("MASK", "1", IocError::NoMod),
-    Test("MASK 8, VAL 3"),
-    Set("MASK", "8"),
-    Set("RVAL", "77"),
-    Load,
-    Take(Came::UShort(3), Does::Nothing),
-    Has("RVAL", "8"),
-    Has("UDF", "0"),
-    PutRefused("MASK", "1", IocError::NoMod),
-    Test("MASK 0, VAL 3"),
-    Set("MASK", "0"),
-    Set("RVAL", "77"),
-    Load,
-    Take(Came::UShort(3), Does::Nothing),
-    Has("RVAL", "3"),
-    Has("UDF", "0"),
-    PutRefused("MASK", "1", IocError::NoMod),
-    Test("MASK 0xffffffff, VAL 1"),
-    Set("MASK", "0xffffffff"),
-    Set("RVAL", "77"),
-    Load,
-    Take(Came::UShort(1), Does::Nothing),
-    Has("RVAL", "4294967295"),
-    Has("UDF", "0"),
-    PutRefused("MASK", "1", IocError::NoMod),
-    Test("MASK 8, VAL 0"),
-    Set("MASK", "8"),
-    Set("RVAL", "77"),
-    Load,
-    Take(Came::UShort(0), Does::Nothing),
-    Has("RVAL", "0"),
-    Has("UDF", "0"),
-    PutRefused("MASK", "1", IocError::NoMod),
     Test("links written"),
-    Set("MASK", "8"),
-    Set("OUT", "there"),
-    Set("VAL", "1"),
+    SetAll(&[("MASK", "8"), ("OUT", "there"), ("VAL", "1")]),
     Load,
     Take(Came::Nothing, Does::WriteAbsent(1)),
     Stands(OUT),
@@ -107,9 +40,7 @@ pub static TESTS: [Step<'static>; 236] = [
     TAKE_NOTHING,
     SetRefused("OUT", "there CA", IocError::BadLink),
     Test("device written"),
-    Set("MASK", "8"),
-    Set("OUT", "@card"),
-    Set("VAL", "1"),
+    SetAll(&[("MASK", "8"), ("OUT", "@card"), ("VAL", "1")]),
     Load,
     Take(Came::Nothing, Does::WriteAbsentRaw(8)),
     OwnsDevice(OUT),
@@ -122,139 +53,63 @@ pub static TESTS: [Step<'static>; 236] = [
     Test("desired output"),
     Set("DOL", "wish"),
     Load,
-    Stands(DOL),
-    Begin(Wants::Nothing),
     Put("OMSL", "closed_loop"),
-    Begin(Wants::Link(false, Mode::Nms)),
     Take(Came::UShort(1), Does::Nothing),
-    Has("VAL", "1"),
-    Has("UDF", "0"),
+    HasAll(&[("VAL", "1"), ("UDF", "0")]),
     Put("RVAL", "5"),
-    Take(Came::Fault, Does::Nothing),
+    TAKE_FAULT,
     Has("RVAL", "1"),
     Set("DOL", ""),
     Begin(Wants::Unused),
     Converts(InputKind::Number(Range::UShort)),
-    Test("constant 0"),
-    Set("DOL", "0"),
-    Load,
-    Has("VAL", "0"),
-    Has("UDF", "0"),
-    Has("LALM", "0"),
-    Has("STAT", "UDF"),
-    Has("SEVR", "INVALID"),
-    Test("constant 1"),
-    Set("DOL", "1"),
-    Load,
-    Has("VAL", "1"),
-    Has("UDF", "0"),
-    Has("LALM", "1"),
-    Has("STAT", "UDF"),
-    Has("SEVR", "INVALID"),
-    Test("constant 7"),
-    Set("DOL", "7"),
-    Load,
-    Has("VAL", "1"),
-    Has("UDF", "0"),
-    Has("LALM", "1"),
-    Has("STAT", "UDF"),
-    Has("SEVR", "INVALID"),
-    Test("constant 65535"),
-    Set("DOL", "65535"),
-    Load,
-    Has("VAL", "1"),
-    Has("UDF", "0"),
-    Has("LALM", "1"),
-    Has("STAT", "UDF"),
-    Has("SEVR", "INVALID"),
     Test("constants refused"),
     SetRefused("DOL", "65536", IocError::BadValue),
     SetRefused("DOL", "-1", IocError::BadValue),
     SetRefused("DOL", "@card", IocError::BadLink),
-    // With an INVALID alarm, IVOA decides what is driven.
-    Test("Continue normally"),
-    Set("IVOA", "Continue normally"),
-    Set("IVOV", "3"),
-    Set("MASK", "8"),
-    Set("OUT", "x"),
-    Load,
-    Take(Came::Nothing, Does::WriteAbsent(0)),
-    Raised("UDF", "INVALID"),
-    Has("VAL", "0"),
-    Has("RVAL", "0"),
-    Test("Don't drive outputs"),
-    Set("IVOA", "Don't drive outputs"),
-    Set("IVOV", "3"),
-    Set("MASK", "8"),
-    Set("OUT", "x"),
-    Load,
-    Take(Came::Nothing, Does::Nothing),
-    Raised("UDF", "INVALID"),
-    Has("VAL", "0"),
-    Has("RVAL", "0"),
-    Test("Set output to IVOV"),
-    Set("IVOA", "Set output to IVOV"),
-    Set("IVOV", "3"),
-    Set("MASK", "8"),
-    Set("OUT", "x"),
-    Load,
-    Take(Came::Nothing, Does::WriteAbsent(3)),
-    Raised("UDF", "INVALID"),
-    Has("VAL", "3"),
-    Has("RVAL", "8"),
     // With a lesser alarm, the output is driven, whatever IVOA is.
     Test("lesser alarm"),
-    Set("IVOA", "Don't drive outputs"),
-    Set("UDFS", "MAJOR"),
-    Set("OUT", "x"),
+    SetAll(&[
+        ("IVOA", "Don't drive outputs"),
+        ("UDFS", "MAJOR"),
+        ("OUT", "x"),
+    ]),
     Load,
     Take(Came::Nothing, Does::WriteAbsent(0)),
     Put("IVOA", "Set output to IVOV"),
     Take(Came::Nothing, Does::WriteAbsent(0)),
     // The severity of a state is ZSV if VAL is 0, otherwise OSV.
     Test("alarms of states"),
-    Set("ZSV", "MINOR"),
-    Set("OSV", "MAJOR"),
-    Set("VAL", "0"),
+    SetAll(&[("ZSV", "MINOR"), ("OSV", "MAJOR"), ("VAL", "0")]),
     Load,
-    TAKE_NOTHING,
-    Raised("STATE", "MINOR"),
+    Raises(Came::Nothing, "STATE", "MINOR"),
     SHOW,
     Take(Came::UShort(1), Does::Nothing),
     Has("NSEV", "MAJOR"),
     SHOW,
-    Take(Came::UShort(2), Does::Nothing),
-    Raised("STATE", "MAJOR"),
+    Raises(Came::UShort(2), "STATE", "MAJOR"),
     // If VAL differs from LALM, COS is raised with COSV, and LALM becomes VAL even if the alarm has
     // no effect.
     Test("changes of state"),
-    Set("OSV", "MINOR"),
-    Set("COSV", "MAJOR"),
-    Set("VAL", "0"),
+    SetAll(&[("OSV", "MINOR"), ("COSV", "MAJOR"), ("VAL", "0")]),
     Load,
     TAKE_NOTHING,
     Has("NSTA", "NO_ALARM"),
-    Take(Came::UShort(1), Does::Nothing),
-    Raised("COS", "MAJOR"),
+    Raises(Came::UShort(1), "COS", "MAJOR"),
     Has("LALM", "1"),
     SHOW,
-    TAKE_NOTHING,
-    Raised("STATE", "MINOR"),
+    Raises(Came::Nothing, "STATE", "MINOR"),
     SHOW,
     Put("COSV", "MINOR"),
     Put("OSV", "MAJOR"),
     Put("ZSV", "MINOR"),
     Take(Came::UShort(0), Does::Nothing),
-    Has("NSTA", "STATE"),
-    Has("LALM", "0"),
+    HasAll(&[("NSTA", "STATE"), ("LALM", "0")]),
     Put("UDF", "1"),
     TAKE_NOTHING,
     Has("NSTA", "UDF"),
     // The values for readers of numbers and of texts.
     Test("fields read"),
-    Set("ONAM", "on"),
-    Set("ZNAM", "12"),
-    Set("VAL", "on"),
+    SetAll(&[("ONAM", "on"), ("ZNAM", "12"), ("VAL", "on")]),
     Load,
     ReadAsNumber("VAL", 1),
     ReadAsNumber("ZNAM", 12),
@@ -263,3 +118,69 @@ pub static TESTS: [Step<'static>; 236] = [
     ReadAsText("UDFS", "INVALID"),
     Lists(4, 2),
 ];
+
+// MASK and VAL, with RVAL for them: 0 if VAL is 0, otherwise MASK if that isn't 0, otherwise VAL.
+static MASKS: [(&str, u16, &str); 6] = [
+    ("0", 1, "1"),
+    ("8", 1, "8"),
+    ("8", 3, "8"),
+    ("0", 3, "3"),
+    ("0xffffffff", 1, "4294967295"),
+    ("8", 0, "0"),
+];
+
+#[test]
+fn raw_values(rt: HostRuntime) {
+    for (mask, value, raw) in &MASKS {
+        let steps = [
+            Set("MASK", *mask),
+            Set("RVAL", "77"),
+            Load,
+            Take(Came::UShort(*value), Does::Nothing),
+            Has("RVAL", *raw),
+            Has("UDF", "0"),
+            PutRefused("MASK", "1", IocError::NoMod),
+        ];
+        follow::<Bo>(&rt, rt.alloc(), "valve", &steps);
+    }
+}
+
+// A constant of DOL, and VAL and LALM after a load.
+static CONSTANTS: [(&str, &str); 4] = [("0", "0"), ("1", "1"), ("7", "1"), ("65535", "1")];
+
+#[test]
+fn constants(rt: HostRuntime) {
+    for (constant, value) in &CONSTANTS {
+        let steps = [
+            Set("DOL", *constant),
+            Load,
+            Has("VAL", *value),
+            Has("LALM", *value),
+            HasAll(&[("UDF", "0"), ("STAT", "UDF"), ("SEVR", "INVALID")]),
+        ];
+        follow::<Bo>(&rt, rt.alloc(), "valve", &steps);
+    }
+}
+
+// With an INVALID alarm, IVOA decides what is driven, and then VAL and RVAL.
+static INVALID: [(&str, Does, &str, &str); 3] = [
+    ("Continue normally", Does::WriteAbsent(0), "0", "0"),
+    ("Don't drive outputs", Does::Nothing, "0", "0"),
+    ("Set output to IVOV", Does::WriteAbsent(3), "3", "8"),
+];
+
+#[test]
+fn invalid_values(rt: HostRuntime) {
+    for (action, driven, value, raw) in &INVALID {
+        let steps = [
+            Set("IVOA", *action),
+            SetAll(&[("IVOV", "3"), ("MASK", "8"), ("OUT", "x")]),
+            Load,
+            Take(Came::Nothing, *driven),
+            Raised("UDF", "INVALID"),
+            Has("VAL", *value),
+            Has("RVAL", *raw),
+        ];
+        follow::<Bo>(&rt, rt.alloc(), "valve", &steps);
+    }
+}

@@ -1,6 +1,7 @@
 //! A single fanout record.
 use crate::steps::Step::{
-    Begin, Converts, Copied, Has, Load, Put, PutRefused, Set, SetRefused, Stands, Take, Test,
+    Begin, Converts, Copied, Has, HasAll, Load, Put, PutRefused, Set, SetAll, SetRefused, Stands,
+    Take, Test,
 };
 use crate::steps::{Came, Does, Step, Wants, follow};
 use ioc_dbcommon::{BodyBox, InputKind};
@@ -11,28 +12,25 @@ use ioc_values::{IocError, Range, Value};
 use rec_flow::Fanout;
 use std::test::Fail;
 
-pub static TESTS: [Step<'static>; 53] = [
+pub static TESTS: [Step<'static>; 35] = [
     // UDF becomes 0, and no alarm of an undefined value is raised.
     Test("new"),
     Load,
-    Has("VAL", "0"),
-    Has("SELM", "All"),
-    Has("SELN", "1"),
-    Has("SELL", ""),
-    Has("OFFS", "0"),
-    Has("SHFT", "-1"),
-    Has("LNK0", ""),
-    Has("LNKF", ""),
-    Has("STAT", "UDF"),
+    HasAll(&[
+        ("VAL", "0"),
+        ("SELM", "All"),
+        ("SELN", "1"),
+        ("SELL", ""),
+        ("OFFS", "0"),
+    ]),
+    HasAll(&[("SHFT", "-1"), ("LNK0", ""), ("LNKF", ""), ("STAT", "UDF")]),
     Begin(Wants::Unused),
     Take(Came::Nothing, Does::Follow(0xffff)),
-    Has("UDF", "0"),
-    Has("NSTA", "NO_ALARM"),
+    HasAll(&[("UDF", "0"), ("NSTA", "NO_ALARM")]),
     // The value of SELL is put into SELN. After a fault, SELN is unchanged, and the links are
     // selected all the same.
     Test("number by a link"),
-    Set("SELM", "Specified"),
-    Set("SELL", "n PP MSS"),
+    SetAll(&[("SELM", "Specified"), ("SELL", "n PP MSS")]),
     Load,
     Begin(Wants::Absent),
     Stands(FieldNo::Own(OwnField::Sell)),
@@ -43,26 +41,27 @@ pub static TESTS: [Step<'static>; 53] = [
     Has("SELN", "4"),
     Converts(InputKind::Number(Range::UShort)),
     Test("number by a constant"),
-    Set("SELN", "2"),
-    Set("SELL", "3"),
+    SetAll(&[("SELN", "2"), ("SELL", "3")]),
     Load,
-    Has("SELN", "3"),
-    Has("UDF", "1"),
+    HasAll(&[("SELN", "3"), ("UDF", "1")]),
     SetRefused("SELL", "65536", IocError::BadValue),
     SetRefused("SELL", "@card", IocError::BadLink),
     Test("links and puts"),
-    Set("LNK0", "a"),
-    Set("LNK1", "65536"),
-    Set("LNKA", "b PP"),
-    Set("LNKF", "c.SCAN"),
+    SetAll(&[
+        ("LNK0", "a"),
+        ("LNK1", "65536"),
+        ("LNKA", "b PP"),
+        ("LNKF", "c.SCAN"),
+    ]),
     SetRefused("LNK2", "@card", IocError::BadLink),
     Stands(FieldNo::Own(OwnField::Lnk(Slot::N10))),
-    Has("LNK0", "a.VAL NPP NMS"),
-    Has("LNK1", "65536"),
-    Has("LNK9", ""),
-    Has("LNKA", "b.VAL PP NMS"),
-    Has("LNKB", ""),
-    Has("LNKF", "c.SCAN NPP NMS"),
+    HasAll(&[
+        ("LNK0", "a.VAL NPP NMS"),
+        ("LNK1", "65536"),
+        ("LNK9", ""),
+        ("LNKA", "b.VAL PP NMS"),
+    ]),
+    HasAll(&[("LNKB", ""), ("LNKF", "c.SCAN NPP NMS")]),
     PutRefused("LNK0", "a", IocError::NoMod),
     PutRefused("OFFS", "32768", IocError::BadValue),
     Put("VAL", "-5"),

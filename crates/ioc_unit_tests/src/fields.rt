@@ -2,7 +2,7 @@
 //! a list is far cheaper to prove than a function.
 use Fact::{
     CanPut, CanSet, Default, Field, Index, KeptOnly, Kind, NoDefault, NoField, NoKind, NoType,
-    ProcessPassive, Role, Row, Type,
+    ProcessPassive, Role, Row, Rows, Type,
 };
 use ioc_fields::{
     CommonField, FieldKind, FieldNo, LinkRole, OwnField, RecordType, Slot, can_put, can_set,
@@ -61,6 +61,8 @@ enum Fact {
     NoType(&'static str),
     // The row of the field with this name.
     Row(&'static str, FieldKind, Mark),
+    // The equal rows of the fields with these names.
+    Rows(&'static [&'static str], FieldKind, Mark),
     // The field with this name, which is also the name of the field.
     Field(&'static str, FieldNo),
     NoField(&'static str),
@@ -82,35 +84,23 @@ const VAL: FieldNo = FieldNo::Own(OwnField::Val);
 
 const MASK: FieldNo = FieldNo::Own(OwnField::Mask);
 
-static COMMON: [Fact; 36] = [
-    Row("NAME", FieldKind::Text, Mark::N),
-    Row("DESC", FieldKind::Text, Mark::K),
-    Row("ASG", FieldKind::Text, Mark::K),
-    Row("DTYP", FieldKind::Text, Mark::Plain),
+static COMMON: [Fact; 24] = [
+    Rows(&["NAME", "TIME"], FieldKind::Text, Mark::N),
+    Rows(&["DESC", "ASG"], FieldKind::Text, Mark::K),
+    Rows(&["DTYP", "EVNT"], FieldKind::Text, Mark::Plain),
     Row("SCAN", FieldKind::Menu(Menu::Scan), Mark::Plain),
     Row("PINI", FieldKind::Menu(Menu::Pini), Mark::Plain),
-    Row("PHAS", SHORT, Mark::Plain),
-    Row("EVNT", FieldKind::Text, Mark::Plain),
+    Rows(&["PHAS", "DISV", "DISA"], SHORT, Mark::Plain),
     Row("TSE", FieldKind::Number(Range::Zero), Mark::Plain),
-    Row("DISV", SHORT, Mark::Plain),
-    Row("DISA", SHORT, Mark::Plain),
     Row("SDIS", PLAIN_INPUT, Mark::Set),
-    Row("DISS", SEVERITY, Mark::Plain),
-    Row("PROC", UCHAR, Mark::Plain),
-    Row("DISP", UCHAR, Mark::Plain),
+    Rows(&["DISS", "UDFS"], SEVERITY, Mark::Plain),
+    Rows(&["PROC", "DISP"], UCHAR, Mark::Plain),
     Row("PRIO", FieldKind::Menu(Menu::Priority), Mark::Plain),
     Row("UDF", UCHAR, Mark::P),
-    Row("UDFS", SEVERITY, Mark::Plain),
     Row("FLNK", FORWARD, Mark::Set),
-    Row("STAT", STATUS, Mark::N),
-    Row("SEVR", SEVERITY, Mark::N),
-    Row("NSTA", STATUS, Mark::N),
-    Row("NSEV", SEVERITY, Mark::N),
-    Row("LCNT", UCHAR, Mark::N),
-    Row("PACT", UCHAR, Mark::N),
-    Row("PUTF", UCHAR, Mark::N),
-    Row("RPRO", UCHAR, Mark::N),
-    Row("TIME", FieldKind::Text, Mark::N),
+    Rows(&["STAT", "NSTA"], STATUS, Mark::N),
+    Rows(&["SEVR", "NSEV"], SEVERITY, Mark::N),
+    Rows(&["LCNT", "PACT", "PUTF", "RPRO"], UCHAR, Mark::N),
     Default("UDF", 1),
     Default("UDFS", 3),
     Default("DISV", 1),
@@ -121,8 +111,17 @@ static COMMON: [Fact; 36] = [
     NoDefault("FLNK"),
 ];
 
+// The facts of each type that writes.
+static OUTPUTS: [Fact; 5] = [
+    Row("OUT", OUTPUT, Mark::Set),
+    Row("DOL", PLAIN_INPUT, Mark::Set),
+    Row("OMSL", FieldKind::Menu(Menu::Omsl), Mark::Plain),
+    Row("IVOA", FieldKind::Menu(Menu::Ivoa), Mark::Plain),
+    NoField("INP"),
+];
+
 // The facts that don't depend on the type, and then those of each type.
-static TYPES: [Fact; 165] = [
+static TYPES: [Fact; 123] = [
     Role(LinkRole::Input, LinkKind::WithDevice),
     Role(LinkRole::Output, LinkKind::WithDevice),
     Role(LinkRole::InputWithoutDevice, LinkKind::NoDevice),
@@ -131,22 +130,12 @@ static TYPES: [Fact; 165] = [
     NoType("Bo"),
     Index(Slot::N10, 10),
     Type(RecordType::Longin, "longin", true, 3),
-    Row("VAL", LONG, Mark::P),
+    Rows(&["VAL", "HIHI", "LOLO", "HIGH", "LOW"], LONG, Mark::P),
     Row("INP", INPUT, Mark::Set),
-    Row("HIHI", LONG, Mark::P),
-    Row("LOLO", LONG, Mark::P),
-    Row("HIGH", LONG, Mark::P),
-    Row("LOW", LONG, Mark::P),
-    Row("HHSV", SEVERITY, Mark::P),
-    Row("LLSV", SEVERITY, Mark::P),
-    Row("HSV", SEVERITY, Mark::P),
-    Row("LSV", SEVERITY, Mark::P),
+    Rows(&["HHSV", "LLSV", "HSV", "LSV"], SEVERITY, Mark::P),
     Row("HYST", LONG, Mark::Plain),
     Row("LALM", LONG, Mark::N),
-    Row("ADEL", LONG, Mark::K),
-    Row("MDEL", LONG, Mark::K),
-    Row("HOPR", LONG, Mark::K),
-    Row("LOPR", LONG, Mark::K),
+    Rows(&["ADEL", "MDEL", "HOPR", "LOPR"], LONG, Mark::K),
     Row("EGU", FieldKind::Text, Mark::K),
     NoField("UD"),
     NoField("UDFX"),
@@ -164,23 +153,15 @@ static TYPES: [Fact; 165] = [
     KeptOnly(VAL, false),
     Type(RecordType::Bo, "bo", false, 4),
     Row("VAL", FieldKind::State, Mark::P),
-    Row("OUT", OUTPUT, Mark::Set),
-    Row("DOL", PLAIN_INPUT, Mark::Set),
-    Row("OMSL", FieldKind::Menu(Menu::Omsl), Mark::Plain),
-    Row("IVOA", FieldKind::Menu(Menu::Ivoa), Mark::Plain),
     Row("IVOV", USHORT, Mark::P),
     Row("RVAL", ULONG, Mark::Plain),
     Row("MASK", ULONG, Mark::Set),
-    Row("ZNAM", FieldKind::Text, Mark::P),
-    Row("ONAM", FieldKind::Text, Mark::P),
-    Row("ZSV", SEVERITY, Mark::P),
-    Row("OSV", SEVERITY, Mark::P),
-    Row("COSV", SEVERITY, Mark::P),
+    Rows(&["ZNAM", "ONAM"], FieldKind::Text, Mark::P),
+    Rows(&["ZSV", "OSV", "COSV"], SEVERITY, Mark::P),
     Row("LALM", USHORT, Mark::N),
     Field("NAME", FieldNo::Common(CommonField::Name)),
     Field("UDFS", FieldNo::Common(CommonField::Udfs)),
     Field("ZNAM", FieldNo::Own(OwnField::Znam)),
-    NoField("INP"),
     Default("VAL", 0),
     Default("MASK", 0),
     Default("IVOV", 0),
@@ -191,12 +172,8 @@ static TYPES: [Fact; 165] = [
     Row("SELM", FieldKind::Menu(Menu::Selm), Mark::Plain),
     Row("SELN", USHORT, Mark::Plain),
     Row("SELL", PLAIN_INPUT, Mark::Set),
-    Row("OFFS", SHORT, Mark::Plain),
-    Row("SHFT", SHORT, Mark::Plain),
-    Row("LNK0", FORWARD, Mark::Set),
-    Row("LNK9", FORWARD, Mark::Set),
-    Row("LNKA", FORWARD, Mark::Set),
-    Row("LNKF", FORWARD, Mark::Set),
+    Rows(&["OFFS", "SHFT"], SHORT, Mark::Plain),
+    Rows(&["LNK0", "LNK9", "LNKA", "LNKF"], FORWARD, Mark::Set),
     Field("LNKA", FieldNo::Own(OwnField::Lnk(Slot::N10))),
     NoField("LNKG"),
     NoField("LALM"),
@@ -206,31 +183,19 @@ static TYPES: [Fact; 165] = [
     Default("SHFT", -1),
     NoDefault("LNKF"),
     Type(RecordType::Longout, "longout", false, 4),
-    Row("VAL", LONG, Mark::P),
-    Row("OUT", OUTPUT, Mark::Set),
-    Row("DOL", PLAIN_INPUT, Mark::Set),
-    Row("OMSL", FieldKind::Menu(Menu::Omsl), Mark::Plain),
-    Row("DRVH", LONG, Mark::P),
-    Row("DRVL", LONG, Mark::P),
-    Row("IVOA", FieldKind::Menu(Menu::Ivoa), Mark::Plain),
-    Row("IVOV", LONG, Mark::P),
+    Rows(&["VAL", "DRVH", "DRVL", "IVOV"], LONG, Mark::P),
     Row("HYST", LONG, Mark::Plain),
     Row("EGU", FieldKind::Text, Mark::K),
-    NoField("INP"),
     Type(RecordType::Int64in, "int64in", true, 3),
-    Row("VAL", INT64, Mark::P),
+    Rows(&["VAL", "LOLO"], INT64, Mark::P),
     Row("INP", INPUT, Mark::Set),
-    Row("LOLO", INT64, Mark::P),
     Row("HYST", INT64, Mark::Plain),
     Row("LALM", INT64, Mark::N),
     Row("LOPR", INT64, Mark::K),
     Default("VAL", 0),
     NoField("DRVH"),
     Type(RecordType::Int64out, "int64out", false, 4),
-    Row("VAL", INT64, Mark::P),
-    Row("DRVL", INT64, Mark::P),
-    Row("IVOV", INT64, Mark::P),
-    Row("OUT", OUTPUT, Mark::Set),
+    Rows(&["VAL", "DRVL", "IVOV"], INT64, Mark::P),
     Type(RecordType::Bi, "bi", true, 3),
     Row("VAL", FieldKind::State, Mark::P),
     Row("INP", INPUT, Mark::Set),
@@ -244,13 +209,10 @@ static TYPES: [Fact; 165] = [
     Row("INP", INPUT, Mark::Set),
     Row("RVAL", ULONG, Mark::Plain),
     Row("MASK", ULONG, Mark::Set),
-    Row("SHFT", BITS, Mark::Plain),
-    Row("NOBT", BITS, Mark::Plain),
+    Rows(&["SHFT", "NOBT"], BITS, Mark::Plain),
     Row("ZRVL", ULONG, Mark::P),
     Row("TEST", FieldKind::Text, Mark::P),
-    Row("FFSV", SEVERITY, Mark::P),
-    Row("UNSV", SEVERITY, Mark::P),
-    Row("COSV", SEVERITY, Mark::P),
+    Rows(&["FFSV", "UNSV", "COSV"], SEVERITY, Mark::P),
     Row("LALM", USHORT, Mark::N),
     Field("ONVL", FieldNo::Own(OwnField::StateValue(Slot::N1))),
     Field("TWST", FieldNo::Own(OwnField::StateText(Slot::N2))),
@@ -273,17 +235,12 @@ static TYPES: [Fact; 165] = [
     Row("VAL", FieldKind::State, Mark::P),
     Row("IVOV", USHORT, Mark::P),
     Row("SVSV", SEVERITY, Mark::P),
-    Row("OUT", OUTPUT, Mark::Set),
-    NoField("INP"),
     Type(RecordType::Stringin, "stringin", true, 3),
     Row("VAL", FieldKind::Text, Mark::P),
     Row("INP", INPUT, Mark::Set),
     NoField("LALM"),
     Type(RecordType::Stringout, "stringout", false, 4),
-    Row("VAL", FieldKind::Text, Mark::P),
-    Row("IVOV", FieldKind::Text, Mark::P),
-    Row("DOL", PLAIN_INPUT, Mark::Set),
-    NoField("INP"),
+    Rows(&["VAL", "IVOV"], FieldKind::Text, Mark::P),
     Type(RecordType::Event, "event", true, 3),
     Row("VAL", FieldKind::Text, Mark::P),
     Row("INP", INPUT, Mark::Set),
@@ -304,6 +261,23 @@ fn told(kind: FieldKind, mark: Mark) -> ioc_fields::Row {
     }
 }
 
+// Returns whether this is the row of the field with this name.
+fn has_row(record_type: RecordType, name: &str, kind: FieldKind, mark: Mark) -> bool {
+    match field(record_type, name.as_bytes()) {
+        Some(field) => row_of(record_type, field) == Some(told(kind, mark)),
+        None => false,
+    }
+}
+
+fn have_rows(record_type: RecordType, names: &[&str], kind: FieldKind, mark: Mark) -> bool {
+    for name in names {
+        if !has_row(record_type, name, kind, mark) {
+            return false;
+        }
+    }
+    true
+}
+
 // Returns the number of a field in a new record.
 fn default_number(record_type: RecordType, name: &str) -> Option<i64> {
     let field = field(record_type, name.as_bytes())?;
@@ -313,10 +287,8 @@ fn default_number(record_type: RecordType, name: &str) -> Option<i64> {
 // Returns whether a fact of a name holds.
 fn holds(record_type: RecordType, fact: &Fact) -> bool {
     match fact {
-        Row(name, kind, mark) => match field(record_type, name.as_bytes()) {
-            Some(field) => row_of(record_type, field) == Some(told(*kind, *mark)),
-            None => false,
-        },
+        Row(name, kind, mark) => has_row(record_type, name, *kind, *mark),
+        Rows(names, kind, mark) => have_rows(record_type, names, *kind, *mark),
         Field(name, wanted) => {
             field(record_type, name.as_bytes()) == Some(*wanted) && name_of(*wanted) == *name
         }
@@ -372,4 +344,14 @@ fn fields(rt: HostRuntime) {
     assert_eq!(rt; first_wrong(RecordType::Longin, &COMMON), None);
     assert_eq!(rt; first_wrong(RecordType::Fanout, &COMMON), None);
     assert_eq!(rt; first_wrong(RecordType::Longin, &TYPES), None);
+    let writers = [
+        RecordType::Bo,
+        RecordType::Longout,
+        RecordType::Int64out,
+        RecordType::Mbbo,
+        RecordType::Stringout,
+    ];
+    for writer in &writers {
+        assert_eq!(rt; first_wrong(*writer, &OUTPUTS), None);
+    }
 }

@@ -1,14 +1,13 @@
 //! A single int64in record and a single int64out record.
 use crate::steps::Step::{
-    Begin, Converts, Copied, Has, Lists, Load, Put, PutRefused, Raised, Set, Shows, Take, Test,
+    Begin, Converts, Copied, Has, HasAll, Lists, Load, Put, PutRefused, Raises, Reaches, Set,
+    SetAll, Shows, Take, Test,
 };
 use crate::steps::{Came, Does, Step, Wants};
 use ioc_dbcommon::InputKind;
 use ioc_values::{IocError, Range};
 
-const TAKE_NOTHING: Step<'static> = Take(Came::Nothing, Does::Nothing);
-
-pub static INPUT: [Step<'static>; 57] = [
+pub static INPUT: [Step<'static>; 38] = [
     Test("numbers of 64 bits"),
     Put("VAL", "9223372036854775807"),
     Copied,
@@ -19,61 +18,65 @@ pub static INPUT: [Step<'static>; 57] = [
     Converts(InputKind::Number(Range::Int64)),
     Begin(Wants::Unused),
     Test("limits past 32 bits"),
-    Set("HIHI", "5000000000"),
-    Set("HHSV", "MAJOR"),
-    Set("LOLO", "-5000000000"),
-    Set("LLSV", "MINOR"),
-    Set("HYST", "1"),
-    Set("VAL", "0"),
+    SetAll(&[
+        ("HIHI", "5000000000"),
+        ("HHSV", "MAJOR"),
+        ("LOLO", "-5000000000"),
+    ]),
+    SetAll(&[("LLSV", "MINOR"), ("HYST", "1"), ("VAL", "0")]),
     Load,
+    Reaches(
+        Came::Int64(4_999_999_999),
+        "NO_ALARM",
+        "NO_ALARM",
+        "4999999999",
+    ),
+    Reaches(Came::Int64(5_000_000_000), "HIHI", "MAJOR", "5000000000"),
     Take(Came::Int64(4_999_999_999), Does::Nothing),
-    Shows("NO_ALARM", "NO_ALARM"),
-    Has("LALM", "4999999999"),
-    Take(Came::Int64(5_000_000_000), Does::Nothing),
     Shows("HIHI", "MAJOR"),
-    Has("LALM", "5000000000"),
-    Take(Came::Int64(4_999_999_999), Does::Nothing),
-    Shows("HIHI", "MAJOR"),
-    Take(Came::Int64(-6_000_000_000), Does::Nothing),
-    Shows("LOLO", "MINOR"),
-    Has("LALM", "-5000000000"),
+    Reaches(Came::Int64(-6_000_000_000), "LOLO", "MINOR", "-5000000000"),
     // The sums of hysteresis don't wrap.
     Test("high limit at the end"),
-    Set("HIGH", "-9223372036854775000"),
-    Set("HSV", "MINOR"),
-    Set("HYST", "9223372036854775807"),
+    SetAll(&[
+        ("HIGH", "-9223372036854775000"),
+        ("HSV", "MINOR"),
+        ("HYST", "9223372036854775807"),
+    ]),
     Set("VAL", "-9223372036854775000"),
     Load,
-    Take(Came::Int64(-9_223_372_036_854_775_807), Does::Nothing),
-    Raised("HIGH", "MINOR"),
+    Raises(Came::Int64(-9_223_372_036_854_775_807), "HIGH", "MINOR"),
     Has("LALM", "-9223372036854775000"),
     Test("low limit at the end"),
-    Set("LOW", "9223372036854775000"),
-    Set("LSV", "MINOR"),
-    Set("HYST", "9223372036854775807"),
+    SetAll(&[
+        ("LOW", "9223372036854775000"),
+        ("LSV", "MINOR"),
+        ("HYST", "9223372036854775807"),
+    ]),
     Set("VAL", "9223372036854775000"),
     Load,
-    Take(Came::Int64(9_223_372_036_854_775_807), Does::Nothing),
-    Raised("LOW", "MINOR"),
+    Raises(Came::Int64(9_223_372_036_854_775_807), "LOW", "MINOR"),
     Has("LALM", "9223372036854775000"),
     Test("undefined value"),
     Load,
-    TAKE_NOTHING,
-    Raised("UDF", "INVALID"),
+    Raises(Came::Nothing, "UDF", "INVALID"),
     Test("constant"),
     Set("INP", "-9223372036854775808"),
     Load,
-    Has("VAL", "-9223372036854775808"),
-    Has("UDF", "0"),
-    Has("LALM", "-9223372036854775808"),
+    HasAll(&[
+        ("VAL", "-9223372036854775808"),
+        ("UDF", "0"),
+        ("LALM", "-9223372036854775808"),
+    ]),
     Lists(3, 0),
 ];
 
-pub static OUTPUT: [Step<'static>; 28] = [
+pub static OUTPUT: [Step<'static>; 22] = [
     Test("drive limits past 32 bits"),
-    Set("DRVH", "5000000000"),
-    Set("DRVL", "-5000000000"),
-    Set("OUT", "x"),
+    SetAll(&[
+        ("DRVH", "5000000000"),
+        ("DRVL", "-5000000000"),
+        ("OUT", "x"),
+    ]),
     Load,
     Copied,
     Take(
@@ -90,9 +93,11 @@ pub static OUTPUT: [Step<'static>; 28] = [
         Does::WriteAbsentInt64(4_999_999_999),
     ),
     Test("Set output to IVOV"),
-    Set("IVOA", "Set output to IVOV"),
-    Set("IVOV", "6000000000"),
-    Set("DRVH", "5000000000"),
+    SetAll(&[
+        ("IVOA", "Set output to IVOV"),
+        ("IVOV", "6000000000"),
+        ("DRVH", "5000000000"),
+    ]),
     Set("OUT", "x"),
     Load,
     Take(Came::Nothing, Does::WriteAbsentInt64(6_000_000_000)),
@@ -100,9 +105,11 @@ pub static OUTPUT: [Step<'static>; 28] = [
     Test("constant"),
     Set("DOL", "9223372036854775807"),
     Load,
-    Has("VAL", "9223372036854775807"),
-    Has("UDF", "0"),
-    Has("LALM", "9223372036854775807"),
+    HasAll(&[
+        ("VAL", "9223372036854775807"),
+        ("UDF", "0"),
+        ("LALM", "9223372036854775807"),
+    ]),
     Begin(Wants::Nothing),
     Converts(InputKind::Number(Range::Int64)),
     PutRefused("DRVH", "9223372036854775808", IocError::BadValue),

@@ -2,8 +2,8 @@
 //! fails, all must be as before, and the step is repeated: so the test holds whichever allocation
 //! fails.
 use crate::sets::{
-    Cut, Linked, Sensor, add, answers, both_lead, fresh, holds, is_refused, join, leads_out, made,
-    part,
+    Cut, Run, Sensor, add, answers, both_lead, fresh, holds, is_refused, join, leads_out, made,
+    part, target,
 };
 use ioc_device::Device;
 use ioc_names::RecordNo;
@@ -14,87 +14,36 @@ use std::alloc::{AllocError, Global};
 use std::mem;
 
 // The records of the chain.
-static CHAIN: [Linked; 10] = [
-    (0, Some(1)),
-    (1, Some(2)),
-    (2, Some(3)),
-    (3, Some(4)),
-    (4, Some(5)),
-    (5, Some(6)),
-    (6, Some(7)),
-    (7, Some(8)),
-    (8, Some(9)),
-    (9, None),
-];
+static CHAIN: [Run; 1] = [(0, 10, None)];
 
 // The first three records of the chain once the link of the third is empty, and the others.
-static FRONT: [Linked; 3] = [(0, Some(1)), (1, Some(2)), (2, None)];
+static FRONT: [Run; 1] = [(0, 3, None)];
 
-static BACK: [Linked; 7] = [
-    (3, Some(4)),
-    (4, Some(5)),
-    (5, Some(6)),
-    (6, Some(7)),
-    (7, Some(8)),
-    (8, Some(9)),
-    (9, None),
-];
+static BACK: [Run; 1] = [(3, 10, None)];
 
-static ALONE: [Linked; 1] = [(10, None)];
+static ALONE: [Run; 1] = [(10, 11, None)];
 
-static FRONT_AND_ALONE: [Linked; 4] = [(0, Some(1)), (1, Some(2)), (2, Some(10)), (10, None)];
+static FRONT_AND_ALONE: [Run; 2] = [(0, 3, Some(10)), (10, 11, None)];
 
 // The chain, and a record without links.
-static CHAIN_AND_ALONE: [Linked; 11] = [
-    (0, Some(1)),
-    (1, Some(2)),
-    (2, Some(3)),
-    (3, Some(4)),
-    (4, Some(5)),
-    (5, Some(6)),
-    (6, Some(7)),
-    (7, Some(8)),
-    (8, Some(9)),
-    (9, None),
-    (10, None),
-];
+static CHAIN_AND_ALONE: [Run; 2] = [(0, 10, None), (10, 11, None)];
 
 // A record whose link leaves its set.
-static LOOSE: [Linked; 1] = [(4, Some(5))];
+static LOOSE: [Run; 1] = [(4, 5, Some(5))];
 
 // The chain as a ring, and the ring without one of its links.
-static RING: [Linked; 10] = [
-    (0, Some(1)),
-    (1, Some(2)),
-    (2, Some(3)),
-    (3, Some(4)),
-    (4, Some(5)),
-    (5, Some(6)),
-    (6, Some(7)),
-    (7, Some(8)),
-    (8, Some(9)),
-    (9, Some(0)),
-];
+static RING: [Run; 1] = [(0, 10, Some(0))];
 
-static OPEN_RING: [Linked; 10] = [
-    (0, Some(1)),
-    (1, Some(2)),
-    (2, Some(3)),
-    (3, Some(4)),
-    (4, None),
-    (5, Some(6)),
-    (6, Some(7)),
-    (7, Some(8)),
-    (8, Some(9)),
-    (9, Some(0)),
-];
+static OPEN_RING: [Run; 2] = [(0, 5, None), (5, 10, Some(0))];
 
 // Returns whether all links of the chain are empty, and those of the bases unchanged.
 fn are_cut<K: RecordKind, D: Device>(set: &mut Members<K, D>) -> bool {
-    for (number, target) in &CHAIN {
-        let number = RecordNo::new(*number);
-        if !both_lead(set, number, None, *target) || !answers(set, number) {
-            return false;
+    for (from, end, last) in &CHAIN {
+        for index in *from..*end {
+            let number = RecordNo::new(index);
+            if !both_lead(set, number, None, target(index, *end, *last)) || !answers(set, number) {
+                return false;
+            }
         }
     }
     true
@@ -115,7 +64,7 @@ enum List {
     Loose,
 }
 
-fn records(list: List) -> &'static [Linked] {
+fn records(list: List) -> &'static [Run] {
     match list {
         List::Nothing => &[],
         List::Chain => &CHAIN,

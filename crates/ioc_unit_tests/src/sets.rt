@@ -35,8 +35,18 @@ impl Device for Sensor {
 
 pub type Set = Members<Record<Longin>, Sensor>;
 
-/// The number of a record, and that of the record that its link leads to.
-pub type Linked = (usize, Option<usize>);
+/// The numbers of the first record and after the last one, and the number of the record that the
+/// link of the last one leads to. Each other link leads to the next record.
+pub type Run = (usize, usize, Option<usize>);
+
+/// Returns the number of the record that the link of a record leads to.
+pub fn target(number: usize, end: usize, last: Option<usize>) -> Option<usize> {
+    let next = number.saturating_add(1);
+    if next < end { Some(next) } else { last }
+}
+
+// Room for all records.
+const ROOM: usize = 11;
 
 // The field whose links form the chain.
 const LINK: FieldNo = FieldNo::Common(CommonField::Flnk);
@@ -104,10 +114,18 @@ pub fn fresh() -> Record<Longin> {
 }
 
 /// Returns a set of these records, each with its link.
-pub fn made(alloc: Global, records: &[Linked]) -> Result<Set, AllocError> {
-    let mut set = Members::with_room(alloc, records.len())?;
-    for (number, target) in records {
-        add(alloc, &mut set, fresh(), *number, *target)?;
+pub fn made(alloc: Global, records: &[Run]) -> Result<Set, AllocError> {
+    let mut set = Members::with_room(alloc, ROOM)?;
+    for (from, end, last) in records {
+        for number in *from..*end {
+            add(
+                alloc,
+                &mut set,
+                fresh(),
+                number,
+                target(number, *end, *last),
+            )?;
+        }
     }
     Ok(set)
 }
@@ -136,26 +154,37 @@ pub fn answers<K: RecordKind, D: Device>(set: &mut Members<K, D>, number: Record
     given == Answer::Done(Value::UShort(u16_of(number.index())))
 }
 
+// Returns whether the record at a place has this number, a link to the target, also in its base,
+// and its device.
+fn is_at<K: RecordKind, D: Device>(
+    set: &mut Members<K, D>,
+    place: usize,
+    number: RecordNo,
+    target: Option<usize>,
+) -> bool {
+    set.number_at(place) == Some(number)
+        && both_lead(set, number, target, target)
+        && answers(set, number)
+}
+
 /// Returns whether these are the records, with these links also in their bases, and each has its
 /// device.
-pub fn holds<K: RecordKind, D: Device>(set: &mut Members<K, D>, wanted: &[Linked]) -> bool {
-    if set.len() != wanted.len() || set.is_empty() != wanted.is_empty() {
-        return false;
-    }
+pub fn holds<K: RecordKind, D: Device>(set: &mut Members<K, D>, wanted: &[Run]) -> bool {
     let lowest = wanted.first().map(|first| RecordNo::new(first.0));
     if set.lowest() != lowest {
         return false;
     }
-    for (place, item) in wanted.iter().enumerate() {
-        let number = RecordNo::new(item.0);
-        if set.number_at(place) != Some(number) || !both_lead(set, number, item.1, item.1) {
-            return false;
-        }
-        if !answers(set, number) {
-            return false;
+    let mut place = 0usize;
+    for (from, end, last) in wanted {
+        for number in *from..*end {
+            let to = target(number, *end, *last);
+            if !is_at(set, place, RecordNo::new(number), to) {
+                return false;
+            }
+            place = place.saturating_add(1);
         }
     }
-    true
+    set.len() == place && set.is_empty() == wanted.is_empty()
 }
 
 // Returns whether the link of a record may be changed and the set parted.

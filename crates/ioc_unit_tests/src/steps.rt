@@ -64,6 +64,7 @@ pub enum Step<'a> {
     Test(&'a str),
     /// Sets a field by a database text.
     Set(&'a str, &'a str),
+    SetAll(&'a [(&'a str, &'a str)]),
     SetRefused(&'a str, &'a str, IocError),
     /// Ends the load.
     Load,
@@ -92,8 +93,15 @@ pub enum Step<'a> {
     Do(Act),
     /// The field has this text.
     Has(&'a str, &'a str),
+    HasAll(&'a [(&'a str, &'a str)]),
     /// Shows the alarms, which have this status and severity.
     Shows(&'a str, &'a str),
+    /// The body takes this input and does nothing next. An alarm of this status and severity is
+    /// raised.
+    Raises(Came, &'a str, &'a str),
+    /// The body takes this input and does nothing next. Then the alarms are shown, which have this
+    /// status and severity, and LALM has this text.
+    Reaches(Came, &'a str, &'a str, &'a str),
     /// An alarm of this status and severity is raised.
     Raised(&'a str, &'a str),
     /// The field as a number, and as a text, for a reader.
@@ -112,6 +120,19 @@ const SEVR: FieldNo = FieldNo::Common(CommonField::Sevr);
 const NSTA: FieldNo = FieldNo::Common(CommonField::Nsta);
 
 const NSEV: FieldNo = FieldNo::Common(CommonField::Nsev);
+
+const LALM: FieldNo = FieldNo::Own(OwnField::Lalm);
+
+pub const INP: FieldNo = FieldNo::Own(OwnField::Inp);
+
+pub const OUT: FieldNo = FieldNo::Own(OwnField::Out);
+
+pub const DOL: FieldNo = FieldNo::Own(OwnField::Dol);
+
+/// The body takes no input, or a fault of it, and does nothing next.
+pub const TAKE_NOTHING: Step<'static> = Step::Take(Came::Nothing, Does::Nothing);
+
+pub const TAKE_FAULT: Step<'static> = Step::Take(Came::Fault, Does::Nothing);
 
 /// Shows the alarms.
 pub const SHOW: Step<'static> = Step::Do(Act::Show);
@@ -265,14 +286,44 @@ fn is_put<K: RecordKind>(item: &mut K, field: FieldNo, step: &Step<'_>) -> bool 
     }
 }
 
-// Carries out a step, and returns whether it has the expected result.
-fn holds<K: RecordKind + Drop>(alloc: Global, item: &mut K, step: &Step<'_>) -> bool {
-    let Some(name) = name_of(step) else {
-        return record_holds(alloc, item, step);
-    };
+// Carries out a step on the field with this name.
+fn named_holds<K: RecordKind>(alloc: Global, item: &mut K, name: &str, step: &Step<'_>) -> bool {
     match field(item.record_type(), name.as_bytes()) {
         Some(field) => field_holds(alloc, item, field, step),
         None => is_fieldless(step),
+    }
+}
+
+// Carries out a step on each of these fields.
+fn all_hold<K: RecordKind>(
+    alloc: Global,
+    item: &mut K,
+    fields: &[(&str, &str)],
+    sets: bool,
+) -> bool {
+    for (name, text) in fields {
+        let step = if sets {
+            Step::Set(*name, *text)
+        } else {
+            Step::Has(*name, *text)
+        };
+        if !named_holds(alloc, item, name, &step) {
+            return false;
+        }
+    }
+    true
+}
+
+// Carries out a step, and returns whether it has the expected result.
+fn holds<K: RecordKind + Drop>(alloc: Global, item: &mut K, step: &Step<'_>) -> bool {
+    match step {
+        Step::SetAll(fields) => return all_hold(alloc, item, fields, true),
+        Step::HasAll(fields) => return all_hold(alloc, item, fields, false),
+        _ => {}
+    }
+    match name_of(step) {
+        Some(name) => named_holds(alloc, item, name, step),
+        None => record_holds(alloc, item, step),
     }
 }
 
@@ -282,14 +333,25 @@ fn shows<K: RecordKind>(item: &mut K, status: &str, severity: &str) -> bool {
     has_text(item, STAT, status) && has_text(item, SEVR, severity)
 }
 
+// Returns whether an alarm of this status and severity is raised.
+fn is_raised<K: RecordKind>(item: &K, status: &str, severity: &str) -> bool {
+    has_text(item, NSTA, status) && has_text(item, NSEV, severity)
+}
+
 // Carries out a step on what all records have.
 fn record_holds<K: RecordKind + Drop>(alloc: Global, item: &mut K, step: &Step<'_>) -> bool {
     match step {
         Step::Test(_) => true,
         Step::Do(act) => is_done(item.common_mut(), *act),
         Step::Shows(status, severity) => shows(item, status, severity),
-        Step::Raised(status, severity) => {
-            has_text(item, NSTA, status) && has_text(item, NSEV, severity)
+        Step::Reaches(came, status, severity, last) => {
+            takes(item, got(*came), Output::NoOutput)
+                && shows(item, status, severity)
+                && has_text(item, LALM, last)
+        }
+        Step::Raised(status, severity) => is_raised(item, status, severity),
+        Step::Raises(came, status, severity) => {
+            takes(item, got(*came), Output::NoOutput) && is_raised(item, status, severity)
         }
         Step::Lists(links, states) => {
             item.link_fields().len() == *links && item.states().len() == *states

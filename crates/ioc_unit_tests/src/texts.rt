@@ -1,45 +1,34 @@
 //! A single stringin, stringout and event record each.
 use crate::steps::Step::{
-    Begin, Converts, Copied, Has, Lists, Load, OwnsDevice, Put, Raised, Set, SetRefused, Stands,
-    Take, Test,
+    Begin, Converts, Copied, Has, HasAll, Lists, Load, OwnsDevice, Put, Raised, Raises, Set,
+    SetAll, SetRefused, Stands, Take, Test,
 };
-use crate::steps::{Came, Does, Step, Wants};
+use crate::steps::{Came, DOL, Does, INP, OUT, Step, TAKE_FAULT, TAKE_NOTHING, Wants};
 use ioc_dbcommon::InputKind;
 use ioc_fields::{FieldNo, OwnField};
 use ioc_links::Mode;
 use ioc_values::IocError;
 
-const INP: FieldNo = FieldNo::Own(OwnField::Inp);
-
-const OUT: FieldNo = FieldNo::Own(OwnField::Out);
-
-const DOL: FieldNo = FieldNo::Own(OwnField::Dol);
-
-pub static STRINGIN: [Step<'static>; 43] = [
+pub static STRINGIN: [Step<'static>; 35] = [
     // The alarm of an undefined value, until there is an input.
     Test("new"),
-    Has("VAL", ""),
-    Has("INP", ""),
+    HasAll(&[("VAL", ""), ("INP", "")]),
     Lists(3, 0),
     Load,
     Begin(Wants::Unused),
     Converts(InputKind::Text),
-    Take(Came::Nothing, Does::Nothing),
-    Raised("UDF", "INVALID"),
+    Raises(Came::Nothing, "UDF", "INVALID"),
     Has("UDF", "1"),
     Take(Came::Text("on"), Does::Nothing),
-    Has("VAL", "on"),
-    Has("UDF", "0"),
+    HasAll(&[("VAL", "on"), ("UDF", "0")]),
     Test("read by a link"),
-    Set("INP", "s PP MS"),
-    Set("UDFS", "MINOR"),
+    SetAll(&[("INP", "s PP MS"), ("UDFS", "MINOR")]),
     Load,
     Begin(Wants::Absent),
     Stands(INP),
     Begin(Wants::Link(true, Mode::Ms)),
-    Take(Came::Fault, Does::Nothing),
-    Has("VAL", ""),
-    Has("UDF", "1"),
+    TAKE_FAULT,
+    HasAll(&[("VAL", ""), ("UDF", "1")]),
     Raised("UDF", "MINOR"),
     Test("read by a device"),
     Set("INP", "@card"),
@@ -49,32 +38,33 @@ pub static STRINGIN: [Step<'static>; 43] = [
     Test("constant"),
     Set("INP", "0x10"),
     Load,
-    Has("VAL", "16"),
-    Has("UDF", "0"),
-    Take(Came::Nothing, Does::Nothing),
-    Raised("NO_ALARM", "NO_ALARM"),
+    HasAll(&[("VAL", "16"), ("UDF", "0")]),
+    Raises(Came::Nothing, "NO_ALARM", "NO_ALARM"),
     Test("puts"),
     Put("VAL", "a text of more than 39 bytes is cut there"),
     Copied,
-    Has("VAL", "a text of more than 39 bytes is cut the"),
-    Has("UDF", "0"),
+    HasAll(&[
+        ("VAL", "a text of more than 39 bytes is cut the"),
+        ("UDF", "0"),
+    ]),
     Set("VAL", ""),
     Has("VAL", ""),
     SetRefused("OUT", "a", IocError::NoField),
 ];
 
-pub static STRINGOUT: [Step<'static>; 57] = [
+pub static STRINGOUT: [Step<'static>; 48] = [
     Test("new"),
-    Has("VAL", ""),
-    Has("IVOV", ""),
-    Has("OMSL", "supervisory"),
-    Has("IVOA", "Continue normally"),
+    HasAll(&[
+        ("VAL", ""),
+        ("IVOV", ""),
+        ("OMSL", "supervisory"),
+        ("IVOA", "Continue normally"),
+    ]),
     Lists(4, 0),
     Load,
     Begin(Wants::Nothing),
     Converts(InputKind::Text),
-    Take(Came::Nothing, Does::Nothing),
-    Raised("UDF", "INVALID"),
+    Raises(Came::Nothing, "UDF", "INVALID"),
     // DOL is read only in a closed loop.
     Test("closed loop"),
     Set("DOL", "d"),
@@ -88,15 +78,13 @@ pub static STRINGOUT: [Step<'static>; 57] = [
     Set("OUT", "o"),
     Stands(OUT),
     Take(Came::Text("new"), Does::WriteText("new")),
-    Has("VAL", "new"),
-    Has("UDF", "0"),
+    HasAll(&[("VAL", "new"), ("UDF", "0")]),
     Take(Came::Fault, Does::WriteText("new")),
     Raised("NO_ALARM", "NO_ALARM"),
     Test("constant"),
     Set("DOL", "-3"),
     Load,
-    Has("VAL", "-3"),
-    Has("UDF", "0"),
+    HasAll(&[("VAL", "-3"), ("UDF", "0")]),
     // With an INVALID alarm, IVOA decides what is driven.
     Test("driven all the same"),
     Set("OUT", "@card"),
@@ -108,24 +96,21 @@ pub static STRINGOUT: [Step<'static>; 57] = [
     OwnsDevice(OUT),
     Set("IVOA", "Don't drive outputs"),
     Load,
-    Take(Came::Nothing, Does::Nothing),
+    TAKE_NOTHING,
     Test("invalid value driven"),
     Set("OUT", "@card"),
     OwnsDevice(OUT),
-    Set("IVOA", "2"),
-    Set("IVOV", "bad"),
+    SetAll(&[("IVOA", "2"), ("IVOV", "bad")]),
     Load,
     Take(Came::Nothing, Does::WriteDeviceText("bad")),
-    Has("VAL", "bad"),
-    Has("UDF", "1"),
+    HasAll(&[("VAL", "bad"), ("UDF", "1")]),
     Test("puts"),
     Put("VAL", "x"),
-    Has("VAL", "x"),
-    Has("UDF", "0"),
+    HasAll(&[("VAL", "x"), ("UDF", "0")]),
     SetRefused("DOL", "@card", IocError::BadLink),
 ];
 
-pub static EVENT: [Step<'static>; 26] = [
+pub static EVENT: [Step<'static>; 25] = [
     // Without an input, UDF becomes 0, and no alarm is raised.
     Test("new"),
     Has("VAL", ""),
@@ -139,8 +124,7 @@ pub static EVENT: [Step<'static>; 26] = [
     Raised("NO_ALARM", "NO_ALARM"),
     Test("text that came"),
     Take(Came::Text("shot"), Does::Post("shot")),
-    Has("VAL", "shot"),
-    Has("UDF", "0"),
+    HasAll(&[("VAL", "shot"), ("UDF", "0")]),
     // After a fault, VAL is posted as it is, and UDF is unchanged.
     Test("fault"),
     Set("INP", "n"),

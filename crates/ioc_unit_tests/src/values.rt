@@ -79,149 +79,70 @@ fn are_converted(rt: &impl Abort, states: &[Text], table: &[Converted]) {
     }
 }
 
-static ENDS: [Converted; 30] = [
+// A text, and its conversion to a number in a range, if that isn't refused.
+type Spelled = (&'static str, Range, Option<Given>);
+
+fn are_spelled(rt: &impl Abort, table: &[Spelled]) {
+    for (text, range, wanted) in table {
+        let found = convert(value(Given::Text(*text)), Kind::Number(*range));
+        assert!(rt; found == made(*wanted), "{text}");
+    }
+}
+
+static ENDS: [Spelled; 25] = [
+    ("2147483647", Range::Long, Some(Given::Long(2147483647))),
+    ("-2147483648", Range::Long, Some(Given::Long(-2147483648))),
+    ("2147483648", Range::Long, None),
+    ("-2147483649", Range::Long, None),
+    ("4294967295", Range::ULong, Some(Given::ULong(4294967295))),
+    ("4294967296", Range::ULong, None),
+    ("-1", Range::ULong, None),
+    ("32767", Range::Short, Some(Given::Short(32767))),
+    ("-32768", Range::Short, Some(Given::Short(-32768))),
+    ("32768", Range::Short, None),
+    ("-32769", Range::Short, None),
+    ("65535", Range::UShort, Some(Given::UShort(65535))),
+    ("65536", Range::UShort, None),
+    ("255", Range::UChar, Some(Given::UChar(255))),
+    ("256", Range::UChar, None),
+    ("65535", Range::Enum, Some(Given::Enum(65535))),
+    ("65536", Range::Enum, None),
     (
-        Given::Text("2147483647"),
-        Field::Number(Range::Long),
-        Some(Given::Long(2147483647)),
-    ),
-    (
-        Given::Text("-2147483648"),
-        Field::Number(Range::Long),
-        Some(Given::Long(-2147483648)),
-    ),
-    (Given::Text("2147483648"), Field::Number(Range::Long), None),
-    (Given::Text("-2147483649"), Field::Number(Range::Long), None),
-    (
-        Given::Text("4294967295"),
-        Field::Number(Range::ULong),
-        Some(Given::ULong(4294967295)),
-    ),
-    (Given::Text("4294967296"), Field::Number(Range::ULong), None),
-    (Given::Text("-1"), Field::Number(Range::ULong), None),
-    (
-        Given::Text("32767"),
-        Field::Number(Range::Short),
-        Some(Given::Short(32767)),
-    ),
-    (
-        Given::Text("-32768"),
-        Field::Number(Range::Short),
-        Some(Given::Short(-32768)),
-    ),
-    (Given::Text("32768"), Field::Number(Range::Short), None),
-    (Given::Text("-32769"), Field::Number(Range::Short), None),
-    (
-        Given::Text("65535"),
-        Field::Number(Range::UShort),
-        Some(Given::UShort(65535)),
-    ),
-    (Given::Text("65536"), Field::Number(Range::UShort), None),
-    (
-        Given::Text("255"),
-        Field::Number(Range::UChar),
-        Some(Given::UChar(255)),
-    ),
-    (Given::Text("256"), Field::Number(Range::UChar), None),
-    (
-        Given::Text("65535"),
-        Field::Number(Range::Enum),
-        Some(Given::Enum(65535)),
-    ),
-    (Given::Text("65536"), Field::Number(Range::Enum), None),
-    (
-        Given::Text("9223372036854775807"),
-        Field::Number(Range::Int64),
+        "9223372036854775807",
+        Range::Int64,
         Some(Given::Int64(9223372036854775807)),
     ),
     (
-        Given::Text("-9223372036854775808"),
-        Field::Number(Range::Int64),
+        "-9223372036854775808",
+        Range::Int64,
         Some(Given::Int64(-9223372036854775808)),
     ),
-    (
-        Given::Text("9223372036854775808"),
-        Field::Number(Range::Int64),
-        None,
-    ),
-    (
-        Given::Text("-9223372036854775809"),
-        Field::Number(Range::Int64),
-        None,
-    ),
-    (
-        Given::Long(-5),
-        Field::Number(Range::Int64),
-        Some(Given::Int64(-5)),
-    ),
-    (
-        Given::Int64(2147483647),
-        Field::Number(Range::Long),
-        Some(Given::Long(2147483647)),
-    ),
-    (Given::Int64(2147483648), Field::Number(Range::Long), None),
-    (Given::Int64(-7), Field::Text, Some(Given::Text("-7"))),
-    (
-        Given::Text("0"),
-        Field::Number(Range::Zero),
-        Some(Given::Short(0)),
-    ),
-    (Given::Long(1), Field::Number(Range::Zero), None),
-    (Given::Text("-2"), Field::Number(Range::Zero), None),
-    (
-        Given::Text("32"),
-        Field::Number(Range::Bits),
-        Some(Given::UShort(32)),
-    ),
-    (Given::Text("33"), Field::Number(Range::Bits), None),
+    ("9223372036854775808", Range::Int64, None),
+    ("-9223372036854775809", Range::Int64, None),
+    ("0", Range::Zero, Some(Given::Short(0))),
+    ("-2", Range::Zero, None),
+    ("32", Range::Bits, Some(Given::UShort(32))),
+    ("33", Range::Bits, None),
 ];
 
-static SPELLINGS: [Converted; 14] = [
-    (
-        Given::Text("+5"),
-        Field::Number(Range::Long),
-        Some(Given::Long(5)),
-    ),
-    (
-        Given::Text("-0x10"),
-        Field::Number(Range::Long),
-        Some(Given::Long(-16)),
-    ),
-    (
-        Given::Text(" 7 "),
-        Field::Number(Range::Long),
-        Some(Given::Long(7)),
-    ),
-    (
-        Given::Text("0xfF"),
-        Field::Number(Range::UChar),
-        Some(Given::UChar(255)),
-    ),
-    (
-        Given::Text("007"),
-        Field::Number(Range::UChar),
-        Some(Given::UChar(7)),
-    ),
-    (
-        Given::Text("-0"),
-        Field::Number(Range::ULong),
-        Some(Given::ULong(0)),
-    ),
-    (Given::Text("1x"), Field::Number(Range::Long), None),
-    (Given::Text(""), Field::Number(Range::Long), None),
-    (Given::Text("0x"), Field::Number(Range::Long), None),
-    (Given::Text("0X1"), Field::Number(Range::Long), None),
-    (Given::Text("+-1"), Field::Number(Range::Long), None),
-    (Given::Text("1 2"), Field::Number(Range::Long), None),
-    (Given::Text("\t7"), Field::Number(Range::Long), None),
-    (
-        Given::Text("9223372036854775808"),
-        Field::Number(Range::Long),
-        None,
-    ),
+static SPELLINGS: [Spelled; 14] = [
+    ("+5", Range::Long, Some(Given::Long(5))),
+    ("-0x10", Range::Long, Some(Given::Long(-16))),
+    (" 7 ", Range::Long, Some(Given::Long(7))),
+    ("0xfF", Range::UChar, Some(Given::UChar(255))),
+    ("007", Range::UChar, Some(Given::UChar(7))),
+    ("-0", Range::ULong, Some(Given::ULong(0))),
+    ("1x", Range::Long, None),
+    ("", Range::Long, None),
+    ("0x", Range::Long, None),
+    ("0X1", Range::Long, None),
+    ("+-1", Range::Long, None),
+    ("1 2", Range::Long, None),
+    ("\t7", Range::Long, None),
+    ("9223372036854775808", Range::Long, None),
 ];
 
-static NUMBERS: [Converted; 8] = [
+static NUMBERS: [Converted; 13] = [
     (Given::Long(-1), Field::Number(Range::ULong), None),
     (
         Given::ULong(4294967295),
@@ -238,6 +159,19 @@ static NUMBERS: [Converted; 8] = [
     (Given::UShort(2), Field::Menu, None),
     (Given::Enum(65535), Field::State, Some(Given::Enum(65535))),
     (Given::Long(65536), Field::State, None),
+    (
+        Given::Long(-5),
+        Field::Number(Range::Int64),
+        Some(Given::Int64(-5)),
+    ),
+    (
+        Given::Int64(2147483647),
+        Field::Number(Range::Long),
+        Some(Given::Long(2147483647)),
+    ),
+    (Given::Int64(2147483648), Field::Number(Range::Long), None),
+    (Given::Int64(-7), Field::Text, Some(Given::Text("-7"))),
+    (Given::Long(1), Field::Number(Range::Zero), None),
 ];
 
 static TEXTS: [Converted; 9] = [
@@ -260,8 +194,8 @@ static UNNAMED: [Converted; 3] = [
 
 #[test]
 fn values_into_fields(rt: HostRuntime) {
-    are_converted(&rt, &[], &ENDS);
-    are_converted(&rt, &[], &SPELLINGS);
+    are_spelled(&rt, &ENDS);
+    are_spelled(&rt, &SPELLINGS);
     are_converted(&rt, &[Text::cut(b"off"), Text::new()], &NUMBERS);
     are_converted(&rt, &[Text::cut(b"off"), Text::cut(b"0")], &TEXTS);
     are_converted(&rt, &[Text::new(); 16], &UNNAMED);
@@ -317,19 +251,40 @@ fn texts_of_a_fixed_capacity(rt: HostRuntime) {
     assert!(rt; held == [true; 4]);
 }
 
-static REFUSALS: [(IocError, &str); 12] = [
-    (IocError::NoRecord, "E1 NoRecord"),
-    (IocError::NoField, "E2 NoField"),
-    (IocError::NoMod, "E3 NoMod"),
-    (IocError::PutDisabled, "E4 PutDisabled"),
-    (IocError::BadValue, "E5 BadValue"),
-    (IocError::BadLink, "E6 BadLink"),
-    (IocError::NotifyPending, "E7 NotifyPending"),
-    (IocError::Stale, "E8 Stale"),
-    (IocError::QueueFull, "E9 QueueFull"),
-    (IocError::NoMemory, "E10 NoMemory"),
-    (IocError::JournalFull, "E11 JournalFull"),
-    (IocError::Stopped, "E12 Stopped"),
+/// What has words: a refusal, or a fault of a database text.
+#[derive(Clone, Copy)]
+enum Said {
+    Refusal(IocError),
+    Fault(BadDbKind),
+}
+
+static WORDS: [(Said, &str); 26] = [
+    (Said::Refusal(IocError::NoRecord), "E1 NoRecord"),
+    (Said::Refusal(IocError::NoField), "E2 NoField"),
+    (Said::Refusal(IocError::NoMod), "E3 NoMod"),
+    (Said::Refusal(IocError::PutDisabled), "E4 PutDisabled"),
+    (Said::Refusal(IocError::BadValue), "E5 BadValue"),
+    (Said::Refusal(IocError::BadLink), "E6 BadLink"),
+    (Said::Refusal(IocError::NotifyPending), "E7 NotifyPending"),
+    (Said::Refusal(IocError::Stale), "E8 Stale"),
+    (Said::Refusal(IocError::QueueFull), "E9 QueueFull"),
+    (Said::Refusal(IocError::NoMemory), "E10 NoMemory"),
+    (Said::Refusal(IocError::JournalFull), "E11 JournalFull"),
+    (Said::Refusal(IocError::Stopped), "E12 Stopped"),
+    (Said::Fault(BadDbKind::Syntax), "syntax"),
+    (Said::Fault(BadDbKind::Unclosed), "text not closed"),
+    (Said::Fault(BadDbKind::OpenBody), "body not closed"),
+    (Said::Fault(BadDbKind::BadType), "unknown type"),
+    (Said::Fault(BadDbKind::BadField), "unknown field"),
+    (Said::Fault(BadDbKind::NoMod), "field not settable"),
+    (Said::Fault(BadDbKind::BadName), "bad name"),
+    (Said::Fault(BadDbKind::BadValue), "bad value"),
+    (Said::Fault(BadDbKind::BadLink), "bad link"),
+    (Said::Fault(BadDbKind::Duplicate), "duplicate"),
+    (Said::Fault(BadDbKind::NoRecord), "no record"),
+    (Said::Fault(BadDbKind::Macro), "macro"),
+    (Said::Fault(BadDbKind::LeftOut), "left out"),
+    (Said::Fault(BadDbKind::TooMany), "too many"),
 ];
 
 // Returns whether these are the words of the refusal, and its text.
@@ -339,23 +294,6 @@ fn says(alloc: Global, refused: IocError, words: &str, printed: &str) -> bool {
         Err(_) => false,
     }
 }
-
-static DATABASE_FAULTS: [(BadDbKind, &str); 14] = [
-    (BadDbKind::Syntax, "syntax"),
-    (BadDbKind::Unclosed, "text not closed"),
-    (BadDbKind::OpenBody, "body not closed"),
-    (BadDbKind::BadType, "unknown type"),
-    (BadDbKind::BadField, "unknown field"),
-    (BadDbKind::NoMod, "field not settable"),
-    (BadDbKind::BadName, "bad name"),
-    (BadDbKind::BadValue, "bad value"),
-    (BadDbKind::BadLink, "bad link"),
-    (BadDbKind::Duplicate, "duplicate"),
-    (BadDbKind::NoRecord, "no record"),
-    (BadDbKind::Macro, "macro"),
-    (BadDbKind::LeftOut, "left out"),
-    (BadDbKind::TooMany, "too many"),
-];
 
 // Returns whether this is the text of the fault.
 fn prints(alloc: Global, fault: DbFault, printed: &str) -> bool {
@@ -367,11 +305,12 @@ fn prints(alloc: Global, fault: DbFault, printed: &str) -> bool {
 
 #[test]
 fn refusals_in_words(rt: HostRuntime) {
-    for (refused, words) in &REFUSALS {
-        assert!(rt; says(rt.alloc(), *refused, words, words), "{words}");
-    }
-    for (kind, words) in &DATABASE_FAULTS {
-        assert!(rt; kind.words() == *words, "{words}");
+    for (said, words) in &WORDS {
+        let is_said = match said {
+            Said::Refusal(refused) => says(rt.alloc(), *refused, words, words),
+            Said::Fault(kind) => kind.words() == *words,
+        };
+        assert!(rt; is_said, "{words}");
     }
     let fault = DbFault {
         line: 2,
