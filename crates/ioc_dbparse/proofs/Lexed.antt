@@ -17,6 +17,10 @@ other_byte p b c is_in nope =
       | inr other ↦ other
     ]
 
+-- A byte of a class is neither of two bytes outside.
+neither : (p : ℕ → Bool) (x y : ℕ) → p x ≡ false → p y ≡ false → (b : ℕ) → p b ≡ true → not ((eqb b x) || (eqb b y)) ≡ true
+neither p x y nx ny b h = rw (other_byte p b x h nx, other_byte p b y h ny) refl
+
 -- A piece that can be spelled.
 abbrev pub Fine : List Piece → Type 0
 Fine [] = Unit {0}
@@ -42,17 +46,6 @@ or_right false t h = h
 
 -- Lemmas that a line of pieces is plain.
 
-space_plain : (b : ℕ) → is_space b ≡ true → is_plain b ≡ true
-space_plain b h = rw (other_byte is_space b 10 h refl, other_byte is_space b 36 h refl) refl
-
-word_plain : (b : ℕ) → is_word_byte b ≡ true → is_plain b ≡ true
-unfolding is_word_byte
-word_plain b h = rw (other_byte is_word_byte b 10 h refl, other_byte is_word_byte b 36 h refl) refl
-
-sign_plain : (b : ℕ) → is_sign b ≡ true → is_plain b ≡ true
-unfolding is_sign
-sign_plain b h = rw (other_byte is_sign b 10 h refl, other_byte is_sign b 36 h refl) refl
-
 escaped_step : (t : Bool) (b : ℕ) (bs : List ℕ) → is_plain b ≡ true → Each is_plain bs → Each is_plain (cond t (92 ∷ b ∷ bs) (b ∷ bs))
 escaped_step true b bs h k = (refl, (h, k))
 escaped_step false b bs h k = (h, k)
@@ -63,14 +56,15 @@ escaped_plain (b ∷ bs) h = escaped_step ((eqb b 34) || (eqb b 92)) b (escaped_
 
 module _ (gaps : ℕ → List ℕ) (spaces : (i : ℕ) → Each is_space (gaps i)) where
   gap_plain : (i : ℕ) → Each is_plain (gaps i)
-  gap_plain i = each_map is_space is_plain (gaps i) space_plain (spaces i)
+  gap_plain i = each_map is_space is_plain (gaps i) (neither is_space 10 36 refl refl) (spaces i)
 
   pub all_plain : (i : ℕ) (ps : List Piece) → Fine ps → Each is_plain (with_gaps gaps i ps [])
+  unfolding is_word_byte is_sign
   all_plain i [] h = each_append is_plain (gaps i) [] (gap_plain i) tt
   all_plain i (Call word ∷ ps) h =
       each_append is_plain (gaps i) _ (gap_plain i)
-      (each_append is_plain word _ (each_map is_word_byte is_plain word word_plain h.1) (each_append is_plain (gaps (i + 1)) _ (gap_plain (i + 1)) (refl, all_plain (i + 2) ps h.2)))
-  all_plain i (Mark b ∷ ps) h = each_append is_plain (gaps i) _ (gap_plain i) (sign_plain b h.0, all_plain (i + 1) ps h.1)
+      (each_append is_plain word _ (each_map is_word_byte is_plain word (neither is_word_byte 10 36 refl refl) h.1) (each_append is_plain (gaps (i + 1)) _ (gap_plain (i + 1)) (refl, all_plain (i + 2) ps h.2)))
+  all_plain i (Mark b ∷ ps) h = each_append is_plain (gaps i) _ (gap_plain i) (neither is_sign 10 36 refl refl b h.0, all_plain (i + 1) ps h.1)
   all_plain i (Text text ∷ ps) h =
       each_append is_plain (gaps i) _ (gap_plain i) (refl, each_append is_plain (escaped_of text) _ (escaped_plain text h.0) (refl, all_plain (i + 1) ps h.1))
 
@@ -142,17 +136,6 @@ no_macro macros (b ∷ bs) h = rw (not_dollar b h.0) (ap (onto_text (b ∷ [])) 
 abbrev is_neutral : ℕ → Bool
 is_neutral b = not ((eqb b 34) || (eqb b 35))
 
-space_neutral : (b : ℕ) → is_space b ≡ true → is_neutral b ≡ true
-space_neutral b h = rw (other_byte is_space b 34 h refl, other_byte is_space b 35 h refl) refl
-
-word_neutral : (b : ℕ) → is_word_byte b ≡ true → is_neutral b ≡ true
-unfolding is_word_byte
-word_neutral b h = rw (other_byte is_word_byte b 34 h refl, other_byte is_word_byte b 35 h refl) refl
-
-sign_neutral : (b : ℕ) → is_sign b ≡ true → is_neutral b ≡ true
-unfolding is_sign
-sign_neutral b h = rw (other_byte is_sign b 34 h refl, other_byte is_sign b 35 h refl) refl
-
 one_outside : (b : ℕ) (rest : List ℕ) → is_neutral b ≡ true → uncommented Outside (b ∷ rest) ≡ b ∷ uncommented Outside rest
 unfolding begins_comment quoting_after
 one_outside b rest h = rw (other_byte is_neutral b 34 h refl, other_byte is_neutral b 35 h refl) refl
@@ -182,18 +165,18 @@ opening rest = refl
 
 module _ (gaps : ℕ → List ℕ) (spaces : (i : ℕ) → Each is_space (gaps i)) where
   gap_neutral : (i : ℕ) → Each is_neutral (gaps i)
-  gap_neutral i = each_map is_space is_neutral (gaps i) space_neutral (spaces i)
+  gap_neutral i = each_map is_space is_neutral (gaps i) (neither is_space 34 35 refl refl) (spaces i)
 
   behind : (i : ℕ) (x y : List ℕ) → uncommented Outside x ≡ y → uncommented Outside (gaps i ++ x) ≡ gaps i ++ y
   behind i x y e = run_outside (gaps i) x (gap_neutral i) ∙ ap (λ (l : List ℕ). gaps i ++ l) e
 
   pub no_comment : (i : ℕ) (ps : List Piece) (tail : List ℕ) → Fine ps → uncommented Outside (with_gaps gaps i ps tail) ≡ with_gaps gaps i ps (uncommented Outside tail)
-  unfolding is_sign
+  unfolding is_word_byte is_sign
   no_comment i [] tail h = run_outside (gaps i) tail (gap_neutral i)
   no_comment i (Call word ∷ ps) tail h =
-      behind i _ _ (run_outside word _ (each_map is_word_byte is_neutral word word_neutral h.1)
+      behind i _ _ (run_outside word _ (each_map is_word_byte is_neutral word (neither is_word_byte 34 35 refl refl) h.1)
       ∙ ap (λ (l : List ℕ). word ++ l) (behind (i + 1) _ _ (one_outside 40 _ refl ∙ ap (λ (l : List ℕ). 40 ∷ l) (no_comment (i + 2) ps tail h.2))))
-  no_comment i (Mark b ∷ ps) tail h = behind i _ _ (one_outside b _ (sign_neutral b h.0) ∙ ap (λ (l : List ℕ). b ∷ l) (no_comment (i + 1) ps tail h.1))
+  no_comment i (Mark b ∷ ps) tail h = behind i _ _ (one_outside b _ (neither is_sign 34 35 refl refl b h.0) ∙ ap (λ (l : List ℕ). b ∷ l) (no_comment (i + 1) ps tail h.1))
   no_comment i (Text text ∷ ps) tail h =
       behind i _ _ (opening _ ∙ ap (λ (l : List ℕ). 34 ∷ l) (inside text _ ∙ ap (λ (l : List ℕ). escaped_of text ++ (34 ∷ l)) (no_comment (i + 1) ps tail h.1)))
 

@@ -1,6 +1,5 @@
 -- A sign that is taken, or another token in its place.
-use Rattle.std.proofs.Common.{◌≡◌, ℕ, Bool, true, false, cond, List, [], ◌∷◌, Result, Ok, Err, refl, sym, ap}
-use Rattle.ioc_values.specs.declared.error.DbFault.{DbFault}
+use Rattle.std.proofs.Common.{◌≡◌, ℕ, Bool, true, false, cond, List, [], ◌∷◌, Ok, refl, sym, ap}
 use Rattle.ioc_dblex.specs.declared.token.TokenKind.{TokenKind}
 use Rattle.ioc_dblex.specs.declared.token.TokenKind.TheVariants.{Sign, Word, Quoted, Fault}
 use Rattle.ioc_dblex.specs.Lexing.{Lexeme}

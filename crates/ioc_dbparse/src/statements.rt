@@ -5,7 +5,7 @@ ghost use Rattle.ioc_dbparse.specs.Rules.{Builds};
 ghost use Rattle.ioc_dblex.specs.SeenToken.{seen};
 
 use crate::builder::{BuildError, Builder};
-use crate::entries::{braces_at, second_at};
+use crate::entries::{Body, braces_at, second_at};
 use crate::words::{
     begins_record, expect, fault, is_sign_of, is_value, is_word, name_line, next_at, refused_word,
     sound, text_of, value_at,
@@ -110,7 +110,12 @@ fn record_at<B: Builder>(
     expect(b',', last, tokens)?;
     let number = name_at(alloc, last, begun, record_type, builder, tokens)?;
     expect(b')', last, tokens)?;
-    braces_at(alloc, turns, last, number, builder, tokens)
+    let body = Body {
+        alloc,
+        last,
+        number,
+    };
+    braces_at(turns, &body, builder, tokens)
 }
 
 /// Reads NAME of `alias(NAME, A)`.
@@ -144,7 +149,12 @@ fn alias_at<B: Builder>(
     expect(b'(', last, tokens)?;
     let number = found_at(alloc, last, &*builder, tokens)?;
     expect(b',', last, tokens)?;
-    second_at(alloc, last, number, builder, tokens)?;
+    let body = Body {
+        alloc,
+        last,
+        number,
+    };
+    second_at(&body, builder, tokens)?;
     expect(b')', last, tokens)?;
     Ok(())
 }
@@ -190,6 +200,7 @@ fn statement_at<B: Builder>(
 }
 
 /// Reads all statements, at most as many as the bound.
+#[tactic(auto, using(crate::proofs::Loop::goes_on, crate::proofs::Loop::is_done, crate::proofs::Loop::is_out))]
 fn statements_at<B: Builder>(
     alloc: Global,
     turns: u64,

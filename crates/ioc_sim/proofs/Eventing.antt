@@ -1,12 +1,14 @@
 -- The effect of an event's code on the machine of a script.
-use Rattle.std.proofs.Common.{◌≡◌, ℕ, false, [], List, Option, refl, sym, ap, subst, ◌∙◌}
+use Rattle.std.proofs.Common.{◌≡◌, ◌≤◌, ℕ, false, [], List, Option, refl, sym, ap, subst, ◌∙◌}
+use Rattle.std.specs.FinMap.{len}
 use Rattle.std.specs.Global.{Vec}
+use Rattle.std.specs.Vec.{vec_capacity}
 use Rattle.ioc_device.specs.declared.Answer.{Answer}
 use Rattle.ioc_ledger.specs.declared.tally.Tally.{Tally}
 use Rattle.ioc_record.specs.RecordRules.{RecordRules}
 use Rattle.ioc_events.specs.declared.event.Event.{Event}
 use Rattle.ioc_events.specs.declared.reply.Reply.{Reply}
-use Rattle.ioc_store.specs.World.{World, begun}
+use Rattle.ioc_store.specs.World.{World, IsClosed, begun}
 use Rattle.ioc_store.specs.Given.{Given, Answers, Begins}
 use Rattle.ioc_process.specs.Runs.{ForAnswers}
 use Rattle.ioc_process.specs.Rules.{IsSettled}
@@ -19,10 +21,10 @@ use Rattle.ioc_store.specs.OneMap.{world_of, given_of, device_at}
 use Rattle.rec_types.specs.Record.{Record, record_rules}
 use Rattle.ioc_sim.specs.declared.machine.Machine.{Machine as Kept}
 use Rattle.ioc_sim.specs.SeenMachine.{machine_of}
-use Rattle.ioc_sim.proofs.Closing.{begun-none, none_yet}
+use Rattle.ioc_sim.proofs.Closing.{begun-none, none_yet, settled_same, room_same}
 use Rattle.ioc_dbfile.specs.Finished.{Owner}
 use Rattle.ioc_dbfile.specs.OwnerTable.{owner_in}
-use Rattle.ioc_sim.specs.Machine.{Machine, Queued, TakesAnswer, answers_from, left_after, stepped_on}
+use Rattle.ioc_sim.specs.Machine.{Machine, Gives, Queued, TakesAnswer, answers_from, left_after, stepped_on}
 use Rattle.ioc_sim.specs.Scanner.{Scanner}
 use Rattle.ioc_sim.proofs.Scripting.{left_is, accords}
 
@@ -44,13 +46,16 @@ none_counted t e = λ i. record {
   completed = e.1.1.1.1.1.1 i;
 }
 
--- The machine after the code of an event, before what the event sent is taken.
-pub record IsDone {R : Type 0} (k : RecordRules R) (m after : Machine R) (reply : Reply) (event : Event) : Type 0 where
-  pub machine : after ≡ (stepped_on k m event).machine
-  pub reply_is : reply ≡ (stepped_on k m event).reply
-  pub settled : ((answers : Answers) (w : World R) (event : Event) → IsSettled k w → IsSettled k (stepped k answers w event).world) → IsSettled k (begun m.world) → IsSettled k after.world
+-- Events leave a database settled.
+abbrev pub LeaveSettled : {R : Type 0} → RecordRules R → Type 0
+LeaveSettled {R} k = (answers : Answers) (w : World R) (event : Event) → IsSettled k w → IsSettled k (stepped k answers w event).world
 
-pub event_is : {R : Type 0} (k : RecordRules R) (m : Machine R) (event : Event) (start w : World R) (before after : Given (List Answer)) (t : Tally) (reply : Reply)
+-- The machine after the code of an event, before what the event sent is taken.
+record IsDone {R : Type 0} (k : RecordRules R) (m after : Machine R) (reply : Reply) (event : Event) : Type 0 where
+  pub gives : Gives (stepped_on k m event) after reply
+  pub settled : LeaveSettled k → IsSettled k (begun m.world) → IsSettled k after.world
+
+event_is : {R : Type 0} (k : RecordRules R) (m : Machine R) (event : Event) (start w : World R) (before after : Given (List Answer)) (t : Tally) (reply : Reply)
     → start ≡ begun m.world → before.devices ≡ m.queued → before.calls ≡ [] → Begins TakesAnswer before after → after.calls ≡ w.calls
     → ForAnswers after (λ answers. Tells start w reply m.tally t event (stepped k answers start event))
     → IsDone k m (record { world = w; queued = after.devices; tally = t; scanner = m.scanner; owner = m.owner; next = m.next; ended = m.ended }) reply event
@@ -62,8 +67,7 @@ event_is {R} k m event start w before after t reply begins devices none work cal
     let left : after.devices ≡ left_after m.queued (stepped k answers (begun m.world) event).world.calls =
     left_is m.queued before after devices none work ∙ ap (left_after m.queued) (calls ∙ ap (λ (x : World R). x.calls) told.world) in
     record {
-      machine = same_machine m.next m.ended _ _ _ _ _ _ _ _ _ _ refl told.world left told.tally refl;
-      reply_is = told.reply;
+      gives = (same_machine m.next m.ended _ _ _ _ _ _ _ _ _ _ refl told.world left told.tally refl, told.reply);
       settled = λ leaves is. subst (IsSettled k) (sym told.world) (leaves answers (begun m.world) event is);
     }
 
@@ -74,7 +78,7 @@ unfolding tallied
 counts_nothing t w after event reply none before called = rw (none, before, called) refl
 
 -- The machine after the code of such an event.
-pub event_alone : {R : Type 0} (k : RecordRules R) (m : Machine R) (event : Event) (start w : World R) (before after : Given (List Answer)) (t : Tally) (reply : Reply)
+event_alone : {R : Type 0} (k : RecordRules R) (m : Machine R) (event : Event) (start w : World R) (before after : Given (List Answer)) (t : Tally) (reply : Reply)
     → start ≡ begun m.world → before.devices ≡ m.queued → before.calls ≡ [] → after ≡ before → after.calls ≡ w.calls → completes event reply ≡ false → t ≡ m.tally
     → ((answers : Answers) → stepped k answers start event ≡ record { world = w; reply = reply; requests = None })
     → IsDone k m (record { world = w; queued = after.devices; tally = t; scanner = m.scanner; owner = m.owner; next = m.next; ended = m.ended }) reply event
@@ -99,19 +103,40 @@ run_on m after t =
       ended = m.ended.items;
     }
 
--- The same for an event on the machine of the code, whose records and devices are in one map.
+-- The database of the code's machine once an event has begun.
+module _ (m : Kept) (start : OneMap Record (List Answer)) (begins : world_of start ≡ begun (world_of m.map)) where
+  pub settled_on : IsSettled record_rules (world_of start)
+  settled_on = settled_same record_rules (world_of m.map) (world_of start) begins m.settled
+
+  pub closed_on : IsClosed record_rules (world_of start)
+  closed_on = settled_on.closed
+
+  pub room_on : len (world_of start).records ≤ vec_capacity m.frames
+  room_on = room_same (world_of m.map) (world_of start) _ begins m.room
+
+-- What the code of an event leaves of its machine, whose records and devices are in one map.
+pub record Leaves (m : Kept) (event : Event) (after : OneMap Record (List Answer)) (t : Tally) (reply : Reply) : Type 0 where
+  pub gives : Gives (stepped_on record_rules (machine_of m) event) (run_on m after t) reply
+  pub settled : LeaveSettled record_rules → IsSettled record_rules (world_of after)
+
 module _ (m : Kept) (event : Event) (start after : OneMap Record (List Answer)) (begins : world_of start ≡ begun (world_of m.map)) (same : start.devices ≡ m.map.devices) where
   devices_same : device_at start.devices.items ≡ device_at m.map.devices.items
   devices_same = ap (λ (v : Vec (Option (List Answer))). device_at v.items) same
 
+  left_by : (t : Tally) (reply : Reply) → IsDone record_rules (machine_of m) (run_on m after t) reply event → Leaves m event after t reply
+  left_by t reply is =
+      record { gives = is.gives; settled = λ leaves. is.settled leaves (settled_same record_rules (world_of m.map) (begun (world_of m.map)) refl m.settled) }
+
   pub event_on : (t : Tally) (reply : Reply) → Begins TakesAnswer (given_of start) (given_of after)
       → ForAnswers (given_of after) (λ answers. Tells (world_of start) (world_of after) reply m.tally t event (stepped record_rules answers (world_of start) event))
-      → IsDone record_rules (machine_of m) (run_on m after t) reply event
+      → Leaves m event after t reply
   event_on t reply work step =
-      event_is record_rules (machine_of m) event (world_of start) (world_of after) (given_of start) (given_of after) t reply begins devices_same (none_yet start (world_of m.map) begins) work refl step
+      left_by t reply
+      (event_is record_rules (machine_of m) event (world_of start) (world_of after) (given_of start) (given_of after) t reply begins devices_same (none_yet start (world_of m.map) begins) work refl step)
 
   pub event_alone_on : (reply : Reply) → given_of after ≡ given_of start → completes event reply ≡ false
       → ((answers : Answers) → stepped record_rules answers (world_of start) event ≡ record { world = world_of after; reply = reply; requests = None })
-      → IsDone record_rules (machine_of m) (run_on m after m.tally) reply event
+      → Leaves m event after m.tally reply
   event_alone_on reply kept completed step =
-      event_alone record_rules (machine_of m) event (world_of start) (world_of after) (given_of start) (given_of after) m.tally reply begins devices_same (none_yet start (world_of m.map) begins) kept refl completed refl step
+      left_by m.tally reply
+      (event_alone record_rules (machine_of m) event (world_of start) (world_of after) (given_of start) (given_of after) m.tally reply begins devices_same (none_yet start (world_of m.map) begins) kept refl completed refl step)

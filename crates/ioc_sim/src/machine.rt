@@ -180,6 +180,7 @@ impl Machine {
     }
 
     // Requests a record, without taking what the event sends.
+    #[tactic(auto, using(crate::proofs::Eventing::closed_on, crate::proofs::Eventing::room_on))]
     fn request(&mut self, number: RecordNo) -> Effect
         ensures { Gives (stepped_on record_rules (machine_of self.old) (Process number)) (machine_of self.new) (reply_of result) }
     {
@@ -189,6 +190,7 @@ impl Machine {
     }
 
     // Puts the value of a text into a field, without taking what the event sends.
+    #[tactic(auto, using(crate::proofs::Eventing::closed_on, crate::proofs::Eventing::room_on))]
     fn store(&mut self, number: RecordNo, field: FieldNo, text: &[u8]) -> Effect
         ensures { Gives (stepped_on record_rules (machine_of self.old) (Put number field (input_of text.now)))
             (machine_of self.new) (reply_of result) }
@@ -207,6 +209,7 @@ impl Machine {
 
     // Completes a record with the asynchronous answer of its device, without taking what the event
     // sends.
+    #[tactic(auto, using(crate::proofs::Eventing::closed_on, crate::proofs::Eventing::room_on))]
     fn finish(&mut self, number: RecordNo, wait: u64, finished: Finished) -> Reply
         ensures { Gives (stepped_on record_rules (machine_of self.old) (Complete number wait finished))
             (machine_of self.new) result }
@@ -236,6 +239,7 @@ impl Machine {
     }
 
     // Puts a value into a field with a notification, without taking what the event sends.
+    #[tactic(auto, using(crate::proofs::Eventing::closed_on, crate::proofs::Eventing::room_on))]
     fn begin_notify(
         &mut self,
         number: RecordNo,
@@ -261,6 +265,7 @@ impl Machine {
     }
 
     // Cancels a put with notification, without taking what the event sends.
+    #[tactic(auto, using(crate::proofs::Eventing::closed_on, crate::proofs::Eventing::room_on))]
     fn give_up(&mut self, notification: NotifyId) -> Reply
         ensures { Gives (stepped_on record_rules (machine_of self.old) (Cancel notification)) (machine_of self.new) result }
     {

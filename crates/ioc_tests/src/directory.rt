@@ -28,11 +28,29 @@ fn seen(flag: &AtomicU64) -> bool {
     false
 }
 
+// What a call and the steps of another thread tell each other.
+#[derive(Drop)]
+struct Flags {
+    // The call is in progress.
+    inside: AtomicU64,
+    // The steps are done.
+    answered: AtomicU64,
+}
+
+impl Flags {
+    fn new() -> Self {
+        Flags {
+            inside: AtomicU64::new(0),
+            answered: AtomicU64::new(0),
+        }
+    }
+}
+
 // Reports that the call is in progress, and keeps it so until the other call is answered. Returns
 // whether that was in time.
-fn held_until(inside: &AtomicU64, answered: &AtomicU64) -> bool {
-    inside.store(1, Ordering::SeqCst);
-    seen(answered)
+fn held_until(flags: &Flags) -> bool {
+    flags.inside.store(1, Ordering::SeqCst);
+    seen(&flags.answered)
 }
 
 // Returns a directory with each of the first records in a set of its own.
@@ -158,11 +176,25 @@ fn hold_set(
     rt: &impl Wait,
     sets: &Directory<Numbers>,
     number: usize,
-    inside: &AtomicU64,
-    answered: &AtomicU64,
+    flags: &Flags,
 ) -> Result<bool, IocError> {
     let _set = sets.lock_set(rt, RecordNo::new(number))?;
-    Ok(held_until(inside, answered))
+    Ok(held_until(flags))
+}
+
+// Does the steps once a call is in progress, and reports that. Returns whether it was in progress
+// before the steps, and the first step with another result.
+fn answer(
+    rt: &impl Wait,
+    alloc: Global,
+    sets: &Directory<Numbers>,
+    steps: &[Step],
+    flags: &Flags,
+) -> (bool, Option<usize>) {
+    let began = seen(&flags.inside);
+    let wrong = first_wrong(rt, alloc, sets, steps);
+    flags.answered.store(1, Ordering::SeqCst);
+    (began, wrong)
 }
 
 // Keeps a call in progress until the steps are done. Returns whether it was in progress before the
@@ -174,17 +206,11 @@ fn beside<R: Threads + Wait + Sync>(
     number: usize,
     steps: &[Step],
 ) -> (bool, bool, Option<usize>) {
-    let inside = AtomicU64::new(0);
-    let answered = AtomicU64::new(0);
+    let flags = Flags::new();
     let (held, other) = thread::join(
         rt,
-        || hold_set(rt, sets, number, &inside, &answered),
-        || {
-            let began = seen(&inside);
-            let wrong = first_wrong(rt, alloc, sets, steps);
-            answered.store(1, Ordering::SeqCst);
-            (began, wrong)
-        },
+        || hold_set(rt, sets, number, &flags),
+        || answer(rt, alloc, sets, steps, &flags),
     );
     (other.0, held == Ok(true), other.1)
 }
@@ -281,18 +307,17 @@ fn all_taken(
     rt: &impl Wait,
     alloc: Global,
     sets: &Directory<Numbers>,
-    inside: &AtomicU64,
-    answered: &AtomicU64,
+    flags: &Flags,
 ) -> Result<(bool, bool), IocError> {
     let mut marks = Vec::from_elem(alloc, false, sets.len())?;
     let guard = sets.guard_topology(rt);
     let taken = sets.take_all(rt, alloc)?;
     let complete = hold_each(taken.sets.as_slice(), marks.as_mut_slice(), sets.len());
-    inside.store(1, Ordering::SeqCst);
+    flags.inside.store(1, Ordering::SeqCst);
     for _ in 0..PAUSE {
         thread::yield_now();
     }
-    let found = answered.load(Ordering::SeqCst) != 0;
+    let found = flags.answered.load(Ordering::SeqCst) != 0;
     sets.put_back(rt, taken);
     drop(guard);
     Ok((complete, found))
@@ -306,17 +331,11 @@ fn all_taken_beside<R: Threads + Wait + Sync>(
     sets: &Directory<Numbers>,
     steps: &[Step],
 ) -> (Result<(bool, bool), IocError>, bool, Option<usize>) {
-    let inside = AtomicU64::new(0);
-    let answered = AtomicU64::new(0);
+    let flags = Flags::new();
     let (taken, other) = thread::join(
         rt,
-        || all_taken(rt, alloc, sets, &inside, &answered),
-        || {
-            let began = seen(&inside);
-            let wrong = first_wrong(rt, alloc, sets, steps);
-            answered.store(1, Ordering::SeqCst);
-            (began, wrong)
-        },
+        || all_taken(rt, alloc, sets, &flags),
+        || answer(rt, alloc, sets, steps, &flags),
     );
     (taken, other.0, other.1)
 }

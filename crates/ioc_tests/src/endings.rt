@@ -242,25 +242,17 @@ static UNREADABLE: [(FileRole, io::ErrorKind, u8, &str); 5] = [
     ),
 ];
 
-fn is_unreadable(
-    alloc: Global,
-    role: FileRole,
-    kind: io::ErrorKind,
-    status: u8,
-    told: &str,
-) -> Result<bool, AllocError> {
+// Returns the end of the program because the file x.y can't be read.
+fn unread(alloc: Global, role: FileRole, kind: io::ErrorKind) -> Result<Stop, AllocError> {
     let path = String::from_str(alloc, "x.y")?;
-    let stop = unreadable(role, path, &io::Error::from(kind));
-    tells_fault(alloc, stop, status, told)
+    Ok(unreadable(role, path, &io::Error::from(kind)))
 }
 
 #[test]
 fn files_that_cannot_be_read(rt: HostRuntime) -> Result<(), Fail> {
     for (role, kind, status, told) in &UNREADABLE {
-        assert!(rt;
-            is_unreadable(rt.alloc(), *role, *kind, *status, told)?,
-            "{told}"
-        );
+        let stop = unread(rt.alloc(), *role, *kind)?;
+        assert!(rt; tells_fault(rt.alloc(), stop, *status, told)?, "{told}");
     }
     Ok(())
 }
@@ -308,23 +300,22 @@ fn flushed(fails: bool) -> io::Result<()> {
     }
 }
 
-fn comes_to(
+// Returns the end of the program after this run and its flush.
+fn end_of(
     alloc: Global,
     ran: Result<(), RunFault>,
     fails: bool,
-    status: u8,
-    told: &str,
-) -> Result<bool, AllocError> {
+) -> Result<Result<(), Stop>, AllocError> {
     let script = String::from_str(alloc, "b.script")?;
-    let ended = whole_run(ran, flushed(fails), script);
-    tells(alloc, ended, status, Stream::Error, told)
+    Ok(whole_run(ran, flushed(fails), script))
 }
 
 #[test]
 fn a_flush_that_fails(rt: HostRuntime) -> Result<(), Fail> {
     for (ran, fails, status, told) in &FLUSHES {
+        let ended = end_of(rt.alloc(), *ran, *fails)?;
         assert!(rt;
-            comes_to(rt.alloc(), *ran, *fails, *status, told)?,
+            tells(rt.alloc(), ended, *status, Stream::Error, told)?,
             "{told}"
         );
     }

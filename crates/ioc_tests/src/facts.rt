@@ -109,3 +109,22 @@ pub fn makes(alloc: Global, definitions: &[Definition<'_>], text: &[u8], wanted:
         _ => false,
     }
 }
+
+/// A kind of fault, and texts whose first fault is of this kind, each with its line.
+pub type Refused = (BadDbKind, &'static [(u64, &'static [u8])]);
+
+/// Returns the first text that doesn't have its fault if it is loaded with these macros.
+pub fn first_unrefused(
+    alloc: Global,
+    definitions: &[Definition<'_>],
+    refused: &[Refused],
+) -> Option<&'static [u8]> {
+    for (kind, texts) in refused {
+        for (line, text) in *texts {
+            if !makes(alloc, definitions, text, Made::Fault(*line, *kind)) {
+                return Some(*text);
+            }
+        }
+    }
+    None
+}

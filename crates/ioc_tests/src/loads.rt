@@ -1,6 +1,6 @@
 //! Whole loads of database texts.
 use crate::facts::Fact::{self, Counts, Leads, LeadsHome, LeadsNowhere, Named, Shows, Unnamed};
-use crate::facts::{Made, makes};
+use crate::facts::{Made, Refused, first_unrefused, makes};
 use ioc_dbfile::Macros;
 use ioc_fields::{CommonField, FieldNo, OwnField, Slot};
 use ioc_main::{RunFault, run};
@@ -146,122 +146,116 @@ fn loaded_texts(rt: HostRuntime) {
     }
 }
 
-// Texts that are refused, with the line and the kind of the first fault.
-static REFUSED: [(&[u8], u64, BadDbKind); 51] = [
-    (b"record(ai,a){}", 1, BadDbKind::BadType),
-    (b"record(longin,\n\"a.b\"){}", 2, BadDbKind::BadName),
-    (b"record(longin,\"\"){}", 1, BadDbKind::BadName),
+// Texts that are refused, by the kind of the first fault.
+static REFUSED: [Refused; 13] = [
     (
-        b"record(longin,a1234567890123456789012345678901234567890123456789012345678901){}",
-        1,
+        BadDbKind::BadType,
+        &[(1, b"record(ai,a){}"), (1, b"record(ai,\na){}")],
+    ),
+    (
         BadDbKind::BadName,
+        &[
+            (2, b"record(longin,\n\"a.b\"){}"),
+            (1, b"record(longin,\"\"){}"),
+            (
+                1,
+                b"record(longin,a1234567890123456789012345678901234567890123456789012345678901){}",
+            ),
+            (2, b"record(longin,a)alias(a,\n\"b.c\")"),
+            (1, b"record(longin,a)alias(\"a.b\",c)"),
+            (1, b"record(*,\"a.b\"){}"),
+        ],
     ),
     (
-        b"record(longin,a){}\nrecord(bo,\na){}",
-        3,
         BadDbKind::Duplicate,
+        &[
+            (3, b"record(longin,a){}\nrecord(bo,\na){}"),
+            (1, b"record(longin,a){alias(a)}"),
+            (2, b"record(longin,a){alias(b)alias(\nb)}"),
+            (2, b"record(stringin,\"a\"){}\nrecord(longin,\"a\"){}"),
+            (2, b"record(longin,a){alias(b)}\nrecord(bo,b){}"),
+        ],
     ),
-    (b"record(longin,a){field(ZNAM,1)}", 1, BadDbKind::BadField),
-    (b"record(longin,a){field(PACT,1)}", 1, BadDbKind::NoMod),
-    (b"record(longin,a){field(NAME,b)}", 1, BadDbKind::NoMod),
-    (b"record(longin,a){\nfield(STAT\n,1)}", 2, BadDbKind::NoMod),
-    (b"record(bo,a){field(LALM,1)}", 1, BadDbKind::NoMod),
     (
-        b"record(longin,a){field(VAL,\n2147483648)}",
-        2,
+        BadDbKind::BadField,
+        &[(1, b"record(longin,a){field(ZNAM,1)}")],
+    ),
+    (
+        BadDbKind::NoMod,
+        &[
+            (1, b"record(longin,a){field(PACT,1)}"),
+            (1, b"record(longin,a){field(NAME,b)}"),
+            (2, b"record(longin,a){\nfield(STAT\n,1)}"),
+            (1, b"record(bo,a){field(LALM,1)}"),
+        ],
+    ),
+    (
         BadDbKind::BadValue,
+        &[
+            (2, b"record(longin,a){field(VAL,\n2147483648)}"),
+            (1, b"record(longin,a){field(VAL,\" \")}"),
+            (1, b"record(longin,a){field(UDFS,SOME)}"),
+            (1, b"record(longin,a){field(INP,-2147483649)}"),
+            (1, b"record(bo,a){field(DOL,65536)}"),
+            (1, b"record(bo,a){field(VAL,2)}"),
+            (1, b"record(fanout,a){field(SELL,-1)}"),
+            (2, b"record(longin,a){field(VAL,\nbad\n"),
+        ],
     ),
     (
-        b"record(longin,a){field(VAL,\" \")}",
-        1,
-        BadDbKind::BadValue,
-    ),
-    (
-        b"record(longin,a){field(UDFS,SOME)}",
-        1,
-        BadDbKind::BadValue,
-    ),
-    (
-        b"record(longin,a){field(INP,-2147483649)}",
-        1,
-        BadDbKind::BadValue,
-    ),
-    (b"record(bo,a){field(DOL,65536)}", 1, BadDbKind::BadValue),
-    (b"record(bo,a){field(VAL,2)}", 1, BadDbKind::BadValue),
-    (b"record(fanout,a){field(SELL,-1)}", 1, BadDbKind::BadValue),
-    (
-        b"record(longin,a){field(INP,\"b CPP\")}",
-        1,
         BadDbKind::BadLink,
+        &[
+            (1, b"record(longin,a){field(INP,\"b CPP\")}"),
+            (1, b"record(longin,a){field(FLNK,\"@card\")}"),
+        ],
     ),
     (
-        b"record(longin,a){field(FLNK,\"@card\")}",
-        1,
-        BadDbKind::BadLink,
-    ),
-    (
-        b"record(longin,a){field(VAL,\nbad\n",
-        2,
-        BadDbKind::BadValue,
-    ),
-    (
-        b"record(longin, \"a\") {\n  field(VAL, \"1\n}\n",
-        2,
         BadDbKind::Unclosed,
-    ),
-    (b"\n\xff", 2, BadDbKind::Syntax),
-    (b"?", 1, BadDbKind::Syntax),
-    (b"? \"abc", 1, BadDbKind::Syntax),
-    (b"record(longin \"abc", 1, BadDbKind::Unclosed),
-    (b"record(longin,a){}\r", 1, BadDbKind::Syntax),
-    (b"\n# $(A)\n$(A)", 3, BadDbKind::Macro),
-    (b"? ${A}", 1, BadDbKind::Macro),
-    (b"record(longin,\"$(A)\"){}", 1, BadDbKind::Macro),
-    (b"menu(x) {}", 1, BadDbKind::LeftOut),
-    (b"\nlink(x)", 2, BadDbKind::LeftOut),
-    (b"\"menu\"", 1, BadDbKind::Syntax),
-    (b"record(longin,a){menu}", 1, BadDbKind::Syntax),
-    (b"alias(a,\n\"b.c\")", 1, BadDbKind::NoRecord),
-    (b"record(longin,a)alias(a,\n\"b.c\")", 2, BadDbKind::BadName),
-    (b"record(longin,a)alias(\"a.b\",c)", 1, BadDbKind::BadName),
-    (b"record(longin,a){alias(a)}", 1, BadDbKind::Duplicate),
-    (
-        b"record(longin,a){alias(b)alias(\nb)}",
-        2,
-        BadDbKind::Duplicate,
+        &[
+            (2, b"record(longin, \"a\") {\n  field(VAL, \"1\n}\n"),
+            (1, b"record(longin \"abc"),
+        ],
     ),
     (
-        b"record(stringin,\"a\"){}\nrecord(longin,\"a\"){}",
-        2,
-        BadDbKind::Duplicate,
+        BadDbKind::Syntax,
+        &[
+            (2, b"\n\xff"),
+            (1, b"?"),
+            (1, b"? \"abc"),
+            (1, b"record(longin,a){}\r"),
+            (1, b"\"menu\""),
+            (1, b"record(longin,a){menu}"),
+            (1, b"record(longin,a){info(k)}"),
+            (1, b"record(longin,a){info(*,v)}"),
+            (1, b"record(longin,a){record(longin,b)}"),
+            (1, b"record(longin,a)}"),
+            (1, b"\"record\"(longin,a)"),
+        ],
     ),
     (
-        b"record(longin,a){alias(b)}\nrecord(bo,b){}",
-        2,
-        BadDbKind::Duplicate,
+        BadDbKind::Macro,
+        &[
+            (3, b"\n# $(A)\n$(A)"),
+            (1, b"? ${A}"),
+            (1, b"record(longin,\"$(A)\"){}"),
+        ],
     ),
-    (b"record(*,a){}", 1, BadDbKind::NoRecord),
-    (b"record(\"*\",a){}", 1, BadDbKind::NoRecord),
-    (b"record(*,\"a.b\"){}", 1, BadDbKind::BadName),
-    (b"record(longin,a){info(k)}", 1, BadDbKind::Syntax),
-    (b"record(longin,a){info(*,v)}", 1, BadDbKind::Syntax),
-    (b"record(longin,a){info(k,v\n", 1, BadDbKind::OpenBody),
-    (b"record(longin,a){record(longin,b)}", 1, BadDbKind::Syntax),
-    (b"record(longin,a)}", 1, BadDbKind::Syntax),
-    (b"\"record\"(longin,a)", 1, BadDbKind::Syntax),
-    (b"alias(a\n", 1, BadDbKind::NoRecord),
-    (b"record(ai,\na){}", 1, BadDbKind::BadType),
+    (BadDbKind::LeftOut, &[(1, b"menu(x) {}"), (2, b"\nlink(x)")]),
+    (
+        BadDbKind::NoRecord,
+        &[
+            (1, b"alias(a,\n\"b.c\")"),
+            (1, b"record(*,a){}"),
+            (1, b"record(\"*\",a){}"),
+            (1, b"alias(a\n"),
+        ],
+    ),
+    (BadDbKind::OpenBody, &[(1, b"record(longin,a){info(k,v\n")]),
 ];
 
 #[test]
 fn refused_texts(rt: HostRuntime) {
-    for (text, line, kind) in &REFUSED {
-        let wanted = Made::Fault(*line, *kind);
-        assert!(rt;
-            makes(rt.alloc(), &[], text, wanted),
-            "line {line}, {kind:?}"
-        );
-    }
+    assert_eq!(rt; first_unrefused(rt.alloc(), &[], &REFUSED), None);
 }
 
 static TEXT: [u8; 42] = *b"record(longin, \"a\") {\n  field(VAL, \"1\")\n}\n";

@@ -17,21 +17,30 @@ struct Long {
 // A record that awaits its device.
 const AWAITING: Part = (0, 1, &[Words("record(longin,\"p\"){field(INP,\"@d\")}")]);
 
+// The replies to 256 puts with notification.
+const STARTED: Part = (1, 257, &[Words("ok notify "), Here, Words("\n")]);
+
+// Records with a forward link to the next.
+const CHAIN: Part = (
+    0,
+    99_999,
+    &[
+        Words("record(longin,r"),
+        Here,
+        Words("){field(FLNK,\"r"),
+        Next,
+        Words("\")}\n"),
+    ],
+);
+
+// A database with one record and no link.
+const SINGLE: &[Part] = &[(0, 1, &[Words("record(longin,\"a\"){field(VAL,\"3\")}")])];
+
 static LONG: [Long; 11] = [
     Long {
         name: "a chain of forward links",
         db: &[
-            (
-                0,
-                99_999,
-                &[
-                    Words("record(longin,r"),
-                    Here,
-                    Words("){field(FLNK,\"r"),
-                    Next,
-                    Words("\")}\n"),
-                ],
-            ),
+            CHAIN,
             (0, 1, &[Words("record(longin,r99999){field(FLNK,\"\")}\n")]),
         ],
         script: &[(
@@ -44,17 +53,7 @@ static LONG: [Long; 11] = [
     Long {
         name: "a ring of forward links",
         db: &[
-            (
-                0,
-                99_999,
-                &[
-                    Words("record(longin,r"),
-                    Here,
-                    Words("){field(FLNK,\"r"),
-                    Next,
-                    Words("\")}\n"),
-                ],
-            ),
+            CHAIN,
             (
                 0,
                 1,
@@ -147,7 +146,7 @@ static LONG: [Long; 11] = [
             (0, 1, &[Words("cancel 256\nnotify p.VAL 1\n")]),
         ],
         wanted: &[
-            (1, 257, &[Words("ok notify "), Here, Words("\n")]),
+            STARTED,
             (0, 1, &[Words("E9 QueueFull\nok\nok notify 257\n")]),
         ],
     },
@@ -162,7 +161,7 @@ static LONG: [Long; 11] = [
             (0, 1, &[Words("notify p.VAL 1\ndone p 1 5\n")]),
         ],
         wanted: &[
-            (1, 257, &[Words("ok notify "), Here, Words("\n")]),
+            STARTED,
             (0, 1, &[Words("E9 QueueFull\nok\n")]),
             (1, 257, &[Words("ended "), Here, Words("\n")]),
         ],
@@ -220,13 +219,13 @@ static LONG: [Long; 11] = [
     },
     Long {
         name: "the longest line, a comment",
-        db: &[(0, 1, &[Words("record(longin,\"a\"){field(VAL,\"3\")}")])],
+        db: SINGLE,
         script: &[(0, 1024, &[Words("#")]), (0, 1, &[Words("\n")])],
         wanted: &[],
     },
     Long {
         name: "a line that is too long",
-        db: &[(0, 1, &[Words("record(longin,\"a\"){field(VAL,\"3\")}")])],
+        db: SINGLE,
         script: &[(0, 1025, &[Words("#")]), (0, 1, &[Words("\n")])],
         wanted: &[(0, 1, &[Words("bad\n")])],
     },

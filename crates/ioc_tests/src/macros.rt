@@ -1,6 +1,6 @@
 //! Loads of database texts with macros.
 use crate::facts::Fact::{self, Named, Shows};
-use crate::facts::{Definition, Made, defined, makes};
+use crate::facts::{Definition, Made, Refused, defined, first_unrefused, makes};
 use ioc_values::{BadDbKind, IocError};
 use std::alloc::Global;
 
@@ -55,35 +55,38 @@ fn texts_with_macros(rt: HostRuntime) {
     }
 }
 
-// Texts whose macros are wrong, if only A is defined, with the line and the kind of the fault.
-static BAD_MACROS: [(&[u8], u64, BadDbKind); 15] = [
-    (b"record(longin,\"$(P)x\")", 1, BadDbKind::Macro),
-    (b"? $(P)", 1, BadDbKind::Macro),
-    (b"\n$()", 2, BadDbKind::Macro),
-    (b"$(=1)", 1, BadDbKind::Macro),
-    (b"$( A )", 1, BadDbKind::Macro),
-    (b"$(A-B=1)", 1, BadDbKind::Macro),
-    (b"$(A", 1, BadDbKind::Macro),
-    (b"$(A\n)", 1, BadDbKind::Macro),
-    (b"${A)", 1, BadDbKind::Macro),
-    (b"$(B=$(A))", 1, BadDbKind::Macro),
-    (b"$(A=$)", 1, BadDbKind::Macro),
-    (b"$($(A))", 1, BadDbKind::Macro),
-    (b"$(A=#)", 1, BadDbKind::Macro),
+// Texts whose macros are wrong, if only A is defined.
+static BAD_MACROS: [Refused; 2] = [
+    (
+        BadDbKind::Macro,
+        &[
+            (1, b"record(longin,\"$(P)x\")"),
+            (1, b"? $(P)"),
+            (2, b"\n$()"),
+            (1, b"$(=1)"),
+            (1, b"$( A )"),
+            (1, b"$(A-B=1)"),
+            (1, b"$(A"),
+            (1, b"$(A\n)"),
+            (1, b"${A)"),
+            (1, b"$(B=$(A))"),
+            (1, b"$(A=$)"),
+            (1, b"$($(A))"),
+            (1, b"$(A=#)"),
+            (2, b"\n$(A"),
+        ],
+    ),
     // A number sign from a macro begins no comment.
-    (b"record(longin,a)$(A)", 1, BadDbKind::Syntax),
-    (b"\n$(A", 2, BadDbKind::Macro),
+    (BadDbKind::Syntax, &[(1, b"record(longin,a)$(A)")]),
 ];
 
 #[test]
 fn macros_that_cannot_be_replaced(rt: HostRuntime) {
-    for (text, line, kind) in &BAD_MACROS {
-        let wanted = Made::Fault(*line, *kind);
-        assert!(rt;
-            makes(rt.alloc(), &[(b"A", b"#")], text, wanted),
-            "{text:?}"
-        );
-    }
+    let definitions = [(b"A".as_slice(), b"#".as_slice())];
+    assert_eq!(rt;
+        first_unrefused(rt.alloc(), &definitions, &BAD_MACROS),
+        None
+    );
 }
 
 static BAD_NAMES: [&[u8]; 5] = [b"", b"A-B", b" A", b"A$", b"\xc3\xa4"];

@@ -1,6 +1,5 @@
-use Rattle.std.proofs.Common.{◌≡◌, rules}
+use Rattle.std.proofs.Common.{rules}
 use Rattle.ioc_dblex.specs.SeenToken.{seen}
-use Rattle.ioc_dbparse.specs.Statements.{statement_at}
 use Rattle.ioc_dbparse.proofs.Taking.{first_statement}
 use Rattle.ioc_dbparse.proofs.statements.statement_at.Goals as goal
 

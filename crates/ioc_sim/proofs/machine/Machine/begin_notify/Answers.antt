@@ -1,34 +1,17 @@
-use Rattle.std.proofs.Common.{refl, ◌∙◌}
-use Rattle.rec_types.specs.Record.{record_rules}
-use Rattle.ioc_store.specs.OneMap.{world_of}
-use Rattle.ioc_store.specs.World.{begun}
+use Rattle.std.proofs.Common.{◌∙◌}
 use Rattle.ioc_events.specs.declared.event.Event.TheVariants.{Notify}
 use Rattle.ioc_events.specs.SetReply.{told_by}
-use Rattle.ioc_sim.proofs.Closing.{settled_same, room_same}
-use Rattle.ioc_sim.proofs.Eventing.{event_on}
+use Rattle.ioc_sim.proofs.Eventing.{room_on, event_on}
 use Rattle.ioc_sim.proofs.machine.Machine.begin_notify.Goals as goal
 
-pub run_notify-requires-clause-closed : goal.run_notify-requires-clause-closed
-run_notify-requires-clause-closed c = (settled_same record_rules (world_of c.args.self.now.map) (world_of c.begin.new.self) c.begin.ensures.world c.args.self.now.settled).closed
-
-pub run_notify-requires-clause-room : goal.run_notify-requires-clause-room
-run_notify-requires-clause-room c = room_same (world_of c.args.self.now.map) (world_of c.begin.new.self) _ c.begin.ensures.world c.args.self.now.room
-
 pub invariant_of-self : goal.invariant_of-self
-invariant_of-self c =
-    let is = event_on c.args.self.now (Notify c.args.number c.args.notification c.args.field c.args.given) c.begin.new.self c.run_notify.new.store c.begin.ensures.world
-    c.begin.ensures.devices c.run_notify.new.tally (told_by c.run_notify.result) c.run_notify.ensures.given c.run_notify.ensures.step
-    in
-    let room = room_same (world_of c.args.self.now.map) (world_of c.begin.new.self) _ c.begin.ensures.world c.args.self.now.room in
-    record {
-      settled = is.settled c.event_leaves_settled.ensures (settled_same record_rules (world_of c.args.self.now.map) (begun (world_of c.args.self.now.map)) refl c.args.self.now.settled);
-      empty = c.run_notify.ensures.empty;
-      room = rw (c.run_notify.ensures.keeps.count, c.run_notify.ensures.room) room;
-    }
+invariant_of-self c = record {
+  settled = (event_on c.args.self.now (Notify c.args.number c.args.notification c.args.field c.args.given) c.begin.new.self c.run_notify.new.store c.begin.ensures.world c.begin.ensures.devices c.run_notify.new.tally (told_by c.run_notify.result) c.run_notify.ensures.given c.run_notify.ensures.step).settled c.event_leaves_settled.ensures;
+  empty = c.run_notify.ensures.empty;
+  room = rw (c.run_notify.ensures.keeps.count, c.run_notify.ensures.room) (room_on c.args.self.now c.begin.new.self c.begin.ensures.world);
+}
 
 pub returns : goal.returns
 returns c =
-    let is = event_on c.args.self.now (Notify c.args.number c.args.notification c.args.field c.args.given) c.begin.new.self c.run_notify.new.store c.begin.ensures.world
-    c.begin.ensures.devices c.run_notify.new.tally (told_by c.run_notify.result) c.run_notify.ensures.given c.run_notify.ensures.step
-    in
-    (is.machine, c.reply.ensures ∙ is.reply_is)
+    let is = event_on c.args.self.now (Notify c.args.number c.args.notification c.args.field c.args.given) c.begin.new.self c.run_notify.new.store c.begin.ensures.world c.begin.ensures.devices c.run_notify.new.tally (told_by c.run_notify.result) c.run_notify.ensures.given c.run_notify.ensures.step in
+    (is.gives.0, c.reply.ensures ∙ is.gives.1)

@@ -1,34 +1,17 @@
-use Rattle.std.proofs.Common.{refl, ◌∙◌}
-use Rattle.rec_types.specs.Record.{record_rules}
-use Rattle.ioc_store.specs.OneMap.{world_of}
-use Rattle.ioc_store.specs.World.{begun}
+use Rattle.std.proofs.Common.{◌∙◌}
 use Rattle.ioc_events.specs.declared.event.Event.TheVariants.{Complete}
 use Rattle.ioc_events.specs.SetReply.{told_by}
-use Rattle.ioc_sim.proofs.Closing.{settled_same, room_same}
-use Rattle.ioc_sim.proofs.Eventing.{event_on}
+use Rattle.ioc_sim.proofs.Eventing.{room_on, event_on}
 use Rattle.ioc_sim.proofs.machine.Machine.finish.Goals as goal
 
-pub run_complete-requires-clause-closed : goal.run_complete-requires-clause-closed
-run_complete-requires-clause-closed c = (settled_same record_rules (world_of c.args.self.now.map) (world_of c.begin.new.self) c.begin.ensures.world c.args.self.now.settled).closed
-
-pub run_complete-requires-clause-room : goal.run_complete-requires-clause-room
-run_complete-requires-clause-room c = room_same (world_of c.args.self.now.map) (world_of c.begin.new.self) _ c.begin.ensures.world c.args.self.now.room
-
 pub invariant_of-self : goal.invariant_of-self
-invariant_of-self c =
-    let is = event_on c.args.self.now (Complete c.args.number c.args.wait c.args.finished) c.begin.new.self c.run_complete.new.store c.begin.ensures.world
-    c.begin.ensures.devices c.run_complete.new.tally (told_by c.run_complete.result) c.run_complete.ensures.given c.run_complete.ensures.step
-    in
-    let room = room_same (world_of c.args.self.now.map) (world_of c.begin.new.self) _ c.begin.ensures.world c.args.self.now.room in
-    record {
-      settled = is.settled c.event_leaves_settled.ensures (settled_same record_rules (world_of c.args.self.now.map) (begun (world_of c.args.self.now.map)) refl c.args.self.now.settled);
-      empty = c.run_complete.ensures.empty;
-      room = rw (c.run_complete.ensures.keeps.count, c.run_complete.ensures.room) room;
-    }
+invariant_of-self c = record {
+  settled = (event_on c.args.self.now (Complete c.args.number c.args.wait c.args.finished) c.begin.new.self c.run_complete.new.store c.begin.ensures.world c.begin.ensures.devices c.run_complete.new.tally (told_by c.run_complete.result) c.run_complete.ensures.given c.run_complete.ensures.step).settled c.event_leaves_settled.ensures;
+  empty = c.run_complete.ensures.empty;
+  room = rw (c.run_complete.ensures.keeps.count, c.run_complete.ensures.room) (room_on c.args.self.now c.begin.new.self c.begin.ensures.world);
+}
 
 pub returns : goal.returns
 returns c =
-    let is = event_on c.args.self.now (Complete c.args.number c.args.wait c.args.finished) c.begin.new.self c.run_complete.new.store c.begin.ensures.world
-    c.begin.ensures.devices c.run_complete.new.tally (told_by c.run_complete.result) c.run_complete.ensures.given c.run_complete.ensures.step
-    in
-    (is.machine, c.reply.ensures ∙ is.reply_is)
+    let is = event_on c.args.self.now (Complete c.args.number c.args.wait c.args.finished) c.begin.new.self c.run_complete.new.store c.begin.ensures.world c.begin.ensures.devices c.run_complete.new.tally (told_by c.run_complete.result) c.run_complete.ensures.given c.run_complete.ensures.step in
+    (is.gives.0, c.reply.ensures ∙ is.gives.1)

@@ -1,13 +1,9 @@
 use Rattle.std.proofs.Common.{◌≡◌, ℕ, ◌≤◌, refl, sym, ap, ◌∙◌}
 use Rattle.std.specs.FinMap.{len}
 use Rattle.ioc_device.specs.declared.Answer.TheVariants.{Fault}
-use Rattle.rec_types.specs.Record.{record_rules}
-use Rattle.ioc_store.specs.OneMap.{world_of}
-use Rattle.ioc_store.specs.World.{begun}
 use Rattle.ioc_store.specs.Given.{Answers}
 use Rattle.ioc_events.specs.declared.event.Event.TheVariants.{Link}
-use Rattle.ioc_sim.proofs.Closing.{settled_same, room_same}
-use Rattle.ioc_sim.proofs.Eventing.{event_alone_on}
+use Rattle.ioc_sim.proofs.Eventing.{settled_on, room_on, event_alone_on}
 use Rattle.ioc_sim.proofs.machine.Machine.relink.Goals as goal
 
 -- A link change calls no device.
@@ -19,20 +15,13 @@ same_count is few = rw is few
 
 pub invariant_of-self : goal.invariant_of-self
 invariant_of-self c =
-    let is = event_alone_on c.args.self.now (Link c.args.number c.args.field c.args.link) c.begin.new.self c.run_link.new.store
-    c.begin.ensures.world c.begin.ensures.devices c.run_link.result c.run_link.ensures.given refl c.run_link.ensures.step
-    in
-    let settled = settled_same record_rules (world_of c.args.self.now.map) (world_of c.begin.new.self) c.begin.ensures.world c.args.self.now.settled in
+    let settled = settled_on c.args.self.now c.begin.new.self c.begin.ensures.world in
     let step = c.run_link.ensures.step no_answers in
     record {
-      settled = is.settled c.event_leaves_settled.ensures (settled_same record_rules (world_of c.args.self.now.map) (begun (world_of c.args.self.now.map)) refl c.args.self.now.settled);
+      settled = (event_alone_on c.args.self.now (Link c.args.number c.args.field c.args.link) c.begin.new.self c.run_link.new.store c.begin.ensures.world c.begin.ensures.devices c.run_link.result c.run_link.ensures.given refl c.run_link.ensures.step).settled c.event_leaves_settled.ensures;
       empty = c.args.self.now.empty;
-      room = same_count (sym (ap (λ s. len s.world.records) step) ∙ c.event_keeps_count.ensures no_answers _ _ settled.closed) (room_same (world_of c.args.self.now.map) (world_of c.begin.new.self) _ c.begin.ensures.world c.args.self.now.room);
+      room = same_count (sym (ap (λ s. len s.world.records) step) ∙ c.event_keeps_count.ensures no_answers _ _ settled.closed) (room_on c.args.self.now c.begin.new.self c.begin.ensures.world);
     }
 
 pub returns : goal.returns
-returns c =
-    let is = event_alone_on c.args.self.now (Link c.args.number c.args.field c.args.link) c.begin.new.self c.run_link.new.store
-    c.begin.ensures.world c.begin.ensures.devices c.run_link.result c.run_link.ensures.given refl c.run_link.ensures.step
-    in
-    (is.machine, is.reply_is)
+returns c = (event_alone_on c.args.self.now (Link c.args.number c.args.field c.args.link) c.begin.new.self c.run_link.new.store c.begin.ensures.world c.begin.ensures.devices c.run_link.result c.run_link.ensures.given refl c.run_link.ensures.step).gives

@@ -1,35 +1,15 @@
-use Rattle.std.proofs.Common.{refl}
 use Rattle.ioc_values.specs.Conversion.{input_of}
-use Rattle.rec_types.specs.Record.{record_rules}
-use Rattle.ioc_store.specs.OneMap.{world_of}
-use Rattle.ioc_store.specs.World.{begun}
 use Rattle.ioc_events.specs.declared.event.Event.TheVariants.{Put}
 use Rattle.ioc_events.specs.Events.{reply_of}
-use Rattle.ioc_sim.proofs.Closing.{settled_same, room_same}
-use Rattle.ioc_sim.proofs.Eventing.{event_on}
+use Rattle.ioc_sim.proofs.Eventing.{room_on, event_on}
 use Rattle.ioc_sim.proofs.machine.Machine.store.Goals as goal
 
-pub make_spelled_put-requires-clause-closed : goal.make_spelled_put-requires-clause-closed
-make_spelled_put-requires-clause-closed c = (settled_same record_rules (world_of c.args.self.now.map) (world_of c.begin.new.self) c.begin.ensures.world c.args.self.now.settled).closed
-
-pub make_spelled_put-requires-clause-room : goal.make_spelled_put-requires-clause-room
-make_spelled_put-requires-clause-room c = room_same (world_of c.args.self.now.map) (world_of c.begin.new.self) _ c.begin.ensures.world c.args.self.now.room
-
 pub invariant_of-self : goal.invariant_of-self
-invariant_of-self c =
-    let is = event_on c.args.self.now (Put c.args.number c.args.field (input_of c.args.text.now)) c.begin.new.self c.make_spelled_put.new.store c.begin.ensures.world
-    c.begin.ensures.devices c.make_spelled_put.new.tally (reply_of c.make_spelled_put.result) c.make_spelled_put.ensures.given c.make_spelled_put.ensures.step
-    in
-    let room = room_same (world_of c.args.self.now.map) (world_of c.begin.new.self) _ c.begin.ensures.world c.args.self.now.room in
-    record {
-      settled = is.settled c.event_leaves_settled.ensures (settled_same record_rules (world_of c.args.self.now.map) (begun (world_of c.args.self.now.map)) refl c.args.self.now.settled);
-      empty = c.make_spelled_put.ensures.empty;
-      room = rw (c.make_spelled_put.ensures.keeps.count, c.make_spelled_put.ensures.room) room;
-    }
+invariant_of-self c = record {
+  settled = (event_on c.args.self.now (Put c.args.number c.args.field (input_of c.args.text.now)) c.begin.new.self c.make_spelled_put.new.store c.begin.ensures.world c.begin.ensures.devices c.make_spelled_put.new.tally (reply_of c.make_spelled_put.result) c.make_spelled_put.ensures.given c.make_spelled_put.ensures.step).settled c.event_leaves_settled.ensures;
+  empty = c.make_spelled_put.ensures.empty;
+  room = rw (c.make_spelled_put.ensures.keeps.count, c.make_spelled_put.ensures.room) (room_on c.args.self.now c.begin.new.self c.begin.ensures.world);
+}
 
 pub returns : goal.returns
-returns c =
-    let is = event_on c.args.self.now (Put c.args.number c.args.field (input_of c.args.text.now)) c.begin.new.self c.make_spelled_put.new.store c.begin.ensures.world
-    c.begin.ensures.devices c.make_spelled_put.new.tally (reply_of c.make_spelled_put.result) c.make_spelled_put.ensures.given c.make_spelled_put.ensures.step
-    in
-    (is.machine, is.reply_is)
+returns c = (event_on c.args.self.now (Put c.args.number c.args.field (input_of c.args.text.now)) c.begin.new.self c.make_spelled_put.new.store c.begin.ensures.world c.begin.ensures.devices c.make_spelled_put.new.tally (reply_of c.make_spelled_put.result) c.make_spelled_put.ensures.given c.make_spelled_put.ensures.step).gives
