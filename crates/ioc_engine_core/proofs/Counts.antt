@@ -4,7 +4,7 @@ use Rattle.std.proofs.lemmas.List.Sums.{sum_by-cons}
 use Rattle.std.specs.List.{sum_by}
 use Rattle.ioc_ledger.specs.declared.tally.Tally.{Tally}
 use Rattle.ioc_ledger.specs.Requests.{filled, no_counts}
-use Rattle.ioc_set.specs.Linking.{added}
+use Rattle.ioc_ledger.specs.Requests.{added}
 use Rattle.ioc_journaled_set.specs.Holding.{HeldView}
 use Rattle.ioc_engine_core.specs.Ended.{counts_in}
 

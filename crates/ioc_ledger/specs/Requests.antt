@@ -1,5 +1,5 @@
 -- Requests with those that they caused, and their counts.
-use Rattle.std.specs.Prelude.{◌≡◌, ℕ, zero, suc, ◌+◌, ◌-◌, ◌^◌, ◌<◌, ◌⊎◌, min, Option, Some, None as Nothing_}
+use Rattle.std.specs.Prelude.{◌≡◌, ℕ, zero, suc, ◌+◌, ◌-◌, ◌^◌, ◌<◌, ◌⊎◌, min, Bool, if◌then◌else◌, Option, Some, None as Nothing_}
 use Rattle.ioc_ledger.specs.declared.outcome.Outcome.{Outcome}
 use Rattle.ioc_ledger.specs.declared.outcome.Outcome.TheVariants.{Processed, Disabled, Active, Reprocess}
 use Rattle.ioc_ledger.specs.declared.tally.Tally.{Tally}
@@ -48,6 +48,11 @@ counted_started t count = record t { started = more_by t.started count }
 abbrev pub counted_completion : Tally → Tally
 counted_completion t = record t { completed = more t.completed }
 
+-- The tally with the requests of an event counted, the calls that are answered later, and a
+-- completion if the event is one.
+abbrev pub counted_all : Tally → Requests → ℕ → Bool → Tally
+counted_all t requests later completes = let begun = counted_started (counted t requests) later in if completes then counted_completion begun else begun
+
 -- The outcome of the first request.
 abbrev pub first_outcome : Requests → Option Outcome
 first_outcome None = Nothing_
@@ -75,9 +80,25 @@ nodes_of wanted (Request outcome caused later) = nodes_of wanted caused + (one_i
 abbrev pub filled : ℕ → ℕ → ℕ
 filled n count = min (2 ^ 64 - 1) (n + count)
 
+-- The sum of two tallies, each count up to 2^64 - 1.
+abbrev pub added : Tally → Tally → Tally
+added t u = record {
+  begun = filled t.begun u.begun;
+  processed = filled t.processed u.processed;
+  disabled = filled t.disabled u.disabled;
+  active = filled t.active u.active;
+  reprocess = filled t.reprocess u.reprocess;
+  started = filled t.started u.started;
+  completed = filled t.completed u.completed;
+}
+
 -- Holds if each count of requests fits 64 bits.
 abbrev pub Fits : Tally → Type 0
 Fits t = (t.begun < 2 ^ 64) × (t.processed < 2 ^ 64) × (t.disabled < 2 ^ 64) × (t.active < 2 ^ 64) × (t.reprocess < 2 ^ 64)
+
+-- Holds if each count fits 64 bits.
+abbrev pub FitsAll : Tally → Type 0
+FitsAll t = Fits t × (t.started < 2 ^ 64) × (t.completed < 2 ^ 64)
 
 -- Holds if the requests begun are those processed, disabled, active or marked for reprocessing, or
 -- if the count of those begun is full.

@@ -1,5 +1,5 @@
 //! Tickets, each of which is spent or handed back at most once. Those that are out are counted.
-ghost use Rattle.std.specs.Prelude.{◌≡◌, ◌+◌, ◌<◌, ◌^◌, ◌-◌, true, false};
+ghost use Rattle.std.specs.Prelude.{◌≡◌, ◌+◌, ◌<◌, ◌≤◌, ◌^◌, ◌-◌, ◌↔◌, IsTrue, true, false};
 ghost use Rattle.ioc_ledger.specs.Counts.{counts, AddUp};
 
 use std::marker::Model;
@@ -24,6 +24,46 @@ impl<B: ledger::Ledger> Model for Ticket<B> {
     ghost view = { λ t. is_some t.share };
 
     ghost invariant = { λ t. IfSome t.share (λ s. (s.parts ≡ 1) × (s.amount ≡ 1)) };
+}
+
+/// The rights to some requests, which were begun together. Contracts see how many of them are
+/// counted: all of those that are left, or none if they were begun after 2^64 - 1 others.
+#[derive(Drop)]
+pub struct Tickets<B: ledger::Ledger> {
+    share: Share<B>,
+    count: u64,
+}
+
+impl<B: ledger::Ledger> Model for Tickets<B> {
+    ghost use Rattle.std.specs.Prelude.{◌≡◌, ℕ};
+
+    ghost Value = { ℕ };
+
+    ghost view = { λ t. t.count };
+
+    ghost invariant = { λ t. (t.share.parts ≡ t.count) × (t.share.amount ≡ t.count) };
+}
+
+impl<B: ledger::Ledger> Tickets<B> {
+    /// Returns whether no counted ticket is left.
+    pub fn is_empty(&self) -> bool
+        ensures { IsTrue result ↔ (self.now ≡ 0) }
+    {
+        self.count == 0
+    }
+
+    /// Takes one of the tickets. It isn't counted if no counted one is left.
+    pub fn take(&mut self) -> Ticket<B>
+        ensures counted { 0 < self.old → (result ≡ true) × (self.new + 1 ≡ self.old) }
+        ensures uncounted { self.old ≡ 0 → (result ≡ false) × (self.new ≡ 0) }
+    {
+        if self.count == 0 {
+            return Ticket { share: None };
+        }
+        self.count -= 1;
+        let one = self.share.split_off(1, 1);
+        Ticket { share: Some(one) }
+    }
 }
 
 /// Counts the tickets that were begun, spent and handed back. A dropped ticket stays out.
@@ -79,6 +119,27 @@ impl<B: ledger::Ledger> Ledger<B> {
         Ticket { share: Some(share) }
     }
 
+    /// Begins some tickets at once. If more than 2^64 - 1 would have been begun then, the counts
+    /// don't change, and none of these is counted.
+    pub fn begin_many(&mut self, count: u64) -> Tickets<B>
+        ensures counted { self.old.begun + count < 2 ^ 64
+            → (result ≡ count) × (self.new ≡ counts (self.old.begun + count) self.old.spent self.old.back (self.old.out + count)) }
+        ensures full { 2 ^ 64 ≤ self.old.begun + count → (result ≡ 0) × (self.new ≡ self.old) }
+    {
+        match self.begun.checked_add(count) {
+            Some(begun) if count > 0 => {
+                self.begun = begun;
+                self.book.add(&mut self.pool, count);
+                let share = self.pool.split_off(count, count);
+                Tickets { share, count }
+            }
+            _ => Tickets {
+                share: self.pool.empty(),
+                count: 0,
+            },
+        }
+    }
+
     /// Spends the ticket of a request.
     pub fn spend(&mut self, ticket: Ticket<B>)
         ensures counted { ticket ≡ true → (self.new.begun ≡ self.old.begun) × (self.new.spent ≡ self.old.spent + 1) × (self.new.back ≡ self.old.back) × (self.new.out + 1 ≡ self.old.out) }
@@ -97,6 +158,20 @@ impl<B: ledger::Ledger> Ledger<B> {
         if take_in(&mut self.book, &mut self.pool, ticket) {
             self.back += 1;
         }
+    }
+
+    /// Takes back the tickets of requests that weren't made.
+    pub fn hand_back_many(&mut self, tickets: Tickets<B>)
+        ensures begun { self.new.begun ≡ self.old.begun }
+        ensures spent { self.new.spent ≡ self.old.spent }
+        ensures back { self.new.back ≡ self.old.back + tickets }
+        ensures out { self.new.out + tickets ≡ self.old.out }
+    {
+        let Tickets { mut share, count } = tickets;
+        self.book.audit(&mut share);
+        self.book.sub(&mut share, count);
+        self.pool.merge(share);
+        self.back += count;
     }
 
     /// Returns the number of tickets that were begun.

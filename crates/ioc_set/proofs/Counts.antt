@@ -4,7 +4,9 @@ use Rattle.std.proofs.Common.{◌≡◌, ℕ, zero, suc, ◌+◌, ◌-◌, ◌^�
 use Rattle.std.proofs.lemmas.Bool.{eqb-true, eqb-false, cases_lt}
 use Rattle.ioc_ledger.specs.declared.tally.Tally.{Tally}
 use Rattle.ioc_ledger.specs.Requests.{filled, more, more_by, counted_started, counted_completion}
-use Rattle.ioc_set.specs.Linking.{added, less_awaited, awaited_alone}
+use Rattle.ioc_set.specs.Linking.{awaited_alone}
+use Rattle.ioc_ledger.specs.Requests.{added}
+use Rattle.ioc_ledger.specs.Shared.{less_awaited}
 use Rattle.ioc_set.specs.Sound.{CountsAddUp}
 use Rattle.ioc_set.proofs.Sums.{added_fits, added_adds_up, filled-fits}
 

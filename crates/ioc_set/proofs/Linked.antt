@@ -22,7 +22,9 @@ use Rattle.ioc_set_store.specs.Recounting.{own_waiting, AreLive}
 use Rattle.ioc_set.specs.SetState.{SetState, now_of}
 use Rattle.ioc_set_store.specs.Resting.{resting}
 use Rattle.ioc_set.specs.Doing.{held_by}
-use Rattle.ioc_set.specs.Linking.{anew, added, AreCalm, AreHeld, FallsApart, BecomeOne, less_awaited, awaited_alone}
+use Rattle.ioc_set.specs.Linking.{anew, AreCalm, AreHeld, FallsApart, BecomeOne, awaited_alone}
+use Rattle.ioc_ledger.specs.Requests.{added}
+use Rattle.ioc_ledger.specs.Shared.{less_awaited}
 use Rattle.ioc_set.specs.Sound.{IsSound, CountsAddUp}
 use Rattle.ioc_set.proofs.Anew.{WereNone, none_anew, begun_anew, begun_folded, own_base}
 use Rattle.ioc_set.proofs.HeldRecords.{StaysHeld, rewired-stays, part_held, goes_along, Within, within_on, within_relinked, within_first, within_second}

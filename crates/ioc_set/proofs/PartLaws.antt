@@ -16,7 +16,8 @@ use Rattle.ioc_store.specs.Scanning.{device_of, rewired}
 use Rattle.ioc_set.specs.SetState.{SetState, now_of}
 use Rattle.ioc_set_store.specs.Resting.{resting}
 use Rattle.ioc_set.specs.Doing.{with_kept}
-use Rattle.ioc_set.specs.Linking.{anew, added, FallsApart, link_change_of}
+use Rattle.ioc_set.specs.Linking.{anew, FallsApart, link_change_of}
+use Rattle.ioc_ledger.specs.Requests.{added}
 use Rattle.ioc_set.proofs.Linked.{has_begun, was_begun}
 use Rattle.ioc_set.proofs.Rescans.{rewired-keeps, own_record, rescanned_left, rescanned_shared}
 

@@ -3,7 +3,7 @@ use Rattle.std.proofs.Common.{◌≡◌, ℕ, ◌+◌, ◌-◌, ◌^◌, ◌<◌
 use Rattle.std.proofs.lemmas.Bool.{cases_lt}
 use Rattle.ioc_ledger.specs.declared.tally.Tally.{Tally}
 use Rattle.ioc_ledger.specs.Requests.{filled, Fits, AddsUp}
-use Rattle.ioc_set.specs.Linking.{added}
+use Rattle.ioc_ledger.specs.Requests.{added}
 
 pub filled-fits : (n a : ℕ) → filled n a < 2 ^ 64
 filled-fits n a = omega arith

@@ -9,7 +9,8 @@ use Rattle.ioc_fields.specs.declared.field_no.FieldNo.{FieldNo}
 use Rattle.ioc_dbcommon.specs.declared.link_field.LinkField.{LinkField}
 use Rattle.ioc_dbcommon.specs.Links.{no_link}
 use Rattle.ioc_ledger.specs.declared.tally.Tally.{Tally}
-use Rattle.ioc_ledger.specs.Requests.{filled, no_counts}
+use Rattle.ioc_ledger.specs.Requests.{added, no_counts}
+use Rattle.ioc_ledger.specs.Shared.{less_awaited}
 use Rattle.ioc_notify.specs.declared.live_numbers.Live.{Live}
 use Rattle.ioc_notify.specs.declared.waiting_lists.Waiting.{Waiting}
 use Rattle.ioc_record.specs.RecordRules.{RecordRules}
@@ -36,23 +37,6 @@ anew rs ds live waiting counts = record {
   base = record { records = rs; live = live; waiting = waiting; tally = counts };
   history = [];
 }
-
--- The sum of two tallies, each count up to the largest number.
-abbrev pub added : Tally → Tally → Tally
-added t u = record {
-  begun = filled t.begun u.begun;
-  processed = filled t.processed u.processed;
-  disabled = filled t.disabled u.disabled;
-  active = filled t.active u.active;
-  reprocess = filled t.reprocess u.reprocess;
-  started = filled t.started u.started;
-  completed = filled t.completed u.completed;
-}
-
--- The tally with this many fewer calls that are answered later, which another set counts. A full
--- count stays full.
-abbrev pub less_awaited : Tally → ℕ → Tally
-less_awaited t count = record t { started = if t.started == 2 ^ 64 - 1 then t.started else t.started - count }
 
 -- The tally with this many calls that are answered later, and nothing else.
 abbrev pub awaited_alone : ℕ → Tally

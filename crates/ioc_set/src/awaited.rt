@@ -1,7 +1,8 @@
 //! The completions that the records of a set await.
 ghost use Rattle.std.specs.Prelude.{◌≡◌};
 ghost use Rattle.ioc_set.specs.Awaiting.{awaited};
-ghost use Rattle.ioc_set.specs.Linking.{less_awaited, awaited_alone};
+ghost use Rattle.ioc_set.specs.Linking.{awaited_alone};
+ghost use Rattle.ioc_ledger.specs.Shared.{less_awaited};
 
 use ioc_ledger::Tally;
 use ioc_record::RecordKind;

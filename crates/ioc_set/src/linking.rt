@@ -6,7 +6,7 @@ ghost use Rattle.ioc_store.specs.Scanning.{rewired};
 ghost use Rattle.ioc_store.specs.World.{begun_at};
 ghost use Rattle.ioc_set.specs.Doing.{with_records};
 ghost use Rattle.ioc_set_store.specs.Resting.{resting};
-ghost use Rattle.ioc_set.specs.Linking.{added};
+ghost use Rattle.ioc_ledger.specs.Requests.{added};
 ghost use Rattle.ioc_set_store.specs.Puts.{begun_with};
 ghost use Rattle.ioc_set_store.specs.SetStore.{world_of};
 

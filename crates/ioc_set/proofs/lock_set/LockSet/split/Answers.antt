@@ -5,7 +5,9 @@ use Rattle.ioc_set_records.specs.Contents.{Records, Contents}
 use Rattle.ioc_ledger.specs.declared.tally.Tally.{Tally}
 use Rattle.ioc_set.specs.Awaiting.{awaited}
 use Rattle.ioc_set.specs.SetState.{SetState}
-use Rattle.ioc_set.specs.Linking.{added, less_awaited, awaited_alone}
+use Rattle.ioc_set.specs.Linking.{awaited_alone}
+use Rattle.ioc_ledger.specs.Requests.{added}
+use Rattle.ioc_ledger.specs.Shared.{less_awaited}
 use Rattle.ioc_set.specs.Sound.{CountsAddUp}
 use Rattle.ioc_set_store.specs.Puts.{Puts}
 use Rattle.ioc_set.specs.Doing.{held_by}
