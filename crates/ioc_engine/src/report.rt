@@ -6,15 +6,15 @@ ghost use Rattle.ioc_history.specs.Base.{IsBaseOf};
 ghost use Rattle.ioc_history.specs.Legal.{IsLegal, map_of};
 ghost use Rattle.ioc_journaled_set.specs.SameDevice.{IsDeviceOf};
 ghost use Rattle.ioc_engine_core.specs.Ended.{IsEnd, counts_in};
-ghost use Rattle.ioc_engine_core.specs.Once.{AreAllBack};
+ghost use Rattle.ioc_history.specs.Ticketed.{AreTicketed};
 ghost use Rattle.ioc_engine.specs.Stopped.{stopped_of, GivesBack};
 
 use crate::Receipt;
 use crate::engine::Engine;
 use crate::engine_name::EngineName;
 use ioc_device::Device;
-use ioc_engine_core::{OnceTally, Report as CoreReport};
-use ioc_history::{JournalBase, StoredEntry};
+use ioc_engine_core::Report as CoreReport;
+use ioc_history::{JournalBase, StoredEntry, TicketTally};
 use ioc_ledger::Tally;
 use ioc_names::RecordNo;
 use ioc_set_records::Slot;
@@ -90,7 +90,7 @@ impl<B: EngineName<D>, D: Device, C: Drop> Engine<B, D, C> {
     pub fn stop<R: Wait>(self, rt: &R) -> Report<B, D>
         ensures end { IsEnd record_rules B.base (IsDeviceOf D.gives B.devices) self.core result.core.journal.filled
             result.core.sets.items }
-        ensures once { AreAllBack result.core.once }
+        ensures tickets { AreTicketed record_rules B.base result.core.journal.filled result.core.tickets }
     {
         let Engine {
             core,
@@ -113,11 +113,20 @@ impl<B: EngineName<D>, D: Device> Report<B, D> {
         self.core.tally()
     }
 
-    /// Returns the counts of once requests and their tickets.
-    pub fn once(&self) -> OnceTally
-        ensures { result ≡ self.now.core.once }
+    /// Returns the numbers of tickets. Each request among the calls of the journal has spent one, and
+    /// one was begun for each once request that the events of these calls have sent. Those of once
+    /// requests that waited at the end or were dropped are handed back. Each number stops at 2^64 - 1.
+    pub fn tickets(&self) -> TicketTally
+        ensures { result ≡ self.now.core.tickets }
     {
-        self.core.once
+        self.core.tickets
+    }
+
+    /// Returns the number of once requests that were dropped because 1,000 waited.
+    pub fn once_dropped(&self) -> u64
+        ensures { result ≡ self.now.core.once_dropped }
+    {
+        self.core.once_dropped
     }
 
     /// Returns the number of items that events dropped, because an event may send 256 of them: once
@@ -175,7 +184,8 @@ impl<B: EngineName<D>, D: Device> Report<B, D> {
         let CoreReport {
             sets,
             journal: _,
-            once: _,
+            tickets: _,
+            once_dropped: _,
             dropped: _,
         } = core;
         let mut all = Vec::new(alloc);

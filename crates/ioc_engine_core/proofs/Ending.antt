@@ -1,27 +1,17 @@
--- Sets that are moved on to a longer list one after another.
-use Rattle.std.proofs.Common.{◌≡◌, ℕ, ◌<◌, ◌+◌, zero, suc, List, [], ◌∷◌, ◌++◌, length, map, take, refl, sym, ap, ◌∙◌, subst, inl, inr, ⊎_elim, arith}
-use Rattle.std.proofs.Math.ListN.{get_or, set}
+-- Sets that have moved on to a longer list.
+use Rattle.std.proofs.Common.{◌≡◌, ℕ, ◌<◌, zero, suc, List, [], ◌∷◌, ◌++◌, length, map, take, refl, sym, ap, ◌∙◌, subst, arith}
+use Rattle.std.proofs.Math.ListN.{get_or}
 use Rattle.std.proofs.Math.Seq.{take-append_seam}
-use Rattle.std.proofs.lemmas.Grind.{get_or-set_at}
-use Rattle.std.proofs.lemmas.List.{get_or-set_other, get_or-map, length-map}
-use Rattle.std.specs.Prelude.{◌⊎◌, Contains}
+use Rattle.std.proofs.lemmas.List.{get_or-map, length-map}
+use Rattle.std.specs.Prelude.{Contains, IsSome, All}
+use Rattle.std.specs.FinMap.{get, keys}
+use Rattle.ioc_notify.specs.Waits.{at_record}
+use Rattle.ioc_store.specs.World.{World}
+use Rattle.ioc_history.specs.Covering.{WaitsWithin}
+use Rattle.ioc_set.specs.SetState.{SetState, now_of}
+use Rattle.ioc_journaled_set.specs.Copies.{IsIn}
+use Rattle.ioc_journaled_set.specs.Holding.{HeldView}
 use Rattle.ioc_topology.specs.Gathered.{HoldEach}
-
-last_or_before : (i p : ℕ) → i < p + 1 → (i ≡ p) ⊎ (i < p)
-last_or_before zero zero lt = inl refl
-last_or_before zero (suc p) lt = inr (omega arith)
-last_or_before (suc i) zero lt = absurd (let z : ⊥ = omega (arith, lt) in z)
-last_or_before (suc i) (suc p) lt = ⊎_elim (λ e. inl (ap suc e)) (λ l. inr (let m : i < p = l in omega (arith, m))) (last_or_before i p (omega (arith, lt)))
-
--- A property of the elements before a place and of the one that is put there is one of all elements
--- up to the place.
-module _ {X : Type 0} (P : X → Type 0) (xs : List X) (p : ℕ) (x : X) (within : p < length xs) (before : (i : ℕ) (d : X) → i < p → P (get_or xs i d)) (here : P x) where
-  pub one_more : (i : ℕ) (d : X) → i < p + 1 → P (get_or (set xs p x) i d)
-  one_more i d lt =
-      ⊎_elim
-      (λ (e : i ≡ p). subst P (sym (get_or-set_at xs p i x d e within)) here)
-      (λ (l : i < p). subst P (sym (get_or-set_other xs p i x d (λ e. let m : i ≡ p = e in let z : ⊥ = omega (arith, l, m) in z))) (before i d l))
-      (last_or_before i p lt)
 
 -- An element within the list is the default of itself.
 get_or_self : {X : Type 0} (xs : List X) (i : ℕ) (d : X) → i < length xs → get_or xs i (get_or xs i d) ≡ get_or xs i d
@@ -63,3 +53,17 @@ module _ {X Y : Type 0} (f : X → Y) (numbers : Y → List ℕ) (xs ys : List X
 -- The first `length xs` elements of `xs ++ ys` are `xs`.
 pub whole : {X : Type 0} (xs ys : List X) (n : ℕ) → n ≡ length xs → take n (xs ++ ys) ≡ xs
 whole xs ys n is = ap (λ m. take m (xs ++ ys)) is ∙ take-append_seam xs ys
+
+-- A set is in a world by its records and waiting lists alone.
+in_by_set : {R D : Type 0} (m : World R) (before after : HeldView R D) → after.set ≡ before.set → IsIn m before → IsIn m after
+in_by_set {R} {D} m before after same is = record {
+  records = subst (λ (s : SetState R D). (n : ℕ) → IsSome (get s.records n) → get m.records n ≡ get s.records n) (sym same) is.records;
+  waiting = subst (λ (s : SetState R D). (n : ℕ) → IsSome (get s.records n) → at_record n m.waiting ≡ at_record n s.waiting) (sym same) is.waiting;
+  within = subst (λ (s : SetState R D). WaitsWithin (now_of s)) (sym same) is.within;
+}
+
+pub still_in : {R D : Type 0} (m : World R) (before after : List (HeldView R D)) → map (λ (h : HeldView R D). h.set) after ≡ map (λ (h : HeldView R D). h.set) before → All (IsIn m) before → All (IsIn m) after
+still_in {R} {D} m before after same are i d lt =
+    let e = as_long (λ (h : HeldView R D). h.set) (λ (s : SetState R D). keys s.records) before after same in
+    let other : i < length before = omega (arith, lt, e) in
+    in_by_set m (get_or before i d) (get_or after i d) (same_at (λ (h : HeldView R D). h.set) (λ (s : SetState R D). keys s.records) before after same i d lt) (are i d other)

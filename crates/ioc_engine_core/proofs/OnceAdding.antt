@@ -3,7 +3,8 @@ use Rattle.std.proofs.Common.{◌≡◌, ℕ, List, [], ◌∷◌, ◌++◌, ref
 use Rattle.ioc_store.specs.declared.outbox.OutboxItem.{OutboxItem}
 use Rattle.ioc_store.specs.declared.outbox.OutboxItem.TheVariants.{Once, Post, Change}
 use Rattle.ioc_callback.specs.Waiting.{OnceView}
-use Rattle.ioc_engine_core.specs.OnceRequests.{once_in, IsAdded, AreAdded}
+use Rattle.ioc_engine_core.specs.OnceRequests.{IsAdded, AreAdded}
+use Rattle.ioc_history.specs.Counting.{once_in}
 
 -- The once requests of `xs ++ ys` are those of `xs` followed by those of `ys`.
 pub once_in_both : (xs ys : List OutboxItem) → once_in (xs ++ ys) ≡ once_in xs ++ once_in ys

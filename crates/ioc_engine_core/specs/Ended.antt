@@ -1,26 +1,19 @@
 -- What is left of an engine when it ends. Application Developer's Guide, "Database Locking,
 -- Scanning, and Processing", lock sets. The journal is this project's own.
-use Rattle.std.specs.Prelude.{◌≡◌, ℕ, List, Option, IsSome, All}
+use Rattle.std.specs.Prelude.{ℕ, List, Option, All}
 use Rattle.std.specs.List.{sum_by}
-use Rattle.std.specs.FinMap.{get}
-use Rattle.ioc_notify.specs.Waits.{at_record}
 use Rattle.ioc_record.specs.RecordRules.{RecordRules}
 use Rattle.ioc_store.specs.World.{World}
 use Rattle.ioc_topology.specs.Gathered.{HoldEach}
 use Rattle.ioc_history.specs.declared.entry.Note.{Note}
 use Rattle.ioc_history.specs.Legal.{map_of}
 use Rattle.ioc_history.specs.Account.{IsAccount}
+use Rattle.ioc_journaled_set.specs.Copies.{IsIn}
 use Rattle.ioc_journaled_set.specs.Holding.{HeldView, KeepsDevices, numbers_of, IsSoundlyHeld}
 use Rattle.ioc_ledger.specs.declared.tally.Tally.{Tally}
 use Rattle.ioc_ledger.specs.Requests.{filled}
 
 module _ {R D : Type 0} (k : RecordRules R) (base : World R) where
-  -- Holds if, at the set's numbers, the list leads to the records of the set and to the puts with
-  -- notification that wait for them.
-  pub record IsAsTold (log : List Note) (h : HeldView R D) : Type 0 where
-    pub records : (n : ℕ) → IsSome (get h.set.records n) → get (map_of k base log).records n ≡ get h.set.records n
-    pub waiting : (n : ℕ) → IsSome (get h.set.records n) → at_record n (map_of k base log).waiting ≡ at_record n h.set.waiting
-
   -- The sets have each of the first `count` records, and none is in two of them. Each set is sound,
   -- so its records are one connected part, and each record has its device, of which `had` tells. The
   -- list of all calls is legal, and leads from the world at the load to the records of the sets and
@@ -29,7 +22,7 @@ module _ {R D : Type 0} (k : RecordRules R) (base : World R) where
     pub each : HoldEach numbers_of sets count
     pub sound : All (IsSoundlyHeld k base) sets
     pub devices : All (λ (h : HeldView R D). KeepsDevices had h.set) sets
-    pub told : All (IsAsTold log) sets
+    pub in_all : All (IsIn (map_of k base log)) sets
     pub legal : IsAccount k base log
 
 -- The sum of a count of these sets, which stops at the greatest number of 64 bits.

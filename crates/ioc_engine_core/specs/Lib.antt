@@ -4,6 +4,5 @@ pub mod Ended
 pub mod Linked
 pub mod Seen
 pub mod Cancelled
-pub mod Once
 pub use Rattle.ioc_journaled_set.specs.Holding
 pub mod OnceRequests

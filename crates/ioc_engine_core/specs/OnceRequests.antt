@@ -1,16 +1,7 @@
 -- The once requests that an event has sent, and the records that wait. Application Developer's
--- Guide, "Scanning": scanOnce. That each request has a ticket is this project's own.
+-- Guide, "Scanning": scanOnce.
 use Rattle.std.specs.Prelude.{◌≡◌, ◌<◌, ℕ, List, [], ◌∷◌, length}
-use Rattle.ioc_store.specs.declared.outbox.OutboxItem.{OutboxItem}
-use Rattle.ioc_store.specs.declared.outbox.OutboxItem.TheVariants.{Once, Post, Change}
 use Rattle.ioc_callback.specs.Waiting.{OnceView, IsKept, IsDropped}
-
--- The records of the once requests among these items, in order.
-abbrev pub once_in : List OutboxItem → List ℕ
-once_in [] = []
-once_in (Once number ∷ items) = number ∷ once_in items
-once_in (Post _ ∷ items) = once_in items
-once_in (Change _ ∷ items) = once_in items
 
 -- Holds if a record was appended to the queue, or was dropped because 1,000 waited.
 pub record IsAdded (number : ℕ) (before after : OnceView) : Type 0 where

@@ -11,13 +11,12 @@ ghost use Rattle.ioc_history.specs.Account.{IsAccount, calls, calls_by};
 ghost use Rattle.ioc_journaled_set.specs.Puts.{HaveEnded};
 ghost use Rattle.ioc_engine_core.specs.Served.{WasTold, WasServed, CallIsRefused};
 
-use crate::sending::OnceTickets;
 use ioc_callback::OnceQueue;
 use ioc_device::Device;
 use ioc_events::{Event, Reply};
 use ioc_fields::FieldNo;
-use ioc_history::{Desk, Receipt, SharedJournal};
-use ioc_journaled_set::{JournaledSet, SetsName, SharedNotifications};
+use ioc_history::{Desk, Receipt, RequestTickets, SharedJournal};
+use ioc_journaled_set::{JournaledSet, Served, SetsName, SharedNotifications};
 use ioc_names::RecordNo;
 use ioc_record::RecordKind;
 use ioc_set_store::EventBuffers;
@@ -37,7 +36,7 @@ pub struct EngineCore<K: RecordKind + Drop, B: SetsName<K, D>, D: Device> {
     // Locked while the lock of a set is held, and before the journal.
     pub(crate) puts: Mutex<SharedNotifications<K, B>>,
     // Locked while no other lock is held.
-    pub(crate) once: Mutex<OnceQueue<OnceTickets<K, B>>>,
+    pub(crate) once: Mutex<OnceQueue<RequestTickets<K, B>>>,
     // The number of items that events have dropped because 256 were sent already.
     pub(crate) dropped: AtomicU64,
 }
@@ -63,7 +62,7 @@ impl<K: RecordKind + Drop, B: SetsName<K, D>, D: Device> EngineCore<K, B, D> {
         sets: Directory<JournaledSet<K, B, D>>,
         book: SharedJournal<K, B>,
         puts: SharedNotifications<K, B>,
-        once: OnceQueue<OnceTickets<K, B>>,
+        once: OnceQueue<RequestTickets<K, B>>,
     ) -> Self
         requires known { (n : ℕ) → Has B.base n → n < sets }
         ensures { result ≡ sets }
@@ -172,7 +171,11 @@ impl<K: RecordKind + Drop, B: SetsName<K, D>, D: Device> EngineCore<K, B, D> {
         }
         let mut held = self.sets.lock_set(rt, number)?;
         let may_end = held.may_be_taken();
-        let (reply, receipt) = held.serve(
+        let Served {
+            reply,
+            receipt,
+            tickets,
+        } = held.serve(
             rt, alloc, &self.book, &self.puts, desk, buffers, event, moment,
         )?;
         held.is_sound();
@@ -180,7 +183,7 @@ impl<K: RecordKind + Drop, B: SetsName<K, D>, D: Device> EngineCore<K, B, D> {
             self.sets.settle_flag(number, &held);
         }
         drop(held);
-        self.do_sent(rt, buffers);
+        self.do_sent(rt, buffers, tickets);
         Ok((reply, receipt))
     }
 

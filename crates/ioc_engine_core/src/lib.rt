@@ -22,7 +22,7 @@ mod once_requests;
 pub mod opening;
 mod parts;
 pub mod report;
-pub mod sending;
+mod sending;
 pub mod starting;
 
 pub use ended_journal::EndedJournal;
@@ -30,6 +30,5 @@ pub use engine::EngineCore;
 pub use ioc_journaled_set::{JournaledSet, SharedNotifications};
 pub use loading::with_copies;
 pub use opening::new_cell;
-pub use report::{OnceTally, Report};
-pub use sending::OnceTickets;
+pub use report::Report;
 pub use starting::{StartError, start};

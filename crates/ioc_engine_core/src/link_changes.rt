@@ -95,7 +95,7 @@ impl<K: RecordKind + Drop, B: SetsName<K, D>, D: Device> EngineCore<K, B, D> {
         let changed = self.relink(
             rt, alloc, desk, buffers, &new, number, field, link, base_link, moment,
         )?;
-        self.do_sent(rt, buffers);
+        self.count_dropped(buffers);
         Ok(changed)
     }
 

@@ -12,7 +12,7 @@ use ioc_device::Device;
 use ioc_events::Reply;
 use ioc_fields::FieldNo;
 use ioc_history::{Desk, Receipt};
-use ioc_journaled_set::SetsName;
+use ioc_journaled_set::{Served, SetsName};
 use ioc_names::RecordNo;
 use ioc_notify::NotifyId;
 use ioc_record::RecordKind;
@@ -65,8 +65,12 @@ impl<K: RecordKind + Drop, B: SetsName<K, D>, D: Device> EngineCore<K, B, D> {
         held.is_sound();
         self.sets.settle_flag(number, &held);
         drop(held);
-        let (reply, receipt) = told?;
-        self.do_sent(rt, buffers);
+        let Served {
+            reply,
+            receipt,
+            tickets,
+        } = told?;
+        self.do_sent(rt, buffers, tickets);
         Ok((reply, receipt))
     }
 

@@ -13,11 +13,12 @@ ghost use Rattle.ioc_engine_core.specs.declared.starting.StartError.TheVariants.
 
 use crate::engine::EngineCore;
 use crate::holding::hold_all;
-use crate::sending::OnceTickets;
 use ioc_callback::OnceQueue;
 use ioc_device::Device;
 use ioc_history::legal_laws::lists_leave_sound;
-use ioc_history::{Cell, EngineName, Journal, KeyPass, Limits, SharedJournal, pass};
+use ioc_history::{
+    Cell, EngineName, Journal, KeyPass, Limits, RequestTickets, SharedJournal, TicketCounts, pass,
+};
 use ioc_journaled_set::{JournaledSet, SetsName, SharedNotifications};
 use ioc_record::RecordKind;
 use ioc_set_records::loaded_laws::dealt_sets_are_parts;
@@ -60,12 +61,10 @@ fn new_lists<K: RecordKind, B: EngineName<K>>(
     alloc: Global,
     cell: &Cell,
     master: &mut KeyPass,
-    tickets: Blank,
-) -> Result<(SharedNotifications<K, B>, OnceQueue<OnceTickets<K, B>>), AllocError>
+) -> Result<(SharedNotifications<K, B>, OnceQueue<RequestTickets<K, B>>), AllocError>
     requires table { (cell.now.table.shared.table_id ≡ B.table) × (master.old.table_id ≡ B.table) }
     requires master { cell_view master.old ≡ keeper [] (cell_view master.old).born }
     requires born { AreRecords (cell_view master.old).born }
-    requires tickets { (tickets.name ≡ B.tickets) × (tickets.parts ≡ 2 ^ 64 - 1) }
     requires none { B.base.live ≡ [] }
     ensures table { master.new.table_id ≡ B.table }
     ensures master { cell_view master.new ≡ keeper [] (cell_view master.new).born }
@@ -73,7 +72,7 @@ fn new_lists<K: RecordKind, B: EngineName<K>>(
 {
     let pass = pass::claim_key(cell, master, 2, 0);
     let puts = SharedNotifications::new(alloc, pass)?;
-    let once = OnceQueue::new(alloc, tickets)?;
+    let once = OnceQueue::new(alloc)?;
     Ok((puts, once))
 }
 
@@ -113,20 +112,18 @@ fn holdings<K: RecordKind + Drop, B: SetsName<K, D>, D: Device>(
     alloc: Global,
     cell: &Cell,
     master: &mut KeyPass,
-    tickets: Blank,
     all: Vec<Loaded<K, D>>,
     parts: &[usize],
 ) -> Result<
     (
         Directory<JournaledSet<K, B, D>>,
         SharedNotifications<K, B>,
-        OnceQueue<OnceTickets<K, B>>,
+        OnceQueue<RequestTickets<K, B>>,
     ),
     AllocError,
 >
     requires table { (cell.now.table.shared.table_id ≡ B.table) × (master.old.table_id ≡ B.table) }
     requires master { cell_view master.old ≡ keeper [] [] }
-    requires tickets { (tickets.name ≡ B.tickets) × (tickets.parts ≡ 2 ^ 64 - 1) }
     requires base { B.base ≡ loaded_world all.items }
     requires devices { B.devices ≡ device_in all.items }
     requires copies { All (λ l. l.base ≡ l.fields) all.items }
@@ -143,13 +140,13 @@ fn holdings<K: RecordKind + Drop, B: SetsName<K, D>, D: Device>(
     lists_leave_sound::<K>();
     let mut sets = deal(alloc, all, parts)?;
     let directory = hold_all::<K, B, D>(alloc, cell, master, sets.as_mut_slice(), parts)?;
-    let (puts, once) = new_lists::<K, B>(alloc, cell, master, tickets)?;
+    let (puts, once) = new_lists::<K, B>(alloc, cell, master)?;
     Ok((directory, puts, once))
 }
 
 /// Starts an engine with these records, each with its device. No record was requested yet. `B`
 /// names the engine: its cell, the world and the devices of the records at the load, the ledger of
-/// places and that of once tickets. To start an engine, call a function that is generic over such a
+/// places and that of tickets. To start an engine, call a function that is generic over such a
 /// name with `Brand` for `B`.
 ///
 /// # Errors
@@ -181,17 +178,12 @@ pub fn start<K: RecordKind + Drop, B: SetsName<K, D>, D: Device>(
 {
     let parts = startable_parts(alloc, &all, limits)?;
     let mut master = master;
-    let Ok((directory, puts, once)) = holdings::<K, B, D>(
-        alloc,
-        &cell,
-        &mut master,
-        tickets,
-        all,
-        &parts,
-    ) else {
+    let Ok((directory, puts, once)) = holdings::<K, B, D>(alloc, &cell, &mut master, all, &parts)
+    else {
         return Err(StartError::NoMemory);
     };
-    let Ok((journal, free)) = Journal::new(alloc, master, blank, limits) else {
+    let Ok((journal, free)) = Journal::new(alloc, master, blank, TicketCounts::new(tickets), limits)
+    else {
         return Err(StartError::NoMemory);
     };
     let Ok(book) = SharedJournal::new(alloc, cell, journal, free, limits.checkpoint_at) else {

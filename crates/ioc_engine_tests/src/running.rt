@@ -7,8 +7,8 @@ use crate::sensor::{Sensor, seen};
 use crate::steps::{Step, follow};
 use ioc_engine::{
     Clock, CountingClock, Device, DeviceName, Engine, EngineName, FieldText, Input, IocError,
-    Limits, Macros, Numbered, Outcome, Receipt, Reply, Report, Seed, StoppedRecord, Tally, load,
-    with_numbers,
+    Limits, Macros, Numbered, Outcome, Receipt, Reply, Report, Seed, StoppedRecord, Tally,
+    TicketTally, load, with_numbers,
 };
 use ioc_fields::{FieldNo, OwnField};
 use ioc_record::text_of;
@@ -55,6 +55,7 @@ pub struct Ended {
     /// The number of records that are given back with a device.
     pub devices: usize,
     pub tally: Tally,
+    pub tickets: TicketTally,
     /// The place of the first entry that the journal has.
     pub first_place: u64,
     /// The field VAL of the first record at the last checkpoint, and the number of puts with
@@ -149,6 +150,7 @@ fn end<B: EngineName<D>, D: Device, C: Clock + Drop, R: Wait>(
     };
     let report = engine.stop(rt);
     let tally = report.tally();
+    let tickets = report.tickets();
     let first_place = report.first_place();
     let base = base_of(&report);
     let Ok(records) = report.into_records(alloc) else {
@@ -161,6 +163,7 @@ fn end<B: EngineName<D>, D: Device, C: Clock + Drop, R: Wait>(
         active: awaiting(records.as_slice()),
         devices: with_device(records.as_slice()),
         tally,
+        tickets,
         first_place,
         base,
     })
@@ -250,6 +253,7 @@ fn told(is_found: bool) -> Ended {
         active: 0,
         devices: 0,
         tally: Tally::default(),
+        tickets: TicketTally::default(),
         first_place: 0,
         base: None,
     }

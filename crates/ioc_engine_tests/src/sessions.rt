@@ -25,6 +25,9 @@ pub enum AtEnd {
     /// The number of requests, all of which were processed, and those of the answers of devices
     /// that were to come later, and that came.
     Counts(u64, u64, u64),
+    /// The number of tickets that were begun for once requests, that were spent, and that were
+    /// handed back. All were begun for requests or once requests, and none is out.
+    Tickets(u64, u64, u64),
 }
 
 /// The calls of a desk on the records of a text.
@@ -81,7 +84,24 @@ record(longin,\"b\"){field(INP,\"@e\")}
 ";
 
 /// Calls of a desk.
-pub static CALLS: [Session; 4] = [
+pub static CALLS: [Session; 5] = [
+    // A put to a record that awaits its device marks it for reprocessing, so its completion sends a
+    // once request, which waits until the end. A put that is no request has no ticket.
+    Session {
+        name: "tickets of requests",
+        text: b"record(longin,\"r\"){field(INP,\"@d\")}\n",
+        later: &[b"d"],
+        places: None,
+        steps: &[
+            Makes(Process(b"r"), PROCESSED),
+            Makes(Put(b"r.VAL", b"7"), Wanted::Says(Says::Reprocess)),
+            Makes(Complete(b"r", 1, 5), PLAIN),
+            Makes(Get(b"r.RPRO"), Shows(b"0")),
+            Makes(Process(b"r"), PROCESSED),
+            Makes(Put(b"r.DESC", b"x"), PLAIN),
+        ],
+        end: &[AtEnd::Active(1), AtEnd::Tickets(1, 2, 1)],
+    },
     // A call on a missing field, a field that can't be put, or a missing record takes no place in
     // the journal. A put that DISP forbids takes one.
     Session {

@@ -11,6 +11,7 @@ use std::sync::Wait;
 pub enum Says {
     Plain,
     Processed,
+    Reprocess,
     Shown(&'static [u8]),
     Notify(u64),
     Live(bool),
@@ -53,6 +54,7 @@ fn reply(says: Says) -> Reply {
     match says {
         Says::Plain => Reply::Plain,
         Says::Processed => Reply::Outcome(Outcome::Processed),
+        Says::Reprocess => Reply::Outcome(Outcome::Reprocess),
         Says::Shown(text) => Reply::Shown(FieldText::cut(text)),
         Says::Notify(number) => Reply::Notify(NotifyId::new(number)),
         Says::Live(live) => Reply::Live(live),

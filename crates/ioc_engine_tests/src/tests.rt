@@ -10,7 +10,7 @@ use crate::sessions::{
 };
 use crate::steps::Step::{self, Makes};
 use crate::steps::{Says, Wanted};
-use ioc_engine::{DeviceName, FieldText, IocError, Limits, Tally};
+use ioc_engine::{DeviceName, FieldText, IocError, Limits, Tally, TicketTally};
 use std::alloc::{AllocError, Global};
 use std::fmt::Write;
 use std::sync::atomic::AtomicU64;
@@ -49,6 +49,16 @@ fn is_found(ended: &Ended, wanted: AtEnd) -> bool {
         AtEnd::Active(count) => ended.active == count,
         AtEnd::FirstPlace(place) => ended.first_place == place,
         AtEnd::Base(text, waiting) => ended.base == Some((FieldText::cut(text), waiting)),
+        AtEnd::Tickets(sent, spent, handed_back) => {
+            ended.tickets
+                == TicketTally {
+                    begun: spent.saturating_add(handed_back),
+                    sent,
+                    spent,
+                    handed_back,
+                    out: 0,
+                }
+        }
         Counts(processed, started, completed) => {
             ended.tally == tally_of(processed, started, completed)
         }

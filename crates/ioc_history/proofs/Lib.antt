@@ -1,9 +1,9 @@
 mod Adding
 mod Asking
 mod Bases
-pub mod Basics
 mod Begun
 mod Calls
+mod Counting
 mod Doing
 mod Endings
 mod Ends
@@ -13,16 +13,18 @@ mod Giving
 mod Lasting
 mod Linking
 mod Lists
-pub mod LiveFew
 mod Moves
 mod Moving
-pub mod Numbers
 mod Pieces
-pub mod Placing
 mod Replaying
 mod Rescanning
 mod Rewiring
 mod Sharing
-pub mod Summing
+mod TicketsThen
 mod Uniting
 mod Written
+pub mod Basics
+pub mod LiveFew
+pub mod Numbers
+pub mod Placing
+pub mod Summing

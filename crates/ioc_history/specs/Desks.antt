@@ -11,6 +11,8 @@ use Rattle.ioc_history.specs.Key.{Key, Has}
 use Rattle.ioc_history.specs.Line.{keeper, holder}
 use Rattle.ioc_history.specs.Legal.{IsSound, map_of}
 use Rattle.ioc_history.specs.Base.{IsBaseOf}
+use Rattle.ioc_history.specs.Ticketed.{TicketsView}
+use Rattle.ioc_history.specs.Counting.{AreTicketsOf}
 use Rattle.ioc_history.specs.Account.{calls, desk_key, Below, IsAccount}
 
 -- The first of these calls were dropped. They lead to the base, if there is one; otherwise none were
@@ -20,9 +22,9 @@ LeadsFrom {R} k base from dropped seen = MatchOption from (dropped ≡ 0) (λ (b
 
 module _ {R : Type 0} (k : RecordRules R) (base : World R) (table id : TableId) (v : View) where
   -- The invariant of a journal: its pass is the keeper's, its entries are the calls of the list
-  -- behind those that were dropped, these lead to the base, if some were, and the list is legal from
-  -- a sound world on.
-  pub record IsKept (items : List JournalEntry) (dropped : ℕ) (from : Option (JournalBase R)) (desks : ℕ) : Type 0 where
+  -- behind those that were dropped, these lead to the base, if some were, the list is legal from a
+  -- sound world on, and its requests have their tickets.
+  pub record IsKept (items : List JournalEntry) (dropped : ℕ) (from : Option (JournalBase R)) (desks : ℕ) (tickets : TicketsView) : Type 0 where
     pub same : id ≡ table
     pub keeps : v ≡ keeper v.seen v.born
     pub items_are : items ≡ drop dropped (calls v.seen)
@@ -34,6 +36,7 @@ module _ {R : Type 0} (k : RecordRules R) (base : World R) (table id : TableId) 
     -- Only desks below this number have keys and calls.
     pub given : (key : Key) → Has key v.born → key.0 ≡ 1 → key.1 < desks
     pub new_desk : (d : ℕ) → desks ≤ d → Below d 0 (calls v.seen)
+    pub tickets_are : AreTicketsOf k base v.seen tickets.counts tickets.sent
 
   -- The invariant of a desk: its pass owns its key, its calls have numbers below the next one,
   -- which is at most the number of calls that it has seen, and the list of these is legal.

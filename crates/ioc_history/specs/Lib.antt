@@ -1,5 +1,7 @@
 pub mod Account
 pub mod Base
+pub mod CountLaws
+pub mod Counting
 pub mod Covering
 pub mod DeskCode
 pub mod Desks
@@ -14,4 +16,5 @@ pub mod Pieces
 pub mod Places
 pub mod PlacesCode
 pub mod Stored
+pub mod Ticketed
 pub mod Unnamed

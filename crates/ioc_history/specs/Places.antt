@@ -3,6 +3,7 @@ use Rattle.std.specs.Prelude.{◌≡◌, ◌⊎◌, ◌≤◌, ◌+◌, ℕ, Lis
 use Rattle.ioc_values.specs.declared.error.IocError.{IocError}
 use Rattle.ioc_values.specs.declared.error.IocError.TheVariants.{NoMemory, JournalFull}
 use Rattle.ioc_history.specs.declared.limits.Limits.{Limits}
+use Rattle.ioc_history.specs.Ticketed.{TicketsView}
 
 -- The filled places, the number of places that have memory, and the limit of that number.
 pub record PlacesOf (X : Type 0) : Type 0 where
@@ -14,21 +15,26 @@ abbrev pub places_of : {X : Type 0} → List X → ℕ → ℕ → PlacesOf X
 places_of filled given limit = record { filled = filled; given = given; limit = limit }
 
 -- A journal: the list of all that was added, the number of those whose entries were dropped, the
--- number of places that have memory, the limit of that number, and the number of desks that were
--- opened.
+-- number of places that have memory, the limit of that number, the number of desks that were opened,
+-- and the tickets of requests.
 pub record JournalOf (X : Type 0) : Type 0 where
   pub filled : List X
   pub dropped : ℕ
   pub given : ℕ
   pub limit : ℕ
   pub desks : ℕ
+  pub tickets : TicketsView
 
-abbrev pub journal_of : {X : Type 0} → List X → ℕ → ℕ → ℕ → ℕ → JournalOf X
-journal_of filled dropped given limit desks = record { filled = filled; dropped = dropped; given = given; limit = limit; desks = desks }
+abbrev pub journal_of : {X : Type 0} → List X → ℕ → ℕ → ℕ → ℕ → TicketsView → JournalOf X
+journal_of filled dropped given limit desks tickets = record { filled = filled; dropped = dropped; given = given; limit = limit; desks = desks; tickets = tickets }
 
 -- The same with one more desk opened.
 abbrev pub one_more_desk : {X : Type 0} → JournalOf X → JournalOf X
-one_more_desk j = journal_of j.filled j.dropped j.given j.limit (j.desks + 1)
+one_more_desk j = journal_of j.filled j.dropped j.given j.limit (j.desks + 1) j.tickets
+
+-- The same with other tickets.
+abbrev pub with_tickets : {X : Type 0} → JournalOf X → TicketsView → JournalOf X
+with_tickets j tickets = journal_of j.filled j.dropped j.given j.limit j.desks tickets
 
 -- The errors of a call for which no place can be held.
 abbrev pub IsNoPlace : IocError → Type 0

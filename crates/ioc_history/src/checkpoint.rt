@@ -21,7 +21,7 @@ impl<K: RecordKind + Drop, B: EngineName<K>> Journal<K, B> {
     pub fn drop_entries(&mut self, base: JournalBase<K>) -> Option<FreePlaces<K, B>>
         requires base { IsBaseOf (map_of K.rules B.base self.old.filled) base.records.items base.waiting.items }
         ensures dropped { IfSome result (λ _. self.new
-            ≡ journal_of self.old.filled (length self.old.filled) self.old.given self.old.limit self.old.desks) }
+            ≡ journal_of self.old.filled (length self.old.filled) self.old.given self.old.limit self.old.desks self.old.tickets) }
         ensures freed { IfSome result (λ free. self.old.dropped + free ≡ length self.old.filled) }
         ensures none { IfNone result ((self.new ≡ self.old) × (2 ^ 63 < length self.old.filled)) }
     {

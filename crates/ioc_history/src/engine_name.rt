@@ -3,7 +3,7 @@ use crate::CellName;
 use std::marker::Brand;
 
 /// Names an engine: its cell, the world at the load, the ledger of the held places of its journal,
-/// and the ledger of its once tickets. Its records are of kind `K`.
+/// and the ledger of the tickets of its requests. Its records are of kind `K`.
 pub trait EngineName<K>: CellName {
     ghost use Rattle.std.specs.Prelude.{ℕ};
     ghost use Rattle.ioc_store.specs.World.{World};
@@ -14,7 +14,7 @@ pub trait EngineName<K>: CellName {
     /// The name of the ledger of places.
     ghost places: { ℕ };
 
-    /// The name of the ledger of tickets for once requests.
+    /// The name of the ledger of the tickets of requests.
     ghost tickets: { ℕ };
 }
 

@@ -1,7 +1,8 @@
 //! An event and its reply in little memory: the text of a field never stands beside a link or a
 //! value.
-ghost use Rattle.std.specs.Prelude.{◌≡◌, true, false};
+ghost use Rattle.std.specs.Prelude.{◌≡◌, true, false, if◌then◌else◌};
 ghost use Rattle.ioc_events.specs.declared.event.Event.TheVariants.{Get};
+ghost use Rattle.ioc_history.specs.Counting.{one_if_request};
 ghost use Rattle.ioc_history.specs.Stored.{event_of, is_link_reply, is_text, link_reply, may_reply, reply_of, short_reply};
 
 use ioc_dbcommon::LinkField;
@@ -144,6 +145,13 @@ impl EventWithReply {
             ShortEvent::Cancel(number) => Event::Cancel(*number),
             ShortEvent::IsLive(number) => Event::IsLive(*number),
         }
+    }
+
+    /// Returns whether the event is a request.
+    pub fn is_request(&self) -> bool
+        ensures { one_if_request (event_of self.now) ≡ (if result then 1 else 0) }
+    {
+        matches!(self, EventWithReply::Other(ShortEvent::Process(_), _))
     }
 
     /// Returns the reply.

@@ -1,5 +1,5 @@
 //! All calls of an engine in one order.
-ghost use Rattle.std.specs.Prelude.{◌≡◌, ◌↔◌, ◌+◌, ◌-◌, ◌^◌, ◌++◌, [], IfOk, IfErr, OnOk, OnErr};
+ghost use Rattle.std.specs.Prelude.{◌≡◌, ◌↔◌, ◌+◌, ◌-◌, ◌^◌, ◌++◌, [], if◌then◌else◌, IfOk, IfErr, OnOk, OnErr};
 ghost use Rattle.crossbeam_utils.specs.Seq.{cell_view};
 ghost use Rattle.ioc_history.specs.Key.{Key, Has};
 ghost use Rattle.ioc_history.specs.Line.{keeper, holder, Continues};
@@ -7,7 +7,10 @@ ghost use Rattle.ioc_history.specs.Legal.{IsLegal, IsSound};
 ghost use Rattle.ioc_values.specs.declared.error.IocError.TheVariants.{JournalFull};
 ghost use Rattle.ioc_history.specs.Account.{AreNoDesks, AreRecords, IsHolder, MayFollow, BothMayFollow, MayBegin, Call, Added, AddedByBoth, AreMerged, calls, calls_by, journalled};
 ghost use Rattle.ioc_history.specs.Stored.{IsStored};
-ghost use Rattle.ioc_history.specs.Places.{AreAllowed, journal_of, one_more_desk};
+ghost use Rattle.ioc_history.specs.Counting.{MaySend, BothMaySend, IsFew};
+ghost use Rattle.ioc_history.specs.Ticketed.{tickets_view, AreBack, AreTicketed};
+ghost use Rattle.ioc_ledger.specs.Counts.{counts};
+ghost use Rattle.ioc_history.specs.Places.{AreAllowed, journal_of, one_more_desk, with_tickets};
 
 use crate::base::JournalBase;
 use crate::desk::Desk;
@@ -17,8 +20,10 @@ use crate::free_places::{FreePlaces, Place};
 use crate::key_division::{deal, take_over};
 use crate::limits::Limits;
 use crate::receipt::Receipt;
+use crate::request_tickets::{RequestTickets, TicketCounts, TicketTally};
 use crate::stored_entry::StoredEntry;
 use crate::{Cell, EntryName, KeyPass, Keys, pass};
+use ioc_ledger::{Ticket, Tickets};
 use ioc_record::RecordKind;
 use ioc_values::IocError;
 use std::alloc::{AllocError, Global};
@@ -37,6 +42,7 @@ pub struct Journal<K: RecordKind, B: EngineName<K>> {
     pub(crate) dropped: u64,
     pub(crate) from: Option<JournalBase<K>>,
     desks: u64,
+    pub(crate) tickets: TicketCounts<K, B>,
     pub(crate) pass: KeyPass,
 }
 
@@ -53,14 +59,22 @@ impl<K: RecordKind, B: EngineName<K>> Model for Journal<K, B> {
     ghost use Rattle.ioc_history.specs.Desks.{IsKept};
     ghost use Rattle.ioc_history.specs.Places.{journal_of};
 
-    ghost view = { λ j. journal_of (cell_view j.pass).seen j.dropped j.entries.given j.entries.limit j.desks };
+    ghost view = { λ j. journal_of (cell_view j.pass).seen j.dropped j.entries.given j.entries.limit j.desks j.tickets };
 
-    ghost invariant = { λ j. IsKept K.rules B.base B.table j.pass.table_id (cell_view j.pass) j.entries.filled j.dropped j.from j.desks };
+    ghost invariant = { λ j. IsKept K.rules B.base B.table j.pass.table_id (cell_view j.pass) j.entries.filled j.dropped j.from j.desks j.tickets };
+}
+
+/// A call that was added to the journal.
+#[derive(Drop)]
+pub struct Appended<K: RecordKind, B: EngineName<K>> {
+    pub receipt: Receipt<K, B>,
+    /// The tickets of the once requests that the event has sent.
+    pub tickets: Tickets<RequestTickets<K, B>>,
 }
 
 impl<K: RecordKind, B: EngineName<K>> Journal<K, B> {
-    /// Creates a journal without calls, and the free places that it has memory for. The keeper's
-    /// pass has created only keys of records.
+    /// Creates a journal without calls, with the tickets of their requests, and the free places
+    /// that it has memory for. The keeper's pass has created only keys of records.
     ///
     /// # Errors
     ///
@@ -69,6 +83,7 @@ impl<K: RecordKind, B: EngineName<K>> Journal<K, B> {
         alloc: Global,
         master: KeyPass,
         blank: Blank,
+        tickets: TicketCounts<K, B>,
         limits: Limits,
     ) -> Result<(Self, FreePlaces<K, B>), AllocError>
         requires table { master.table_id ≡ B.table }
@@ -76,28 +91,31 @@ impl<K: RecordKind, B: EngineName<K>> Journal<K, B> {
         requires given { AreNoDesks (cell_view master).born }
         requires name { blank.name ≡ B.places }
         requires parts { blank.parts ≡ 2 ^ 64 - 1 }
+        requires none { tickets ≡ tickets_view (counts 0 0 0 0) 0 }
         requires limits { AreAllowed limits }
         requires sound { IsSound K.rules B.base }
-        ensures { IfOk result (λ x. x.0 ≡ journal_of [] 0 x.1 limits.journal 0) }
+        ensures { IfOk result (λ x. x.0 ≡ journal_of [] 0 x.1 limits.journal 0 tickets) }
     {
         let (entries, free) = Entries::new(alloc, blank, limits)?;
-        Ok((Journal::without_calls(entries, master), free))
+        Ok((Journal::without_calls(entries, tickets, master), free))
     }
 
     // Creates a journal with these entries, of which there are none.
-    fn without_calls(entries: Entries<K, B>, master: KeyPass) -> Self
+    fn without_calls(entries: Entries<K, B>, tickets: TicketCounts<K, B>, master: KeyPass) -> Self
         requires none { entries.filled ≡ [] }
+        requires tickets { tickets ≡ tickets_view (counts 0 0 0 0) 0 }
         requires table { master.table_id ≡ B.table }
         requires pass { cell_view master ≡ keeper [] (cell_view master).born }
         requires given { AreNoDesks (cell_view master).born }
         requires sound { IsSound K.rules B.base }
-        ensures { result ≡ journal_of [] 0 entries.given entries.limit 0 }
+        ensures { result ≡ journal_of [] 0 entries.given entries.limit 0 tickets }
     {
         Journal {
             entries,
             dropped: 0,
             from: None,
             desks: 0,
+            tickets,
             pass: master,
         }
     }
@@ -148,14 +166,15 @@ impl<K: RecordKind, B: EngineName<K>> Journal<K, B> {
 
     /// Adds a piece of memory, whose places are free.
     pub fn add_piece(&mut self, piece: Piece) -> FreePlaces<K, B>
-        ensures given { self.new ≡ journal_of self.old.filled self.old.dropped (self.old.given + result) self.old.limit self.old.desks }
+        ensures given { self.new ≡ journal_of self.old.filled self.old.dropped (self.old.given + result) self.old.limit self.old.desks self.old.tickets }
         ensures none { (result ≡ 0) ↔ (self.old.given ≡ self.old.limit) }
     {
         self.entries.add_piece(piece)
     }
 
-    /// Adds the next call of a desk, of the event that `S` names. The caller holds the lock of the set
-    /// that the call concerns; all keys of the set's pass are noted.
+    /// Adds the next call of a desk, of the event that `S` names, which sends this many
+    /// once requests. The caller holds the lock of the set that the call concerns; all keys of the
+    /// set's pass are noted.
     #[inline(always)]
     pub fn append<S: EntryName, R: Wait>(
         &mut self,
@@ -165,32 +184,39 @@ impl<K: RecordKind, B: EngineName<K>> Journal<K, B> {
         set: &mut KeyPass,
         desk: &mut Desk<K, B>,
         made: StoredEntry,
-    ) -> Receipt<K, B>
+        sent: u64,
+    ) -> Appended<K, B>
         requires table { (cell.now.table.shared.table_id ≡ B.table) × (set.old.table_id ≡ B.table) }
         requires set { IsHolder (cell_view set.old) × AreNoDesks (cell_view set.old).owns }
         requires stored { IsStored (journalled desk.old.number desk.old.next S.entry) made }
         requires follows { MayFollow K.rules B.base (cell_view set.old).seen (cell_view set.old).owns S.entry }
         requires begins { MayBegin (cell_view set.old).seen (cell_view set.old).owns S.entry.event }
+        requires sent { MaySend K.rules B.base (cell_view set.old).seen (cell_view set.old).owns S.entry sent }
         ensures call { Call K.rules B.base desk.old S.entry desk.new }
-        ensures receipt { result ≡ desk.new.seen }
-        ensures list { self.new ≡ journal_of desk.new.seen self.old.dropped self.old.given self.old.limit self.old.desks }
+        ensures receipt { result.receipt ≡ desk.new.seen }
+        ensures tickets { IsFew K.rules B.base self.new.filled → result.tickets ≡ sent }
+        ensures list { self.new ≡ journal_of desk.new.seen self.old.dropped self.old.given self.old.limit self.old.desks self.new.tickets }
         ensures set { (set.new.table_id ≡ set.old.table_id) × (cell_view set.new ≡ holder self.new.filled (cell_view set.old).owns) }
         ensures added { Added K.rules B.base (cell_view set.old).seen (cell_view set.old).owns S.entry self.old.filled self.new.filled }
     {
         let index = self.dropped + self.entries.len() as u64;
+        let is_request = made.is_request();
         let pass = pass::append(rt, cell, &mut self.pass, set, &mut desk.pass, &made);
+        let tickets = self.tickets.add(is_request, sent);
         self.entries.fill(place, made);
         desk.next += 1;
-        Receipt {
+        let receipt = Receipt {
             place: index,
             pass,
             of: PhantomData,
             kind: PhantomData,
-        }
+        };
+        Appended { receipt, tickets }
     }
 
-    /// Adds the next call of a desk, of the event that `S` names, which concerns two sets. The caller
-    /// holds the locks of both. Afterwards the first pass owns the keys of `P` and the second the rest of `P`.
+    /// Adds the next call of a desk, of the event that `S` names, which concerns two sets and
+    /// sends this many once requests. The caller holds the locks of both. Afterwards the first pass owns the keys of `P` and the
+    /// second the rest of `P`.
     pub fn append_two<P: Keys, S: EntryName, R: Wait>(
         &mut self,
         rt: &R,
@@ -200,7 +226,8 @@ impl<K: RecordKind, B: EngineName<K>> Journal<K, B> {
         other: &mut KeyPass,
         desk: &mut Desk<K, B>,
         made: StoredEntry,
-    ) -> Receipt<K, B>
+        sent: u64,
+    ) -> Appended<K, B>
         requires table { (cell.now.table.shared.table_id ≡ B.table) × (one.old.table_id ≡ B.table) × (other.old.table_id ≡ B.table) }
         requires one { IsHolder (cell_view one.old) × AreRecords (cell_view one.old).owns }
         requires other { IsHolder (cell_view other.old) × AreNoDesks (cell_view other.old).owns }
@@ -210,9 +237,12 @@ impl<K: RecordKind, B: EngineName<K>> Journal<K, B> {
         requires follows { BothMayFollow K.rules B.base (cell_view one.old).seen (cell_view one.old).owns (cell_view other.old).seen
             (cell_view other.old).owns S.entry }
         requires begins { MayBegin (cell_view other.old).seen (cell_view other.old).owns S.entry.event }
+        requires sent { BothMaySend K.rules B.base (cell_view one.old).seen (cell_view one.old).owns (cell_view other.old).seen
+            (cell_view other.old).owns S.entry sent }
         ensures call { Call K.rules B.base desk.old S.entry desk.new }
-        ensures receipt { result ≡ desk.new.seen }
-        ensures list { self.new ≡ journal_of desk.new.seen self.old.dropped self.old.given self.old.limit self.old.desks }
+        ensures receipt { result.receipt ≡ desk.new.seen }
+        ensures tickets { IsFew K.rules B.base self.new.filled → result.tickets ≡ sent }
+        ensures list { self.new ≡ journal_of desk.new.seen self.old.dropped self.old.given self.old.limit self.old.desks self.new.tickets }
         ensures one { (one.new.table_id ≡ one.old.table_id) × (cell_view one.new ≡ holder self.new.filled P.keys) }
         ensures other { (other.new.table_id ≡ other.old.table_id) × (cell_view other.new ≡ holder self.new.filled P.rest) }
         ensures added { AddedByBoth K.rules B.base (cell_view one.old).seen (cell_view one.old).owns (cell_view other.old).seen
@@ -220,15 +250,42 @@ impl<K: RecordKind, B: EngineName<K>> Journal<K, B> {
     {
         let call = desk.next;
         let index = self.dropped + self.entries.len() as u64;
+        let is_request = made.is_request();
         let pass = deal::<P, R>(rt, cell, &mut self.pass, one, other, &mut desk.pass, &made);
+        let tickets = self.tickets.add(is_request, sent);
         self.entries.fill(place, made);
         desk.next = call + 1;
-        Receipt {
+        let receipt = Receipt {
             place: index,
             pass,
             of: PhantomData,
             kind: PhantomData,
-        }
+        };
+        Appended { receipt, tickets }
+    }
+
+    /// Takes back the ticket of a request that wasn't made.
+    pub fn hand_back(&mut self, ticket: Ticket<RequestTickets<K, B>>)
+        ensures back { AreBack (if ticket then 1 else 0) self.old.tickets self.new.tickets }
+        ensures same { self.new ≡ with_tickets self.old self.new.tickets }
+    {
+        self.tickets.hand_back(ticket);
+    }
+
+    /// Takes back tickets of requests that weren't made.
+    pub fn hand_back_many(&mut self, tickets: Tickets<RequestTickets<K, B>>)
+        ensures back { AreBack tickets self.old.tickets self.new.tickets }
+        ensures same { self.new ≡ with_tickets self.old self.new.tickets }
+    {
+        self.tickets.hand_back_many(tickets);
+    }
+
+    /// Returns the numbers of tickets: each request among the calls has spent one, and one was begun
+    /// for each once request that the calls have sent, if these are fewer than 2^64 together.
+    pub fn tickets(&self) -> TicketTally
+        ensures { AreTicketed K.rules B.base self.now.filled result }
+    {
+        self.tickets.tally()
     }
 
     /// Compares two passes: they have no key in common. Afterwards both know the whole list.

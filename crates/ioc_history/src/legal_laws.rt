@@ -11,7 +11,7 @@ use ioc_events::notification_rules::{
 use ioc_record::RecordKind;
 
 // The laws of events that the laws below rest on.
-fn events_have_laws<K: RecordKind>()
+pub(crate) fn events_have_laws<K: RecordKind>()
     ensures { EventLaws K.rules }
 {
     rules_are_steps::<K>();

@@ -6,6 +6,7 @@ ghost use Rattle.ioc_history.specs.Key.{Key, Has};
 ghost use Rattle.ioc_history.specs.Line.{holder};
 ghost use Rattle.ioc_history.specs.Account.{IsHolder, AreNoDesks, AreRecords, MayFollow, BothMayFollow, MayBegin, Call, Added, AddedByBoth, AreKnown, AreMerged, calls, calls_by};
 ghost use Rattle.ioc_history.specs.Places.{IsNoPlace};
+ghost use Rattle.ioc_history.specs.Counting.{MaySend, BothMaySend, IsFew};
 ghost use Rattle.ioc_values.specs.declared.error.IocError.TheVariants.{JournalFull};
 
 use crate::desk::Desk;
@@ -13,14 +14,15 @@ use crate::engine_name::EngineName;
 use crate::entries::Piece;
 use crate::free_places::{FreePlaces, Place};
 use crate::gate::Gate;
-use crate::journal::Journal;
-use crate::receipt::Receipt;
+use crate::journal::{Appended, Journal};
+use crate::request_tickets::RequestTickets;
 use crate::shared_places::SharedPlaces;
 use crate::short_lock::lock_soon;
 use crate::stored_entry::StoredEntry;
 use crate::{Cell, EntryName, KeyPass, Keys};
 use crossbeam_utils::CachePadded;
 use ioc_events::Entry;
+use ioc_ledger::Tickets;
 use ioc_record::RecordKind;
 use ioc_values::IocError;
 use std::alloc::{AllocError, Global};
@@ -196,6 +198,11 @@ impl<K: RecordKind, B: EngineName<K>> SharedJournal<K, B> {
         stripe.take().ok_or(IocError::JournalFull)
     }
 
+    /// Takes back the tickets of once requests that weren't queued.
+    pub fn hand_back<R: Wait>(&self, rt: &R, tickets: Tickets<RequestTickets<K, B>>) {
+        lock_soon(rt, &self.journal).hand_back_many(tickets);
+    }
+
     /// Frees a place whose call wasn't made.
     pub fn give_back<R: Wait>(&self, rt: &R, desk: &Desk<K, B>, place: Place<K, B>) {
         self.places.give_back(rt, desk.number, place);
@@ -210,25 +217,28 @@ impl<K: RecordKind, B: EngineName<K>> SharedJournal<K, B> {
         set: &mut KeyPass,
         desk: &mut Desk<K, B>,
         entry: Entry,
-    ) -> Receipt<K, B>
+        sent: u64,
+    ) -> Appended<K, B>
         requires entry { S.entry ≡ entry }
         requires table { set.old.table_id ≡ B.table }
         requires set { IsHolder (cell_view set.old) × AreNoDesks (cell_view set.old).owns }
         requires follows { MayFollow K.rules B.base (cell_view set.old).seen (cell_view set.old).owns S.entry }
         requires begins { MayBegin (cell_view set.old).seen (cell_view set.old).owns S.entry.event }
+        requires sent { MaySend K.rules B.base (cell_view set.old).seen (cell_view set.old).owns S.entry sent }
         ensures call { Call K.rules B.base desk.old S.entry desk.new }
-        ensures receipt { result ≡ desk.new.seen }
+        ensures receipt { result.receipt ≡ desk.new.seen }
+        ensures tickets { IsFew K.rules B.base desk.new.seen → result.tickets ≡ sent }
         ensures set { (set.new.table_id ≡ set.old.table_id) × (cell_view set.new ≡ holder desk.new.seen (cell_view set.old).owns) }
         ensures added { (log : List Note) × Added K.rules B.base (cell_view set.old).seen (cell_view set.old).owns S.entry log desk.new.seen }
     {
         let made = StoredEntry::new(desk.number, desk.next, entry);
         let mut guard = lock_soon(rt, &self.journal);
         let journal = &mut *guard;
-        journal.append::<S, R>(rt, &self.cell, place, set, desk, made)
+        journal.append::<S, R>(rt, &self.cell, place, set, desk, made, sent)
     }
 
-    /// Adds a call of a desk. The caller holds the lock of the set that the call concerns; all keys
-    /// of the set's pass are noted. Afterwards desk and pass know the whole list.
+    /// Adds a call of a desk, whose event sends this many once requests. The caller holds the lock of
+    /// the set that the call concerns; all keys of the set's pass are noted. Afterwards desk and pass know the whole list.
     #[inline(always)]
     pub fn append<R: Wait>(
         &self,
@@ -237,17 +247,20 @@ impl<K: RecordKind, B: EngineName<K>> SharedJournal<K, B> {
         set: &mut KeyPass,
         desk: &mut Desk<K, B>,
         entry: Entry,
-    ) -> Receipt<K, B>
+        sent: u64,
+    ) -> Appended<K, B>
         requires table { set.old.table_id ≡ B.table }
         requires set { IsHolder (cell_view set.old) × AreNoDesks (cell_view set.old).owns }
         requires follows { MayFollow K.rules B.base (cell_view set.old).seen (cell_view set.old).owns entry }
         requires begins { MayBegin (cell_view set.old).seen (cell_view set.old).owns entry.event }
+        requires sent { MaySend K.rules B.base (cell_view set.old).seen (cell_view set.old).owns entry sent }
         ensures call { Call K.rules B.base desk.old entry desk.new }
-        ensures receipt { result ≡ desk.new.seen }
+        ensures receipt { result.receipt ≡ desk.new.seen }
+        ensures tickets { IsFew K.rules B.base desk.new.seen → result.tickets ≡ sent }
         ensures set { (set.new.table_id ≡ set.old.table_id) × (cell_view set.new ≡ holder desk.new.seen (cell_view set.old).owns) }
         ensures added { (log : List Note) × Added K.rules B.base (cell_view set.old).seen (cell_view set.old).owns entry log desk.new.seen }
     {
-        self.append_as::<Brand, R>(rt, place, set, desk, entry)
+        self.append_as::<Brand, R>(rt, place, set, desk, entry, sent)
     }
 
     // Adds a call of a desk, of the event that `S` names.
@@ -260,7 +273,8 @@ impl<K: RecordKind, B: EngineName<K>> SharedJournal<K, B> {
         other: &mut KeyPass,
         desk: &mut Desk<K, B>,
         entry: Entry,
-    ) -> Receipt<K, B>
+        sent: u64,
+    ) -> Appended<K, B>
         requires entry { S.entry ≡ entry }
         requires table { (one.old.table_id ≡ B.table) × (other.old.table_id ≡ B.table) }
         requires one { IsHolder (cell_view one.old) × AreRecords (cell_view one.old).owns }
@@ -270,8 +284,11 @@ impl<K: RecordKind, B: EngineName<K>> SharedJournal<K, B> {
         requires follows { BothMayFollow K.rules B.base (cell_view one.old).seen (cell_view one.old).owns (cell_view other.old).seen
             (cell_view other.old).owns S.entry }
         requires begins { MayBegin (cell_view other.old).seen (cell_view other.old).owns S.entry.event }
+        requires sent { BothMaySend K.rules B.base (cell_view one.old).seen (cell_view one.old).owns (cell_view other.old).seen
+            (cell_view other.old).owns S.entry sent }
         ensures call { Call K.rules B.base desk.old S.entry desk.new }
-        ensures receipt { result ≡ desk.new.seen }
+        ensures receipt { result.receipt ≡ desk.new.seen }
+        ensures tickets { IsFew K.rules B.base desk.new.seen → result.tickets ≡ sent }
         ensures one { (one.new.table_id ≡ one.old.table_id) × (cell_view one.new ≡ holder desk.new.seen P.keys) }
         ensures other { (other.new.table_id ≡ other.old.table_id) × (cell_view other.new ≡ holder desk.new.seen P.rest) }
         ensures added { (log : List Note)
@@ -282,7 +299,7 @@ impl<K: RecordKind, B: EngineName<K>> SharedJournal<K, B> {
         let made = StoredEntry::new(desk.number, call, entry);
         let mut guard = lock_soon(rt, &self.journal);
         let journal = &mut *guard;
-        journal.append_two::<P, S, R>(rt, &self.cell, place, one, other, desk, made)
+        journal.append_two::<P, S, R>(rt, &self.cell, place, one, other, desk, made, sent)
     }
 
     /// Adds a call of a desk that concerns two sets, both of whose locks the caller holds.
@@ -296,7 +313,8 @@ impl<K: RecordKind, B: EngineName<K>> SharedJournal<K, B> {
         other: &mut KeyPass,
         desk: &mut Desk<K, B>,
         entry: Entry,
-    ) -> Receipt<K, B>
+        sent: u64,
+    ) -> Appended<K, B>
         requires table { (one.old.table_id ≡ B.table) × (other.old.table_id ≡ B.table) }
         requires one { IsHolder (cell_view one.old) × AreRecords (cell_view one.old).owns }
         requires other { IsHolder (cell_view other.old) × AreNoDesks (cell_view other.old).owns }
@@ -305,15 +323,18 @@ impl<K: RecordKind, B: EngineName<K>> SharedJournal<K, B> {
         requires follows { BothMayFollow K.rules B.base (cell_view one.old).seen (cell_view one.old).owns (cell_view other.old).seen
             (cell_view other.old).owns entry }
         requires begins { MayBegin (cell_view other.old).seen (cell_view other.old).owns entry.event }
+        requires sent { BothMaySend K.rules B.base (cell_view one.old).seen (cell_view one.old).owns (cell_view other.old).seen
+            (cell_view other.old).owns entry sent }
         ensures call { Call K.rules B.base desk.old entry desk.new }
-        ensures receipt { result ≡ desk.new.seen }
+        ensures receipt { result.receipt ≡ desk.new.seen }
+        ensures tickets { IsFew K.rules B.base desk.new.seen → result.tickets ≡ sent }
         ensures one { (one.new.table_id ≡ one.old.table_id) × (cell_view one.new ≡ holder desk.new.seen P.keys) }
         ensures other { (other.new.table_id ≡ other.old.table_id) × (cell_view other.new ≡ holder desk.new.seen P.rest) }
         ensures added { (log : List Note)
             × AddedByBoth K.rules B.base (cell_view one.old).seen (cell_view one.old).owns (cell_view other.old).seen
             (cell_view other.old).owns entry log desk.new.seen }
     {
-        self.append_two_as::<P, Brand, R>(rt, place, one, other, desk, entry)
+        self.append_two_as::<P, Brand, R>(rt, place, one, other, desk, entry, sent)
     }
 
     /// Compares two passes: they have no key in common. Afterwards both know the same list.

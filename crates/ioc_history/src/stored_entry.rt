@@ -1,6 +1,7 @@
 //! The entries of a journal as it stores them.
-ghost use Rattle.std.specs.Prelude.{◌≡◌};
+ghost use Rattle.std.specs.Prelude.{◌≡◌, if◌then◌else◌};
 ghost use Rattle.ioc_history.specs.Account.{journalled};
+ghost use Rattle.ioc_history.specs.Counting.{one_if_request};
 ghost use Rattle.ioc_history.specs.Stored.{IsStored};
 
 use crate::event_with_reply::EventWithReply;
@@ -79,6 +80,13 @@ impl StoredEntry {
         ensures { result ≡ self.now.entry.event }
     {
         self.told.event()
+    }
+
+    /// Returns whether the event is a request.
+    pub fn is_request(&self) -> bool
+        ensures { one_if_request self.now.entry.event ≡ (if result then 1 else 0) }
+    {
+        self.told.is_request()
     }
 
     /// Returns the answers of devices in the event, in order.

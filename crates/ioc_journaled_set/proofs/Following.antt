@@ -17,6 +17,7 @@ use Rattle.ioc_history.specs.KeyLaws.{has_left}
 use Rattle.ioc_history.specs.Line.{Continues, holder, noted}
 use Rattle.ioc_history.specs.Legal.{IsLegal, key_of, map_of, notifications_key}
 use Rattle.ioc_history.specs.Legal.{IsSound as IsSound-world}
+use Rattle.ioc_history.specs.Counting.{once_by, MaySend}
 use Rattle.ioc_history.specs.Covering.{Holds, Cover}
 use Rattle.ioc_history.specs.Laws.{Lasts, LiveLasts, GoesOn}
 use Rattle.ioc_history.proofs.Basics.{is-none}
@@ -83,10 +84,18 @@ module _ {R : Type 0} (k : RecordRules R) (base : World R) where
         covers = λ n there. has_left (key_of n) v.owns own (all_covered c.0 h c.1 n there);
       })
 
-      gone_on : IsSound-world k base → (desk call : ℕ) (own : List Key) → GoesOn k base log (cancel_note desk call moment number (v.owns ++ own)) (IsGivenUpByAll k moment number sets (map_of k base log))
-      gone_on base_sound desk call own =
+      by_law : IsSound-world k base → (desk call : ℕ) (own : List Key)
+          → GoesOn k base log (cancel_note desk call moment number (v.owns ++ own)) (IsGivenUpByAll k moment number sets (map_of k base log)) × (once_by k (map_of k base log) (cancel_note desk call moment number (v.owns ++ own)) ≡ 0)
+      by_law base_sound desk call own =
           law base log sets desk call moment number (v.owns ++ own) base_sound legal (held_soundly own) share_none
           (have.all ∙ sym (still_live number)) (λ none. have.some (sym (still_live number) ∙ none)) (has_left notifications_key v.owns own puts_owned)
+
+      gone_on : IsSound-world k base → (desk call : ℕ) (own : List Key) → GoesOn k base log (cancel_note desk call moment number (v.owns ++ own)) (IsGivenUpByAll k moment number sets (map_of k base log))
+      gone_on base_sound desk call own = (by_law base_sound desk call own).0
+
+    -- The cancel sends no once request.
+    pub may_send : MaySend k base v.seen v.owns (cancel_entry moment number) 0
+    may_send log desk call own base_sound goes legal = sym (by_law log goes legal base_sound desk call own).1
 
     pub may_follow : MayFollow k base v.seen v.owns (cancel_entry moment number)
     may_follow log desk call own base_sound goes legal = (gone_on log goes legal base_sound desk call own).legal

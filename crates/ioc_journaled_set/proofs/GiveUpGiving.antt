@@ -32,6 +32,7 @@ use Rattle.ioc_events.specs.Step.{Stepped, stepped}
 use Rattle.ioc_history.specs.declared.entry.Note.{Note}
 use Rattle.ioc_history.specs.Key.{Key, Has as Has_key}
 use Rattle.ioc_history.specs.Legal.{key_of, notifications_key, done, map_of, Fits, IsLegal, IsUntouched}
+use Rattle.ioc_history.specs.Counting.{once_in, once_by}
 use Rattle.ioc_history.specs.Covering.{Holds}
 use Rattle.ioc_history.specs.Laws.{StaysSound, CancelIsHeld, BeginningIsHeld, HeldAlike}
 use Rattle.ioc_history.proofs.Placing.{live-once}
@@ -158,6 +159,13 @@ module _ {R : Type 0} (k : RecordRules R) where
     unfolding begun begun_at cancelled
     no-calls m = refl
 
+    none-sent : (m : World R) → length (once_in (given_up m).outbox) ≡ 0
+    unfolding begun begun_at cancelled
+    none-sent m = refl
+
+    once-none : (m : World R) → is_live number m.live ≡ true → NoneReady k m → AreActive k number m → once_by k m note ≡ 0
+    once-none m live none active = ap (λ (s : Stepped R). length (once_in s.world.outbox)) (note-done m live none active) ∙ none-sent m
+
     untouched : (m : World R) (r : ℕ) → point k number m r ≡ 0 → IsUntouched k r m (given_up m)
     unfolding at begun begun_at
     untouched m r nobody = record {
@@ -235,16 +243,18 @@ module _ {R : Type 0} (k : RecordRules R) where
       let fits = note-fits lawful desk call moment number keys m live is_sound.none_ready active key (unkeyed lawful desk call moment number keys m sets known pairs same) in
       let leads : map_of k base (log ++ n ∷ []) ≡ cancelled k number (begun_at moment m)
       = map-append log (n ∷ []) base ∙ ap (λ (s : Stepped R). s.world) (note-done lawful desk call moment number keys m live is_sound.none_ready active) in
-      let lives = ap (λ (w : World R). w.live) leads ∙ live-then lawful desk call moment number keys m in
-      record {
-        legal = legal-more log n base legal fits;
-        known = record {
-          held = λ h then c gives. subst (λ (w : World R). Holds k w (now_of then)) (sym leads) (held-then lawful desk call moment number keys cancels begins alike m h then (known h c).holds gives);
-          nobody = ap (holders_of number) lives ∙ forgotten-none number m.live (live-once k m is_sound.counted number);
-          others = λ other apart. ap (holders_of other) lives ∙ forgotten-other number other apart m.live;
-          none_ended = ap (λ (w : World R). w.ended) leads ∙ none-ended lawful desk call moment number keys m;
-        };
-      }
+      let lives = ap (λ (w : World R). w.live) leads ∙ live-then lawful desk call moment number keys m in (
+        record {
+          legal = legal-more log n base legal fits;
+          known = record {
+            held = λ h then c gives. subst (λ (w : World R). Holds k w (now_of then)) (sym leads) (held-then lawful desk call moment number keys cancels begins alike m h then (known h c).holds gives);
+            nobody = ap (holders_of number) lives ∙ forgotten-none number m.live (live-once k m is_sound.counted number);
+            others = λ other apart. ap (holders_of other) lives ∙ forgotten-other number other apart m.live;
+            none_ended = ap (λ (w : World R). w.ended) leads ∙ none-ended lawful desk call moment number keys m;
+          };
+        },
+        once-none lawful desk call moment number keys m live is_sound.none_ready active,
+      )
 
   -- The cancel on one set.
 

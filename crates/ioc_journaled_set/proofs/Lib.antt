@@ -3,8 +3,6 @@ mod Beside
 mod Copied
 mod Counted
 mod Counting
-pub mod Dealing
-pub mod Devices
 mod Ended
 mod Folding
 mod Following
@@ -12,7 +10,6 @@ mod GiveUpAmong
 mod GiveUpEvents
 mod GiveUpGiving
 mod GivingUp
-pub mod Kept
 mod Keys
 mod KeysOfSets
 mod Leading
@@ -25,8 +22,12 @@ mod Placed
 mod Places
 mod Refusing
 mod Replaced
+mod Sending
 mod Serving
 mod SetsTogether
 mod Taken
 mod TakingOver
 mod Telling
+pub mod Dealing
+pub mod Devices
+pub mod Kept

@@ -25,6 +25,9 @@ use Rattle.ioc_history.specs.Key.{Key, Has as Has_key}
 use Rattle.ioc_history.specs.Line.{Continues, holder, noted}
 use Rattle.ioc_history.specs.KeyLaws.{has_left}
 use Rattle.ioc_history.specs.Legal.{AreLiveAlike, IsLegal, IsSound, key_of, notifications_key, map_of, done}
+use Rattle.ioc_history.specs.Counting.{once_in, once_by, MaySend}
+use Rattle.ioc_history.specs.CountLaws.{PartsCountAlike}
+use Rattle.ioc_store.specs.declared.outbox.OutboxItem.{OutboxItem}
 use Rattle.ioc_history.specs.Covering.{Holds, Cover, CancelsWithin, AreHeldAlike, IsOf, IsDone, question_note}
 use Rattle.ioc_history.specs.Laws.{Lasts, OneMore, HoldersMove, MovesAlike, EndsOver, Asks, HeldAlike, GoesOn}
 use Rattle.ioc_history.specs.Account.{journalled, number_given, AreRecords, IsHolder, MayFollow, Added}
@@ -163,6 +166,10 @@ module _ {R D : Type 0} (k : RecordRules R) (gives : D → Ask → ℕ → Answe
   pub ended_then : come_to.ended ≡ after.ended
   ended_then = ap (λ (w : World R). w.ended) does.left
 
+  -- What was sent on the set is left in the buffers.
+  pub outbox_then : come_to.outbox ≡ after.outbox
+  outbox_then = ap (λ (w : World R). w.outbox) does.left
+
   -- If no put with notification is live before and after, no record is part of one.
   pub none_held : (counted : (answers : Answers) (w after : World R) (event : Event) (reply : Reply) (requests : Requests) → Step k answers w event after reply requests → IsCounted k w → IsCounted k after)
       → (allowed : (answers : Answers) (w : World R) (event : Event) → Step k answers w event (stepped k answers w event).world (stepped k answers w event).reply (stepped k answers w event).requests)
@@ -201,6 +208,11 @@ module _ {R D : Type 0} (k : RecordRules R) (gives : D → Ask → ℕ → Answe
     pub moved_on : MovesAlike k (map_of k base log) (map_of k base (log ++ note ∷ [])) (now_of h) after
     moved_on = moves base (now_of h) after log note sound legal holds is_of is_done
 
+    -- The event sends as many once requests among all records as on the set.
+    pub sent_on : PartsCountAlike k → length (once_in come_to.outbox) ≡ once_by k (map_of k base log) note
+    unfolding done
+    sent_on law = ap (λ (items : List OutboxItem). length (once_in items)) outbox_then ∙ sym (law base (now_of h) log note sound legal holds is_of).once
+
     -- What has ended among all records has ended on the set, and no record is part of it.
     pub ended_on : EndsOver k → IsCounted k (now_of h) → (n : ℕ) → Contains (map_of k base (log ++ note ∷ [])).ended n ↔ (Contains after.ended n × (IsHeld k (map_of k base (log ++ note ∷ [])) n → ⊥))
     ended_on ends counted n = ends base (now_of h) after log note sound legal holds is_of is_done counted n
@@ -229,6 +241,14 @@ module _ {R D : Type 0} (k : RecordRules R) (gives : D → Ask → ℕ → Answe
     -- The event may follow any legal list.
     pub may_follow : (done_entry : Entry) → e ≡ done_entry → MayFollow k base seen owned done_entry
     may_follow done_entry is = subst (λ (x : Entry). MayFollow k base seen owned x) is (λ log desk call own sound go legal. (goes_on log desk call own sound go legal).legal)
+
+    -- The event sends as many once requests after any legal list as on the set.
+    pub may_send : PartsCountAlike k → (done_entry : Entry) → e ≡ done_entry → MaySend k base seen owned done_entry (length (once_in come_to.outbox))
+    may_send law done_entry is = subst (λ (x : Entry). MaySend k base seen owned x (length (once_in come_to.outbox))) is
+        (λ log desk call own sound go legal.
+        sent_on one_more moves base log desk call (owned ++ own) sound legal (holds_on k lasts base (now_of h) seen owned covers holds log go legal)
+        (λ r s. has_left (key_of r) owned own (covers r s)) (no_cancel k (map_of k base log) (now_of h) event ordinary)
+        (asks_nothing k (begun_at moment (now_of h)) (begun_at moment (map_of k base log)) event ordinary) (λ out. same) law)
 
     -- If nothing has ended on the set, nothing has among all records.
     pub none_ended : EndsOver k → IsCounted k (now_of h) → come_to.ended ≡ [] → (done_entry : Entry) → e ≡ done_entry → (log longer : List Note) → Added k base seen owned done_entry log longer

@@ -1,5 +1,5 @@
 -- The events without effect that the owner of the key of the puts with notification may note.
-use Rattle.std.proofs.Common.{◌≡◌, ◌↔◌, ℕ, ◌<◌, Bool, true, false, cond, nat_lt, List, [], ◌∷◌, ◌++◌, refl, sym, ap, ◌∙◌, subst, arith}
+use Rattle.std.proofs.Common.{length, ◌≡◌, ◌↔◌, ℕ, ◌<◌, Bool, true, false, cond, nat_lt, List, [], ◌∷◌, ◌++◌, refl, sym, ap, ◌∙◌, subst, arith}
 use Rattle.std.specs.Prelude.{IsTrue}
 use Rattle.std.proofs.lemmas.Bool.{ltb-true, lt-ltb}
 use Rattle.ioc_values.specs.declared.error.IocError.TheVariants.{Stale}
@@ -20,6 +20,7 @@ use Rattle.ioc_events.specs.Holding.{IsCounted, holders}
 use Rattle.ioc_events.specs.Step.{Stepped, stepped, done_alone, done_there, refused, with_starts, lets_start}
 use Rattle.ioc_history.specs.declared.entry.Note.{Note}
 use Rattle.ioc_history.specs.Key.{Key}
+use Rattle.ioc_history.specs.Counting.{once_in, MaySend}
 use Rattle.ioc_history.specs.Line.{Continues, noted}
 use Rattle.ioc_history.specs.Legal.{AreLiveAlike, IsLegal, IsSound, IsUntouched, Fits, done, map_of}
 use Rattle.ioc_history.specs.Account.{journalled, MayFollow, Added, puts_key}
@@ -88,6 +89,10 @@ module _ {R : Type 0} (k : RecordRules R) where
   unfolding begun begun_at
   none_called m moment = refl
 
+  none_sent : (m : World R) (moment : ℕ) → length (once_in (begun_at moment m).outbox) ≡ 0
+  unfolding begun begun_at
+  none_sent m moment = refl
+
   -- A question or a refusal leaves the world after any legal list as it is.
   module _ (base : World R) (moment : ℕ) (event : Event) (reply : Reply) (seen : List Note)
       (comes : (log : List Note) → IsSound k base → Continues seen puts_key log → IsLegal k base log
@@ -117,6 +122,10 @@ module _ {R : Type 0} (k : RecordRules R) where
 
     pub told_follows : (entry : Entry) → told_at moment event reply ≡ entry → MayFollow k base seen puts_key entry
     told_follows entry is = subst (λ (x : Entry). MayFollow k base seen puts_key x) is (λ log desk call own sound go legal. legal_then log desk call (puts_key ++ own) sound go legal)
+
+    pub told_sends_none : (entry : Entry) → told_at moment event reply ≡ entry → MaySend k base seen puts_key entry 0
+    told_sends_none entry is = subst (λ (x : Entry). MaySend k base seen puts_key x 0) is
+        (λ log desk call own sound go legal. sym (ap (λ (d : Stepped R). length (once_in d.world.outbox)) (done_is log desk call (puts_key ++ own) sound go legal) ∙ none_sent (map_of k base log) moment))
 
     pub told_alike : (entry : Entry) → told_at moment event reply ≡ entry → (log longer : List Note) → Added k base seen puts_key entry log longer → AreLiveAlike (map_of k base log) (map_of k base longer)
     told_alike entry is log longer added =

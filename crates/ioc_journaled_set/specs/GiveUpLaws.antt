@@ -17,6 +17,7 @@ use Rattle.ioc_history.specs.declared.entry.Note.{Note}
 use Rattle.ioc_history.specs.Key.{Key, Has as Has_key}
 use Rattle.ioc_history.specs.Legal.{IsLegal, map_of, notifications_key}
 use Rattle.ioc_history.specs.Legal.{IsSound as IsSound-world}
+use Rattle.ioc_history.specs.Counting.{once_by}
 use Rattle.ioc_history.specs.Covering.{Holds, Cover}
 use Rattle.ioc_history.specs.Laws.{GoesOn}
 use Rattle.ioc_set.specs.SetState.{SetState, now_of, held_after}
@@ -85,12 +86,12 @@ module _ {R D : Type 0} (k : RecordRules R) where
 
 module _ {R : Type 0} (D : Type 0) (k : RecordRules R) where
   -- If the count of a put with notification in held sets without a common record is its count in
-  -- the world of all, canceling it in all of them is one event of all records. The note has the
-  -- keys of all the sets and that of the puts with notification.
+  -- the world of all, canceling it in all of them is one event of all records, which sends no once
+  -- request. The note has the keys of all the sets and that of the puts with notification.
   abbrev pub SetsGiveUp : Type 0
   SetsGiveUp = (base : World R) (log : List Note) (sets : List (SetState R D)) (desk call moment number : ℕ) (keys : List Key)
       → IsSound-world k base → IsLegal k base log
       → ((h : SetState R D) → Contains sets h → IsHeldSoundly k (map_of k base log) keys h) → AllPairs ShareNone sets
       → holders_in_all number sets ≡ holders_of number (map_of k base log).live → holders_of number (map_of k base log).live ≢ 0
       → Has_key notifications_key keys
-      → GoesOn k base log (cancel_note desk call moment number keys) (IsGivenUpByAll k moment number sets (map_of k base log))
+      → GoesOn k base log (cancel_note desk call moment number keys) (IsGivenUpByAll k moment number sets (map_of k base log)) × (once_by k (map_of k base log) (cancel_note desk call moment number keys) ≡ 0)

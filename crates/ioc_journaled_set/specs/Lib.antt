@@ -11,4 +11,5 @@ pub mod PutPlaces
 pub mod Puts
 pub mod PutsViewCode
 pub mod SameDevice
+pub mod Sent
 pub mod Sets

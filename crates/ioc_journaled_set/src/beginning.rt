@@ -2,6 +2,7 @@
 ghost use Rattle.std.specs.Prelude.{◌≡◌, ◌⊎◌, None, IfOk, IfErr, OnOk, OnErr, Contains};
 ghost use Rattle.ioc_values.specs.declared.error.IocError.TheVariants.{QueueFull};
 ghost use Rattle.ioc_events.specs.declared.event.Event.TheVariants.{Put, Notify};
+ghost use Rattle.ioc_journaled_set.specs.Sent.{AreTicketsFor};
 ghost use Rattle.ioc_history.specs.Places.{IsNoPlace};
 ghost use Rattle.ioc_set_store.specs.SetStore.{world_of};
 ghost use Rattle.ioc_set.specs.SetState.{now_of};
@@ -10,18 +11,19 @@ ghost use Rattle.ioc_journaled_set.specs.Holding.{numbers_of, Begins, IsNoCall};
 ghost use Rattle.ioc_journaled_set.specs.Puts.{NoneMayBegin, HaveEnded};
 
 use crate::journaled_set::JournaledSet;
-use crate::running::{Ran, run_counted};
+use crate::running::{Ran, Served, run_counted};
 use crate::sets_name::SetsName;
 use crate::shared_notifications::{SharedNotifications, keep_beside, lock_taken, take_number};
 use ioc_device::Device;
+use ioc_events::Event;
 use ioc_events::event_rules::{events_keep_records, rules_are_steps};
-use ioc_events::{Event, Reply};
 use ioc_fields::FieldNo;
+use ioc_history::count_laws::parts_count_alike;
 use ioc_history::legal_laws::{
     events_are_held, holders_move, holding_lasts, lists_leave_sound, live_lasts,
     one_more_has_a_place, parts_share_what_is_held, those_ended_are_over,
 };
-use ioc_history::{Desk, Receipt, SharedJournal};
+use ioc_history::{Desk, SharedJournal};
 use ioc_names::RecordNo;
 use ioc_notify::NotifyId;
 use ioc_notify::table_laws::lines_tell_holders;
@@ -46,12 +48,13 @@ impl<K: RecordKind + Drop, B: SetsName<K, D>, D: Device> JournaledSet<K, B, D> {
         field: FieldNo,
         given: Input,
         moment: u64,
-    ) -> Result<(Reply, Receipt<K, B>), IocError>
+    ) -> Result<Served<K, B>, IocError>
         requires there { Contains (numbers_of self.old) target }
         requires is_call { no_call K.rules (now_of self.old.set) (Notify target notification field given) ≡ None }
-        ensures begins { IfOk result (λ x. Begins K.rules D.gives B.base self.old desk.old moment target field given x.0 self.new
+        ensures begins { IfOk result (λ x. Begins K.rules D.gives B.base self.old desk.old moment target field given x.reply self.new
             desk.new (world_of buffers.new.store)) }
-        ensures receipt { IfOk result (λ x. x.1 ≡ desk.new.seen) }
+        ensures receipt { IfOk result (λ x. x.receipt ≡ desk.new.seen) }
+        ensures tickets { IfOk result (λ x. AreTicketsFor K.rules B.base desk.new.seen (world_of buffers.new.store).outbox x.tickets) }
         ensures ended { OnOk result (HaveEnded K.rules B.base (world_of buffers.new.store).ended desk.new.seen
             buffers.new.ended_everywhere.items) }
         ensures refused { IfErr result IsNoPlace }
@@ -67,6 +70,7 @@ impl<K: RecordKind + Drop, B: SetsName<K, D>, D: Device> JournaledSet<K, B, D> {
         lists_leave_sound::<K>();
         parts_share_what_is_held::<K>();
         those_ended_are_over::<K>();
+        parts_count_alike::<K>();
         lines_tell_holders();
         self.set.is_sound();
         let event = Event::Notify(target, notification, field, given);
@@ -92,11 +96,15 @@ impl<K: RecordKind + Drop, B: SetsName<K, D>, D: Device> JournaledSet<K, B, D> {
             reply,
             entry,
         } = ran;
-        let receipt = keep_beside(
+        let appended = keep_beside(
             rt, book, place, &mut pass, all, desk, buffers, entry, &before, &self.set,
         );
         self.pass = Some(pass);
-        Ok((reply, receipt))
+        Ok(Served {
+            reply,
+            receipt: appended.receipt,
+            tickets: appended.tickets,
+        })
     }
 
     /// Puts a value into a field as [`JournaledSet::put`] does, with a notification, and adds the
@@ -124,13 +132,14 @@ impl<K: RecordKind + Drop, B: SetsName<K, D>, D: Device> JournaledSet<K, B, D> {
         field: FieldNo,
         given: Input,
         moment: u64,
-    ) -> Result<(Reply, Receipt<K, B>), IocError>
+    ) -> Result<Served<K, B>, IocError>
         requires there { Contains (numbers_of self.old) target }
-        ensures begins { IfOk result (λ x. Begins K.rules D.gives B.base self.old desk.old moment target field given x.0 self.new
+        ensures begins { IfOk result (λ x. Begins K.rules D.gives B.base self.old desk.old moment target field given x.reply self.new
             desk.new (world_of buffers.new.store)) }
         ensures ended { OnOk result (HaveEnded K.rules B.base (world_of buffers.new.store).ended desk.new.seen
             buffers.new.ended_everywhere.items) }
-        ensures receipt { IfOk result (λ x. x.1 ≡ desk.new.seen) }
+        ensures receipt { IfOk result (λ x. x.receipt ≡ desk.new.seen) }
+        ensures tickets { IfOk result (λ x. AreTicketsFor K.rules B.base desk.new.seen (world_of buffers.new.store).outbox x.tickets) }
         ensures refused { IfErr result (λ error. ((error ≡ QueueFull) × NoneMayBegin K.rules B.base)
             ⊎ IsNoCall K.rules self.old.set (Put target field given) error) }
         ensures err { OnErr result ((self.new ≡ self.old) × (desk.new ≡ desk.old)) }

@@ -64,8 +64,8 @@ impl<K: RecordKind + Drop, B: SetsName<K, D>, D: Device> JournaledSet<K, B, D> {
     }
 }
 
-// Moves these sets on to the whole list of the journal, which leads to their records.
-fn move_all_on<K: RecordKind + Drop, B: SetsName<K, D>, D: Device, R: Wait>(
+/// Moves these sets on to the whole list of the journal, which leads to their records.
+pub fn move_all_on<K: RecordKind + Drop, B: SetsName<K, D>, D: Device, R: Wait>(
     rt: &R,
     cell: &Cell,
     journal: &mut Journal<K, B>,

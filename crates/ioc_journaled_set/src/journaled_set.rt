@@ -4,6 +4,7 @@ ghost use Rattle.crossbeam_utils.specs.Seq.{cell_view};
 ghost use Rattle.ioc_events.specs.declared.event.Event.TheVariants.{Get};
 ghost use Rattle.ioc_events.specs.Step.{names};
 ghost use Rattle.ioc_notify.specs.Living.{is_live};
+ghost use Rattle.ioc_journaled_set.specs.Sent.{AreTicketsFor};
 ghost use Rattle.ioc_history.specs.Covering.{Holds};
 ghost use Rattle.ioc_history.specs.Legal.{map_of};
 ghost use Rattle.ioc_set.specs.SetState.{NoneIsLive, folded, now_of};
@@ -16,7 +17,7 @@ ghost use Rattle.ioc_journaled_set.specs.Puts.{HaveEnded};
 ghost use Rattle.ioc_journaled_set.specs.Holding.{IsLent, IsOwner, KeepsDevices, held_view, numbers_of, Serves, Tells, IsNoCall};
 ghost use Rattle.ioc_journaled_set.specs.SameDevice.{IsDeviceOf};
 
-use crate::running::{Ran, run_counted, run_with_answers};
+use crate::running::{Ran, Served, count_once, run_counted, run_with_answers};
 use crate::sets_name::SetsName;
 use crate::shared_notifications::{SharedNotifications, keep_beside};
 use ioc_device::Device;
@@ -24,6 +25,7 @@ use ioc_events::event_rules::{events_keep_records, rules_are_steps};
 use ioc_events::notification_rules::events_count_holders;
 use ioc_events::{Entry, Event, KeptAnswers, Reply};
 use ioc_fields::FieldNo;
+use ioc_history::count_laws::{parts_count_alike, questions_count_nothing};
 use ioc_history::legal_laws::{
     events_are_held, holders_move, holding_lasts, lists_leave_sound, parts_share_what_is_held,
     those_ended_are_over,
@@ -168,14 +170,15 @@ impl<K: RecordKind + Drop, B: SetsName<K, D>, D: Device> JournaledSet<K, B, D> {
         buffers: &mut EventBuffers<K, D>,
         event: &Event,
         moment: u64,
-    ) -> Result<(Reply, Receipt<K, B>), IocError>
+    ) -> Result<Served<K, B>, IocError>
         requires ordinary { is_ordinary event.now ≡ true }
         requires there { (n : ℕ) → Contains (names event.now) n → Contains (numbers_of self.old) n }
         requires is_call { no_call K.rules (now_of self.old.set) event.now ≡ None }
         requires none { NoneIsLive self.old.set }
-        ensures serves { IfOk result (λ x. Serves K.rules D.gives B.base self.old desk.old moment event.now x.0 self.new desk.new
+        ensures serves { IfOk result (λ x. Serves K.rules D.gives B.base self.old desk.old moment event.now x.reply self.new desk.new
             (world_of buffers.new.store)) }
-        ensures receipt { IfOk result (λ x. x.1 ≡ desk.new.seen) }
+        ensures receipt { IfOk result (λ x. x.receipt ≡ desk.new.seen) }
+        ensures tickets { IfOk result (λ x. AreTicketsFor K.rules B.base desk.new.seen (world_of buffers.new.store).outbox x.tickets) }
         ensures ended { OnOk result (HaveEnded K.rules B.base (world_of buffers.new.store).ended desk.new.seen
             buffers.new.ended_everywhere.items) }
         ensures refused { IfErr result IsNoPlace }
@@ -189,6 +192,7 @@ impl<K: RecordKind + Drop, B: SetsName<K, D>, D: Device> JournaledSet<K, B, D> {
         holders_move::<K>();
         parts_share_what_is_held::<K>();
         those_ended_are_over::<K>();
+        parts_count_alike::<K>();
         sets_stay_without_puts::<K, D>();
         self.set.is_sound();
         let place = book.reserve(rt, alloc, desk)?;
@@ -216,9 +220,14 @@ impl<K: RecordKind + Drop, B: SetsName<K, D>, D: Device> JournaledSet<K, B, D> {
         let Some(mut pass) = self.pass.take() else {
             unreachable!();
         };
-        let receipt = book.append(rt, place, &mut pass, desk, entry);
+        let sent = count_once(buffers.items());
+        let appended = book.append(rt, place, &mut pass, desk, entry, sent);
         self.pass = Some(pass);
-        Ok((*answer, receipt))
+        Ok(Served {
+            reply,
+            receipt: appended.receipt,
+            tickets: appended.tickets,
+        })
     }
 
     // Performs a request, a put or a completion on a set on which puts with notification are live:
@@ -234,13 +243,14 @@ impl<K: RecordKind + Drop, B: SetsName<K, D>, D: Device> JournaledSet<K, B, D> {
         buffers: &mut EventBuffers<K, D>,
         event: &Event,
         moment: u64,
-    ) -> Result<(Reply, Receipt<K, B>), IocError>
+    ) -> Result<Served<K, B>, IocError>
         requires ordinary { is_ordinary event.now ≡ true }
         requires there { (n : ℕ) → Contains (names event.now) n → Contains (numbers_of self.old) n }
         requires is_call { no_call K.rules (now_of self.old.set) event.now ≡ None }
-        ensures serves { IfOk result (λ x. Serves K.rules D.gives B.base self.old desk.old moment event.now x.0 self.new desk.new
+        ensures serves { IfOk result (λ x. Serves K.rules D.gives B.base self.old desk.old moment event.now x.reply self.new desk.new
             (world_of buffers.new.store)) }
-        ensures receipt { IfOk result (λ x. x.1 ≡ desk.new.seen) }
+        ensures receipt { IfOk result (λ x. x.receipt ≡ desk.new.seen) }
+        ensures tickets { IfOk result (λ x. AreTicketsFor K.rules B.base desk.new.seen (world_of buffers.new.store).outbox x.tickets) }
         ensures ended { OnOk result (HaveEnded K.rules B.base (world_of buffers.new.store).ended desk.new.seen
             buffers.new.ended_everywhere.items) }
         ensures refused { IfErr result IsNoPlace }
@@ -255,6 +265,7 @@ impl<K: RecordKind + Drop, B: SetsName<K, D>, D: Device> JournaledSet<K, B, D> {
         lists_leave_sound::<K>();
         parts_share_what_is_held::<K>();
         those_ended_are_over::<K>();
+        parts_count_alike::<K>();
         lines_tell_holders();
         self.set.is_sound();
         let ran = run_counted(rt, alloc, book, desk, &mut self.set, buffers, event, moment)?;
@@ -269,11 +280,15 @@ impl<K: RecordKind + Drop, B: SetsName<K, D>, D: Device> JournaledSet<K, B, D> {
             reply,
             entry,
         } = ran;
-        let receipt = keep_beside(
+        let appended = keep_beside(
             rt, book, place, &mut pass, all, desk, buffers, entry, &before, &self.set,
         );
         self.pass = Some(pass);
-        Ok((reply, receipt))
+        Ok(Served {
+            reply,
+            receipt: appended.receipt,
+            tickets: appended.tickets,
+        })
     }
 
     /// Performs a request, a put or a completion on the set, and adds it to the journal.
@@ -296,12 +311,13 @@ impl<K: RecordKind + Drop, B: SetsName<K, D>, D: Device> JournaledSet<K, B, D> {
         buffers: &mut EventBuffers<K, D>,
         event: &Event,
         moment: u64,
-    ) -> Result<(Reply, Receipt<K, B>), IocError>
+    ) -> Result<Served<K, B>, IocError>
         requires ordinary { is_ordinary event.now ≡ true }
         requires there { (n : ℕ) → Contains (names event.now) n → Contains (numbers_of self.old) n }
-        ensures serves { IfOk result (λ x. Serves K.rules D.gives B.base self.old desk.old moment event.now x.0 self.new desk.new
+        ensures serves { IfOk result (λ x. Serves K.rules D.gives B.base self.old desk.old moment event.now x.reply self.new desk.new
             (world_of buffers.new.store)) }
-        ensures receipt { IfOk result (λ x. x.1 ≡ desk.new.seen) }
+        ensures receipt { IfOk result (λ x. x.receipt ≡ desk.new.seen) }
+        ensures tickets { IfOk result (λ x. AreTicketsFor K.rules B.base desk.new.seen (world_of buffers.new.store).outbox x.tickets) }
         ensures ended { OnOk result (HaveEnded K.rules B.base (world_of buffers.new.store).ended desk.new.seen
             buffers.new.ended_everywhere.items) }
         ensures refused { IfErr result (IsNoCall K.rules self.old.set event.now) }
@@ -339,6 +355,7 @@ impl<K: RecordKind + Drop, B: SetsName<K, D>, D: Device> JournaledSet<K, B, D> {
     {
         holding_lasts::<K>();
         events_are_held::<K>();
+        questions_count_nothing::<K>();
         let event = Event::Get(number, field);
         self.test_call(&event)?;
         let place = book.reserve(rt, alloc, desk)?;
@@ -353,8 +370,8 @@ impl<K: RecordKind + Drop, B: SetsName<K, D>, D: Device> JournaledSet<K, B, D> {
         let Some(mut pass) = self.pass.take() else {
             unreachable!();
         };
-        let receipt = book.append(rt, place, &mut pass, desk, entry);
+        let appended = book.append(rt, place, &mut pass, desk, entry, 0);
         self.pass = Some(pass);
-        Ok((*text, receipt))
+        Ok((*text, appended.receipt))
     }
 }

@@ -27,8 +27,9 @@ pub mod shared_notifications;
 pub mod together;
 
 pub use changing::{Changed, change_link};
-pub use checkpoint::checkpoint_on;
+pub use checkpoint::{checkpoint_on, move_all_on};
 pub use giving_up::cancel_on;
 pub use journaled_set::JournaledSet;
+pub use running::Served;
 pub use sets_name::SetsName;
 pub use shared_notifications::SharedNotifications;

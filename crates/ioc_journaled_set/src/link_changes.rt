@@ -25,6 +25,7 @@ use ioc_dbcommon::{LinkBox, LinkField};
 use ioc_device::Device;
 use ioc_events::{Entry, Event, KeptAnswers, Reply};
 use ioc_fields::FieldNo;
+use ioc_history::count_laws::questions_count_nothing;
 use ioc_history::legal_laws::{holding_lasts, lists_leave_sound};
 use ioc_history::{Desk, EngineName, KeyPass, Keys, Place, Receipt, SharedJournal, pass};
 use ioc_names::RecordNo;
@@ -69,6 +70,7 @@ fn keep_change<P: Keys, K: RecordKind, B: EngineName<K>, D, R: Wait>(
         × AddedByBoth K.rules B.base (cell_view one.old).seen (cell_view one.old).owns (cell_view other.old).seen
         (cell_view other.old).owns (link_change moment number field link) log desk.new.seen }
 {
+    questions_count_nothing::<K>();
     let _ = stay;
     let _ = rest;
     let entry = Entry {
@@ -77,7 +79,8 @@ fn keep_change<P: Keys, K: RecordKind, B: EngineName<K>, D, R: Wait>(
         answers: KeptAnswers::new(Vec::new(alloc)),
         reply: Reply::Plain,
     };
-    book.append_two::<P, R>(rt, place, one, other, desk, entry)
+    book.append_two::<P, R>(rt, place, one, other, desk, entry, 0)
+        .receipt
 }
 
 impl<K: RecordKind + Drop, B: SetsName<K, D>, D: Device> JournaledSet<K, B, D> {
@@ -301,6 +304,7 @@ impl<K: RecordKind + Drop, B: SetsName<K, D>, D: Device> JournaledSet<K, B, D> {
     {
         holding_lasts::<K>();
         lists_leave_sound::<K>();
+        questions_count_nothing::<K>();
         let place = book.reserve(rt, alloc, desk)?;
         let event = Event::Link(number, field, link);
         let entry = Entry {
@@ -312,8 +316,8 @@ impl<K: RecordKind + Drop, B: SetsName<K, D>, D: Device> JournaledSet<K, B, D> {
         let Some(mut pass) = self.pass.take() else {
             unreachable!();
         };
-        let receipt = book.append(rt, place, &mut pass, desk, entry);
+        let appended = book.append(rt, place, &mut pass, desk, entry, 0);
         self.pass = Some(pass);
-        Ok((Reply::Refused(IocError::PutDisabled), receipt))
+        Ok((Reply::Refused(IocError::PutDisabled), appended.receipt))
     }
 }

@@ -2,6 +2,7 @@
 ghost use Rattle.std.specs.Prelude.{◌≡◌, ◌≤◌, true, length, IfOk, IfErr, OnOk, OnErr};
 ghost use Rattle.ioc_store.specs.Given.{answers_of};
 ghost use Rattle.ioc_events.specs.SetReply.{told_by};
+ghost use Rattle.ioc_history.specs.Counting.{once_in};
 ghost use Rattle.ioc_history.specs.Places.{IsNoPlace};
 ghost use Rattle.ioc_set_store.specs.SetStore.{world_of};
 ghost use Rattle.ioc_set.specs.Doing.{Does, is_done_on_sets};
@@ -9,12 +10,14 @@ ghost use Rattle.ioc_set.specs.Sound.{IsSound};
 
 use ioc_device::Device;
 use ioc_events::{Entry, Event, KeptAnswers, Reply, SetReply};
-use ioc_history::{Desk, EngineName, Place, SharedJournal};
+use ioc_history::{Desk, EngineName, Place, Receipt, RequestTickets, SharedJournal};
+use ioc_ledger::Tickets;
 use ioc_notify::Live;
 use ioc_record::RecordKind;
 use ioc_set::LockSet;
 use ioc_set_store::EventBuffers;
 use ioc_set_store::event_buffers::kept_answers;
+use ioc_store::OutboxItem;
 use ioc_values::IocError;
 use std::alloc::{AllocError, Global};
 use std::mem;
@@ -29,6 +32,30 @@ pub(crate) struct Ran<K: RecordKind, B: EngineName<K>> {
     pub before: Vec<Live>,
     pub reply: Reply,
     pub entry: Entry,
+}
+
+/// An event that was done on a journaled set and added to the journal.
+#[derive(Drop)]
+pub struct Served<K: RecordKind, B: EngineName<K>> {
+    /// The reply, as in the journal.
+    pub reply: Reply,
+    /// The receipt of the call.
+    pub receipt: Receipt<K, B>,
+    /// A ticket for each once request that the event has sent.
+    pub tickets: Tickets<RequestTickets<K, B>>,
+}
+
+/// Returns the number of once requests among these items.
+pub(crate) fn count_once(items: &[OutboxItem]) -> u64
+    ensures { result ≡ length (once_in items.now) }
+{
+    let mut count = 0;
+    for item in items {
+        if let OutboxItem::Once(_) = item {
+            count += 1;
+        }
+    }
+    count
 }
 
 // Performs an event on a set. If allocation fails, nothing has changed.

@@ -85,9 +85,9 @@ pub fn give_up<K: RecordKind + Drop, B: EngineName<K>, D: Device, R: Wait>(
         answers: KeptAnswers::new(Vec::new(alloc)),
         reply: Reply::Plain,
     };
-    let receipt = book.append(rt, place, keeper, desk, entry);
+    let appended = book.append(rt, place, keeper, desk, entry, 0);
     deal_all(book.cell(), keeper, sets, passes);
-    Ok(receipt)
+    Ok(appended.receipt)
 }
 
 /// Cancels a put with notification in these held sets, as [`give_up`] does, if they have all its

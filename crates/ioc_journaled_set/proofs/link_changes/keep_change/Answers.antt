@@ -1,9 +1,10 @@
-use Rattle.std.proofs.Common.{List, sym, ◌∙◌, subst, arith}
+use Rattle.std.proofs.Common.{refl, List, sym, ◌∙◌, subst, arith}
 use Rattle.crossbeam_utils.specs.Seq.{cell_view}
 use Rattle.ioc_device.specs.declared.Answer.{Answer}
 use Rattle.ioc_events.specs.declared.event.Event.TheVariants.{Link}
 use Rattle.ioc_events.specs.declared.reply.Reply.TheVariants.{Plain}
 use Rattle.ioc_history.specs.Account.{BothMayFollow, Call, AddedByBoth}
+use Rattle.ioc_journaled_set.proofs.Sending.{none_sent_by_both}
 use Rattle.ioc_journaled_set.proofs.link_changes.keep_change.Goals as goal
 
 pub append_two-requires-clause-other : goal.append_two-requires-clause-other
@@ -15,6 +16,10 @@ append_two-requires-clause-follows g c =
     let one = cell_view c.args.one.now in
     let other = cell_view c.args.other.now in
     subst (λ (l : List Answer). BothMayFollow g.K.RecordKind.rules g.B.EngineName.base one.seen one.owns other.seen other.owns (record { moment = c.args.moment; event = Link c.args.number c.args.field c.args.link; answers = l; reply = Plain })) (sym none) c.requires.follows
+
+pub append_two-requires-clause-sent : goal.append_two-requires-clause-sent
+append_two-requires-clause-sent g c =
+    none_sent_by_both g.K.RecordKind.rules c.questions_count_nothing.ensures g.B.EngineName.base _ refl (cell_view c.args.one.now).seen (cell_view c.args.one.now).owns (cell_view c.args.other.now).seen (cell_view c.args.other.now).owns
 
 pub returns-clause-call : goal.returns-clause-call
 returns-clause-call g c =

@@ -7,6 +7,8 @@ use Rattle.ioc_notify.specs.Counts.{holders_in}
 use Rattle.ioc_history.specs.declared.entry.Note.{Note}
 use Rattle.ioc_history.specs.declared.cell.View.{View}
 use Rattle.ioc_history.specs.Key.{Key}
+use Rattle.ioc_store.specs.declared.outbox.OutboxItem.{OutboxItem}
+use Rattle.ioc_history.specs.Counting.{once_in, BothMaySend}
 use Rattle.ioc_history.specs.Line.{holder, noted}
 use Rattle.ioc_history.specs.Legal.{map_of, notifications_key}
 use Rattle.ioc_history.specs.Account.{journalled, calls, number_given, numbers_given, BothMayFollow, MayBegin, AddedByBoth, puts_key}
@@ -16,13 +18,13 @@ use Rattle.ioc_journaled_set.proofs.Taken.{may_begin_by, room_by, new_by, own_by
 use Rattle.ioc_journaled_set.proofs.Counted.{before_there, sums_fit, counted_then}
 use Rattle.ioc_journaled_set.proofs.shared_notifications.keep_beside.Goals as goal
 
-pub append_two-receipt-requires-clause-apart : goal.append_two-receipt-requires-clause-apart
-append_two-receipt-requires-clause-apart g c key has also =
+pub append_two-appended-requires-clause-apart : goal.append_two-appended-requires-clause-apart
+append_two-appended-requires-clause-apart g c key has also =
     let record_key = c.requires.set.1 key has in
     ⊎_elim (λ (is : notifications_key ≡ key). let kind = ap (λ (k : Key). k.0) is in let two : notifications_key.0 ≡ 2 = refl in let z : ⊥ = omega (arith, kind, record_key, two) in z) (λ (no : ⊥). no) also
 
-pub append_two-receipt-requires-clause-follows : goal.append_two-receipt-requires-clause-follows
-append_two-receipt-requires-clause-follows g c =
+pub append_two-appended-requires-clause-follows : goal.append_two-appended-requires-clause-follows
+append_two-appended-requires-clause-follows g c =
     let k = g.K.RecordKind.rules in
     let base = g.B.EngineName.base in
     let one = cell_view c.args.pass.now in
@@ -30,6 +32,16 @@ append_two-receipt-requires-clause-follows g c =
     let owns = ap (λ (v : View). v.owns) (sym c.all.invariant.holds) in
     subst (λ (ks : List Key). BothMayFollow k base one.seen one.owns (cell_view c.all.inside.pass).seen ks c.args.entry) owns
     (subst (λ (s : List Note). BothMayFollow k base one.seen one.owns s puts_key c.args.entry) seen c.requires.follows)
+
+pub append_two-appended-requires-clause-sent : goal.append_two-appended-requires-clause-sent
+append_two-appended-requires-clause-sent g c =
+    let k = g.K.RecordKind.rules in
+    let base = g.B.EngineName.base in
+    let one = cell_view c.args.pass.now in
+    let seen = ap (λ (v : PutsView). v.seen) (sym c.all.view_is) in
+    let owns = ap (λ (v : View). v.owns) (sym c.all.invariant.holds) in
+    subst (λ (ks : List Key). BothMaySend k base one.seen one.owns (cell_view c.all.inside.pass).seen ks c.args.entry c.count_once-sent.result) owns
+    (subst (λ (s : List Note). BothMaySend k base one.seen one.owns s puts_key c.args.entry c.count_once-sent.result) seen (subst (λ (n : ℕ). BothMaySend k base one.seen one.owns c.args.all.now.seen puts_key c.args.entry n) (sym (c.count_once-sent.ensures ∙ ap (λ (xs : List OutboxItem). length (once_in xs)) c.items.ensures)) c.requires.sent))
 
 pub place_begun-requires-clause-room : goal.place_begun-requires-clause-room
 place_begun-requires-clause-room g c =
@@ -39,8 +51,8 @@ pub place_begun-requires-clause-new : goal.place_begun-requires-clause-new
 place_begun-requires-clause-new g c =
     new_by (number_given c.args.entry.event) c.args.all.now c.all.inside.places.begun (λ n there. subst (λ (v : PutsView). Contains (numbers_given (calls v.seen)) n) c.all.view_is (c.all.invariant.begun n there)) c.requires.begins
 
-pub append_two-receipt-requires-clause-begins : goal.append_two-receipt-requires-clause-begins
-append_two-receipt-requires-clause-begins g c =
+pub append_two-appended-requires-clause-begins : goal.append_two-appended-requires-clause-begins
+append_two-appended-requires-clause-begins g c =
     let seen = ap (λ (v : PutsView). v.seen) (sym c.all.view_is) in
     let owns = ap (λ (v : View). v.owns) (sym c.all.invariant.holds) in
     subst (λ (ks : List Key). MayBegin (cell_view c.all.inside.pass).seen ks c.args.entry.event) owns
@@ -53,9 +65,9 @@ recount-requires-clause-there g c n =
     let one = cell_view c.args.pass.now in
     let seen = ap (λ (v : PutsView). v.seen) c.all.view_is in
     let owns = ap (λ (v : View). v.owns) c.all.invariant.holds in
-    let log = c.append_two-receipt.ensures.added.0 in
-    let longer = c.append_two-receipt.new.desk.seen in
-    let added = subst (λ (ks : List Key). AddedByBoth k base one.seen one.owns (cell_view c.all.inside.pass).seen ks c.args.entry log longer) owns c.append_two-receipt.ensures.added.1 in
+    let log = c.append_two-appended.ensures.added.0 in
+    let longer = c.append_two-appended.new.desk.seen in
+    let added = subst (λ (ks : List Key). AddedByBoth k base one.seen one.owns (cell_view c.all.inside.pass).seen ks c.args.entry log longer) owns c.append_two-appended.ensures.added.1 in
     let moved = c.requires.moves log longer (subst (λ (s : List Note). AddedByBoth k base one.seen one.owns s puts_key c.args.entry log longer) seen added) in
     before_there k c.live_lasts.ensures base (cell_view c.all.inside.pass).seen log longer c.all.inside.table.live c.args.before.now c.args.set.now.live c.all.invariant.counted added.also_goes_on added.legal moved n
 
@@ -66,9 +78,9 @@ recount-requires-clause-fits g c n =
     let one = cell_view c.args.pass.now in
     let seen = ap (λ (v : PutsView). v.seen) c.all.view_is in
     let owns = ap (λ (v : View). v.owns) c.all.invariant.holds in
-    let log = c.append_two-receipt.ensures.added.0 in
-    let longer = c.append_two-receipt.new.desk.seen in
-    let added = subst (λ (ks : List Key). AddedByBoth k base one.seen one.owns (cell_view c.all.inside.pass).seen ks c.args.entry log longer) owns c.append_two-receipt.ensures.added.1 in
+    let log = c.append_two-appended.ensures.added.0 in
+    let longer = c.append_two-appended.new.desk.seen in
+    let added = subst (λ (ks : List Key). AddedByBoth k base one.seen one.owns (cell_view c.all.inside.pass).seen ks c.args.entry log longer) owns c.append_two-appended.ensures.added.1 in
     let moved = c.requires.moves log longer (subst (λ (s : List Note). AddedByBoth k base one.seen one.owns s puts_key c.args.entry log longer) seen added) in
     subst (λ (ls : List Live). holders_in n c.all.inside.table.live + holders_in n ls < 2 ^ 64 + holders_in n c.args.before.now) (sym c.live_puts.ensures)
     (sums_fit k c.live_lasts.ensures base (cell_view c.all.inside.pass).seen log longer c.all.inside.table.live c.args.before.now c.args.set.now.live c.all.invariant.counted added.also_goes_on added.legal moved n)
@@ -80,19 +92,19 @@ invariant_of-all g c =
     let one = cell_view c.args.pass.now in
     let seen = ap (λ (v : PutsView). v.seen) c.all.view_is in
     let owns = ap (λ (v : View). v.owns) c.all.invariant.holds in
-    let log = c.append_two-receipt.ensures.added.0 in
-    let longer = c.append_two-receipt.new.desk.seen in
-    let added = subst (λ (ks : List Key). AddedByBoth k base one.seen one.owns (cell_view c.all.inside.pass).seen ks c.args.entry log longer) owns c.append_two-receipt.ensures.added.1 in
+    let log = c.append_two-appended.ensures.added.0 in
+    let longer = c.append_two-appended.new.desk.seen in
+    let added = subst (λ (ks : List Key). AddedByBoth k base one.seen one.owns (cell_view c.all.inside.pass).seen ks c.args.entry log longer) owns c.append_two-appended.ensures.added.1 in
     let moved = c.requires.moves log longer (subst (λ (s : List Note). AddedByBoth k base one.seen one.owns s puts_key c.args.entry log longer) seen added) in
     let counts = subst (λ (ls : List Live). (n : ℕ) → holders_in n c.recount.new.table.live + holders_in n c.args.before.now ≡ holders_in n c.all.inside.table.live + holders_in n ls) c.live_puts.ensures c.recount.ensures.counts in
     let told = counted_then k c.live_lasts.ensures base (cell_view c.all.inside.pass).seen log longer c.all.inside.table.live c.args.before.now c.args.set.now.live c.all.invariant.counted added.also_goes_on added.legal moved c.recount.new.table.live counts in
-    let other = c.append_two-receipt.ensures.other in
+    let other = c.append_two-appended.ensures.other in
     let short = c.tables_are_short.ensures c.recount.new.table.live (map_of k base longer).live c.is_table-2.ensures told in
     let few = moved.few in
     let seen_before = (cell_view c.all.inside.pass).seen in
     let note = noted (journalled added.desk added.call c.args.entry) ((one.owns ++ puts_key) ++ added.own) in
-    let legal = c.append_two-receipt.ensures.call.legal.legal in
-    let keyed = c.append_two-receipt.ensures.call.legal.puts_keyed in
+    let legal = c.append_two-appended.ensures.call.legal.legal in
+    let keyed = c.append_two-appended.ensures.call.legal.puts_keyed in
     record {
       same = other.0 ∙ c.all.invariant.same;
       holds = subst (λ (v : View). v ≡ holder v.seen puts_key) (sym other.1) refl;
@@ -124,7 +136,7 @@ returns-clause-added g c =
     let one = cell_view c.args.pass.now in
     let seen = ap (λ (v : PutsView). v.seen) c.all.view_is in
     let owns = ap (λ (v : View). v.owns) c.all.invariant.holds in
-    let log = c.append_two-receipt.ensures.added.0 in
-    let longer = c.append_two-receipt.new.desk.seen in
-    let added = subst (λ (ks : List Key). AddedByBoth k base one.seen one.owns (cell_view c.all.inside.pass).seen ks c.args.entry log longer) owns c.append_two-receipt.ensures.added.1 in
+    let log = c.append_two-appended.ensures.added.0 in
+    let longer = c.append_two-appended.new.desk.seen in
+    let added = subst (λ (ks : List Key). AddedByBoth k base one.seen one.owns (cell_view c.all.inside.pass).seen ks c.args.entry log longer) owns c.append_two-appended.ensures.added.1 in
     (log, subst (λ (s : List Note). AddedByBoth k base one.seen one.owns s puts_key c.args.entry log longer) seen added)

@@ -14,6 +14,8 @@ use Rattle.ioc_history.proofs.Calls.{below_other, no_longer, counted}
 use Rattle.ioc_history.proofs.Adding.{account_then, below_then, called}
 use Rattle.ioc_history.proofs.Fitting.{last_fits}
 use Rattle.ioc_history.proofs.Written.{as_many, one_more_entry}
+use Rattle.ioc_history.specs.Counting.{one_if_request, IsFew, AreTicketsOf}
+use Rattle.ioc_history.proofs.TicketsThen.{tickets-then, begun-then}
 use Rattle.ioc_history.proofs.Bases.{still_leads}
 use Rattle.ioc_history.proofs.journal.Journal.append_two.Goals as goal
 
@@ -24,8 +26,8 @@ deal-pass-requires-clause-apart_desk g c = λ key a b.
     let no_desk : key.0 ≢ 1 = ⊎_elim (λ (x : Has key owns). λ (desk : key.0 ≡ 1). let record_key = c.requires.one.1 key x in absurd (omega (arith, record_key, desk))) (λ (y : Has key more). c.requires.other.1 key y) (has_either key owns more (c.requires.within key a)) in
     ⊎_elim (λ (e : desk_key c.desk.inside.number ≡ key). no_desk (sym (ap (λ (p : Key). p.0) e))) (λ (b : ⊥). b) (subst (λ (v : View). Has key v.owns) c.desk.invariant.holds b)
 
-pub invariant_of-result : goal.invariant_of-result
-invariant_of-result g c =
+pub invariant_of-receipt : goal.invariant_of-receipt
+invariant_of-receipt g c =
     let i = c.self.invariant in
     let d = c.desk.invariant in
     let n = c.desk.inside.number in
@@ -77,6 +79,11 @@ invariant_of-self g c =
       account = subst (IsAccount k g.B.EngineName.base) (sym seen) (account_then k g.B.EngineName.base log (cell_view c.desk.inside.pass).seen n next g.S.EntryName.entry owns own (ap (λ (v : View). v.owns) d.holds) i.account e.goes_on.2 d.below leads (cell_view c.args.other.now).seen (cell_view c.args.other.now).owns e.goes_on.1 (λ key has. has_left key owns own (has_right key (cell_view c.args.one.now).owns (cell_view c.args.other.now).owns has)) c.requires.begins);
       given = λ key has kind. i.given key (subst (Has key) born has) kind;
       new_desk = λ m le. subst (λ l. Below m 0 (calls l)) (sym seen) (below_other log made (owns ++ own) m (λ same. omega arith) (i.new_desk m le));
+      tickets_are =
+          (let sends = c.requires.sent log n next own i.sound e.goes_on.0 e.goes_on.1 i.account.legal in
+          let one = sym c.is_request-is_request.ensures ∙ ap (λ (j : JournalEntry). one_if_request j.entry.event) is_made in
+          subst (λ (l : List Note). AreTicketsOf k g.B.EngineName.base l c.add-tickets.new.self.counts c.add-tickets.new.self.sent) (sym seen)
+          (tickets-then k g.B.EngineName.base log (noted made (owns ++ own)) c.args.sent _ sends one c.self.inside.tickets c.add-tickets.new.self i.tickets_are c.add-tickets.ensures.tickets));
     }
 
 pub invariant_of-desk : goal.invariant_of-desk
@@ -166,3 +173,22 @@ overflow_add-index g c =
     let few = c.len.ensures.few in
     let count = c.len.ensures.count in
     omega (arith, dropped, within, few, count)
+
+pub returns-clause-tickets : goal.returns-clause-tickets
+returns-clause-tickets g c few =
+    let i = c.self.invariant in
+    let e = c.deal-pass.ensures in
+    let log = (cell_view c.self.inside.pass).seen in
+    let owns = (cell_view c.args.one.now).owns ++ (cell_view c.args.other.now).owns in
+    let own = (cell_view c.desk.inside.pass).owns in
+    let n = c.desk.inside.number in
+    let next = c.desk.inside.next in
+    let k = g.K.RecordKind.rules in
+    let made = journalled n next g.S.EntryName.entry in
+    let leads = c.requires.follows log n next own i.sound e.goes_on.0 e.goes_on.1 i.account.legal in
+    let is_made = subst (λ (v : DeskView). IsStored (journalled v.number v.next g.S.EntryName.entry) c.args.made) (sym c.desk.view_is) c.requires.stored (last_fits k g.B.EngineName.base log (noted made (owns ++ own)) leads) in
+    let noted_so = ap (λ (m : JournalEntry). log ++ noted m (owns ++ own) ∷ []) is_made in
+    let seen = ap (λ (v : View). v.seen) e.keeper.1 ∙ noted_so in
+    let sends = c.requires.sent log n next own i.sound e.goes_on.0 e.goes_on.1 i.account.legal in
+    let one = sym c.is_request-is_request.ensures ∙ ap (λ (j : JournalEntry). one_if_request j.entry.event) is_made in
+    begun-then k g.B.EngineName.base log (noted made (owns ++ own)) c.args.sent _ sends one c.self.inside.tickets c.add-tickets.result i.tickets_are c.add-tickets.ensures.begun (subst (λ (l : List Note). IsFew k g.B.EngineName.base l) seen few)

@@ -45,6 +45,7 @@ invariant_of-self g c =
       account = i.account;
       given = i.given;
       new_desk = i.new_desk;
+      tickets_are = i.tickets_are;
     }
 
 pub returns-clause-dropped : goal.returns-clause-dropped
@@ -54,8 +55,8 @@ returns-clause-dropped g c =
     let many = as_many c.self.inside.entries.filled c.self.inside.dropped seen i.items_are i.within in
     let count = c.len.ensures.count in
     let long : c.self.inside.dropped + c.len.result ≡ length seen = omega (arith, many, count) in
-    ap₂ (λ (p : PlacesOf JournalEntry) (n : ℕ). journal_of seen n p.given p.limit c.self.inside.desks) c.clear-free.ensures.cleared long
-    ∙ ap (λ (j : JournalOf Note). journal_of j.filled (length j.filled) j.given j.limit j.desks) c.self.view_is
+    ap₂ (λ (p : PlacesOf JournalEntry) (n : ℕ). journal_of seen n p.given p.limit c.self.inside.desks c.self.inside.tickets) c.clear-free.ensures.cleared long
+    ∙ ap (λ (j : JournalOf Note). journal_of j.filled (length j.filled) j.given j.limit j.desks j.tickets) c.self.view_is
 
 pub returns-clause-freed : goal.returns-clause-freed
 returns-clause-freed g c =

@@ -1,8 +1,11 @@
-use Rattle.std.proofs.Common.{refl, sym, ap, ◌∙◌, subst, arith}
+use Rattle.std.proofs.Common.{List, refl, sym, ap, ◌∙◌, subst, arith}
 use Rattle.crossbeam_utils.specs.Seq.{cell_view}
 use Rattle.ioc_history.specs.declared.cell.View.{View}
 use Rattle.ioc_history.specs.Line.{keeper}
 use Rattle.ioc_history.specs.Account.{calls, Below, IsAccount}
+use Rattle.ioc_history.specs.declared.entry.Note.{Note}
+use Rattle.ioc_history.specs.Counting.{AreTicketsOf}
+use Rattle.ioc_history.proofs.TicketsThen.{none-yet}
 use Rattle.ioc_history.proofs.journal.Journal.without_calls.Goals as goal
 
 pub invariant_of-result : goal.invariant_of-result
@@ -20,4 +23,5 @@ invariant_of-result g c =
       account = subst (IsAccount g.K.RecordKind.rules g.B.EngineName.base) (sym seen) (record { legal = tt; rising = tt; keyed = tt; numbers = λ i j d lt within. absurd (let none : ⊥ = omega (arith, within) in none); puts_keyed = tt });
       given = λ key has kind. absurd (c.requires.given key has kind);
       new_desk = λ m le. subst (λ l. Below m 0 (calls l)) (sym seen) tt;
+      tickets_are = subst (λ (l : List Note). AreTicketsOf g.K.RecordKind.rules g.B.EngineName.base l c.args.tickets.counts c.args.tickets.sent) (sym seen) (none-yet g.K.RecordKind.rules g.B.EngineName.base c.args.tickets c.requires.tickets);
     }

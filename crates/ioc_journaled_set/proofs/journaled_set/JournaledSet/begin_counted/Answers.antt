@@ -27,7 +27,7 @@ use Rattle.ioc_journaled_set.proofs.Devices.{worked_there, keeps_on}
 use Rattle.ioc_journaled_set.proofs.Serving.{one_there, owner_on, entry_is, only}
 use Rattle.ioc_journaled_set.proofs.Places.{place_alike}
 use Rattle.ioc_events.specs.declared.event.Event.TheVariants.{Notify}
-use Rattle.ioc_journaled_set.proofs.Beside.{both_follow, held_beside, moved_beside, ended_beside}
+use Rattle.ioc_journaled_set.proofs.Beside.{both_follow, both_send, held_beside, moved_beside, ended_beside}
 use Rattle.ioc_journaled_set.proofs.Counted.{up_to_date_on, keyed_before}
 use Rattle.ioc_journaled_set.proofs.Taken.{fewer_live}
 use Rattle.ioc_journaled_set.proofs.Ended.{have_ended}
@@ -40,8 +40,8 @@ unreachable-requires g c =
     let held = subst (λ (o : Option Pass). IsHeld k g.B.EngineName.base (IsDeviceOf g.D.Device.gives g.B.SetsName.devices) g.B.CellName.table o c.self.inside.set) none c.self.invariant in
     held.owner c.args.target (key_there c.self.inside.set.records c.args.target (subst (λ (v : HeldView g.row.K.Denot g.row.D.Denot). Contains (numbers_of v) c.args.target) (sym c.self.view_is) c.requires.there))
 
-pub keep_beside-receipt-requires-clause-follows : goal.keep_beside-receipt-requires-clause-follows
-keep_beside-receipt-requires-clause-follows g c =
+pub keep_beside-appended-requires-clause-follows : goal.keep_beside-appended-requires-clause-follows
+keep_beside-appended-requires-clause-follows g c =
     let k = g.K.RecordKind.rules in
     let base = g.B.EngineName.base in
     let event = Notify c.args.target c.args.notification c.args.field c.args.given in
@@ -61,13 +61,34 @@ keep_beside-receipt-requires-clause-follows g c =
     (λ log sound go legal h. place_alike k c.one_more_has_a_place.ensures c.live_lasts.ensures c.lists_leave_sound.ensures.after c.lines_tell_holders.ensures.live c.lines_tell_holders.ensures.held base (now_of c.self.inside.set) also log c.deref_mut-all.result.now.live c.args.notification c.args.moment
     c.is_counted.ensures.table c.is_counted.ensures.counted sound go legal h c.is_sound.ensures.counted (fewer_live c.deref_mut-all.result.now c.args.notification can) can.free) _ entry
 
-pub keep_beside-receipt-requires-clause-begins : goal.keep_beside-receipt-requires-clause-begins
-keep_beside-receipt-requires-clause-begins g c =
+pub keep_beside-appended-requires-clause-sent : goal.keep_beside-appended-requires-clause-sent
+keep_beside-appended-requires-clause-sent g c =
+    let k = g.K.RecordKind.rules in
+    let base = g.B.EngineName.base in
+    let event = Notify c.args.target c.args.notification c.args.field c.args.given in
+    let is : c.self.inside.pass ≡ Some c.in-Some.pass = sym c.take.ensures.value ∙ c.in-Some.is in
+    let held = subst (λ (o : Option Pass). IsHeld k base (IsDeviceOf g.D.Device.gives g.B.SetsName.devices) g.B.CellName.table o c.self.inside.set) is c.self.invariant in
+    let own = key_there c.self.inside.set.records c.args.target (subst (λ (v : HeldView g.row.K.Denot g.row.D.Denot). Contains (numbers_of v) c.args.target) (sym c.self.view_is) c.requires.there) in
+    let there : (n : ℕ) → Contains (names event) n → Has (now_of c.self.inside.set) n = λ n has. subst (λ (m : ℕ). Has (now_of c.self.inside.set) m) (one_there c.args.target n has) own in
+    let does = c.in_ok-ran.ensures.does in
+    let come_to = world_of c.run_counted.new.buffers.store in
+    let entry = entry_is k g.D.Device.gives c.self.inside.set c.run_counted.new.set c.args.moment event c.in_ok-ran.ran.reply come_to does there (answers_of come_to.calls) refl ∙ sym c.in_ok-ran.ensures.entry in
+    let also = c.deref_mut-all.result.now.seen in
+    let can = subst (λ (v : PutsView). CanBegin v c.args.notification) (sym c.deref_mut-all.ensures.value) c.lock_taken-guard.ensures.can in
+    both_send k g.D.Device.gives c.self.inside.set c.run_counted.new.set c.args.moment event c.in_ok-ran.ran.reply come_to does there
+    c.holding_lasts.ensures c.events_are_held.ensures.event c.holders_move.ensures.moves c.parts_share_what_is_held.ensures.alike
+    base (cell_view c.in-Some.pass).seen also (cell_view c.in-Some.pass).owns held.owner.covers held.holds
+    (λ log sound go legal h. tt)
+    (λ log sound go legal h. place_alike k c.one_more_has_a_place.ensures c.live_lasts.ensures c.lists_leave_sound.ensures.after c.lines_tell_holders.ensures.live c.lines_tell_holders.ensures.held base (now_of c.self.inside.set) also log c.deref_mut-all.result.now.live c.args.notification c.args.moment
+    c.is_counted.ensures.table c.is_counted.ensures.counted sound go legal h c.is_sound.ensures.counted (fewer_live c.deref_mut-all.result.now c.args.notification can) can.free) c.parts_count_alike.ensures _ entry
+
+pub keep_beside-appended-requires-clause-begins : goal.keep_beside-appended-requires-clause-begins
+keep_beside-appended-requires-clause-begins g c =
     let can = subst (λ (v : PutsView). CanBegin v c.args.notification) (sym c.deref_mut-all.ensures.value) c.lock_taken-guard.ensures.can in
     subst (λ (x : Entry). IfSome (number_given x.event) (λ number. CanBegin c.deref_mut-all.result.now number)) (sym c.in_ok-ran.ensures.entry) can
 
-pub keep_beside-receipt-requires-clause-moves : goal.keep_beside-receipt-requires-clause-moves
-keep_beside-receipt-requires-clause-moves g c =
+pub keep_beside-appended-requires-clause-moves : goal.keep_beside-appended-requires-clause-moves
+keep_beside-appended-requires-clause-moves g c =
     let k = g.K.RecordKind.rules in
     let base = g.B.EngineName.base in
     let event = Notify c.args.target c.args.notification c.args.field c.args.given in
@@ -103,11 +124,11 @@ invariant_of-self-2 g c =
     let entry = entry_is k g.D.Device.gives c.self.inside.set c.run_counted.new.set c.args.moment event c.in_ok-ran.ran.reply come_to does there (answers_of come_to.calls) refl ∙ sym c.in_ok-ran.ensures.entry in
     let also = c.deref_mut-all.result.now.seen in
     let can = subst (λ (v : PutsView). CanBegin v c.args.notification) (sym c.deref_mut-all.ensures.value) c.lock_taken-guard.ensures.can in
-    let pass = c.keep_beside-receipt.ensures.pass in
-    let added = c.keep_beside-receipt.ensures.added in
+    let pass = c.keep_beside-appended.ensures.pass in
+    let added = c.keep_beside-appended.ensures.added in
     let came = only k g.D.Device.gives c.self.inside.set c.run_counted.new.set c.args.moment event c.in_ok-ran.ran.reply come_to does there c.rules_are_steps.ensures.allowed c.events_keep_records.ensures held.holds.shut in
     record {
-      owner = owner_on g.B.CellName.table _ _ (cell_view c.in-Some.pass) (cell_view c.keep_beside-receipt.new.pass) _ (now_of c.self.inside.set) (now_of c.run_counted.new.set) held.owner (pass.0 ∙ sym held.owner.same) pass.1 came;
+      owner = owner_on g.B.CellName.table _ _ (cell_view c.in-Some.pass) (cell_view c.keep_beside-appended.new.pass) _ (now_of c.self.inside.set) (now_of c.run_counted.new.set) held.owner (pass.0 ∙ sym held.owner.same) pass.1 came;
       devices = keeps_on g.D.Device.gives g.B.SetsName.devices c.self.inside.set c.run_counted.new.set held.devices (worked_there does.work) came;
       holds = subst (λ (x : View). Holds k (map_of k base x.seen) (now_of c.run_counted.new.set)) (sym pass.1)
           (held_beside k g.D.Device.gives c.self.inside.set c.run_counted.new.set c.args.moment event c.in_ok-ran.ran.reply come_to does there
@@ -132,23 +153,23 @@ returns-clause-begins g c =
     let entry = entry_is k g.D.Device.gives c.self.inside.set c.run_counted.new.set c.args.moment event c.in_ok-ran.ran.reply come_to does there (answers_of come_to.calls) refl ∙ sym c.in_ok-ran.ensures.entry in
     let also = c.deref_mut-all.result.now.seen in
     let can = subst (λ (v : PutsView). CanBegin v c.args.notification) (sym c.deref_mut-all.ensures.value) c.lock_taken-guard.ensures.can in
-    let pass = c.keep_beside-receipt.ensures.pass in
+    let pass = c.keep_beside-appended.ensures.pass in
     let served = subst (λ (v : HeldView g.row.K.Denot g.row.D.Denot). Serves k g.D.Device.gives base v c.args.desk.now c.args.moment event c.in_ok-ran.ran.reply
-    (held_view c.run_counted.new.set (cell_view c.keep_beside-receipt.new.pass).seen) c.keep_beside-receipt.new.desk come_to) c.self.view_is
-    (record { is_call = subst (λ (v : HeldView g.row.K.Denot g.row.D.Denot). no_call k (now_of v.set) event ≡ None) (sym c.self.view_is) c.requires.is_call; does = does; call = subst (λ (x : Entry). Call k base c.args.desk.now x c.keep_beside-receipt.new.desk) (sym entry) c.keep_beside-receipt.ensures.call; seen = ap (λ (v : View). v.seen) pass.1 }) in
-    let log = c.keep_beside-receipt.ensures.added.0 in
-    let added = c.keep_beside-receipt.ensures.added.1 in
+    (held_view c.run_counted.new.set (cell_view c.keep_beside-appended.new.pass).seen) c.keep_beside-appended.new.desk come_to) c.self.view_is
+    (record { is_call = subst (λ (v : HeldView g.row.K.Denot g.row.D.Denot). no_call k (now_of v.set) event ≡ None) (sym c.self.view_is) c.requires.is_call; does = does; call = subst (λ (x : Entry). Call k base c.args.desk.now x c.keep_beside-appended.new.desk) (sym entry) c.keep_beside-appended.ensures.call; seen = ap (λ (v : View). v.seen) pass.1 }) in
+    let log = c.keep_beside-appended.ensures.added.0 in
+    let added = c.keep_beside-appended.ensures.added.1 in
     let note = noted (journalled added.desk added.call c.in_ok-ran.ran.entry) (((cell_view c.in-Some.pass).owns ++ puts_key) ++ added.own) in
-    let same = numbers_on also log puts_key added.also_goes_on (inl refl) (keyed_before log (note ∷ []) (subst (λ (l : List Note). PutsAreKeyed l) added.ends c.keep_beside-receipt.ensures.call.legal.puts_keyed)) in
+    let same = numbers_on also log puts_key added.also_goes_on (inl refl) (keyed_before log (note ∷ []) (subst (λ (l : List Note). PutsAreKeyed l) added.ends c.keep_beside-appended.ensures.call.legal.puts_keyed)) in
     record {
       number = c.args.notification;
       puts = puts_view c.deref_mut-all.result.now.live c.deref_mut-all.result.now.taken c.deref_mut-all.result.now.last log;
       can = record { within = can.within; few = can.few; free = can.free; new = λ begun. can.new (subst (λ (xs : List ℕ). Contains xs c.args.notification) same begun); own = can.own };
-      up_to_date = up_to_date_on k c.live_lasts.ensures base also log c.keep_beside-receipt.new.desk.seen note c.deref_mut-all.result.now.live c.deref_mut-all.result.now.taken c.deref_mut-all.result.now.last
-          c.is_counted.ensures.table c.is_counted.ensures.counted c.is_counted.ensures.below c.is_counted.ensures.taken added.also_goes_on added.legal added.ends c.keep_beside-receipt.ensures.call.legal.puts_keyed;
+      up_to_date = up_to_date_on k c.live_lasts.ensures base also log c.keep_beside-appended.new.desk.seen note c.deref_mut-all.result.now.live c.deref_mut-all.result.now.taken c.deref_mut-all.result.now.last
+          c.is_counted.ensures.table c.is_counted.ensures.counted c.is_counted.ensures.below c.is_counted.ensures.taken added.also_goes_on added.legal added.ends c.keep_beside-appended.ensures.call.legal.puts_keyed;
       before = (note, added.ends);
       serves = subst (λ (x : SetStore g.row.K.Denot g.row.D.Denot). Serves k g.D.Device.gives base c.args.self.now c.args.desk.now c.args.moment event c.in_ok-ran.ran.reply
-          (held_view c.run_counted.new.set (cell_view c.keep_beside-receipt.new.pass).seen) c.keep_beside-receipt.new.desk (world_of x)) (sym c.keep_beside-receipt.ensures.store) served;
+          (held_view c.run_counted.new.set (cell_view c.keep_beside-appended.new.pass).seen) c.keep_beside-appended.new.desk (world_of x)) (sym c.keep_beside-appended.ensures.store) served;
     }
 
 pub returns-clause-ended : goal.returns-clause-ended
@@ -165,9 +186,9 @@ returns-clause-ended g c =
     let entry = entry_is k g.D.Device.gives c.self.inside.set c.run_counted.new.set c.args.moment event c.in_ok-ran.ran.reply come_to does there (answers_of come_to.calls) refl ∙ sym c.in_ok-ran.ensures.entry in
     let also = c.deref_mut-all.result.now.seen in
     let can = subst (λ (v : PutsView). CanBegin v c.args.notification) (sym c.deref_mut-all.ensures.value) c.lock_taken-guard.ensures.can in
-    let kept = c.keep_beside-receipt.ensures in
+    let kept = c.keep_beside-appended.ensures in
     let added = kept.added in
-    let longer = c.keep_beside-receipt.new.desk.seen in
+    let longer = c.keep_beside-appended.new.desk.seen in
     let ends = ended_beside k g.D.Device.gives c.self.inside.set c.run_counted.new.set c.args.moment event c.in_ok-ran.ran.reply come_to does there
     c.holding_lasts.ensures c.events_are_held.ensures.event c.holders_move.ensures.moves c.parts_share_what_is_held.ensures.alike
     base (cell_view c.in-Some.pass).seen also (cell_view c.in-Some.pass).owns held.owner.covers held.holds
@@ -175,7 +196,7 @@ returns-clause-ended g c =
     (λ log sound go legal h. place_alike k c.one_more_has_a_place.ensures c.live_lasts.ensures c.lists_leave_sound.ensures.after c.lines_tell_holders.ensures.live c.lines_tell_holders.ensures.held base (now_of c.self.inside.set) also log c.deref_mut-all.result.now.live c.args.notification c.args.moment
     c.is_counted.ensures.table c.is_counted.ensures.counted sound go legal h c.is_sound.ensures.counted (fewer_live c.deref_mut-all.result.now c.args.notification can) can.free) _ entry added.0 _ added.1
     c.those_ended_are_over.ensures.over c.those_ended_are_over.ensures.nobody c.lists_leave_sound.ensures.after c.is_sound.ensures.counted in
-    let counts = subst (λ (seen : List Note). AreCounted k base c.keep_beside-receipt.new.all.live seen) kept.seen kept.counted.1 in
-    subst (λ (x : SetStore g.row.K.Denot g.row.D.Denot). HaveEnded k base (world_of x).ended longer c.keep_beside-receipt.new.buffers.ended_everywhere.items) (sym kept.store)
-    (have_ended k base c.lines_tell_holders.ensures.live c.lines_tell_holders.ensures.held come_to.ended c.keep_beside-receipt.new.buffers.ended_everywhere.items longer c.keep_beside-receipt.new.all.live
+    let counts = subst (λ (seen : List Note). AreCounted k base c.keep_beside-appended.new.all.live seen) kept.seen kept.counted.1 in
+    subst (λ (x : SetStore g.row.K.Denot g.row.D.Denot). HaveEnded k base (world_of x).ended longer c.keep_beside-appended.new.buffers.ended_everywhere.items) (sym kept.store)
+    (have_ended k base c.lines_tell_holders.ensures.live c.lines_tell_holders.ensures.held come_to.ended c.keep_beside-appended.new.buffers.ended_everywhere.items longer c.keep_beside-appended.new.all.live
     kept.counted.0 counts (c.lists_leave_sound.ensures.after base longer added.1.sound).2 ends kept.ended)

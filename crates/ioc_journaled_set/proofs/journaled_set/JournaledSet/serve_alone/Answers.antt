@@ -1,9 +1,11 @@
-use Rattle.std.proofs.Common.{◌≡◌, ℕ, Option, Some, None, sym, ap, ◌∙◌, subst, arith}
+use Rattle.std.proofs.Common.{◌≡◌, ℕ, List, length, Option, Some, None, sym, ap, ◌∙◌, subst, arith}
 use Rattle.std.specs.Prelude.{Contains}
 use Rattle.crossbeam_utils.specs.Seq.{cell_view}
 use Rattle.ioc_store.specs.World.{Has}
 use Rattle.ioc_events.specs.declared.event.Entry.{Entry}
 use Rattle.ioc_events.specs.Step.{names}
+use Rattle.ioc_history.specs.Counting.{once_in, MaySend}
+use Rattle.ioc_store.specs.declared.outbox.OutboxItem.{OutboxItem}
 use Rattle.ioc_history.specs.Covering.{Holds}
 use Rattle.ioc_history.specs.Legal.{map_of}
 use Rattle.ioc_history.specs.declared.cell.View.{View}
@@ -17,7 +19,7 @@ use Rattle.ioc_journaled_set.specs.SameDevice.{IsDeviceOf}
 use Rattle.ioc_journaled_set.proofs.Keys.{key_there}
 use Rattle.ioc_journaled_set.proofs.Devices.{worked_there, keeps_on}
 use Rattle.ioc_journaled_set.proofs.Ended.{none_have_ended}
-use Rattle.ioc_journaled_set.proofs.Serving.{names_one, begins_no_put, owner_on, entry_is, none_held, none_ended, may_follow, held_then, only}
+use Rattle.ioc_journaled_set.proofs.Serving.{names_one, begins_no_put, owner_on, entry_is, none_held, none_ended, may_follow, may_send, held_then, only}
 use Rattle.ioc_journaled_set.proofs.journaled_set.JournaledSet.serve_alone.Goals as goal
 
 pub unreachable-requires : goal.unreachable-requires
@@ -28,14 +30,14 @@ unreachable-requires g c =
     let one = names_one c.args.event.now c.requires.ordinary in
     held.owner one.0 (key_there c.self.inside.set.records one.0 (subst (λ (v : HeldView g.row.K.Denot g.row.D.Denot). Contains (numbers_of v) one.0) (sym c.self.view_is) (c.requires.there one.0 one.1)))
 
-pub append-receipt-requires-clause-set : goal.append-receipt-requires-clause-set
-append-receipt-requires-clause-set g c =
+pub append-appended-requires-clause-set : goal.append-appended-requires-clause-set
+append-appended-requires-clause-set g c =
     let is : c.self.inside.pass ≡ Some c.in-Some.pass = sym c.take.ensures.value ∙ c.in-Some.is in
     let held = subst (λ (o : Option Pass). IsHeld g.K.RecordKind.rules g.B.EngineName.base (IsDeviceOf g.D.Device.gives g.B.SetsName.devices) g.B.CellName.table o c.self.inside.set) is c.self.invariant in
     (held.owner.holder, λ key has desk. let record_key = held.owner.records key has in omega (arith, record_key, desk))
 
-pub append-receipt-requires-clause-follows : goal.append-receipt-requires-clause-follows
-append-receipt-requires-clause-follows g c =
+pub append-appended-requires-clause-follows : goal.append-appended-requires-clause-follows
+append-appended-requires-clause-follows g c =
     let k = g.K.RecordKind.rules in
     let none = subst (λ (v : HeldView g.row.K.Denot g.row.D.Denot). NoneIsLive v.set) (sym c.self.view_is) c.requires.none in
     let is : c.self.inside.pass ≡ Some c.in-Some.pass = sym c.take.ensures.value ∙ c.in-Some.is in
@@ -51,8 +53,26 @@ append-receipt-requires-clause-follows g c =
     c.holding_lasts.ensures c.events_are_held.ensures.event c.holders_move.ensures.moves c.parts_share_what_is_held.ensures.alike c.requires.ordinary same
     g.B.EngineName.base (cell_view c.in-Some.pass).seen (cell_view c.in-Some.pass).owns held.owner.covers held.holds _ entry
 
-pub append-receipt-requires-clause-begins : goal.append-receipt-requires-clause-begins
-append-receipt-requires-clause-begins g c = begins_none (cell_view c.in-Some.pass).seen (cell_view c.in-Some.pass).owns c.args.event.now (begins_no_put c.args.event.now c.requires.ordinary)
+pub append-appended-requires-clause-sent : goal.append-appended-requires-clause-sent
+append-appended-requires-clause-sent g c =
+    let k = g.K.RecordKind.rules in
+    let none = subst (λ (v : HeldView g.row.K.Denot g.row.D.Denot). NoneIsLive v.set) (sym c.self.view_is) c.requires.none in
+    let is : c.self.inside.pass ≡ Some c.in-Some.pass = sym c.take.ensures.value ∙ c.in-Some.is in
+    let held = subst (λ (o : Option Pass). IsHeld k g.B.EngineName.base (IsDeviceOf g.D.Device.gives g.B.SetsName.devices) g.B.CellName.table o c.self.inside.set) is c.self.invariant in
+    let there : (n : ℕ) → Contains (names c.args.event.now) n → Has (now_of c.self.inside.set) n = λ n has.
+    key_there c.self.inside.set.records n (subst (λ (v : HeldView g.row.K.Denot g.row.D.Denot). Contains (numbers_of v) n) (sym c.self.view_is) (c.requires.there n has)) in
+    let does = c.in-Ok.ensures.ok in
+    let entry = entry_is k g.D.Device.gives c.self.inside.set c.run_with_answers.new.set c.args.moment c.args.event.now c.in-Ok.done.0 (world_of c.run_with_answers.new.buffers.store) does there c.in-Ok.done.1 c.in-Ok.ensures.answers in
+    let same = none_held k g.D.Device.gives c.self.inside.set c.run_with_answers.new.set c.args.moment c.args.event.now c.in-Ok.done.0 (world_of c.run_with_answers.new.buffers.store) does there
+    c.events_count_holders.ensures.event c.rules_are_steps.ensures.allowed c.is_sound.ensures.counted none
+    (c.sets_stay_without_puts.ensures.stay c.self.inside.set c.run_with_answers.new.set c.args.moment c.args.event.now c.in-Ok.done.0 (world_of c.run_with_answers.new.buffers.store) does c.requires.ordinary c.is_sound.ensures none) in
+    subst (λ (n : ℕ). MaySend k g.B.EngineName.base (cell_view c.in-Some.pass).seen (cell_view c.in-Some.pass).owns (record { moment = c.args.moment; event = c.args.event.now; answers = c.in-Ok.done.1; reply = c.in-Ok.done.0 }) n) (sym (c.count_once-sent.ensures ∙ ap (λ (xs : List OutboxItem). length (once_in xs)) c.items.ensures))
+    (may_send k g.D.Device.gives c.self.inside.set c.run_with_answers.new.set c.args.moment c.args.event.now c.in-Ok.done.0 (world_of c.run_with_answers.new.buffers.store) does there
+    c.holding_lasts.ensures c.events_are_held.ensures.event c.holders_move.ensures.moves c.parts_share_what_is_held.ensures.alike c.requires.ordinary same
+    g.B.EngineName.base (cell_view c.in-Some.pass).seen (cell_view c.in-Some.pass).owns held.owner.covers held.holds c.parts_count_alike.ensures _ entry)
+
+pub append-appended-requires-clause-begins : goal.append-appended-requires-clause-begins
+append-appended-requires-clause-begins g c = begins_none (cell_view c.in-Some.pass).seen (cell_view c.in-Some.pass).owns c.args.event.now (begins_no_put c.args.event.now c.requires.ordinary)
 
 pub invariant_of-self-2 : goal.invariant_of-self-2
 invariant_of-self-2 g c =
@@ -64,15 +84,15 @@ invariant_of-self-2 g c =
     key_there c.self.inside.set.records n (subst (λ (v : HeldView g.row.K.Denot g.row.D.Denot). Contains (numbers_of v) n) (sym c.self.view_is) (c.requires.there n has)) in
     let does = c.in-Ok.ensures.ok in
     let entry = entry_is k g.D.Device.gives c.self.inside.set c.run_with_answers.new.set c.args.moment c.args.event.now c.in-Ok.done.0 (world_of c.run_with_answers.new.buffers.store) does there c.in-Ok.done.1 c.in-Ok.ensures.answers in
-    let set = c.append-receipt.ensures.set in
-    let added = c.append-receipt.ensures.added in
+    let set = c.append-appended.ensures.set in
+    let added = c.append-appended.ensures.added in
     let same = none_held k g.D.Device.gives c.self.inside.set c.run_with_answers.new.set c.args.moment c.args.event.now c.in-Ok.done.0 (world_of c.run_with_answers.new.buffers.store) does there
     c.events_count_holders.ensures.event c.rules_are_steps.ensures.allowed c.is_sound.ensures.counted none
     (c.sets_stay_without_puts.ensures.stay c.self.inside.set c.run_with_answers.new.set c.args.moment c.args.event.now c.in-Ok.done.0 (world_of c.run_with_answers.new.buffers.store) does c.requires.ordinary c.is_sound.ensures none) in
     let came = only k g.D.Device.gives c.self.inside.set c.run_with_answers.new.set c.args.moment c.args.event.now c.in-Ok.done.0 (world_of c.run_with_answers.new.buffers.store) does there
     c.rules_are_steps.ensures.allowed c.events_keep_records.ensures held.holds.shut in
     record {
-      owner = owner_on g.B.CellName.table _ _ (cell_view c.in-Some.pass) (cell_view c.append-receipt.new.set) _ (now_of c.self.inside.set) (now_of c.run_with_answers.new.set) held.owner set.0 set.1 came;
+      owner = owner_on g.B.CellName.table _ _ (cell_view c.in-Some.pass) (cell_view c.append-appended.new.set) _ (now_of c.self.inside.set) (now_of c.run_with_answers.new.set) held.owner set.0 set.1 came;
       devices = keeps_on g.D.Device.gives g.B.SetsName.devices c.self.inside.set c.run_with_answers.new.set held.devices (worked_there does.work) came;
       holds =
           subst (λ (x : View). Holds k (map_of k g.B.EngineName.base x.seen) (now_of c.run_with_answers.new.set)) (sym set.1)
@@ -90,10 +110,10 @@ returns-clause-serves g c =
     key_there c.self.inside.set.records n (subst (λ (v : HeldView g.row.K.Denot g.row.D.Denot). Contains (numbers_of v) n) (sym c.self.view_is) (c.requires.there n has)) in
     let does = c.in-Ok.ensures.ok in
     let entry = entry_is k g.D.Device.gives c.self.inside.set c.run_with_answers.new.set c.args.moment c.args.event.now c.in-Ok.done.0 (world_of c.run_with_answers.new.buffers.store) does there c.in-Ok.done.1 c.in-Ok.ensures.answers in
-    let set = c.append-receipt.ensures.set in
+    let set = c.append-appended.ensures.set in
     subst (λ (v : HeldView g.row.K.Denot g.row.D.Denot). Serves k g.D.Device.gives g.B.EngineName.base v c.args.desk.now c.args.moment c.args.event.now c.in-Ok.done.0
-    (held_view c.run_with_answers.new.set (cell_view c.append-receipt.new.set).seen) c.append-receipt.new.desk (world_of c.run_with_answers.new.buffers.store)) c.self.view_is
-    (record { is_call = subst (λ (v : HeldView g.row.K.Denot g.row.D.Denot). no_call k (now_of v.set) c.args.event.now ≡ None) (sym c.self.view_is) c.requires.is_call; does = does; call = subst (λ (x : Entry). Call k g.B.EngineName.base c.args.desk.now x c.append-receipt.new.desk) (sym entry) c.append-receipt.ensures.call; seen = ap (λ (v : View). v.seen) set.1 })
+    (held_view c.run_with_answers.new.set (cell_view c.append-appended.new.set).seen) c.append-appended.new.desk (world_of c.run_with_answers.new.buffers.store)) c.self.view_is
+    (record { is_call = subst (λ (v : HeldView g.row.K.Denot g.row.D.Denot). no_call k (now_of v.set) c.args.event.now ≡ None) (sym c.self.view_is) c.requires.is_call; does = does; call = subst (λ (x : Entry). Call k g.B.EngineName.base c.args.desk.now x c.append-appended.new.desk) (sym entry) c.append-appended.ensures.call; seen = ap (λ (v : View). v.seen) set.1 })
 
 pub returns-clause-ended : goal.returns-clause-ended
 returns-clause-ended g c =
@@ -105,12 +125,12 @@ returns-clause-ended g c =
     key_there c.self.inside.set.records n (subst (λ (v : HeldView g.row.K.Denot g.row.D.Denot). Contains (numbers_of v) n) (sym c.self.view_is) (c.requires.there n has)) in
     let does = c.in-Ok.ensures.ok in
     let entry = entry_is k g.D.Device.gives c.self.inside.set c.run_with_answers.new.set c.args.moment c.args.event.now c.in-Ok.done.0 (world_of c.run_with_answers.new.buffers.store) does there c.in-Ok.done.1 c.in-Ok.ensures.answers in
-    let added = c.append-receipt.ensures.added in
+    let added = c.append-appended.ensures.added in
     let same = none_held k g.D.Device.gives c.self.inside.set c.run_with_answers.new.set c.args.moment c.args.event.now c.in-Ok.done.0 (world_of c.run_with_answers.new.buffers.store) does there
     c.events_count_holders.ensures.event c.rules_are_steps.ensures.allowed c.is_sound.ensures.counted none
     (c.sets_stay_without_puts.ensures.stay c.self.inside.set c.run_with_answers.new.set c.args.moment c.args.event.now c.in-Ok.done.0 (world_of c.run_with_answers.new.buffers.store) does c.requires.ordinary c.is_sound.ensures none) in
     let none_here = c.sets_stay_without_puts.ensures.ended c.self.inside.set c.run_with_answers.new.set c.args.moment c.args.event.now c.in-Ok.done.0 (world_of c.run_with_answers.new.buffers.store) does c.requires.ordinary c.is_sound.ensures none in
-    none_have_ended k g.B.EngineName.base (world_of c.run_with_answers.new.buffers.store).ended _ c.append-receipt.new.desk.seen none_here c.clear.ensures.items
+    none_have_ended k g.B.EngineName.base (world_of c.run_with_answers.new.buffers.store).ended _ c.append-appended.new.desk.seen none_here c.clear.ensures.items
     (none_ended k g.D.Device.gives c.self.inside.set c.run_with_answers.new.set c.args.moment c.args.event.now c.in-Ok.done.0 (world_of c.run_with_answers.new.buffers.store) does there
     c.holding_lasts.ensures c.events_are_held.ensures.event c.holders_move.ensures.moves c.parts_share_what_is_held.ensures.alike c.requires.ordinary same
     g.B.EngineName.base (cell_view c.in-Some.pass).seen (cell_view c.in-Some.pass).owns held.owner.covers held.holds

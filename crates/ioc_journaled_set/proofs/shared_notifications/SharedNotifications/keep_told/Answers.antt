@@ -5,6 +5,7 @@ use Rattle.crossbeam_utils.specs.Seq.{cell_view}
 use Rattle.ioc_history.specs.declared.entry.Note.{Note}
 use Rattle.ioc_history.specs.declared.cell.View.{View}
 use Rattle.ioc_history.specs.Key.{Key}
+use Rattle.ioc_history.specs.Counting.{MaySend}
 use Rattle.ioc_history.specs.Line.{holder, noted}
 use Rattle.ioc_history.specs.Account.{journalled, calls, numbers_given, MayFollow, Added, puts_key}
 use Rattle.ioc_history.proofs.Numbers.{begins_none, numbers_below, numbers_same}
@@ -22,6 +23,16 @@ append-requires-clause-follows g c =
     let owns = ap (λ (v : View). v.owns) (sym c.self.invariant.holds) in
     subst (λ (ks : List Key). MayFollow k base pass.seen ks c.args.entry) owns
     (subst (λ (s : List Note). MayFollow k base s puts_key c.args.entry) seen c.requires.follows)
+
+pub append-requires-clause-sent : goal.append-requires-clause-sent
+append-requires-clause-sent g c =
+    let k = g.K.RecordKind.rules in
+    let base = g.B.EngineName.base in
+    let pass = cell_view c.self.inside.pass in
+    let seen = ap (λ (v : PutsView). v.seen) (sym c.self.view_is) in
+    let owns = ap (λ (v : View). v.owns) (sym c.self.invariant.holds) in
+    subst (λ (ks : List Key). MaySend k base pass.seen ks c.args.entry 0) owns
+    (subst (λ (s : List Note). MaySend k base s puts_key c.args.entry 0) seen c.requires.none_sent)
 
 pub append-requires-clause-begins : goal.append-requires-clause-begins
 append-requires-clause-begins g c = begins_none (cell_view c.self.inside.pass).seen (cell_view c.self.inside.pass).owns c.args.entry.event c.requires.begins_none

@@ -9,29 +9,36 @@ use Rattle.ioc_history.specs.declared.cell.View.{View}
 use Rattle.ioc_history.specs.Key.{Has as Has_key}
 use Rattle.ioc_history.specs.Line.{holder}
 use Rattle.ioc_history.specs.Legal.{notifications_key}
+use Rattle.ioc_history.specs.Counting.{MaySend}
 use Rattle.ioc_history.specs.Covering.{Cover}
 use Rattle.ioc_history.specs.Account.{MayFollow, Call, Added, puts_key}
 use Rattle.ioc_set.specs.SetState.{now_of, nothing_held}
 use Rattle.ioc_journaled_set.specs.Passes.{IsDealt}
-use Rattle.ioc_journaled_set.proofs.Following.{may_follow, puts_owned, covered_then, share_none_then, held_then, nobody_then, none_ended_then, others_then, none_began_then}
+use Rattle.ioc_journaled_set.proofs.Following.{may_follow, may_send, puts_owned, covered_then, share_none_then, held_then, nobody_then, none_ended_then, others_then, none_began_then}
 use Rattle.ioc_journaled_set.proofs.together.giving_up.give_up.Goals as goal
 
 pub merge_all-requires-clause-passes : goal.merge_all-requires-clause-passes
 merge_all-requires-clause-passes g c = λ i d lt. (c.requires.held i nothing_held d (let same = c.requires.beside in omega (arith, lt, same))).pass
 
-pub append-receipt-requires-clause-follows : goal.append-receipt-requires-clause-follows
-append-receipt-requires-clause-follows g c =
+pub append-appended-requires-clause-follows : goal.append-appended-requires-clause-follows
+append-appended-requires-clause-follows g c =
     subst (λ (a : List Answer). MayFollow g.K.RecordKind.rules g.B.EngineName.base (cell_view c.merge_all.new.keeper).seen (cell_view c.merge_all.new.keeper).owns (record { moment = c.args.moment; event = Cancel c.args.number; answers = a; reply = Plain })) (sym (c.new-2.ensures ∙ c.new.ensures.items))
     (may_follow g.K.RecordKind.rules g.B.EngineName.base c.holding_lasts.ensures c.live_lasts.ensures c.cancelled_sets_are_held.ensures g.B.CellName.table c.args.number c.args.moment c.args.sets.now c.args.passes.now (cell_view c.args.keeper.now) (cell_view c.merge_all.new.keeper)
     c.requires.keeper.1 c.requires.held c.requires.have c.all_sound.ensures c.requires.beside c.merge_all.ensures.merged)
 
+pub append-appended-requires-clause-sent : goal.append-appended-requires-clause-sent
+append-appended-requires-clause-sent g c =
+    subst (λ (a : List Answer). MaySend g.K.RecordKind.rules g.B.EngineName.base (cell_view c.merge_all.new.keeper).seen (cell_view c.merge_all.new.keeper).owns (record { moment = c.args.moment; event = Cancel c.args.number; answers = a; reply = Plain }) 0) (sym (c.new-2.ensures ∙ c.new.ensures.items))
+    (may_send g.K.RecordKind.rules g.B.EngineName.base c.holding_lasts.ensures c.live_lasts.ensures c.cancelled_sets_are_held.ensures g.B.CellName.table c.args.number c.args.moment c.args.sets.now c.args.passes.now (cell_view c.args.keeper.now) (cell_view c.merge_all.new.keeper)
+    c.requires.keeper.1 c.requires.held c.requires.have c.all_sound.ensures c.requires.beside c.merge_all.ensures.merged)
+
 pub deal_all-requires-clause-there : goal.deal_all-requires-clause-there
-deal_all-requires-clause-there g c = subst (λ (x : View). Has_key notifications_key x.owns) (sym c.append-receipt.ensures.set.1)
+deal_all-requires-clause-there g c = subst (λ (x : View). Has_key notifications_key x.owns) (sym c.append-appended.ensures.set.1)
     (puts_owned g.K.RecordKind.rules g.B.EngineName.base c.holding_lasts.ensures c.live_lasts.ensures c.cancelled_sets_are_held.ensures g.B.CellName.table c.args.number c.args.moment c.args.sets.now c.args.passes.now (cell_view c.args.keeper.now) (cell_view c.merge_all.new.keeper)
     c.requires.keeper.1 c.requires.held c.requires.have c.all_sound.ensures c.requires.beside c.merge_all.ensures.merged)
 
 pub deal_all-requires-clause-covers : goal.deal_all-requires-clause-covers
-deal_all-requires-clause-covers g c = λ i d lt. subst (λ (x : View). Cover x.owns (now_of (get_or c.cancel_all.new.sets i d))) (sym c.append-receipt.ensures.set.1)
+deal_all-requires-clause-covers g c = λ i d lt. subst (λ (x : View). Cover x.owns (now_of (get_or c.cancel_all.new.sets i d))) (sym c.append-appended.ensures.set.1)
     (covered_then g.K.RecordKind.rules g.B.EngineName.base c.holding_lasts.ensures c.live_lasts.ensures c.cancelled_sets_are_held.ensures g.B.CellName.table c.args.number c.args.moment c.args.sets.now c.args.passes.now (cell_view c.args.keeper.now) (cell_view c.merge_all.new.keeper)
     c.requires.keeper.1 c.requires.held c.requires.have c.all_sound.ensures c.requires.beside c.merge_all.ensures.merged
     c.cancel_all.new.sets c.in_default.ensures.ok c.cancel_all.auto.sets i d lt)
@@ -47,17 +54,17 @@ returns-clause-gave_up g c =
     let k = g.K.RecordKind.rules in
     let base = g.B.EngineName.base in
     let after = c.cancel_all.new.sets in
-    let longer = c.append-receipt.new.desk.seen in
-    let seen = ap (λ (v : View). v.seen) c.append-receipt.ensures.set.1 in
-    let table = c.append-receipt.ensures.set.0 ∙ c.merge_all.ensures.keeper.same in
+    let longer = c.append-appended.new.desk.seen in
+    let seen = ap (λ (v : View). v.seen) c.append-appended.ensures.set.1 in
+    let table = c.append-appended.ensures.set.0 ∙ c.merge_all.ensures.keeper.same in
     let none = c.new-2.ensures ∙ c.new.ensures.items in
-    let log = c.append-receipt.ensures.added.0 in
-    let added = subst (λ (a : List Answer). Added k base (cell_view c.merge_all.new.keeper).seen (cell_view c.merge_all.new.keeper).owns (record { moment = c.args.moment; event = Cancel c.args.number; answers = a; reply = Plain }) log longer) none c.append-receipt.ensures.added.1 in
+    let log = c.append-appended.ensures.added.0 in
+    let added = subst (λ (a : List Answer). Added k base (cell_view c.merge_all.new.keeper).seen (cell_view c.merge_all.new.keeper).owns (record { moment = c.args.moment; event = Cancel c.args.number; answers = a; reply = Plain }) log longer) none c.append-appended.ensures.added.1 in
     record {
       gives_up = c.in_default.ensures.ok;
-      call = subst (λ (a : List Answer). Call k base c.args.desk.now (record { moment = c.args.moment; event = Cancel c.args.number; answers = a; reply = Plain }) c.append-receipt.new.desk) none c.append-receipt.ensures.call;
+      call = subst (λ (a : List Answer). Call k base c.args.desk.now (record { moment = c.args.moment; event = Cancel c.args.number; answers = a; reply = Plain }) c.append-appended.new.desk) none c.append-appended.ensures.call;
       dealt = λ i d e lt. subst (λ (t : TableId). IsDealt t longer (get_or after i d) (get_or c.deal_all.new.passes i e)) table
-          (subst (λ (l : List Note). IsDealt c.append-receipt.new.set.table_id l (get_or after i d) (get_or c.deal_all.new.passes i e)) seen (c.deal_all.ensures.dealt i d e lt));
+          (subst (λ (l : List Note). IsDealt c.append-appended.new.set.table_id l (get_or after i d) (get_or c.deal_all.new.passes i e)) seen (c.deal_all.ensures.dealt i d e lt));
       holds = λ i d lt. held_then g.K.RecordKind.rules g.B.EngineName.base c.holding_lasts.ensures c.live_lasts.ensures c.cancelled_sets_are_held.ensures g.B.CellName.table c.args.number c.args.moment c.args.sets.now c.args.passes.now (cell_view c.args.keeper.now) (cell_view c.merge_all.new.keeper)
           c.requires.keeper.1 c.requires.held c.requires.have c.all_sound.ensures c.requires.beside c.merge_all.ensures.merged
           log longer added after c.in_default.ensures.ok i d (let same = c.cancel_all.auto.sets in omega (arith, lt, same));
@@ -73,5 +80,5 @@ returns-clause-gave_up g c =
           log longer added;
       none_began = none_began_then g.K.RecordKind.rules g.B.EngineName.base c.holding_lasts.ensures c.live_lasts.ensures c.cancelled_sets_are_held.ensures g.B.CellName.table c.args.number c.args.moment c.args.sets.now c.args.passes.now (cell_view c.args.keeper.now) (cell_view c.merge_all.new.keeper)
           c.requires.keeper.1 c.requires.held c.requires.have c.all_sound.ensures c.requires.beside c.merge_all.ensures.merged
-          log longer added c.append-receipt.ensures.call.legal.puts_keyed;
+          log longer added c.append-appended.ensures.call.legal.puts_keyed;
     }
